@@ -1,0 +1,6 @@
+pub mod Words
+pub mod Laws
+pub mod Visited
+pub mod Answers
+pub mod Explored
+pub mod TableTree

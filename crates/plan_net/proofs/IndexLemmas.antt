@@ -1,0 +1,171 @@
+-- The rows beside the arcs: what they say of an arc and of its lag, and what a change of one lag keeps.
+use Rattle.std.proofs.Common.{ℕ, Bool, true, ◌≡◌, ◌≢◌, ◌+◌, ◌-◌, ◌≤◌, ◌<◌, ◌↔◌, ◌⊎◌, inl, inr, List, length, get_or, set, map, sym, ◌∙◌, ap, subst, arith, Vec}
+use Rattle.std.specs.declared.alloc.Global.{Global}
+use Rattle.std.specs.List.{Contains, All}
+use Rattle.std.specs.List.Sorted.{IsStrictlyIncreasing}
+use Rattle.std.specs.Vec.{with_item}
+use Rattle.std.proofs.lemmas.List.{length-set, length-map, length-replicate}
+use Rattle.std.proofs.lemmas.List.Elements.{All-weaker, All-replicate, All-contains}
+use Rattle.std.proofs.lemmas.Bool.{cases_eq}
+use Rattle.plan_net.specs.Network.{Net, count_of, IsArc, ListsRising, lag_of, lag_beside, lags_with, with_lag, unlagged}
+use Rattle.plan_net.specs.Limits.{HasGoodSize, HasGoodDurations, HasGoodArcs, HasNewArcs, IsGoodArc, IsWithinLimits}
+use Rattle.plan_net.specs.Indexed.{IsIndexed, net_of, row_at, beside, lag_in}
+use Rattle.plan_net.specs.Marks.{AreMarks, AreRowsOf, AreColumnsOf, AreNoLags, IsSquare, mark_at}
+use Rattle.plan_net.specs.declared.arcs.Arcs.TheInside.{Inside}
+use Rattle.plan_net.specs.declared.limits.TheConstants.{LONGEST_LAG}
+use Rattle.plan_net.proofs.RowLemmas.{arc_ends, row_at-read}
+use Rattle.plan_net.proofs.RisingLemmas.{stands_in, rising_later, ListsRising-same}
+use Rattle.plan_net.proofs.MarkLemmas.{row_at-set_same, row_at-set_other}
+use Rattle.plan_net.proofs.LagLemmas.{lag_beside-map, beside-at, lags-none, lags-set, length-lags_with, All-lags_with}
+
+-- an arc as it stands in the rows of the predecessors
+pub record IsPlaceOf (a : Inside) (i j row place : ℕ) : Type 0 where
+  pub of_end : row + 1 ≡ j
+  pub row_within : row < length a.preds.items
+  pub within : place < length (row_at a.preds.items row)
+  pub stands : get_or (row_at a.preds.items row) place 0 ≡ i
+
+-- what a search in the rows of the predecessors finds
+pub placed_in : (a : Inside) (rows : List (Vec ℕ Global)) (i j row place : ℕ) → rows ≡ a.preds.items → (row + 1 ≡ j) × (row < length rows) × (place < length (row_at rows row)) × (get_or (row_at rows row) place 0 ≡ i) → IsPlaceOf a i j row place
+placed_in a rows i j row place same found =
+    let here = subst (λ (rs : List (Vec ℕ Global)). (row + 1 ≡ j) × (row < length rs) × (place < length (row_at rs row)) × (get_or (row_at rs row) place 0 ≡ i)) same found in
+    record { of_end = here.0; row_within = here.1; within = here.2; stands = here.3 }
+
+-- the rows of the predecessors rise
+pub rows_rise : (a : Inside) (rows : List (Vec ℕ Global)) → IsIndexed a → rows ≡ a.preds.items → (k : ℕ) → k < length rows → IsStrictlyIncreasing (row_at rows k)
+rows_rise a rows ok same =
+    subst (λ (rs : List (Vec ℕ Global)). (k : ℕ) → k < length rs → IsStrictlyIncreasing (row_at rs k)) (sym same)
+    (λ k within. (ok.preds k (omega (arith, ok.preds_count, within))).rising)
+
+-- what stands in a row is an arc
+arc_placed : (a : Inside) (i j row place : ℕ) → IsIndexed a → IsPlaceOf a i j row place → IsArc (net_of a) i j
+arc_placed a i j row place ok at =
+    let inside : row < count_of (net_of a) = omega (arith, ok.preds_count, at.row_within) in
+    let arc : IsArc (net_of a) i (row + 1) = ((ok.preds row inside).exact i).0 (stands_in (row_at a.preds.items row) i place at.within at.stands) in
+    subst (λ (k : ℕ). IsArc (net_of a) i k) at.of_end arc
+
+pub arc_at : (a : Inside) (net : Net) (i j row place : ℕ) → IsIndexed a → net_of a ≡ net → IsPlaceOf a i j row place → IsArc net i j
+arc_at a net i j row place ok same at = subst (λ (n : Net). IsArc n i j) same (arc_placed a i j row place ok at)
+
+-- what stands in no row is no arc
+pub no_arc : (a : Inside) (net : Net) (i j : ℕ) → IsIndexed a → net_of a ≡ net → (1 ≤ j → j ≤ length a.preds.items → Contains (row_at a.preds.items (j - 1)) i → ⊥) → IsArc net i j → ⊥
+no_arc a net i j ok same misses = subst (λ (n : Net). IsArc n i j → ⊥) same absent where
+  absent : IsArc (net_of a) i j → ⊥
+  absent arc =
+      let ends = arc_ends (net_of a) i j ok.limits arc in
+      let back : j ≡ j - 1 + 1 = omega (arith, ends.1) in
+      let arc' : IsArc (net_of a) i (j - 1 + 1) = subst (λ (k : ℕ). IsArc (net_of a) i k) back arc in
+      misses ends.1.0 (omega (arith, ok.preds_count, ends.1.1)) (((ok.preds (j - 1) (omega (arith, ends.1))).exact i).1 arc')
+
+-- beside an arc stands its lag
+pub lag_at : (a : Inside) (net : Net) (i j row place : ℕ) → IsIndexed a → net_of a ≡ net → IsPlaceOf a i j row place → get_or (row_at a.lags.items row) place 0 ≡ lag_of net i j
+unfolding lag_of
+lag_at a net i j row place ok same at = subst (λ (n : Net). get_or (row_at a.lags.items row) place 0 ≡ lag_of n i j) same here where
+  here : get_or (row_at a.lags.items row) place 0 ≡ lag_beside a.arcs.items (map (lag_in a.preds.items a.lags.items) a.arcs.items) i j
+  here =
+      let inside : row < count_of (net_of a) = omega (arith, ok.preds_count, at.row_within) in
+      let back : j - 1 ≡ row = omega (arith, at.of_end) in
+      let first : (m : ℕ) → m < place → get_or (row_at a.preds.items row) m 0 ≢ i = λ m lower is. let up : get_or (row_at a.preds.items row) m 0 < get_or (row_at a.preds.items row) place 0 = rising_later (row_at a.preds.items row) (ok.preds row inside).rising m place lower at.within in absurd (omega (arith, up, is, at.stands)) in
+      sym (lag_beside-map (lag_in a.preds.items a.lags.items) a.arcs.items i j (arc_placed a i j row place ok at)
+      ∙ ap (λ (k : ℕ). beside (row_at a.preds.items k) (row_at a.lags.items k) i) back
+      ∙ beside-at (row_at a.preds.items row) (row_at a.lags.items row) place i at.within at.stands first)
+
+-- there is a lag beside each arc
+pub lag_within : (a : Inside) (i j row place : ℕ) → IsIndexed a → IsPlaceOf a i j row place → (row < length a.lags.items) × (place < length (row_at a.lags.items row))
+lag_within a i j row place ok at =
+    let inside : row < count_of (net_of a) = omega (arith, ok.preds_count, at.row_within) in
+    (omega (arith, ok.lags_count, inside), omega (arith, ok.lags row inside, at.within))
+
+-- the network with one lag changed in the rows
+pub net_of-set_lag : (a : Inside) (i j row place w : ℕ) (before : Vec ℕ Global) → IsIndexed a → IsPlaceOf a i j row place → before ≡ get_or a.lags.items row before → net_of (record a { lags = with_item a.lags row (with_item before place w) }) ≡ with_lag (net_of a) i j w
+net_of-set_lag a i j row place w before ok at is =
+    let inside : row < count_of (net_of a) = omega (arith, ok.preds_count, at.row_within) in
+    let within = lag_within a i j row place ok at in
+    let items : row_at a.lags.items row ≡ before.items = row_at-read a.lags.items row before within.0 is in
+    let within' : place < length before.items = subst (λ (xs : List ℕ). place < length xs) items within.1 in
+    let first : (m : ℕ) → m < place → get_or (row_at a.preds.items row) m 0 ≢ i = λ m lower same. let up : get_or (row_at a.preds.items row) m 0 < get_or (row_at a.preds.items row) place 0 = rising_later (row_at a.preds.items row) (ok.preds row inside).rising m place lower at.within in absurd (omega (arith, up, same, at.stands)) in
+    let ends : All (λ arc. 1 ≤ arc.1) a.arcs.items = All-weaker (IsGoodArc (net_of a)) (λ arc. 1 ≤ arc.1) (λ arc good. good.1.0) a.arcs.items ok.limits.arcs in
+    let changed : map (lag_in a.preds.items (set a.lags.items row (with_item before place w))) a.arcs.items ≡ lags_with a.arcs.items (map (lag_in a.preds.items a.lags.items) a.arcs.items) i (row + 1) w =
+    lags-set a.preds.items a.lags.items a.arcs.items row place i w before ok.limits.new_arcs ends within.0 is at.within within' at.stands first in
+    let net : List ℕ → Net = λ lags. record { durations = a.durations.items; arcs = a.arcs.items; lags = lags } in
+    ap net (changed ∙ ap (λ (k : ℕ). lags_with a.arcs.items (map (lag_in a.preds.items a.lags.items) a.arcs.items) i k w) at.of_end)
+
+-- the limits hold with another good lag
+pub IsWithinLimits-with_lag : (net : Net) (i j w : ℕ) → w ≤ LONGEST_LAG → IsWithinLimits net → IsWithinLimits (with_lag net i j w)
+IsWithinLimits-with_lag net i j w good limits = record {
+  size = limits.size;
+  durations = limits.durations;
+  arcs = limits.arcs;
+  new_arcs = limits.new_arcs;
+  lags = (length-lags_with net.arcs net.lags i j w ∙ limits.lags.0, All-lags_with (λ v. v ≤ LONGEST_LAG) net.arcs net.lags i j w good limits.lags.1);
+}
+
+-- a change of one lag keeps the rows in step
+pub IsIndexed-set_lag : (a : Inside) (i j row place w : ℕ) (before : Vec ℕ Global) → w ≤ LONGEST_LAG → IsIndexed a → IsPlaceOf a i j row place → before ≡ get_or a.lags.items row before → IsIndexed (record a { lags = with_item a.lags row (with_item before place w) })
+IsIndexed-set_lag a i j row place w before good ok at is = record {
+  limits = subst IsWithinLimits (sym (net_of-set_lag a i j row place w before ok at is)) (IsWithinLimits-with_lag (net_of a) i j w good ok.limits);
+  preds_count = ok.preds_count;
+  preds = ok.preds;
+  succs_count = ok.succs_count;
+  succs = ok.succs;
+  lags_count = length-set a.lags.items row (with_item before place w) ∙ ok.lags_count;
+  lags = λ k within. wide k within (cases_eq k row);
+} where
+  wide : (k : ℕ) → k < count_of (net_of a) → (k ≡ row) ⊎ (k ≡ row → ⊥) → length (row_at (set a.lags.items row (with_item before place w)) k) ≡ length (row_at a.preds.items k)
+  wide k within (inl same) =
+      let inside = lag_within a i j row place ok at in
+      subst (λ (r : ℕ). length (row_at (set a.lags.items row (with_item before place w)) r) ≡ length (row_at a.preds.items r)) (sym same)
+      (ap length (row_at-set_same a.lags.items row (with_item before place w) inside.0)
+      ∙ length-set before.items place w
+      ∙ ap length (sym (row_at-read a.lags.items row before inside.0 is))
+      ∙ ok.lags row (subst (λ (r : ℕ). r < count_of (net_of a)) same within))
+  wide k within (inr other) = ap length (row_at-set_other a.lags.items k row (with_item before place w) other) ∙ ok.lags k within
+
+-- the rows that the marks give are those of the arcs
+preds_of_marks : (net : Net) (marks : List (Vec Bool Global)) (rows : List (Vec ℕ Global)) → HasGoodArcs net → AreMarks net.arcs marks → length marks ≡ count_of net → AreRowsOf marks rows → (k : ℕ) → k < count_of net → ListsRising (λ i. IsArc net i (k + 1)) (row_at rows k)
+preds_of_marks net marks rows good known whole are k within =
+    ListsRising-same (λ i. (1 ≤ i) × (i ≤ length marks) × (mark_at marks k (i - 1) ≡ true)) (λ i. IsArc net i (k + 1)) (row_at rows k) same (are.each k (omega (arith, are.whole, whole))) where
+      same : (i : ℕ) → ((1 ≤ i) × (i ≤ length marks) × (mark_at marks k (i - 1) ≡ true)) ↔ IsArc net i (k + 1)
+      same i = (
+        λ here. let back : i - 1 + 1 ≡ i = omega (arith, here.0) in subst (λ (h : ℕ). IsArc net h (k + 1)) back ((known k (i - 1)).0 here.2),
+        λ arc.
+            let ends : IsGoodArc net (i, k + 1) = All-contains (IsGoodArc net) net.arcs (i, k + 1) good arc in
+            let back : i ≡ i - 1 + 1 = omega (arith, ends.0) in
+            (ends.0.0, omega (arith, ends.0.1, whole), (known k (i - 1)).1 (subst (λ (h : ℕ). IsArc net h (k + 1)) back arc)),
+      )
+
+succs_of_marks : (net : Net) (marks : List (Vec Bool Global)) (columns : List (Vec ℕ Global)) → HasGoodArcs net → AreMarks net.arcs marks → length marks ≡ count_of net → AreColumnsOf marks columns → (k : ℕ) → k < count_of net → ListsRising (IsArc net (k + 1)) (row_at columns k)
+succs_of_marks net marks columns good known whole are k within =
+    ListsRising-same (λ j. (1 ≤ j) × (j ≤ length marks) × (mark_at marks (j - 1) k ≡ true)) (IsArc net (k + 1)) (row_at columns k) same (are.each k (omega (arith, are.whole, whole))) where
+      same : (j : ℕ) → ((1 ≤ j) × (j ≤ length marks) × (mark_at marks (j - 1) k ≡ true)) ↔ IsArc net (k + 1) j
+      same j = (
+        λ here. let back : j - 1 + 1 ≡ j = omega (arith, here.0) in subst (λ (h : ℕ). IsArc net (k + 1) h) back ((known (j - 1) k).0 here.2),
+        λ arc.
+            let ends : IsGoodArc net (k + 1, j) = All-contains (IsGoodArc net) net.arcs (k + 1, j) good arc in
+            let back : j ≡ j - 1 + 1 = omega (arith, ends.1) in
+            (ends.1.0, omega (arith, ends.1.1, whole), (known (j - 1) k).1 (subst (λ (h : ℕ). IsArc net (k + 1) h) back arc)),
+      )
+
+-- rows made without lags hold the network without lags
+pub net_of-unlagged : (a : Inside) → AreNoLags a.preds.items a.lags.items → net_of a ≡ unlagged a.durations.items a.arcs.items
+net_of-unlagged a none =
+    let net : List ℕ → Net = λ lags. record { durations = a.durations.items; arcs = a.arcs.items; lags = lags } in
+    ap net (lags-none a.preds.items a.lags.items a.arcs.items none)
+
+-- rows made of the marks of the arcs are in step with them
+pub IsIndexed-made : (a : Inside) (marks : List (Vec Bool Global)) → HasGoodSize (unlagged a.durations.items a.arcs.items) → HasGoodDurations (unlagged a.durations.items a.arcs.items) → HasGoodArcs (unlagged a.durations.items a.arcs.items) → HasNewArcs (unlagged a.durations.items a.arcs.items) → IsSquare (length a.durations.items) marks → AreMarks a.arcs.items marks → AreRowsOf marks a.preds.items → AreColumnsOf marks a.succs.items → AreNoLags a.preds.items a.lags.items → IsIndexed a
+IsIndexed-made a marks size durations arcs new_arcs square known rows columns none = record {
+  limits = record {
+    size = size;
+    durations = durations;
+    arcs = arcs;
+    new_arcs = new_arcs;
+    lags = (length-map a.arcs.items (lag_in a.preds.items a.lags.items), subst (All (λ w. w ≤ LONGEST_LAG)) (sym (lags-none a.preds.items a.lags.items a.arcs.items none)) (All-replicate (λ w. w ≤ LONGEST_LAG) (length a.arcs.items) 0 (omega arith)));
+  };
+  preds_count = rows.whole ∙ square.rows;
+  preds = preds_of_marks (net_of a) marks a.preds.items arcs known square.rows rows;
+  succs_count = columns.whole ∙ square.rows;
+  succs = succs_of_marks (net_of a) marks a.succs.items arcs known square.rows columns;
+  lags_count = none.whole ∙ rows.whole ∙ square.rows;
+  lags = λ k within. ap length (none.each k (omega (arith, none.whole, rows.whole, square.rows))) ∙ length-replicate (length (row_at a.preds.items k)) 0;
+}

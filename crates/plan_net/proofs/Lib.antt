@@ -1,0 +1,11 @@
+pub mod RowLemmas
+pub mod RisingLemmas
+pub mod MarkLemmas
+pub mod TurnLemmas
+pub mod TrailLemmas
+pub mod RingLemmas
+pub mod CaughtLemmas
+pub mod LagLemmas
+pub mod IndexLemmas
+pub mod PathLemmas
+pub mod SoundLemmas

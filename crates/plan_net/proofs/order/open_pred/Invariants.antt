@@ -1,0 +1,7 @@
+use Rattle.std.proofs.Common.{ℕ, ◌<◌, get_or}
+use Rattle.plan_net.specs.Placed.{IsPlaced}
+use Rattle.plan_net.proofs.order.open_pred.Given as goal
+
+-- the predecessors so far are placed
+abbrev pub invariant-preds : goal.invariant-preds
+invariant-preds l = (k : ℕ) → k < l.i-index → IsPlaced l.placed (get_or l.i-items k 0)

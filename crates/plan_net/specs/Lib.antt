@@ -1,0 +1,10 @@
+pub mod Network
+pub mod Path
+pub mod Order
+pub mod Cycle
+pub mod Limits
+pub mod Refusals
+pub mod Placed
+pub mod Trails
+pub mod Indexed
+pub mod Marks

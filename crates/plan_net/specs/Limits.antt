@@ -1,0 +1,47 @@
+-- The limits of a network (docs/DEFINITIONS.md, "Networks").
+use Rattle.std.specs.Prelude.{ℕ, ◌≡◌, ◌-◌, ◌≤◌, ◌<◌, length, take, slice_index, slice_get, Some, Contains, All, sum}
+use Rattle.plan_net.specs.Network.{Net, count_of, IsActivity}
+use Rattle.plan_net.specs.Path.{IsAcyclic}
+use Rattle.plan_net.specs.declared.limits.TheConstants.{FEWEST_ACTIVITIES, MOST_ACTIVITIES, LONGEST_DURATION, LONGEST_SUM, LONGEST_LAG}
+
+-- from 2 to 502 activities
+abbrev pub HasGoodSize : Net → Type 0
+HasGoodSize net = (FEWEST_ACTIVITIES ≤ count_of net) × (count_of net ≤ MOST_ACTIVITIES)
+
+-- the duration of j is within its limit, and so is the sum of those of 1 to j
+abbrev pub IsGoodDuration : Net → ℕ → Type 0
+IsGoodDuration net j = (slice_index net.durations (j - 1) ≤ LONGEST_DURATION) × (sum (take j net.durations) ≤ LONGEST_SUM)
+
+abbrev pub HasGoodDurations : Net → Type 0
+HasGoodDurations net = (j : ℕ) → IsActivity net j → IsGoodDuration net j
+
+-- both ends are activities
+abbrev pub IsGoodArc : Net → ℕ × ℕ → Type 0
+IsGoodArc net arc = IsActivity net arc.0 × IsActivity net arc.1
+
+abbrev pub HasGoodArcs : Net → Type 0
+HasGoodArcs net = All (IsGoodArc net) net.arcs
+
+-- the arc at k equals no earlier one
+abbrev pub IsNewArc : Net → ℕ → Type 0
+IsNewArc net k = (arc : ℕ × ℕ) → slice_get net.arcs k ≡ Some arc → Contains (take k net.arcs) arc → ⊥
+
+abbrev pub HasNewArcs : Net → Type 0
+HasNewArcs net = (k : ℕ) → k < length net.arcs → IsNewArc net k
+
+-- each arc has a lag beside it, within its limit
+abbrev pub HasGoodLags : Net → Type 0
+HasGoodLags net = (length net.lags ≡ length net.arcs) × All (λ w. w ≤ LONGEST_LAG) net.lags
+
+-- within the limits
+pub record IsWithinLimits (net : Net) : Type 0 where
+  pub size : HasGoodSize net
+  pub durations : HasGoodDurations net
+  pub arcs : HasGoodArcs net
+  pub new_arcs : HasNewArcs net
+  pub lags : HasGoodLags net
+
+-- within the limits, and without a cycle
+pub record IsSound (net : Net) : Type 0 where
+  pub limits : IsWithinLimits net
+  pub acyclic : IsAcyclic net

@@ -1,0 +1,143 @@
+ghost use Rattle.std.specs.Prelude.{◌≡◌, ℕ, ◌↔◌, ◌≤◌, length, slice_index, EachIndex, IfOk, IfErr, OnOk, OnErr, IfSome, IfNone};
+ghost use Rattle.plan_net.specs.Network.{IsActivity, IsArc, ListsRising, duration_of, count_of, lag_of, unlagged, with_lag};
+ghost use Rattle.plan_net.specs.Limits.{IsWithinLimits, HasGoodSize, HasGoodDurations, HasGoodArcs};
+ghost use Rattle.plan_net.specs.Refusals.{IsFirstFault, IsLagFault, NamesCycle};
+
+use super::checks::{first_bad_arc, first_bad_duration};
+use super::fault::NetFault;
+use super::limits::{FEWEST_ACTIVITIES, LONGEST_DURATION, LONGEST_LAG, MOST_ACTIVITIES};
+use super::tables::{columns_of, first_double_arc, no_lags, no_marks, place_in, rows_of};
+use std::alloc::Global;
+use std::marker::Model;
+
+/// An activity network within the limits, with the rising rows of predecessors and successors.
+#[derive(Drop)]
+pub struct Arcs {
+    durations: Vec<u64>,
+    arcs: Vec<(u32, u32)>,
+    preds: Vec<Vec<u32>>,
+    succs: Vec<Vec<u32>>,
+    // beside each predecessor the lag of its arc
+    lags: Vec<Vec<u64>>,
+}
+
+impl Model for Arcs {
+    ghost use Rattle.plan_net.specs.Network.{Net};
+
+    ghost Value = { Net };
+
+    ghost use Rattle.plan_net.specs.Indexed.{net_of, IsIndexed};
+
+    ghost view = { net_of };
+
+    ghost invariant = { IsIndexed };
+}
+
+// The first fault of a network that shows without a table.
+fn plain_fault(durations: &[u64], arcs: &[(u32, u32)]) -> Option<NetFault>
+    ensures some { IfSome result (IsFirstFault (unlagged durations.now arcs.now)) }
+    ensures cycle { IfSome result (NamesCycle (unlagged durations.now arcs.now)) }
+    ensures none { IfNone result (HasGoodSize (unlagged durations.now arcs.now) × HasGoodDurations (unlagged durations.now arcs.now) × HasGoodArcs (unlagged durations.now arcs.now)) }
+{
+    let count = durations.len();
+    if count < FEWEST_ACTIVITIES || count > MOST_ACTIVITIES {
+        return Some(NetFault::Size);
+    }
+    if let Some(j) = first_bad_duration(durations) {
+        return Some(NetFault::BadDuration(j));
+    }
+    match first_bad_arc(durations, arcs) {
+        Some((i, j)) => Some(NetFault::BadArc(i, j)),
+        None => None,
+    }
+}
+
+impl Arcs {
+    /// The network of these durations and arcs without lags, or the first fault that it has but for a cycle.
+    pub fn new(alloc: Global, durations: Vec<u64>, arcs: Vec<(u32, u32)>) -> Result<Self, NetFault>
+        ensures accepted { IfOk result (λ made. (made ≡ unlagged durations.items arcs.items) × IsWithinLimits made) }
+        ensures refused { IfErr result (IsFirstFault (unlagged durations.items arcs.items)) }
+        ensures cycle { IfErr result (NamesCycle (unlagged durations.items arcs.items)) }
+    {
+        if let Some(fault) = plain_fault(&durations, &arcs) {
+            return Err(fault);
+        }
+        let mut marks = no_marks(alloc, durations.len())?;
+        if let Some((i, j)) = first_double_arc(&durations, &arcs, &mut marks) {
+            return Err(NetFault::DoubleArc(i, j));
+        }
+        let preds = rows_of(alloc, &marks)?;
+        let succs = columns_of(alloc, &marks)?;
+        let lags = no_lags(alloc, &preds)?;
+        Ok(Arcs {
+            durations,
+            arcs,
+            preds,
+            succs,
+            lags,
+        })
+    }
+
+    /// How many activities there are.
+    pub fn len(&self) -> usize
+        ensures count { result ≡ count_of self.now }
+        ensures limits { IsWithinLimits self.now }
+    {
+        self.durations.len()
+    }
+
+    pub fn duration(&self, j: u32) -> u64
+        requires { IsActivity self.now j }
+        ensures value { result ≡ duration_of self.now j }
+        ensures limit { result ≤ LONGEST_DURATION }
+    {
+        self.durations[j as usize - 1]
+    }
+
+    /// The predecessors, rising.
+    pub fn preds(&self, j: u32) -> &[u32]
+        requires { IsActivity self.now j }
+        ensures exact { ListsRising (λ i. IsArc self.now i j) result.now }
+        ensures activities { EachIndex result.now (λ k. IsActivity self.now (slice_index result.now k)) }
+    {
+        self.preds[j as usize - 1].as_slice()
+    }
+
+    /// The successors, rising.
+    pub fn succs(&self, j: u32) -> &[u32]
+        requires { IsActivity self.now j }
+        ensures exact { ListsRising (IsArc self.now j) result.now }
+        ensures activities { EachIndex result.now (λ k. IsActivity self.now (slice_index result.now k)) }
+    {
+        self.succs[j as usize - 1].as_slice()
+    }
+
+    /// The lag of the arc from `i` to `j`, if there is one.
+    pub fn lag(&self, i: u32, j: u32) -> Option<u64>
+        ensures some { IfSome result (λ w. IsArc self.now i j × (w ≡ lag_of self.now i j)) }
+        ensures none { IfNone result (IsArc self.now i j → ⊥) }
+    {
+        match place_in(&self.preds, i, j) {
+            Some((row, place)) => Some(self.lags[row][place]),
+            None => None,
+        }
+    }
+
+    /// Gives the arc from `i` to `j` the lag.
+    pub fn set_lag(&mut self, i: u32, j: u32, lag: u64) -> Result<(), NetFault>
+        ensures ok { OnOk result (IsArc self.old i j × (lag ≤ LONGEST_LAG) × (self.new ≡ with_lag self.old i j lag)) }
+        ensures refused { IfErr result (IsLagFault self.old i j lag) }
+        ensures err { OnErr result (self.new ≡ self.old) }
+    {
+        match place_in(&self.preds, i, j) {
+            None => Err(NetFault::NoArc(i, j)),
+            Some((row, place)) => {
+                if lag > LONGEST_LAG {
+                    return Err(NetFault::BadLag(i, j));
+                }
+                self.lags[row][place] = lag;
+                Ok(())
+            }
+        }
+    }
+}

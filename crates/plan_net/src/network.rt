@@ -1,0 +1,127 @@
+ghost use Rattle.std.specs.Prelude.{◌≡◌, ℕ, ◌↔◌, ◌≤◌, length, IfOk, IfErr, OnOk, OnErr, IfSome, IfNone, slice_index, EachIndex};
+ghost use Rattle.plan_net.specs.Network.{IsActivity, IsArc, ListsRising, duration_of, count_of, lag_of, unlagged, with_lag};
+ghost use Rattle.plan_net.specs.Order.{IsLeastOrder, IsTopological};
+ghost use Rattle.plan_net.specs.Limits.{IsSound};
+ghost use Rattle.plan_net.specs.Refusals.{IsFirstFault, IsLagFault, NamesCycle};
+
+use super::arcs::Arcs;
+use super::cycle::named_cycle;
+use super::fault::NetFault;
+use super::limits::{LONGEST_DURATION, LONGEST_LAG};
+use super::order::{first_open, least_order};
+use std::alloc::Global;
+use std::marker::Model;
+
+/// An activity network (activity-on-node) within the limits and without a cycle.
+///
+/// Its activities are numbered from 1 to `len()`. An arc from `i` to `j` with a lag means that `j` starts no
+/// earlier than the lag after the end of `i`. Durations and lags are whole time units.
+#[derive(Drop)]
+pub struct Network {
+    arcs: Arcs,
+    order: Vec<u32>,
+}
+
+impl Model for Network {
+    ghost use Rattle.plan_net.specs.Network.{Net};
+    ghost use Rattle.plan_net.specs.Order.{IsLeastOrder};
+    ghost use Rattle.plan_net.specs.Limits.{IsSound};
+
+    ghost Value = { Net };
+
+    ghost view = { λ a. a.arcs };
+
+    ghost invariant = { λ a. IsSound a.arcs × IsLeastOrder a.arcs a.order.items };
+}
+
+impl Network {
+    /// The network of these durations and arcs, all lags 0.
+    ///
+    /// The duration at place `k` is that of activity `k + 1`; an arc is the pair of its ends. The faults are
+    /// looked for in this order: [`NetFault::Size`], [`NetFault::BadDuration`], [`NetFault::BadArc`],
+    /// [`NetFault::DoubleArc`], [`NetFault::Cycle`]; [`NetFault::NoMemory`] may come in place of any answer.
+    pub fn new(alloc: Global, durations: Vec<u64>, arcs: Vec<(u32, u32)>) -> Result<Self, NetFault>
+        ensures accepted { IfOk result (λ net. (net ≡ unlagged durations.items arcs.items) × IsSound net) }
+        ensures refused { IfErr result (IsFirstFault (unlagged durations.items arcs.items)) }
+        // the members of a named cycle, closed by the first of them, are a cycle
+        ensures cycle { IfErr result (NamesCycle (unlagged durations.items arcs.items)) }
+    {
+        let arcs = Arcs::new(alloc, durations, arcs)?;
+        let (order, placed) = least_order(alloc, &arcs)?;
+        match first_open(&placed) {
+            None => Ok(Network { arcs, order }),
+            Some(first) => Err(NetFault::Cycle(named_cycle(alloc, &arcs, &placed, first)?)),
+        }
+    }
+
+    /// How many activities there are, from 2 to 502.
+    pub fn len(&self) -> usize
+        ensures count { result ≡ count_of self.now }
+        ensures sound { IsSound self.now }
+    {
+        let _order = &self.order;
+        self.arcs.len()
+    }
+
+    /// How long activity `j` lasts.
+    pub fn duration(&self, j: u32) -> u64
+        requires { IsActivity self.now j }
+        ensures value { result ≡ duration_of self.now j }
+        ensures limit { result ≤ LONGEST_DURATION }
+    {
+        self.arcs.duration(j)
+    }
+
+    /// The predecessors of activity `j`, rising.
+    pub fn preds(&self, j: u32) -> &[u32]
+        requires { IsActivity self.now j }
+        ensures exact { ListsRising (λ i. IsArc self.now i j) result.now }
+        ensures activities { EachIndex result.now (λ k. IsActivity self.now (slice_index result.now k)) }
+    {
+        self.arcs.preds(j)
+    }
+
+    /// The successors of activity `j`, rising.
+    pub fn succs(&self, j: u32) -> &[u32]
+        requires { IsActivity self.now j }
+        ensures exact { ListsRising (IsArc self.now j) result.now }
+        ensures activities { EachIndex result.now (λ k. IsActivity self.now (slice_index result.now k)) }
+    {
+        self.arcs.succs(j)
+    }
+
+    /// All activities, each after its predecessors, always the least one that can come.
+    pub fn order(&self) -> &[u32]
+        ensures least { IsLeastOrder self.now result.now }
+        ensures topological { IsTopological self.now result.now }
+        ensures activities { EachIndex result.now (λ k. IsActivity self.now (slice_index result.now k)) }
+    {
+        self.order.as_slice()
+    }
+
+    /// The lag of the arc from `i` to `j`; `None` where there is no such arc.
+    pub fn lag(&self, i: u32, j: u32) -> Option<u64>
+        ensures some { IfSome result (λ w. IsArc self.now i j × (w ≡ lag_of self.now i j)) }
+        ensures none { IfNone result (IsArc self.now i j → ⊥) }
+        ensures limit { lag_of self.now i j ≤ LONGEST_LAG }
+    {
+        self.arcs.lag(i, j)
+    }
+
+    /// Gives the arc from `i` to `j` the lag. Takes no memory.
+    ///
+    /// Refused with [`NetFault::NoArc`] where there is no such arc, then with [`NetFault::BadLag`] where the lag
+    /// is above 10,000.
+    pub fn set_lag(&mut self, i: u32, j: u32, lag: u64) -> Result<(), NetFault>
+        ensures ok { OnOk result (IsArc self.old i j × (lag ≤ LONGEST_LAG) × (self.new ≡ with_lag self.old i j lag)) }
+        ensures value { OnOk result (lag_of self.new i j ≡ lag) }
+        ensures others { OnOk result ((h k : ℕ) → ((h ≡ i) × (k ≡ j) → ⊥) → lag_of self.new h k ≡ lag_of self.old h k) }
+        ensures refused { IfErr result (IsLagFault self.old i j lag) }
+        ensures err { OnErr result (self.new ≡ self.old) }
+    {
+        self.arcs.set_lag(i, j, lag)
+    }
+}
+
+#[cfg(test)]
+mod tests;

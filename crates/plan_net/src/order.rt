@@ -1,0 +1,68 @@
+ghost use Rattle.std.specs.Prelude.{◌≡◌, ℕ, ◌≤◌, ◌<◌, length, IfOk, IfSome, IfNone};
+ghost use Rattle.plan_net.specs.Network.{IsActivity, IsArc, IsLeast, count_of};
+ghost use Rattle.plan_net.specs.Placed.{IsPlaced, IsOpen, IsReady, IsPlacedOrder, IsStuck};
+
+use super::arcs::Arcs;
+use super::limits::MOST_ACTIVITIES;
+use std::alloc::{AllocError, Global};
+
+/// The least open predecessor of `j`, if there is one.
+pub fn open_pred(arcs: &Arcs, j: u32, placed: &[bool]) -> Option<u32>
+    requires activity { IsActivity arcs.now j }
+    requires whole { length placed.now ≡ count_of arcs.now }
+    ensures some { IfSome result (IsLeast (λ i. IsArc arcs.now i j × IsOpen placed.now i)) }
+    ensures none { IfNone result ((i : ℕ) → IsArc arcs.now i j → IsPlaced placed.now i) }
+{
+    'preds: for &i in arcs.preds(j) {
+        if !placed[i as usize - 1] {
+            return Some(i);
+        }
+    }
+    None
+}
+
+// The least activity that can come, if any can.
+fn least_ready(arcs: &Arcs, placed: &[bool]) -> Option<u32>
+    requires { length placed.now ≡ count_of arcs.now }
+    ensures some { IfSome result (λ j. IsLeast (IsReady arcs.now placed.now) j) }
+    ensures none { IfNone result (IsStuck arcs.now placed.now) }
+{
+    let count = arcs.len() as u32;
+    'activities: for j in 1..=count {
+        if !placed[j as usize - 1] {
+            match open_pred(arcs, j, placed) {
+                None => return Some(j),
+                Some(_) => {}
+            }
+        }
+    }
+    None
+}
+
+/// The activities that can come, in the order in which they come, and their marks.
+pub fn least_order(alloc: Global, arcs: &Arcs) -> Result<(Vec<u32>, Vec<bool>), AllocError>
+    ensures order { IfOk result (λ found. IsPlacedOrder arcs.now found.0.items found.1.items) }
+    ensures stuck { IfOk result (λ found. IsStuck arcs.now found.1.items) }
+{
+    let mut order = Vec::new(alloc);
+    let mut placed = vec![in alloc; false; arcs.len()]?;
+    'turns: while let Some(j) = least_ready(arcs, &placed) {
+        order.push(j)?;
+        placed[j as usize - 1] = true;
+    }
+    Ok((order, placed))
+}
+
+/// The least open activity, if there is one.
+pub fn first_open(placed: &[bool]) -> Option<u32>
+    requires { length placed.now ≤ MOST_ACTIVITIES }
+    ensures some { IfSome result (λ j. IsLeast (λ h. (1 ≤ h) × (h ≤ length placed.now) × IsOpen placed.now h) j) }
+    ensures none { IfNone result ((j : ℕ) → 1 ≤ j → j ≤ length placed.now → IsPlaced placed.now j) }
+{
+    'marks: for (k, &mark) in placed.iter().enumerate() {
+        if !mark {
+            return Some(k as u32 + 1);
+        }
+    }
+    None
+}

@@ -1,0 +1,132 @@
+ghost use Rattle.std.specs.Prelude.{◌≡◌, ℕ, ◌≤◌, ◌<◌, ◌+◌, ◌-◌, length, slice_index, true, Contains, IfOk, IfSome, IfNone};
+ghost use Rattle.std.specs.List.Sorted.{IsStrictlyIncreasing};
+ghost use Rattle.plan_net.specs.Network.{ListsRising, unlagged};
+ghost use Rattle.plan_net.specs.Limits.{HasGoodArcs, HasNewArcs};
+ghost use Rattle.plan_net.specs.Refusals.{IsFirstDoubleArc};
+ghost use Rattle.plan_net.specs.Placed.{IsPlaced};
+ghost use Rattle.plan_net.specs.Marks.{AreMarks, AreRowsOf, AreColumnsOf, AreNoLags, IsSquare, HasNoMark, mark_at};
+ghost use Rattle.plan_net.specs.Indexed.{row_at};
+
+use super::limits::MOST_ACTIVITIES;
+use std::alloc::{AllocError, Global};
+
+/// A table with a row for each activity and a mark in each row for each activity, none set.
+pub fn no_marks(alloc: Global, count: usize) -> Result<Vec<Vec<bool>>, AllocError>
+    ensures square { IfOk result (λ marks. IsSquare count marks.items) }
+    ensures empty { IfOk result (λ marks. HasNoMark marks.items) }
+{
+    let mut marks = Vec::new(alloc);
+    'rows: for _ in 0..count {
+        marks.push(vec![in alloc; false; count]?)?;
+    }
+    Ok(marks)
+}
+
+/// The first arc that equals an earlier one; without one, the mark of each arc is set, in the row of its end.
+pub fn first_double_arc(
+    durations: &[u64],
+    arcs: &[(u32, u32)],
+    marks: &mut Vec<Vec<bool>>,
+) -> Option<(u32, u32)>
+    requires good { HasGoodArcs (unlagged durations.now arcs.now) }
+    requires square { IsSquare (length durations.now) marks.old.items }
+    requires empty { HasNoMark marks.old.items }
+    ensures some { IfSome result (IsFirstDoubleArc (unlagged durations.now arcs.now)) }
+    ensures none { IfNone result (HasNewArcs (unlagged durations.now arcs.now)) }
+    ensures square { IsSquare (length durations.now) marks.new.items }
+    ensures marks { IfNone result (AreMarks arcs.now marks.new.items) }
+{
+    'arcs: for &(i, j) in arcs {
+        let row = j as usize - 1;
+        let column = i as usize - 1;
+        if marks[row][column] {
+            return Some((i, j));
+        }
+        marks[row][column] = true;
+    }
+    None
+}
+
+// The numbers from 1 on whose marks are set, rising.
+fn marked(alloc: Global, marks: &[bool]) -> Result<Vec<u32>, AllocError>
+    requires { length marks.now ≤ MOST_ACTIVITIES }
+    ensures { IfOk result (λ list. ListsRising (λ i. (1 ≤ i) × (i ≤ length marks.now) × IsPlaced marks.now i) list.items) }
+{
+    let mut list = Vec::new(alloc);
+    'marks: for (k, &mark) in marks.iter().enumerate() {
+        if mark {
+            list.push(k as u32 + 1)?;
+        }
+    }
+    Ok(list)
+}
+
+// The numbers from 1 on of the rows whose marks in the column are set, rising.
+fn marked_rows(alloc: Global, marks: &[Vec<bool>], column: usize) -> Result<Vec<u32>, AllocError>
+    requires limit { length marks.now ≤ MOST_ACTIVITIES }
+    requires square { IsSquare (length marks.now) marks.now }
+    requires column { column < length marks.now }
+    ensures { IfOk result (λ list. ListsRising (λ j. (1 ≤ j) × (j ≤ length marks.now) × (mark_at marks.now (j - 1) column ≡ true)) list.items) }
+{
+    let mut list = Vec::new(alloc);
+    'marks: for k in 0..marks.len() {
+        if marks[k][column] {
+            list.push(k as u32 + 1)?;
+        }
+    }
+    Ok(list)
+}
+
+/// For each row of marks the columns, from 1 on, in which one is set.
+pub fn rows_of(alloc: Global, marks: &[Vec<bool>]) -> Result<Vec<Vec<u32>>, AllocError>
+    requires limit { length marks.now ≤ MOST_ACTIVITIES }
+    requires square { IsSquare (length marks.now) marks.now }
+    ensures { IfOk result (λ rows. AreRowsOf marks.now rows.items) }
+{
+    let mut rows = Vec::new(alloc);
+    'rows: for k in 0..marks.len() {
+        let row = marked(alloc, &marks[k])?;
+        rows.push(row)?;
+    }
+    Ok(rows)
+}
+
+/// For each column of marks the rows, from 1 on, in which one is set.
+pub fn columns_of(alloc: Global, marks: &[Vec<bool>]) -> Result<Vec<Vec<u32>>, AllocError>
+    requires limit { length marks.now ≤ MOST_ACTIVITIES }
+    requires square { IsSquare (length marks.now) marks.now }
+    ensures { IfOk result (λ columns. AreColumnsOf marks.now columns.items) }
+{
+    let mut columns = Vec::new(alloc);
+    'columns: for k in 0..marks.len() {
+        columns.push(marked_rows(alloc, marks, k)?)?;
+    }
+    Ok(columns)
+}
+
+/// A row of lags 0 beside each row.
+pub fn no_lags(alloc: Global, rows: &[Vec<u32>]) -> Result<Vec<Vec<u64>>, AllocError>
+    ensures { IfOk result (λ lags. AreNoLags rows.now lags.items) }
+{
+    let mut lags = Vec::new(alloc);
+    'rows: for k in 0..rows.len() {
+        lags.push(vec![in alloc; 0; rows[k].len()]?)?;
+    }
+    Ok(lags)
+}
+
+/// The row and the place in it of the arc from `i` to `j`, in the rows of the predecessors.
+pub fn place_in(rows: &[Vec<u32>], i: u32, j: u32) -> Option<(usize, usize)>
+    requires { (k : ℕ) → k < length rows.now → IsStrictlyIncreasing (row_at rows.now k) }
+    ensures some { IfSome result (λ place. (place.0 + 1 ≡ j) × (place.0 < length rows.now) × (place.1 < length (row_at rows.now place.0)) × (slice_index (row_at rows.now place.0) place.1 ≡ i)) }
+    ensures none { IfNone result (1 ≤ j → j ≤ length rows.now → Contains (row_at rows.now (j - 1)) i → ⊥) }
+{
+    if j == 0 || j as usize > rows.len() {
+        return None;
+    }
+    let row = j as usize - 1;
+    match rows[row].binary_search(&i) {
+        Ok(place) => Some((row, place)),
+        Err(_) => None,
+    }
+}
