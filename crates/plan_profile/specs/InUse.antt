@@ -1,0 +1,12 @@
+-- What a profile shows: its capacities, and the amounts in use. See "Schedules" in docs/DEFINITIONS.md.
+use Rattle.std.specs.Prelude.{ℕ, List}
+use Rattle.plan_profile.specs.Steps.{lists, amount}
+use Rattle.plan_profile.specs.declared.profile.Profile.{Profile}
+
+-- the capacities of the resources
+unfoldable pub capacities : Profile → List ℕ
+capacities p = p.caps.items
+
+-- the amount of the resource at place k that is in use at instant t
+unfoldable pub in_use : Profile → ℕ → ℕ → ℕ
+in_use p t k = amount p.changes.items (lists p.rows.items) t k

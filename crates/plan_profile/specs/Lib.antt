@@ -1,0 +1,4 @@
+pub mod Usage
+pub mod Steps
+pub mod Changing
+pub mod InUse

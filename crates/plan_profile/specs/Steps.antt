@@ -1,0 +1,41 @@
+-- How a profile keeps usage: the instants at which it changes, and a row of amounts for the time before the first of them and
+-- from each of them on. No public clause speaks of these words. See "Schedules" in docs/DEFINITIONS.md.
+use Rattle.std.specs.Prelude.{◌≡◌, ℕ, ◌+◌, ◌≤◌, ◌<◌, nat_le, List, [], length, map, count_by, slice_index, slice_index_or, Contains}
+use Rattle.std.specs.Global.{Global}
+use Rattle.std.specs.declared.vec.Vec.{Vec}
+use Rattle.plan_profile.specs.Usage.{IsRising, used_before}
+
+-- how many changes come no later than t
+abbrev pub changes_until : List ℕ → ℕ → ℕ
+changes_until changes t = count_by (λ c. nat_le c t) changes
+
+-- the rows as lists of amounts
+abbrev pub lists : List (Vec ℕ Global) → List (List ℕ)
+lists rows = map (λ row. row.items) rows
+
+-- the amount of resource k in row i
+abbrev pub amount_at : List (List ℕ) → ℕ → ℕ → ℕ
+amount_at rows i k = slice_index (slice_index_or rows i []) k
+
+-- the amount of resource k at instant t: that of the row after the last change that came
+unfoldable pub amount : List ℕ → List (List ℕ) → ℕ → ℕ → ℕ
+amount changes rows t k = amount_at rows (changes_until changes t) k
+
+-- rising changes and one row more, all rows as long as the first, in which all amounts are 0
+pub record IsSteps (changes : List ℕ) (rows : List (List ℕ)) : Type 0 where
+  pub one_more : length rows ≡ length changes + 1
+  pub even : (i : ℕ) → i < length rows → length (slice_index_or rows i []) ≡ length (slice_index_or rows 0 [])
+  pub rising : IsRising changes
+  pub none_first : (k : ℕ) → amount_at rows 0 k ≡ 0
+
+-- at each of these instants some amount differs from that at the instant before
+abbrev pub AreChanges : List ℕ → (ℕ → ℕ → ℕ) → Type 0
+AreChanges changes used = (c : ℕ) → Contains changes c → ((k : ℕ) → used c k ≡ used_before used c k) → ⊥
+
+-- nothing is in use from an instant on
+abbrev pub IsEndedBy : ℕ → List ℕ → List (List ℕ) → Type 0
+IsEndedBy last changes rows = (t k : ℕ) → last ≤ t → amount changes rows t k ≡ 0
+
+-- needs keep the capacities beside the amounts of row i
+abbrev pub HasRoomAt : List ℕ → List (List ℕ) → List ℕ → ℕ → Type 0
+HasRoomAt caps rows needs i = (k : ℕ) → k < length caps → amount_at rows i k + slice_index needs k ≤ slice_index caps k

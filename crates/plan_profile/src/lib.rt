@@ -1,0 +1,8 @@
+//! What is in use of resources of constant capacity over time, and where an interval fits beside it.
+#![tactic(auto)]
+
+mod profile;
+mod row;
+mod steps;
+
+pub use profile::{END, Profile};

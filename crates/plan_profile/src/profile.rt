@@ -1,0 +1,180 @@
+//! Capacity in time.
+#![tactic(auto, unfolding(crate::specs::InUse::in_use, crate::specs::InUse::capacities))]
+
+ghost use Rattle.std.specs.Prelude.{◌≡◌, ℕ, ◌^◌, ◌<◌, length, slice_index, slice_index_or, []};
+ghost use Rattle.plan_profile.specs.Steps.{lists, amount, IsSteps, AreChanges, IsEndedBy};
+ghost use Rattle.plan_profile.specs.declared.profile.TheConstants.{END};
+
+use crate::row::{has_room, row_is_within, zeros};
+use crate::steps::{copy_rows, place_between, segment};
+use std::alloc::{AllocError, Global};
+
+/// The end of time: what is placed ends by this instant, in whole time units.
+pub const END: u64 = 10_000_000;
+
+/// How much of each resource is in use at each instant, beside the constant capacities of the resources. Resources are
+/// numbered from 1, instants are whole time units from 0 on. Each call goes from change to change of the usage, so that long
+/// intervals cost no more than short ones. Only `new`, `place` and `copy` take memory, and want of it is their one error.
+#[derive(Debug, Drop)]
+pub struct Profile {
+    caps: Vec<u64>,
+    changes: Vec<u64>,
+    rows: Vec<Vec<u64>>,
+    ghost steps: { IsSteps changes.items (lists rows.items) },
+    ghost wide: { length (slice_index_or (lists rows.items) 0 []) ≡ length caps.items },
+    ghost true_changes: { AreChanges changes.items (amount changes.items (lists rows.items)) },
+    ghost ended: { IsEndedBy END changes.items (lists rows.items) },
+    ghost small: { (k : ℕ) → slice_index caps.items k < 2 ^ 64 },
+}
+
+impl Profile {
+    ghost use Rattle.std.specs.Prelude.{◌≡◌, ℕ, ◌+◌, ◌-◌, ◌≤◌, ◌<◌, ◌↔◌, length, vec_len, All, Contains, IsTrue, IfOk, OnOk, OnErr};
+    ghost use Rattle.plan_profile.specs.Usage.{Fits, FitsEmpty, IsEarliest, IsChange, IsRising, used_with};
+    ghost use Rattle.plan_profile.specs.Steps.{changes_until, lists, HasRoomAt};
+    ghost use Rattle.plan_profile.specs.InUse.{capacities, in_use};
+
+    /// A profile in which nothing is in use, with a capacity for each resource.
+    pub fn new(alloc: Global, caps: Vec<u64>) -> Result<Profile, AllocError>
+        ensures caps { IfOk result (λ p. capacities p ≡ caps.items) }
+        ensures none { IfOk result (λ p. (t k : ℕ) → in_use p t k ≡ 0) }
+    {
+        let mut rows = Vec::new(alloc);
+        rows.push(zeros(alloc, &caps)?)?;
+        Ok(Profile {
+            caps,
+            changes: Vec::new(alloc),
+            rows,
+        })
+    }
+
+    // The place of the row that is in force at an instant.
+    fn row_in_force(&self, t: u64) -> usize
+        ensures { result ≡ changes_until self.now.changes.items t }
+    {
+        segment(&self.changes, t)
+    }
+
+    // Whether needs keep the capacities beside the amounts of a row.
+    fn row_has_room(&self, i: usize, needs: &[u64]) -> bool
+        requires row { i < vec_len self.now.rows }
+        requires needs { length needs.now ≡ length (capacities self.now) }
+        ensures { IsTrue result ↔ HasRoomAt (capacities self.now) (lists self.now.rows.items) needs.now i }
+    {
+        has_room(&self.caps, &self.rows[i], needs)
+    }
+
+    /// The amount of resource `k`, numbered from 1, that is in use at instant `t`.
+    pub fn usage(&self, t: u64, k: u32) -> u64
+        requires first { 1 ≤ k }
+        requires last { k ≤ length (capacities self.now) }
+        ensures value { result ≡ in_use self.now t (k - 1) }
+        ensures ended { END ≤ t → result ≡ 0 }
+    {
+        let i = self.row_in_force(t);
+        self.rows[i][k as usize - 1]
+    }
+
+    /// The instants at which the usage of some resource differs from that of the instant before, where nothing is in use
+    /// before instant 0.
+    pub fn changes(&self) -> &[u64]
+        ensures rising { IsRising result.now }
+        ensures exact { (t : ℕ) → Contains result.now t ↔ IsChange (length (capacities self.now)) (in_use self.now) t }
+        ensures in_time { All (λ t. t ≤ END) result.now }
+    {
+        &self.changes
+    }
+
+    /// Whether no need is above its capacity. `needs` has an amount for each resource.
+    pub fn fits_empty(&self, needs: &[u64]) -> bool
+        requires { length needs.now ≡ length (capacities self.now) }
+        ensures { IsTrue result ↔ FitsEmpty (capacities self.now) needs.now }
+    {
+        row_is_within(&self.caps, needs)
+    }
+
+    /// Whether the needs of an interval of `d` instants from `start` on keep the capacities at each of its instants.
+    pub fn fits(&self, start: u64, d: u64, needs: &[u64]) -> bool
+        requires { length needs.now ≡ length (capacities self.now) }
+        ensures { IsTrue result ↔ Fits (capacities self.now) (in_use self.now) start d needs.now }
+    {
+        if d == 0 {
+            return true;
+        }
+        let first = self.row_in_force(start);
+        for i in first..self.rows.len() {
+            if first < i && self.changes[i - 1] - start >= d {
+                return true;
+            }
+            if !self.row_has_room(i, needs) {
+                return false;
+            }
+        }
+        true
+    }
+
+    /// The least instant from `from` on at which an interval of `d` instants fits.
+    pub fn earliest(&self, from: u64, d: u64, needs: &[u64]) -> u64
+        requires from { from ≤ END }
+        requires needs { length needs.now ≡ length (capacities self.now) }
+        requires empty { 0 < d → FitsEmpty (capacities self.now) needs.now }
+        ensures least { IsEarliest (capacities self.now) (in_use self.now) from d needs.now result }
+        ensures in_time { result ≤ END }
+    {
+        if d == 0 {
+            return from;
+        }
+        let first = self.row_in_force(from);
+        let mut at = from;
+        for i in first..self.rows.len() {
+            if first < i && self.changes[i - 1] - at >= d {
+                return at;
+            }
+            if !self.row_has_room(i, needs) {
+                at = self.changes[i];
+            }
+        }
+        at
+    }
+
+    /// Adds the needs of an interval of `d` instants from `start` on.
+    pub fn place(&mut self, start: u64, d: u64, needs: &[u64]) -> Result<(), AllocError>
+        requires end { start + d ≤ END }
+        requires needs { length needs.now ≡ length (capacities self.old) }
+        requires fits { Fits (capacities self.old) (in_use self.old) start d needs.now }
+        ensures caps { capacities self.new ≡ capacities self.old }
+        ensures ok { OnOk result ((t k : ℕ) → in_use self.new t k ≡ used_with (in_use self.old) start d needs.now t k) }
+        ensures err { OnErr result ((t k : ℕ) → in_use self.new t k ≡ in_use self.old t k) }
+    {
+        if d == 0 {
+            return Ok(());
+        }
+        let alloc = *self.caps.allocator();
+        place_between(
+            alloc,
+            &mut self.changes,
+            &mut self.rows,
+            start,
+            start + d,
+            needs,
+        )
+    }
+
+    /// A profile of the same capacities with the same amounts in use.
+    pub fn copy(&self) -> Result<Profile, AllocError>
+        ensures caps { IfOk result (λ p. capacities p ≡ capacities self.now) }
+        ensures same { IfOk result (λ p. (t k : ℕ) → in_use p t k ≡ in_use self.now t k) }
+    {
+        let alloc = *self.caps.allocator();
+        let caps = Vec::from_slice(alloc, &self.caps)?;
+        let changes = Vec::from_slice(alloc, &self.changes)?;
+        let rows = copy_rows(alloc, &self.rows)?;
+        Ok(Profile {
+            caps,
+            changes,
+            rows,
+        })
+    }
+}
+
+#[cfg(test)]
+mod tests;

@@ -1,0 +1,44 @@
+//! One row of amounts, a number for each resource.
+ghost use Rattle.std.specs.Prelude.{◌≡◌, ℕ, ◌+◌, ◌^◌, ◌≤◌, ◌<◌, ◌↔◌, length, slice_index, EachIndex, IsTrue, IfOk, replicate};
+ghost use Rattle.plan_profile.specs.Usage.{FitsEmpty};
+ghost use Rattle.plan_profile.specs.Changing.{IsRowWith};
+
+use std::alloc::{AllocError, Global};
+
+// A row of as many amounts as there are capacities, all of them 0.
+pub(crate) fn zeros(alloc: Global, caps: &[u64]) -> Result<Vec<u64>, AllocError>
+    ensures zeros { IfOk result (λ row. row.items ≡ replicate (length caps.now) 0) }
+    ensures small { (k : ℕ) → slice_index caps.now k < 2 ^ 64 }
+{
+    vec![in alloc; 0; caps.len()]
+}
+
+// Whether no need is above its capacity.
+pub(crate) fn row_is_within(caps: &[u64], needs: &[u64]) -> bool
+    requires { length needs.now ≡ length caps.now }
+    ensures { IsTrue result ↔ FitsEmpty caps.now needs.now }
+{
+    caps.iter().zip(needs).all(|(cap, need)| need <= cap)
+}
+
+// Whether needs keep the capacities beside the amounts of a row.
+pub(crate) fn has_room(caps: &[u64], row: &[u64], needs: &[u64]) -> bool
+    requires row { length row.now ≡ length caps.now }
+    requires needs { length needs.now ≡ length caps.now }
+    ensures { IsTrue result ↔ EachIndex caps.now
+        (λ k. slice_index row.now k + slice_index needs.now k ≤ slice_index caps.now k) }
+{
+    caps.iter().zip(row).zip(needs).all(|((cap, amount), need)| need <= cap
+        && *amount <= cap - need)
+}
+
+// Adds needs to the amounts of a row.
+pub(crate) fn add_needs(row: &mut [u64], needs: &[u64])
+    requires wide { length row.old ≡ length needs.now }
+    requires sums { EachIndex needs.now (λ k. slice_index row.old k + slice_index needs.now k < 2 ^ 64) }
+    ensures { IsRowWith row.old needs.now row.new }
+{
+    for (k, amount) in row.iter_mut().enumerate() {
+        *amount += needs[k];
+    }
+}
