@@ -1,0 +1,6 @@
+pub mod StepLemmas
+pub mod PassLemmas
+pub mod JoinLemmas
+pub mod DateLemmas
+pub mod BoundLemmas
+pub mod ReachLemmas

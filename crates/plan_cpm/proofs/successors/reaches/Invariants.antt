@@ -1,0 +1,16 @@
+use Rattle.std.proofs.Common.{ℕ, ◌≡◌, ◌-◌, ◌≤◌, ◌<◌, length, get_or}
+use Rattle.plan_net.specs.Network.{count_of}
+use Rattle.plan_net.specs.Indexed.{row_at}
+use Rattle.plan_cpm.specs.Reached.{IsReach}
+use Rattle.plan_cpm.proofs.successors.reaches.Given as goal
+
+-- the rows of the activities from `left` on are right
+abbrev pub invariant-back : goal.invariant-back
+invariant-back l = record {
+  whole : length l.rows.items ≡ count_of l.network;
+  low : l.left ≤ length l.order;
+  done : (p : ℕ) → l.left ≤ p → p < length l.order → IsReach l.network (get_or l.order p 0) (row_at l.rows.items (get_or l.order p 0 - 1));
+}
+
+abbrev pub decreases-back : goal.decreases-back
+decreases-back l = l.left

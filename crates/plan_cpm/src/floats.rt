@@ -1,0 +1,97 @@
+ghost use Rattle.std.specs.Prelude.{◌≡◌, ℕ, ◌+◌, ◌*◌, ◌-◌, ◌≤◌, ◌<◌, length, sum, IfOk, slice_index, EachIndex, SomeIndex};
+ghost use Rattle.plan_net.specs.Network.{IsActivity, IsArc, IsGreatest, count_of, duration_of, lag_of};
+ghost use Rattle.plan_cpm.specs.Lengths.{AreFinishes, HasNoLag, IsLength};
+ghost use Rattle.plan_cpm.specs.Dates.{AreDates, AreFreeFloats, IsNextStart, KeepRecurrences, LeavesTails};
+
+use super::passes::{earliest_finishes, lag_between, tails};
+use super::table::Dates;
+use plan_net::{LONGEST_LAG, Network};
+use std::alloc::{AllocError, Global};
+
+// The greatest of the numbers.
+fn greatest(values: &[u64]) -> u64
+    requires { 0 < length values.now }
+    ensures reached { SomeIndex values.now (λ k. slice_index values.now k ≡ result) }
+    ensures above { EachIndex values.now (λ k. slice_index values.now k ≤ result) }
+{
+    let mut most = values[0];
+    'values: for k in 1..values.len() {
+        if values[k] > most {
+            most = values[k];
+        }
+    }
+    most
+}
+
+// What the start of activity `k` leaves to the end of its predecessor `j`.
+fn start_after(network: &Network, j: u32, k: u32, finishes: &[u64]) -> u64
+    requires arc { IsArc network.now j k }
+    requires from { IsActivity network.now j }
+    requires to { IsActivity network.now k }
+    requires finishes { AreFinishes network.now finishes.now }
+    ensures { result + lag_of network.now j k + duration_of network.now k ≡ slice_index finishes.now (k - 1) }
+{
+    finishes[k as usize - 1] - network.duration(k) - lag_between(network, j, k)
+}
+
+// The least start of a successor, less the arc's lag; the whole duration without successors.
+fn next_start(network: &Network, j: u32, finishes: &[u64], duration: u64) -> u64
+    requires activity { IsActivity network.now j }
+    requires finishes { AreFinishes network.now finishes.now }
+    ensures { IsNextStart network.now finishes.now duration j result }
+{
+    let mut least = duration;
+    'succs: for &k in network.succs(j) {
+        let start = start_after(network, j, k, finishes);
+        least = least.min(start);
+    }
+    least
+}
+
+// The free float of each activity.
+fn free_floats(
+    alloc: Global,
+    network: &Network,
+    finishes: &[u64],
+    duration: u64,
+) -> Result<Vec<u64>, AllocError>
+    requires finishes { AreFinishes network.now finishes.now }
+    requires duration { IsGreatest (IsLength network.now) duration }
+    ensures { IfOk result (λ list. AreFreeFloats network.now finishes.now duration list.items) }
+{
+    let mut list = Vec::new(alloc);
+    'all: for k in 0..network.len() {
+        let next = next_start(network, k as u32 + 1, finishes, duration);
+        list.push(next - finishes[k])?;
+    }
+    Ok(list)
+}
+
+// The durations of the activities.
+fn durations_of(alloc: Global, network: &Network) -> Result<Vec<u64>, AllocError>
+    ensures { IfOk result (λ list. list.items ≡ network.now.durations) }
+{
+    let mut list = Vec::new(alloc);
+    'all: for k in 0..network.len() {
+        list.push(network.duration(k as u32 + 1))?;
+    }
+    Ok(list)
+}
+
+/// The dates of the activities (the critical path method of Kelley and Walker 1959).
+pub fn dates(alloc: Global, network: &Network) -> Result<Dates, AllocError>
+    ensures dates { IfOk result (AreDates network.now) }
+    ensures recurrences { IfOk result (KeepRecurrences network.now) }
+    ensures tails { IfOk result (LeavesTails network.now) }
+    ensures bound { IfOk result (λ made. made.duration ≤ sum network.now.durations + LONGEST_LAG * (count_of network.now - 1)) }
+    ensures bound_without_lags { IfOk result (λ made. HasNoLag network.now → made.duration ≤ sum network.now.durations) }
+{
+    // the network's facts, on which the proof rests
+    let _count = network.len();
+    let finishes = earliest_finishes(alloc, network)?;
+    let after = tails(alloc, network)?;
+    let durations = durations_of(alloc, network)?;
+    let duration = greatest(&finishes);
+    let floats = free_floats(alloc, network, &finishes, duration)?;
+    Ok(Dates::from_parts(duration, durations, finishes, after, floats))
+}

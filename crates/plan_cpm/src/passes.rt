@@ -1,0 +1,81 @@
+ghost use Rattle.std.specs.Prelude.{◌≡◌, ℕ, ◌+◌, ◌-◌, ◌≤◌, ◌⊎◌, length, IfOk, slice_index, EachIndex};
+ghost use Rattle.plan_net.specs.Network.{IsActivity, IsArc, count_of, duration_of, lag_of};
+ghost use Rattle.plan_cpm.specs.Lengths.{AreFinishes, AreTails};
+
+use plan_net::{LONGEST_LAG, Network};
+use std::alloc::{AllocError, Global};
+
+/// No path is as long as this: 502 durations of 10,000 and as many lags.
+pub const FARTHEST: u64 = 10_040_000;
+
+/// The lag of an arc.
+pub fn lag_between(network: &Network, i: u32, j: u32) -> u64
+    requires { IsArc network.now i j }
+    ensures value { result ≡ lag_of network.now i j }
+    ensures limit { result ≤ LONGEST_LAG }
+{
+    match network.lag(i, j) {
+        Some(lag) => lag,
+        None => 0,
+    }
+}
+
+// The greatest finish of a predecessor and the arc's lag; 0 without predecessors.
+fn last_before(network: &Network, j: u32, finishes: &[u64]) -> u64
+    requires activity { IsActivity network.now j }
+    requires whole { length finishes.now ≡ count_of network.now }
+    requires limit { EachIndex finishes.now (λ k. slice_index finishes.now k ≤ FARTHEST) }
+    ensures above { (i : ℕ) → IsArc network.now i j → slice_index finishes.now (i - 1) + lag_of network.now i j ≤ result }
+    ensures reached { (result ≡ 0) ⊎ ((i : ℕ) × IsArc network.now i j × (result ≡ slice_index finishes.now (i - 1) + lag_of network.now i j)) }
+{
+    let mut latest = 0u64;
+    'preds: for &i in network.preds(j) {
+        let ready = finishes[i as usize - 1] + lag_between(network, i, j);
+        latest = latest.max(ready);
+    }
+    latest
+}
+
+// The greatest tail of a successor and the arc's lag; 0 without successors.
+fn most_after(network: &Network, j: u32, tails: &[u64]) -> u64
+    requires activity { IsActivity network.now j }
+    requires whole { length tails.now ≡ count_of network.now }
+    requires limit { EachIndex tails.now (λ k. slice_index tails.now k ≤ FARTHEST) }
+    ensures above { (k : ℕ) → IsArc network.now j k → lag_of network.now j k + slice_index tails.now (k - 1) ≤ result }
+    ensures reached { (result ≡ 0) ⊎ ((k : ℕ) × IsArc network.now j k × (result ≡ lag_of network.now j k + slice_index tails.now (k - 1))) }
+{
+    let mut most = 0u64;
+    'succs: for &k in network.succs(j) {
+        let rest = lag_between(network, j, k) + tails[k as usize - 1];
+        most = most.max(rest);
+    }
+    most
+}
+
+/// The earliest finish of each activity: the greatest length of a path that ends with it.
+pub fn earliest_finishes(alloc: Global, network: &Network) -> Result<Vec<u64>, AllocError>
+    ensures { IfOk result (λ list. AreFinishes network.now list.items) }
+{
+    let mut finishes = vec![in alloc; 0u64; network.len()]?;
+    'turns: for &j in network.order() {
+        let start = last_before(network, j, &finishes);
+        finishes[j as usize - 1] = start + network.duration(j);
+    }
+    Ok(finishes)
+}
+
+/// The tail of each activity: the greatest length of a path that begins with it.
+pub fn tails(alloc: Global, network: &Network) -> Result<Vec<u64>, AllocError>
+    ensures { IfOk result (λ list. AreTails network.now list.items) }
+{
+    let mut tails = vec![in alloc; 0u64; network.len()]?;
+    let order = network.order();
+    let mut left = order.len();
+    'back: while left > 0 {
+        left -= 1;
+        let j = order[left];
+        let rest = most_after(network, j, &tails);
+        tails[j as usize - 1] = network.duration(j) + rest;
+    }
+    Ok(tails)
+}

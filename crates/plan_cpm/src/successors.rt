@@ -1,0 +1,99 @@
+ghost use Rattle.std.specs.Prelude.{◌≡◌, ℕ, ◌≤◌, ◌<◌, ◌+◌, ◌⊎◌, length, true, false, slice_index_or, IfOk};
+ghost use Rattle.plan_net.specs.Network.{IsActivity, count_of};
+ghost use Rattle.plan_net.specs.Placed.{IsPlaced};
+ghost use Rattle.plan_cpm.specs.Successors.{AreTotals, IsCountOf};
+ghost use Rattle.plan_cpm.specs.Reached.{AreReaches, AreReachesAfter, IsReach};
+
+use plan_net::{MOST_ACTIVITIES, Network};
+use std::alloc::{AllocError, Global};
+
+// Sets each mark that the other row has.
+fn unite(row: &mut Vec<bool>, other: &[bool])
+    requires { length row.old.items ≡ length other.now }
+    ensures whole { length row.new.items ≡ length row.old.items }
+    ensures kept { (k : ℕ) → slice_index_or row.old.items k false ≡ true → slice_index_or row.new.items k false ≡ true }
+    ensures added { (k : ℕ) → slice_index_or other.now k false ≡ true → slice_index_or row.new.items k false ≡ true }
+    ensures alone { (k : ℕ) → slice_index_or row.new.items k false ≡ true → (slice_index_or row.old.items k false ≡ true) ⊎ (slice_index_or other.now k false ≡ true) }
+{
+    'marks: for (k, &more) in other.iter().enumerate() {
+        if more {
+            row[k] = true;
+        }
+    }
+}
+
+// The marks of the activities to which paths lead from `j`, by those of its successors.
+fn reach_of(
+    alloc: Global,
+    network: &Network,
+    j: u32,
+    rows: &[Vec<bool>],
+) -> Result<Vec<bool>, AllocError>
+    requires activity { IsActivity network.now j }
+    requires rows { length rows.now ≡ count_of network.now }
+    requires after { AreReachesAfter network.now j rows.now }
+    ensures { IfOk result (λ row. IsReach network.now j row.items) }
+{
+    let mut row = vec![in alloc; false; network.len()]?;
+    'succs: for &k in network.succs(j) {
+        let place = k as usize - 1;
+        if !row[place] {
+            row[place] = true;
+            unite(&mut row, &rows[place]);
+        }
+    }
+    Ok(row)
+}
+
+// How many marks are set.
+fn marks_set(row: &[bool]) -> u32
+    requires { length row.now ≤ MOST_ACTIVITIES }
+    ensures { IsCountOf (λ k. (1 ≤ k) × (k ≤ length row.now) × IsPlaced row.now k) result }
+{
+    let mut count = 0;
+    'marks: for &mark in row {
+        if mark {
+            count += 1;
+        }
+    }
+    count
+}
+
+// As many rows as activities, all of them empty.
+fn empty_rows(alloc: Global, count: usize) -> Result<Vec<Vec<bool>>, AllocError>
+    ensures { IfOk result (λ rows. length rows.items ≡ count) }
+{
+    let mut rows = Vec::new(alloc);
+    'rows: for _ in 0..count {
+        rows.push(Vec::new(alloc))?;
+    }
+    Ok(rows)
+}
+
+// For each activity the marks of those to which paths lead from it, from the end of the order on.
+fn reaches(alloc: Global, network: &Network) -> Result<Vec<Vec<bool>>, AllocError>
+    ensures { IfOk result (λ rows. AreReaches network.now rows.items) }
+{
+    let mut rows = empty_rows(alloc, network.len())?;
+    let order = network.order();
+    let mut left = order.len();
+    'back: while left > 0 {
+        left -= 1;
+        let j = order[left];
+        let row = reach_of(alloc, network, j, &rows)?;
+        rows[j as usize - 1] = row;
+    }
+    Ok(rows)
+}
+
+/// For each activity how many others come at some time after it: its direct and indirect successors.
+pub fn total_successors(alloc: Global, network: &Network) -> Result<Vec<u32>, AllocError>
+    ensures { IfOk result (λ list. AreTotals network.now list.items) }
+{
+    let rows = reaches(alloc, network)?;
+    let mut list = Vec::new(alloc);
+    'all: for k in 0..network.len() {
+        list.push(marks_set(&rows[k]))?;
+    }
+    Ok(list)
+}

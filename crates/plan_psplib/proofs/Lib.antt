@@ -1,0 +1,14 @@
+pub mod CutLemmas
+pub mod BlankLemmas
+pub mod Walks
+pub mod SentLemmas
+pub mod NoteLemmas
+pub mod LoopLemmas
+pub mod RowLemmas
+pub mod RequestLemmas
+pub mod GoesLemmas
+pub mod ArcsLemmas
+pub mod AmountsLemmas
+pub mod HeadLemmas
+pub mod SaysLemmas
+pub mod NetworkLemmas

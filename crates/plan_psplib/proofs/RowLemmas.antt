@@ -1,0 +1,68 @@
+-- The loops over the successors of a row, and over the rows of the precedence section.
+use Rattle.std.proofs.Common.{◌≡◌, ℕ, suc, Bool, ◌-◌, ◌+◌, ◌≤◌, ◌<◌, List, [], ◌∷◌, ◌++◌, Result, Ok, length, take, drop, refl, sym, arith}
+use Rattle.std.proofs.lemmas.Grind.{common_steps}
+use Rattle.plan_psplib.specs.declared.fault.Fault.{Fault}
+use Rattle.plan_psplib.specs.declared.fault.ReadError.{ReadError}
+use Rattle.plan_psplib.specs.Streams.{Stream}
+use Rattle.plan_psplib.specs.Reading.{◌>>=◌, Fails}
+use Rattle.plan_psplib.specs.Precedence.{successor_at, successors_at, precedence_row_at, precedence_rows_at, arcs_from}
+use Rattle.plan_psplib.proofs.LoopLemmas.{goes_on, fails, is_done}
+
+-- a slice that a `Vec` lent whole comes back whole
+pub written_back : (new old : List Bool) (n : ℕ) → length new ≡ n → take n (new ++ drop (length new) old) ≡ new
+written_back new old n e = grind (arith, common_steps)
+
+module _ (n : ℕ) where
+  abbrev Before : Type 0
+  Before = List ℕ × Stream
+
+  abbrev others : ℕ → Before → Result (List ℕ × Stream) Fault
+  others k s = successors_at n k s.0 s.1
+
+  abbrev one : Before → Result (ℕ × Stream) Fault
+  one s = successor_at n s.0 s.1
+
+  abbrev behind : Before → (ℕ × Stream) → Before
+  behind s v = (s.0 ++ v.0 ∷ [], v.1)
+
+  successors-suc : (k : ℕ) (s : Before) → others (suc k) s ≡ (one s >>= λ v. others k (behind s v))
+  unfolding successors_at
+  successors-suc k s = refl
+
+  pub successors_go_on : (count i : ℕ) (found : List ℕ) (s : Stream) (job : ℕ) (after : Stream) (total : Result (List ℕ × Stream) Fault) → i < count → successor_at n found s ≡ Ok (job, after) → successors_at n (count - i) found s ≡ total → successors_at n (count - (i + 1)) (found ++ job ∷ []) after ≡ total
+  successors_go_on count i found s job after total = goes_on others one behind successors-suc count i (found, s) (job, after) total
+
+  pub successors_fail : (e : ReadError) (count i : ℕ) (found : List ℕ) (s : Stream) (total : Result (List ℕ × Stream) Fault) → i < count → Fails e (successor_at n found s) → successors_at n (count - i) found s ≡ total → Fails e total
+  successors_fail e count i found s total = fails others one behind successors-suc e count i (found, s) total
+
+  pub successors_done : (count i : ℕ) (found : List ℕ) (s : Stream) (total : Result (List ℕ × Stream) Fault) → count ≤ i → successors_at n (count - i) found s ≡ total → total ≡ Ok (found, s)
+  unfolding successors_at
+  successors_done count i found s total past whole = sym (is_done others one behind successors-suc count i (found, s) total past whole)
+
+-- the state of the loop over rows: the job whose row comes next, the arcs so far, and what is left to read
+module _ (n : ℕ) where
+  abbrev Rows : Type 0
+  Rows = ℕ × List (ℕ × ℕ) × Stream
+
+  abbrev other_rows : ℕ → Rows → Result (List (ℕ × ℕ) × Stream) Fault
+  other_rows k s = precedence_rows_at n k s.0 s.1 s.2
+
+  abbrev one_row : Rows → Result (List ℕ × Stream) Fault
+  one_row s = precedence_row_at n s.0 s.2
+
+  abbrev behind_row : Rows → (List ℕ × Stream) → Rows
+  behind_row s row = (s.0 + 1, s.1 ++ arcs_from s.0 row.0, row.1)
+
+  rows-suc : (k : ℕ) (s : Rows) → other_rows (suc k) s ≡ (one_row s >>= λ row. other_rows k (behind_row s row))
+  unfolding precedence_rows_at
+  rows-suc k s = refl
+
+  pub rows_go_on : (count i job : ℕ) (arcs : List (ℕ × ℕ)) (s : Stream) (row : List ℕ) (after : Stream) (total : Result (List (ℕ × ℕ) × Stream) Fault) → i < count → precedence_row_at n job s ≡ Ok (row, after) → precedence_rows_at n (count - i) job arcs s ≡ total → precedence_rows_at n (count - (i + 1)) (job + 1) (arcs ++ arcs_from job row) after ≡ total
+  rows_go_on count i job arcs s row after total = goes_on other_rows one_row behind_row rows-suc count i (job, arcs, s) (row, after) total
+
+  pub rows_fail : (e : ReadError) (count i job : ℕ) (arcs : List (ℕ × ℕ)) (s : Stream) (total : Result (List (ℕ × ℕ) × Stream) Fault) → i < count → Fails e (precedence_row_at n job s) → precedence_rows_at n (count - i) job arcs s ≡ total → Fails e total
+  rows_fail e count i job arcs s total = fails other_rows one_row behind_row rows-suc e count i (job, arcs, s) total
+
+  pub rows_done : (count i job : ℕ) (arcs : List (ℕ × ℕ)) (s : Stream) (total : Result (List (ℕ × ℕ) × Stream) Fault) → count ≤ i → precedence_rows_at n (count - i) job arcs s ≡ total → total ≡ Ok (arcs, s)
+  unfolding precedence_rows_at
+  rows_done count i job arcs s total past whole = sym (is_done other_rows one_row behind_row rows-suc count i (job, arcs, s) total past whole)

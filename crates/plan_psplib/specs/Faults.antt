@@ -1,0 +1,15 @@
+-- What a file isn't read for (docs/DEFINITIONS.md, "Files").
+use Rattle.std.specs.Prelude.{◌≡◌, []}
+use Rattle.plan_psplib.specs.declared.fault.FileCode.TheVariants as code
+use Rattle.plan_psplib.specs.declared.fault.FileFault.{FileFault}
+use Rattle.plan_psplib.specs.declared.fault.ReadError.{ReadError}
+use Rattle.plan_psplib.specs.declared.fault.ReadError.TheVariants as errors
+
+-- want of memory, which is no fault of the file
+abbrev pub IsWantOfMemory : FileFault → Type 0
+IsWantOfMemory fault = (fault.code ≡ code.Memory) × (fault.line ≡ 0) × (fault.cycle.items ≡ [])
+
+-- a file isn't read for what a part of it isn't read for
+abbrev pub TellsError : ReadError → FileFault → Type 0
+TellsError errors.Memory fault = IsWantOfMemory fault
+TellsError (errors.Fault f) fault = (fault.code ≡ f.code) × (fault.line ≡ f.line) × (fault.cycle.items ≡ [])

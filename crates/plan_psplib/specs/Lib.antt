@@ -1,0 +1,17 @@
+pub mod Lines
+pub mod Numbers
+pub mod Devices
+pub mod Streams
+pub mod Sections
+pub mod Reading
+pub mod Faults
+pub mod Noted
+pub mod Head
+pub mod Precedence
+pub mod Requests
+pub mod Document
+pub mod Says
+pub mod Project
+pub use Rattle.plan_net.specs.Network
+pub use Rattle.plan_net.specs.Limits
+pub use Rattle.plan_net.specs.Cycle

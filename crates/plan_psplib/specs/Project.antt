@@ -1,0 +1,65 @@
+-- A project that a file gives, and what a file is refused for (docs/DEFINITIONS.md, "Files").
+use Rattle.std.specs.Prelude.{◌≡◌, ℕ, ◌≤◌, ◌⊎◌, List, [], All, Ok, Err, length}
+use Rattle.plan_net.specs.Network.{Net, count_of, unlagged}
+use Rattle.plan_net.specs.Limits.{IsSound}
+use Rattle.plan_net.specs.Cycle.{IsNamedCycle}
+use Rattle.plan_net.specs.declared.fault.NetFault.{NetFault}
+use Rattle.plan_net.specs.declared.fault.NetFault.TheVariants as nets
+use Rattle.plan_psplib.specs.declared.fault.FileCode.TheVariants as code
+use Rattle.plan_psplib.specs.declared.fault.FileFault.{FileFault}
+use Rattle.plan_psplib.specs.Faults.{IsWantOfMemory}
+use Rattle.plan_psplib.specs.Requests.{greatest}
+use Rattle.plan_psplib.specs.Document.{Document, document}
+use Rattle.plan_psplib.specs.Says.{Says}
+
+-- a project: its network, what each activity needs of each resource, and how much there is of each
+pub record Project : Type 0 where
+  pub network : Net
+  pub needs : List (List ℕ)
+  pub available : List ℕ
+
+-- amounts of so many resources, each within its limit
+abbrev pub AreAmounts : ℕ → List ℕ → Type 0
+AreAmounts k amounts = (length amounts ≡ k) × All (λ amount. amount ≤ greatest) amounts
+
+-- one row of needs for each activity, one amount for each of 1 to 16 resources in each, all within the limits
+pub record IsProject (p : Project) : Type 0 where
+  pub network : IsSound p.network
+  pub rows : length p.needs ≡ count_of p.network
+  pub needs : All (AreAmounts (length p.available)) p.needs
+  pub available : AreAmounts (length p.available) p.available
+  pub resources : (1 ≤ length p.available) × (length p.available ≤ 16)
+
+-- the network of a document: its arcs have no lags
+abbrev pub network_of : Document → Net
+network_of d = unlagged d.requests.durations d.arcs
+
+-- the project of a document
+abbrev pub project_of : Document → Project
+project_of d = record { network = network_of d; needs = d.requests.needs; available = d.available }
+
+-- a document whose arcs have a cycle: it is named, at the line of the precedence title
+abbrev pub NamesCycleOf : Document → FileFault → Type 0
+NamesCycleOf d fault = (fault.code ≡ code.Cycle) × (fault.line ≡ d.precedence_line) × IsNamedCycle (network_of d) fault.cycle.items
+
+-- the first check that a text fails: one of those that its document takes, or else the test for a cycle
+abbrev pub IsFirstFailing : List ℕ → FileFault → Type 0
+IsFirstFailing text fault =
+    ((document text ≡ Err (record { code = fault.code; line = fault.line })) × (fault.cycle.items ≡ []))
+    ⊎ ((d : Document) × (document text ≡ Ok d) × NamesCycleOf d fault)
+
+-- a document that some text says
+abbrev pub IsSaid : Document → Type 0
+IsSaid d = (text : List ℕ) × Says text d
+
+-- a network is refused for a cycle, or for want of memory
+abbrev pub IsCycleOrMemory : NetFault → Type 0
+IsCycleOrMemory (nets.Cycle members) = Unit {0}
+IsCycleOrMemory nets.NoMemory = Unit {0}
+IsCycleOrMemory _ = ⊥
+
+-- a text is refused for what its network is refused for; a cycle is told at this line
+abbrev pub TellsOf : NetFault → ℕ → FileFault → Type 0
+TellsOf (nets.Cycle members) line fault = (fault.code ≡ code.Cycle) × (fault.line ≡ line) × (fault.cycle.items ≡ members.items)
+TellsOf nets.NoMemory line fault = IsWantOfMemory fault
+TellsOf _ line fault = ⊥

@@ -1,0 +1,80 @@
+-- Reading words from front to back, up to the first fault (docs/DEFINITIONS.md, "Files").
+use Rattle.std.specs.Prelude.{◌≡◌, ℕ, ◌==◌, Bool, if◌then◌else◌, List, [], ◌∷◌, Option, Some, None, Result, Ok, Err, nat_le}
+use Rattle.plan_psplib.specs.declared.fault.FileCode.{FileCode}
+use Rattle.plan_psplib.specs.declared.fault.FileCode.TheVariants as code
+use Rattle.plan_psplib.specs.declared.fault.Fault.{Fault}
+use Rattle.plan_psplib.specs.declared.fault.ReadError.{ReadError}
+use Rattle.plan_psplib.specs.declared.fault.ReadError.TheVariants as errors
+use Rattle.plan_psplib.specs.declared.reading.LineNumber as declared
+use Rattle.plan_psplib.specs.Numbers.{number}
+use Rattle.plan_psplib.specs.Streams.{LineWord, Stream}
+
+-- what is read first, and then what is read from there; or the first fault
+infixl 10 ◌>>=◌
+abbrev pub ◌>>=◌ : {A B : Type 0} → Result A Fault → (A → Result B Fault) → Result B Fault
+(Ok x) >>= f = f x
+(Err e) >>= f = Err e
+
+-- a refusal that the reading gives; want of memory may come at any time
+abbrev pub Fails : {Y : Type 0} → ReadError → Result Y Fault → Type 0
+Fails errors.Memory read = Unit {0}
+Fails (errors.Fault f) read = read ≡ Err f
+
+-- what a function answers, seen by view, is what the reading gives
+abbrev pub Gives : {X Y : Type 0} → (X → Y) → Result X ReadError → Result Y Fault → Type 0
+Gives view (Ok x) read = read ≡ Ok (view x)
+Gives view (Err e) read = Fails e read
+
+-- the same of a function that takes no memory: it answers just what the reading gives
+abbrev pub Reads : {X Y : Type 0} → (X → Y) → Result X Fault → Result Y Fault → Type 0
+Reads view (Ok x) read = read ≡ Ok (view x)
+Reads view (Err f) read = read ≡ Err f
+
+abbrev pub fault : {A : Type 0} → FileCode → ℕ → Result A Fault
+fault c line = Err (record { code = c; line = line })
+
+-- a fault unless a test holds
+abbrev pub check : Bool → FileCode → ℕ → Result (Unit {0}) Fault
+check holds c line = if holds then Ok tt else fault c line
+
+-- a number and its line
+pub record LineNumber : Type 0 where
+  pub value : ℕ
+  pub line : ℕ
+
+abbrev pub line_number : declared.LineNumber → LineNumber
+line_number n = record { value = n.value; line = n.line }
+
+abbrev pub as_number : LineWord → Option ℕ → Stream → Result (LineNumber × Stream) Fault
+as_number word None rest = fault code.BadNumber word.line
+as_number word (Some n) rest = Ok (record { value = n; line = word.line }, rest)
+
+abbrev pub number_of_words : ℕ → List LineWord → Result (LineNumber × Stream) Fault
+number_of_words last [] = fault code.Count last
+number_of_words last (word ∷ others) = as_number word (number word.text) (record { last = word.line; words = others })
+
+-- the next word, which is to be a number
+unfoldable pub number_at : Stream → Result (LineNumber × Stream) Fault
+number_at s = number_of_words s.last s.words
+
+-- the next word, which is to be this number
+unfoldable pub expect_at : ℕ → FileCode → Stream → Result Stream Fault
+expect_at wanted c s = do
+  n ← number_at s
+  same ← check (n.0.value == wanted) c n.0.line
+  Ok n.1
+
+-- the next word, which is to be a number up to a limit
+unfoldable pub within_at : ℕ → Stream → Result (ℕ × Stream) Fault
+within_at limit s = do
+  n ← number_at s
+  small ← check (nat_le n.0.value limit) code.Limit n.0.line
+  Ok (n.0.value, n.1)
+
+abbrev pub end_of_words : List LineWord → Result (Unit {0}) Fault
+end_of_words [] = Ok tt
+end_of_words (word ∷ others) = fault code.Count word.line
+
+-- no word is left
+unfoldable pub end_at : Stream → Result (Unit {0}) Fault
+end_at s = end_of_words s.words

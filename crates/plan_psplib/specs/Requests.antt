@@ -1,0 +1,81 @@
+-- The requests section and the availabilities (docs/DEFINITIONS.md, "Files").
+use Rattle.std.specs.Prelude.{ℕ, zero, suc, ◌+◌, ◌&&◌, List, [], ◌∷◌, ◌++◌, Result, Ok, map, nat_le, sum}
+use Rattle.plan_psplib.specs.declared.fault.FileCode.TheVariants as code
+use Rattle.plan_psplib.specs.declared.fault.Fault.{Fault}
+use Rattle.plan_psplib.specs.declared.requests.Request as declared
+use Rattle.plan_psplib.specs.declared.requests.Requests as declared_requests
+use Rattle.plan_psplib.specs.Streams.{Stream}
+use Rattle.plan_psplib.specs.Reading.{◌>>=◌, check, number_at, expect_at, within_at, end_at}
+
+-- the greatest duration, and the greatest amount of a resource
+abbrev pub greatest : ℕ
+greatest = 10000
+
+-- the greatest sum of all durations
+abbrev pub greatest_total : ℕ
+greatest_total = 1000000
+
+-- what one job takes: its duration, and its need of each resource
+pub record Request : Type 0 where
+  pub duration : ℕ
+  pub needs : List ℕ
+
+-- what the jobs take, in order: their durations, and the needs of each
+pub record Requests : Type 0 where
+  pub durations : List ℕ
+  pub needs : List (List ℕ)
+
+-- the same, as the program keeps them
+abbrev pub request_of : declared.Request → Request
+request_of r = record { duration = r.duration; needs = r.needs.items }
+
+abbrev pub requests_of : declared_requests.Requests → Requests
+requests_of r = record { durations = r.durations.items; needs = map (λ row. row.items) r.needs.items }
+
+-- so many amounts more, behind those before
+unfoldable pub amounts_at : ℕ → List ℕ → Stream → Result (List ℕ × Stream) Fault
+amounts_at zero before s = Ok (before, s)
+amounts_at (suc more) before s = do
+  amount ← within_at greatest s
+  amounts_at more (before ++ amount.0 ∷ []) amount.1
+
+-- a duration, where those before it add up to this total
+unfoldable pub duration_at : ℕ → Stream → Result (ℕ × Stream) Fault
+duration_at total s = do
+  duration ← number_at s
+  fits ← check (nat_le duration.0.value greatest && nat_le (total + duration.0.value) greatest_total) code.Limit duration.0.line
+  Ok (duration.0.value, duration.1)
+
+-- the row of a job: its number, the mode 1, its duration, its amounts of k resources
+unfoldable pub request_row_at : ℕ → ℕ → ℕ → Stream → Result (Request × Stream) Fault
+request_row_at k job total s = do
+  mode ← expect_at job code.JobOrder s
+  time ← expect_at 1 code.Modes mode
+  duration ← duration_at total time
+  needs ← amounts_at k [] duration.1
+  Ok (record { duration = duration.0; needs = needs.0 }, needs.1)
+
+-- rows with one more behind them
+abbrev pub with_row : Requests → Request → Requests
+with_row rows row = record { durations = rows.durations ++ row.duration ∷ []; needs = rows.needs ++ row.needs ∷ [] }
+
+-- the rows of so many jobs from one on, behind the rows before
+unfoldable pub request_rows_at : ℕ → ℕ → ℕ → Requests → Stream → Result (Requests × Stream) Fault
+request_rows_at k zero job rows s = Ok (rows, s)
+request_rows_at k (suc more) job rows s = do
+  row ← request_row_at k job (sum rows.durations) s
+  request_rows_at k more (job + 1) (with_row rows row.0) row.1
+
+-- what n jobs take of k resources, by the whole section
+unfoldable pub requests : ℕ → ℕ → Stream → Result Requests Fault
+requests n k s = do
+  rows ← request_rows_at k n 1 (record { durations = []; needs = [] }) s
+  nothing_left ← end_at rows.1
+  Ok rows.0
+
+-- how much there is of each of k resources, by the whole section
+unfoldable pub availabilities : ℕ → Stream → Result (List ℕ) Fault
+availabilities k s = do
+  amounts ← amounts_at k [] s
+  nothing_left ← end_at amounts.1
+  Ok amounts.0

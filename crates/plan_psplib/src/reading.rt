@@ -1,0 +1,72 @@
+//! Numbers of a stream, or the first fault.
+
+ghost use Rattle.std.specs.Prelude.{◌≡◌, IfOk, ◌≤◌};
+ghost use Rattle.plan_psplib.specs.Reading.{Reads, line_number, number_at, expect_at, within_at, end_at};
+
+use crate::fault::{Fault, FileCode};
+use crate::numbers::number;
+use crate::streams::{Layout, StreamWords};
+
+/// A number and its line.
+#[derive(Clone, Copy, Debug, PartialEq, Eq)]
+pub struct LineNumber {
+    pub value: u64,
+    pub line: u64,
+}
+
+/// The next word, which is to be a number: `BadNumber` where it is none, `Count` where no word is left.
+#[tactic(auto, unfolding(crate::specs::Reading::number_at))]
+pub fn next_number<L: Layout>(words: &mut StreamWords<'_, L>) -> Result<LineNumber, Fault>
+    ensures { Reads (λ n. (line_number n, words.new)) result (number_at words.old) }
+{
+    let Some(word) = words.next_word() else {
+        return Err(Fault::new(FileCode::Count, words.last()));
+    };
+    match number(word.text) {
+        Some(value) => Ok(LineNumber {
+            value,
+            line: word.line,
+        }),
+        None => Err(Fault::new(FileCode::BadNumber, word.line)),
+    }
+}
+
+/// The next word, which is to be this number, or else the fault is the one named.
+#[tactic(auto, unfolding(crate::specs::Reading::expect_at))]
+pub fn expect<L: Layout>(
+    words: &mut StreamWords<'_, L>,
+    wanted: u64,
+    code: FileCode,
+) -> Result<(), Fault>
+    ensures { Reads (λ _. words.new) result (expect_at wanted code words.old) }
+{
+    let n = next_number(words)?;
+    if n.value != wanted {
+        return Err(Fault::new(code, n.line));
+    }
+    Ok(())
+}
+
+/// The next word, which is to be a number up to a limit: `Limit` where it is beyond.
+#[tactic(auto, unfolding(crate::specs::Reading::within_at))]
+pub fn within<L: Layout>(words: &mut StreamWords<'_, L>, limit: u64) -> Result<u64, Fault>
+    ensures exact { Reads (λ n. (n, words.new)) result (within_at limit words.old) }
+    ensures within { IfOk result (λ n. n ≤ limit) }
+{
+    let n = next_number(words)?;
+    if n.value > limit {
+        return Err(Fault::new(FileCode::Limit, n.line));
+    }
+    Ok(n.value)
+}
+
+/// That no word is left: `Count` at the next word else.
+#[tactic(auto, unfolding(crate::specs::Reading::end_at))]
+pub fn end<L: Layout>(words: &mut StreamWords<'_, L>) -> Result<(), Fault>
+    ensures { Reads (λ _. tt) result (end_at words.old) }
+{
+    match words.next_word() {
+        Some(word) => Err(Fault::new(FileCode::Count, word.line)),
+        None => Ok(()),
+    }
+}
