@@ -1,0 +1,4 @@
+pub mod ColumnLemmas
+pub mod WeekLemmas
+pub mod DayLemmas
+pub mod TextLemmas

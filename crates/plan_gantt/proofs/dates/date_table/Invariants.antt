@@ -1,0 +1,9 @@
+use Rattle.std.proofs.Common.{◌≡◌, ◌++◌}
+use Rattle.std.specs.String.{string_bytes}
+use Rattle.plan_gantt.specs.Column.{lines_from}
+use Rattle.plan_gantt.specs.DateTable.{date_heading, date_line}
+use Rattle.plan_gantt.proofs.dates.date_table.Given as goal
+
+-- behind the heading stand the lines of the activities so far
+abbrev pub invariant-all : goal.invariant-all
+invariant-all l = string_bytes l.text ≡ date_heading ++ lines_from (date_line l.network l.dates) 1 l.k

@@ -1,0 +1,10 @@
+pub mod Column
+pub mod DateTable
+pub mod ScheduleTable
+pub mod FaultText
+pub mod WorkingDay
+pub mod CalendarText
+pub mod Weeks
+pub use Rattle.plan_net.specs.Network
+pub use Rattle.plan_cpm.specs.Dates
+pub use Rattle.plan_psplib.specs.Faults

@@ -1,0 +1,31 @@
+ghost use Rattle.std.specs.Prelude.{◌≡◌, ◌++◌, OnOk, string_bytes};
+ghost use Rattle.plan_gantt.specs.Column.{number_column, number_columns};
+
+use std::alloc::AllocError;
+use std::fmt::Write;
+
+// The number of a line, right in its column of 4 places.
+#[tactic(auto, using(crate::proofs::ColumnLemmas::styled_first))]
+pub fn push_first(text: &mut String, n: u32) -> Result<(), AllocError>
+    ensures { OnOk result (string_bytes text.new ≡ string_bytes text.old ++ number_column 4 n) }
+{
+    write!(text, "{n:>4}")
+}
+
+// A number, right in its column of 8 places.
+#[tactic(auto, using(crate::proofs::ColumnLemmas::styled_further))]
+pub fn push_number(text: &mut String, n: u64) -> Result<(), AllocError>
+    ensures { OnOk result (string_bytes text.new ≡ string_bytes text.old ++ number_column 8 n) }
+{
+    write!(text, "{n:>8}")
+}
+
+// Numbers, each right in its column of 8 places.
+pub fn push_numbers(text: &mut String, numbers: &[u64]) -> Result<(), AllocError>
+    ensures { OnOk result (string_bytes text.new ≡ string_bytes text.old ++ number_columns numbers.now) }
+{
+    'all: for &n in numbers {
+        push_number(text, n)?;
+    }
+    Ok(())
+}
