@@ -1,0 +1,78 @@
+//! `plan cpm`: the date table of a project file.
+
+ghost use Rattle.std.specs.Prelude.{◌≡◌, ◌⊎◌, ◌+◌, ◌≤◌, IfOk, OnOk, IfErr, IfSome, IsErrOf, string_bytes};
+ghost use Rattle.plan_psplib.specs.Devices.{most_calls, HasFailed};
+ghost use Rattle.plan_cli.specs.Run.{IsDateTableOf, ReadsFront, Refuses, Tells, WritesDates};
+
+use crate::fault::CliFault;
+use crate::output::write_text;
+use plan_cpm::dates;
+use plan_gantt::{date_table, file_fault_text};
+use plan_psplib::{
+    FileCode, FileFault, InputError, LONGEST_TEXT, Sink, Source, read_beyond, read_sm,
+};
+use std::alloc::{AllocError, Global};
+
+// What a file's fault says for people.
+fn told(alloc: Global, fault: &FileFault) -> CliFault
+    ensures { Tells fault.now result }
+{
+    if fault.code == FileCode::Memory {
+        return CliFault::Memory;
+    }
+    match file_fault_text(alloc, fault) {
+        Ok(line) => CliFault::File(line),
+        Err(_) => CliFault::Memory,
+    }
+}
+
+// The date table of a file.
+fn date_text(alloc: Global, file: &[u8]) -> Result<String, CliFault>
+    ensures made { IfOk result (λ text. IsDateTableOf file.now (string_bytes text)) }
+    ensures refused { IfErr result (Refuses file.now) }
+{
+    let project = match read_sm(alloc, file) {
+        Ok(project) => project,
+        Err(fault) => return Err(told(alloc, &fault)),
+    };
+    let network = project.network();
+    let dates = dates(alloc, network)?;
+    let text = date_table(alloc, network, &dates)?;
+    Ok(text)
+}
+
+/// Reads a project file and writes its date table. Nothing is written unless the text is whole, and a fault of the reader or of
+/// the writer is never tried again.
+pub fn cpm_run<R: Source, W: Sink>(
+    alloc: Global,
+    reader: &mut R,
+    writer: &mut W,
+) -> Result<(), CliFault>
+    ensures reads { R.calls reader.new ≤ R.calls reader.old + most_calls }
+    ensures writes { W.calls writer.new ≤ W.calls writer.old + most_calls }
+    // The text for the file, or nothing and its first fault; a part of the text after a fault of the output.
+    ensures text { IfSome (R.remaining reader.old) (λ file. WritesDates file (W.taken writer.old) (W.taken writer.new) result) }
+    // At most 1,048,577 bytes are read, and what is written is the text for them.
+    ensures front { ReadsFront (R.remaining reader.old) (R.remaining reader.new) (W.taken writer.old) (W.taken writer.new) result }
+    // Nothing is written with any other fault than that of the output.
+    ensures quiet { IfErr result (λ e. (e ≡ CliFault.Output) ⊎ (writer.new ≡ writer.old)) }
+    ensures fine { OnOk result ((R.faults reader.new ≡ R.faults reader.old) × (W.faults writer.new ≡ W.faults writer.old)) }
+    // A fault of the reader is told as such.
+    ensures heard { IfErr result (λ e. (e ≡ CliFault.Input) ⊎ (R.faults reader.new ≡ R.faults reader.old)) }
+    ensures input { IsErrOf result CliFault.Input → R.faults reader.new ≡ R.faults reader.old + 1 }
+    ensures output { IsErrOf result CliFault.Output →
+        HasFailed (W.calls writer.old) (W.calls writer.new) (W.faults writer.old) (W.faults writer.new) }
+{
+    let file = match read_beyond(alloc, reader, LONGEST_TEXT) {
+        Ok(file) => file,
+        Err(InputError::Memory) => return Err(CliFault::Memory),
+        Err(InputError::Failed) => return Err(CliFault::Input),
+    };
+    match date_text(alloc, &file) {
+        Ok(text) => write_text(writer, text.as_bytes()),
+        Err(fault) => Err(fault),
+    }
+}
+
+#[cfg(test)]
+mod tests;

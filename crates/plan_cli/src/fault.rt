@@ -1,0 +1,49 @@
+//! Why a command failed.
+
+ghost use Rattle.std.specs.Prelude.{◌≡◌};
+ghost use Rattle.plan_cli.specs.declared.fault.CliFault.TheVariants.{Memory};
+
+use std::alloc::AllocError;
+use thiserror::Error;
+
+/// Why a command failed: one line of text.
+#[derive(Debug, Drop, Error)]
+pub enum CliFault {
+    /// The first check that the file fails, as `F9 line 31`.
+    #[error("{0}")]
+    File(String),
+    /// Memory ran out.
+    #[error("E90 memory")]
+    Memory,
+    /// A file or standard input can't be read.
+    #[error("I1 file")]
+    Input,
+    /// The output can't be written whole.
+    #[error("I3 output")]
+    Output,
+}
+
+impl CliFault {
+    ghost use Rattle.std.specs.Prelude.{◌≡◌};
+    ghost use Rattle.plan_cli.specs.Faults.{line_of};
+
+    /// The line, without its end.
+    pub fn line(&self) -> &str
+        ensures { result.now ≡ line_of self.now }
+    {
+        match self {
+            CliFault::File(line) => line.as_str(),
+            CliFault::Memory => "E90 memory",
+            CliFault::Input => "I1 file",
+            CliFault::Output => "I3 output",
+        }
+    }
+}
+
+impl From<AllocError> for CliFault {
+    ghost from_gives = { λ _ e. e ≡ Memory };
+
+    fn from(_e: AllocError) -> CliFault {
+        CliFault::Memory
+    }
+}

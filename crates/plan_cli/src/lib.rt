@@ -1,0 +1,9 @@
+//! The commands of the program `plan`, each from the bytes that it reads to the bytes that it writes.
+#![tactic(auto)]
+
+mod cpm;
+mod fault;
+mod output;
+
+pub use cpm::cpm_run;
+pub use fault::CliFault;
