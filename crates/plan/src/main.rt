@@ -3,12 +3,12 @@
 
 use clap::error::ErrorKind;
 use clap::{Arg, ArgMatches, Command, Error};
-use plan_cli::{CliFault, cpm_run};
-use plan_psplib::{StdSink, StdSource};
+use plan_cli::{CliFault, Task, run_on_file};
+use plan_psplib::StdSink;
 use std::alloc::{AllocError, Global};
 use std::process::ExitCode;
 use std::rt::{Env, Files};
-use std::{env, fs, io};
+use std::{env, io};
 
 // What follows the help.
 const EXAMPLES: &str =
@@ -20,6 +20,7 @@ enum End {
     Done,
     Fault(CliFault),
     Usage(Error),
+    NoTask,
 }
 
 // The command line.
@@ -39,33 +40,20 @@ fn command<'a>(alloc: Global) -> Result<Command<'a>, AllocError> {
         .subcommand(cpm)
 }
 
-// Writes the date table of a file, or of standard input where its name is `-`.
-fn cpm<R: Files + Input + Print + AllocGlobal>(rt: &R, path: &str) -> Result<(), CliFault> {
-    let mut writer = StdSink::new(io::writer(rt));
-    if path == "-" {
-        let mut reader = StdSource::new(rt.reader());
-        return cpm_run(rt.alloc(), &mut reader, &mut writer);
-    }
-    match fs::open(rt, path) {
-        Err(_) => Err(CliFault::Input),
-        Ok(file) => {
-            let mut reader = StdSource::new(file);
-            cpm_run(rt.alloc(), &mut reader, &mut writer)
-        }
+// The task that the words ask for, and the name of its file. The parse saw that a command stands there with what it requires.
+fn task_of<'a>(matches: &'a ArgMatches<'_>) -> Option<(Task, &'a str)> {
+    match matches.subcommand() {
+        Some(("cpm", inner)) => Some((Task::Dates, inner.get_str("FILE")?)),
+        _ => None,
     }
 }
 
-// Does what the words ask for. The parse saw that a command stands there with what it requires.
-fn run_matches<R: Files + Input + Print + AllocGlobal>(
-    rt: &R,
-    matches: &ArgMatches<'_>,
-) -> Result<(), CliFault> {
-    match matches.subcommand() {
-        Some(("cpm", inner)) => match inner.get_str("FILE") {
-            Some(path) => cpm(rt, path),
-            None => Ok(()),
-        },
-        _ => Ok(()),
+// Does a task on a file, and writes to standard output.
+fn do_task<R: Files + Input + Print + AllocGlobal>(rt: &R, task: Task, path: &str) -> End {
+    let mut writer = StdSink::new(io::writer(rt));
+    match run_on_file(rt, task, path, &mut writer) {
+        Err(fault) => End::Fault(fault),
+        Ok(()) => End::Done,
     }
 }
 
@@ -85,9 +73,9 @@ fn run<R: Files + Input + Print + Env + AllocGlobal>(rt: &R) -> End {
     };
     match command.try_get_matches_from(words.as_slice()) {
         Err(error) => End::Usage(error),
-        Ok(matches) => match run_matches(rt, &matches) {
-            Err(fault) => End::Fault(fault),
-            Ok(()) => End::Done,
+        Ok(matches) => match task_of(&matches) {
+            Some((task, path)) => do_task(rt, task, path),
+            None => End::NoTask,
         },
     }
 }
@@ -109,11 +97,18 @@ fn print_usage<R: Print + Eprint>(rt: &R, error: &Error) -> u8 {
     if error.use_stderr() { 2 } else { 0 }
 }
 
+// Says that no command stands there, for which there is the status of usage.
+fn print_no_task<R: Eprint>(rt: &R) -> u8 {
+    let _ = eprintln!(rt; "error: no command");
+    2
+}
+
 fn main(rt: HostRuntime) -> ExitCode {
     let status = match run(&rt) {
         End::Done => 0,
         End::Fault(fault) => print_fault(&rt, &fault),
         End::Usage(error) => print_usage(&rt, &error),
+        End::NoTask => print_no_task(&rt),
     };
     ExitCode::from(status)
 }

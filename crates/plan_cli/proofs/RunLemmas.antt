@@ -70,15 +70,15 @@ writes_known None read front taken after r same e w = tt
 writes_known (Some file) read front taken after r same e w = writes_front file taken after r (subst (λ (bytes : List ℕ). WritesDates bytes taken after r) (same ∙ e) w)
 
 -- what was read is judged
-judges_front : (known rest : Option (List ℕ)) (read front : List ℕ) (Does : List ℕ → Type 0) → front ≡ read → IfSome known (λ file. read ≡ take (longest_text + 1) file) → Consumes known rest read → Does front → JudgesFront known rest Does
-judges_front known rest read front Does same e taken does = (read, e, taken, subst Does same does)
+judges_front : (known rest : Option (List ℕ)) (read front : List ℕ) (Does : List ℕ → Type 0) → front ≡ read → length read ≤ longest_text + 1 → IfSome known (λ file. read ≡ take (longest_text + 1) file) → Consumes known rest read → Does front → JudgesFront known rest Does
+judges_front known rest read front Does same short e taken does = (read, short, e, taken, subst Does same does)
 
-pub reads_front : (known rest : Option (List ℕ)) (read front : List ℕ) (taken after : Option (List ℕ)) (r : Result (Unit {0}) CliFault) → front ≡ read → IfSome known (λ file. read ≡ take (longest_text + 1) file) → Consumes known rest read → WritesDates front taken after r → ReadsFront known rest taken after r
-reads_front known rest read front taken after (Ok u) same e used w = judges_front known rest read front (λ bytes. WritesDates bytes taken after (Ok u)) same e used w
-reads_front known rest read front taken after (Err (cli.File line)) same e used w = judges_front known rest read front (λ bytes. WritesDates bytes taken after (Err (cli.File line))) same e used w
-reads_front known rest read front taken after (Err cli.Memory) same e used w = tt
-reads_front known rest read front taken after (Err cli.Input) same e used w = tt
-reads_front known rest read front taken after (Err cli.Output) same e used w = judges_front known rest read front (λ bytes. WritesDates bytes taken after (Err cli.Output)) same e used w
+pub reads_front : (known rest : Option (List ℕ)) (read front : List ℕ) (taken after : Option (List ℕ)) (r : Result (Unit {0}) CliFault) → front ≡ read → length read ≤ longest_text + 1 → IfSome known (λ file. read ≡ take (longest_text + 1) file) → Consumes known rest read → WritesDates front taken after r → ReadsFront known rest taken after r
+reads_front known rest read front taken after (Ok u) same short e used w = judges_front known rest read front (λ bytes. WritesDates bytes taken after (Ok u)) same short e used w
+reads_front known rest read front taken after (Err (cli.File line)) same short e used w = judges_front known rest read front (λ bytes. WritesDates bytes taken after (Err (cli.File line))) same short e used w
+reads_front known rest read front taken after (Err cli.Memory) same short e used w = tt
+reads_front known rest read front taken after (Err cli.Input) same short e used w = tt
+reads_front known rest read front taken after (Err cli.Output) same short e used w = judges_front known rest read front (λ bytes. WritesDates bytes taken after (Err cli.Output)) same short e used w
 
 -- a text that is sent is written for the file that it is the table of
 pub sent_writes : (file text : List ℕ) (taken after : Option (List ℕ)) (r : Result (Unit {0}) CliFault) → IsDateTableOf file text → Sends text taken after r → WritesDates file taken after r

@@ -1,5 +1,5 @@
 -- What a command writes for the bytes that it reads (docs/DEFINITIONS.md, "Runs").
-use Rattle.std.specs.Prelude.{◌≡◌, ℕ, ◌+◌, ◌<◌, List, Option, Result, Ok, Err, IfSome, length, take, string_bytes}
+use Rattle.std.specs.Prelude.{◌≡◌, ℕ, ◌+◌, ◌≤◌, ◌<◌, List, Option, Result, Ok, Err, IfSome, length, take, string_bytes}
 use Rattle.std.specs.Io.KnownBytes.{Consumes, Appends}
 use Rattle.plan_cpm.specs.Dates.{DateTable, AreDates}
 use Rattle.plan_psplib.specs.declared.fault.FileCode.TheVariants as code
@@ -37,8 +37,8 @@ WritesDates file taken after result = Writes (IsDateTableOf file) (TellsFirstFai
 
 -- what a run read, which is at most one byte more than the longest text has, and what it did for that
 abbrev pub JudgesFront : Option (List ℕ) → Option (List ℕ) → (List ℕ → Type 0) → Type 0
-JudgesFront remaining rest Does = (front : List ℕ) × IfSome remaining (λ file. front ≡ take (longest_text + 1) file)
-    × Consumes remaining rest front × Does front
+JudgesFront remaining rest Does = (front : List ℕ) × (length front ≤ longest_text + 1)
+    × IfSome remaining (λ file. front ≡ take (longest_text + 1) file) × Consumes remaining rest front × Does front
 
 -- a run judges what it read, unless the input failed or memory ran out
 abbrev pub ReadsFront : Option (List ℕ) → Option (List ℕ) → Option (List ℕ) → Option (List ℕ) → Result (Unit {0}) CliFault → Type 0

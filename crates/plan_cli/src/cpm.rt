@@ -52,7 +52,7 @@ pub fn cpm_run<R: Source, W: Sink>(
     ensures writes { W.calls writer.new ≤ W.calls writer.old + most_calls }
     // The text for the file, or nothing and its first fault; a part of the text after a fault of the output.
     ensures text { IfSome (R.remaining reader.old) (λ file. WritesDates file (W.taken writer.old) (W.taken writer.new) result) }
-    // At most 1,048,577 bytes are read, and what is written is the text for them.
+    // Unless memory runs out or the input fails, what is done is that for the bytes that were read, at most 1,048,577.
     ensures front { ReadsFront (R.remaining reader.old) (R.remaining reader.new) (W.taken writer.old) (W.taken writer.new) result }
     // Nothing is written with any other fault than that of the output.
     ensures quiet { IfErr result (λ e. (e ≡ CliFault.Output) ⊎ (writer.new ≡ writer.old)) }

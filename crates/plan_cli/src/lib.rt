@@ -3,7 +3,9 @@
 
 mod cpm;
 mod fault;
+mod files;
 mod output;
 
 pub use cpm::cpm_run;
 pub use fault::CliFault;
+pub use files::{Task, run_on_file};

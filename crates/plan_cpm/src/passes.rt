@@ -5,11 +5,11 @@ ghost use Rattle.plan_cpm.specs.Lengths.{AreFinishes, AreTails};
 use plan_net::{LONGEST_LAG, Network};
 use std::alloc::{AllocError, Global};
 
-/// No path is as long as this: 502 durations of 10,000 and as many lags.
-pub const FARTHEST: u64 = 10_040_000;
+// No path is as long as this: 502 durations of 10,000 and as many lags.
+pub(crate) const FARTHEST: u64 = 10_040_000;
 
-/// The lag of an arc.
-pub fn lag_between(network: &Network, i: u32, j: u32) -> u64
+// The lag of an arc.
+pub(crate) fn lag_between(network: &Network, i: u32, j: u32) -> u64
     requires { IsArc network.now i j }
     ensures value { result ≡ lag_of network.now i j }
     ensures limit { result ≤ LONGEST_LAG }
@@ -52,8 +52,8 @@ fn most_after(network: &Network, j: u32, tails: &[u64]) -> u64
     most
 }
 
-/// The earliest finish of each activity: the greatest length of a path that ends with it.
-pub fn earliest_finishes(alloc: Global, network: &Network) -> Result<Vec<u64>, AllocError>
+// The earliest finish of each activity: the greatest length of a path that ends with it.
+pub(crate) fn earliest_finishes(alloc: Global, network: &Network) -> Result<Vec<u64>, AllocError>
     ensures { IfOk result (λ list. AreFinishes network.now list.items) }
 {
     let mut finishes = vec![in alloc; 0u64; network.len()]?;

@@ -113,6 +113,7 @@ impl Network {
     /// Refused with [`NetFault::NoArc`] where there is no such arc, then with [`NetFault::BadLag`] where the lag
     /// is above 10,000.
     pub fn set_lag(&mut self, i: u32, j: u32, lag: u64) -> Result<(), NetFault>
+        ensures sound { IsSound self.new }
         ensures ok { OnOk result (IsArc self.old i j × (lag ≤ LONGEST_LAG) × (self.new ≡ with_lag self.old i j lag)) }
         ensures value { OnOk result (lag_of self.new i j ≡ lag) }
         ensures others { OnOk result ((h k : ℕ) → ((h ≡ i) × (k ≡ j) → ⊥) → lag_of self.new h k ≡ lag_of self.old h k) }

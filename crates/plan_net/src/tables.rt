@@ -115,6 +115,21 @@ pub fn no_lags(alloc: Global, rows: &[Vec<u32>]) -> Result<Vec<Vec<u64>>, AllocE
     Ok(lags)
 }
 
+// Where a number stands in a rising row. In one that has all numbers from 1 on, each stands at its own place.
+fn place_in_row(row: &[u32], i: u32) -> Option<usize>
+    requires { IsStrictlyIncreasing row.now }
+    ensures some { IfSome result (λ place. (place < length row.now) × (slice_index row.now place ≡ i)) }
+    ensures none { IfNone result (Contains row.now i → ⊥) }
+{
+    if i > 0 && i as usize <= row.len() && row[i as usize - 1] == i {
+        return Some(i as usize - 1);
+    }
+    match row.binary_search(&i) {
+        Ok(place) => Some(place),
+        Err(_) => None,
+    }
+}
+
 /// The row and the place in it of the arc from `i` to `j`, in the rows of the predecessors.
 pub fn place_in(rows: &[Vec<u32>], i: u32, j: u32) -> Option<(usize, usize)>
     requires { (k : ℕ) → k < length rows.now → IsStrictlyIncreasing (row_at rows.now k) }
@@ -125,8 +140,8 @@ pub fn place_in(rows: &[Vec<u32>], i: u32, j: u32) -> Option<(usize, usize)>
         return None;
     }
     let row = j as usize - 1;
-    match rows[row].binary_search(&i) {
-        Ok(place) => Some((row, place)),
-        Err(_) => None,
+    match place_in_row(&rows[row], i) {
+        Some(place) => Some((row, place)),
+        None => None,
     }
 }

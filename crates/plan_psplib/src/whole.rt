@@ -59,6 +59,7 @@ pub fn read_beyond<R: Source>(
     ensures calls { R.calls reader.new ≤ R.calls reader.old + most_calls }
     ensures consumed { IfOk result (λ v. Consumes (R.remaining reader.old) (R.remaining reader.new) v.items) }
     ensures bytes { IfOk result (λ v. IfSome (R.remaining reader.old) (λ all. v.items ≡ take (limit + 1) all)) }
+    ensures short { IfOk result (λ v. length v.items ≤ limit + 1) }
     ensures fine { OnOk result (R.faults reader.new ≡ R.faults reader.old) }
     ensures memory { IsErrOf result InputError.Memory → R.faults reader.new ≡ R.faults reader.old }
     ensures failed { IsErrOf result InputError.Failed →

@@ -13,9 +13,9 @@ rows-preserved c =
     let is : row.items ≡ replicate c.args.count false = c.in_ok-vec.ensures.items_if_clones_equal (λ y e. e) in
     record {
       rows = omega (arith, ap length pushed, length_push c.rows.marks.items row, c.rows.invariant.rows);
-      columns = subst (λ (xs : List (Vec Bool Global)). (k : ℕ) → k < length xs → length (row_at xs k) ≡ c.args.count) (sym pushed)
+      columns = subst (λ (xs : List (Vec Bool Global)). (k : ℕ) → k < length xs → length (row_at xs k) ≡ c.args.count) (sym {A = List (Vec Bool Global)} pushed)
           (rows_push (λ k items. length items ≡ c.args.count) c.rows.marks.items row c.rows.invariant.columns (ap length is ∙ length-replicate c.args.count false));
-      empty = subst HasNoMark (sym pushed) (HasNoMark-push c.rows.marks.items row c.args.count is c.rows.invariant.empty);
+      empty = subst HasNoMark (sym {A = List (Vec Bool Global)} pushed) (HasNoMark-push c.rows.marks.items row c.args.count is c.rows.invariant.empty);
     }
 
 pub returns-clause-square : goal.returns-clause-square

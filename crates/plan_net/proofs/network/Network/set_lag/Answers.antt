@@ -16,3 +16,7 @@ pub returns-clause-others : goal.returns-clause-others
 returns-clause-others c =
     subst (λ (net : Net). OnOk c.set_lag.result ((h k : ℕ) → ((h ≡ c.args.i) × (k ≡ c.args.j) → ⊥) → lag_of c.set_lag.new.self h k ≡ lag_of net h k)) c.self.view_is
     (lags_after c.self.inside.arcs c.set_lag.new.self c.args.i c.args.j c.args.lag c.set_lag.result c.set_lag.ensures.ok)
+
+pub returns-clause-sound : goal.returns-clause-sound
+returns-clause-sound c =
+    (sound_after c.self.inside.arcs c.set_lag.new.self c.self.inside.order.items c.args.i c.args.j c.args.lag c.set_lag.result c.set_lag.ensures.ok c.set_lag.ensures.err c.self.invariant).0

@@ -1,0 +1,137 @@
+//! Each fault of a project file, on its way from the text to the line that is printed.
+
+use plan_cli::cpm_run;
+use plan_psplib::{MemSink, MemSource};
+use std::test::Fail;
+
+// Six activities, one resource, 39 lines. The precedence title is line 17.
+const SIX: &str = "****************************************
+file with basedata            : a.bas
+initial value random generator: 1
+****************************************
+projects                      :  1
+jobs (incl. supersource/sink ):  6
+horizon                       :  12
+RESOURCES
+  - renewable                 :  1   R
+  - nonrenewable              :  0   N
+  - doubly constrained        :  0   D
+****************************************
+PROJECT INFORMATION:
+pronr.  #jobs rel.date duedate tardcost  MPM-Time
+    1      4      0        7        0        7
+****************************************
+PRECEDENCE RELATIONS:
+jobnr.    #modes  #successors   successors
+   1        1          2           2   3
+   2        1          1           4
+   3        1          2           4   5
+   4        1          1           6
+   5        1          1           6
+   6        1          0
+****************************************
+REQUESTS/DURATIONS:
+jobnr. mode duration  R 1
+----------------------------------------
+  1      1     0       0
+  2      1     3       1
+  3      1     2       1
+  4      1     4       1
+  5      1     3       1
+  6      1     0       0
+****************************************
+RESOURCEAVAILABILITIES:
+  R 1
+   2
+****************************************
+";
+
+// What is printed for a file: its date table, or the line of the fault.
+fn printed(rt: &HostRuntime, file: &[u8]) -> Result<Vec<u8>, Fail> {
+    let mut sink = MemSink::new(Vec::new(rt.alloc()));
+    let run = cpm_run(rt.alloc(), &mut MemSource::new(file), &mut sink);
+    let mut bytes = sink.into_bytes();
+    if let Err(fault) = run {
+        bytes.extend_from_slice(fault.line().as_bytes())?;
+    }
+    Ok(bytes)
+}
+
+// The first lines of a text, with another in the place of one of them.
+fn changed(
+    rt: &HostRuntime,
+    text: &str,
+    number: usize,
+    other: &str,
+    count: usize,
+) -> Result<Vec<u8>, Fail> {
+    let mut file = Vec::new(rt.alloc());
+    for (i, line) in text.lines().take(count).enumerate() {
+        let chosen = if i + 1 == number { other } else { line };
+        file.extend_from_slice(chosen.as_bytes())?;
+        file.push(b'\n')?;
+    }
+    Ok(file)
+}
+
+#[test]
+fn a_line_that_is_changed_is_told(rt: HostRuntime) -> Result<(), Fail> {
+    let cases = [
+        (3, "initial\0", "F2 line 3"),
+        (10, "  - nonrenewable              :  1   N", "F4 line 10"),
+        (5, "projects                      :", "F6 line 5"),
+        (6, "jobs (incl. supersource/sink ):  1", "F10 line 6"),
+        (19, "1 1 2 3", "F7 line 20"),
+        (20, "2 1 2 4 4", "F11 line 20"),
+        (20, "2 1 1 7", "F7 line 20"),
+        (20, "2 1 1 x", "F6 line 20"),
+        (21, "3 2 2 4 5", "F8 line 21"),
+        (22, "4 1 1 4", "F12 line 17 cycle 4"),
+        (22, "4 1 2 3 6", "F12 line 17 cycle 3 4"),
+        (30, "2 1 10001 1", "F10 line 30"),
+        (36, "", "F9 line 37"),
+        (38, "2 7", "F9 line 38"),
+    ];
+    for (number, line, fault) in cases {
+        let file = changed(&rt, SIX, number, line, 39)?;
+        assert_eq!(rt;
+            printed(&rt, &file)?.as_slice(),
+            fault.as_bytes(),
+            "{fault}"
+        );
+    }
+    Ok(())
+}
+
+// The fault of the file's first lines, so many of them.
+fn fault_of_first(count: usize) -> &'static str {
+    match count {
+        17 | 18 => "F9 line 17",
+        26 | 27 | 28 => "F9 line 26",
+        36 | 37 => "F9 line 36",
+        _ => "",
+    }
+}
+
+#[test]
+fn a_file_that_is_cut_off_is_told(rt: HostRuntime) -> Result<(), Fail> {
+    for count in 0..38usize {
+        let file = changed(&rt, SIX, 0, "", count)?;
+        let section = fault_of_first(count);
+        let fault = if !section.is_empty() {
+            format!(in rt.alloc(); "{section}")?
+        } else if count <= 10 {
+            format!(in rt.alloc(); "F3 line {count}")?
+        } else if count <= 16 || count == 24 || count == 25 || count == 34 || count == 35 {
+            format!(in rt.alloc(); "F5 line {count}")?
+        } else {
+            format!(in rt.alloc(); "F9 line {count}")?
+        };
+        assert_eq!(rt;
+            printed(&rt, &file)?.as_slice(),
+            fault.as_bytes(),
+            "{count}"
+        );
+    }
+    Ok(())
+}
