@@ -1,0 +1,8 @@
+pub mod BlockLemmas
+pub mod NumberLemmas
+pub mod StepLemmas
+pub mod ShopLemmas
+pub mod NameLemmas
+pub mod TextLemmas
+pub mod FoundLemmas
+pub mod Rows

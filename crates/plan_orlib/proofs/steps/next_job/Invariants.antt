@@ -1,0 +1,12 @@
+use Rattle.std.proofs.Common.{◌≡◌, ◌≤◌, ◌-◌, ◌+◌, []}
+use Rattle.plan_orlib.specs.Shop.{time_of}
+use Rattle.plan_orlib.specs.Reading.{steps_at}
+use Rattle.plan_orlib.proofs.steps.next_job.Given as goal
+
+-- the others read behind the steps so far are the whole, and total is what the times up to them add up to
+abbrev pub invariant-loop : goal.invariant-loop
+invariant-loop g l = record {
+  reads : steps_at l.machines l.before (l.machines - l.counter) l.steps.items l.words ≡ steps_at l.machines l.before l.machines [] l.fn.words;
+  total : l.total ≡ l.before + time_of l.steps.items;
+  fits : l.total ≤ 1000000;
+}

@@ -1,0 +1,12 @@
+//! Reads job shop files: the `jobshop1` texts of OR-Library, each with many instances by name, and the
+//! bare form of one shop without a name.
+#![tactic(auto)]
+
+mod instances;
+mod naming;
+mod shop;
+mod steps;
+
+pub use naming::names;
+pub use shop::{ShopDoc, read_shop};
+pub use steps::Step;

@@ -1,0 +1,148 @@
+//! Shops out of job shop files.
+
+ghost use Rattle.std.specs.Prelude.{◌≡◌, ◌≤◌, ◌-◌, ◌⊎◌, Some, Ok, IfOk, IfErr, MatchResult, Contains, length, map, slice_get};
+ghost use Rattle.plan_psplib.specs.Document.{plain};
+ghost use Rattle.plan_psplib.specs.Faults.{IsWantOfMemory};
+ghost use Rattle.plan_psplib.specs.declared.fault.FileCode.TheVariants as code;
+ghost use Rattle.plan_psplib.specs.declared.fault.ReadError.TheVariants as errors;
+ghost use Rattle.plan_psplib.specs.Lines.{last_line};
+ghost use Rattle.plan_psplib.specs.Reading.{Gives};
+ghost use Rattle.plan_orlib.specs.Instances.{names_of};
+ghost use Rattle.plan_orlib.specs.Reading as reading;
+ghost use Rattle.plan_orlib.specs.Says.{Says};
+ghost use Rattle.plan_orlib.specs.Shop as spec;
+
+use crate::instances::{Found, bare_words, is_bare};
+use crate::steps::{Listing, Step, read_listing};
+use plan_psplib::{Fault, FileCode, FileFault, ReadError, check_text};
+use std::alloc::Global;
+use std::marker::Model;
+
+/// A job shop: how many machines it has, and the steps of each job in their order. Jobs are numbered
+/// from 1, machines from 0. Each job has as many steps as there are machines, so that the steps of all
+/// jobs, one job behind another, are numbered by job and place with no gap.
+#[derive(Drop)]
+pub struct ShopDoc {
+    machines: u32,
+    jobs: Vec<Vec<Step>>,
+}
+
+impl Model for ShopDoc {
+    ghost use Rattle.std.specs.Prelude.{map};
+    ghost use Rattle.plan_orlib.specs.Shop.{Shop, IsShop};
+
+    ghost Value = { Shop };
+
+    ghost view = { λ doc. record { machines = doc.machines; jobs = map (λ job. job.items) doc.jobs.items } };
+
+    ghost invariant = { λ doc. IsShop (record { machines = doc.machines; jobs = map (λ job. job.items) doc.jobs.items }) };
+}
+
+impl ShopDoc {
+    /// How many machines there are.
+    pub fn machines(&self) -> u32
+        ensures value { result ≡ self.now.machines }
+        ensures shop { spec.IsShop self.now }
+    {
+        self.machines
+    }
+
+    /// How many jobs there are.
+    pub fn jobs(&self) -> u32
+        ensures value { result ≡ length self.now.jobs }
+        ensures shop { spec.IsShop self.now }
+    {
+        self.jobs.len() as u32
+    }
+
+    /// The steps of a job, in order.
+    pub fn steps(&self, job: u32) -> &[Step]
+        requires first { 1 ≤ job }
+        requires last { job ≤ length self.now.jobs }
+        ensures steps { slice_get self.now.jobs (job - 1) ≡ Some result.now }
+        ensures job { spec.IsJob self.now.machines result.now }
+    {
+        &self.jobs[job as usize - 1]
+    }
+
+    /// How many machines there are, and the steps of each job.
+    pub fn into_parts(self) -> (u32, Vec<Vec<Step>>)
+        ensures machines { result.0 ≡ self.machines }
+        ensures jobs { map (λ job. job.items) result.1.items ≡ self.jobs }
+        ensures shop { spec.IsShop self }
+    {
+        (self.machines, self.jobs)
+    }
+}
+
+/// Reads a job shop text: the shop of the first instance of a name, or the first check that fails, with
+/// its line. The name of the one instance of the bare form is `-`. The checks in order: `TooLong` (F1,
+/// line 0), `NotText` (F2, the line of the first zero byte), `NoInstance` (F13, the last line), and then
+/// word by word `BadNumber` (F6), `Limit` (F10: 1 to 50 jobs, 1 to 20 machines, a time up to 10,000
+/// units, all times together up to 1,000,000), `BadMachine` (F14) and `Count` (F9: a word is missing;
+/// the line of the last word, or of the instance line where there is none). Words behind the last step
+/// are skipped. Want of memory may come in place of any answer.
+///
+/// The format is that of `jobshop1` (J. E. Beasley, "OR-Library: distributing test problems by
+/// electronic mail", Journal of the Operational Research Society 41, 1990).
+pub fn read_shop(alloc: Global, text: &[u8], name: &[u8]) -> Result<ShopDoc, FileFault>
+    // What is read is what the text says.
+    ensures found { IfOk result (λ shop. Says name.now text.now shop) }
+    // What the text says is read, unless memory runs out.
+    ensures only { (shop : spec.Shop) → Says name.now text.now shop → MatchResult result (λ read. read ≡ shop) IsWantOfMemory }
+    // Which check is the first that fails.
+    ensures refused { IfErr result (λ fault. IsWantOfMemory fault ⊎ reading.FailsWith (reading.shop name.now text.now) fault) }
+    // What is found has one of the names that `names` gives.
+    ensures named { IfOk result (λ _. Contains (names_of text.now) name.now) }
+    // Of a text that is fit to be read, any other name is missing, told at the last line.
+    ensures unnamed { plain text.now ≡ Ok tt → ¬ (Contains (names_of text.now) name.now) → MatchResult result (λ _. ⊥)
+        (λ fault. IsWantOfMemory fault ⊎ ((fault.code ≡ code.NoInstance) × (fault.line ≡ last_line text.now))) }
+    // No name is missing that `names` gives.
+    ensures missing { IfErr result (λ fault. fault.code ≡ code.NoInstance → ¬ (Contains (names_of text.now) name.now)) }
+{
+    match named_listing(alloc, text, name) {
+        Ok(listing) => Ok(ShopDoc {
+            machines: listing.machines,
+            jobs: listing.jobs,
+        }),
+        Err(error) => Err(FileFault::of(alloc, error)),
+    }
+}
+
+// The shop of a name, as it is read.
+fn named_listing(alloc: Global, text: &[u8], name: &[u8]) -> Result<Listing, ReadError>
+    ensures exact { Gives spec.shop_of result (reading.shop name.now text.now) }
+    ensures found { IfOk result (λ l. Says name.now text.now (spec.shop_of l)) }
+    ensures only { (shop : spec.Shop) → Says name.now text.now shop → Gives spec.shop_of result (Ok shop) }
+{
+    instance_listing(alloc, text, name)
+}
+
+// The shop of an instance, after the checks of the text.
+#[tactic(auto, unfolding(crate::specs::Reading::shop))]
+fn instance_listing(alloc: Global, text: &[u8], name: &[u8]) -> Result<Listing, ReadError>
+    ensures { Gives spec.shop_of result (reading.shop name.now text.now) }
+{
+    check_text(text)?;
+    let found = Found::of(text, name);
+    if is_bare(text) {
+        if name != b"-".as_slice() {
+            return Err(no_instance(found.last));
+        }
+        return read_listing(alloc, &mut bare_words(text));
+    }
+    let Some(mut words) = found.words else {
+        return Err(no_instance(found.last));
+    };
+    read_listing(alloc, &mut words)
+}
+
+// No instance has the name.
+fn no_instance(last: u64) -> ReadError
+    ensures { result ≡ errors.Fault (record { code = code.NoInstance; line = last }) }
+{
+    ReadError::Fault(Fault::new(FileCode::NoInstance, last))
+}
+
+#[cfg(test)]
+mod tests;

@@ -1,0 +1,150 @@
+//! The numbers of a shop: how many jobs and machines, and the steps of each job.
+
+ghost use Rattle.std.specs.Prelude.{◌≡◌, ◌≤◌, ◌+◌, [], IfOk, map};
+ghost use Rattle.plan_psplib.specs.Reading.{Gives, Reads};
+ghost use Rattle.plan_psplib.specs.Requests.{duration_at};
+ghost use Rattle.plan_orlib.specs.Shop.{shop_of, time_of};
+ghost use Rattle.plan_orlib.specs.Reading as spec;
+
+use plan_psplib::{Fault, FileCode, Layout, ReadError, StreamWords, next_number};
+use std::alloc::Global;
+
+// The most jobs and machines of a shop.
+const MOST_JOBS: u32 = 50;
+
+const MOST_MACHINES: u32 = 20;
+
+// The greatest time of a step, and the greatest sum of all times.
+const GREATEST_TIME: u64 = 10_000;
+
+const GREATEST_TOTAL: u64 = 1_000_000;
+
+/// A step of a job: its machine, counted from 0, and for how many time units it takes it.
+#[derive(Clone, Copy, Debug, PartialEq, Eq)]
+pub struct Step {
+    pub machine: u32,
+    pub time: u64,
+}
+
+/// How many machines a shop has, and the steps of each job.
+#[derive(Drop)]
+pub struct Listing {
+    pub machines: u32,
+    pub jobs: Vec<Vec<Step>>,
+}
+
+// The steps of a job, and what all times up to its end add up to.
+#[derive(Drop)]
+struct Row {
+    steps: Vec<Step>,
+    total: u64,
+}
+
+/// The shop at the front of some words.
+#[tactic(auto, unfolding(crate::specs::Reading::shop_at))]
+pub fn read_listing<L: Layout>(
+    alloc: Global,
+    words: &mut StreamWords<'_, L>,
+) -> Result<Listing, ReadError>
+    ensures { Gives shop_of result (spec.shop_at words.old) }
+{
+    let jobs = size(words, MOST_JOBS)?;
+    let machines = size(words, MOST_MACHINES)?;
+    let jobs = all_jobs(alloc, words, jobs, machines)?;
+    Ok(Listing { machines, jobs })
+}
+
+// A number from 1 to a greatest one.
+#[tactic(auto, unfolding(crate::specs::Reading::size_at), using(crate::proofs::NumberLemmas::limited_is))]
+fn size<L: Layout>(words: &mut StreamWords<'_, L>, most: u32) -> Result<u32, Fault>
+    ensures { Reads (λ n. (n, words.new)) result (spec.size_at most words.old) }
+{
+    let number = next_number(words)?;
+    match u32::try_from(number.value) {
+        Ok(n) if 1 <= n && n <= most => Ok(n),
+        _ => Err(Fault::new(FileCode::Limit, number.line)),
+    }
+}
+
+// The steps of all jobs.
+fn all_jobs<L: Layout>(
+    alloc: Global,
+    words: &mut StreamWords<'_, L>,
+    jobs: u32,
+    machines: u32,
+) -> Result<Vec<Vec<Step>>, ReadError>
+    ensures { Gives (λ rows. (map (λ row. row.items) rows.items, words.new)) result (spec.jobs_at machines jobs [] words.old) }
+{
+    let mut rows = Vec::new(alloc);
+    let mut total = 0;
+    for _ in 0..jobs {
+        let row = next_job(alloc, words, machines, total)?;
+        total = row.total;
+        rows.push(row.steps)?;
+    }
+    Ok(rows)
+}
+
+// The steps of a job, where the times before it add up to a total.
+fn next_job<L: Layout>(
+    alloc: Global,
+    words: &mut StreamWords<'_, L>,
+    machines: u32,
+    before: u64,
+) -> Result<Row, ReadError>
+    requires { before ≤ 1000000 }
+    ensures exact { Gives (λ row. (row.steps.items, words.new)) result (spec.steps_at machines before machines [] words.old) }
+    ensures total { IfOk result (λ row. row.total ≡ before + time_of row.steps.items) }
+    ensures fits { IfOk result (λ row. row.total ≤ 1000000) }
+{
+    let mut steps = Vec::new(alloc);
+    let mut total = before;
+    for _ in 0..machines {
+        let step = next_step(words, machines, total)?;
+        total += step.time;
+        steps.push(step)?;
+    }
+    Ok(Row { steps, total })
+}
+
+// A step, where the times before it add up to a total.
+#[tactic(auto, unfolding(crate::specs::Reading::step_at))]
+fn next_step<L: Layout>(
+    words: &mut StreamWords<'_, L>,
+    machines: u32,
+    total: u64,
+) -> Result<Step, Fault>
+    requires { total ≤ 1000000 }
+    ensures exact { Reads (λ step. (step, words.new)) result (spec.step_at machines total words.old) }
+    ensures fits { IfOk result (λ step. total + step.time ≤ 1000000) }
+{
+    let machine = machine(words, machines)?;
+    let time = time(words, total)?;
+    Ok(Step { machine, time })
+}
+
+// The number of one of the machines.
+#[tactic(auto, unfolding(crate::specs::Reading::machine_at))]
+fn machine<L: Layout>(words: &mut StreamWords<'_, L>, machines: u32) -> Result<u32, Fault>
+    ensures { Reads (λ n. (n, words.new)) result (spec.machine_at machines words.old) }
+{
+    let number = next_number(words)?;
+    match u32::try_from(number.value) {
+        Ok(n) if n < machines => Ok(n),
+        _ => Err(Fault::new(FileCode::BadMachine, number.line)),
+    }
+}
+
+// A time, where the times before it add up to a total.
+#[tactic(auto, using(crate::proofs::NumberLemmas::duration_at_is))]
+fn time<L: Layout>(words: &mut StreamWords<'_, L>, total: u64) -> Result<u64, Fault>
+    requires { total ≤ 1000000 }
+    ensures exact { Reads (λ n. (n, words.new)) result (duration_at total words.old) }
+    ensures fits { IfOk result (λ n. total + n ≤ 1000000) }
+{
+    let time = next_number(words)?;
+    if time.value > GREATEST_TIME || total + time.value > GREATEST_TOTAL {
+        return Err(Fault::new(FileCode::Limit, time.line));
+    }
+    Ok(time.value)
+}
