@@ -1,18 +1,16 @@
 //! The program `plan`: the commands of the crate `plan_cli` on the command line.
 #![tactic(auto)]
 
+mod words;
+
+use self::words::{command, task_of};
+use clap::Error;
 use clap::error::ErrorKind;
-use clap::{Arg, ArgMatches, Command, Error};
 use plan_cli::{CliFault, Task, run_on_file};
 use plan_psplib::StdSink;
-use std::alloc::{AllocError, Global};
 use std::process::ExitCode;
 use std::rt::{Env, Files};
 use std::{env, io};
-
-// What follows the help.
-const EXAMPLES: &str =
-    "Example:\n  plan cpm examples/house.sm\n\nA command that fails prints one line; docs/FAULTS.md tells what it means and what to do.";
 
 // How the program ends.
 #[derive(Drop)]
@@ -23,33 +21,8 @@ enum End {
     NoTask,
 }
 
-// The command line.
-fn command<'a>(alloc: Global) -> Result<Command<'a>, AllocError> {
-    let file = Arg::new(alloc, "FILE")
-        .required(true)
-        .help("an .sm file, or - for standard input");
-    let cpm = Command::new(alloc, "cpm")
-        .about("Prints the date table of a project")
-        .after_help("Example:\n  plan cpm examples/house.sm")
-        .arg(file)?;
-    Command::new(alloc, "plan")
-        .version("0.1.0")
-        .about("Plans projects")
-        .after_help(EXAMPLES)
-        .subcommand_required(true)
-        .subcommand(cpm)
-}
-
-// The task that the words ask for, and the name of its file. The parse saw that a command stands there with what it requires.
-fn task_of<'a>(matches: &'a ArgMatches<'_>) -> Option<(Task, &'a str)> {
-    match matches.subcommand() {
-        Some(("cpm", inner)) => Some((Task::Dates, inner.get_str("FILE")?)),
-        _ => None,
-    }
-}
-
 // Does a task on a file, and writes to standard output.
-fn do_task<R: Files + Input + Print + AllocGlobal>(rt: &R, task: Task, path: &str) -> End {
+fn do_task<R: Files + Input + Print + AllocGlobal>(rt: &R, task: Task<'_>, path: &str) -> End {
     let mut writer = StdSink::new(io::writer(rt));
     match run_on_file(rt, task, path, &mut writer) {
         Err(fault) => End::Fault(fault),

@@ -1,6 +1,6 @@
 -- What is judged of the first bytes of a file is judged of all of it.
 use Rattle.std.proofs.Common.{◌≡◌, ◌⊎◌, inl, inr, ℕ, ◌+◌, ◌≤◌, ◌<◌, List, Option, Some, None, Result, Ok, Err, length, take, refl, sym, ap, ◌∙◌, subst, arith}
-use Rattle.std.specs.Prelude.{IfSome}
+use Rattle.std.specs.Prelude.{IfSome, string_bytes}
 use Rattle.std.specs.Io.KnownBytes.{Consumes}
 use Rattle.std.proofs.lemmas.Bool.{lt-leb, cases_lt}
 use Rattle.std.proofs.lemmas.List.{length-take, take_all}
@@ -10,15 +10,16 @@ use Rattle.plan_psplib.specs.Faults.{IsWantOfMemory}
 use Rattle.plan_psplib.specs.Document.{Document, longest_text, document, plain}
 use Rattle.plan_psplib.specs.Reading.{fault}
 use Rattle.plan_psplib.specs.Says.{Says}
-use Rattle.plan_psplib.specs.Project.{IsFirstFailing}
+use Rattle.plan_psplib.specs.Project.{Project, IsFirstFailing}
+use Rattle.plan_cli.specs.ScheduleRun.{IsScheduleTableOf, TellsWhyNoSchedule}
 use Rattle.plan_cli.specs.declared.fault.CliFault.{CliFault}
 use Rattle.plan_cli.specs.declared.fault.CliFault.TheVariants as cli
-use Rattle.plan_cli.specs.Run.{IsDateTableOf, WritesDates, JudgesFront, ReadsFront, Refuses, Tells, Sends}
+use Rattle.plan_cli.specs.Run.{SaysProject, IsDateTableOf, TellsFirstFailing, Writes, JudgesFront, ReadsFront, Refuses, Tells, Sends}
 
 -- the fault that is told is the file's
-pub told_refuses : (file : List ℕ) (first : FileFault) (e : CliFault) → IsWantOfMemory first ⊎ IsFirstFailing file first → Tells first e → Refuses file e
-told_refuses file first (cli.File line) (inl memory) t = absurd (t.0 memory.0)
-told_refuses file first (cli.File line) (inr failing) t = (first, failing, t.1)
+pub told_refuses : (file : List ℕ) (first : FileFault) (e : CliFault) → IsWantOfMemory first ⊎ IsFirstFailing file first → Tells first e → Refuses (TellsFirstFailing file) e
+told_refuses file first (cli.Refused line) (inl memory) t = absurd (t.0 memory.0)
+told_refuses file first (cli.Refused line) (inr failing) t = (first, failing, t.1)
 told_refuses file first cli.Memory w t = tt
 told_refuses file first cli.Input w t = absurd t
 told_refuses file first cli.Output w t = absurd t
@@ -53,44 +54,74 @@ failing_front : (file : List ℕ) (first : FileFault) → IsFirstFailing (take (
 failing_front file first (inl e) = inl (sym (document_front file) ∙ e.0, e.1)
 failing_front file first (inr (d, e, named)) = inr (d, sym (document_front file) ∙ e, named)
 
-table_front : (file text : List ℕ) → IsDateTableOf (take (longest_text + 1) file) text → IsDateTableOf file text
-table_front file text (d, dates, says, project, are, same) = (d, dates, says_front file d says, project, are, same)
+-- what is said of a text, or a line, by the front of a file is said by the file
+abbrev pub HoldsByFront : (List ℕ → List ℕ → Type 0) → Type 0
+HoldsByFront P = (file text : List ℕ) → P (take (longest_text + 1) file) text → P file text
+
+-- the project that the front of a file says the file says
+pub project_front : (file : List ℕ) (p : Project) → SaysProject (take (longest_text + 1) file) p → SaysProject file p
+project_front file p (d, says, same, project) = (d, says_front file d says, same, project)
+
+pub table_front : HoldsByFront IsDateTableOf
+table_front file text (p, dates, says, are, same) = (p, dates, project_front file p says, are, same)
+
+pub line_front : HoldsByFront TellsFirstFailing
+line_front file line (first, failing, e) = (first, failing_front file first failing, e)
 
 -- what is written for the front of a file is written for the file
-writes_front : (file : List ℕ) (taken after : Option (List ℕ)) (r : Result (Unit {0}) CliFault) → WritesDates (take (longest_text + 1) file) taken after r → WritesDates file taken after r
-writes_front file taken after (Ok u) (text, table, took) = (text, table_front file text table, took)
-writes_front file taken after (Err (cli.File line)) ((first, failing, e), same) = ((first, failing_front file first failing, e), same)
-writes_front file taken after (Err cli.Memory) same = same
-writes_front file taken after (Err cli.Input) same = same
-writes_front file taken after (Err cli.Output) (text, n, table, part, took) = (text, n, table_front file text table, part, took)
+writes_front : (IsText IsLine : List ℕ → List ℕ → Type 0) (file : List ℕ) (taken after : Option (List ℕ)) (r : Result (Unit {0}) CliFault) → HoldsByFront IsText → HoldsByFront IsLine → Writes (IsText (take (longest_text + 1) file)) (IsLine (take (longest_text + 1) file)) taken after r → Writes (IsText file) (IsLine file) taken after r
+writes_front IsText IsLine file taken after (Ok u) texts lines (text, is, took) = (text, texts file text is, took)
+writes_front IsText IsLine file taken after (Err (cli.Refused line)) texts lines (is, same) = (lines file (string_bytes line) is, same)
+writes_front IsText IsLine file taken after (Err cli.Memory) texts lines same = same
+writes_front IsText IsLine file taken after (Err cli.Input) texts lines same = same
+writes_front IsText IsLine file taken after (Err cli.Output) texts lines (text, n, is, part, took) = (text, n, texts file text is, part, took)
 
 -- what is written for what was read is written for the whole file
-pub writes_known : (known : Option (List ℕ)) (read front : List ℕ) (taken after : Option (List ℕ)) (r : Result (Unit {0}) CliFault) → front ≡ read → IfSome known (λ file. read ≡ take (longest_text + 1) file) → WritesDates front taken after r → IfSome known (λ file. WritesDates file taken after r)
-writes_known None read front taken after r same e w = tt
-writes_known (Some file) read front taken after r same e w = writes_front file taken after r (subst (λ (bytes : List ℕ). WritesDates bytes taken after r) (same ∙ e) w)
+pub writes_known : (IsText IsLine : List ℕ → List ℕ → Type 0) (known : Option (List ℕ)) (read front : List ℕ) (taken after : Option (List ℕ)) (r : Result (Unit {0}) CliFault) → HoldsByFront IsText → HoldsByFront IsLine → front ≡ read → IfSome known (λ file. read ≡ take (longest_text + 1) file) → Writes (IsText front) (IsLine front) taken after r → IfSome known (λ file. Writes (IsText file) (IsLine file) taken after r)
+writes_known IsText IsLine None read front taken after r texts lines same e w = tt
+writes_known IsText IsLine (Some file) read front taken after r texts lines same e w =
+    writes_front IsText IsLine file taken after r texts lines (subst (λ (bytes : List ℕ). Writes (IsText bytes) (IsLine bytes) taken after r) (same ∙ e) w)
 
 -- what was read is judged
 judges_front : (known rest : Option (List ℕ)) (read front : List ℕ) (Does : List ℕ → Type 0) → front ≡ read → length read ≤ longest_text + 1 → IfSome known (λ file. read ≡ take (longest_text + 1) file) → Consumes known rest read → Does front → JudgesFront known rest Does
 judges_front known rest read front Does same short e taken does = (read, short, e, taken, subst Does same does)
 
-pub reads_front : (known rest : Option (List ℕ)) (read front : List ℕ) (taken after : Option (List ℕ)) (r : Result (Unit {0}) CliFault) → front ≡ read → length read ≤ longest_text + 1 → IfSome known (λ file. read ≡ take (longest_text + 1) file) → Consumes known rest read → WritesDates front taken after r → ReadsFront known rest taken after r
-reads_front known rest read front taken after (Ok u) same short e used w = judges_front known rest read front (λ bytes. WritesDates bytes taken after (Ok u)) same short e used w
-reads_front known rest read front taken after (Err (cli.File line)) same short e used w = judges_front known rest read front (λ bytes. WritesDates bytes taken after (Err (cli.File line))) same short e used w
-reads_front known rest read front taken after (Err cli.Memory) same short e used w = tt
-reads_front known rest read front taken after (Err cli.Input) same short e used w = tt
-reads_front known rest read front taken after (Err cli.Output) same short e used w = judges_front known rest read front (λ bytes. WritesDates bytes taken after (Err cli.Output)) same short e used w
+pub reads_front : (IsText IsLine : List ℕ → List ℕ → Type 0) (known rest : Option (List ℕ)) (read front : List ℕ) (taken after : Option (List ℕ)) (r : Result (Unit {0}) CliFault) → front ≡ read → length read ≤ longest_text + 1 → IfSome known (λ file. read ≡ take (longest_text + 1) file) → Consumes known rest read → Writes (IsText front) (IsLine front) taken after r → ReadsFront IsText IsLine known rest taken after r
+reads_front IsText IsLine known rest read front taken after (Ok u) same short e used w =
+    judges_front known rest read front (λ bytes. Writes (IsText bytes) (IsLine bytes) taken after (Ok u)) same short e used w
+reads_front IsText IsLine known rest read front taken after (Err (cli.Refused line)) same short e used w =
+    judges_front known rest read front (λ bytes. Writes (IsText bytes) (IsLine bytes) taken after (Err (cli.Refused line))) same short e used w
+reads_front IsText IsLine known rest read front taken after (Err cli.Memory) same short e used w = tt
+reads_front IsText IsLine known rest read front taken after (Err cli.Input) same short e used w = tt
+reads_front IsText IsLine known rest read front taken after (Err cli.Output) same short e used w =
+    judges_front known rest read front (λ bytes. Writes (IsText bytes) (IsLine bytes) taken after (Err cli.Output)) same short e used w
 
--- a text that is sent is written for the file that it is the table of
-pub sent_writes : (file text : List ℕ) (taken after : Option (List ℕ)) (r : Result (Unit {0}) CliFault) → IsDateTableOf file text → Sends text taken after r → WritesDates file taken after r
-sent_writes file text taken after (Ok u) table sent = (text, table, sent)
-sent_writes file text taken after (Err cli.Output) table (n, part, took) = (text, n, table, part, took)
-sent_writes file text taken after (Err (cli.File line)) table sent = absurd sent
-sent_writes file text taken after (Err cli.Memory) table sent = absurd sent
-sent_writes file text taken after (Err cli.Input) table sent = absurd sent
+-- a text that is sent is written
+pub sent_writes : (IsText IsLine : List ℕ → Type 0) (text : List ℕ) (taken after : Option (List ℕ)) (r : Result (Unit {0}) CliFault) → IsText text → Sends text taken after r → Writes IsText IsLine taken after r
+sent_writes IsText IsLine text taken after (Ok u) is sent = (text, is, sent)
+sent_writes IsText IsLine text taken after (Err cli.Output) is (n, part, took) = (text, n, is, part, took)
+sent_writes IsText IsLine text taken after (Err (cli.Refused line)) is sent = absurd sent
+sent_writes IsText IsLine text taken after (Err cli.Memory) is sent = absurd sent
+sent_writes IsText IsLine text taken after (Err cli.Input) is sent = absurd sent
 
 -- nothing is written for a file that is refused
-pub refused_writes : (file : List ℕ) (taken : Option (List ℕ)) (e : CliFault) → Refuses file e → WritesDates file taken taken (Err e)
-refused_writes file taken (cli.File line) refuses = (refuses, refl)
-refused_writes file taken cli.Memory refuses = refl
-refused_writes file taken cli.Input refuses = absurd refuses
-refused_writes file taken cli.Output refuses = absurd refuses
+pub refused_writes : (IsText IsLine : List ℕ → Type 0) (taken : Option (List ℕ)) (e : CliFault) → Refuses IsLine e → Writes IsText IsLine taken taken (Err e)
+refused_writes IsText IsLine taken (cli.Refused line) refuses = (refuses, refl)
+refused_writes IsText IsLine taken cli.Memory refuses = refl
+refused_writes IsText IsLine taken cli.Input refuses = absurd refuses
+refused_writes IsText IsLine taken cli.Output refuses = absurd refuses
+
+-- what was judged, without what the source told of its bytes
+pub judged_bytes : (IsText IsLine : List ℕ → List ℕ → Type 0) (known rest : Option (List ℕ)) (taken after : Option (List ℕ)) (r : Result (Unit {0}) CliFault) → ReadsFront IsText IsLine known rest taken after r → ReadsFront IsText IsLine None None taken after r
+judged_bytes IsText IsLine known rest taken after (Ok u) (front, short, e, used, does) = (front, short, tt, tt, does)
+judged_bytes IsText IsLine known rest taken after (Err (cli.Refused line)) (front, short, e, used, does) = (front, short, tt, tt, does)
+judged_bytes IsText IsLine known rest taken after (Err cli.Memory) w = tt
+judged_bytes IsText IsLine known rest taken after (Err cli.Input) w = tt
+judged_bytes IsText IsLine known rest taken after (Err cli.Output) (front, short, e, used, does) = (front, short, tt, tt, does)
+
+pub schedule_front : (name : List ℕ) → HoldsByFront (IsScheduleTableOf name)
+schedule_front name file text (p, says, table) = (p, project_front file p says, table)
+
+pub why_front : (name : List ℕ) → HoldsByFront (TellsWhyNoSchedule name)
+why_front name file line (inl first) = inl (line_front file line first)
+why_front name file line (inr (p, says, tells)) = inr (p, project_front file p says, tells)

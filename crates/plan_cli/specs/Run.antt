@@ -6,16 +6,20 @@ use Rattle.plan_psplib.specs.declared.fault.FileCode.TheVariants as code
 use Rattle.plan_psplib.specs.declared.fault.FileFault.{FileFault}
 use Rattle.plan_psplib.specs.Document.{Document, longest_text}
 use Rattle.plan_psplib.specs.Says.{Says}
-use Rattle.plan_psplib.specs.Project.{IsProject, IsFirstFailing, network_of, project_of}
+use Rattle.plan_psplib.specs.Project.{Project, IsProject, IsFirstFailing, project_of}
 use Rattle.plan_gantt.specs.DateTable.{date_table_text}
 use Rattle.plan_gantt.specs.FaultText.{file_fault_text_of}
 use Rattle.plan_cli.specs.declared.fault.CliFault.{CliFault}
 use Rattle.plan_cli.specs.declared.fault.CliFault.TheVariants as fault
 
+-- a project is the one that a file says
+abbrev pub SaysProject : List ℕ → Project → Type 0
+SaysProject file p = (d : Document) × Says file d × (p ≡ project_of d) × IsProject p
+
 -- a text is the date table of the project that a file says
 abbrev pub IsDateTableOf : List ℕ → List ℕ → Type 0
-IsDateTableOf file text = (d : Document) × (dates : DateTable) × Says file d × IsProject (project_of d)
-    × AreDates (network_of d) dates × (text ≡ date_table_text (network_of d) dates)
+IsDateTableOf file text = (p : Project) × (dates : DateTable) × SaysProject file p
+    × AreDates p.network dates × (text ≡ date_table_text p.network dates)
 
 -- a line tells the first check that a file fails
 abbrev pub TellsFirstFailing : List ℕ → List ℕ → Type 0
@@ -25,37 +29,35 @@ TellsFirstFailing file line = (first : FileFault) × IsFirstFailing file first �
 -- input failed; or a part from the front, shorter than the text, where the output failed
 abbrev pub Writes : (List ℕ → Type 0) → (List ℕ → Type 0) → Option (List ℕ) → Option (List ℕ) → Result (Unit {0}) CliFault → Type 0
 Writes IsText IsLine taken after (Ok _) = (text : List ℕ) × IsText text × Appends taken after text
-Writes IsText IsLine taken after (Err (fault.File line)) = IsLine (string_bytes line) × (after ≡ taken)
+Writes IsText IsLine taken after (Err (fault.Refused line)) = IsLine (string_bytes line) × (after ≡ taken)
 Writes IsText IsLine taken after (Err fault.Memory) = after ≡ taken
 Writes IsText IsLine taken after (Err fault.Input) = after ≡ taken
 Writes IsText IsLine taken after (Err fault.Output) =
     (text : List ℕ) × (n : ℕ) × IsText text × (n < length text) × Appends taken after (take n text)
-
--- what `plan cpm` writes for a file
-abbrev pub WritesDates : List ℕ → Option (List ℕ) → Option (List ℕ) → Result (Unit {0}) CliFault → Type 0
-WritesDates file taken after result = Writes (IsDateTableOf file) (TellsFirstFailing file) taken after result
 
 -- what a run read, which is at most one byte more than the longest text has, and what it did for that
 abbrev pub JudgesFront : Option (List ℕ) → Option (List ℕ) → (List ℕ → Type 0) → Type 0
 JudgesFront remaining rest Does = (front : List ℕ) × (length front ≤ longest_text + 1)
     × IfSome remaining (λ file. front ≡ take (longest_text + 1) file) × Consumes remaining rest front × Does front
 
--- a run judges what it read, unless the input failed or memory ran out
-abbrev pub ReadsFront : Option (List ℕ) → Option (List ℕ) → Option (List ℕ) → Option (List ℕ) → Result (Unit {0}) CliFault → Type 0
-ReadsFront remaining rest taken after (Err fault.Memory) = Unit {0}
-ReadsFront remaining rest taken after (Err fault.Input) = Unit {0}
-ReadsFront remaining rest taken after result = JudgesFront remaining rest (λ front. WritesDates front taken after result)
+-- a run judges what it read, unless the input failed or memory ran out. IsText says of a file which texts are written for it, IsLine
+-- which lines tell why it is refused
+abbrev pub ReadsFront : (List ℕ → List ℕ → Type 0) → (List ℕ → List ℕ → Type 0) → Option (List ℕ) → Option (List ℕ) → Option (List ℕ) → Option (List ℕ) → Result (Unit {0}) CliFault → Type 0
+ReadsFront IsText IsLine remaining rest taken after (Err fault.Memory) = Unit {0}
+ReadsFront IsText IsLine remaining rest taken after (Err fault.Input) = Unit {0}
+ReadsFront IsText IsLine remaining rest taken after result =
+    JudgesFront remaining rest (λ front. Writes (IsText front) (IsLine front) taken after result)
 
--- a file is refused for the first check that it fails, or for want of memory
-abbrev pub Refuses : List ℕ → CliFault → Type 0
-Refuses file (fault.File line) = TellsFirstFailing file (string_bytes line)
-Refuses file fault.Memory = Unit {0}
-Refuses file fault.Input = ⊥
-Refuses file fault.Output = ⊥
+-- a command refuses a file by a line that tells why, or for want of memory
+abbrev pub Refuses : (List ℕ → Type 0) → CliFault → Type 0
+Refuses IsLine (fault.Refused line) = IsLine (string_bytes line)
+Refuses IsLine fault.Memory = Unit {0}
+Refuses IsLine fault.Input = ⊥
+Refuses IsLine fault.Output = ⊥
 
 -- a file's fault is told by its line, or memory ran out
 abbrev pub Tells : FileFault → CliFault → Type 0
-Tells first (fault.File line) = (first.code ≡ code.Memory → ⊥) × (string_bytes line ≡ file_fault_text_of first)
+Tells first (fault.Refused line) = (first.code ≡ code.Memory → ⊥) × (string_bytes line ≡ file_fault_text_of first)
 Tells first fault.Memory = Unit {0}
 Tells first fault.Input = ⊥
 Tells first fault.Output = ⊥

@@ -2,38 +2,24 @@
 
 ghost use Rattle.std.specs.Prelude.{◌≡◌, ◌⊎◌, ◌+◌, ◌≤◌, IfOk, OnOk, IfErr, IfSome, IsErrOf, string_bytes};
 ghost use Rattle.plan_psplib.specs.Devices.{most_calls, HasFailed};
-ghost use Rattle.plan_cli.specs.Run.{IsDateTableOf, ReadsFront, Refuses, Tells, WritesDates};
+ghost use Rattle.plan_cli.specs.Run.{IsDateTableOf, ReadsFront, Refuses, TellsFirstFailing, Writes};
 
 use crate::fault::CliFault;
 use crate::output::write_text;
+use crate::reading::{read_file, read_project};
 use plan_cpm::dates;
-use plan_gantt::{date_table, file_fault_text};
-use plan_psplib::{
-    FileCode, FileFault, InputError, LONGEST_TEXT, Sink, Source, read_beyond, read_sm,
-};
+use plan_gantt::date_table;
+use plan_psplib::{Sink, Source};
 use std::alloc::{AllocError, Global};
-
-// What a file's fault says for people.
-fn told(alloc: Global, fault: &FileFault) -> CliFault
-    ensures { Tells fault.now result }
-{
-    if fault.code == FileCode::Memory {
-        return CliFault::Memory;
-    }
-    match file_fault_text(alloc, fault) {
-        Ok(line) => CliFault::File(line),
-        Err(_) => CliFault::Memory,
-    }
-}
 
 // The date table of a file.
 fn date_text(alloc: Global, file: &[u8]) -> Result<String, CliFault>
     ensures made { IfOk result (λ text. IsDateTableOf file.now (string_bytes text)) }
-    ensures refused { IfErr result (Refuses file.now) }
+    ensures refused { IfErr result (Refuses (TellsFirstFailing file.now)) }
 {
-    let project = match read_sm(alloc, file) {
+    let project = match read_project(alloc, file) {
         Ok(project) => project,
-        Err(fault) => return Err(told(alloc, &fault)),
+        Err(fault) => return Err(fault),
     };
     let network = project.network();
     let dates = dates(alloc, network)?;
@@ -51,9 +37,9 @@ pub fn cpm_run<R: Source, W: Sink>(
     ensures reads { R.calls reader.new ≤ R.calls reader.old + most_calls }
     ensures writes { W.calls writer.new ≤ W.calls writer.old + most_calls }
     // The text for the file, or nothing and its first fault; a part of the text after a fault of the output.
-    ensures text { IfSome (R.remaining reader.old) (λ file. WritesDates file (W.taken writer.old) (W.taken writer.new) result) }
+    ensures text { IfSome (R.remaining reader.old) (λ file. Writes (IsDateTableOf file) (TellsFirstFailing file) (W.taken writer.old) (W.taken writer.new) result) }
     // Unless memory runs out or the input fails, what is done is that for the bytes that were read, at most 1,048,577.
-    ensures front { ReadsFront (R.remaining reader.old) (R.remaining reader.new) (W.taken writer.old) (W.taken writer.new) result }
+    ensures front { ReadsFront IsDateTableOf TellsFirstFailing (R.remaining reader.old) (R.remaining reader.new) (W.taken writer.old) (W.taken writer.new) result }
     // Nothing is written with any other fault than that of the output.
     ensures quiet { IfErr result (λ e. (e ≡ CliFault.Output) ⊎ (writer.new ≡ writer.old)) }
     ensures fine { OnOk result ((R.faults reader.new ≡ R.faults reader.old) × (W.faults writer.new ≡ W.faults writer.old)) }
@@ -63,10 +49,9 @@ pub fn cpm_run<R: Source, W: Sink>(
     ensures output { IsErrOf result CliFault.Output →
         HasFailed (W.calls writer.old) (W.calls writer.new) (W.faults writer.old) (W.faults writer.new) }
 {
-    let file = match read_beyond(alloc, reader, LONGEST_TEXT) {
+    let file = match read_file(alloc, reader) {
         Ok(file) => file,
-        Err(InputError::Memory) => return Err(CliFault::Memory),
-        Err(InputError::Failed) => return Err(CliFault::Input),
+        Err(fault) => return Err(fault),
     };
     match date_text(alloc, &file) {
         Ok(text) => write_text(writer, text.as_bytes()),

@@ -9,9 +9,9 @@ use thiserror::Error;
 /// Why a command failed: one line of text.
 #[derive(Debug, Drop, Error)]
 pub enum CliFault {
-    /// The first check that the file fails, as `F9 line 31`.
+    /// What the file, or what is asked of it, is refused for, as `F9 line 31` or `S3 unknown rule`.
     #[error("{0}")]
-    File(String),
+    Refused(String),
     /// Memory ran out.
     #[error("E90 memory")]
     Memory,
@@ -32,7 +32,7 @@ impl CliFault {
         ensures { result.now ≡ line_of self.now }
     {
         match self {
-            CliFault::File(line) => line.as_str(),
+            CliFault::Refused(line) => line.as_str(),
             CliFault::Memory => "E90 memory",
             CliFault::Input => "I1 file",
             CliFault::Output => "I3 output",

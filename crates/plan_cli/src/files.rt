@@ -2,9 +2,11 @@
 
 ghost use Rattle.std.specs.Prelude.{◌≡◌, ◌⊎◌, ◌+◌, ◌≤◌, IfErr, IsErrOf, OnOk};
 ghost use Rattle.plan_psplib.specs.Devices.{most_calls, HasFailed};
+ghost use Rattle.plan_cli.specs.Tasks.{DoesTask};
 
 use crate::cpm::cpm_run;
 use crate::fault::CliFault;
+use crate::schedule::schedule_run;
 use plan_psplib::{Sink, Source, StdSource};
 use std::alloc::Global;
 use std::rt::Files;
@@ -12,18 +14,22 @@ use std::{fs, io};
 
 /// What is made of a file.
 #[derive(Clone, Copy, Debug, Drop)]
-pub enum Task {
+pub enum Task<'a> {
     /// The date table of a project.
     Dates,
+    /// The schedule table of a project, by the rule of a name.
+    Schedule { rule: &'a str },
 }
 
 // Does a task on what a reader gives.
 fn run_task<R: Source, W: Sink>(
     alloc: Global,
-    task: Task,
+    task: Task<'_>,
     reader: &mut R,
     writer: &mut W,
 ) -> Result<(), CliFault>
+    // What is written is what the task makes of the bytes that were read.
+    ensures does { DoesTask task.entry (W.taken writer.old) (W.taken writer.new) result }
     ensures writes { W.calls writer.new ≤ W.calls writer.old + most_calls }
     ensures quiet { IfErr result (λ e. (e ≡ CliFault.Output) ⊎ (writer.new ≡ writer.old)) }
     ensures fine { OnOk result (W.faults writer.new ≡ W.faults writer.old) }
@@ -32,6 +38,7 @@ fn run_task<R: Source, W: Sink>(
 {
     match task {
         Task::Dates => cpm_run(alloc, reader, writer),
+        Task::Schedule { rule } => schedule_run(alloc, rule, reader, writer),
     }
 }
 
@@ -49,10 +56,12 @@ fn open_fault(error: &io::Error) -> CliFault
 /// [`CliFault::Input`].
 pub fn run_on_file<R: Files + Input + AllocGlobal, W: Sink>(
     rt: &R,
-    task: Task,
+    task: Task<'_>,
     path: &str,
     writer: &mut W,
 ) -> Result<(), CliFault>
+    // What is written is what the task makes of the bytes that were read.
+    ensures does { DoesTask task.entry (W.taken writer.old) (W.taken writer.new) result }
     ensures writes { W.calls writer.new ≤ W.calls writer.old + most_calls }
     // Nothing is written with any other fault than that of the output.
     ensures quiet { IfErr result (λ e. (e ≡ CliFault.Output) ⊎ (writer.new ≡ writer.old)) }

@@ -5,7 +5,10 @@ mod cpm;
 mod fault;
 mod files;
 mod output;
+mod reading;
+mod schedule;
 
 pub use cpm::cpm_run;
 pub use fault::CliFault;
 pub use files::{Task, run_on_file};
+pub use schedule::schedule_run;

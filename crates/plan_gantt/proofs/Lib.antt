@@ -2,3 +2,5 @@ pub mod ColumnLemmas
 pub mod WeekLemmas
 pub mod DayLemmas
 pub mod TextLemmas
+pub mod CellLemmas
+pub mod DayTextLemmas

@@ -1,7 +1,12 @@
+pub mod CalendarTable
 pub mod Column
+pub mod Chart
+pub mod Charts
+pub mod Overlaps
 pub mod DateTable
 pub mod ScheduleTable
 pub mod FaultText
+pub mod ScheduleFaultText
 pub mod WorkingDay
 pub mod CalendarText
 pub mod Weeks

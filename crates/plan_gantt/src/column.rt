@@ -1,5 +1,5 @@
-ghost use Rattle.std.specs.Prelude.{◌≡◌, ◌++◌, OnOk, string_bytes};
-ghost use Rattle.plan_gantt.specs.Column.{number_column, number_columns};
+ghost use Rattle.std.specs.Prelude.{◌≡◌, ◌-◌, ◌++◌, OnOk, length, replicate, string_bytes};
+ghost use Rattle.plan_gantt.specs.Column.{column, number_column, number_columns};
 
 use std::alloc::AllocError;
 use std::fmt::Write;
@@ -28,4 +28,22 @@ pub fn push_numbers(text: &mut String, numbers: &[u64]) -> Result<(), AllocError
         push_number(text, n)?;
     }
     Ok(())
+}
+
+// So many spaces.
+fn push_spaces(text: &mut String, count: usize) -> Result<(), AllocError>
+    ensures { OnOk result (string_bytes text.new ≡ string_bytes text.old ++ replicate count 32) }
+{
+    for _done in 0..count {
+        text.push_str(" ")?;
+    }
+    Ok(())
+}
+
+// A text, right in its column of so many places.
+pub fn push_right(text: &mut String, places: usize, word: &str) -> Result<(), AllocError>
+    ensures { OnOk result (string_bytes text.new ≡ string_bytes text.old ++ column places word.now) }
+{
+    push_spaces(text, places.saturating_sub(word.len()))?;
+    text.push_str(word)
 }

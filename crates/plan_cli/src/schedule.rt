@@ -1,0 +1,104 @@
+//! `plan schedule`: the schedule table of a project file by a priority rule.
+
+ghost use Rattle.std.specs.Prelude.{◌≡◌, ◌⊎◌, ◌+◌, ◌≤◌, IfOk, OnOk, IfErr, IfSome, IsErrOf, string_bytes};
+ghost use Rattle.plan_psplib.specs.Devices.{most_calls, HasFailed};
+ghost use Rattle.plan_cli.specs.Run.{ReadsFront, Refuses, Writes};
+ghost use Rattle.plan_cli.specs.ScheduleRun.{IsTableOf, IsScheduleTextOf, IsScheduleTableOf, TellsRefusal, TellsWhyNoSchedule, TellsSchedule};
+
+use crate::fault::CliFault;
+use crate::output::write_text;
+use crate::reading::{read_file, read_project};
+use plan_gantt::{schedule_fault_text, schedule_table};
+use plan_psplib::{ProjectDoc, Sink, Source};
+use plan_sgs::{Instance, Rule, SgsFault, serial};
+use std::alloc::Global;
+
+// What a fault of a schedule says for people.
+fn told(alloc: Global, fault: &SgsFault) -> CliFault
+    ensures { TellsSchedule fault.now result }
+{
+    match schedule_fault_text(alloc, fault) {
+        Ok(line) => CliFault::Refused(line),
+        Err(_) => CliFault::Memory,
+    }
+}
+
+// The schedule table of an instance.
+fn instance_text(alloc: Global, instance: &Instance, rule: Rule) -> Result<String, CliFault>
+    ensures made { IfOk result (λ text. IsTableOf instance.now rule (string_bytes text)) }
+    ensures refused { IfErr result (λ e. e ≡ CliFault.Memory) }
+{
+    let Ok(schedule) = serial(alloc, instance, rule) else {
+        return Err(CliFault::Memory);
+    };
+    match schedule_table(
+        alloc,
+        instance.network(),
+        &schedule.starts,
+        schedule.makespan,
+    ) {
+        Ok(text) => Ok(text),
+        Err(_) => Err(CliFault::Memory),
+    }
+}
+
+// The schedule table of a project.
+fn project_text(alloc: Global, name: &str, project: &ProjectDoc) -> Result<String, CliFault>
+    ensures made { IfOk result (λ text. IsScheduleTextOf name.now project.now (string_bytes text)) }
+    ensures refused { IfErr result (Refuses (TellsRefusal name.now project.now)) }
+{
+    let instance = match Instance::of_project(project, project.avail()) {
+        Ok(instance) => instance,
+        Err(fault) => return Err(told(alloc, &fault)),
+    };
+    match Rule::parse(name) {
+        Ok(rule) => instance_text(alloc, &instance, rule),
+        Err(fault) => Err(told(alloc, &fault)),
+    }
+}
+
+// The schedule table of a file.
+fn schedule_text(alloc: Global, name: &str, file: &[u8]) -> Result<String, CliFault>
+    ensures made { IfOk result (λ text. IsScheduleTableOf name.now file.now (string_bytes text)) }
+    ensures refused { IfErr result (Refuses (TellsWhyNoSchedule name.now file.now)) }
+{
+    match read_project(alloc, file) {
+        Ok(project) => project_text(alloc, name, &project),
+        Err(fault) => Err(fault),
+    }
+}
+
+/// Reads a project file and writes its schedule by a priority rule against the file's availabilities. The rule is given by its
+/// name: `lft`, `slk`, `spt`, `mts` or `num`. Nothing is written unless the text is whole, and a fault of the reader or of the
+/// writer is never tried again. The first fault is told: the file's, then `S1` (an activity that needs too much), then `S3` (no
+/// rule has the name).
+pub fn schedule_run<R: Source, W: Sink>(
+    alloc: Global,
+    rule: &str,
+    reader: &mut R,
+    writer: &mut W,
+) -> Result<(), CliFault>
+    ensures reads { R.calls reader.new ≤ R.calls reader.old + most_calls }
+    ensures writes { W.calls writer.new ≤ W.calls writer.old + most_calls }
+    // The text for the file, or nothing and its first fault; a part of the text after a fault of the output.
+    ensures text { IfSome (R.remaining reader.old) (λ file. Writes (IsScheduleTableOf rule.now file) (TellsWhyNoSchedule rule.now file) (W.taken writer.old) (W.taken writer.new) result) }
+    // Unless memory runs out or the input fails, what is done is that for the bytes that were read, at most 1,048,577.
+    ensures front { ReadsFront (IsScheduleTableOf rule.now) (TellsWhyNoSchedule rule.now) (R.remaining reader.old) (R.remaining reader.new) (W.taken writer.old) (W.taken writer.new) result }
+    // Nothing is written with any other fault than that of the output.
+    ensures quiet { IfErr result (λ e. (e ≡ CliFault.Output) ⊎ (writer.new ≡ writer.old)) }
+    ensures fine { OnOk result ((R.faults reader.new ≡ R.faults reader.old) × (W.faults writer.new ≡ W.faults writer.old)) }
+    // A fault of the reader is told as such.
+    ensures heard { IfErr result (λ e. (e ≡ CliFault.Input) ⊎ (R.faults reader.new ≡ R.faults reader.old)) }
+    ensures input { IsErrOf result CliFault.Input → R.faults reader.new ≡ R.faults reader.old + 1 }
+    ensures output { IsErrOf result CliFault.Output →
+        HasFailed (W.calls writer.old) (W.calls writer.new) (W.faults writer.old) (W.faults writer.new) }
+{
+    let file = match read_file(alloc, reader) {
+        Ok(file) => file,
+        Err(fault) => return Err(fault),
+    };
+    match schedule_text(alloc, rule, &file) {
+        Ok(text) => write_text(writer, text.as_bytes()),
+        Err(fault) => Err(fault),
+    }
+}

@@ -1,0 +1,40 @@
+-- Texts of days, one behind another.
+use Rattle.std.proofs.Common.{◌≡◌, ℕ, zero, suc, ◌+◌, ◌-◌, ◌<◌, List, ◌++◌, sym, ap, ◌∙◌, refl, subst, arith, codes, Result, Ok, Err}
+use Rattle.std.specs.Result.{OnOk}
+use mathlib.Core.List.{append_assoc}
+use Rattle.plan_gantt.specs.CalendarTable.{IsDayText, IsDaysText, IsDaysLine, AreDaysLines, IsDaysTable}
+use Rattle.plan_gantt.specs.declared.interval.Interval.{Interval}
+use Rattle.plan_gantt.specs.WorkingDay.{Workdays}
+
+-- what was put behind a text: something of which P holds
+abbrev pub Appended : (List ℕ → Type 0) → List ℕ → List ℕ → Type 0
+Appended P old new = (part : List ℕ) × P part × (new ≡ old ++ part)
+
+-- the days of the first and the last instant of an interval that isn't empty
+pub both_days : (calendar : Workdays) (start duration last : ℕ) (old mid new : List ℕ) → 0 < duration → start + (duration - 1) ≡ last → Appended (IsDayText calendar start) old mid → Appended (IsDayText calendar last) mid new → Appended (IsDaysText calendar start duration) old new
+both_days calendar start zero last old mid new some is (first, a, e) (second, b, f) = absurd (omega (arith, some))
+both_days calendar start (suc n) last old mid new some is (first, a, e) (second, b, f) =
+    let place : last ≡ start + n = omega (arith, is) in
+    (first ++ second, (first, second, a, subst (λ t. IsDayText calendar t second) place b, refl), f ∙ ap (λ bytes. bytes ++ second) e ∙ append_assoc old first second)
+
+-- what a success gives, said otherwise
+pub on_ok : {E : Type 0} {P Q : Type 0} → (r : Result (Unit {0}) E) → (P → Q) → OnOk r P → OnOk r Q
+on_ok (Ok u) f p = f p
+on_ok (Err e) f p = tt
+
+-- a line: its front, its days and its end
+pub days_line : (calendar : Workdays) (front : List ℕ) (interval : Interval) (old fronted dayed new : List ℕ) → fronted ≡ old ++ front → Appended (IsDaysText calendar interval.start interval.duration) fronted dayed → new ≡ dayed ++ codes "\n" → Appended (IsDaysLine calendar front interval) old new
+days_line calendar front interval old fronted dayed new e (days, is, f) g = (
+  front ++ days ++ codes "\n",
+  (days, is, refl),
+  g ∙ ap (λ bytes. bytes ++ codes "\n") (f ∙ ap (λ bytes. bytes ++ days) e ∙ append_assoc old front days)
+      ∙ append_assoc old (front ++ days) (codes "\n"),
+)
+
+-- a table with its next line
+pub next_days_line : (calendar : Workdays) (heading : List ℕ) (front : ℕ → List ℕ) (interval : ℕ → Interval) (k : ℕ) (old new : List ℕ) → IsDaysTable calendar heading front interval k old → Appended (IsDaysLine calendar (front (k + 1)) (interval (k + 1))) old new → IsDaysTable calendar heading front interval (k + 1) new
+next_days_line calendar heading front interval k old new (lines, are, e) (line, is, f) =
+    let place : k + 1 ≡ suc k = omega arith in
+    let more : AreDaysLines calendar front interval (suc k) (lines ++ line) =
+    (lines, line, are, subst (λ j. IsDaysLine calendar (front j) (interval j) line) place is, refl) in
+    (lines ++ line, subst (λ j. AreDaysLines calendar front interval j (lines ++ line)) (sym place) more, f ∙ ap (λ bytes. bytes ++ line) e ∙ append_assoc heading lines line)

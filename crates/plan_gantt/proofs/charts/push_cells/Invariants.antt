@@ -1,0 +1,8 @@
+use Rattle.std.proofs.Common.{◌≡◌, ◌++◌}
+use Rattle.std.specs.String.{string_bytes}
+use Rattle.plan_gantt.specs.Chart as spec
+use Rattle.plan_gantt.proofs.charts.push_cells.Given as goal
+
+-- behind the text stand the cells so far
+abbrev pub invariant-cells : goal.invariant-cells
+invariant-cells l = string_bytes l.text ≡ string_bytes l.fn.text ++ spec.cell_texts l.unit l.intervals l.cell

@@ -1,0 +1,12 @@
+pub mod Problem
+pub mod Serial
+pub mod Rules
+pub mod Verdicts
+pub mod Checking
+pub mod Instances
+pub mod Keys
+pub mod Placing
+pub mod Waiting
+pub mod Laws
+pub use Rattle.plan_net.specs.Network
+pub use Rattle.plan_psplib.specs.Project

@@ -1,0 +1,48 @@
+//! The check of any list of starts.
+
+ghost use Rattle.std.specs.Prelude.{◌≡◌, ◌≤◌, ◌↔◌, length, All, IfOk, IfErr};
+ghost use Rattle.plan_net.specs.Network.{count_of};
+ghost use Rattle.plan_sgs.specs.Instances.{problem_of};
+ghost use Rattle.plan_sgs.specs.Problem.{IsActive};
+ghost use Rattle.plan_sgs.specs.Verdicts.{IsFirstVerdict};
+ghost use Rattle.plan_sgs.specs.declared.fault.SgsFault.TheVariants.{NoMemory};
+ghost use Rattle.plan_sgs.specs.declared.verdict.Verdict.TheVariants.{Active};
+
+use self::broken::first_broken;
+use self::overloads::first_over;
+use self::shifts::first_shift;
+use crate::fault::SgsFault;
+use crate::instance::Instance;
+use crate::verdict::Verdict;
+use plan_profile::END;
+use std::alloc::Global;
+
+mod broken;
+mod overloads;
+mod shifts;
+
+/// What is wrong first with a list of starts, one for each activity: a broken arc, else an instant at which a resource is
+/// overloaded, else an activity that can start earlier with all others where they are; or that the list is active. Starts
+/// are whole time units, none of them after [`END`]. Feasible and active schedules as in Kolisch and Hartmann (1999). Want of
+/// memory is the one error.
+pub fn check(alloc: Global, instance: &Instance, starts: &[u64]) -> Result<Verdict, SgsFault>
+    requires whole { length starts.now ≡ count_of instance.now.project.network }
+    requires limit { All (λ t. t ≤ END) starts.now }
+    ensures verdict { IfOk result (IsFirstVerdict (problem_of instance.now) starts.now) }
+    ensures active { IfOk result (λ v. (v ≡ Active) ↔ IsActive (problem_of instance.now) starts.now) }
+    ensures err { IfErr result (λ fault. fault ≡ NoMemory) }
+{
+    if let Some((i, j)) = first_broken(instance, starts) {
+        return Ok(Verdict::Arc(i, j));
+    }
+    if let Some((t, k)) = first_over(alloc, instance, starts)? {
+        return Ok(Verdict::Over(t, k));
+    }
+    match first_shift(alloc, instance, starts)? {
+        Some(j) => Ok(Verdict::Shift(j)),
+        None => Ok(Verdict::Active),
+    }
+}
+
+#[cfg(test)]
+mod tests;

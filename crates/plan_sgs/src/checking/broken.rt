@@ -1,0 +1,44 @@
+//! The first broken arc.
+
+ghost use Rattle.std.specs.Prelude.{◌≡◌, ℕ, ◌≤◌, length, All, IfSome, IfNone};
+ghost use Rattle.plan_net.specs.Network.{IsActivity, IsArc, IsLeast, count_of, lag_of};
+ghost use Rattle.plan_sgs.specs.Instances.{problem_of};
+ghost use Rattle.plan_sgs.specs.Checking.{IsBrokenAnswer, IsTooSoon};
+
+use crate::instance::Instance;
+use crate::lags::lag_between;
+use plan_net::Network;
+use plan_profile::END;
+
+// The least successor of activity `i` that starts too soon after it.
+fn first_too_soon(network: &Network, starts: &[u64], i: u32) -> Option<u32>
+    requires activity { IsActivity network.now i }
+    requires whole { length starts.now ≡ count_of network.now }
+    requires limit { All (λ t. t ≤ END) starts.now }
+    ensures some { IfSome result (IsLeast (λ j. IsArc network.now i j × IsTooSoon network.now starts.now i j)) }
+    ensures none { IfNone result ((j : ℕ) → IsArc network.now i j → IsTooSoon network.now starts.now i j → ⊥) }
+{
+    let end = starts[i as usize - 1] + network.duration(i);
+    'succs: for &j in network.succs(i) {
+        if starts[j as usize - 1] < end + lag_between(network, i, j) {
+            return Some(j);
+        }
+    }
+    None
+}
+
+// The first broken arc, by its first and then by its second activity.
+pub(super) fn first_broken(instance: &Instance, starts: &[u64]) -> Option<(u32, u32)>
+    requires whole { length starts.now ≡ count_of instance.now.project.network }
+    requires limit { All (λ t. t ≤ END) starts.now }
+    ensures { IsBrokenAnswer (problem_of instance.now) starts.now result }
+{
+    let network = instance.network();
+    'all: for k in 0..network.len() {
+        let i = k as u32 + 1;
+        if let Some(j) = first_too_soon(network, starts, i) {
+            return Some((i, j));
+        }
+    }
+    None
+}

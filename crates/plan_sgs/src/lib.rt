@@ -1,0 +1,34 @@
+//! Schedules of projects with scarce resources: serial generation, priority rules, and a check of any list of starts.
+#![tactic(auto)]
+
+mod checking;
+mod fault;
+mod generation;
+mod instance;
+mod keys;
+mod lags;
+mod laws;
+mod lists;
+mod placing;
+mod rule;
+mod schedule;
+mod verdict;
+mod verdict_laws;
+mod waiting;
+
+pub use checking::check;
+pub use fault::SgsFault;
+pub use generation::{serial, serial_list};
+pub use instance::Instance;
+pub use laws::{
+    by_starts_is_no_longer, least_of_orders_is_shortest, rule_takes_first, serial_is_active,
+    serial_is_no_later,
+};
+pub use placing::LATEST_END;
+pub use rule::Rule;
+pub use schedule::Schedule;
+pub use verdict::Verdict;
+pub use verdict_laws::one_verdict_is_first;
+
+#[cfg(test)]
+mod tests;

@@ -1,0 +1,66 @@
+//! Orders of all activities that have each after its predecessors.
+
+ghost use Rattle.std.specs.Prelude.{◌≡◌, ℕ, ◌↔◌, length, slice_index, IsTrue, IfOk};
+ghost use Rattle.plan_net.specs.Network.{count_of};
+ghost use Rattle.plan_sgs.specs.Problem.{count};
+ghost use Rattle.plan_sgs.specs.Instances.{problem_of};
+ghost use Rattle.plan_sgs.specs.Rules as spec;
+ghost use Rattle.plan_sgs.specs.Placing.{IsTurnList};
+ghost use Rattle.plan_sgs.specs.Waiting.{CanCome};
+
+use crate::instance::Instance;
+use crate::waiting::{first_waits, next_free, open_pred, wake};
+use plan_net::Network;
+use std::alloc::{AllocError, Global};
+
+// Whether a number is that of an activity that isn't taken and whose predecessors are.
+fn can_come(network: &Network, taken: &[bool], j: u32) -> bool
+    requires { length taken.now ≡ count_of network.now }
+    ensures { IsTrue result ↔ CanCome network.now taken.now j }
+{
+    if j == 0 || j as usize > network.len() || taken[j as usize - 1] {
+        return false;
+    }
+    open_pred(network, taken, j, 0).is_none()
+}
+
+/// Whether the numbers are an order of all activities that has each after its predecessors.
+pub fn is_list(alloc: Global, instance: &Instance, list: &[u32]) -> Result<bool, AllocError>
+    ensures { IfOk result (λ is. IsTrue is ↔ IsTurnList (problem_of instance.now) list.now) }
+{
+    let network = instance.network();
+    if list.len() != network.len() {
+        return Ok(false);
+    }
+    let mut taken = vec![in alloc; false; network.len()]?;
+    for &j in list {
+        if !can_come(network, &taken, j) {
+            return Ok(false);
+        }
+        taken[j as usize - 1] = true;
+    }
+    Ok(true)
+}
+
+/// The list of the rule with these keys, one for each activity.
+pub fn rule_list(alloc: Global, instance: &Instance, keys: &[u64]) -> Result<Vec<u32>, AllocError>
+    requires { length keys.now ≡ count (problem_of instance.now) }
+    ensures list { IfOk result (λ list. spec.places list.items ≡ spec.rule_list (problem_of instance.now) (slice_index keys.now)) }
+    ensures turns { IfOk result (λ list. IsTurnList (problem_of instance.now) list.items) }
+{
+    let network = instance.network();
+    // the network's facts, on which the proof rests
+    let _order = network.order();
+    let mut taken = vec![in alloc; false; network.len()]?;
+    let mut waits = first_waits(alloc, network, &taken)?;
+    let mut list = Vec::new(alloc);
+    'turns: for _turn in 0..network.len() {
+        let Some(i) = next_free(&taken, &waits, keys) else {
+            unreachable!();
+        };
+        taken[i] = true;
+        wake(network, &taken, &mut waits, i as u32 + 1);
+        list.push(i as u32 + 1)?;
+    }
+    Ok(list)
+}

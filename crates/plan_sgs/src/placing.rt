@@ -1,0 +1,143 @@
+//! Activities placed one after another, each at its earliest start.
+
+ghost use Rattle.std.specs.Prelude.{◌≡◌, ℕ, ◌+◌, ◌-◌, ◌≤◌, length, get_or, set, map, None, Some, IfOk, OnOk};
+ghost use Rattle.plan_net.specs.Network.{IsActivity};
+ghost use Rattle.plan_sgs.specs.Problem as problem;
+ghost use Rattle.plan_sgs.specs.Serial as spec;
+ghost use Rattle.plan_sgs.specs.Instances.{IsInstance, problem_of};
+ghost use Rattle.plan_sgs.specs.Placing.{EndsBy, AllEndBy, Holds, IsTurnList};
+ghost use Rattle.plan_sgs.specs.Rules.{places};
+
+use crate::instance::Instance;
+use crate::lags::lag_between;
+use crate::schedule::Schedule;
+use plan_net::{LONGEST_LAG, Network};
+use plan_profile::Profile;
+use std::alloc::{AllocError, Global};
+
+/// The instant by which all activities of a serial schedule have ended: their durations, and a greatest lag for each.
+pub const LATEST_END: u64 = 6_020_000;
+
+// The end of an activity, 0 where it isn't placed.
+fn end_of(instance: &Instance, placed: &[Option<u64>], j: u32) -> u64
+    requires activity { IsActivity instance.now.project.network j }
+    requires size { length placed.now ≡ problem.count (problem_of instance.now) }
+    requires ends { EndsBy (problem_of instance.now) placed.now LATEST_END }
+    ensures value { result ≡ spec.end_of (problem_of instance.now) placed.now (j - 1) }
+    ensures limit { result ≤ LATEST_END }
+{
+    match placed[j as usize - 1] {
+        Some(start) => start + instance.network().duration(j),
+        None => 0,
+    }
+}
+
+// The least start that the predecessors of an activity and the lags allow.
+fn release_of(instance: &Instance, placed: &[Option<u64>], j: u32) -> u64
+    requires activity { IsActivity instance.now.project.network j }
+    requires size { length placed.now ≡ problem.count (problem_of instance.now) }
+    requires ends { EndsBy (problem_of instance.now) placed.now LATEST_END }
+    ensures value { result ≡ spec.release (problem_of instance.now) placed.now (j - 1) }
+    ensures limit { result ≤ LATEST_END + LONGEST_LAG }
+{
+    let network = instance.network();
+    let mut from = 0u64;
+    'preds: for &i in network.preds(j) {
+        let ready = end_of(instance, placed, i) + lag_between(network, i, j);
+        from = from.max(ready);
+    }
+    from
+}
+
+// Places an activity at its earliest start.
+fn place_next(
+    instance: &Instance,
+    profile: &mut Profile,
+    placed: &mut Vec<Option<u64>>,
+    j: u32,
+) -> Result<(), AllocError>
+    requires activity { IsActivity instance.now.project.network j }
+    requires size { length placed.old.items ≡ problem.count (problem_of instance.now) }
+    requires open { get_or placed.old.items (j - 1) None ≡ None }
+    requires ends { EndsBy (problem_of instance.now) placed.old.items LATEST_END }
+    requires holds { Holds profile.old (problem_of instance.now) placed.old.items }
+    ensures ok { OnOk result (placed.new.items ≡ set placed.old.items (j - 1) (Some (spec.earliest (problem_of instance.now) placed.old.items (j - 1)))) }
+    ensures holds { OnOk result (Holds profile.new (problem_of instance.now) placed.new.items) }
+{
+    let needs = instance.needs(j);
+    let duration = instance.network().duration(j);
+    let from = release_of(instance, placed, j);
+    let start = profile.earliest(from, duration, needs);
+    profile.place(start, duration, needs)?;
+    placed[j as usize - 1] = Some(start);
+    Ok(())
+}
+
+// Places the activities of a list, one after another.
+fn place_all(
+    instance: &Instance,
+    profile: &mut Profile,
+    placed: &mut Vec<Option<u64>>,
+    list: &[u32],
+) -> Result<(), AllocError>
+    requires instance { IsInstance instance.now }
+    requires list { IsTurnList (problem_of instance.now) list.now }
+    requires none { placed.old.items ≡ spec.unplaced (problem.count (problem_of instance.now)) }
+    requires holds { Holds profile.old (problem_of instance.now) placed.old.items }
+    ensures ok { OnOk result (placed.new.items ≡ spec.serial_from (problem_of instance.now) placed.old.items (places list.now)) }
+    ensures ends { OnOk result (EndsBy (problem_of instance.now) placed.new.items LATEST_END) }
+{
+    for &j in list {
+        place_next(instance, profile, placed, j)?;
+    }
+    Ok(())
+}
+
+// The starts of what is placed.
+fn starts_of(alloc: Global, placed: &[Option<u64>]) -> Result<Vec<u64>, AllocError>
+    ensures { IfOk result (λ starts. starts.items ≡ map spec.start_or_zero placed.now) }
+{
+    let mut starts = Vec::with_capacity(alloc, placed.len())?;
+    for start in placed {
+        let time = match start {
+            Some(t) => *t,
+            None => 0,
+        };
+        starts.push(time)?;
+    }
+    Ok(starts)
+}
+
+// The greatest end of an activity.
+fn makespan_of(instance: &Instance, starts: &[u64]) -> u64
+    requires size { length starts.now ≡ problem.count (problem_of instance.now) }
+    requires ends { AllEndBy (problem_of instance.now) starts.now LATEST_END }
+    ensures value { result ≡ problem.makespan (problem_of instance.now) starts.now }
+    ensures limit { result ≤ LATEST_END }
+{
+    let network = instance.network();
+    let mut latest = 0u64;
+    for i in 0..network.len() {
+        let end = starts[i] + network.duration(i as u32 + 1);
+        latest = latest.max(end);
+    }
+    latest
+}
+
+/// The schedule of an order of all activities that has each after its predecessors.
+pub fn scheduled(alloc: Global, instance: &Instance, list: &[u32]) -> Result<Schedule, AllocError>
+    requires { IsTurnList (problem_of instance.now) list.now }
+    ensures starts { IfOk result (λ s. s.starts.items ≡ spec.serial (problem_of instance.now) (places list.now)) }
+    ensures active { IfOk result (λ s. problem.IsActive (problem_of instance.now) s.starts.items) }
+    ensures makespan { IfOk result (λ s. s.makespan ≡ problem.makespan (problem_of instance.now) s.starts.items) }
+    ensures ends { IfOk result (λ s. AllEndBy (problem_of instance.now) s.starts.items LATEST_END) }
+    ensures limit { IfOk result (λ s. s.makespan ≤ LATEST_END) }
+{
+    let caps = Vec::from_slice(alloc, instance.caps())?;
+    let mut profile = Profile::new(alloc, caps)?;
+    let mut placed = vec![in alloc; None; instance.network().len()]?;
+    place_all(instance, &mut profile, &mut placed, list)?;
+    let starts = starts_of(alloc, &placed)?;
+    let makespan = makespan_of(instance, &starts);
+    Ok(Schedule { starts, makespan })
+}

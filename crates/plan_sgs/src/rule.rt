@@ -1,0 +1,40 @@
+//! Priority rules.
+
+ghost use Rattle.std.specs.Prelude.{◌≡◌, IfOk, IfErr};
+ghost use Rattle.plan_sgs.specs.Keys.{word_of, RefusesWord};
+
+use crate::fault::SgsFault;
+
+/// Which of the activities that may be placed next comes first (Kolisch 1996). Among equal ones the least number comes first.
+#[derive(Debug, Clone, Copy, PartialEq, Eq, Drop)]
+pub enum Rule {
+    /// `lft`: the least latest finish.
+    LatestFinish,
+    /// `slk`: the least total float.
+    Slack,
+    /// `spt`: the shortest duration.
+    ShortestTime,
+    /// `mts`: the most direct and indirect successors.
+    MostSuccessors,
+    /// `num`: the least number.
+    Number,
+}
+
+impl Rule {
+    /// The rule of this name: `lft`, `slk`, `spt`, `mts` or `num`. Takes no memory.
+    ///
+    /// Refused with [`SgsFault::UnknownRule`] where no rule has it.
+    pub fn parse(text: &str) -> Result<Rule, SgsFault>
+        ensures ok { IfOk result (λ rule. text.now ≡ word_of rule) }
+        ensures refused { IfErr result (RefusesWord text.now) }
+    {
+        match text {
+            "lft" => Ok(Rule::LatestFinish),
+            "slk" => Ok(Rule::Slack),
+            "spt" => Ok(Rule::ShortestTime),
+            "mts" => Ok(Rule::MostSuccessors),
+            "num" => Ok(Rule::Number),
+            _ => Err(SgsFault::UnknownRule),
+        }
+    }
+}

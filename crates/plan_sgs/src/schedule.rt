@@ -1,0 +1,8 @@
+/// When each activity starts, in whole time units.
+#[derive(Debug, Drop)]
+pub struct Schedule {
+    /// The start of each activity, in the order of their numbers.
+    pub starts: Vec<u64>,
+    /// The greatest end of an activity.
+    pub makespan: u64,
+}
