@@ -4,3 +4,5 @@ pub mod DayLemmas
 pub mod TextLemmas
 pub mod CellLemmas
 pub mod DayTextLemmas
+pub mod ShopLineLemmas
+pub mod ShopChartLemmas

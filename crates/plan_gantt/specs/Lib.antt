@@ -5,6 +5,9 @@ pub mod Charts
 pub mod Overlaps
 pub mod DateTable
 pub mod ScheduleTable
+pub mod ShopTable
+pub mod ShopCharts
+pub mod ShopFaultText
 pub mod FaultText
 pub mod ScheduleFaultText
 pub mod WorkingDay

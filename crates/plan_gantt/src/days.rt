@@ -48,7 +48,11 @@ fn push_day(text: &mut String, calendar: &Calendar, t: u64) -> Result<(), DaysFa
 }
 
 // The days of the first and the last instant of an interval, in their columns.
-fn push_days(text: &mut String, calendar: &Calendar, interval: Interval) -> Result<(), DaysFault>
+pub(crate) fn push_days(
+    text: &mut String,
+    calendar: &Calendar,
+    interval: Interval,
+) -> Result<(), DaysFault>
     requires { interval.start + interval.duration ≤ LATEST_END }
     ensures days { OnOk result ((days : List ℕ) × spec.IsDaysText calendar.now interval.start interval.duration days × (string_bytes text.new ≡ string_bytes text.old ++ days)) }
     ensures beyond { IsErrOf result DaysFault.BeyondCalendar → spec.HasDayBeyond calendar.now interval }

@@ -13,6 +13,10 @@ mod interval;
 mod marks;
 mod schedule_faults;
 mod schedules;
+mod shop_charts;
+mod shop_days;
+mod shop_faults;
+mod shops;
 mod weeks;
 
 pub use calendar::{Calendar, CalendarFault};
@@ -22,3 +26,7 @@ pub use days::{DaysFault, calendar_table};
 pub use faults::file_fault_text;
 pub use schedule_faults::schedule_fault_text;
 pub use schedules::schedule_table;
+pub use shop_charts::shop_chart;
+pub use shop_days::shop_calendar_table;
+pub use shop_faults::shop_fault_text;
+pub use shops::shop_table;

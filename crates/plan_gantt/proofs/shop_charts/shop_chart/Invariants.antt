@@ -1,0 +1,10 @@
+use Rattle.std.proofs.Common.{◌≡◌, ◌++◌}
+use Rattle.std.specs.String.{string_bytes}
+use Rattle.plan_gantt.specs.Column.{lines_from}
+use Rattle.plan_gantt.specs.Chart.{unit_line, chart_line}
+use Rattle.plan_gantt.specs.ShopCharts.{machine_intervals}
+use Rattle.plan_gantt.proofs.shop_charts.shop_chart.Given as goal
+
+-- behind the unit stand the lines of the machines so far
+abbrev pub invariant-all : goal.invariant-all
+invariant-all l = string_bytes l.text ≡ unit_line l.makespan ++ lines_from (λ m. chart_line l.makespan m (machine_intervals l.shop l.starts m)) 0 l.machine

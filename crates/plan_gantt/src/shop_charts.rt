@@ -1,0 +1,78 @@
+ghost use Rattle.std.specs.Prelude.{◌≡◌, ◌+◌, ◌≤◌, ◌<◌, All, length, slice_index, EachIndex, IfOk, string_bytes};
+ghost use Rattle.plan_profile.specs.declared.profile.TheConstants.{END};
+ghost use Rattle.plan_shop.specs.Shop.{count_steps, machine_of};
+ghost use Rattle.plan_gantt.specs.Chart.{chart_text};
+ghost use Rattle.plan_gantt.specs.ShopCharts as spec;
+
+use crate::charts::{push_line, push_unit};
+use crate::interval::{Interval, LATEST_END};
+use crate::shops::step_count;
+use plan_shop::Shop;
+use std::alloc::{AllocError, Global};
+
+/// The interval of step `x`.
+pub(crate) fn step_interval(shop: &Shop, starts: &[u64], x: u32) -> Interval
+    requires step { x < count_steps shop.now }
+    requires starts { length starts.now ≡ count_steps shop.now }
+    requires limit { EachIndex starts.now (λ k. slice_index starts.now k ≤ END) }
+    ensures interval { result ≡ spec.step_interval shop.now starts.now x }
+    ensures end { result.start + result.duration ≤ LATEST_END }
+{
+    // the shop's facts, on which the proof rests
+    let _machines = shop.machines();
+    Interval {
+        start: starts[x as usize],
+        duration: shop.step(x).time,
+    }
+}
+
+// The machine of step `x`.
+fn machine_at(shop: &Shop, x: u32) -> u32
+    requires { x < count_steps shop.now }
+    ensures { result ≡ machine_of shop.now x }
+{
+    shop.step(x).machine
+}
+
+// The intervals of the steps on a machine.
+fn machine_intervals(
+    alloc: Global,
+    shop: &Shop,
+    starts: &[u64],
+    machine: u32,
+) -> Result<Vec<Interval>, AllocError>
+    requires starts { length starts.now ≡ count_steps shop.now }
+    requires limit { EachIndex starts.now (λ k. slice_index starts.now k ≤ END) }
+    ensures intervals { IfOk result (λ intervals. intervals.items ≡ spec.machine_intervals shop.now starts.now machine) }
+    ensures ends { IfOk result (λ intervals. All (λ v. v.start + v.duration ≤ LATEST_END) intervals.items) }
+{
+    let mut intervals = Vec::new(alloc);
+    'all: for x in 0..step_count(shop) {
+        if machine_at(shop, x) == machine {
+            intervals.push(step_interval(shop, starts, x))?;
+        }
+    }
+    Ok(intervals)
+}
+
+/// The Gantt chart of a shop's schedule: the unit, which is how many instants a cell has, and a line of cells for each machine, with
+/// `#` where some instant of the cell lies in the interval of a step on it. The start at place `x` is that of flat step `x`.
+pub fn shop_chart(
+    alloc: Global,
+    shop: &Shop,
+    starts: &[u64],
+    makespan: u64,
+) -> Result<String, AllocError>
+    requires starts { length starts.now ≡ count_steps shop.now }
+    requires limit { EachIndex starts.now (λ k. slice_index starts.now k ≤ END) }
+    requires makespan { makespan ≤ LATEST_END }
+    ensures text { IfOk result (λ text. string_bytes text ≡ chart_text makespan (spec.machine_intervals shop.now starts.now) 0 shop.now.machines) }
+{
+    let mut text = String::new(alloc);
+    push_unit(&mut text, makespan)?;
+    'all: for machine in 0..shop.machines() {
+        let intervals = machine_intervals(alloc, shop, starts, machine)?;
+        push_line(&mut text, makespan, machine, &intervals)?;
+    }
+    Ok(text)
+}

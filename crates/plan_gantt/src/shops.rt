@@ -1,0 +1,66 @@
+ghost use Rattle.std.specs.Prelude.{◌≡◌, ◌+◌, ◌++◌, ◌≤◌, ◌<◌, length, slice_index, EachIndex, IfOk, OnOk, string_bytes};
+ghost use Rattle.plan_profile.specs.declared.profile.TheConstants.{END};
+ghost use Rattle.plan_shop.specs.Shop.{count_steps};
+ghost use Rattle.plan_gantt.specs.ShopTable.{shop_line, shop_table_text};
+
+use crate::column::{push_first, push_numbers};
+use plan_shop::Shop;
+use std::alloc::{AllocError, Global};
+use std::fmt::Write;
+
+// How many steps a shop has.
+pub(crate) fn step_count(shop: &Shop) -> u32
+    ensures { result ≡ count_steps shop.now }
+{
+    shop.jobs() * shop.machines()
+}
+
+// The line of step `x`.
+fn push_line(text: &mut String, shop: &Shop, starts: &[u64], x: u32) -> Result<(), AllocError>
+    requires step { x < count_steps shop.now }
+    requires starts { length starts.now ≡ count_steps shop.now }
+    requires limit { EachIndex starts.now (λ k. slice_index starts.now k ≤ END) }
+    ensures { OnOk result (string_bytes text.new ≡ string_bytes text.old ++ shop_line shop.now starts.now x) }
+{
+    let step = shop.step(x);
+    let start = starts[x as usize];
+    let machines = shop.machines();
+    push_first(text, x / machines + 1)?;
+    let place = (x % machines + 1) as u64;
+    push_numbers(
+        text,
+        &[
+            place,
+            step.machine as u64,
+            step.time,
+            start,
+            start + step.time,
+        ],
+    )?;
+    text.push_str("\n")?;
+    Ok(())
+}
+
+/// The table of a shop's schedule: a line for each step in flat order with its job and its number in the job (from 1), its machine
+/// (from 0), its time, its start and its end, and the makespan in the last line. The start at place `x` is that of flat step `x`.
+pub fn shop_table(
+    alloc: Global,
+    shop: &Shop,
+    starts: &[u64],
+    makespan: u64,
+) -> Result<String, AllocError>
+    requires starts { length starts.now ≡ count_steps shop.now }
+    requires limit { EachIndex starts.now (λ k. slice_index starts.now k ≤ END) }
+    ensures text { IfOk result (λ text. string_bytes text ≡ shop_table_text shop.now starts.now makespan) }
+{
+    let mut text = String::new(alloc);
+    text.push_str(" job    step    mach       d   start     end\n")?;
+    'all: for x in 0..step_count(shop) {
+        push_line(&mut text, shop, starts, x)?;
+    }
+    writeln!(text, "makespan {makespan}")?;
+    Ok(text)
+}
+
+#[cfg(test)]
+mod tests;

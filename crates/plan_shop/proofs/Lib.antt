@@ -1,0 +1,24 @@
+mod FlatLemmas
+mod NextLemmas
+mod PlacingLemmas
+mod TailLemmas
+mod HeldLemmas
+mod KeepLemmas
+mod TurnLemmas
+mod FullLemmas
+mod FollowingLemmas
+mod PendingLemmas
+pub mod Rows
+pub mod NumberLemmas
+pub mod ShopBasics
+pub mod Reached
+pub mod FullWords
+pub mod WordCount
+pub mod Span
+pub mod ShopBound
+pub mod Earlier
+pub mod WordsReach
+pub mod Competing
+mod ChoosingLemmas
+mod RuleLemmas
+mod CheckLemmas

@@ -1,0 +1,243 @@
+-- Heads along a job, and what is pending on a machine.
+use Rattle.std.proofs.Common.{◌≡◌, ◌≢◌, ℕ, zero, suc, ◌+◌, ◌-◌, ◌*◌, ◌≤◌, ◌<◌, ◌&&◌, inl, inr, min, max, Bool, true, false, cond, List, [], ◌∷◌, ◌++◌, length, get_or, set, Some, refl, sym, ap, ◌∙◌, subst, arith}
+use Rattle.std.specs.Prelude.{nat_eq, nat_lt, not}
+use Rattle.std.specs.List.{sum_by, slice_get}
+use Rattle.std.proofs.Math.Nat.{mul-le-mul}
+use Rattle.plan_orlib.specs.declared.steps.Step.{Step}
+use Rattle.std.proofs.lemmas.Bool.{cases_eq, cases_lt, cases_Bool, cond-true, cond-false, eq-eqb, ne_eqb, lt-ltb, le-ltb, and_from, and_left, and_right, ltb-true}
+use Rattle.std.proofs.lemmas.List.{get_or-set_same, get_or-set_other, length-set}
+use Rattle.std.proofs.lemmas.List.Sums.{sum_by_push}
+use Rattle.plan_sgs.specs.Problem.{greatest_below}
+use Rattle.plan_sgs.proofs.TotalLemmas.{greatest_same}
+use Rattle.plan_shop.specs.declared.tree.bounding.Pending.{Pending}
+use Rattle.plan_shop.specs.Shop.{JobShop, IsShop, count_steps, idle, time_of, machine_of, job_of, place_of, times_from, those_below}
+use Rattle.plan_shop.specs.Words.{least_of, Placed, steps_done, job_end, machine_free, is_placed, has_next, next_step, raised, ready}
+use Rattle.plan_shop.specs.Bound.{head_at, head_of, tail_of, pending, bound_of_pending, job_bound, bound_of}
+use Rattle.plan_shop.specs.Docs.{IsSmallShop}
+use Rattle.plan_shop.specs.Rules.{time_left}
+use Rattle.plan_shop.specs.Trees.{Standing, standing, placed, is_pending, nothing_pending, IsPendingOf, IsGathered}
+use Rattle.plan_shop.proofs.ShopBasics.{job_at, place_at, number_below}
+use Rattle.plan_shop.proofs.TailLemmas.{step-is}
+use Rattle.plan_shop.proofs.PlacingLemmas.{time-short}
+use Rattle.plan_shop.proofs.FollowingLemmas.{those-yes, those-no}
+
+-- ---- heads
+
+-- where the job has ended before the step k after its next one
+abbrev pub end_at : JobShop → List Placed → ℕ → ℕ → ℕ
+end_at s xs j zero = job_end s xs j
+end_at s xs j (suc k) = head_at s xs j k + time_of s (next_step s xs j + k)
+
+pub head_at-is : (s : JobShop) (xs : List Placed) (j k : ℕ) → head_at s xs j k ≡ raised (time_of s (next_step s xs j + k)) (end_at s xs j k) (machine_free s xs (machine_of s (next_step s xs j + k)))
+unfolding ready
+head_at-is s xs j zero =
+    let same : next_step s xs j ≡ next_step s xs j + 0 = omega arith in
+    ap (λ x. raised (time_of s x) (job_end s xs j) (machine_free s xs (machine_of s x))) same
+head_at-is s xs j (suc k) = refl
+
+pub times_from-short : (s : JobShop) → IsSmallShop s → (n x : ℕ) → times_from s x n ≤ n * 10000
+times_from-short s small zero x = omega arith
+times_from-short s small (suc n) x = omega (arith, times_from-short s small n (suc x), time-short s small x)
+
+pub tail_of-short : (s : JobShop) → IsSmallShop s → (x : ℕ) → tail_of s x ≤ 200000
+tail_of-short s small x = omega (arith, times_from-short s small (s.machines - suc (place_of s x)) (suc x), small.few_machines)
+
+pub head_of-is : (s : JobShop) (xs : List Placed) (j i : ℕ) → i < s.machines → head_of s xs (j * s.machines + i) ≡ head_at s xs j (i - steps_done xs j)
+head_of-is s xs j i below =
+    ap (λ k. head_at s xs k (place_of s (j * s.machines + i) - steps_done xs k)) (job_at s j i below)
+    ∙ ap (λ k. head_at s xs j (k - steps_done xs j)) (place_at s j i below)
+
+-- ---- what is pending
+
+least_of-more : (f : ℕ → ℕ) (x : ℕ) (ys : List ℕ) (z : ℕ) → least_of f x (ys ++ z ∷ []) ≡ min (least_of f x ys) (f z)
+least_of-more f x [] z = refl
+least_of-more f x (y ∷ ys) z = omega (arith, least_of-more f y ys z)
+
+-- one step more among those pending
+pub record IsWithStep (t : Standing) (x : ℕ) (p q : Pending) : Type 0 where
+  pub lasts : 0 < time_of t.shop x
+  pub early : head_of t.shop (placed t) x ≤ 20000000
+  pub tail_early : tail_of t.shop x ≤ 1000000
+  pub head : q.head ≡ cond (nat_eq p.times 0) (head_of t.shop (placed t) x) (min p.head (head_of t.shop (placed t) x))
+  pub times : q.times ≡ p.times + time_of t.shop x
+  pub tail : q.tail ≡ cond (nat_eq p.times 0) (tail_of t.shop x) (min p.tail (tail_of t.shop x))
+
+with_step : (t : Standing) (x : ℕ) (p q : Pending) (zs : List ℕ) → IsPendingOf t zs p → IsWithStep t x p q → IsPendingOf t (zs ++ x ∷ []) q
+with_step t x p q [] is w =
+    let none : nat_eq p.times 0 ≡ true = eq-eqb p.times 0 is in
+    let head : q.head ≡ head_of t.shop (placed t) x = w.head ∙ cond-true (nat_eq p.times 0) (head_of t.shop (placed t) x) (min p.head (head_of t.shop (placed t) x)) none in
+    let tail : q.tail ≡ tail_of t.shop x = w.tail ∙ cond-true (nat_eq p.times 0) (tail_of t.shop x) (min p.tail (tail_of t.shop x)) none in
+    (omega (arith, w.times, w.lasts), omega (arith, w.times, is, sum_by_push (time_of t.shop) [] x), head, tail, omega (arith, head, w.early), omega (arith, tail, w.tail_early))
+with_step t x p q (y ∷ ys) is w =
+    let some : nat_eq p.times 0 ≡ false = ne_eqb p.times 0 (λ e. omega (arith, e, is.0)) in
+    let head : q.head ≡ min p.head (head_of t.shop (placed t) x) = w.head ∙ cond-false (nat_eq p.times 0) (head_of t.shop (placed t) x) (min p.head (head_of t.shop (placed t) x)) some in
+    let tail : q.tail ≡ min p.tail (tail_of t.shop x) = w.tail ∙ cond-false (nat_eq p.times 0) (tail_of t.shop x) (min p.tail (tail_of t.shop x)) some in (
+      omega (arith, w.times, w.lasts),
+      omega (arith, w.times, is.1, sum_by_push (time_of t.shop) (y ∷ ys) x),
+      omega (arith, head, is.2, least_of-more (head_of t.shop (placed t)) y ys x),
+      omega (arith, tail, is.3, least_of-more (tail_of t.shop) y ys x),
+      omega (arith, head, w.early),
+      omega (arith, tail, w.tail_early),
+    )
+
+-- a step that is placed, or takes no time
+pub gathered-skips : (t : Standing) (x : ℕ) (pending : List Pending) → IsGathered t x pending → ((m : ℕ) → is_pending t m x ≡ false) → IsGathered t (suc x) pending
+gathered-skips t x pending g none = record {
+  size = g.size;
+  each = λ m below. let Q : List ℕ → Type 0 = λ zs. IsPendingOf t zs (get_or pending m nothing_pending) in subst Q (sym (those-no x (is_pending t m) (none m))) (g.each m below);
+  few = λ m below. omega (arith, g.few m below);
+}
+
+-- the placed steps of a job
+pub gathered-placed : (t : Standing) (j k : ℕ) (pending : List Pending) → IsGathered t (j * t.shop.machines) pending → k ≤ steps_done (placed t) j → k ≤ t.shop.machines → IsGathered t (j * t.shop.machines + k) pending
+gathered-placed t j zero pending g low inside =
+    let Q : ℕ → Type 0 = λ n. IsGathered t n pending in
+    let same : j * t.shop.machines ≡ j * t.shop.machines + 0 = omega arith in
+    subst Q same g
+gathered-placed t j (suc k) pending g low inside =
+    let Q : ℕ → Type 0 = λ n. IsGathered t n pending in
+    let x : ℕ = j * t.shop.machines + k in
+    let before = gathered-placed t j k pending g (omega (arith, low)) (omega (arith, inside)) in
+    let there : is_placed t.shop (placed t) x ≡ true = lt-ltb (place_of t.shop x) (steps_done (placed t) (job_of t.shop x))
+    (omega (arith, low, place_at t.shop j k (omega (arith, inside)), ap (λ i. steps_done (placed t) i) (job_at t.shop j k (omega (arith, inside))))) in
+    let same : suc x ≡ j * t.shop.machines + suc k = omega arith in
+    subst Q same (gathered-skips t x pending before (λ m. and_left (not (is_placed t.shop (placed t) x)) (nat_eq (machine_of t.shop x) m && nat_lt 0 (time_of t.shop x)) (ap not there)))
+
+pub gathered-at_once : (t : Standing) (x : ℕ) (pending : List Pending) → IsGathered t x pending → time_of t.shop x ≡ 0 → IsGathered t (suc x) pending
+gathered-at_once t x pending g none =
+    gathered-skips t x pending g (λ m. and_right (not (is_placed t.shop (placed t) x)) (nat_eq (machine_of t.shop x) m && nat_lt 0 (time_of t.shop x))
+    (and_right (nat_eq (machine_of t.shop x) m) (nat_lt 0 (time_of t.shop x)) (le-ltb 0 (time_of t.shop x) (omega (arith, none)))))
+
+-- an unplaced step that takes some time
+pub gathered-more : (t : Standing) (x : ℕ) (pending : List Pending) → IsSmallShop t.shop → IsGathered t x pending → is_placed t.shop (placed t) x ≡ false → (m : ℕ) → m < t.shop.machines → m ≡ machine_of t.shop x
+    → (q : Pending) → IsWithStep t x (get_or pending m nothing_pending) q → IsGathered t (suc x) (set pending m q)
+gathered-more t x pending small g open_ m on m_is q w = record { size = length-set pending m q ∙ g.size; each = each; few = few } where
+  inside : m < length pending
+  inside = omega (arith, on, g.size, small.few_machines)
+
+  each : (i : ℕ) → i < t.shop.machines → IsPendingOf t (those_below (suc x) (is_pending t i)) (get_or (set pending m q) i nothing_pending)
+  each i below = elim (cases_eq i m) [
+    | inl same ↦
+        let Q : ℕ → Type 0 = λ n. IsPendingOf t (those_below (suc x) (is_pending t n)) (get_or (set pending m q) n nothing_pending) in
+        let R : List ℕ → Type 0 = λ zs. IsPendingOf t zs (get_or (set pending m q) m nothing_pending) in
+        let P : Pending → Type 0 = λ p. IsPendingOf t (those_below x (is_pending t m) ++ x ∷ []) p in
+        let yes_ : is_pending t m x ≡ true = and_from (not (is_placed t.shop (placed t) x)) (nat_eq (machine_of t.shop x) m && nat_lt 0 (time_of t.shop x)) (ap not open_)
+        (and_from (nat_eq (machine_of t.shop x) m) (nat_lt 0 (time_of t.shop x)) (eq-eqb (machine_of t.shop x) m (sym m_is)) (lt-ltb 0 (time_of t.shop x) w.lasts)) in
+        subst Q (sym same) (subst R (sym (those-yes x (is_pending t m) yes_)) (subst P (sym (get_or-set_same pending m q nothing_pending inside)) (with_step t x (get_or pending m nothing_pending) q (those_below x (is_pending t m)) (g.each m on) w)))
+    | inr other ↦
+        let R : List ℕ → Type 0 = λ zs. IsPendingOf t zs (get_or (set pending m q) i nothing_pending) in
+        let P : Pending → Type 0 = λ p. IsPendingOf t (those_below x (is_pending t i)) p in
+        let no_ : is_pending t i x ≡ false = and_right (not (is_placed t.shop (placed t) x)) (nat_eq (machine_of t.shop x) i && nat_lt 0 (time_of t.shop x))
+        (and_left (nat_eq (machine_of t.shop x) i) (nat_lt 0 (time_of t.shop x)) (ne_eqb (machine_of t.shop x) i (λ e. other (sym e ∙ sym m_is)))) in
+        subst R (sym (those-no x (is_pending t i) no_)) (subst P (sym (get_or-set_other pending m i q nothing_pending other)) (g.each i below))
+  ]
+
+  few : (i : ℕ) → i < t.shop.machines → (get_or (set pending m q) i nothing_pending).times ≤ suc x * 10000
+  few i below = elim (cases_eq i m) [
+    | inl same ↦ omega (arith, g.few m on, w.times, time-short t.shop small x, ap (λ (p : Pending). p.times) (get_or-set_same pending m q nothing_pending inside), ap (λ n. (get_or (set pending m q) n nothing_pending).times) same)
+    | inr other ↦ omega (arith, g.few i below, ap (λ (p : Pending). p.times) (get_or-set_other pending m i q nothing_pending other))
+  ]
+
+-- ---- bounds
+
+pub pending-bound : (t : Standing) (zs : List ℕ) (p : Pending) → IsPendingOf t zs p → cond (nat_eq p.times 0) 0 (p.head + p.times + p.tail) ≡ bound_of_pending t.shop (placed t) zs
+pending-bound t [] p is = cond-true (nat_eq p.times 0) 0 (p.head + p.times + p.tail) (eq-eqb p.times 0 is)
+pending-bound t (x ∷ zs) p is =
+    omega (arith, cond-false (nat_eq p.times 0) 0 (p.head + p.times + p.tail) (ne_eqb p.times 0 (λ e. omega (arith, e, is.0))), is.1, is.2, is.3)
+
+pub pending-small : (t : Standing) (zs : List ℕ) (p : Pending) → IsPendingOf t zs p → 0 < p.times → (p.head ≤ 20000000) × (p.tail ≤ 1000000)
+pending-small t [] p is some = absurd (omega (arith, is, some))
+pending-small t (x ∷ zs) p is some = (is.4, is.5)
+
+-- ---- the step at a place of a job, as it is read
+
+pub record IsAt (t : Standing) (j i : ℕ) (step : Step) : Type 0 where
+  pub machine : step.machine ≡ machine_of t.shop (j * t.shop.machines + i)
+  pub time : step.time ≡ time_of t.shop (j * t.shop.machines + i)
+  pub on : step.machine < t.shop.machines
+  pub short : step.time ≤ 10000
+  pub inside : j * t.shop.machines + i < count_steps t.shop
+  pub few : count_steps t.shop ≤ 1000
+
+at-here : (s : JobShop) (w : List ℕ) (j i : ℕ) (step : Step) → IsSmallShop s → j < s.jobs → i < s.machines → slice_get s.steps (j * s.machines + i) ≡ Some step → IsAt (standing s w) j i step
+at-here s w j i step small job place here =
+    let read : get_or s.steps (j * s.machines + i) idle ≡ step = step-is s (j * s.machines + i) step here in
+    let inside : j * s.machines + i < count_steps s = number_below s small.shop j i job place in
+    let most : s.jobs * s.machines ≤ 50 * 20 = mul-le-mul small.few_jobs small.few_machines in
+    record {
+      machine = sym (ap (λ (v : Step). v.machine) read);
+      time = sym (ap (λ (v : Step). v.time) read);
+      on = omega (arith, ap (λ (v : Step). v.machine) read, small.shop.on_machines (j * s.machines + i) idle inside);
+      short = omega (arith, ap (λ (v : Step). v.time) read, time-short s small (j * s.machines + i));
+      inside = inside;
+      few = omega (arith, most, small.shop.all_steps);
+    }
+
+pub at-read : (s : JobShop) (w : List ℕ) (t : Standing) → standing s w ≡ t → IsSmallShop s → (j i m : ℕ) (step : Step) → j < t.shop.jobs → i < m → m ≡ s.machines → slice_get s.steps (j * m + i) ≡ Some step → IsAt t j i step
+at-read s w t is small j i m step job place m_is here =
+    let Q : Standing → Type 0 = λ v. IsAt v j i step in
+    let R : ℕ → Type 0 = λ n. slice_get s.steps (j * n + i) ≡ Some step in
+    subst Q is (at-here s w j i step small (omega (arith, job, ap (λ (v : Standing). v.shop.jobs) is)) (omega (arith, place, m_is)) (subst R m_is here))
+
+-- a step at or behind the next one of its job isn't placed
+pub at-open : (t : Standing) (j i : ℕ) → i < t.shop.machines → steps_done (placed t) j ≤ i → is_placed t.shop (placed t) (j * t.shop.machines + i) ≡ false
+at-open t j i below since = le-ltb (place_of t.shop (j * t.shop.machines + i)) (steps_done (placed t) (job_of t.shop (j * t.shop.machines + i)))
+    (omega (arith, since, place_at t.shop j i below, ap (λ k. steps_done (placed t) k) (job_at t.shop j i below)))
+
+-- the head of that step
+pub at-head : (t : Standing) (j i head end : ℕ) (step : Step) → IsAt t j i step → steps_done (placed t) j ≤ i → end ≡ end_at t.shop (placed t) j (i - steps_done (placed t) j)
+    → head ≡ raised step.time end (machine_free t.shop (placed t) step.machine) → head ≡ head_at t.shop (placed t) j (i - steps_done (placed t) j)
+at-head t j i head end step at since ended is =
+    let k : ℕ = i - steps_done (placed t) j in
+    let x : next_step t.shop (placed t) j + k ≡ j * t.shop.machines + i = omega (arith, since) in
+    let time : step.time ≡ time_of t.shop (next_step t.shop (placed t) j + k) = at.time ∙ ap (time_of t.shop) (sym x) in
+    let machine : step.machine ≡ machine_of t.shop (next_step t.shop (placed t) j + k) = at.machine ∙ ap (machine_of t.shop) (sym x) in
+    is ∙ ap (λ n. raised n end (machine_free t.shop (placed t) step.machine)) time
+    ∙ ap (λ n. raised (time_of t.shop (next_step t.shop (placed t) j + k)) n (machine_free t.shop (placed t) step.machine)) ended
+    ∙ ap (λ n. raised (time_of t.shop (next_step t.shop (placed t) j + k)) (end_at t.shop (placed t) j k) (machine_free t.shop (placed t) n)) machine
+    ∙ sym (head_at-is t.shop (placed t) j k)
+
+-- the end behind that step
+pub at-end : (t : Standing) (j i head : ℕ) (step : Step) → IsAt t j i step → steps_done (placed t) j ≤ i → head ≡ head_at t.shop (placed t) j (i - steps_done (placed t) j)
+    → head + step.time ≡ end_at t.shop (placed t) j (i + 1 - steps_done (placed t) j)
+at-end t j i head step at since is =
+    let k : ℕ = i - steps_done (placed t) j in
+    let x : j * t.shop.machines + i ≡ next_step t.shop (placed t) j + k = omega (arith, since) in
+    let n : suc k ≡ i + 1 - steps_done (placed t) j = omega (arith, since) in
+    omega (arith, is, at.time, ap (time_of t.shop) x, ap (λ m. end_at t.shop (placed t) j m) n)
+
+-- the bound of a job that has a next step
+pub job_bound-next : (t : Standing) (j head time tail : ℕ) → has_next t.shop (placed t) j ≡ true → head ≡ ready t.shop (placed t) j → time ≡ time_of t.shop (next_step t.shop (placed t) j) → tail ≡ tail_of t.shop (next_step t.shop (placed t) j)
+    → head + time + tail ≡ job_bound t.shop (placed t) j
+job_bound-next t j head time tail next head_is time_is tail_is =
+    let s : JobShop = t.shop in
+    let xs : List Placed = placed t in
+    let below : steps_done xs j < s.machines = ltb-true (steps_done xs j) s.machines next in
+    let place : place_of s (next_step s xs j) ≡ steps_done xs j = place_at s j (steps_done xs j) below in
+    let count : s.machines - steps_done xs j ≡ suc (s.machines - suc (place_of s (next_step s xs j))) = omega (arith, below, place) in
+    let is : job_bound s xs j ≡ ready s xs j + times_from s (next_step s xs j) (s.machines - steps_done xs j) = cond-true (has_next s xs j) (ready s xs j + times_from s (next_step s xs j) (s.machines - steps_done xs j)) (job_end s xs j) next in
+    omega (arith, is, head_is, time_is, tail_is, ap (λ n. times_from s (next_step s xs j) n) count)
+
+-- the bound of a machine, once all steps are gathered
+pub machine_bound-is : (t : Standing) (ps : List Pending) → IsShop t.shop → IsGathered t (t.shop.jobs * t.shop.machines) ps → (m b : ℕ) → m < t.shop.machines
+    → b ≡ cond (nat_eq (get_or ps m nothing_pending).times 0) 0 ((get_or ps m nothing_pending).head + (get_or ps m nothing_pending).times + (get_or ps m nothing_pending).tail)
+    → b ≡ bound_of_pending t.shop (placed t) (pending t.shop (placed t) m)
+machine_bound-is t ps shop g m b below is =
+    is ∙ pending-bound t (those_below (t.shop.jobs * t.shop.machines) (is_pending t m)) (get_or ps m nothing_pending) (g.each m below)
+    ∙ ap (λ n. bound_of_pending t.shop (placed t) (those_below n (is_pending t m))) (sym shop.all_steps)
+
+pub gathered-small : (t : Standing) (n : ℕ) (ps : List Pending) → IsGathered t n ps → n ≤ 1000 → (m : ℕ) → m < t.shop.machines → 0 < (get_or ps m nothing_pending).times
+    → (get_or ps m nothing_pending).head + (get_or ps m nothing_pending).times + (get_or ps m nothing_pending).tail < 1000000000
+gathered-small t n ps g few m below some =
+    let small = pending-small t (those_below n (is_pending t m)) (get_or ps m nothing_pending) (g.each m below) some in
+    omega (arith, small.0, small.1, g.few m below, few)
+
+-- the time left of a job that has a next step
+pub time_left-next : (t : Standing) (j time tail : ℕ) → has_next t.shop (placed t) j ≡ true → time ≡ time_of t.shop (next_step t.shop (placed t) j) → tail ≡ tail_of t.shop (next_step t.shop (placed t) j) → time + tail ≡ time_left t.shop (placed t) j
+time_left-next t j time tail next time_is tail_is =
+    let s : JobShop = t.shop in
+    let xs : List Placed = placed t in
+    let below : steps_done xs j < s.machines = ltb-true (steps_done xs j) s.machines next in
+    let place : place_of s (next_step s xs j) ≡ steps_done xs j = place_at s j (steps_done xs j) below in
+    let count : s.machines - steps_done xs j ≡ suc (s.machines - suc (place_of s (next_step s xs j))) = omega (arith, below, place) in
+    omega (arith, time_is, tail_is, ap (λ n. times_from s (next_step s xs j) n) count)

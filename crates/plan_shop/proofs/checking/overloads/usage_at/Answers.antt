@@ -1,0 +1,33 @@
+use Rattle.std.proofs.Common.{ℕ, ◌≡◌, ◌<◌, length, sym, ◌∙◌, ap, arith}
+use Rattle.std.proofs.lemmas.Bool.{both_ways}
+use Rattle.plan_sgs.specs.Problem.{count, total}
+use Rattle.plan_sgs.proofs.StartLemmas.{amount_at, total_next, usage_is}
+use Rattle.plan_shop.specs.Shop.{count_steps, problem_of}
+use Rattle.plan_shop.proofs.ShopBasics.{count_is}
+use Rattle.plan_shop.proofs.CheckLemmas.{under_way_one, not_under_way}
+use Rattle.plan_shop.proofs.checking.overloads.usage_at.Goals as goal
+use Rattle.plan_shop.proofs.checking.overloads.usage_at.Goals.{then-is_under_way, else-is_under_way}
+
+pub all-preserved : goal.all-preserved
+all-preserved c =
+    let s = c.args.shop.now in
+    let starts = c.args.starts.now in
+    let x = c.all.x in
+    let below : x < count_steps s = omega (arith, c.all-test.true, c.count-x-end.ensures.value) in
+    let next = total_next x (amount_at (problem_of s) starts c.args.t c.args.machine) in
+    elim c.if-is_under_way.branch [
+      | then-is_under_way w ↦
+          let one = under_way_one s starts c.args.t c.args.machine x below (c.is_under_way.ensures.0 w.if-is_under_way.true) in
+          record { sum = omega (arith, w.used-is, c.all.invariant.sum, one, next); few = omega (arith, w.used-is, c.all.invariant.few) }
+      | else-is_under_way w ↦
+          let none = not_under_way s starts c.args.t c.args.machine x below (λ way. both_ways c.is_under_way.result w.if-is_under_way.false (c.is_under_way.ensures.1 way)) in
+          record { sum = omega (arith, w.used-is, c.all.invariant.sum, none, next); few = omega (arith, w.used-is, c.all.invariant.few) }
+    ]
+
+pub returns : goal.returns
+returns c =
+    let s = c.args.shop.now in
+    let starts = c.args.starts.now in
+    let p = problem_of s in
+    let all : c.all.x ≡ count p = omega (arith, c.all.auto.x-end, c.all-test.false, c.count-x-end.ensures.value, count_is s) in
+    c.all.invariant.sum ∙ ap (λ (n : ℕ). total n (amount_at p starts c.args.t c.args.machine)) all ∙ sym (usage_is p starts c.args.t c.args.machine (c.requires.whole ∙ sym (count_is s)))

@@ -1,0 +1,6 @@
+-- The first to end of the jobs so far.
+use Rattle.plan_shop.proofs.FollowingLemmas.{IsSoFar}
+use Rattle.plan_shop.proofs.tree.ShopTree.first_to_end.Given as goal
+
+abbrev pub invariant-loop-job : goal.invariant-loop-job
+invariant-loop-job l = IsSoFar l.self l.job l.first

@@ -1,0 +1,54 @@
+-- The names of priority rules, and how each chooses (docs/DEFINITIONS.md, "Job shops").
+use Rattle.std.specs.Prelude.{◌≡◌, ℕ, Bool, cond, nat_lt, List, [], ◌∷◌, Option, Some, None, codes}
+use Rattle.plan_shop.specs.Shop.{JobShop}
+use Rattle.plan_shop.specs.Words.{Placed, ready, letter_of, jobs_after}
+use Rattle.plan_shop.specs.Rules.{next_time, time_left, spt, mwkr, fcfs, giffler}
+use Rattle.plan_shop.specs.declared.rule.ShopRule.{ShopRule}
+use Rattle.plan_shop.specs.declared.rule.ShopRule.TheVariants as rule
+use Rattle.plan_shop.specs.declared.fault.ShopFault.{ShopFault}
+use Rattle.plan_shop.specs.declared.fault.ShopFault.TheVariants as fault
+
+-- the name of a rule
+abbrev pub word_of : ShopRule → List ℕ
+word_of rule.ShortestTime = codes "spt"
+word_of rule.MostWorkRemaining = codes "mwkr"
+word_of rule.FirstCome = codes "fcfs"
+
+-- a text that is the name of no rule
+abbrev pub RefusesWord : List ℕ → ShopFault → Type 0
+RefusesWord text f = (f ≡ fault.UnknownRule) × ((r : ShopRule) → text ≡ word_of r → ⊥)
+
+-- how a rule chooses among the jobs that may follow
+abbrev pub chooser_of : ShopRule → JobShop → List Placed → List ℕ → ℕ
+chooser_of rule.ShortestTime s = spt s
+chooser_of rule.MostWorkRemaining s = mwkr s
+chooser_of rule.FirstCome s = fcfs s
+
+-- what a rule compares of a job
+abbrev pub key_of : ShopRule → JobShop → List Placed → ℕ → ℕ
+key_of rule.ShortestTime s xs j = next_time s xs j
+key_of rule.MostWorkRemaining s xs j = time_left s xs j
+key_of rule.FirstCome s xs j = ready s xs j
+
+-- whether a rule puts one key before another
+abbrev pub comes_before : ShopRule → ℕ → ℕ → Bool
+comes_before rule.ShortestTime m n = nat_lt m n
+comes_before rule.MostWorkRemaining m n = nat_lt n m
+comes_before rule.FirstCome m n = nat_lt m n
+
+-- the one of two letters, each with its key, that a rule chooses: the first of them where the keys are equal
+abbrev pub better : ShopRule → Option (ℕ × ℕ) → ℕ → ℕ → Option (ℕ × ℕ)
+better rule None letter key = Some (letter, key)
+better rule (Some best) letter key = cond (comes_before rule key best.1) (Some (letter, key)) (Some best)
+
+-- the word of a rule
+abbrev pub word_by : ShopRule → JobShop → List ℕ
+word_by rule s = giffler s (chooser_of rule s)
+
+-- the letter of the job that a rule chooses, if any may follow
+abbrev pub letter_among : ShopRule → JobShop → List Placed → List ℕ → Option ℕ
+letter_among rule s xs [] = None
+letter_among rule s xs (j ∷ js) = Some (letter_of (chooser_of rule s xs (j ∷ js)))
+
+abbrev pub letter_by : ShopRule → JobShop → List Placed → Option ℕ
+letter_by rule s xs = letter_among rule s xs (jobs_after s xs)

@@ -1,0 +1,102 @@
+-- Where the tree of a shop stands, and what it keeps of what its word places (docs/DEFINITIONS.md, "Job shops").
+use Rattle.std.specs.Prelude.{◌≡◌, ℕ, ◌≤◌, ◌<◌, Bool, cond, ◌&&◌, ◌+◌, ◌*◌, not, min, nat_lt, nat_eq, List, [], ◌∷◌, Option, Some, None, length, map, get_or, slice_index, Contains}
+use Rattle.std.specs.List.{sum_by}
+use Rattle.plan_shop.specs.Shop.{JobShop, count_steps, time_of, machine_of, job_of, place_of, those_below}
+use Rattle.plan_shop.specs.Words.{least_of, first_least, Placed, steps_done, has_next, is_placed, job_end, machine_free, next_step, next_end, ready, place, job_of_letter, with_next, letters_after, start_in}
+use Rattle.plan_shop.specs.Bound.{tail_of, head_of}
+use Rattle.plan_shop.specs.Laws.{placed_in}
+use Rattle.plan_shop.specs.Docs.{IsSmallShop}
+use Rattle.plan_shop.specs.declared.tree.Turn.{Turn}
+use Rattle.plan_shop.specs.declared.tree.bounding.Pending.{Pending}
+
+-- a shop, and the word at which its tree stands
+pub record Standing : Type 0 where
+  pub shop : JobShop
+  pub word : List ℕ
+
+abbrev pub standing : JobShop → List ℕ → Standing
+standing shop word = record { shop = shop; word = word }
+
+-- what the word has placed
+abbrev pub placed : Standing → List Placed
+placed t = placed_in t.shop t.word
+
+-- the letters of the turns
+abbrev pub word_of : List Turn → List ℕ
+word_of turns = map (λ turn. turn.letter) turns
+
+-- a turn has a letter that may follow, and how the end of its job and its machine stood
+pub record IsTurn (s : JobShop) (xs : List Placed) (turn : Turn) : Type 0 where
+  pub follows : Contains (letters_after s xs) turn.letter
+  pub end : turn.end ≡ job_end s xs (job_of_letter turn.letter)
+  pub free : turn.free ≡ machine_free s xs (machine_of s (next_step s xs (job_of_letter turn.letter)))
+
+-- each turn is one after what those before it place
+abbrev pub AreTurns : JobShop → List Placed → List Turn → Type 0
+AreTurns s xs [] = Unit {0}
+AreTurns s xs (turn ∷ turns) = IsTurn s xs turn × AreTurns s (place s xs (job_of_letter turn.letter)) turns
+
+-- steps done and ends by job, when machines are free, and the starts of placed steps
+pub record Keeps (s : JobShop) (xs : List Placed) (done ends free starts : List ℕ) : Type 0 where
+  pub done_size : length done ≡ s.jobs
+  pub ends_size : length ends ≡ s.jobs
+  pub free_size : length free ≡ s.machines
+  pub starts_size : length starts ≡ count_steps s
+  pub done_is : (j : ℕ) → j < s.jobs → slice_index done j ≡ steps_done xs j
+  pub end_is : (j : ℕ) → j < s.jobs → slice_index ends j ≡ job_end s xs j
+  pub free_is : (m : ℕ) → m < s.machines → slice_index free m ≡ machine_free s xs m
+  pub start_is : (x : ℕ) → x < count_steps s → place_of s x < steps_done xs (job_of s x) → slice_index starts x ≡ start_in xs x
+
+-- the tails of all steps
+pub record AreTails (s : JobShop) (tails : List ℕ) : Type 0 where
+  pub size : length tails ≡ count_steps s
+  pub each : (x : ℕ) → x < count_steps s → slice_index tails x ≡ tail_of s x
+
+-- all that a tree keeps
+pub record IsKept (s : JobShop) (tails done ends free starts : List ℕ) (turns : List Turn) : Type 0 where
+  pub small : IsSmallShop s
+  pub tails_are : AreTails s tails
+  pub turns_are : AreTurns s [] turns
+  pub kept : Keeps s (placed_in s (word_of turns)) done ends free starts
+
+-- the next step of a job is on a machine, and could start before an instant
+abbrev pub is_rival : Standing → ℕ → ℕ → ℕ → Bool
+is_rival t machine end j = has_next t.shop (placed t) j && (nat_eq (machine_of t.shop (next_step t.shop (placed t) j)) machine && nat_lt (ready t.shop (placed t) j) end)
+
+-- a job and an end: the first of some jobs whose next step would end first, and that end
+pub record IsFirstIn (t : Standing) (js : List ℕ) (first : ℕ × ℕ) : Type 0 where
+  pub head : ℕ
+  pub rest : List ℕ
+  pub list : js ≡ head ∷ rest
+  pub job : first.0 ≡ first_least (next_end t.shop (placed t)) head rest
+  pub end : first.1 ≡ next_end t.shop (placed t) first.0
+
+-- the same of all jobs that have a next step
+abbrev pub IsFirstToEnd : Standing → ℕ × ℕ → Type 0
+IsFirstToEnd t first = IsFirstIn t (with_next t.shop (placed t)) first
+
+-- the earlier of two ends, the first of them where they are equal
+abbrev pub sooner : Option (ℕ × ℕ) → ℕ → ℕ → Option (ℕ × ℕ)
+sooner None job end = Some (job, end)
+sooner (Some first) job end = cond (nat_lt end first.1) (Some (job, end)) (Some first)
+
+-- an unplaced step of positive time is on a machine
+abbrev pub is_pending : Standing → ℕ → ℕ → Bool
+is_pending t m x = not (is_placed t.shop (placed t) x) && (nat_eq (machine_of t.shop x) m && nat_lt 0 (time_of t.shop x))
+
+abbrev pub nothing_pending : Pending
+nothing_pending = record { head = 0; times = 0; tail = 0 }
+
+-- of some steps the sum of all times, and where there are any the least head and the least tail
+abbrev pub IsPendingOf : Standing → List ℕ → Pending → Type 0
+IsPendingOf t [] p = p.times ≡ 0
+IsPendingOf t (x ∷ zs) p =
+    (0 < p.times) × (p.times ≡ sum_by (time_of t.shop) (x ∷ zs))
+    × (p.head ≡ least_of (head_of t.shop (placed t)) x zs) × (p.tail ≡ least_of (tail_of t.shop) x zs)
+    × (p.head ≤ 20000000) × (p.tail ≤ 1000000)
+
+-- of the first n steps, machine by machine
+pub record IsGathered (t : Standing) (n : ℕ) (pending : List Pending) : Type 0 where
+  pub size : length pending ≡ 20
+  pub each : (m : ℕ) → m < t.shop.machines → IsPendingOf t (those_below n (is_pending t m)) (get_or pending m nothing_pending)
+  pub few : (m : ℕ) → m < t.shop.machines → (get_or pending m nothing_pending).times ≤ n * 10000

@@ -1,0 +1,98 @@
+//! The first step that can start earlier.
+
+ghost use Rattle.std.specs.Prelude.{◌≡◌, ℕ, ◌≤◌, ◌<◌, ◌↔◌, length, All, IfSome, IfNone, IsTrue};
+ghost use Rattle.plan_sgs.specs.Problem.{IsFeasible};
+ghost use Rattle.plan_sgs.specs.Verdicts.{HasShift};
+ghost use Rattle.plan_sgs.specs.Checking.{IsShiftAnswer};
+ghost use Rattle.plan_shop.specs.Shop.{count_steps, problem_of};
+ghost use Rattle.plan_shop.specs.Docs.{IsSmallShop};
+ghost use Rattle.plan_shop.specs.Checks.{IsReleaseOf, IsInTheWay, IsEndInTheWay};
+
+use super::{count, end_at, machine_at, time_at};
+use crate::shop::Shop;
+use plan_profile::END;
+
+// The least instant at which the step before one in its job lets it start.
+fn release_of(shop: &Shop, starts: &[u64], x: u32) -> u64
+    requires step { x < count_steps shop.now }
+    requires whole { length starts.now ≡ count_steps shop.now }
+    requires limit { All (λ t. t ≤ END) starts.now }
+    ensures { IsReleaseOf shop.now starts.now x result }
+{
+    let machines = shop.machines();
+    if x > 0 && x / machines == (x - 1) / machines {
+        end_at(shop, starts, x - 1)
+    } else {
+        0
+    }
+}
+
+// Whether step `y` is in the way of step `x`, if that starts at an instant `at`.
+fn is_in_the_way(shop: &Shop, starts: &[u64], x: u32, at: u64, y: u32) -> bool
+    requires step { x < count_steps shop.now }
+    requires shop { IsSmallShop shop.now }
+    requires other { y < count_steps shop.now }
+    requires whole { length starts.now ≡ count_steps shop.now }
+    requires limit { All (λ t. t ≤ END) starts.now }
+    requires early { at ≤ END }
+    ensures { IsTrue result ↔ IsInTheWay shop.now starts.now x at y }
+{
+    let time = time_at(shop, x);
+    let start = starts[y as usize];
+    machine_at(shop, y) == machine_at(shop, x)
+        && time > 0
+        && time_at(shop, y) > 0
+        && start < starts[x as usize]
+        && start < at + time
+        && at < end_at(shop, starts, y)
+}
+
+// The end of a step in the way of step `x`, if that starts at an instant `at`.
+fn end_in_the_way(shop: &Shop, starts: &[u64], x: u32, at: u64) -> Option<u64>
+    requires step { x < count_steps shop.now }
+    requires whole { length starts.now ≡ count_steps shop.now }
+    requires limit { All (λ t. t ≤ END) starts.now }
+    requires early { at ≤ END }
+    ensures some { IfSome result (IsEndInTheWay shop.now starts.now x at) }
+    ensures none { IfNone result ((y : ℕ) → y < count_steps shop.now → IsInTheWay shop.now starts.now x at y → ⊥) }
+{
+    'all: for y in 0..count(shop) {
+        if is_in_the_way(shop, starts, x, at, y) {
+            return Some(end_at(shop, starts, y));
+        }
+    }
+    None
+}
+
+// Whether step `x` can start earlier with all others where they are: from its release on it goes behind each step in the way.
+fn can_shift(shop: &Shop, starts: &[u64], x: u32) -> bool
+    requires step { x < count_steps shop.now }
+    requires shop { IsSmallShop shop.now }
+    requires limit { All (λ t. t ≤ END) starts.now }
+    requires feasible { IsFeasible (problem_of shop.now) starts.now }
+    ensures { IsTrue result ↔ HasShift (problem_of shop.now) starts.now x }
+{
+    let start = starts[x as usize];
+    let mut at = release_of(shop, starts, x);
+    'later: while at < start {
+        match end_in_the_way(shop, starts, x, at) {
+            Some(end) => at = end,
+            None => return true,
+        }
+    }
+    false
+}
+
+// The first step that can start earlier with all others where they are.
+pub(super) fn first_shift(shop: &Shop, starts: &[u64]) -> Option<u32>
+    requires limit { All (λ t. t ≤ END) starts.now }
+    requires feasible { IsFeasible (problem_of shop.now) starts.now }
+    ensures { IsShiftAnswer (problem_of shop.now) starts.now result }
+{
+    'all: for x in 0..count(shop) {
+        if can_shift(shop, starts, x) {
+            return Some(x + 1);
+        }
+    }
+    None
+}
