@@ -19,3 +19,6 @@ pub use laws::{
 pub use rule::ShopRule;
 pub use shop::Shop;
 pub use tree::ShopTree;
+
+#[cfg(test)]
+mod tests;

@@ -1,0 +1,121 @@
+//! Worked examples of small job shops.
+
+use crate::{Shop, ShopFault, ShopRule, ShopTree, giffler};
+use plan_orlib::{ShopDoc, read_shop};
+use std::alloc::Global;
+use std::process::Abort;
+use std::test::Fail;
+
+fn doc_of(rt: &impl Abort, alloc: Global, text: &str) -> ShopDoc {
+    match read_shop(alloc, text.as_bytes(), b"-") {
+        Ok(doc) => doc,
+        Err(_) => panic!(rt; "the shop isn't read"),
+    }
+}
+
+fn rule_of(rt: &impl Abort, word: &str) -> ShopRule {
+    match ShopRule::parse(word) {
+        Ok(rule) => rule,
+        Err(_) => panic!(rt; "{word} is no rule"),
+    }
+}
+
+// Two jobs on two machines, with the starts in flat order and the makespan of each rule.
+const BY_RULE: [(&str, &str, [u64; 4], u64); 7] = [
+    ("2 2\n0 3 1 2\n0 2 1 4\n", "spt", [2, 5, 0, 7], 11),
+    ("2 2\n0 3 1 2\n0 2 1 4\n", "mwkr", [2, 6, 0, 2], 8),
+    ("2 2\n0 3 1 2\n0 2 1 4\n", "fcfs", [0, 3, 3, 5], 9),
+    ("2 2\n0 4 1 1\n0 1 1 3\n", "mwkr", [0, 4, 4, 5], 8),
+    ("2 2\n0 4 1 2\n1 1 0 0\n", "spt", [0, 4, 0, 1], 6),
+    ("2 2\n0 4 1 2\n1 1 0 0\n", "mwkr", [0, 4, 0, 1], 6),
+    ("2 2\n0 4 1 2\n1 1 0 0\n", "fcfs", [0, 4, 0, 1], 6),
+];
+
+#[test]
+fn places_by_each_rule(rt: HostRuntime) -> Result<(), Fail> {
+    for (text, word, starts, makespan) in BY_RULE {
+        let doc = doc_of(&rt, rt.alloc(), text);
+        if doc.machines() == 2 {
+            let shop = Shop::of_doc(rt.alloc(), &doc, &[true, true])?;
+            let found = giffler(rt.alloc(), &shop, rule_of(&rt, word))?;
+            assert_eq!(rt;
+                found.starts.as_slice(),
+                starts.as_slice(),
+                "{word} of {text}"
+            );
+            assert_eq!(rt; found.makespan, makespan, "{word} of {text}");
+        }
+    }
+    assert!(rt; matches!(ShopRule::parse("zzz"), Err(ShopFault::UnknownRule)));
+    Ok(())
+}
+
+#[test]
+fn refuses_closed_machines_in_use(rt: HostRuntime) -> Result<(), Fail> {
+    let doc = doc_of(&rt, rt.alloc(), "1 2\n0 0 1 2\n");
+    if doc.machines() == 2 {
+        let shop = Shop::of_doc(rt.alloc(), &doc, &[false, true])?;
+        for word in ["spt", "mwkr", "fcfs"] {
+            let found = giffler(rt.alloc(), &shop, rule_of(&rt, word))?;
+            assert_eq!(rt; found.starts.as_slice(), [0, 0].as_slice(), "{word}");
+            assert_eq!(rt; found.makespan, 2, "{word}");
+        }
+        let refused = Shop::of_doc(rt.alloc(), &doc, &[true, false]);
+        assert!(rt; matches!(refused, Err(ShopFault::MachineClosed(1))));
+    }
+    let doc = doc_of(&rt, rt.alloc(), "2 2\n0 3 1 2\n0 2 1 4\n");
+    if doc.machines() == 2 {
+        let refused = Shop::of_doc(rt.alloc(), &doc, &[false, false]);
+        assert!(rt; matches!(refused, Err(ShopFault::MachineClosed(0))));
+    }
+    Ok(())
+}
+
+// A shop, a word, the letters that may follow and the bound.
+const AT_WORDS: [(&str, &[u32], &[u32], u64); 8] = [
+    ("2 2\n0 3 1 2\n0 2 1 4\n", &[], &[1, 2], 8),
+    ("2 2\n0 4 1 1\n0 1 1 3\n", &[2, 2, 1, 1], &[], 6),
+    ("2 2\n0 4 1 2\n1 1 0 0\n", &[], &[2], 6),
+    ("2 2\n0 4 1 2\n1 1 0 0\n", &[2], &[2], 6),
+    ("2 2\n0 4 1 2\n1 1 0 0\n", &[2, 2], &[1], 6),
+    ("2 2\n0 2 1 1\n1 2 0 1\n", &[1], &[2], 3),
+    ("3 2\n0 1 1 1\n0 9 1 1\n1 2 0 0\n", &[], &[1, 2], 11),
+    ("3 2\n0 1 1 1\n0 9 1 1\n1 2 0 0\n", &[2, 3], &[3], 11),
+];
+
+// Goes along a word, where each letter may follow.
+fn go_along(
+    rt: &impl Abort,
+    alloc: Global,
+    tree: &mut ShopTree<'_>,
+    word: &[u32],
+) -> Result<(), Fail> {
+    for letter in word {
+        let mut letters = Vec::new(alloc);
+        tree.letters(&mut letters)?;
+        if letters.contains(letter) {
+            tree.push(*letter)?;
+        } else {
+            panic!(rt; "{letter} may not follow");
+        }
+    }
+    Ok(())
+}
+
+#[test]
+fn stands_at_each_word(rt: HostRuntime) -> Result<(), Fail> {
+    for (text, word, letters, bound) in AT_WORDS {
+        let doc = doc_of(&rt, rt.alloc(), text);
+        if doc.machines() == 2 {
+            let shop = Shop::of_doc(rt.alloc(), &doc, &[true, true])?;
+            let mut tree = ShopTree::new(rt.alloc(), &shop)?;
+            go_along(&rt, rt.alloc(), &mut tree, word)?;
+            let mut found = Vec::new(rt.alloc());
+            tree.letters(&mut found)?;
+            assert_eq!(rt; found.as_slice(), letters, "{text} at {word:?}");
+            assert_eq!(rt; tree.bound(), bound, "{text} at {word:?}");
+            assert_eq!(rt; tree.full(), letters.is_empty(), "{text} at {word:?}");
+        }
+    }
+    Ok(())
+}
