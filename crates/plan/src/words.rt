@@ -6,26 +6,44 @@ use std::alloc::{AllocError, Global};
 
 // What follows the help.
 const EXAMPLES: &str =
-    "Examples:\n  plan cpm examples/house.sm\n  plan schedule lft examples/house.sm\n\nA command that fails prints one line; docs/FAULTS.md tells what it means and what to do.";
+    "Examples:\n  plan cpm examples/house.sm\n  plan schedule lft examples/house.sm\n  plan shop mwkr examples/shops.txt ft06\n\nA command that fails prints one line; docs/FAULTS.md tells what it means and what to do.";
 
 // The word for a file.
 fn file<'a>(alloc: Global) -> Arg<'a> {
     Arg::new(alloc, "FILE")
         .required(true)
-        .help("an .sm file, or - for standard input")
+        .help("a file, or - for standard input")
 }
 
-// `plan schedule`: a rule may begin with a hyphen, and is then told to be unknown.
-fn schedule<'a>(alloc: Global) -> Result<Command<'a>, AllocError> {
-    let rule = Arg::new(alloc, "RULE")
+// The word for a rule, which may begin with a hyphen and is then told to be unknown.
+fn rule<'a>(alloc: Global, names: &'a str) -> Arg<'a> {
+    Arg::new(alloc, "RULE")
         .required(true)
         .allow_hyphen_values(true)
-        .help("lft, slk, spt, mts or num");
+        .help(names)
+}
+
+// `plan schedule`.
+fn schedule<'a>(alloc: Global) -> Result<Command<'a>, AllocError> {
     Command::new(alloc, "schedule")
         .about("Prints the schedule of a project by a priority rule")
         .after_help("Example:\n  plan schedule lft examples/house.sm")
-        .arg(rule)?
+        .arg(rule(alloc, "lft, slk, spt, mts or num"))?
         .arg(file(alloc))
+}
+
+// `plan shop`: an instance may have the name `-`.
+fn shop<'a>(alloc: Global) -> Result<Command<'a>, AllocError> {
+    let instance = Arg::new(alloc, "INSTANCE")
+        .required(true)
+        .allow_hyphen_values(true)
+        .help("the name of an instance of the file, or - in a file without names");
+    Command::new(alloc, "shop")
+        .about("Prints the schedule of a job shop by a priority rule")
+        .after_help("Example:\n  plan shop mwkr examples/shops.txt ft06")
+        .arg(rule(alloc, "spt, mwkr or fcfs"))?
+        .arg(file(alloc))?
+        .arg(instance)
 }
 
 /// The command line.
@@ -36,11 +54,12 @@ pub fn command<'a>(alloc: Global) -> Result<Command<'a>, AllocError> {
         .arg(file(alloc))?;
     Command::new(alloc, "plan")
         .version("0.1.0")
-        .about("Plans projects")
+        .about("Plans projects and job shops")
         .after_help(EXAMPLES)
         .subcommand_required(true)
         .subcommand(cpm)?
-        .subcommand(schedule(alloc)?)
+        .subcommand(schedule(alloc)?)?
+        .subcommand(shop(alloc)?)
 }
 
 /// The task that the words ask for, and the name of its file. The parse saw that a command stands there with what it requires.
@@ -50,6 +69,10 @@ pub fn task_of<'a>(matches: &'a ArgMatches<'_>) -> Option<(Task<'a>, &'a str)> {
         "cpm" => Task::Dates,
         "schedule" => Task::Schedule {
             rule: inner.get_str("RULE")?,
+        },
+        "shop" => Task::Shop {
+            rule: inner.get_str("RULE")?,
+            instance: inner.get_str("INSTANCE")?,
         },
         _ => return None,
     };

@@ -5,12 +5,17 @@ use Rattle.std.specs.Io.KnownBytes.{Consumes}
 use Rattle.std.proofs.lemmas.Bool.{lt-leb, cases_lt}
 use Rattle.std.proofs.lemmas.List.{length-take, take_all}
 use Rattle.plan_psplib.specs.declared.fault.FileCode.TheVariants as code
+use Rattle.plan_psplib.specs.declared.fault.Fault.{Fault}
 use Rattle.plan_psplib.specs.declared.fault.FileFault.{FileFault}
 use Rattle.plan_psplib.specs.Faults.{IsWantOfMemory}
 use Rattle.plan_psplib.specs.Document.{Document, longest_text, document, plain}
 use Rattle.plan_psplib.specs.Reading.{fault}
 use Rattle.plan_psplib.specs.Says.{Says}
 use Rattle.plan_psplib.specs.Project.{Project, IsFirstFailing}
+use Rattle.plan_orlib.specs.Shop as docs
+use Rattle.plan_orlib.specs.Says.{Says as ShopSays}
+use Rattle.plan_orlib.specs.Reading as reading
+use Rattle.plan_cli.specs.ShopRun.{IsShopTableOf, TellsWhyNoShop}
 use Rattle.plan_cli.specs.ScheduleRun.{IsScheduleTableOf, TellsWhyNoSchedule}
 use Rattle.plan_cli.specs.declared.fault.CliFault.{CliFault}
 use Rattle.plan_cli.specs.declared.fault.CliFault.TheVariants as cli
@@ -125,3 +130,62 @@ schedule_front name file text (p, says, table) = (p, project_front file p says, 
 pub why_front : (name : List ℕ) → HoldsByFront (TellsWhyNoSchedule name)
 why_front name file line (inl first) = inl (line_front file line first)
 why_front name file line (inr (p, says, tells)) = inr (p, project_front file p says, tells)
+
+-- a shop file that is too long fails its first check
+long_shop : (instance file : List ℕ) → longest_text < length file → reading.shop instance file ≡ fault code.TooLong 0
+unfolding reading.shop plain
+long_shop instance file long = rw (lt-leb (length file) longest_text long)
+
+-- the front of a shop file fails the checks that the file fails
+front_shop : (instance file : List ℕ) → reading.shop instance (take (longest_text + 1) file) ≡ reading.shop instance file
+front_shop instance file = by_length (cases_lt longest_text (length file))
+  where
+    by_length : (longest_text < length file) ⊎ (length file ≤ longest_text) → reading.shop instance (take (longest_text + 1) file) ≡ reading.shop instance file
+    by_length (inr short) = ap (reading.shop instance) (take_all (longest_text + 1) file (omega (arith, short)))
+    by_length (inl long) =
+        let m = length-take (longest_text + 1) file in
+        long_shop instance (take (longest_text + 1) file) (omega (arith, m, long)) ∙ sym (long_shop instance file long)
+
+-- a text that is too long isn't read
+long_plain : (text : List ℕ) → longest_text < length text → plain text ≡ fault code.TooLong 0
+unfolding plain
+long_plain text long = rw (lt-leb (length text) longest_text long)
+
+-- a reading that succeeded
+abbrev pub IsGood : Result (Unit {0}) Fault → Type 0
+IsGood (Ok u) = Unit {0}
+IsGood (Err e) = ⊥
+
+-- a text that is read isn't too long
+plain_short : (text : List ℕ) → plain text ≡ Ok tt → length text ≤ longest_text
+plain_short text readable = by_length (cases_lt longest_text (length text))
+  where
+    by_length : (longest_text < length text) ⊎ (length text ≤ longest_text) → length text ≤ longest_text
+    by_length (inr short) = short
+    by_length (inl long) = absurd (subst IsGood (sym readable ∙ long_plain text long) tt)
+
+-- the shop that the front of a file says the file says
+says_shop_front : (instance file : List ℕ) (doc : docs.Shop) → ShopSays instance (take (longest_text + 1) file) doc → ShopSays instance file doc
+says_shop_front instance file doc says = by_length (cases_lt longest_text (length file))
+  where
+    by_length : (longest_text < length file) ⊎ (length file ≤ longest_text) → ShopSays instance file doc
+    by_length (inr short) = subst (λ text. ShopSays instance text doc) (take_all (longest_text + 1) file (omega (arith, short))) says
+    by_length (inl long) =
+        let m = length-take (longest_text + 1) file in
+        let few = plain_short (take (longest_text + 1) file) says.readable in
+        absurd (omega (arith, m, few, long))
+
+pub shop_front : (name instance : List ℕ) → HoldsByFront (IsShopTableOf name instance)
+shop_front name instance file text (doc, says, table) = (doc, says_shop_front instance file doc says, table)
+
+pub no_shop_front : (name instance : List ℕ) → HoldsByFront (TellsWhyNoShop name instance)
+no_shop_front name instance file line (inl (first, (failing, none), e)) = inl (first, (sym (front_shop instance file) ∙ failing, none), e)
+no_shop_front name instance file line (inr (doc, says, tells)) = inr (doc, says_shop_front instance file doc says, tells)
+
+-- the fault of a shop file that is told
+pub told_no_shop : (name instance file : List ℕ) (first : FileFault) (e : CliFault) → IsWantOfMemory first ⊎ reading.FailsWith (reading.shop instance file) first → Tells first e → Refuses (TellsWhyNoShop name instance file) e
+told_no_shop name instance file first (cli.Refused line) (inl memory) t = absurd (t.0 memory.0)
+told_no_shop name instance file first (cli.Refused line) (inr failing) t = inl (first, failing, t.1)
+told_no_shop name instance file first cli.Memory w t = tt
+told_no_shop name instance file first cli.Input w t = absurd t
+told_no_shop name instance file first cli.Output w t = absurd t

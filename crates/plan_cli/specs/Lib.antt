@@ -1,6 +1,7 @@
 pub mod Faults
 pub mod Run
 pub mod ScheduleRun
+pub mod ShopRun
 pub mod Tasks
 pub use Rattle.plan_net.specs.Network
 pub use Rattle.plan_cpm.specs.Dates

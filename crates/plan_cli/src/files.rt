@@ -7,6 +7,7 @@ ghost use Rattle.plan_cli.specs.Tasks.{DoesTask};
 use crate::cpm::cpm_run;
 use crate::fault::CliFault;
 use crate::schedule::schedule_run;
+use crate::shop::shop_run;
 use plan_psplib::{Sink, Source, StdSource};
 use std::alloc::Global;
 use std::rt::Files;
@@ -19,6 +20,8 @@ pub enum Task<'a> {
     Dates,
     /// The schedule table of a project, by the rule of a name.
     Schedule { rule: &'a str },
+    /// The table of a job shop's schedule, by the rule of a name: that of an instance of the file.
+    Shop { rule: &'a str, instance: &'a str },
 }
 
 // Does a task on what a reader gives.
@@ -39,6 +42,7 @@ fn run_task<R: Source, W: Sink>(
     match task {
         Task::Dates => cpm_run(alloc, reader, writer),
         Task::Schedule { rule } => schedule_run(alloc, rule, reader, writer),
+        Task::Shop { rule, instance } => shop_run(alloc, rule, instance, reader, writer),
     }
 }
 

@@ -30,8 +30,8 @@ pub fn read_file<R: Source>(alloc: Global, reader: &mut R) -> Result<Vec<u8>, Cl
     }
 }
 
-// What a file's fault says for people.
-fn told(alloc: Global, fault: &FileFault) -> CliFault
+/// What a file's fault says for people.
+pub fn told(alloc: Global, fault: &FileFault) -> CliFault
     ensures { Tells fault.now result }
 {
     if fault.code == FileCode::Memory {

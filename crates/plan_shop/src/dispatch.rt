@@ -1,6 +1,7 @@
 //! Active schedules by priority rules.
 
-ghost use Rattle.std.specs.Prelude.{◌≡◌, IfOk, IfErr};
+ghost use Rattle.std.specs.Prelude.{◌≡◌, ◌≤◌, All, IfOk, IfErr};
+ghost use Rattle.plan_profile.specs.declared.profile.TheConstants.{END};
 ghost use Rattle.plan_sgs.specs.Problem.{IsActive, makespan};
 ghost use Rattle.plan_shop.specs.Laws.{placed_in};
 ghost use Rattle.plan_shop.specs.Names.{word_by};
@@ -17,13 +18,14 @@ use plan_sgs::Schedule;
 use std::alloc::{AllocError, Global};
 
 /// The active schedule of a rule: step after step is placed, each time the next step of the job that the rule chooses among those
-/// that may follow. Starts stand in flat order, in whole time units. Want of memory is its one error.
+/// that may follow. Starts stand in flat order, in whole time units; none is after 10,000,000. Want of memory is its one error.
 ///
 /// After B. Giffler and G. L. Thompson, "Algorithms for solving production-scheduling problems", Operations Research 8 (1960).
 pub fn giffler(alloc: Global, shop: &Shop, rule: ShopRule) -> Result<Schedule, ShopFault>
     ensures starts { IfOk result (λ s. s.starts.items ≡ starts_of shop.now (placed_in shop.now (word_by rule shop.now))) }
     ensures makespan { IfOk result (λ s. s.makespan ≡ makespan (problem_of shop.now) s.starts.items) }
     ensures active { IfOk result (λ s. IsActive (problem_of shop.now) s.starts.items) }
+    ensures within { IfOk result (λ s. All (λ t. t ≤ END) s.starts.items) }
     ensures err { IfErr result (λ fault. fault ≡ NoMemory) }
 {
     let tree = at_word_of(alloc, shop, rule)?;

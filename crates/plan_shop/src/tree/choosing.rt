@@ -1,6 +1,6 @@
 //! The letter that a rule chooses, and the starts of a full word.
 
-ghost use Rattle.std.specs.Prelude.{◌≡◌, ◌<◌, true, length, IfOk};
+ghost use Rattle.std.specs.Prelude.{◌≡◌, ◌≤◌, ◌<◌, All, true, length, IfOk};
 ghost use Rattle.plan_shop.specs.Names as names;
 ghost use Rattle.plan_shop.specs.Rules as rules;
 ghost use Rattle.plan_shop.specs.Words as words;
@@ -69,7 +69,8 @@ impl<'a> ShopTree<'a> {
     // The starts of a full word in flat order.
     pub(crate) fn starts(&self, alloc: Global) -> Result<Vec<u64>, AllocError>
         requires { words.is_full self.now.shop (spec.placed self.now) ≡ true }
-        ensures { IfOk result (λ starts. starts.items ≡ words.starts_of self.now.shop (spec.placed self.now)) }
+        ensures starts { IfOk result (λ starts. starts.items ≡ words.starts_of self.now.shop (spec.placed self.now)) }
+        ensures within { IfOk result (λ starts. All (λ t. t ≤ 10000000) starts.items) }
     {
         let mut starts = Vec::new(alloc);
         for i in 0..self.shop.jobs() * self.shop.machines() {

@@ -21,11 +21,11 @@ pub returns-clause-makespan : goal.returns-clause-makespan
 unfolding makespan_of
 returns-clause-makespan c =
     c.makespan.ensures ∙ ap (λ (t : Standing). makespan (problem_of t.shop) (starts_of t.shop (placed t))) c.in_ok-tree.ensures
-    ∙ ap (λ (xs : List ℕ). makespan (problem_of c.args.shop.now) xs) (sym (c.in_ok-starts.ensures ∙ ap (λ (t : Standing). starts_of t.shop (placed t)) c.in_ok-tree.ensures))
+    ∙ ap (λ (xs : List ℕ). makespan (problem_of c.args.shop.now) xs) (sym (c.in_ok-starts.ensures.starts ∙ ap (λ (t : Standing). starts_of t.shop (placed t)) c.in_ok-tree.ensures))
 
 pub returns-clause-active : goal.returns-clause-active
 returns-clause-active c =
     let h = held _ _ _ _ _ _ _ _ c.tree.view_is c.tree.invariant in
     let Q : List ℕ → Type 0 = λ xs. IsActive (problem_of c.args.shop.now) xs in
     let P : Standing → Type 0 = λ t. IsShop t.shop in
-    subst Q (sym (c.in_ok-starts.ensures ∙ ap (λ (t : Standing). starts_of t.shop (placed t)) c.in_ok-tree.ensures)) (word_by-active c.args.rule c.args.shop.now (subst P c.in_ok-tree.ensures h.small.shop))
+    subst Q (sym (c.in_ok-starts.ensures.starts ∙ ap (λ (t : Standing). starts_of t.shop (placed t)) c.in_ok-tree.ensures)) (word_by-active c.args.rule c.args.shop.now (subst P c.in_ok-tree.ensures h.small.shop))

@@ -1,0 +1,10 @@
+use Rattle.std.proofs.Common.{◌⊎◌, List, ℕ, subst}
+use Rattle.plan_psplib.specs.Faults.{IsWantOfMemory}
+use Rattle.plan_orlib.specs.Reading as reading
+use Rattle.plan_cli.proofs.RunLemmas.{told_no_shop}
+use Rattle.plan_cli.proofs.shop.shop_text.Goals as goal
+
+pub returns-in-Err-clause-refused : goal.returns-in-Err-clause-refused
+returns-in-Err-clause-refused c =
+    let failing = subst (λ (instance : List ℕ). IsWantOfMemory c.in-Err.fault ⊎ reading.FailsWith (reading.shop instance c.args.file.now) c.in-Err.fault) c.as_bytes.ensures.value c.in-Err.ensures.refused in
+    told_no_shop c.args.name.now c.args.instance.now c.args.file.now c.in-Err.fault c.told.result failing c.told.ensures

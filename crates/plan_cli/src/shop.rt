@@ -1,0 +1,111 @@
+//! `plan shop`: the table of a job shop's schedule by a priority rule.
+
+ghost use Rattle.std.specs.Prelude.{◌≡◌, ◌⊎◌, ◌+◌, ◌≤◌, IfOk, OnOk, IfErr, IfSome, IsErrOf, string_bytes};
+ghost use Rattle.plan_psplib.specs.Devices.{most_calls, HasFailed};
+ghost use Rattle.plan_cli.specs.Run.{ReadsFront, Refuses, Writes};
+ghost use Rattle.plan_shop.specs.Docs.{shop_of};
+ghost use Rattle.plan_cli.specs.ShopRun as spec;
+
+use crate::fault::CliFault;
+use crate::output::write_text;
+use crate::reading::{read_file, told as file_told};
+use plan_gantt::{shop_fault_text, shop_table};
+use plan_orlib::{ShopDoc, read_shop};
+use plan_psplib::{Sink, Source};
+use plan_shop::{Shop, ShopFault, ShopRule, giffler};
+use std::alloc::Global;
+
+// What a fault of a shop says for people.
+fn told(alloc: Global, fault: &ShopFault) -> CliFault
+    ensures { spec.TellsShop fault.now result }
+{
+    match shop_fault_text(alloc, fault) {
+        Ok(line) => CliFault::Refused(line),
+        Err(_) => CliFault::Memory,
+    }
+}
+
+// The shop that a file gives, all machines open.
+fn open_shop(alloc: Global, doc: &ShopDoc) -> Result<Shop, ShopFault>
+    ensures ok { IfOk result (λ shop. shop ≡ shop_of doc.now) }
+    ensures refused { IfErr result (spec.RefusesOpen doc.now) }
+{
+    let usable = vec![in alloc; true; doc.machines() as usize]?;
+    Shop::of_doc(alloc, doc, &usable)
+}
+
+// The table of a shop.
+fn table_by(alloc: Global, rule: ShopRule, shop: &Shop) -> Result<String, CliFault>
+    ensures made { IfOk result (λ text. spec.IsTableBy rule shop.now (string_bytes text)) }
+    ensures refused { IfErr result (λ e. e ≡ CliFault.Memory) }
+{
+    let Ok(schedule) = giffler(alloc, shop, rule) else {
+        return Err(CliFault::Memory);
+    };
+    match shop_table(alloc, shop, &schedule.starts, schedule.makespan) {
+        Ok(text) => Ok(text),
+        Err(_) => Err(CliFault::Memory),
+    }
+}
+
+// The table of a file's shop.
+fn doc_text(alloc: Global, name: &str, doc: &ShopDoc) -> Result<String, CliFault>
+    ensures made { IfOk result (λ text. spec.IsShopTextOf name.now doc.now (string_bytes text)) }
+    ensures refused { IfErr result (Refuses (spec.TellsShopRefusal name.now doc.now)) }
+{
+    let rule = match ShopRule::parse(name) {
+        Ok(rule) => rule,
+        Err(fault) => return Err(told(alloc, &fault)),
+    };
+    match open_shop(alloc, doc) {
+        Ok(shop) => table_by(alloc, rule, &shop),
+        Err(fault) => Err(told(alloc, &fault)),
+    }
+}
+
+// The table of an instance of a file.
+fn shop_text(alloc: Global, name: &str, instance: &str, file: &[u8]) -> Result<String, CliFault>
+    ensures made { IfOk result (λ text. spec.IsShopTableOf name.now instance.now file.now (string_bytes text)) }
+    ensures refused { IfErr result (Refuses (spec.TellsWhyNoShop name.now instance.now file.now)) }
+{
+    match read_shop(alloc, file, instance.as_bytes()) {
+        Ok(doc) => doc_text(alloc, name, &doc),
+        Err(fault) => Err(file_told(alloc, &fault)),
+    }
+}
+
+/// Reads a job shop file and writes the schedule of one of its instances by a priority rule, with all machines open. The rule is
+/// given by its name: `spt`, `mwkr` or `fcfs`; the instance by its name in the file, `-` for the one of a file without names.
+/// Nothing is written unless the text is whole, and a fault of the reader or of the writer is never tried again. The first fault is
+/// told: the file's, then `S3` (no rule has the name).
+pub fn shop_run<R: Source, W: Sink>(
+    alloc: Global,
+    rule: &str,
+    instance: &str,
+    reader: &mut R,
+    writer: &mut W,
+) -> Result<(), CliFault>
+    ensures reads { R.calls reader.new ≤ R.calls reader.old + most_calls }
+    ensures writes { W.calls writer.new ≤ W.calls writer.old + most_calls }
+    // The text for the file, or nothing and its first fault; a part of the text after a fault of the output.
+    ensures text { IfSome (R.remaining reader.old) (λ file. Writes (spec.IsShopTableOf rule.now instance.now file) (spec.TellsWhyNoShop rule.now instance.now file) (W.taken writer.old) (W.taken writer.new) result) }
+    // Unless memory runs out or the input fails, what is done is that for the bytes that were read, at most 1,048,577.
+    ensures front { ReadsFront (spec.IsShopTableOf rule.now instance.now) (spec.TellsWhyNoShop rule.now instance.now) (R.remaining reader.old) (R.remaining reader.new) (W.taken writer.old) (W.taken writer.new) result }
+    // Nothing is written with any other fault than that of the output.
+    ensures quiet { IfErr result (λ e. (e ≡ CliFault.Output) ⊎ (writer.new ≡ writer.old)) }
+    ensures fine { OnOk result ((R.faults reader.new ≡ R.faults reader.old) × (W.faults writer.new ≡ W.faults writer.old)) }
+    // A fault of the reader is told as such.
+    ensures heard { IfErr result (λ e. (e ≡ CliFault.Input) ⊎ (R.faults reader.new ≡ R.faults reader.old)) }
+    ensures input { IsErrOf result CliFault.Input → R.faults reader.new ≡ R.faults reader.old + 1 }
+    ensures output { IsErrOf result CliFault.Output →
+        HasFailed (W.calls writer.old) (W.calls writer.new) (W.faults writer.old) (W.faults writer.new) }
+{
+    let file = match read_file(alloc, reader) {
+        Ok(file) => file,
+        Err(fault) => return Err(fault),
+    };
+    match shop_text(alloc, rule, instance, &file) {
+        Ok(text) => write_text(writer, text.as_bytes()),
+        Err(fault) => Err(fault),
+    }
+}
