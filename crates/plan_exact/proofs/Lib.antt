@@ -5,3 +5,4 @@ pub mod StandingLemmas
 pub mod BestLemmas
 pub mod StepLemmas
 pub mod TableLemmas
+pub mod ShopTreeLemmas

@@ -4,3 +4,4 @@ pub mod Visited
 pub mod Answers
 pub mod Explored
 pub mod TableTree
+pub mod ShopTrees
