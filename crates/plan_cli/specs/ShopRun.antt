@@ -12,6 +12,7 @@ use Rattle.plan_shop.specs.Docs.{shop_of, flat_steps, RefusesSteps}
 use Rattle.plan_shop.specs.Names.{word_of, word_by, RefusesWord}
 use Rattle.plan_shop.specs.declared.rule.ShopRule.{ShopRule}
 use Rattle.plan_shop.specs.declared.fault.ShopFault.{ShopFault}
+use Rattle.plan_shop.specs.declared.fault.ShopFault.TheVariants as shops
 use Rattle.plan_gantt.specs.FaultText.{file_fault_text_of}
 use Rattle.plan_gantt.specs.ShopTable.{shop_table_text}
 use Rattle.plan_gantt.specs.ShopFaultText.{shop_fault_text_of}
@@ -49,7 +50,7 @@ RefusesShop name doc first = RefusesWord name first ⊎ RefusesOpen doc first
 
 -- a line tells what a shop is refused for
 abbrev pub TellsShopRefusal : List ℕ → docs.Shop → List ℕ → Type 0
-TellsShopRefusal name doc line = (first : ShopFault) × RefusesShop name doc first × (line ≡ shop_fault_text_of first)
+TellsShopRefusal name doc line = (first : ShopFault) × (first ≡ shops.NoMemory → ⊥) × RefusesShop name doc first × (line ≡ shop_fault_text_of first)
 
 -- a line tells the first check that a file fails, or else what its shop is refused for
 abbrev pub TellsWhyNoShop : List ℕ → List ℕ → List ℕ → List ℕ → Type 0
@@ -58,7 +59,7 @@ TellsWhyNoShop name instance file line = TellsFirstShopFault instance file line
 
 -- a fault of a shop is told by its line, or memory ran out
 abbrev pub TellsShop : ShopFault → CliFault → Type 0
-TellsShop first (fault.Refused line) = string_bytes line ≡ shop_fault_text_of first
+TellsShop first (fault.Refused line) = (first ≡ shops.NoMemory → ⊥) × (string_bytes line ≡ shop_fault_text_of first)
 TellsShop first fault.Memory = Unit {0}
 TellsShop first fault.Input = ⊥
 TellsShop first fault.Output = ⊥

@@ -19,6 +19,9 @@ use std::alloc::Global;
 fn told(alloc: Global, fault: &ShopFault) -> CliFault
     ensures { spec.TellsShop fault.now result }
 {
+    if matches!(fault, ShopFault::NoMemory) {
+        return CliFault::Memory;
+    }
     match shop_fault_text(alloc, fault) {
         Ok(line) => CliFault::Refused(line),
         Err(_) => CliFault::Memory,
