@@ -14,15 +14,14 @@ use Rattle.plan_psplib.specs.Faults.{IsWantOfMemory, TellsError}
 use Rattle.plan_psplib.specs.Lines.{NumberedLine, last_line, lines}
 use Rattle.plan_psplib.specs.Numbers.{number}
 use Rattle.plan_psplib.specs.Streams.{LineWord, Stream}
-use Rattle.plan_psplib.specs.Reading.{◌>>=◌, Fails, fault, check, as_number, number_of_words, number_at}
-use Rattle.plan_psplib.specs.Head.{limited}
+use Rattle.plan_psplib.specs.Reading.{◌>>=◌, Fails, fault, check, as_number, number_of_words, number_at, limited, limited_at}
 use Rattle.plan_psplib.specs.Requests.{greatest, greatest_total, duration_at}
 use Rattle.plan_psplib.specs.Document.{longest_text, zero_line, no_zero, plain}
 use Rattle.plan_psplib.proofs.GoesLemmas.{then_ok}
 use Rattle.plan_orlib.specs.declared.steps.Step.{Step}
 use Rattle.plan_orlib.specs.Instances.{instance_name, is_name, block, block_from, is_bare, bare_name, bare_stream, stream_of, names_of}
 use Rattle.plan_orlib.specs.Shop.{Shop, most_jobs, most_machines, time_of, total_time}
-use Rattle.plan_orlib.specs.Reading.{size_at, machine_at, step_at, steps_at, jobs_at, shop_at, found_stream, shop}
+use Rattle.plan_orlib.specs.Reading.{machine_at, step_at, steps_at, jobs_at, shop_at, found_stream, shop}
 use Rattle.plan_orlib.proofs.TextLemmas.{stream_is}
 
 abbrev all_names : List NumberedLine → List (List ℕ)
@@ -135,11 +134,11 @@ avoids_number s = by_words s.last s.words
     by_words last [] = avoids_fault code.Count last (λ e. absurd (cc))
     by_words last (word ∷ others) = by_number word (number word.text) (record { last = word.line; words = others })
 
-avoids_size : (most : ℕ) (s : Stream) → Avoids (size_at most s)
-unfolding size_at limited
-avoids_size most s =
+avoids_limited : (least most : ℕ) (s : Stream) → Avoids (limited_at least most s)
+unfolding limited_at limited
+avoids_limited least most s =
     avoids_then (number_at s) _ (avoids_number s) (λ n.
-    avoids_then (limited 1 most n.0) _ (avoids_then (check (nat_le 1 n.0.value && nat_le n.0.value most) code.Limit n.0.line) _ (avoids_check _ code.Limit n.0.line (λ e. absurd (cc))) (λ u. avoids_ok n.0.value)) (λ size.
+    avoids_then (limited least most n.0) _ (avoids_then (check (nat_le least n.0.value && nat_le n.0.value most) code.Limit n.0.line) _ (avoids_check _ code.Limit n.0.line (λ e. absurd (cc))) (λ u. avoids_ok n.0.value)) (λ value.
     avoids_ok _))
 
 avoids_step : (machines total : ℕ) (s : Stream) → Avoids (step_at machines total s)
@@ -162,8 +161,8 @@ avoids_jobs machines (suc more) before s = avoids_then (steps_at machines (total
 avoids_shop : (s : Stream) → Avoids (shop_at s)
 unfolding shop_at
 avoids_shop s =
-    avoids_then (size_at most_jobs s) _ (avoids_size most_jobs s) (λ jobs.
-    avoids_then (size_at most_machines jobs.1) _ (avoids_size most_machines jobs.1) (λ machines.
+    avoids_then (limited_at 1 most_jobs s) _ (avoids_limited 1 most_jobs s) (λ jobs.
+    avoids_then (limited_at 1 most_machines jobs.1) _ (avoids_limited 1 most_machines jobs.1) (λ machines.
     avoids_then (jobs_at machines.0 jobs.0 [] machines.1) _ (avoids_jobs machines.0 jobs.0 [] machines.1) (λ rows.
     avoids_ok _)))
 

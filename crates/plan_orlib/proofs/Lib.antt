@@ -1,5 +1,4 @@
 pub mod BlockLemmas
-pub mod NumberLemmas
 pub mod StepLemmas
 pub mod ShopLemmas
 pub mod NameLemmas

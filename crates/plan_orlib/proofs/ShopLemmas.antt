@@ -1,22 +1,22 @@
 -- Shops that streams begin with: what is read is spelled so, and what is spelled so is read.
-use Rattle.std.proofs.Common.{◌≡◌, ℕ, zero, suc, ◌+◌, ◌≤◌, ◌<◌, ◌&&◌, List, [], ◌∷◌, ◌++◌, Some, Ok, length, map, get_or, refl, sym, ap, ◌∙◌, subst, append_assoc, append-nil, arith}
-use Rattle.std.specs.Prelude.{nat_le, nat_lt, All}
+use Rattle.std.proofs.Common.{◌≡◌, ℕ, zero, suc, ◌+◌, ◌≤◌, ◌<◌, List, [], ◌∷◌, ◌++◌, Some, Ok, length, map, get_or, refl, sym, ap, ◌∙◌, subst, append_assoc, append-nil, arith}
+use Rattle.std.specs.Prelude.{nat_lt, All}
 use Rattle.std.specs.List.{AllByRecursion, flat_map}
-use Rattle.std.proofs.lemmas.Bool.{leb-true, le-leb, ltb-true, lt-ltb}
+use Rattle.std.proofs.lemmas.Bool.{ltb-true, lt-ltb}
 use Rattle.std.proofs.lemmas.List.{get_or-map, length-map}
 use Rattle.std.proofs.lemmas.List.Elements.{All-from_recursion, recursion_from_All}
 use Rattle.std.proofs.lemmas.List.Sums.{sum_by_push, sum_by-cons}
 use Rattle.plan_psplib.specs.declared.fault.FileCode.TheVariants as code
 use Rattle.plan_psplib.specs.Numbers.{number}
 use Rattle.plan_psplib.specs.Streams.{LineWord, Stream}
-use Rattle.plan_psplib.specs.Reading.{check, number_at}
+use Rattle.plan_psplib.specs.Reading.{check, number_at, limited_at}
 use Rattle.plan_psplib.specs.Says.{Spells}
-use Rattle.plan_psplib.specs.Head.{limited}
-use Rattle.plan_psplib.specs.Requests.{greatest, greatest_total, duration_at}
-use Rattle.plan_psplib.proofs.GoesLemmas.{Goes, goes_append, goes_split, then_ok, ok_bind, same_ok, check_ok, ok_check, both_true, true_both, between_true, true_between, number_goes, goes_number}
+use Rattle.plan_psplib.specs.Requests.{greatest_total, duration_at}
+use Rattle.plan_psplib.proofs.GoesLemmas.{Goes, goes_append, goes_split, then_ok, ok_bind, same_ok, check_ok, ok_check, number_goes, goes_number, limited_goes, goes_limited}
+use Rattle.plan_psplib.proofs.AmountsLemmas.{duration_goes, goes_duration}
 use Rattle.plan_orlib.specs.declared.steps.Step.{Step}
 use Rattle.plan_orlib.specs.Shop.{Shop, IsShop, IsStep, IsJob, most_jobs, most_machines, time_of, total_time}
-use Rattle.plan_orlib.specs.Reading.{size_at, machine_at, step_at, steps_at, jobs_at, shop_at}
+use Rattle.plan_orlib.specs.Reading.{machine_at, step_at, steps_at, jobs_at, shop_at}
 use Rattle.plan_orlib.specs.Says.{job_numbers, shop_numbers, BeginsWith}
 
 -- ---- words that begin with some numbers
@@ -41,27 +41,6 @@ begins_goes s (word ∷ words) rest (n ∷ ns) at e =
     let behind = begins_goes (record { last = word.line; words = words ++ rest }) words rest ns refl (same_rest (number word.text) (Some n) (map (λ w. number w.text) words) (map Some ns) e) in
     (behind.0, (word, words ++ rest, at, same_first (number word.text) (Some n) (map (λ w. number w.text) words) (map Some ns) e, behind.1))
 
--- ---- sizes
-
-size_goes : (most : ℕ) (s : Stream) (x : ℕ × Stream) → size_at most s ≡ Ok x → Goes s (x.0 ∷ []) x.1 × (1 ≤ x.0) × (x.0 ≤ most)
-unfolding size_at limited
-size_goes most s x e =
-    then_ok (number_at s) _ x e (λ n read e.
-    then_ok (limited 1 most n.0) _ x e (λ size is e.
-    then_ok (check (nat_le 1 n.0.value && nat_le n.0.value most) code.Limit n.0.line) _ size is (λ u holds is.
-    let fits = between_true 1 most n.0.value (check_ok _ code.Limit n.0.line u holds) in
-    let value : n.0.value ≡ size = same_ok n.0.value size is in
-    let P : ℕ × Stream → Type 0 = λ z. Goes s (z.0 ∷ []) z.1 × (1 ≤ z.0) × (z.0 ≤ most) in
-    let Q : ℕ → Type 0 = λ m. Goes s (m ∷ []) n.1 × (1 ≤ m) × (m ≤ most) in
-    subst P (same_ok (size, n.1) x e) (subst Q value (number_goes s n read, fits.0, fits.1)))))
-
-goes_size : (most n : ℕ) (s t : Stream) → Goes s (n ∷ []) t → 1 ≤ n → n ≤ most → size_at most s ≡ Ok (n, t)
-unfolding size_at limited
-goes_size most n s t p least fits =
-    ok_bind (number_at s) _ (record { value = n; line = t.last }, t) (n, t) (goes_number s t n p)
-    (ok_bind (limited 1 most (record { value = n; line = t.last })) _ n (n, t)
-    (ok_bind (check (nat_le 1 n && nat_le n most) code.Limit t.last) _ tt n (ok_check _ code.Limit t.last (true_between 1 most n least fits)) refl) refl)
-
 -- ---- steps
 
 machine_goes : (machines : ℕ) (s : Stream) (x : ℕ × Stream) → machine_at machines s ≡ Ok x → Goes s (x.0 ∷ []) x.1 × (x.0 < machines)
@@ -78,28 +57,13 @@ goes_machine machines n s t p below =
     ok_bind (number_at s) _ (record { value = n; line = t.last }, t) (n, t) (goes_number s t n p)
     (ok_bind (check (nat_lt n machines) code.BadMachine t.last) _ tt (n, t) (ok_check _ code.BadMachine t.last (lt-ltb n machines below)) refl)
 
-time_goes : (total : ℕ) (s : Stream) (x : ℕ × Stream) → duration_at total s ≡ Ok x → Goes s (x.0 ∷ []) x.1 × (x.0 ≤ greatest) × (total + x.0 ≤ greatest_total)
-unfolding duration_at
-time_goes total s x e =
-    then_ok (number_at s) _ x e (λ n read e.
-    then_ok (check (nat_le n.0.value greatest && nat_le (total + n.0.value) greatest_total) code.Limit n.0.line) _ x e (λ u holds e.
-    let both = both_true (nat_le n.0.value greatest) (nat_le (total + n.0.value) greatest_total) (check_ok _ code.Limit n.0.line u holds) in
-    let P : ℕ × Stream → Type 0 = λ z. Goes s (z.0 ∷ []) z.1 × (z.0 ≤ greatest) × (total + z.0 ≤ greatest_total) in
-    subst P (same_ok (n.0.value, n.1) x e) (number_goes s n read, leb-true n.0.value greatest both.0, leb-true (total + n.0.value) greatest_total both.1)))
-
-goes_time : (total n : ℕ) (s t : Stream) → Goes s (n ∷ []) t → n ≤ greatest → total + n ≤ greatest_total → duration_at total s ≡ Ok (n, t)
-unfolding duration_at
-goes_time total n s t p small fits =
-    ok_bind (number_at s) _ (record { value = n; line = t.last }, t) (n, t) (goes_number s t n p)
-    (ok_bind (check (nat_le n greatest && nat_le (total + n) greatest_total) code.Limit t.last) _ tt (n, t) (ok_check _ code.Limit t.last (true_both (nat_le n greatest) (nat_le (total + n) greatest_total) (le-leb n greatest small) (le-leb (total + n) greatest_total fits))) refl)
-
 step_goes : (machines total : ℕ) (s : Stream) (x : Step × Stream) → step_at machines total s ≡ Ok x → Goes s (x.0.machine ∷ x.0.time ∷ []) x.1 × IsStep machines x.0 × (total + x.0.time ≤ greatest_total)
 unfolding step_at
 step_goes machines total s x e =
     then_ok (machine_at machines s) _ x e (λ m first e.
     then_ok (duration_at total m.1) _ x e (λ p second e.
     let machine = machine_goes machines s m first in
-    let time = time_goes total m.1 p second in
+    let time = duration_goes total m.1 p second in
     let P : Step × Stream → Type 0 = λ z. Goes s (z.0.machine ∷ z.0.time ∷ []) z.1 × IsStep machines z.0 × (total + z.0.time ≤ greatest_total) in
     subst P (same_ok (record { machine = m.0; time = p.0 }, p.1) x e) (goes_append s m.1 p.1 (m.0 ∷ []) (p.0 ∷ []) machine.0 time.0, (machine.1, time.1), time.2)))
 
@@ -108,7 +72,7 @@ unfolding step_at
 goes_step machines total step s t p is fits =
     let a = goes_split s t (step.machine ∷ []) (step.time ∷ []) p in
     ok_bind (machine_at machines s) _ (step.machine, a.0) (step, t) (goes_machine machines step.machine s a.0 a.1 is.0)
-    (ok_bind (duration_at total a.0) _ (step.time, t) (step, t) (goes_time total step.time a.0 t a.2 is.1 fits) refl)
+    (ok_bind (duration_at total a.0) _ (step.time, t) (step, t) (goes_duration total step.time a.0 t a.2 is.1 fits) refl)
 
 -- ---- jobs
 
@@ -203,11 +167,11 @@ goes_jobs machines before (job ∷ jobs) s t p each fits =
 pub shop_spelled : (s : Stream) (d : Shop) → shop_at s ≡ Ok d → BeginsWith s.words (shop_numbers d) × IsShop d
 unfolding shop_at
 shop_spelled s d e =
-    then_ok (size_at most_jobs s) _ d e (λ n first e.
-    then_ok (size_at most_machines n.1) _ d e (λ m second e.
+    then_ok (limited_at 1 most_jobs s) _ d e (λ n first e.
+    then_ok (limited_at 1 most_machines n.1) _ d e (λ m second e.
     then_ok (jobs_at m.0 n.0 [] m.1) _ d e (λ x third e.
-    let jobs = size_goes most_jobs s n first in
-    let machines = size_goes most_machines n.1 m second in
+    let jobs = limited_goes 1 most_jobs s n first in
+    let machines = limited_goes 1 most_machines n.1 m second in
     let rows = jobs_goes m.0 n.0 [] m.1 x (omega arith) third in
     let are = rows.2 in
     let Counted : ℕ → Type 0 = λ k. Goes s (k ∷ []) n.1 × (1 ≤ k) × (k ≤ most_jobs) in
@@ -235,8 +199,8 @@ shop_read s d begins is =
     let a = goes_split s all.0 (length d.jobs ∷ []) (d.machines ∷ flat_map job_numbers d.jobs) all.1 in
     let b = goes_split a.0 all.0 (d.machines ∷ []) (flat_map job_numbers d.jobs) a.2 in
     let total = is.total in
-    ok_bind (size_at most_jobs s) _ (length d.jobs, a.0) d (goes_size most_jobs (length d.jobs) s a.0 a.1 is.jobs.0 is.jobs.1)
-    (ok_bind (size_at most_machines a.0) _ (d.machines, b.0) d (goes_size most_machines d.machines a.0 b.0 b.1 is.machines.0 is.machines.1)
+    ok_bind (limited_at 1 most_jobs s) _ (length d.jobs, a.0) d (goes_limited 1 most_jobs (length d.jobs) s a.0 a.1 is.jobs.0 is.jobs.1)
+    (ok_bind (limited_at 1 most_machines a.0) _ (d.machines, b.0) d (goes_limited 1 most_machines d.machines a.0 b.0 b.1 is.machines.0 is.machines.1)
     (ok_bind (jobs_at d.machines (length d.jobs) [] b.0) _ (d.jobs, all.0) d (goes_jobs d.machines [] d.jobs b.0 all.0 b.2 (recursion_from_All (IsJob d.machines) d.jobs is.steps) (omega (arith, total))) refl))
 
 -- what holds of all jobs holds of the one at k

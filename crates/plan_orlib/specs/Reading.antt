@@ -5,20 +5,12 @@ use Rattle.plan_psplib.specs.declared.fault.Fault.{Fault}
 use Rattle.plan_psplib.specs.declared.fault.FileFault.{FileFault}
 use Rattle.plan_psplib.specs.Lines.{last_line}
 use Rattle.plan_psplib.specs.Streams.{Stream}
-use Rattle.plan_psplib.specs.Reading.{◌>>=◌, fault, check, number_at}
-use Rattle.plan_psplib.specs.Head.{limited}
+use Rattle.plan_psplib.specs.Reading.{◌>>=◌, fault, check, number_at, limited_at}
 use Rattle.plan_psplib.specs.Requests.{duration_at}
 use Rattle.plan_psplib.specs.Document.{plain}
 use Rattle.plan_orlib.specs.declared.steps.Step.{Step}
 use Rattle.plan_orlib.specs.Instances.{stream_of, names_of}
 use Rattle.plan_orlib.specs.Shop.{Shop, most_jobs, most_machines, time_of, total_time}
-
--- the next word, which is to be a number from 1 to a greatest one
-unfoldable pub size_at : ℕ → Stream → Result (ℕ × Stream) Fault
-size_at most s = do
-  n ← number_at s
-  size ← limited 1 most n.0
-  Ok (size, n.1)
 
 -- the next word, which is to be the number of one of the machines, counted from 0
 unfoldable pub machine_at : ℕ → Stream → Result (ℕ × Stream) Fault
@@ -51,8 +43,8 @@ jobs_at machines (suc more) before s = do
 -- how many jobs, how many machines, and the steps; what stands behind the last step isn't read
 unfoldable pub shop_at : Stream → Result Shop Fault
 shop_at s = do
-  jobs ← size_at most_jobs s
-  machines ← size_at most_machines jobs.1
+  jobs ← limited_at 1 most_jobs s
+  machines ← limited_at 1 most_machines jobs.1
   rows ← jobs_at machines.0 jobs.0 [] machines.1
   Ok (record { machines = machines.0; jobs = rows.0 })
 

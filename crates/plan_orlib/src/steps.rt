@@ -2,11 +2,12 @@
 
 ghost use Rattle.std.specs.Prelude.{◌≡◌, ◌≤◌, ◌+◌, [], IfOk, map};
 ghost use Rattle.plan_psplib.specs.Reading.{Gives, Reads};
-ghost use Rattle.plan_psplib.specs.Requests.{duration_at};
 ghost use Rattle.plan_orlib.specs.Shop.{shop_of, time_of};
 ghost use Rattle.plan_orlib.specs.Reading as spec;
 
-use plan_psplib::{Fault, FileCode, Layout, ReadError, StreamWords, next_number};
+use plan_psplib::{
+    Fault, FileCode, Layout, ReadError, StreamWords, next_duration, next_limited, next_number,
+};
 use std::alloc::Global;
 
 // The most jobs and machines of a shop.
@@ -14,13 +15,8 @@ const MOST_JOBS: u32 = 50;
 
 const MOST_MACHINES: u32 = 20;
 
-// The greatest time of a step, and the greatest sum of all times.
-const GREATEST_TIME: u64 = 10_000;
-
-const GREATEST_TOTAL: u64 = 1_000_000;
-
 /// A step of a job: its machine, counted from 0, and for how many time units it takes it.
-#[derive(Clone, Copy, Debug, PartialEq, Eq)]
+#[derive(Clone, Copy, Debug, PartialEq, Eq, Hash)]
 pub struct Step {
     pub machine: u32,
     pub time: u64,
@@ -48,22 +44,10 @@ pub fn read_listing<L: Layout>(
 ) -> Result<Listing, ReadError>
     ensures { Gives shop_of result (spec.shop_at words.old) }
 {
-    let jobs = size(words, MOST_JOBS)?;
-    let machines = size(words, MOST_MACHINES)?;
+    let jobs = next_limited(words, 1, MOST_JOBS)?;
+    let machines = next_limited(words, 1, MOST_MACHINES)?;
     let jobs = all_jobs(alloc, words, jobs, machines)?;
     Ok(Listing { machines, jobs })
-}
-
-// A number from 1 to a greatest one.
-#[tactic(auto, unfolding(crate::specs::Reading::size_at), using(crate::proofs::NumberLemmas::limited_is))]
-fn size<L: Layout>(words: &mut StreamWords<'_, L>, most: u32) -> Result<u32, Fault>
-    ensures { Reads (λ n. (n, words.new)) result (spec.size_at most words.old) }
-{
-    let number = next_number(words)?;
-    match u32::try_from(number.value) {
-        Ok(n) if 1 <= n && n <= most => Ok(n),
-        _ => Err(Fault::new(FileCode::Limit, number.line)),
-    }
 }
 
 // The steps of all jobs.
@@ -119,7 +103,7 @@ fn next_step<L: Layout>(
     ensures fits { IfOk result (λ step. total + step.time ≤ 1000000) }
 {
     let machine = machine(words, machines)?;
-    let time = time(words, total)?;
+    let time = next_duration(words, total)?;
     Ok(Step { machine, time })
 }
 
@@ -133,18 +117,4 @@ fn machine<L: Layout>(words: &mut StreamWords<'_, L>, machines: u32) -> Result<u
         Ok(n) if n < machines => Ok(n),
         _ => Err(Fault::new(FileCode::BadMachine, number.line)),
     }
-}
-
-// A time, where the times before it add up to a total.
-#[tactic(auto, using(crate::proofs::NumberLemmas::duration_at_is))]
-fn time<L: Layout>(words: &mut StreamWords<'_, L>, total: u64) -> Result<u64, Fault>
-    requires { total ≤ 1000000 }
-    ensures exact { Reads (λ n. (n, words.new)) result (duration_at total words.old) }
-    ensures fits { IfOk result (λ n. total + n ≤ 1000000) }
-{
-    let time = next_number(words)?;
-    if time.value > GREATEST_TIME || total + time.value > GREATEST_TOTAL {
-        return Err(Fault::new(FileCode::Limit, time.line));
-    }
-    Ok(time.value)
 }

@@ -33,7 +33,7 @@ goes_amounts before (n ∷ ns) s t p are =
     ok_bind (within_at greatest s) _ (n, mid) (before ++ n ∷ ns, t) (goes_within greatest n s mid (p.0, p.1, p.2, p.3, refl) are.0)
     (goes_amounts (before ++ n ∷ []) ns mid t p.4 are.1 ∙ ap (λ (xs : List ℕ). Ok (xs, t)) (append_assoc before (n ∷ []) ns))
 
-duration_goes : (total : ℕ) (s : Stream) (x : ℕ × Stream) → duration_at total s ≡ Ok x → Goes s (x.0 ∷ []) x.1 × (x.0 ≤ greatest) × (total + x.0 ≤ greatest_total)
+pub duration_goes : (total : ℕ) (s : Stream) (x : ℕ × Stream) → duration_at total s ≡ Ok x → Goes s (x.0 ∷ []) x.1 × (x.0 ≤ greatest) × (total + x.0 ≤ greatest_total)
 unfolding duration_at
 duration_goes total s x e =
     then_ok (number_at s) _ x e (λ y read e.
@@ -42,7 +42,7 @@ duration_goes total s x e =
     let P : ℕ × Stream → Type 0 = λ z. Goes s (z.0 ∷ []) z.1 × (z.0 ≤ greatest) × (total + z.0 ≤ greatest_total) in
     subst P (same_ok (y.0.value, y.1) x e) (number_goes s y read, leb-true y.0.value greatest both.0, leb-true (total + y.0.value) greatest_total both.1)))
 
-goes_duration : (total d : ℕ) (s t : Stream) → Goes s (d ∷ []) t → d ≤ greatest → total + d ≤ greatest_total → duration_at total s ≡ Ok (d, t)
+pub goes_duration : (total d : ℕ) (s t : Stream) → Goes s (d ∷ []) t → d ≤ greatest → total + d ≤ greatest_total → duration_at total s ≡ Ok (d, t)
 unfolding duration_at
 goes_duration total d s t p small fits =
     ok_bind (number_at s) _ (record { value = d; line = t.last }, t) (d, t) (goes_number s t d p)

@@ -7,7 +7,7 @@ use Rattle.plan_psplib.specs.declared.fault.FileCode.TheVariants as code
 use Rattle.plan_psplib.specs.declared.fault.Fault.{Fault}
 use Rattle.plan_psplib.specs.Numbers.{number}
 use Rattle.plan_psplib.specs.Streams.{LineWord, Stream}
-use Rattle.plan_psplib.specs.Reading.{◌>>=◌, LineNumber, check, as_number, number_of_words, number_at, expect_at, within_at, end_of_words, end_at}
+use Rattle.plan_psplib.specs.Reading.{◌>>=◌, LineNumber, check, as_number, number_of_words, number_at, expect_at, within_at, limited, limited_at, end_of_words, end_at}
 use Rattle.plan_psplib.specs.Says.{Spells}
 
 -- what is read in two steps: both are read
@@ -131,6 +131,33 @@ unfolding within_at
 goes_within limit n s t p small =
     ok_bind (number_at s) _ (record { value = n; line = t.last }, t) (n, t) (goes_number s t n p)
     (ok_bind (check (nat_le n limit) code.Limit t.last) _ tt (n, t) (ok_check (nat_le n limit) code.Limit t.last (le-leb n limit small)) refl)
+
+pub limited_is : (least most : ℕ) (v : LineNumber) (n : ℕ) → limited least most v ≡ Ok n → (v.value ≡ n) × (least ≤ v.value) × (v.value ≤ most)
+unfolding limited
+limited_is least most v n e =
+    then_ok (check (nat_le least v.value && nat_le v.value most) code.Limit v.line) _ n e (λ u holds e.
+    let inside = between_true least most v.value (check_ok _ code.Limit v.line u holds) in
+    (same_ok v.value n e, inside.0, inside.1))
+
+pub is_limited : (least most : ℕ) (v : LineNumber) → least ≤ v.value → v.value ≤ most → limited least most v ≡ Ok v.value
+unfolding limited
+is_limited least most v low high = ok_bind (check (nat_le least v.value && nat_le v.value most) code.Limit v.line) _ tt v.value (ok_check _ code.Limit v.line (true_between least most v.value low high)) refl
+
+pub limited_goes : (least most : ℕ) (s : Stream) (x : ℕ × Stream) → limited_at least most s ≡ Ok x → Goes s (x.0 ∷ []) x.1 × (least ≤ x.0) × (x.0 ≤ most)
+unfolding limited_at
+limited_goes least most s x e =
+    then_ok (number_at s) _ x e (λ n read e.
+    then_ok (limited least most n.0) _ x e (λ m is e.
+    let inside = limited_is least most n.0 m is in
+    let P : ℕ × Stream → Type 0 = λ z. Goes s (z.0 ∷ []) z.1 × (least ≤ z.0) × (z.0 ≤ most) in
+    let Q : ℕ → Type 0 = λ k. Goes s (k ∷ []) n.1 × (least ≤ k) × (k ≤ most) in
+    subst P (same_ok (m, n.1) x e) (subst Q inside.0 (number_goes s n read, inside.1, inside.2))))
+
+pub goes_limited : (least most n : ℕ) (s t : Stream) → Goes s (n ∷ []) t → least ≤ n → n ≤ most → limited_at least most s ≡ Ok (n, t)
+unfolding limited_at
+goes_limited least most n s t p low high =
+    ok_bind (number_at s) _ (record { value = n; line = t.last }, t) (n, t) (goes_number s t n p)
+    (ok_bind (limited least most (record { value = n; line = t.last })) _ n (n, t) (is_limited least most (record { value = n; line = t.last }) low high) refl)
 
 pub end_none : (s : Stream) (u : Unit {0}) → end_at s ≡ Ok u → s.words ≡ []
 unfolding end_at

@@ -1,14 +1,13 @@
 -- The head: what is read is spelled so, and what is spelled so is read.
-use Rattle.std.proofs.Common.{◌≡◌, ℕ, ◌≤◌, ◌==◌, ◌&&◌, List, Option, Some, None, Ok, codes, refl, sym, ap, ◌∙◌, subst, arith}
-use Rattle.std.specs.Prelude.{nat_le}
+use Rattle.std.proofs.Common.{◌≡◌, ℕ, ◌≤◌, ◌==◌, List, Option, Some, None, Ok, codes, refl, sym, ap, ◌∙◌, subst, arith}
 use Rattle.std.proofs.lemmas.Bool.{eqb-true, eq-eqb}
 use Rattle.plan_psplib.specs.declared.fault.FileCode.TheVariants as code
 use Rattle.plan_psplib.specs.Lines.{NumberedLine}
 use Rattle.plan_psplib.specs.Numbers.{number}
 use Rattle.plan_psplib.specs.Sections.{key_line, value_word}
-use Rattle.plan_psplib.specs.Reading.{LineNumber, check}
-use Rattle.plan_psplib.specs.Head.{Keys, Sizes, key_lines, found_line, found_lines, value_of_word, value_of, key_value, values, supported, limited, sizes_in, sizes}
-use Rattle.plan_psplib.proofs.GoesLemmas.{then_ok, ok_bind, same_ok, check_ok, ok_check, between_true, true_between}
+use Rattle.plan_psplib.specs.Reading.{LineNumber, limited}
+use Rattle.plan_psplib.specs.Head.{Keys, Sizes, key_lines, found_line, found_lines, value_of_word, value_of, key_value, values, supported, sizes_in, sizes}
+use Rattle.plan_psplib.proofs.GoesLemmas.{then_ok, ok_bind, same_ok, check_ok, ok_check, limited_is, is_limited}
 
 found_is : (last : ℕ) (o : Option NumberedLine) (line : NumberedLine) → found_line last o ≡ Ok line → o ≡ Some line
 found_is last None line e = absurd (cc)
@@ -110,17 +109,6 @@ supported_is only v u e = eqb-true v.value only (check_ok (v.value == only) code
 
 is_supported : (only : ℕ) (v : LineNumber) → v.value ≡ only → supported only v ≡ Ok tt
 is_supported only v e = ok_check (v.value == only) code.Unsupported v.line (eq-eqb v.value only e)
-
-limited_is : (least most : ℕ) (v : LineNumber) (n : ℕ) → limited least most v ≡ Ok n → (v.value ≡ n) × (least ≤ v.value) × (v.value ≤ most)
-unfolding limited
-limited_is least most v n e =
-    then_ok (check (nat_le least v.value && nat_le v.value most) code.Limit v.line) _ n e (λ u holds e.
-    let inside = between_true least most v.value (check_ok _ code.Limit v.line u holds) in
-    (same_ok v.value n e, inside.0, inside.1))
-
-is_limited : (least most : ℕ) (v : LineNumber) → least ≤ v.value → v.value ≤ most → limited least most v ≡ Ok v.value
-unfolding limited
-is_limited least most v low high = ok_bind (check (nat_le least v.value && nat_le v.value most) code.Limit v.line) _ tt v.value (ok_check _ code.Limit v.line (true_between least most v.value low high)) refl
 
 -- the values are supported and within their limits, and these are the sizes among them
 record AreSizes (vs : Keys LineNumber) (z : Sizes) : Type 0 where

@@ -1,5 +1,5 @@
 -- What the head of an `.sm` text says (docs/DEFINITIONS.md, "Files").
-use Rattle.std.specs.Prelude.{ℕ, ◌==◌, ◌&&◌, List, Option, Some, None, Result, Ok, codes, nat_le}
+use Rattle.std.specs.Prelude.{ℕ, ◌==◌, List, Option, Some, None, Result, Ok, codes}
 use Rattle.plan_psplib.specs.declared.fault.FileCode.TheVariants as code
 use Rattle.plan_psplib.specs.declared.fault.Fault.{Fault}
 use Rattle.plan_psplib.specs.declared.lines.Line as declared
@@ -8,7 +8,7 @@ use Rattle.plan_psplib.specs.declared.head.Keys as declared_keys
 use Rattle.plan_psplib.specs.Lines.{NumberedLine}
 use Rattle.plan_psplib.specs.Numbers.{number}
 use Rattle.plan_psplib.specs.Sections.{key_line, value_word}
-use Rattle.plan_psplib.specs.Reading.{◌>>=◌, LineNumber, fault, check}
+use Rattle.plan_psplib.specs.Reading.{◌>>=◌, LineNumber, fault, check, limited}
 
 -- something for each of the five keys
 pub record Keys (A : Type 0) : Type 0 where
@@ -88,12 +88,6 @@ values lines = do
 -- the one value that is read
 abbrev pub supported : ℕ → LineNumber → Result (Unit {0}) Fault
 supported only v = check (v.value == only) code.Unsupported v.line
-
--- a value from a least to a greatest one
-unfoldable pub limited : ℕ → ℕ → LineNumber → Result ℕ Fault
-limited least most v = do
-  fits ← check (nat_le least v.value && nat_le v.value most) code.Limit v.line
-  Ok v.value
 
 -- one project, no nonrenewable and no doubly constrained resources, 2 to 502 jobs, 1 to 16 renewable resources
 unfoldable pub sizes_in : Keys LineNumber → Result Sizes Fault

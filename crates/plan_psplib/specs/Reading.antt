@@ -1,5 +1,5 @@
 -- Reading words from front to back, up to the first fault (docs/DEFINITIONS.md, "Files").
-use Rattle.std.specs.Prelude.{◌≡◌, ℕ, ◌==◌, Bool, if◌then◌else◌, List, [], ◌∷◌, Option, Some, None, Result, Ok, Err, nat_le}
+use Rattle.std.specs.Prelude.{◌≡◌, ℕ, ◌==◌, ◌&&◌, Bool, if◌then◌else◌, List, [], ◌∷◌, Option, Some, None, Result, Ok, Err, nat_le}
 use Rattle.plan_psplib.specs.declared.fault.FileCode.{FileCode}
 use Rattle.plan_psplib.specs.declared.fault.FileCode.TheVariants as code
 use Rattle.plan_psplib.specs.declared.fault.Fault.{Fault}
@@ -70,6 +70,19 @@ within_at limit s = do
   n ← number_at s
   small ← check (nat_le n.0.value limit) code.Limit n.0.line
   Ok (n.0.value, n.1)
+
+-- a value from a least to a greatest one
+unfoldable pub limited : ℕ → ℕ → LineNumber → Result ℕ Fault
+limited least most v = do
+  fits ← check (nat_le least v.value && nat_le v.value most) code.Limit v.line
+  Ok v.value
+
+-- the next word, which is to be a number from a least to a greatest one
+unfoldable pub limited_at : ℕ → ℕ → Stream → Result (ℕ × Stream) Fault
+limited_at least most s = do
+  n ← number_at s
+  value ← limited least most n.0
+  Ok (value, n.1)
 
 abbrev pub end_of_words : List LineWord → Result (Unit {0}) Fault
 end_of_words [] = Ok tt

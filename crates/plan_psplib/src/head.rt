@@ -11,7 +11,7 @@ ghost use Rattle.plan_psplib.specs.Noted.{noted};
 use crate::fault::{Fault, FileCode};
 use crate::lines::{Line, Lines};
 use crate::numbers::number;
-use crate::reading::LineNumber;
+use crate::reading::{LineNumber, limited};
 use crate::sections::Section;
 use crate::streams::next_row;
 use crate::words::Words;
@@ -173,17 +173,5 @@ fn supported(value: LineNumber, only: u64) -> Result<(), Fault>
         Ok(())
     } else {
         Err(Fault::new(FileCode::Unsupported, value.line))
-    }
-}
-
-// A value within its limits.
-#[tactic(auto, unfolding(crate::specs::Head::limited))]
-fn limited(value: LineNumber, least: u32, most: u32) -> Result<u32, Fault>
-    ensures exact { Reads (λ n. n) result (spec.limited least most (line_number value)) }
-    ensures most { IfOk result (λ n. n ≤ most) }
-{
-    match u32::try_from(value.value) {
-        Ok(n) if least <= n && n <= most => Ok(n),
-        _ => Err(Fault::new(FileCode::Limit, value.line)),
     }
 }

@@ -1,7 +1,8 @@
 //! Numbers of a stream, or the first fault.
 
 ghost use Rattle.std.specs.Prelude.{◌≡◌, IfOk, ◌≤◌};
-ghost use Rattle.plan_psplib.specs.Reading.{Reads, line_number, number_at, expect_at, within_at, end_at};
+ghost use Rattle.plan_psplib.specs.Reading as spec;
+ghost use Rattle.plan_psplib.specs.Reading.{Reads, line_number, number_at, expect_at, within_at, limited_at, end_at};
 
 use crate::fault::{Fault, FileCode};
 use crate::numbers::number;
@@ -58,6 +59,35 @@ pub fn within<L: Layout>(words: &mut StreamWords<'_, L>, limit: u64) -> Result<u
         return Err(Fault::new(FileCode::Limit, n.line));
     }
     Ok(n.value)
+}
+
+// A value from `least` to `most`: `Limit` where it is outside.
+#[tactic(auto, unfolding(crate::specs::Reading::limited))]
+pub fn limited(value: LineNumber, least: u32, most: u32) -> Result<u32, Fault>
+    ensures exact { Reads (λ n. n) result (spec.limited least most (line_number value)) }
+    ensures least { IfOk result (λ n. least ≤ n) }
+    ensures most { IfOk result (λ n. n ≤ most) }
+{
+    match u32::try_from(value.value) {
+        Ok(n) if least <= n && n <= most => Ok(n),
+        _ => Err(Fault::new(FileCode::Limit, value.line)),
+    }
+}
+
+/// The next word, which is to be a number from `least` to `most`, both included: `BadNumber` (F6) where it is no number, `Limit`
+/// (F10) where it is outside, each in its own line; `Count` (F9) where no word is left, in the line of the last word.
+#[tactic(auto, unfolding(crate::specs::Reading::limited_at))]
+pub fn next_limited<L: Layout>(
+    words: &mut StreamWords<'_, L>,
+    least: u32,
+    most: u32,
+) -> Result<u32, Fault>
+    ensures exact { Reads (λ n. (n, words.new)) result (limited_at least most words.old) }
+    ensures least { IfOk result (λ n. least ≤ n) }
+    ensures most { IfOk result (λ n. n ≤ most) }
+{
+    let number = next_number(words)?;
+    limited(number, least, most)
 }
 
 /// That no word is left: `Count` at the next word else.

@@ -7,7 +7,7 @@ ghost use Rattle.plan_psplib.specs.Requests as spec;
 use crate::fault::{Fault, FileCode, ReadError};
 use crate::reading::{end, expect, next_number, within};
 use crate::sections::Section;
-use crate::streams::StreamWords;
+use crate::streams::{Layout, StreamWords};
 use std::alloc::Global;
 
 /// The greatest duration, and the greatest amount of a resource.
@@ -96,14 +96,16 @@ fn request_row(
 {
     expect(words, u64::from(job), FileCode::JobOrder)?;
     expect(words, 1, FileCode::Modes)?;
-    let duration = duration(words, total)?;
+    let duration = next_duration(words, total)?;
     let needs = amounts(alloc, words, resources)?;
     Ok(Request { duration, needs })
 }
 
-// A duration, where those before it add up to a total.
+/// The next word, which is to be a duration in time units, where those before it add up to `total`: `BadNumber` (F6) where it is no
+/// number, `Limit` (F10) where it is above 10,000 or where all of them add up to more than 1,000,000 with it, each in its own line;
+/// `Count` (F9) where no word is left, in the line of the last word.
 #[tactic(auto, unfolding(crate::specs::Requests::duration_at))]
-fn duration(words: &mut StreamWords<'_, Section>, total: u64) -> Result<u64, Fault>
+pub fn next_duration<L: Layout>(words: &mut StreamWords<'_, L>, total: u64) -> Result<u64, Fault>
     requires { total ≤ 1000000 }
     ensures exact { Reads (λ n. (n, words.new)) result (spec.duration_at total words.old) }
     ensures fits { IfOk result (λ n. total + n ≤ 1000000) }
