@@ -6,7 +6,7 @@ use std::alloc::{AllocError, Global};
 
 // What follows the help.
 const EXAMPLES: &str =
-    "Examples:\n  plan cpm examples/house.sm\n  plan schedule lft examples/house.sm\n  plan shop mwkr examples/shops.txt ft06\n\nA command that fails prints one line; docs/FAULTS.md tells what it means and what to do.";
+    "Examples:\n  plan cpm examples/house.sm\n  plan schedule lft examples/house.sm\n  plan shop mwkr examples/shops.txt ft06\n  plan best 200000 examples/shops.txt ft06\n\nA command that fails prints one line; docs/FAULTS.md tells what it means and what to do.";
 
 // The word for a file.
 fn file<'a>(alloc: Global) -> Arg<'a> {
@@ -32,18 +32,38 @@ fn schedule<'a>(alloc: Global) -> Result<Command<'a>, AllocError> {
         .arg(file(alloc))
 }
 
-// `plan shop`: an instance may have the name `-`.
-fn shop<'a>(alloc: Global) -> Result<Command<'a>, AllocError> {
-    let instance = Arg::new(alloc, "INSTANCE")
+// The word for an instance, which may have the name `-`.
+fn instance<'a>(alloc: Global) -> Arg<'a> {
+    Arg::new(alloc, "INSTANCE")
         .required(true)
         .allow_hyphen_values(true)
-        .help("the name of an instance of the file, or - in a file without names");
+        .help("the name of an instance of the file, or - in a file without names")
+}
+
+// `plan shop`.
+fn shop<'a>(alloc: Global) -> Result<Command<'a>, AllocError> {
     Command::new(alloc, "shop")
         .about("Prints the schedule of a job shop by a priority rule")
         .after_help("Example:\n  plan shop mwkr examples/shops.txt ft06")
         .arg(rule(alloc, "spt, mwkr or fcfs"))?
         .arg(file(alloc))?
-        .arg(instance)
+        .arg(instance(alloc))
+}
+
+// `plan best`: a budget that begins with a hyphen is told to be none.
+fn best<'a>(alloc: Global) -> Result<Command<'a>, AllocError> {
+    let budget = Arg::new(alloc, "BUDGET")
+        .required(true)
+        .allow_hyphen_values(true)
+        .help("how many words the search may visit, 1 to 200000");
+    Command::new(alloc, "best")
+        .about(
+            "Prints the best schedule of a job shop that a search finds, and whether it is proved optimal",
+        )
+        .after_help("Example:\n  plan best 200000 examples/shops.txt ft06")
+        .arg(budget)?
+        .arg(file(alloc))?
+        .arg(instance(alloc))
 }
 
 /// The command line.
@@ -59,7 +79,8 @@ pub fn command<'a>(alloc: Global) -> Result<Command<'a>, AllocError> {
         .subcommand_required(true)
         .subcommand(cpm)?
         .subcommand(schedule(alloc)?)?
-        .subcommand(shop(alloc)?)
+        .subcommand(shop(alloc)?)?
+        .subcommand(best(alloc)?)
 }
 
 /// The task that the words ask for, and the name of its file. The parse saw that a command stands there with what it requires.
@@ -72,6 +93,10 @@ pub fn task_of<'a>(matches: &'a ArgMatches<'_>) -> Option<(Task<'a>, &'a str)> {
         },
         "shop" => Task::Shop {
             rule: inner.get_str("RULE")?,
+            instance: inner.get_str("INSTANCE")?,
+        },
+        "best" => Task::Best {
+            budget: inner.get_str("BUDGET")?,
             instance: inner.get_str("INSTANCE")?,
         },
         _ => return None,

@@ -15,7 +15,11 @@ use Rattle.plan_psplib.specs.Project.{Project, IsFirstFailing}
 use Rattle.plan_orlib.specs.Shop as docs
 use Rattle.plan_orlib.specs.Says.{Says as ShopSays}
 use Rattle.plan_orlib.specs.Reading as reading
-use Rattle.plan_cli.specs.ShopRun.{IsShopTableOf, TellsWhyNoShop}
+use Rattle.plan_cli.specs.ShopRun.{IsShopTableOf, TellsFirstShopFault, TellsWhyNoShop}
+use Rattle.plan_cli.specs.BestRun.{IsBestTableOf, TellsWhyNoBest}
+use Rattle.plan_cli.specs.Tasks.{IsTextOf, IsLineOf}
+use Rattle.plan_cli.specs.declared.tasks.Task.{Task}
+use Rattle.plan_cli.specs.declared.tasks.Task.TheVariants as task
 use Rattle.plan_cli.specs.ScheduleRun.{IsScheduleTableOf, TellsWhyNoSchedule}
 use Rattle.plan_cli.specs.declared.fault.CliFault.{CliFault}
 use Rattle.plan_cli.specs.declared.fault.CliFault.TheVariants as cli
@@ -67,10 +71,10 @@ HoldsByFront P = (file text : List ℕ) → P (take (longest_text + 1) file) tex
 pub project_front : (file : List ℕ) (p : Project) → SaysProject (take (longest_text + 1) file) p → SaysProject file p
 project_front file p (d, says, same, project) = (d, says_front file d says, same, project)
 
-pub table_front : HoldsByFront IsDateTableOf
+table_front : HoldsByFront IsDateTableOf
 table_front file text (p, dates, says, are, same) = (p, dates, project_front file p says, are, same)
 
-pub line_front : HoldsByFront TellsFirstFailing
+line_front : HoldsByFront TellsFirstFailing
 line_front file line (first, failing, e) = (first, failing_front file first failing, e)
 
 -- what is written for the front of a file is written for the file
@@ -124,10 +128,10 @@ judged_bytes IsText IsLine known rest taken after (Err cli.Memory) w = tt
 judged_bytes IsText IsLine known rest taken after (Err cli.Input) w = tt
 judged_bytes IsText IsLine known rest taken after (Err cli.Output) (front, short, e, used, does) = (front, short, tt, tt, does)
 
-pub schedule_front : (name : List ℕ) → HoldsByFront (IsScheduleTableOf name)
+schedule_front : (name : List ℕ) → HoldsByFront (IsScheduleTableOf name)
 schedule_front name file text (p, says, table) = (p, project_front file p says, table)
 
-pub why_front : (name : List ℕ) → HoldsByFront (TellsWhyNoSchedule name)
+why_front : (name : List ℕ) → HoldsByFront (TellsWhyNoSchedule name)
 why_front name file line (inl first) = inl (line_front file line first)
 why_front name file line (inr (p, says, tells)) = inr (p, project_front file p says, tells)
 
@@ -175,17 +179,48 @@ says_shop_front instance file doc says = by_length (cases_lt longest_text (lengt
         let few = plain_short (take (longest_text + 1) file) says.readable in
         absurd (omega (arith, m, few, long))
 
-pub shop_front : (name instance : List ℕ) → HoldsByFront (IsShopTableOf name instance)
+shop_front : (name instance : List ℕ) → HoldsByFront (IsShopTableOf name instance)
 shop_front name instance file text (doc, says, table) = (doc, says_shop_front instance file doc says, table)
 
-pub no_shop_front : (name instance : List ℕ) → HoldsByFront (TellsWhyNoShop name instance)
-no_shop_front name instance file line (inl (first, (failing, none), e)) = inl (first, (sym (front_shop instance file) ∙ failing, none), e)
+-- the fault that the front of a shop file fails by the file fails by
+first_front : (instance : List ℕ) → HoldsByFront (TellsFirstShopFault instance)
+first_front instance file line (first, (failing, none), e) = (first, (sym (front_shop instance file) ∙ failing, none), e)
+
+no_shop_front : (name instance : List ℕ) → HoldsByFront (TellsWhyNoShop name instance)
+no_shop_front name instance file line (inl first) = inl (first_front instance file line first)
 no_shop_front name instance file line (inr (doc, says, tells)) = inr (doc, says_shop_front instance file doc says, tells)
 
+best_front : (budget instance : List ℕ) → HoldsByFront (IsBestTableOf budget instance)
+best_front budget instance file text (doc, says, table) = (doc, says_shop_front instance file doc says, table)
+
+no_best_front : (budget instance : List ℕ) → HoldsByFront (TellsWhyNoBest budget instance)
+no_best_front budget instance file line (inl first) = inl (first_front instance file line first)
+no_best_front budget instance file line (inr (doc, says, tells)) = inr (doc, says_shop_front instance file doc says, tells)
+
 -- the fault of a shop file that is told
-pub told_no_shop : (name instance file : List ℕ) (first : FileFault) (e : CliFault) → IsWantOfMemory first ⊎ reading.FailsWith (reading.shop instance file) first → Tells first e → Refuses (TellsWhyNoShop name instance file) e
-told_no_shop name instance file first (cli.Refused line) (inl memory) t = absurd (t.0 memory.0)
-told_no_shop name instance file first (cli.Refused line) (inr failing) t = inl (first, failing, t.1)
-told_no_shop name instance file first cli.Memory w t = tt
-told_no_shop name instance file first cli.Input w t = absurd t
-told_no_shop name instance file first cli.Output w t = absurd t
+pub told_no_shop : (instance file : List ℕ) (first : FileFault) (e : CliFault) → IsWantOfMemory first ⊎ reading.FailsWith (reading.shop instance file) first → Tells first e → Refuses (TellsFirstShopFault instance file) e
+told_no_shop instance file first (cli.Refused line) (inl memory) t = absurd (t.0 memory.0)
+told_no_shop instance file first (cli.Refused line) (inr failing) t = (first, failing, t.1)
+told_no_shop instance file first cli.Memory w t = tt
+told_no_shop instance file first cli.Input w t = absurd t
+told_no_shop instance file first cli.Output w t = absurd t
+
+-- a refusal by one kind of line is one by another that has the same lines
+pub refuses_as : (IsLine IsOther : List ℕ → Type 0) (e : CliFault) → ((line : List ℕ) → IsLine line → IsOther line) → Refuses IsLine e → Refuses IsOther e
+refuses_as IsLine IsOther (cli.Refused line) same r = same (string_bytes line) r
+refuses_as IsLine IsOther cli.Memory same r = tt
+refuses_as IsLine IsOther cli.Input same r = absurd r
+refuses_as IsLine IsOther cli.Output same r = absurd r
+
+-- what a task makes of the front of a file it makes of the file
+pub task_front : (task : Task) → HoldsByFront (IsTextOf task)
+task_front task.Dates = table_front
+task_front (task.Schedule rule) = schedule_front rule.now
+task_front (task.Shop rule instance) = shop_front rule.now instance.now
+task_front (task.Best budget instance) = best_front budget.now instance.now
+
+pub task_line_front : (task : Task) → HoldsByFront (IsLineOf task)
+task_line_front task.Dates = line_front
+task_line_front (task.Schedule rule) = why_front rule.now
+task_line_front (task.Shop rule instance) = no_shop_front rule.now instance.now
+task_line_front (task.Best budget instance) = no_best_front budget.now instance.now

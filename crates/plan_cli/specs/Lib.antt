@@ -11,3 +11,4 @@ pub use Rattle.plan_psplib.specs.Project
 pub use Rattle.plan_psplib.specs.Says
 pub use Rattle.plan_gantt.specs.DateTable
 pub use Rattle.plan_gantt.specs.FaultText
+pub mod BestRun

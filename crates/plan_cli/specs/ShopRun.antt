@@ -1,5 +1,5 @@
 -- What `plan shop` writes for the bytes that it reads (docs/DEFINITIONS.md, "Runs").
-use Rattle.std.specs.Prelude.{◌≡◌, ◌⊎◌, ℕ, List, true, replicate, string_bytes}
+use Rattle.std.specs.Prelude.{◌≡◌, ◌⊎◌, ℕ, List, string_bytes}
 use Rattle.plan_psplib.specs.declared.fault.FileFault.{FileFault}
 use Rattle.plan_orlib.specs.Shop as docs
 use Rattle.plan_orlib.specs.Says.{Says}
@@ -8,7 +8,7 @@ use Rattle.plan_sgs.specs.Problem.{IsActive, makespan}
 use Rattle.plan_shop.specs.Shop.{JobShop, problem_of}
 use Rattle.plan_shop.specs.Words.{starts_of}
 use Rattle.plan_shop.specs.Laws.{placed_in}
-use Rattle.plan_shop.specs.Docs.{shop_of, flat_steps, RefusesSteps}
+use Rattle.plan_shop.specs.Docs.{shop_of}
 use Rattle.plan_shop.specs.Names.{word_of, word_by, RefusesWord}
 use Rattle.plan_shop.specs.declared.rule.ShopRule.{ShopRule}
 use Rattle.plan_shop.specs.declared.fault.ShopFault.{ShopFault}
@@ -40,22 +40,14 @@ IsShopTableOf name instance file text = (doc : docs.Shop) × Says instance file 
 abbrev pub TellsFirstShopFault : List ℕ → List ℕ → List ℕ → Type 0
 TellsFirstShopFault instance file line = (first : FileFault) × reading.FailsWith (reading.shop instance file) first × (line ≡ file_fault_text_of first)
 
--- what a file's shop with all machines open is refused for
-abbrev pub RefusesOpen : docs.Shop → ShopFault → Type 0
-RefusesOpen doc first = RefusesSteps (flat_steps doc.jobs) (replicate doc.machines true) first
+-- a line tells what a shop is refused for: with all machines open, only that no rule has the name
+abbrev pub TellsShopRefusal : List ℕ → List ℕ → Type 0
+TellsShopRefusal name line = (first : ShopFault) × RefusesWord name first × (line ≡ shop_fault_text_of first)
 
--- a shop with all machines open is refused since no rule has the name, or else for a closed machine
-abbrev pub RefusesShop : List ℕ → docs.Shop → ShopFault → Type 0
-RefusesShop name doc first = RefusesWord name first ⊎ RefusesOpen doc first
-
--- a line tells what a shop is refused for
-abbrev pub TellsShopRefusal : List ℕ → docs.Shop → List ℕ → Type 0
-TellsShopRefusal name doc line = (first : ShopFault) × (first ≡ shops.NoMemory → ⊥) × RefusesShop name doc first × (line ≡ shop_fault_text_of first)
-
--- a line tells the first check that a file fails, or else what its shop is refused for
+-- a line tells the first check that a file fails, or else that no rule has the name
 abbrev pub TellsWhyNoShop : List ℕ → List ℕ → List ℕ → List ℕ → Type 0
 TellsWhyNoShop name instance file line = TellsFirstShopFault instance file line
-    ⊎ ((doc : docs.Shop) × Says instance file doc × TellsShopRefusal name doc line)
+    ⊎ ((doc : docs.Shop) × Says instance file doc × TellsShopRefusal name line)
 
 -- a fault of a shop is told by its line, or memory ran out
 abbrev pub TellsShop : ShopFault → CliFault → Type 0

@@ -3,8 +3,9 @@ use Rattle.std.specs.Prelude.{ℕ, List, Option, None, Result}
 use Rattle.plan_cli.specs.Run.{IsDateTableOf, TellsFirstFailing, ReadsFront}
 use Rattle.plan_cli.specs.ScheduleRun.{IsScheduleTableOf, TellsWhyNoSchedule}
 use Rattle.plan_cli.specs.ShopRun.{IsShopTableOf, TellsWhyNoShop}
-use Rattle.plan_cli.specs.declared.files.Task.{Task}
-use Rattle.plan_cli.specs.declared.files.Task.TheVariants as task
+use Rattle.plan_cli.specs.BestRun.{IsBestTableOf, TellsWhyNoBest}
+use Rattle.plan_cli.specs.declared.tasks.Task.{Task}
+use Rattle.plan_cli.specs.declared.tasks.Task.TheVariants as task
 use Rattle.plan_cli.specs.declared.fault.CliFault.{CliFault}
 
 -- the texts that a task writes for a file
@@ -12,12 +13,14 @@ abbrev pub IsTextOf : Task → List ℕ → List ℕ → Type 0
 IsTextOf task.Dates = IsDateTableOf
 IsTextOf (task.Schedule rule) = IsScheduleTableOf rule.now
 IsTextOf (task.Shop rule instance) = IsShopTableOf rule.now instance.now
+IsTextOf (task.Best budget instance) = IsBestTableOf budget.now instance.now
 
 -- the lines that tell why a task refuses a file
 abbrev pub IsLineOf : Task → List ℕ → List ℕ → Type 0
 IsLineOf task.Dates = TellsFirstFailing
 IsLineOf (task.Schedule rule) = TellsWhyNoSchedule rule.now
 IsLineOf (task.Shop rule instance) = TellsWhyNoShop rule.now instance.now
+IsLineOf (task.Best budget instance) = TellsWhyNoBest budget.now instance.now
 
 -- a task judges some bytes that were read, unless the input failed or memory ran out
 abbrev pub DoesTask : Task → Option (List ℕ) → Option (List ℕ) → Result (Unit {0}) CliFault → Type 0

@@ -5,15 +5,16 @@ ghost use Rattle.plan_psplib.specs.Devices.{most_calls, HasFailed};
 ghost use Rattle.plan_cli.specs.Run.{IsDateTableOf, ReadsFront, Refuses, TellsFirstFailing, Writes};
 
 use crate::fault::CliFault;
-use crate::output::write_text;
-use crate::reading::{read_file, read_project};
+use crate::reading::read_project;
+use crate::running::run_task;
+use crate::tasks::Task;
 use plan_cpm::dates;
 use plan_gantt::date_table;
 use plan_psplib::{Sink, Source};
 use std::alloc::{AllocError, Global};
 
 // The date table of a file.
-fn date_text(alloc: Global, file: &[u8]) -> Result<String, CliFault>
+pub(crate) fn date_text(alloc: Global, file: &[u8]) -> Result<String, CliFault>
     ensures made { IfOk result (λ text. IsDateTableOf file.now (string_bytes text)) }
     ensures refused { IfErr result (Refuses (TellsFirstFailing file.now)) }
 {
@@ -49,14 +50,7 @@ pub fn cpm_run<R: Source, W: Sink>(
     ensures output { IsErrOf result CliFault.Output →
         HasFailed (W.calls writer.old) (W.calls writer.new) (W.faults writer.old) (W.faults writer.new) }
 {
-    let file = match read_file(alloc, reader) {
-        Ok(file) => file,
-        Err(fault) => return Err(fault),
-    };
-    match date_text(alloc, &file) {
-        Ok(text) => write_text(writer, text.as_bytes()),
-        Err(fault) => Err(fault),
-    }
+    run_task(alloc, Task::Dates, reader, writer)
 }
 
 #[cfg(test)]

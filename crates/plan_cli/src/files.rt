@@ -4,47 +4,12 @@ ghost use Rattle.std.specs.Prelude.{◌≡◌, ◌⊎◌, ◌+◌, ◌≤◌, If
 ghost use Rattle.plan_psplib.specs.Devices.{most_calls, HasFailed};
 ghost use Rattle.plan_cli.specs.Tasks.{DoesTask};
 
-use crate::cpm::cpm_run;
 use crate::fault::CliFault;
-use crate::schedule::schedule_run;
-use crate::shop::shop_run;
-use plan_psplib::{Sink, Source, StdSource};
-use std::alloc::Global;
+use crate::running::run_task;
+use crate::tasks::Task;
+use plan_psplib::{Sink, StdSource};
 use std::rt::Files;
 use std::{fs, io};
-
-/// What is made of a file.
-#[derive(Clone, Copy, Debug, Drop)]
-pub enum Task<'a> {
-    /// The date table of a project.
-    Dates,
-    /// The schedule table of a project, by the rule of a name.
-    Schedule { rule: &'a str },
-    /// The table of a job shop's schedule, by the rule of a name: that of an instance of the file.
-    Shop { rule: &'a str, instance: &'a str },
-}
-
-// Does a task on what a reader gives.
-fn run_task<R: Source, W: Sink>(
-    alloc: Global,
-    task: Task<'_>,
-    reader: &mut R,
-    writer: &mut W,
-) -> Result<(), CliFault>
-    // What is written is what the task makes of the bytes that were read.
-    ensures does { DoesTask task.entry (W.taken writer.old) (W.taken writer.new) result }
-    ensures writes { W.calls writer.new ≤ W.calls writer.old + most_calls }
-    ensures quiet { IfErr result (λ e. (e ≡ CliFault.Output) ⊎ (writer.new ≡ writer.old)) }
-    ensures fine { OnOk result (W.faults writer.new ≡ W.faults writer.old) }
-    ensures output { IsErrOf result CliFault.Output →
-        HasFailed (W.calls writer.old) (W.calls writer.new) (W.faults writer.old) (W.faults writer.new) }
-{
-    match task {
-        Task::Dates => cpm_run(alloc, reader, writer),
-        Task::Schedule { rule } => schedule_run(alloc, rule, reader, writer),
-        Task::Shop { rule, instance } => shop_run(alloc, rule, instance, reader, writer),
-    }
-}
 
 // Why a file can't be opened.
 fn open_fault(error: &io::Error) -> CliFault

@@ -6,8 +6,9 @@ ghost use Rattle.plan_cli.specs.Run.{ReadsFront, Refuses, Writes};
 ghost use Rattle.plan_cli.specs.ScheduleRun.{IsTableOf, IsScheduleTextOf, IsScheduleTableOf, TellsRefusal, TellsWhyNoSchedule, TellsSchedule};
 
 use crate::fault::CliFault;
-use crate::output::write_text;
-use crate::reading::{read_file, read_project};
+use crate::reading::read_project;
+use crate::running::run_task;
+use crate::tasks::Task;
 use plan_gantt::{schedule_fault_text, schedule_table};
 use plan_psplib::{ProjectDoc, Sink, Source};
 use plan_sgs::{Instance, Rule, SgsFault, serial};
@@ -58,7 +59,7 @@ fn project_text(alloc: Global, name: &str, project: &ProjectDoc) -> Result<Strin
 }
 
 // The schedule table of a file.
-fn schedule_text(alloc: Global, name: &str, file: &[u8]) -> Result<String, CliFault>
+pub(crate) fn schedule_text(alloc: Global, name: &str, file: &[u8]) -> Result<String, CliFault>
     ensures made { IfOk result (λ text. IsScheduleTableOf name.now file.now (string_bytes text)) }
     ensures refused { IfErr result (Refuses (TellsWhyNoSchedule name.now file.now)) }
 {
@@ -93,12 +94,5 @@ pub fn schedule_run<R: Source, W: Sink>(
     ensures output { IsErrOf result CliFault.Output →
         HasFailed (W.calls writer.old) (W.calls writer.new) (W.faults writer.old) (W.faults writer.new) }
 {
-    let file = match read_file(alloc, reader) {
-        Ok(file) => file,
-        Err(fault) => return Err(fault),
-    };
-    match schedule_text(alloc, rule, &file) {
-        Ok(text) => write_text(writer, text.as_bytes()),
-        Err(fault) => Err(fault),
-    }
+    run_task(alloc, Task::Schedule { rule }, reader, writer)
 }

@@ -3,12 +3,13 @@
 ghost use Rattle.std.specs.Prelude.{◌≡◌, ◌⊎◌, ◌+◌, ◌≤◌, IfOk, OnOk, IfErr, IfSome, IsErrOf, string_bytes};
 ghost use Rattle.plan_psplib.specs.Devices.{most_calls, HasFailed};
 ghost use Rattle.plan_cli.specs.Run.{ReadsFront, Refuses, Writes};
-ghost use Rattle.plan_shop.specs.Docs.{shop_of};
 ghost use Rattle.plan_cli.specs.ShopRun as spec;
 
 use crate::fault::CliFault;
-use crate::output::write_text;
-use crate::reading::{read_file, told as file_told};
+use crate::opening::open_shop;
+use crate::reading::told as file_told;
+use crate::running::run_task;
+use crate::tasks::Task;
 use plan_gantt::{shop_fault_text, shop_table};
 use plan_orlib::{ShopDoc, read_shop};
 use plan_psplib::{Sink, Source};
@@ -28,15 +29,6 @@ fn told(alloc: Global, fault: &ShopFault) -> CliFault
     }
 }
 
-// The shop that a file gives, all machines open.
-fn open_shop(alloc: Global, doc: &ShopDoc) -> Result<Shop, ShopFault>
-    ensures ok { IfOk result (λ shop. shop ≡ shop_of doc.now) }
-    ensures refused { IfErr result (spec.RefusesOpen doc.now) }
-{
-    let usable = vec![in alloc; true; doc.machines() as usize]?;
-    Shop::of_doc(alloc, doc, &usable)
-}
-
 // The table of a shop.
 fn table_by(alloc: Global, rule: ShopRule, shop: &Shop) -> Result<String, CliFault>
     ensures made { IfOk result (λ text. spec.IsTableBy rule shop.now (string_bytes text)) }
@@ -54,20 +46,21 @@ fn table_by(alloc: Global, rule: ShopRule, shop: &Shop) -> Result<String, CliFau
 // The table of a file's shop.
 fn doc_text(alloc: Global, name: &str, doc: &ShopDoc) -> Result<String, CliFault>
     ensures made { IfOk result (λ text. spec.IsShopTextOf name.now doc.now (string_bytes text)) }
-    ensures refused { IfErr result (Refuses (spec.TellsShopRefusal name.now doc.now)) }
+    ensures refused { IfErr result (Refuses (spec.TellsShopRefusal name.now)) }
 {
-    let rule = match ShopRule::parse(name) {
-        Ok(rule) => rule,
-        Err(fault) => return Err(told(alloc, &fault)),
-    };
-    match open_shop(alloc, doc) {
-        Ok(shop) => table_by(alloc, rule, &shop),
+    match ShopRule::parse(name) {
+        Ok(rule) => table_by(alloc, rule, &open_shop(alloc, doc)?),
         Err(fault) => Err(told(alloc, &fault)),
     }
 }
 
 // The table of an instance of a file.
-fn shop_text(alloc: Global, name: &str, instance: &str, file: &[u8]) -> Result<String, CliFault>
+pub(crate) fn shop_text(
+    alloc: Global,
+    name: &str,
+    instance: &str,
+    file: &[u8],
+) -> Result<String, CliFault>
     ensures made { IfOk result (λ text. spec.IsShopTableOf name.now instance.now file.now (string_bytes text)) }
     ensures refused { IfErr result (Refuses (spec.TellsWhyNoShop name.now instance.now file.now)) }
 {
@@ -103,12 +96,5 @@ pub fn shop_run<R: Source, W: Sink>(
     ensures output { IsErrOf result CliFault.Output →
         HasFailed (W.calls writer.old) (W.calls writer.new) (W.faults writer.old) (W.faults writer.new) }
 {
-    let file = match read_file(alloc, reader) {
-        Ok(file) => file,
-        Err(fault) => return Err(fault),
-    };
-    match shop_text(alloc, rule, instance, &file) {
-        Ok(text) => write_text(writer, text.as_bytes()),
-        Err(fault) => Err(fault),
-    }
+    run_task(alloc, Task::Shop { rule, instance }, reader, writer)
 }

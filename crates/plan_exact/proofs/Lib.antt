@@ -6,3 +6,7 @@ pub mod BestLemmas
 pub mod StepLemmas
 pub mod TableLemmas
 pub mod ShopTreeLemmas
+pub mod SolutionLemmas
+pub mod SpellingLemmas
+pub mod BudgetLemmas
+pub mod MemoLemmas

@@ -5,3 +5,6 @@ pub mod Answers
 pub mod Explored
 pub mod TableTree
 pub mod ShopTrees
+pub mod Solutions
+pub mod Budgets
+pub mod Memos

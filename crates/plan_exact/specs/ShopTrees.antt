@@ -19,6 +19,12 @@ tree_of s = record {
   depth = s.jobs * s.machines;
 }
 
+-- a shop, the word at which its tree stands, and how many pushes succeeded so far
+pub record Counted : Type 0 where
+  pub shop : JobShop
+  pub word : List ℕ
+  pub pushes : ℕ
+
 -- the words of the tree are those of the shop
 unfoldable pub TreeHasWords : JobShop → Type 0
 TreeHasWords s = (w : List ℕ) → IsWord (tree_of s) w ↔ IsShopWord s w

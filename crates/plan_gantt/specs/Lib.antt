@@ -16,3 +16,5 @@ pub mod Weeks
 pub use Rattle.plan_net.specs.Network
 pub use Rattle.plan_cpm.specs.Dates
 pub use Rattle.plan_psplib.specs.Faults
+pub mod BestText
+pub mod ExactFaultText

@@ -2,11 +2,13 @@
 //! working days.
 #![tactic(auto)]
 
+mod best;
 mod calendar;
 mod charts;
 mod column;
 mod dates;
 mod days;
+mod exact_faults;
 mod faults;
 mod first_date;
 mod interval;
@@ -19,10 +21,12 @@ mod shop_faults;
 mod shops;
 mod weeks;
 
+pub use best::best_text;
 pub use calendar::{Calendar, CalendarFault};
 pub use charts::chart;
 pub use dates::date_table;
 pub use days::{DaysFault, calendar_table};
+pub use exact_faults::exact_fault_text;
 pub use faults::file_fault_text;
 pub use schedule_faults::schedule_fault_text;
 pub use schedules::schedule_table;

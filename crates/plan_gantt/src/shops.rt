@@ -41,6 +41,25 @@ fn push_line(text: &mut String, shop: &Shop, starts: &[u64], x: u32) -> Result<(
     Ok(())
 }
 
+// The table of a schedule, behind what the text has.
+pub(crate) fn push_shop_table(
+    text: &mut String,
+    shop: &Shop,
+    starts: &[u64],
+    makespan: u64,
+) -> Result<(), AllocError>
+    requires starts { length starts.now ≡ count_steps shop.now }
+    requires limit { EachIndex starts.now (λ k. slice_index starts.now k ≤ END) }
+    ensures { OnOk result (string_bytes text.new ≡ string_bytes text.old ++ shop_table_text shop.now starts.now makespan) }
+{
+    text.push_str(" job    step    mach       d   start     end\n")?;
+    'all: for x in 0..step_count(shop) {
+        push_line(text, shop, starts, x)?;
+    }
+    writeln!(text, "makespan {makespan}")?;
+    Ok(())
+}
+
 /// The table of a shop's schedule: a line for each step in flat order with its job and its number in the job (from 1), its machine
 /// (from 0), its time, its start and its end, and the makespan in the last line. The start at place `x` is that of flat step `x`.
 pub fn shop_table(
@@ -54,11 +73,7 @@ pub fn shop_table(
     ensures text { IfOk result (λ text. string_bytes text ≡ shop_table_text shop.now starts.now makespan) }
 {
     let mut text = String::new(alloc);
-    text.push_str(" job    step    mach       d   start     end\n")?;
-    'all: for x in 0..step_count(shop) {
-        push_line(&mut text, shop, starts, x)?;
-    }
-    writeln!(text, "makespan {makespan}")?;
+    push_shop_table(&mut text, shop, starts, makespan)?;
     Ok(text)
 }
 

@@ -66,8 +66,8 @@ impl<'a> ShopTree<'a> {
         }
     }
 
-    // The starts of a full word in flat order.
-    pub(crate) fn starts(&self, alloc: Global) -> Result<Vec<u64>, AllocError>
+    /// The starts of a full word in flat order, in whole time units.
+    pub fn starts(&self, alloc: Global) -> Result<Vec<u64>, AllocError>
         requires { words.is_full self.now.shop (spec.placed self.now) ≡ true }
         ensures starts { IfOk result (λ starts. starts.items ≡ words.starts_of self.now.shop (spec.placed self.now)) }
         ensures within { IfOk result (λ starts. All (λ t. t ≤ 10000000) starts.items) }

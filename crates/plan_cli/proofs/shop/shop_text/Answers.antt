@@ -1,10 +1,13 @@
-use Rattle.std.proofs.Common.{◌⊎◌, List, ℕ, subst}
+use Rattle.std.proofs.Common.{◌⊎◌, inl, List, ℕ, subst}
 use Rattle.plan_psplib.specs.Faults.{IsWantOfMemory}
 use Rattle.plan_orlib.specs.Reading as reading
-use Rattle.plan_cli.proofs.RunLemmas.{told_no_shop}
+use Rattle.plan_cli.specs.ShopRun.{TellsFirstShopFault, TellsWhyNoShop}
+use Rattle.plan_cli.proofs.RunLemmas.{told_no_shop, refuses_as}
 use Rattle.plan_cli.proofs.shop.shop_text.Goals as goal
 
 pub returns-in-Err-clause-refused : goal.returns-in-Err-clause-refused
 returns-in-Err-clause-refused c =
-    let failing = subst (λ (instance : List ℕ). IsWantOfMemory c.in-Err.fault ⊎ reading.FailsWith (reading.shop instance c.args.file.now) c.in-Err.fault) c.as_bytes.ensures.value c.in-Err.ensures.refused in
-    told_no_shop c.args.name.now c.args.instance.now c.args.file.now c.in-Err.fault c.told.result failing c.told.ensures
+    let instance = c.args.instance.now in
+    let file = c.args.file.now in
+    let failing = subst (λ (name : List ℕ). IsWantOfMemory c.in-Err.fault ⊎ reading.FailsWith (reading.shop name file) c.in-Err.fault) c.as_bytes.ensures.value c.in-Err.ensures.refused in
+    refuses_as (TellsFirstShopFault instance file) (TellsWhyNoShop c.args.name.now instance file) c.told.result (λ line first. inl first) (told_no_shop instance file c.in-Err.fault c.told.result failing c.told.ensures)

@@ -1,17 +1,23 @@
 use Rattle.std.proofs.Common.{◌≡◌, ℕ, ◌++◌, ◌∙◌, refl, ap, subst, arith}
 use Rattle.std.specs.String.{string_bytes}
+use Rattle.std.proofs.lemmas.List.{append_assoc}
 use Rattle.plan_shop.specs.Shop.{count_steps}
 use Rattle.plan_gantt.specs.Column.{lines_from}
 use Rattle.plan_gantt.specs.ScheduleTable.{makespan_line}
 use Rattle.plan_gantt.specs.ShopTable.{shop_heading, shop_line}
 use Rattle.plan_gantt.proofs.CellLemmas.{next_cell}
-use Rattle.plan_gantt.proofs.shops.shop_table.Goals as goal
+use Rattle.plan_gantt.proofs.shops.push_shop_table.Goals as goal
 
 pub all-preserved : goal.all-preserved
-all-preserved c = next_cell shop_heading (shop_line c.args.shop.now c.args.starts.now) c.all.x _ _ _ c.all.invariant refl c.in_ok-push_line.ensures
+all-preserved c = next_cell (string_bytes c.push_str.new.self) (shop_line c.args.shop.now c.args.starts.now) c.all.x _ _ _ c.all.invariant refl c.in_ok-push_line.ensures
 
 pub returns : goal.returns
 returns c =
+    let before = string_bytes c.args.text.now in
+    let lines = lines_from (shop_line c.args.shop.now c.args.starts.now) 0 (count_steps c.args.shop.now) in
     let whole : c.all.x ≡ count_steps c.args.shop.now = omega arith in
-    let so_far = subst (λ (n : ℕ). string_bytes c.all.text ≡ shop_heading ++ lines_from (shop_line c.args.shop.now c.args.starts.now) 0 n) whole c.all.invariant in
-    record { text = c.in_ok-writeln.ensures.bytes ∙ ap (λ bytes. bytes ++ makespan_line c.args.makespan) so_far }
+    let so_far : string_bytes c.all.text ≡ (before ++ shop_heading) ++ lines =
+    subst (λ (n : ℕ). string_bytes c.all.text ≡ string_bytes c.push_str.new.self ++ lines_from (shop_line c.args.shop.now c.args.starts.now) 0 n) whole c.all.invariant
+    ∙ ap (λ bytes. bytes ++ lines) c.in_ok-push_str.ensures.bytes in
+    c.in_ok-writeln.ensures.bytes ∙ ap (λ bytes. bytes ++ makespan_line c.args.makespan) so_far
+    ∙ append_assoc (before ++ shop_heading) lines (makespan_line c.args.makespan) ∙ append_assoc before shop_heading (lines ++ makespan_line c.args.makespan)

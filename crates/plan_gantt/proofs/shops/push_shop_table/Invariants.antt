@@ -1,9 +1,9 @@
 use Rattle.std.proofs.Common.{◌≡◌, ◌++◌}
 use Rattle.std.specs.String.{string_bytes}
 use Rattle.plan_gantt.specs.Column.{lines_from}
-use Rattle.plan_gantt.specs.ShopTable.{shop_heading, shop_line}
-use Rattle.plan_gantt.proofs.shops.shop_table.Given as goal
+use Rattle.plan_gantt.specs.ShopTable.{shop_line}
+use Rattle.plan_gantt.proofs.shops.push_shop_table.Given as goal
 
 -- behind the heading stand the lines of the steps so far
 abbrev pub invariant-all : goal.invariant-all
-invariant-all l = string_bytes l.text ≡ shop_heading ++ lines_from (shop_line l.shop l.starts) 0 l.x
+invariant-all l = string_bytes l.text ≡ string_bytes l.initial.text ++ lines_from (shop_line l.shop l.starts) 0 l.x

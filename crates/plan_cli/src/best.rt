@@ -1,0 +1,101 @@
+//! `plan best`: the best schedule of a job shop that a search within a budget finds.
+
+ghost use Rattle.std.specs.Prelude.{◌≡◌, ◌⊎◌, ◌+◌, ◌≤◌, IfOk, OnOk, IfErr, IfSome, IsErrOf, string_bytes};
+ghost use Rattle.plan_psplib.specs.Devices.{most_calls, HasFailed};
+ghost use Rattle.plan_cli.specs.Run.{ReadsFront, Refuses, Writes};
+ghost use Rattle.plan_cli.specs.BestRun as spec;
+
+use crate::fault::CliFault;
+use crate::opening::open_shop;
+use crate::reading::told as file_told;
+use crate::running::run_task;
+use crate::tasks::Task;
+use plan_exact::{ExactFault, parse_budget, solve_shop};
+use plan_gantt::{best_text, exact_fault_text};
+use plan_orlib::{ShopDoc, read_shop};
+use plan_psplib::{Sink, Source};
+use plan_shop::Shop;
+use std::alloc::Global;
+
+// What a refusal of a search says for people.
+fn told(alloc: Global, fault: &ExactFault) -> CliFault
+    ensures { spec.TellsSolving fault.now result }
+{
+    if matches!(fault, ExactFault::NoMemory) {
+        return CliFault::Memory;
+    }
+    match exact_fault_text(fault).to_string(alloc) {
+        Ok(line) => CliFault::Refused(line),
+        Err(_) => CliFault::Memory,
+    }
+}
+
+// The text of the best schedule of a shop.
+fn solved_text(alloc: Global, budget: u64, shop: &Shop) -> Result<String, CliFault>
+    ensures made { IfOk result (λ text. spec.IsBestBy budget shop.now (string_bytes text)) }
+    ensures refused { IfErr result (Refuses (spec.TellsSolvingRefusal budget shop.now)) }
+{
+    match solve_shop(alloc, shop, budget) {
+        Ok(solved) => Ok(best_text(alloc, shop, &solved)?),
+        Err(fault) => Err(told(alloc, &fault)),
+    }
+}
+
+// The text of the best schedule of a file's shop. A text that spells no budget is refused as 0 is, so the shop's size comes first.
+fn doc_text(alloc: Global, budget: &str, doc: &ShopDoc) -> Result<String, CliFault>
+    ensures made { IfOk result (λ text. spec.IsBestTextOf budget.now doc.now (string_bytes text)) }
+    ensures refused { IfErr result (Refuses (spec.TellsBestRefusal budget.now doc.now)) }
+{
+    let shop = open_shop(alloc, doc)?;
+    let budget = match parse_budget(budget) {
+        Ok(budget) => budget,
+        Err(_) => 0,
+    };
+    solved_text(alloc, budget, &shop)
+}
+
+// The text of the best schedule of an instance of a file.
+pub(crate) fn best_text_of(
+    alloc: Global,
+    budget: &str,
+    instance: &str,
+    file: &[u8],
+) -> Result<String, CliFault>
+    ensures made { IfOk result (λ text. spec.IsBestTableOf budget.now instance.now file.now (string_bytes text)) }
+    ensures refused { IfErr result (Refuses (spec.TellsWhyNoBest budget.now instance.now file.now)) }
+{
+    match read_shop(alloc, file, instance.as_bytes()) {
+        Ok(doc) => doc_text(alloc, budget, &doc),
+        Err(fault) => Err(file_told(alloc, &fault)),
+    }
+}
+
+/// Reads a job shop file and writes the best schedule of one of its instances that a search within a budget finds, with all machines
+/// open: `optimal` or `budget` and the makespan, and then the table of the schedule. The budget is the most words that the search may
+/// visit, 1 to 200,000 in decimal digits; the instance is given by its name in the file, `-` for the one of a file without names.
+/// Nothing is written unless the text is whole, and a fault of the reader or of the writer is never tried again. The first fault is
+/// told: the file's, then `S5` (more than 100 steps), then `S6` (the budget).
+pub fn best_run<R: Source, W: Sink>(
+    alloc: Global,
+    budget: &str,
+    instance: &str,
+    reader: &mut R,
+    writer: &mut W,
+) -> Result<(), CliFault>
+    ensures reads { R.calls reader.new ≤ R.calls reader.old + most_calls }
+    ensures writes { W.calls writer.new ≤ W.calls writer.old + most_calls }
+    // The text for the file, or nothing and its first fault; a part of the text after a fault of the output.
+    ensures text { IfSome (R.remaining reader.old) (λ file. Writes (spec.IsBestTableOf budget.now instance.now file) (spec.TellsWhyNoBest budget.now instance.now file) (W.taken writer.old) (W.taken writer.new) result) }
+    // Unless memory runs out or the input fails, what is done is that for the bytes that were read, at most 1,048,577.
+    ensures front { ReadsFront (spec.IsBestTableOf budget.now instance.now) (spec.TellsWhyNoBest budget.now instance.now) (R.remaining reader.old) (R.remaining reader.new) (W.taken writer.old) (W.taken writer.new) result }
+    // Nothing is written with any other fault than that of the output.
+    ensures quiet { IfErr result (λ e. (e ≡ CliFault.Output) ⊎ (writer.new ≡ writer.old)) }
+    ensures fine { OnOk result ((R.faults reader.new ≡ R.faults reader.old) × (W.faults writer.new ≡ W.faults writer.old)) }
+    // A fault of the reader is told as such.
+    ensures heard { IfErr result (λ e. (e ≡ CliFault.Input) ⊎ (R.faults reader.new ≡ R.faults reader.old)) }
+    ensures input { IsErrOf result CliFault.Input → R.faults reader.new ≡ R.faults reader.old + 1 }
+    ensures output { IsErrOf result CliFault.Output →
+        HasFailed (W.calls writer.old) (W.calls writer.new) (W.faults writer.old) (W.faults writer.new) }
+{
+    run_task(alloc, Task::Best { budget, instance }, reader, writer)
+}

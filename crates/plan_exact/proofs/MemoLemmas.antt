@@ -1,0 +1,187 @@
+-- What a memo's entries keep as they are looked up, moved to the front and put in.
+use Rattle.std.proofs.Common.{◌≡◌, ℕ, ◌+◌, ◌-◌, ◌≤◌, Bool, true, false, ◌&&◌, nat_eq, List, [], ◌∷◌, ◌++◌, take, get_or, Contains, inl, inr, Option, Some, None, refl, sym, ap, ◌∙◌, subst, add-one, arith}
+use Rattle.std.specs.Prelude.{All}
+use Rattle.std.specs.Bool.{Decides}
+use Rattle.std.specs.Cmp.Lexicographic.{pointwise}
+use Rattle.std.specs.List.{slice_get}
+use Rattle.std.specs.Map.{lookup, lookup_entry, remove_entry}
+use Rattle.std.proofs.lemmas.Bool.Decides.{Decides-eqb, Decides-and, Decides-like}
+use Rattle.std.proofs.Math.Seq.{take-suc}
+use Rattle.std.proofs.lemmas.Option.{get_or_from_slice_get, slice_get_within}
+use Rattle.std.proofs.lemmas.Slice.Eq.{slice_eq-Decides}
+use Rattle.std.proofs.lemmas.List.{map-append, take-map}
+use Rattle.std.proofs.lemmas.List.Elements.{All-same, All-cons, All-take, All-contains, Contains-get_or}
+use Rattle.lru.specs.LruCache.{LruCache, lru_cache, promoted, put_entries}
+use Rattle.lru.proofs.CallerLemmas.{Contains-lookup_entry, Contains-promoted}
+use Rattle.lru.proofs.Splits.{Contains-cons, Contains-head, Contains-tail}
+use Rattle.plan_profile.specs.declared.profile.TheConstants.{END}
+use Rattle.plan_orlib.specs.declared.steps.Step.{Step}
+use Rattle.plan_shop.specs.Shop.{JobShop}
+use Rattle.plan_exact.specs.Answers.{is_optimal}
+use Rattle.plan_exact.specs.Memos.{asked, asked_by, questions, IsAnswered, IsMemo, Remembers}
+use Rattle.plan_exact.specs.Solutions.{IsSolution}
+use Rattle.plan_exact.specs.declared.solving.Solved.{Solved}
+use Rattle.plan_exact.specs.declared.memo.Question.{Question}
+
+-- the tests that `==` makes of steps and of questions
+abbrev pub same_step : Step → Step → Bool
+same_step a b = nat_eq a.machine b.machine && nat_eq a.time b.time
+
+abbrev pub same_question : Question → Question → Bool
+same_question q k =
+    nat_eq q.machines k.machines && (nat_eq q.jobs k.jobs && (pointwise same_step q.steps.items k.steps.items && nat_eq q.budget k.budget))
+
+same_step_decides : (a b : Step) → Decides (same_step a b) (a ≡ b)
+same_step_decides a b =
+    Decides-like (same_step a b) (λ e. λ i. record { machine = e.0 i; time = e.1 i }) (λ e. (ap (λ w. w.machine) e, ap (λ w. w.time) e))
+    (Decides-and (nat_eq a.machine b.machine) (nat_eq a.time b.time) (Decides-eqb a.machine b.machine) (Decides-eqb a.time b.time))
+
+-- two questions are the same exactly where they ask the same
+pub same_question_decides : (q k : Question) → Decides (same_question q k) (asked_by q ≡ asked_by k)
+same_question_decides q k =
+    let steps = slice_eq-Decides same_step_decides q.steps.items k.steps.items (pointwise same_step q.steps.items k.steps.items) refl in
+    Decides-like (same_question q k)
+    (λ e. λ i. asked (record { machines = e.0 i; jobs = e.1.0 i; steps = e.1.1.0 i }) (e.1.1.1 i))
+    (λ e. (ap (λ a. a.shop.machines) e, (ap (λ a. a.shop.jobs) e, (ap (λ a. a.shop.steps) e, ap (λ a. a.budget) e))))
+    (Decides-and _ _ (Decides-eqb q.machines k.machines)
+    (Decides-and _ _ (Decides-eqb q.jobs k.jobs)
+    (Decides-and _ _ steps (Decides-eqb q.budget k.budget))))
+
+abbrev Entry : Type 0
+Entry = Question × Solved
+
+-- where there is a value there is its entry, and the list falls in two around it
+record IsFound (test : Question → Bool) (es : List Entry) (solved : Solved) : Type 0 where
+  key : Question
+  before : List Entry
+  after : List Entry
+  split : es ≡ before ++ (key, solved) ∷ after
+  passes : test key ≡ true
+  entry : lookup_entry test es ≡ Some (key, solved)
+  rest : remove_entry test es ≡ before ++ after
+
+found_later : (test : Question → Bool) (e : Entry) (es : List Entry) (solved : Solved) → test e.0 ≡ false → IsFound test es solved → IsFound test (e ∷ es) solved
+found_later test e es solved fails f = record {
+  key = f.key;
+  before = e ∷ f.before;
+  after = f.after;
+  split = ap (λ l. e ∷ l) f.split;
+  passes = f.passes;
+  entry = rw fails f.entry;
+  rest = rw fails (ap (λ l. e ∷ l) f.rest);
+}
+
+found_first : (test : Question → Bool) (e : Entry) (es : List Entry) (solved : Solved) → test e.0 ≡ true → e.1 ≡ solved → IsFound test (e ∷ es) solved
+found_first test e es solved passes same = record {
+  key = e.0;
+  before = [];
+  after = es;
+  split = ap (λ w. (e.0, w) ∷ es) same;
+  passes = passes;
+  entry = rw passes (ap (λ w. Some (e.0, w)) same);
+  rest = rw passes refl;
+}
+
+found : (test : Question → Bool) (es : List Entry) (solved : Solved) → lookup test es ≡ Some solved → IsFound test es solved
+found test [] solved h = cc
+found test (e ∷ es) solved h = (elim (test e.0) as (λ y. test e.0 ≡ y → IsFound test (e ∷ es) solved) [
+  | true ↦ λ t. let h' = rw t at h in found_first test e es solved t cc
+  | false ↦ λ t. found_later test e es solved t (found test es solved (rw t at h))
+]) refl
+
+-- where there is no value no key asks what q asks
+pub not_found : (q : Question) (es : List Entry) → lookup (same_question q) es ≡ None → Contains (questions es) (asked_by q) → ⊥
+not_found q [] h c = let within = c.1 in omega arith
+not_found q (e ∷ es) h c = (elim (same_question q e.0) as (λ y. same_question q e.0 ≡ y → ⊥) [
+  | true ↦ λ t. let h' = rw t at h in cc
+  | false ↦ λ t. elim (Contains-cons (asked_by e.0) (questions es) (asked_by q) c) [
+    | inl same ↦ let t' = (same_question_decides q e.0).1 (sym same) in cc
+    | inr d ↦ not_found q es (rw t at h) d
+  ]
+]) refl
+
+-- what is true of each entry stays so as one of them moves to the front
+promoted_all : (P : Entry → Type 0) (test : Question → Bool) (es : List Entry) → All P es → All P (promoted test es)
+promoted_all P test es all = λ k d within.
+    let e = get_or (promoted test es) k d in
+    All-contains P es e all (Contains-promoted test es e (Contains-get_or (promoted test es) k d within))
+
+pub promoted_answered : (test : Question → Bool) (es : List Entry) → All IsAnswered es → All IsAnswered (promoted test es)
+promoted_answered = promoted_all IsAnswered
+
+-- the question that was found is the first one then
+pub promoted_remembers : (q : Question) (es : List Entry) (solved : Solved) → lookup (same_question q) es ≡ Some solved
+    → Remembers (questions es) (asked_by q) (questions (promoted (same_question q) es))
+promoted_remembers q es solved h =
+    let f = found (same_question q) es solved h in
+    let same : asked_by f.key ≡ asked_by q = sym ((same_question_decides q f.key).0 f.passes) in
+    let was : questions es ≡ questions f.before ++ asked_by q ∷ questions f.after =
+    ap questions f.split ∙ map-append (λ e. asked_by e.0) f.before ((f.key, solved) ∷ f.after) ∙ ap (λ a. questions f.before ++ a ∷ questions f.after) same in
+    let moved : promoted (same_question q) es ≡ (f.key, solved) ∷ (f.before ++ f.after) = rw f.entry (ap (λ l. (f.key, solved) ∷ l) f.rest) in
+    let is : questions (promoted (same_question q) es) ≡ asked_by q ∷ (questions f.before ++ questions f.after) =
+    ap questions moved ∙ (λ i. same i ∷ map-append (λ e. asked_by e.0) f.before f.after i) in
+    inl (questions f.before, questions f.after, was, is)
+
+-- what is found solves what is asked
+pub found_solves : (q : Question) (es : List Entry) (solved : Solved) → All IsAnswered es → lookup (same_question q) es ≡ Some solved
+    → IsSolution (asked_by q).shop (asked_by q).budget solved
+found_solves q es solved all h =
+    let f = found (same_question q) es solved h in
+    let same : asked_by f.key ≡ asked_by q = sym ((same_question_decides q f.key).0 f.passes) in
+    let answered : IsAnswered (f.key, solved) = All-contains IsAnswered es (f.key, solved) all (Contains-lookup_entry (same_question q) es (f.key, solved) f.entry).0 in
+    subst (λ a. IsSolution a.shop a.budget solved) same answered
+
+-- a copy of an answer solves what the answer does
+pub copy_solves : (s : JobShop) (budget : ℕ) (solved copy : Solved) → copy.kind ≡ solved.kind → copy.schedule.starts.items ≡ solved.schedule.starts.items
+    → copy.schedule.makespan ≡ solved.schedule.makespan → IsSolution s budget solved → IsSolution s budget copy
+copy_solves s budget solved copy kind starts makespan is = record {
+  few_steps = is.few_steps;
+  allowed = is.allowed;
+  optimal = ap is_optimal kind ∙ is.optimal;
+  starts = starts ∙ is.starts;
+  makespan = makespan ∙ is.makespan;
+  within = All-same (λ t. t ≤ END) copy.schedule.starts.items solved.schedule.starts.items starts is.within;
+}
+
+-- an entry's question is among the questions
+asks_among : (es : List Entry) (e : Entry) → Contains es e → Contains (questions es) (asked_by e.0)
+asks_among [] e c = let within = c.1 in absurd (omega arith)
+asks_among (f ∷ es) e c = elim (Contains-cons f es e c) [
+  | inl same ↦ subst (λ g. Contains (questions (f ∷ es)) (asked_by g.0)) same (Contains-head (asked_by f.0) (questions es))
+  | inr d ↦ Contains-tail (asked_by f.0) (questions es) (asked_by e.0) (asks_among es e d)
+]
+
+no_entry : (q : Question) (es : List Entry) (o : Option Entry) → lookup_entry (same_question q) es ≡ o → (Contains (questions es) (asked_by q) → ⊥)
+    → lookup_entry (same_question q) es ≡ None
+no_entry q es None h new = h
+no_entry q es (Some e) h new =
+    let there = Contains-lookup_entry (same_question q) es e h in
+    absurd (new (subst (Contains (questions es)) (sym ((same_question_decides q e.0).0 there.1)) (asks_among es e there.0)))
+
+-- an answer to a new question goes first
+put_first : (kept : LruCache Question Solved) (q : Question) (solved : Solved) → (Contains (questions kept.entries) (asked_by q) → ⊥)
+    → put_entries same_question kept q solved ≡ (q, solved) ∷ take (kept.cap - 1) kept.entries
+put_first kept q solved new = rw (no_entry q kept.entries (lookup_entry (same_question q) kept.entries) refl new) refl
+
+module _ (kept : LruCache Question Solved) (q : Question) (solved : Solved) (memo : IsMemo kept) (unasked : Contains (questions kept.entries) (asked_by q) → ⊥) where
+  -- after a new answer was put in, all are answers to their questions
+  pub put_is_memo : IsAnswered (q, solved) → IsMemo (lru_cache (put_entries same_question kept q solved) kept.cap)
+  put_is_memo answered = record {
+    room = memo.room;
+    answered = All-same IsAnswered (put_entries same_question kept q solved) ((q, solved) ∷ take (kept.cap - 1) kept.entries) (put_first kept q solved unasked)
+        (All-cons IsAnswered (q, solved) (take (kept.cap - 1) kept.entries) answered (All-take IsAnswered (kept.cap - 1) kept.entries memo.answered));
+  }
+
+  -- and its question is the first
+  pub put_remembers : Remembers (questions kept.entries) (asked_by q) (questions (put_entries same_question kept q solved))
+  put_remembers =
+      let others : questions (take (kept.cap - 1) kept.entries) ≡ take (kept.cap - 1) (questions kept.entries) = sym (take-map (λ e. asked_by e.0) (kept.cap - 1) kept.entries) in
+      let is : questions (put_entries same_question kept q solved) ≡ asked_by q ∷ take (kept.cap - 1) (questions kept.entries) =
+      ap questions (put_first kept q solved unasked) ∙ ap (λ l. asked_by q ∷ l) others in
+      inr (unasked, is ∙ ap (λ n. asked_by q ∷ take (n - 1) (questions kept.entries)) memo.room)
+
+-- the steps read so far, and one more
+pub one_step_more : (steps : List Step) (i : ℕ) (step : Step) → slice_get steps i ≡ Some step → take i steps ++ step ∷ [] ≡ take (i + 1) steps
+one_step_more steps i step here =
+    let d : Step = step in
+    rw add-one (sym (take-suc steps i d (slice_get_within steps i step here) ∙ ap (λ w. take i steps ++ w ∷ []) (get_or_from_slice_get steps i step d here)))

@@ -1,0 +1,95 @@
+//! Best schedules of job shops.
+
+ghost use Rattle.std.specs.Prelude.{◌≡◌, IfOk, IfErr};
+ghost use Rattle.plan_sgs.specs.Problem.{IsActive, IsShortest, makespan};
+ghost use Rattle.plan_shop.specs.Shop.{IsShop, problem_of};
+ghost use Rattle.plan_exact.specs.Solutions.{IsSolution, RefusesSolving, HasFewSteps, IsBudget, IsFullWord, IsScheduleBy, initial_word};
+ghost use Rattle.plan_exact.specs.declared.answer.Kind.TheVariants.{Optimal};
+
+use crate::{Answer, CountedTree, ExactFault, Kind, search};
+use plan_sgs::Schedule;
+use plan_shop::{Shop, ShopRule, ShopTree, giffler};
+use std::alloc::{AllocError, Global};
+
+/// The most steps of a shop that is searched.
+pub const MOST_STEPS: u32 = 100;
+
+/// The most words that a search may visit.
+pub const GREATEST_BUDGET: u64 = 200_000;
+
+/// What was found for a job shop: its schedule, with starts in flat order, and whether that is known to be the shortest.
+#[derive(Debug, Drop)]
+pub struct Solved {
+    pub kind: Kind,
+    pub schedule: Schedule,
+}
+
+// The schedule that the search starts from.
+fn initial_schedule(alloc: Global, shop: &Shop) -> Result<Schedule, AllocError>
+    ensures { IfOk result (IsScheduleBy shop.now (initial_word shop.now)) }
+{
+    match giffler(alloc, shop, ShopRule::MostWorkRemaining) {
+        Ok(schedule) => Ok(schedule),
+        Err(_) => Err(AllocError),
+    }
+}
+
+// The schedule of a word that places all steps.
+fn schedule_by(alloc: Global, shop: &Shop, word: &[u32]) -> Result<Schedule, AllocError>
+    requires { IsFullWord shop.now word.now }
+    ensures { IfOk result (IsScheduleBy shop.now word.now) }
+{
+    let mut tree = ShopTree::new(alloc, shop)?;
+    for letter in word {
+        tree.push(*letter)?;
+    }
+    Ok(Schedule {
+        starts: tree.starts(alloc)?,
+        makespan: tree.makespan(),
+    })
+}
+
+// What a search within a budget answers: the schedule of the word that it finds, or the initial one.
+fn searched(alloc: Global, shop: &Shop, budget: u64) -> Result<Solved, AllocError>
+    requires shop { IsShop shop.now }
+    requires few { HasFewSteps shop.now }
+    requires allowed { IsBudget budget }
+    ensures { IfOk result (IsSolution shop.now budget) }
+{
+    let initial = initial_schedule(alloc, shop)?;
+    let mut tree = CountedTree::new(alloc, shop)?;
+    let Answer {
+        kind,
+        value: _,
+        word,
+    } = search(alloc, &mut tree, initial.makespan, budget)?;
+    let schedule = match word {
+        Some(word) => schedule_by(alloc, shop, &word)?,
+        None => initial,
+    };
+    Ok(Solved { kind, schedule })
+}
+
+/// The best schedule of a shop that a search within a budget of 1 to 200,000 visited words finds. Branch and bound over the words
+/// that generate active schedules (Giffler and Thompson 1960; Brucker, Jurisch and Sievers, "A branch and bound algorithm for the
+/// job-shop scheduling problem", Discrete Applied Mathematics 49, 1994, for bounds by the heads and tails of one machine): depth
+/// first in the order of the letters, from the schedule of the most work remaining on.
+///
+/// Refused with [`ExactFault::TooLarge`] where the shop has more than 100 steps, else with [`ExactFault::BadBudget`] where the
+/// budget is not from 1 to 200,000. Want of memory may come in place of any answer.
+pub fn solve_shop(alloc: Global, shop: &Shop, budget: u64) -> Result<Solved, ExactFault>
+    ensures solution { IfOk result (IsSolution shop.now budget) }
+    // An answer that is called optimal has the least makespan of all feasible lists of starts.
+    ensures shortest { IfOk result (λ solved. solved.kind ≡ Optimal → IsShortest (problem_of shop.now) solved.schedule.starts.items) }
+    ensures active { IfOk result (λ solved. IsActive (problem_of shop.now) solved.schedule.starts.items) }
+    ensures makespan { IfOk result (λ solved. solved.schedule.makespan ≡ makespan (problem_of shop.now) solved.schedule.starts.items) }
+    ensures refused { IfErr result (RefusesSolving shop.now budget) }
+{
+    if shop.jobs() * shop.machines() > MOST_STEPS {
+        return Err(ExactFault::TooLarge);
+    }
+    if budget == 0 || budget > GREATEST_BUDGET {
+        return Err(ExactFault::BadBudget);
+    }
+    Ok(searched(alloc, shop, budget)?)
+}
