@@ -93,3 +93,6 @@ pub fn solve_shop(alloc: Global, shop: &Shop, budget: u64) -> Result<Solved, Exa
     }
     Ok(searched(alloc, shop, budget)?)
 }
+
+#[cfg(test)]
+mod tests;

@@ -98,13 +98,13 @@ fn what_is_no_budget_is_told(rt: HostRuntime) -> Result<(), Fail> {
     ] {
         assert_eq!(rt;
             printed(&rt, budget, "printing", SHOPS)?.as_slice(),
-            b"S6 budget",
+            "S6 budget".as_bytes(),
             "{budget}"
         );
     }
     assert_eq!(rt;
         printed(&rt, "0", "ft10", SHOPS)?.as_slice(),
-        b"F13 line 14"
+        "F13 line 14".as_bytes()
     );
     Ok(())
 }
@@ -119,7 +119,7 @@ fn a_shop_of_more_than_100_steps_is_told_before_its_budget(rt: HostRuntime) -> R
     for budget in ["1", "0", "six"] {
         assert_eq!(rt;
             printed(&rt, budget, "-", &file)?.as_slice(),
-            b"S5 too large",
+            "S5 too large".as_bytes(),
             "{budget}"
         );
     }
