@@ -9,7 +9,6 @@ use Rattle.plan_exact.specs.Budgets.{IsBudgetText}
 use Rattle.plan_exact.specs.Solutions.{IsSolution, HasFewSteps, RefusesSolving}
 use Rattle.plan_exact.specs.declared.answer.Kind.TheVariants.{Optimal}
 use Rattle.plan_exact.specs.declared.solving.Solved.{Solved}
-use Rattle.plan_exact.specs.declared.solving.TheConstants.{MOST_STEPS}
 use Rattle.plan_exact.specs.declared.fault.ExactFault.{ExactFault}
 use Rattle.plan_exact.specs.declared.fault.ExactFault.TheVariants as exact
 use Rattle.plan_gantt.specs.BestText.{best_text_of}
@@ -39,7 +38,7 @@ IsBestTableOf word instance file text = (doc : docs.Shop) × Says instance file 
 -- a shop is refused for its size, or else since a word spells no budget
 abbrev pub RefusesBest : List ℕ → JobShop → ExactFault → Type 0
 RefusesBest word s exact.NoMemory = ⊥
-RefusesBest word s exact.TooLarge = MOST_STEPS < count_steps s
+RefusesBest word s exact.TooLarge = 100 < count_steps s
 RefusesBest word s exact.BadBudget = HasFewSteps s × ((budget : ℕ) → IsBudgetText word budget → ⊥)
 
 -- a line tells what a shop is refused for

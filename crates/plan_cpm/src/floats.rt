@@ -3,7 +3,7 @@ ghost use Rattle.plan_net.specs.Network.{IsActivity, IsArc, IsGreatest, count_of
 ghost use Rattle.plan_cpm.specs.Lengths.{AreFinishes, HasNoLag, IsLength};
 ghost use Rattle.plan_cpm.specs.Dates.{AreDates, AreFreeFloats, IsNextStart, KeepRecurrences, LeavesTails};
 
-use super::passes::{earliest_finishes, lag_between, tails};
+use super::passes::{earliest_finishes, tails};
 use super::table::Dates;
 use plan_net::{LONGEST_LAG, Network};
 use std::alloc::{AllocError, Global};
@@ -31,7 +31,7 @@ fn start_after(network: &Network, j: u32, k: u32, finishes: &[u64]) -> u64
     requires finishes { AreFinishes network.now finishes.now }
     ensures { result + lag_of network.now j k + duration_of network.now k ≡ slice_index finishes.now (k - 1) }
 {
-    finishes[k as usize - 1] - network.duration(k) - lag_between(network, j, k)
+    finishes[k as usize - 1] - network.duration(k) - network.lag_between(j, k)
 }
 
 // The least start of a successor, less the arc's lag; the whole duration without successors.

@@ -2,23 +2,11 @@ ghost use Rattle.std.specs.Prelude.{◌≡◌, ℕ, ◌+◌, ◌-◌, ◌≤◌,
 ghost use Rattle.plan_net.specs.Network.{IsActivity, IsArc, count_of, duration_of, lag_of};
 ghost use Rattle.plan_cpm.specs.Lengths.{AreFinishes, AreTails};
 
-use plan_net::{LONGEST_LAG, Network};
+use plan_net::Network;
 use std::alloc::{AllocError, Global};
 
 // No path is as long as this: 502 durations of 10,000 and as many lags.
 pub(crate) const FARTHEST: u64 = 10_040_000;
-
-// The lag of an arc.
-pub(crate) fn lag_between(network: &Network, i: u32, j: u32) -> u64
-    requires { IsArc network.now i j }
-    ensures value { result ≡ lag_of network.now i j }
-    ensures limit { result ≤ LONGEST_LAG }
-{
-    match network.lag(i, j) {
-        Some(lag) => lag,
-        None => 0,
-    }
-}
 
 // The greatest finish of a predecessor and the arc's lag; 0 without predecessors.
 fn last_before(network: &Network, j: u32, finishes: &[u64]) -> u64
@@ -30,7 +18,7 @@ fn last_before(network: &Network, j: u32, finishes: &[u64]) -> u64
 {
     let mut latest = 0u64;
     'preds: for &i in network.preds(j) {
-        let ready = finishes[i as usize - 1] + lag_between(network, i, j);
+        let ready = finishes[i as usize - 1] + network.lag_between(i, j);
         latest = latest.max(ready);
     }
     latest
@@ -46,7 +34,7 @@ fn most_after(network: &Network, j: u32, tails: &[u64]) -> u64
 {
     let mut most = 0u64;
     'succs: for &k in network.succs(j) {
-        let rest = lag_between(network, j, k) + tails[k as usize - 1];
+        let rest = network.lag_between(j, k) + tails[k as usize - 1];
         most = most.max(rest);
     }
     most

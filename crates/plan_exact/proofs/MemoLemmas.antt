@@ -1,16 +1,17 @@
 -- What a memo's entries keep as they are looked up, moved to the front and put in.
-use Rattle.std.proofs.Common.{◌≡◌, ℕ, ◌+◌, ◌-◌, ◌≤◌, Bool, true, false, ◌&&◌, nat_eq, List, [], ◌∷◌, ◌++◌, take, get_or, Contains, inl, inr, Option, Some, None, refl, sym, ap, ◌∙◌, subst, add-one, arith}
+use Rattle.std.proofs.Common.{◌≡◌, ◌≢◌, ℕ, ◌+◌, ◌-◌, ◌≤◌, Bool, true, false, ◌&&◌, nat_eq, List, [], ◌∷◌, ◌++◌, take, get_or, Contains, inl, inr, Option, Some, None, refl, sym, ap, ◌∙◌, subst, add-one, true≢false, arith}
 use Rattle.std.specs.Prelude.{All}
 use Rattle.std.specs.Bool.{Decides}
 use Rattle.std.specs.Cmp.Lexicographic.{pointwise}
-use Rattle.std.specs.List.{slice_get}
-use Rattle.std.specs.Map.{lookup, lookup_entry, remove_entry}
+use Rattle.std.specs.List.{slice_get, AllByRecursion, AllPairs, IsDistinct}
+use Rattle.std.specs.Map.{keys_of, lookup, lookup_entry, remove_entry}
 use Rattle.std.proofs.lemmas.Bool.Decides.{Decides-eqb, Decides-and, Decides-like}
 use Rattle.std.proofs.Math.Seq.{take-suc}
 use Rattle.std.proofs.lemmas.Option.{get_or_from_slice_get, slice_get_within}
 use Rattle.std.proofs.lemmas.Slice.Eq.{slice_eq-Decides}
 use Rattle.std.proofs.lemmas.List.{map-append, take-map}
-use Rattle.std.proofs.lemmas.List.Elements.{All-same, All-cons, All-take, All-contains, Contains-get_or}
+use Rattle.std.proofs.lemmas.List.Elements.{All-nil, All-same, All-cons, All-take, All-contains, Contains-get_or}
+use Rattle.std.proofs.lemmas.List.Kept.{AllPairs-cons}
 use Rattle.lru.specs.LruCache.{LruCache, lru_cache, promoted, put_entries}
 use Rattle.lru.proofs.CallerLemmas.{Contains-lookup_entry, Contains-promoted}
 use Rattle.lru.proofs.Splits.{Contains-cons, Contains-head, Contains-tail}
@@ -179,6 +180,19 @@ module _ (kept : LruCache Question Solved) (q : Question) (solved : Solved) (mem
       let is : questions (put_entries same_question kept q solved) ≡ asked_by q ∷ take (kept.cap - 1) (questions kept.entries) =
       ap questions (put_first kept q solved unasked) ∙ ap (λ l. asked_by q ∷ l) others in
       inr (unasked, is ∙ ap (λ n. asked_by q ∷ take (n - 1) (questions kept.entries)) memo.room)
+
+-- a question whose key differs from all keys is none of the questions
+others_differ : (q : Question) (es : List Entry) → AllByRecursion (λ k. same_question q k ≡ false) (keys_of es) → All (λ a. asked_by q ≢ a) (questions es)
+others_differ q [] differ = All-nil (λ a. asked_by q ≢ a)
+others_differ q (e ∷ es) differ =
+    All-cons (λ a. asked_by q ≢ a) (asked_by e.0) (questions es) (λ same. true≢false (sym ((same_question_decides q e.0).1 same) ∙ differ.0)) (others_differ q es differ.1)
+
+-- where no two keys are the same no question comes twice
+pub questions_differ : (es : List Entry) → IsDistinct same_question (keys_of es) → AllPairs (λ a b. a ≢ b) (questions es)
+unfolding IsDistinct
+questions_differ [] distinct = λ i j d before within. absurd (omega arith)
+questions_differ (e ∷ es) distinct =
+    AllPairs-cons (λ a b. a ≢ b) (asked_by e.0) (questions es) (others_differ e.0 es distinct.0) (questions_differ es distinct.1)
 
 -- the steps read so far, and one more
 pub one_step_more : (steps : List Step) (i : ℕ) (step : Step) → slice_get steps i ≡ Some step → take i steps ++ step ∷ [] ≡ take (i + 1) steps

@@ -1,11 +1,10 @@
 -- Answers that are kept, by what was asked (docs/DEFINITIONS.md, "Kept answers").
-use Rattle.std.specs.Prelude.{◌≡◌, ℕ, ◌-◌, List, ◌∷◌, ◌++◌, map, take, All, Contains, ◌⊎◌}
+use Rattle.std.specs.Prelude.{◌≡◌, ℕ, List, ◌∷◌, ◌++◌, map, take, All, Contains, ◌⊎◌}
 use Rattle.lru.specs.LruCache.{LruCache}
 use Rattle.plan_shop.specs.Shop.{JobShop}
 use Rattle.plan_exact.specs.Solutions.{IsSolution}
 use Rattle.plan_exact.specs.declared.solving.Solved.{Solved}
 use Rattle.plan_exact.specs.declared.memo.Question.{Question}
-use Rattle.plan_exact.specs.declared.memo.TheConstants.{MOST_KEPT}
 
 -- what is asked for: the best schedule of a shop within a budget
 pub record Asked : Type 0 where
@@ -29,11 +28,11 @@ IsAnswered e = IsSolution (asked_by e.0).shop e.0.budget e.1
 
 -- at most 64 answers, each to its key
 pub record IsMemo (kept : LruCache Question Solved) : Type 0 where
-  pub room : kept.cap ≡ MOST_KEPT
+  pub room : kept.cap ≡ 64
   pub answered : All IsAnswered kept.entries
 
 -- a question that was there moves to the front, and a new one goes there, where the last of 64 leaves
 abbrev pub Remembers : List Asked → Asked → List Asked → Type 0
 Remembers old q new =
     ((before : List Asked) × (after : List Asked) × (old ≡ before ++ q ∷ after) × (new ≡ q ∷ before ++ after))
-    ⊎ ((Contains old q → ⊥) × (new ≡ q ∷ take (MOST_KEPT - 1) old))
+    ⊎ ((Contains old q → ⊥) × (new ≡ q ∷ take 63 old))

@@ -10,7 +10,6 @@ use Rattle.plan_shop.specs.declared.rule.ShopRule.TheVariants as rule
 use Rattle.plan_exact.specs.Answers.{Outcome, outcome, is_optimal}
 use Rattle.plan_exact.specs.ShopTrees.{tree_of}
 use Rattle.plan_exact.specs.declared.solving.Solved.{Solved}
-use Rattle.plan_exact.specs.declared.solving.TheConstants.{MOST_STEPS, GREATEST_BUDGET}
 use Rattle.plan_exact.specs.declared.fault.ExactFault.{ExactFault}
 use Rattle.plan_exact.specs.declared.fault.ExactFault.TheVariants as fault
 
@@ -52,10 +51,10 @@ answered_starts s answer = starts_by s (word_or (initial_word s) answer.found.wo
 
 -- the number of steps and the budget are within their limits
 abbrev pub IsBudget : ℕ → Type 0
-IsBudget budget = (1 ≤ budget) × (budget ≤ GREATEST_BUDGET)
+IsBudget budget = (1 ≤ budget) × (budget ≤ 200000)
 
 abbrev pub HasFewSteps : JobShop → Type 0
-HasFewSteps s = count_steps s ≤ MOST_STEPS
+HasFewSteps s = count_steps s ≤ 100
 
 -- a shop is solved as the search answers, within the limits
 pub record IsSolution (s : JobShop) (budget : ℕ) (solved : Solved) : Type 0 where
@@ -69,5 +68,5 @@ pub record IsSolution (s : JobShop) (budget : ℕ) (solved : Solved) : Type 0 wh
 -- a shop is refused for its size, or else for the budget, and for nothing else but want of memory
 abbrev pub RefusesSolving : JobShop → ℕ → ExactFault → Type 0
 RefusesSolving s budget fault.NoMemory = Unit {0}
-RefusesSolving s budget fault.TooLarge = MOST_STEPS < count_steps s
+RefusesSolving s budget fault.TooLarge = 100 < count_steps s
 RefusesSolving s budget fault.BadBudget = HasFewSteps s × (IsBudget budget → ⊥)

@@ -1,6 +1,7 @@
 //! Answers that are kept, so that a shop asked for again is not searched again.
 
-ghost use Rattle.std.specs.Prelude.{◌≡◌, ◌≤◌, ◌⊎◌, [], length, Contains, IfOk, IfErr, IfSome, IfNone, OnOk, OnErr};
+ghost use Rattle.std.specs.Prelude.{◌≡◌, ◌≢◌, ◌≤◌, ◌⊎◌, [], length, Contains, IfOk, IfErr, IfSome, IfNone, OnOk, OnErr};
+ghost use Rattle.std.specs.List.{AllPairs};
 ghost use Rattle.plan_sgs.specs.Problem.{IsActive, IsShortest, makespan};
 ghost use Rattle.plan_shop.specs.Shop.{IsShop, problem_of};
 ghost use Rattle.plan_exact.specs.Solutions.{IsSolution, RefusesSolving};
@@ -29,13 +30,14 @@ struct Question {
 }
 
 impl Question {
-    // The question for the best schedule of a shop within a budget.
+    // The question for the best schedule of a shop within a budget. Every shop has a step of each job for each machine.
     fn new(alloc: Global, shop: &Shop, budget: u64) -> Result<Question, AllocError>
         ensures asked { IfOk result (λ question. asked_by question ≡ asked shop.now budget) }
         ensures shop { IsShop shop.now }
     {
-        let mut steps = Vec::new(alloc);
-        for i in 0..shop.jobs() * shop.machines() {
+        let count = shop.jobs() * shop.machines();
+        let mut steps = Vec::with_capacity(alloc, count as usize)?;
+        for i in 0..count {
             steps.push(shop.step(i))?;
         }
         Ok(Question {
@@ -68,6 +70,7 @@ fn copy_of(alloc: Global, solved: &Solved) -> Result<Solved, AllocError>
 #[derive(Drop)]
 pub struct Memo {
     alloc: Global,
+    // The hash has a fixed seed. Whoever picks the shops can make no more than these 64 keys collide.
     kept: LruCache<Question, Solved>,
 }
 
@@ -95,7 +98,9 @@ impl Memo {
     /// The number of answers that are kept.
     pub fn len(&self) -> usize
         ensures count { result ≡ length self.now }
-        ensures most { result ≤ MOST_KEPT }
+        ensures most { result ≤ 64 }
+        // No question is kept twice.
+        ensures once { AllPairs (λ a b. a ≢ b) self.now }
     {
         self.kept.len()
     }
@@ -108,7 +113,7 @@ impl Memo {
         ensures active { IfOk result (λ solved. IsActive (problem_of shop.now) solved.schedule.starts.items) }
         ensures makespan { IfOk result (λ solved. solved.schedule.makespan ≡ makespan (problem_of shop.now) solved.schedule.starts.items) }
         ensures refused { IfErr result (RefusesSolving shop.now budget) }
-        // Where memory suffices, the question that was answered is kept.
+        // All questions stay as they were where there is no memory to keep this one.
         ensures kept { OnOk result (Remembers self.old (asked shop.now budget) self.new ⊎ (self.new ≡ self.old)) }
         ensures unchanged { OnErr result (self.new ≡ self.old) }
     {

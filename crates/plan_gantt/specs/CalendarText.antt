@@ -4,14 +4,13 @@ use Rattle.jiff_core.specs.Calendar.{IsBetween}
 use Rattle.jiff_core.specs.declared.civil.date.Date.{Date}
 use Rattle.jiff.specs.Words.{date_text}
 use Rattle.plan_gantt.specs.WorkingDay.{IsWeek}
-use Rattle.plan_gantt.specs.declared.first_date.TheConstants.{FIRST_YEAR, LAST_YEAR}
 use Rattle.plan_gantt.specs.declared.calendar.CalendarFault.{CalendarFault}
 use Rattle.plan_gantt.specs.declared.calendar.CalendarFault.TheVariants as fault
 
 -- the text is the date, as YYYY-MM-DD, and its year is from 1900 to 2199
 pub record IsStartText (text : List ℕ) (date : Date) : Type 0 where
   pub spelled : text ≡ date_text date
-  pub year : IsBetween (pos FIRST_YEAR) (pos LAST_YEAR) date.year
+  pub year : IsBetween (pos 1900) (pos 2199) date.year
 
 -- the text is no such date
 abbrev pub HasNoStart : List ℕ → Type 0

@@ -1,16 +1,15 @@
--- The limits of a network (docs/DEFINITIONS.md, "Networks").
+-- The limits of a network, in numbers, so that they hold the program's constants to them (docs/DEFINITIONS.md, "Networks").
 use Rattle.std.specs.Prelude.{ℕ, ◌≡◌, ◌-◌, ◌≤◌, ◌<◌, length, take, slice_index, slice_get, Some, Contains, All, sum}
 use Rattle.plan_net.specs.Network.{Net, count_of, IsActivity}
 use Rattle.plan_net.specs.Path.{IsAcyclic}
-use Rattle.plan_net.specs.declared.limits.TheConstants.{FEWEST_ACTIVITIES, MOST_ACTIVITIES, LONGEST_DURATION, LONGEST_SUM, LONGEST_LAG}
 
 -- from 2 to 502 activities
 abbrev pub HasGoodSize : Net → Type 0
-HasGoodSize net = (FEWEST_ACTIVITIES ≤ count_of net) × (count_of net ≤ MOST_ACTIVITIES)
+HasGoodSize net = (2 ≤ count_of net) × (count_of net ≤ 502)
 
--- the duration of j is within its limit, and so is the sum of those of 1 to j
+-- j lasts at most 10,000, and the durations of 1 to j add up to at most 1,000,000
 abbrev pub IsGoodDuration : Net → ℕ → Type 0
-IsGoodDuration net j = (slice_index net.durations (j - 1) ≤ LONGEST_DURATION) × (sum (take j net.durations) ≤ LONGEST_SUM)
+IsGoodDuration net j = (slice_index net.durations (j - 1) ≤ 10000) × (sum (take j net.durations) ≤ 1000000)
 
 abbrev pub HasGoodDurations : Net → Type 0
 HasGoodDurations net = (j : ℕ) → IsActivity net j → IsGoodDuration net j
@@ -29,9 +28,9 @@ IsNewArc net k = (arc : ℕ × ℕ) → slice_get net.arcs k ≡ Some arc → Co
 abbrev pub HasNewArcs : Net → Type 0
 HasNewArcs net = (k : ℕ) → k < length net.arcs → IsNewArc net k
 
--- each arc has a lag beside it, within its limit
+-- each arc has a lag beside it, at most 10,000
 abbrev pub HasGoodLags : Net → Type 0
-HasGoodLags net = (length net.lags ≡ length net.arcs) × All (λ w. w ≤ LONGEST_LAG) net.lags
+HasGoodLags net = (length net.lags ≡ length net.arcs) × All (λ w. w ≤ 10000) net.lags
 
 -- within the limits
 pub record IsWithinLimits (net : Net) : Type 0 where

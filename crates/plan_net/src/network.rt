@@ -59,7 +59,6 @@ impl Network {
         ensures count { result ≡ count_of self.now }
         ensures sound { IsSound self.now }
     {
-        let _order = &self.order;
         self.arcs.len()
     }
 
@@ -106,6 +105,18 @@ impl Network {
         ensures limit { lag_of self.now i j ≤ LONGEST_LAG }
     {
         self.arcs.lag(i, j)
+    }
+
+    /// The lag of the arc from `i` to `j`, of which the caller knows.
+    pub fn lag_between(&self, i: u32, j: u32) -> u64
+        requires { IsArc self.now i j }
+        ensures value { result ≡ lag_of self.now i j }
+        ensures limit { result ≤ LONGEST_LAG }
+    {
+        match self.lag(i, j) {
+            Some(lag) => lag,
+            None => unreachable!(),
+        }
     }
 
     /// Gives the arc from `i` to `j` the lag. Takes no memory.

@@ -1,9 +1,11 @@
 //! The names of all instances of a text.
 
-ghost use Rattle.std.specs.Prelude.{◌≡◌, ◌⊎◌, Ok, IfOk, IfErr, map};
+ghost use Rattle.std.specs.Prelude.{◌≡◌, ◌⊎◌, Ok, Err, IfOk, IfErr, MatchResult, map};
 ghost use Rattle.std.specs.List.{filter_map};
 ghost use Rattle.plan_psplib.specs.Document.{plain};
-ghost use Rattle.plan_psplib.specs.Faults.{IsWantOfMemory};
+ghost use Rattle.plan_psplib.specs.Faults.{IsWantOfMemory, TellsError};
+ghost use Rattle.plan_psplib.specs.declared.fault.Fault.{Fault};
+ghost use Rattle.plan_psplib.specs.declared.fault.ReadError.TheVariants as errors;
 ghost use Rattle.plan_psplib.specs.Lines.{lines};
 ghost use Rattle.plan_psplib.specs.Reading.{Gives};
 ghost use Rattle.plan_orlib.specs.Instances as spec;
@@ -26,6 +28,8 @@ pub fn names(alloc: Global, text: &[u8]) -> Result<Vec<Vec<u8>>, FileFault>
     ensures only { plain text.now ≡ Ok tt → IfErr result IsWantOfMemory }
     // Which check is the first that fails.
     ensures refused { IfErr result (λ fault. IsWantOfMemory fault ⊎ reading.FailsWith (plain text.now) fault) }
+    // A text that is too long or has a zero byte is refused for that, whatever memory there is.
+    ensures early { (f : Fault) → plain text.now ≡ Err f → MatchResult result (λ _. ⊥) (TellsError (errors.Fault f)) }
 {
     match checked_names(alloc, text) {
         Ok(names) => Ok(names),
@@ -36,7 +40,8 @@ pub fn names(alloc: Global, text: &[u8]) -> Result<Vec<Vec<u8>>, FileFault>
 // The names of a text, or the first check that fails.
 #[tactic(auto, unfolding(crate::specs::Reading::names))]
 fn checked_names(alloc: Global, text: &[u8]) -> Result<Vec<Vec<u8>>, ReadError>
-    ensures { Gives (λ names. map (λ name. name.items) names.items) result (reading.names text.now) }
+    ensures exact { Gives (λ names. map (λ name. name.items) names.items) result (reading.names text.now) }
+    ensures early { (f : Fault) → plain text.now ≡ Err f → MatchResult result (λ _. ⊥) (λ e. e ≡ errors.Fault f) }
 {
     check_text(text)?;
     Ok(all_names(alloc, text)?)

@@ -1,8 +1,9 @@
 //! Shops out of job shop files.
 
-ghost use Rattle.std.specs.Prelude.{◌≡◌, ◌≤◌, ◌-◌, ◌⊎◌, Some, Ok, IfOk, IfErr, MatchResult, Contains, length, map, slice_get};
+ghost use Rattle.std.specs.Prelude.{◌≡◌, ◌≤◌, ◌-◌, ◌⊎◌, Some, Ok, Err, IfOk, IfErr, MatchResult, Contains, length, map, slice_get};
 ghost use Rattle.plan_psplib.specs.Document.{plain};
-ghost use Rattle.plan_psplib.specs.Faults.{IsWantOfMemory};
+ghost use Rattle.plan_psplib.specs.Faults.{IsWantOfMemory, TellsError};
+ghost use Rattle.plan_psplib.specs.declared.fault.Fault.{Fault};
 ghost use Rattle.plan_psplib.specs.declared.fault.FileCode.TheVariants as code;
 ghost use Rattle.plan_psplib.specs.declared.fault.ReadError.TheVariants as errors;
 ghost use Rattle.plan_psplib.specs.Lines.{last_line};
@@ -92,6 +93,8 @@ pub fn read_shop(alloc: Global, text: &[u8], name: &[u8]) -> Result<ShopDoc, Fil
     ensures only { (shop : spec.Shop) → Says name.now text.now shop → MatchResult result (λ read. read ≡ shop) IsWantOfMemory }
     // Which check is the first that fails.
     ensures refused { IfErr result (λ fault. IsWantOfMemory fault ⊎ reading.FailsWith (reading.shop name.now text.now) fault) }
+    // A text that is too long or has a zero byte is refused for that, whatever memory there is.
+    ensures early { (f : Fault) → plain text.now ≡ Err f → MatchResult result (λ _. ⊥) (TellsError (errors.Fault f)) }
     // What is found has one of the names that `names` gives.
     ensures named { IfOk result (λ _. Contains (names_of text.now) name.now) }
     // Of a text that is fit to be read, any other name is missing, told at the last line.
@@ -114,6 +117,7 @@ fn named_listing(alloc: Global, text: &[u8], name: &[u8]) -> Result<Listing, Rea
     ensures exact { Gives spec.shop_of result (reading.shop name.now text.now) }
     ensures found { IfOk result (λ l. Says name.now text.now (spec.shop_of l)) }
     ensures only { (shop : spec.Shop) → Says name.now text.now shop → Gives spec.shop_of result (Ok shop) }
+    ensures early { (f : Fault) → plain text.now ≡ Err f → MatchResult result (λ _. ⊥) (λ e. e ≡ errors.Fault f) }
 {
     instance_listing(alloc, text, name)
 }
@@ -121,7 +125,8 @@ fn named_listing(alloc: Global, text: &[u8], name: &[u8]) -> Result<Listing, Rea
 // The shop of an instance, after the checks of the text.
 #[tactic(auto, unfolding(crate::specs::Reading::shop))]
 fn instance_listing(alloc: Global, text: &[u8], name: &[u8]) -> Result<Listing, ReadError>
-    ensures { Gives spec.shop_of result (reading.shop name.now text.now) }
+    ensures exact { Gives spec.shop_of result (reading.shop name.now text.now) }
+    ensures early { (f : Fault) → plain text.now ≡ Err f → MatchResult result (λ _. ⊥) (λ e. e ≡ errors.Fault f) }
 {
     check_text(text)?;
     let found = Found::of(text, name);

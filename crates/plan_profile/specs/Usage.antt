@@ -12,6 +12,10 @@ abbrev pub Fits : List ℕ → (ℕ → ℕ → ℕ) → ℕ → ℕ → List �
 Fits caps used start d needs =
     (x k : ℕ) → x < d → k < length caps → used (start + x) k + slice_index needs k ≤ slice_index caps k
 
+-- t is no later than the end of time
+abbrev pub IsInTime : ℕ → Type 0
+IsInTime t = t ≤ 10000000
+
 -- t is the least instant from one on at which an interval fits
 pub record IsEarliest (caps : List ℕ) (used : ℕ → ℕ → ℕ) (first d : ℕ) (needs : List ℕ) (t : ℕ) : Type 0 where
   pub since : first ≤ t

@@ -29,7 +29,7 @@ pub struct Profile {
 
 impl Profile {
     ghost use Rattle.std.specs.Prelude.{◌≡◌, ℕ, ◌+◌, ◌-◌, ◌≤◌, ◌<◌, ◌↔◌, length, vec_len, All, Contains, IsTrue, IfOk, OnOk, OnErr};
-    ghost use Rattle.plan_profile.specs.Usage.{Fits, FitsEmpty, IsEarliest, IsChange, IsRising, used_with};
+    ghost use Rattle.plan_profile.specs.Usage.{Fits, FitsEmpty, IsInTime, IsEarliest, IsChange, IsRising, used_with};
     ghost use Rattle.plan_profile.specs.Steps.{changes_until, lists, HasRoomAt};
     ghost use Rattle.plan_profile.specs.InUse.{capacities, in_use};
 
@@ -79,7 +79,7 @@ impl Profile {
     pub fn changes(&self) -> &[u64]
         ensures rising { IsRising result.now }
         ensures exact { (t : ℕ) → Contains result.now t ↔ IsChange (length (capacities self.now)) (in_use self.now) t }
-        ensures in_time { All (λ t. t ≤ END) result.now }
+        ensures in_time { All IsInTime result.now }
     {
         &self.changes
     }
@@ -114,11 +114,11 @@ impl Profile {
 
     /// The least instant from `from` on at which an interval of `d` instants fits.
     pub fn earliest(&self, from: u64, d: u64, needs: &[u64]) -> u64
-        requires from { from ≤ END }
+        requires from { IsInTime from }
         requires needs { length needs.now ≡ length (capacities self.now) }
         requires empty { 0 < d → FitsEmpty (capacities self.now) needs.now }
         ensures least { IsEarliest (capacities self.now) (in_use self.now) from d needs.now result }
-        ensures in_time { result ≤ END }
+        ensures in_time { IsInTime result }
     {
         if d == 0 {
             return from;
@@ -138,12 +138,12 @@ impl Profile {
 
     /// Adds the needs of an interval of `d` instants from `start` on.
     pub fn place(&mut self, start: u64, d: u64, needs: &[u64]) -> Result<(), AllocError>
-        requires end { start + d ≤ END }
+        requires end { IsInTime (start + d) }
         requires needs { length needs.now ≡ length (capacities self.old) }
         requires fits { Fits (capacities self.old) (in_use self.old) start d needs.now }
         ensures caps { capacities self.new ≡ capacities self.old }
         ensures ok { OnOk result ((t k : ℕ) → in_use self.new t k ≡ used_with (in_use self.old) start d needs.now t k) }
-        ensures err { OnErr result ((t k : ℕ) → in_use self.new t k ≡ in_use self.old t k) }
+        ensures err { OnErr result (in_use self.new ≡ in_use self.old) }
     {
         if d == 0 {
             return Ok(());
@@ -162,7 +162,7 @@ impl Profile {
     /// A profile of the same capacities with the same amounts in use.
     pub fn copy(&self) -> Result<Profile, AllocError>
         ensures caps { IfOk result (λ p. capacities p ≡ capacities self.now) }
-        ensures same { IfOk result (λ p. (t k : ℕ) → in_use p t k ≡ in_use self.now t k) }
+        ensures same { IfOk result (λ p. in_use p ≡ in_use self.now) }
     {
         let alloc = *self.caps.allocator();
         let caps = Vec::from_slice(alloc, &self.caps)?;

@@ -1,6 +1,6 @@
 -- A project that a file gives, and what a file is refused for (docs/DEFINITIONS.md, "Files").
 use Rattle.std.specs.Prelude.{◌≡◌, ℕ, ◌≤◌, ◌⊎◌, List, [], All, Ok, Err, length}
-use Rattle.plan_net.specs.Network.{Net, count_of, unlagged}
+use Rattle.plan_net.specs.Network.{Net, count_of, with_lag, unlagged}
 use Rattle.plan_net.specs.Limits.{IsSound}
 use Rattle.plan_net.specs.Cycle.{IsNamedCycle}
 use Rattle.plan_net.specs.declared.fault.NetFault.{NetFault}
@@ -29,6 +29,10 @@ pub record IsProject (p : Project) : Type 0 where
   pub needs : All (AreAmounts (length p.available)) p.needs
   pub available : AreAmounts (length p.available) p.available
   pub resources : (1 ≤ length p.available) × (length p.available ≤ 16)
+
+-- a project with another lag on one arc
+abbrev pub with_project_lag : Project → ℕ → ℕ → ℕ → Project
+with_project_lag p i j lag = record { network = with_lag p.network i j lag; needs = p.needs; available = p.available }
 
 -- the network of a document: its arcs have no lags
 abbrev pub network_of : Document → Net

@@ -1,6 +1,8 @@
 //! An `.sm` text as a document, before its arcs are tested for a cycle.
 
-ghost use Rattle.std.specs.Prelude.{◌≡◌, ◌≤◌, Ok, IfOk, length, count_by};
+ghost use Rattle.std.specs.Prelude.{◌≡◌, ◌≤◌, Ok, Err, IfOk, MatchResult, length, count_by};
+ghost use Rattle.plan_psplib.specs.declared.fault.Fault.{Fault};
+ghost use Rattle.plan_psplib.specs.declared.fault.ReadError.TheVariants as errors;
 ghost use Rattle.plan_psplib.specs.Lines.{is_line_feed};
 ghost use Rattle.std.specs.List.{position};
 ghost use Rattle.plan_psplib.specs.Reading.{Gives, Reads};
@@ -34,6 +36,8 @@ pub fn read_document(alloc: Global, text: &[u8]) -> Result<Document, ReadError>
     ensures found { IfOk result (λ d. Says text.now (spec.document_of d)) }
     // What the text says is read, unless memory runs out.
     ensures only { (d : spec.Document) → Says text.now d → Gives spec.document_of result (Ok d) }
+    // A text that is too long or has a zero byte is refused before any memory is taken.
+    ensures early { (f : Fault) → spec.plain text.now ≡ Err f → MatchResult result (λ _. ⊥) (λ e. e ≡ errors.Fault f) }
 {
     sections_of(alloc, text)
 }
@@ -41,7 +45,8 @@ pub fn read_document(alloc: Global, text: &[u8]) -> Result<Document, ReadError>
 // The sections of a text, one after another.
 #[tactic(auto, unfolding(crate::specs::Document::document))]
 fn sections_of(alloc: Global, text: &[u8]) -> Result<Document, ReadError>
-    ensures { Gives spec.document_of result (spec.document text.now) }
+    ensures exact { Gives spec.document_of result (spec.document text.now) }
+    ensures early { (f : Fault) → spec.plain text.now ≡ Err f → MatchResult result (λ _. ⊥) (λ e. e ≡ errors.Fault f) }
 {
     check_text(text)?;
     let outline = Outline::of(text);

@@ -1,9 +1,12 @@
 //! Projects out of `.sm` texts.
 
-ghost use Rattle.std.specs.Prelude.{◌≡◌, ◌⊎◌, ◌-◌, Some, IfOk, IfErr, MatchResult, length, map, slice_get};
-ghost use Rattle.plan_net.specs.Network.{IsActivity};
-ghost use Rattle.plan_psplib.specs.Document.{Document as Said, document_of};
-ghost use Rattle.plan_psplib.specs.Faults.{IsWantOfMemory};
+ghost use Rattle.std.specs.Prelude.{◌≡◌, ◌⊎◌, ◌-◌, ◌≤◌, Some, Err, IfOk, IfErr, OnOk, OnErr, MatchResult, length, map, slice_get};
+ghost use Rattle.plan_net.specs.Network.{IsActivity, IsArc, with_lag};
+ghost use Rattle.plan_net.specs.Refusals.{IsLagFault};
+ghost use Rattle.plan_psplib.specs.declared.fault.Fault.{Fault};
+ghost use Rattle.plan_psplib.specs.declared.fault.ReadError.TheVariants as errors;
+ghost use Rattle.plan_psplib.specs.Document.{Document as Said, document_of, plain};
+ghost use Rattle.plan_psplib.specs.Faults.{IsWantOfMemory, TellsError};
 ghost use Rattle.plan_psplib.specs.Says.{Says};
 ghost use Rattle.plan_psplib.specs.Project as spec;
 
@@ -58,6 +61,18 @@ impl ProjectDoc {
         &self.avail
     }
 
+    /// Changes the lag of an arc: the second activity then starts at least so many time units after the first has finished. Takes no
+    /// memory.
+    ///
+    /// Refused with [`NetFault::NoArc`] where there is no such arc, then with [`NetFault::BadLag`] where the lag is above 10,000.
+    pub fn set_lag(&mut self, first: u32, second: u32, lag: u64) -> Result<(), NetFault>
+        ensures ok { OnOk result (IsArc self.old.network first second × (lag ≤ 10000) × (self.new ≡ spec.with_project_lag self.old first second lag)) }
+        ensures refused { IfErr result (IsLagFault self.old.network first second lag) }
+        ensures err { OnErr result (self.new ≡ self.old) }
+    {
+        self.network.set_lag(first, second, lag)
+    }
+
     /// The network, the needs of the activities in order, and how much there is of each resource.
     pub fn into_parts(self) -> (Network, Vec<Vec<u64>>, Vec<u64>)
         ensures network { result.0 ≡ self.network }
@@ -79,6 +94,8 @@ pub fn read_sm(alloc: Global, text: &[u8]) -> Result<ProjectDoc, FileFault>
         (λ fault. IsWantOfMemory fault ⊎ spec.NamesCycleOf d fault) }
     // Which check is the first that fails.
     ensures refused { IfErr result (λ fault. IsWantOfMemory fault ⊎ spec.IsFirstFailing text.now fault) }
+    // A text that is too long or has a zero byte is refused for that, whatever memory there is.
+    ensures early { (f : Fault) → plain text.now ≡ Err f → MatchResult result (λ _. ⊥) (TellsError (errors.Fault f)) }
 {
     match read_document(alloc, text) {
         Ok(document) => project_of(alloc, document),

@@ -106,12 +106,11 @@ fn request_row(
 /// `Count` (F9) where no word is left, in the line of the last word.
 #[tactic(auto, unfolding(crate::specs::Requests::duration_at))]
 pub fn next_duration<L: Layout>(words: &mut StreamWords<'_, L>, total: u64) -> Result<u64, Fault>
-    requires { total ≤ 1000000 }
     ensures exact { Reads (λ n. (n, words.new)) result (spec.duration_at total words.old) }
     ensures fits { IfOk result (λ n. total + n ≤ 1000000) }
 {
     let duration = next_number(words)?;
-    if duration.value > GREATEST || total + duration.value > GREATEST_TOTAL {
+    if duration.value > GREATEST || total.saturating_add(duration.value) > GREATEST_TOTAL {
         return Err(Fault::new(FileCode::Limit, duration.line));
     }
     Ok(duration.value)

@@ -6,7 +6,6 @@ mod fault;
 mod generation;
 mod instance;
 mod keys;
-mod lags;
 mod laws;
 mod lists;
 mod placing;

@@ -9,7 +9,6 @@ ghost use Rattle.plan_sgs.specs.Placing.{EndsBy, AllEndBy, Holds, IsTurnList};
 ghost use Rattle.plan_sgs.specs.Rules.{places};
 
 use crate::instance::Instance;
-use crate::lags::lag_between;
 use crate::schedule::Schedule;
 use plan_net::{LONGEST_LAG, Network};
 use plan_profile::Profile;
@@ -43,7 +42,7 @@ fn release_of(instance: &Instance, placed: &[Option<u64>], j: u32) -> u64
     let network = instance.network();
     let mut from = 0u64;
     'preds: for &i in network.preds(j) {
-        let ready = end_of(instance, placed, i) + lag_between(network, i, j);
+        let ready = end_of(instance, placed, i) + network.lag_between(i, j);
         from = from.max(ready);
     }
     from

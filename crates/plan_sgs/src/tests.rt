@@ -1,6 +1,6 @@
 //! Worked examples of serial generation: a project of six activities with one resource.
 
-use crate::{Instance, Rule, SgsFault, serial, serial_list};
+use crate::{Instance, Rule, SgsFault, Verdict, check, serial, serial_list};
 use plan_psplib::{ProjectDoc, read_sm};
 use std::alloc::Global;
 use std::process::Abort;
@@ -119,5 +119,33 @@ fn refuses_needs_and_names(rt: HostRuntime) -> Result<(), Fail> {
     let none = Instance::of_project(&project, &[0]);
     assert!(rt; matches!(none, Err(SgsFault::NeedsTooMuch { act: 2, res: 1 })));
     assert!(rt; matches!(Rule::parse("zzz"), Err(SgsFault::UnknownRule)));
+    Ok(())
+}
+
+#[test]
+fn keeps_a_lag(rt: HostRuntime) -> Result<(), Fail> {
+    let mut project = small_project(&rt, rt.alloc());
+    project.set_lag(2, 4, 2)?;
+    assert!(rt; project.avail().len() == 1);
+    let cases: [(u64, [u64; 6], u64); 2] = [
+        (2, [0, 0, 0, 5, 2, 9], 9),
+        (1, [0, 0, 3, 5, 9, 14], 14),
+    ];
+    for (capacity, starts, makespan) in cases {
+        let caps = [capacity];
+        let instance = Instance::of_project(&project, &caps)?;
+        let found = serial(rt.alloc(), &instance, Rule::LatestFinish)?;
+        assert_eq!(rt;
+            found.starts.as_slice(),
+            starts.as_slice(),
+            "with {capacity}"
+        );
+        assert_eq!(rt; found.makespan, makespan, "with {capacity}");
+    }
+    let caps = [2];
+    let instance = Instance::of_project(&project, &caps)?;
+    let starts: [u64; 6] = [0, 0, 0, 4, 2, 9];
+    assert!(rt; instance.network().len() == starts.len());
+    assert_eq!(rt; check(rt.alloc(), &instance, &starts)?, Verdict::Arc(2, 4));
     Ok(())
 }

@@ -1,21 +1,19 @@
 -- Heads along a job, and what is pending on a machine.
-use Rattle.std.proofs.Common.{◌≡◌, ◌≢◌, ℕ, zero, suc, ◌+◌, ◌-◌, ◌*◌, ◌≤◌, ◌<◌, ◌&&◌, inl, inr, min, max, Bool, true, false, cond, List, [], ◌∷◌, ◌++◌, length, get_or, set, Some, refl, sym, ap, ◌∙◌, subst, arith}
+use Rattle.std.proofs.Common.{◌≡◌, ◌≢◌, ℕ, zero, suc, ◌+◌, ◌-◌, ◌*◌, ◌≤◌, ◌<◌, ◌&&◌, inl, inr, min, true, false, cond, List, [], ◌∷◌, ◌++◌, length, get_or, slice_index, replicate, set, Some, refl, sym, ap, ◌∙◌, subst, arith}
 use Rattle.std.specs.Prelude.{nat_eq, nat_lt, not}
-use Rattle.std.specs.List.{sum_by, slice_get}
+use Rattle.std.specs.List.{slice_get}
 use Rattle.std.proofs.Math.Nat.{mul-le-mul}
 use Rattle.plan_orlib.specs.declared.steps.Step.{Step}
-use Rattle.std.proofs.lemmas.Bool.{cases_eq, cases_lt, cases_Bool, cond-true, cond-false, eq-eqb, ne_eqb, lt-ltb, le-ltb, and_from, and_left, and_right, ltb-true}
-use Rattle.std.proofs.lemmas.List.{get_or-set_same, get_or-set_other, length-set}
+use Rattle.std.proofs.lemmas.Bool.{cases_eq, cond-true, cond-false, eq-eqb, ne_eqb, lt-ltb, le-ltb, and_from, and_left, and_right, ltb-true}
+use Rattle.std.proofs.lemmas.List.{get_or-set_same, get_or-set_other, get_or-replicate, length-set, length-replicate}
 use Rattle.std.proofs.lemmas.List.Sums.{sum_by_push}
-use Rattle.plan_sgs.specs.Problem.{greatest_below}
-use Rattle.plan_sgs.proofs.TotalLemmas.{greatest_same}
 use Rattle.plan_shop.specs.declared.tree.bounding.Pending.{Pending}
 use Rattle.plan_shop.specs.Shop.{JobShop, IsShop, count_steps, idle, time_of, machine_of, job_of, place_of, times_from, those_below}
 use Rattle.plan_shop.specs.Words.{least_of, Placed, steps_done, job_end, machine_free, is_placed, has_next, next_step, raised, ready}
-use Rattle.plan_shop.specs.Bound.{head_at, head_of, tail_of, pending, bound_of_pending, job_bound, bound_of}
+use Rattle.plan_shop.specs.Bound.{head_at, head_of, tail_of, pending, bound_of_pending, job_bound}
 use Rattle.plan_shop.specs.Docs.{IsSmallShop}
 use Rattle.plan_shop.specs.Rules.{time_left}
-use Rattle.plan_shop.specs.Trees.{Standing, standing, placed, is_pending, nothing_pending, IsPendingOf, IsGathered}
+use Rattle.plan_shop.specs.Trees.{Standing, standing, placed, is_pending, OnMachine, on_machine, IsPendingOf, IsGathered}
 use Rattle.plan_shop.proofs.ShopBasics.{job_at, place_at, number_below}
 use Rattle.plan_shop.proofs.TailLemmas.{step-is}
 use Rattle.plan_shop.proofs.PlacingLemmas.{time-short}
@@ -54,42 +52,58 @@ least_of-more f x [] z = refl
 least_of-more f x (y ∷ ys) z = omega (arith, least_of-more f y ys z)
 
 -- one step more among those pending
-pub record IsWithStep (t : Standing) (x : ℕ) (p q : Pending) : Type 0 where
+pub record IsWithStep (t : Standing) (x : ℕ) (p q : OnMachine) : Type 0 where
   pub lasts : 0 < time_of t.shop x
   pub early : head_of t.shop (placed t) x ≤ 20000000
   pub tail_early : tail_of t.shop x ≤ 1000000
-  pub head : q.head ≡ cond (nat_eq p.times 0) (head_of t.shop (placed t) x) (min p.head (head_of t.shop (placed t) x))
+  pub head : q.head ≡ min p.head (head_of t.shop (placed t) x)
   pub times : q.times ≡ p.times + time_of t.shop x
-  pub tail : q.tail ≡ cond (nat_eq p.times 0) (tail_of t.shop x) (min p.tail (tail_of t.shop x))
+  pub tail : q.tail ≡ min p.tail (tail_of t.shop x)
 
-with_step : (t : Standing) (x : ℕ) (p q : Pending) (zs : List ℕ) → IsPendingOf t zs p → IsWithStep t x p q → IsPendingOf t (zs ++ x ∷ []) q
-with_step t x p q [] is w =
-    let none : nat_eq p.times 0 ≡ true = eq-eqb p.times 0 is in
-    let head : q.head ≡ head_of t.shop (placed t) x = w.head ∙ cond-true (nat_eq p.times 0) (head_of t.shop (placed t) x) (min p.head (head_of t.shop (placed t) x)) none in
-    let tail : q.tail ≡ tail_of t.shop x = w.tail ∙ cond-true (nat_eq p.times 0) (tail_of t.shop x) (min p.tail (tail_of t.shop x)) none in
-    (omega (arith, w.times, w.lasts), omega (arith, w.times, is, sum_by_push (time_of t.shop) [] x), head, tail, omega (arith, head, w.early), omega (arith, tail, w.tail_early))
-with_step t x p q (y ∷ ys) is w =
-    let some : nat_eq p.times 0 ≡ false = ne_eqb p.times 0 (λ e. omega (arith, e, is.0)) in
-    let head : q.head ≡ min p.head (head_of t.shop (placed t) x) = w.head ∙ cond-false (nat_eq p.times 0) (head_of t.shop (placed t) x) (min p.head (head_of t.shop (placed t) x)) some in
-    let tail : q.tail ≡ min p.tail (tail_of t.shop x) = w.tail ∙ cond-false (nat_eq p.times 0) (tail_of t.shop x) (min p.tail (tail_of t.shop x)) some in (
-      omega (arith, w.times, w.lasts),
-      omega (arith, w.times, is.1, sum_by_push (time_of t.shop) (y ∷ ys) x),
-      omega (arith, head, is.2, least_of-more (head_of t.shop (placed t)) y ys x),
-      omega (arith, tail, is.3, least_of-more (tail_of t.shop) y ys x),
-      omega (arith, head, w.early),
-      omega (arith, tail, w.tail_early),
-    )
+with_step : (t : Standing) (x : ℕ) (p q : OnMachine) (zs : List ℕ) → IsPendingOf t zs p → IsWithStep t x p q → IsPendingOf t (zs ++ x ∷ []) q
+with_step t x p q [] is w = (
+  omega (arith, w.times, w.lasts),
+  omega (arith, w.times, is.0, sum_by_push (time_of t.shop) [] x),
+  omega (arith, w.head, w.early, is.1),
+  omega (arith, w.tail, w.tail_early, is.2),
+  omega (arith, w.head, w.early),
+  omega (arith, w.tail, w.tail_early),
+)
+with_step t x p q (y ∷ ys) is w = (
+  omega (arith, w.times, w.lasts),
+  omega (arith, w.times, is.1, sum_by_push (time_of t.shop) (y ∷ ys) x),
+  omega (arith, w.head, is.2, least_of-more (head_of t.shop (placed t)) y ys x),
+  omega (arith, w.tail, is.3, least_of-more (tail_of t.shop) y ys x),
+  omega (arith, w.head, w.early),
+  omega (arith, w.tail, w.tail_early),
+)
+
+-- before the first step
+pub gathered-none : (t : Standing) (pending : Pending) → IsSmallShop t.shop → pending ≡ record { heads = replicate 20 1000000000; times = replicate 20 0; tails = replicate 20 1000000000 } → IsGathered t 0 pending
+gathered-none t pending small is = record {
+  heads_size = ap (λ (p : Pending). length p.heads) is ∙ length-replicate {A = ℕ} 20 1000000000;
+  times_size = ap (λ (p : Pending). length p.times) is ∙ length-replicate {A = ℕ} 20 0;
+  tails_size = ap (λ (p : Pending). length p.tails) is ∙ length-replicate {A = ℕ} 20 1000000000;
+  each = λ m below. (
+    ap (λ (p : Pending). slice_index p.times m) is ∙ get_or-replicate {A = ℕ} 20 m 0 0 (omega (arith, below, small.few_machines)),
+    omega (arith, ap (λ (p : Pending). slice_index p.heads m) is ∙ get_or-replicate {A = ℕ} 20 m 1000000000 0 (omega (arith, below, small.few_machines))),
+    omega (arith, ap (λ (p : Pending). slice_index p.tails m) is ∙ get_or-replicate {A = ℕ} 20 m 1000000000 0 (omega (arith, below, small.few_machines))),
+  );
+  few = λ m below. omega (arith, ap (λ (p : Pending). slice_index p.times m) is ∙ get_or-replicate {A = ℕ} 20 m 0 0 (omega (arith, below, small.few_machines)));
+}
 
 -- a step that is placed, or takes no time
-pub gathered-skips : (t : Standing) (x : ℕ) (pending : List Pending) → IsGathered t x pending → ((m : ℕ) → is_pending t m x ≡ false) → IsGathered t (suc x) pending
+pub gathered-skips : (t : Standing) (x : ℕ) (pending : Pending) → IsGathered t x pending → ((m : ℕ) → is_pending t m x ≡ false) → IsGathered t (suc x) pending
 gathered-skips t x pending g none = record {
-  size = g.size;
-  each = λ m below. let Q : List ℕ → Type 0 = λ zs. IsPendingOf t zs (get_or pending m nothing_pending) in subst Q (sym (those-no x (is_pending t m) (none m))) (g.each m below);
+  heads_size = g.heads_size;
+  times_size = g.times_size;
+  tails_size = g.tails_size;
+  each = λ m below. let Q : List ℕ → Type 0 = λ zs. IsPendingOf t zs (on_machine pending m) in subst Q (sym (those-no x (is_pending t m) (none m))) (g.each m below);
   few = λ m below. omega (arith, g.few m below);
 }
 
 -- the placed steps of a job
-pub gathered-placed : (t : Standing) (j k : ℕ) (pending : List Pending) → IsGathered t (j * t.shop.machines) pending → k ≤ steps_done (placed t) j → k ≤ t.shop.machines → IsGathered t (j * t.shop.machines + k) pending
+pub gathered-placed : (t : Standing) (j k : ℕ) (pending : Pending) → IsGathered t (j * t.shop.machines) pending → k ≤ steps_done (placed t) j → k ≤ t.shop.machines → IsGathered t (j * t.shop.machines + k) pending
 gathered-placed t j zero pending g low inside =
     let Q : ℕ → Type 0 = λ n. IsGathered t n pending in
     let same : j * t.shop.machines ≡ j * t.shop.machines + 0 = omega arith in
@@ -103,50 +117,82 @@ gathered-placed t j (suc k) pending g low inside =
     let same : suc x ≡ j * t.shop.machines + suc k = omega arith in
     subst Q same (gathered-skips t x pending before (λ m. and_left (not (is_placed t.shop (placed t) x)) (nat_eq (machine_of t.shop x) m && nat_lt 0 (time_of t.shop x)) (ap not there)))
 
-pub gathered-at_once : (t : Standing) (x : ℕ) (pending : List Pending) → IsGathered t x pending → time_of t.shop x ≡ 0 → IsGathered t (suc x) pending
+pub gathered-at_once : (t : Standing) (x : ℕ) (pending : Pending) → IsGathered t x pending → time_of t.shop x ≡ 0 → IsGathered t (suc x) pending
 gathered-at_once t x pending g none =
     gathered-skips t x pending g (λ m. and_right (not (is_placed t.shop (placed t) x)) (nat_eq (machine_of t.shop x) m && nat_lt 0 (time_of t.shop x))
     (and_right (nat_eq (machine_of t.shop x) m) (nat_lt 0 (time_of t.shop x)) (le-ltb 0 (time_of t.shop x) (omega (arith, none)))))
 
--- an unplaced step that takes some time
-pub gathered-more : (t : Standing) (x : ℕ) (pending : List Pending) → IsSmallShop t.shop → IsGathered t x pending → is_placed t.shop (placed t) x ≡ false → (m : ℕ) → m < t.shop.machines → m ≡ machine_of t.shop x
-    → (q : Pending) → IsWithStep t x (get_or pending m nothing_pending) q → IsGathered t (suc x) (set pending m q)
-gathered-more t x pending small g open_ m on m_is q w = record { size = length-set pending m q ∙ g.size; each = each; few = few } where
-  inside : m < length pending
-  inside = omega (arith, on, g.size, small.few_machines)
+same_parts : (p q : OnMachine) → p.head ≡ q.head → p.times ≡ q.times → p.tail ≡ q.tail → p ≡ q
+same_parts p q head times tail =
+    ap (λ (n : ℕ). record { head = n; times = p.times; tail = p.tail }) head
+    ∙ ap (λ (n : ℕ). record { head = q.head; times = n; tail = p.tail }) times
+    ∙ ap (λ (n : ℕ). record { head = q.head; times = q.times; tail = n }) tail
 
-  each : (i : ℕ) → i < t.shop.machines → IsPendingOf t (those_below (suc x) (is_pending t i)) (get_or (set pending m q) i nothing_pending)
+-- a machine's part is replaced, and those of the others stay
+pub record IsReplaced (old new : Pending) (m : ℕ) (q : OnMachine) : Type 0 where
+  pub heads : new.heads ≡ set old.heads m q.head
+  pub times : new.times ≡ set old.times m q.times
+  pub tails : new.tails ≡ set old.tails m q.tail
+
+replaced-same : (old new : Pending) (m : ℕ) (q : OnMachine) → m < length old.heads → m < length old.times → m < length old.tails → IsReplaced old new m q → on_machine new m ≡ q
+replaced-same old new m q heads times tails r =
+    let head : get_or new.heads m 0 ≡ q.head = ap (λ (xs : List ℕ). get_or xs m 0) r.heads ∙ get_or-set_same old.heads m q.head 0 heads in
+    let time : get_or new.times m 0 ≡ q.times = ap (λ (xs : List ℕ). get_or xs m 0) r.times ∙ get_or-set_same old.times m q.times 0 times in
+    let tail : get_or new.tails m 0 ≡ q.tail = ap (λ (xs : List ℕ). get_or xs m 0) r.tails ∙ get_or-set_same old.tails m q.tail 0 tails in
+    same_parts (on_machine new m) q head time tail
+
+replaced-other : (old new : Pending) (m i : ℕ) (q : OnMachine) → i ≢ m → IsReplaced old new m q → on_machine new i ≡ on_machine old i
+replaced-other old new m i q other r =
+    let head : get_or new.heads i 0 ≡ get_or old.heads i 0 = ap (λ (xs : List ℕ). get_or xs i 0) r.heads ∙ get_or-set_other old.heads m i q.head 0 other in
+    let time : get_or new.times i 0 ≡ get_or old.times i 0 = ap (λ (xs : List ℕ). get_or xs i 0) r.times ∙ get_or-set_other old.times m i q.times 0 other in
+    let tail : get_or new.tails i 0 ≡ get_or old.tails i 0 = ap (λ (xs : List ℕ). get_or xs i 0) r.tails ∙ get_or-set_other old.tails m i q.tail 0 other in
+    same_parts (on_machine new i) (on_machine old i) head time tail
+
+-- an unplaced step that takes some time
+pub gathered-more : (t : Standing) (x : ℕ) (pending new : Pending) → IsSmallShop t.shop → IsGathered t x pending → is_placed t.shop (placed t) x ≡ false → (m : ℕ) → m < t.shop.machines → m ≡ machine_of t.shop x
+    → (q : OnMachine) → IsWithStep t x (on_machine pending m) q → IsReplaced pending new m q → IsGathered t (suc x) new
+gathered-more t x pending new small g open_ m on m_is q w r = record {
+  heads_size = ap (λ (xs : List ℕ). length xs) r.heads ∙ length-set pending.heads m q.head ∙ g.heads_size;
+  times_size = ap (λ (xs : List ℕ). length xs) r.times ∙ length-set pending.times m q.times ∙ g.times_size;
+  tails_size = ap (λ (xs : List ℕ). length xs) r.tails ∙ length-set pending.tails m q.tail ∙ g.tails_size;
+  each = each;
+  few = few;
+} where
+  here : on_machine new m ≡ q
+  here = replaced-same pending new m q (omega (arith, on, g.heads_size, small.few_machines)) (omega (arith, on, g.times_size, small.few_machines)) (omega (arith, on, g.tails_size, small.few_machines)) r
+
+  each : (i : ℕ) → i < t.shop.machines → IsPendingOf t (those_below (suc x) (is_pending t i)) (on_machine new i)
   each i below = elim (cases_eq i m) [
     | inl same ↦
-        let Q : ℕ → Type 0 = λ n. IsPendingOf t (those_below (suc x) (is_pending t n)) (get_or (set pending m q) n nothing_pending) in
-        let R : List ℕ → Type 0 = λ zs. IsPendingOf t zs (get_or (set pending m q) m nothing_pending) in
-        let P : Pending → Type 0 = λ p. IsPendingOf t (those_below x (is_pending t m) ++ x ∷ []) p in
+        let Q : ℕ → Type 0 = λ n. IsPendingOf t (those_below (suc x) (is_pending t n)) (on_machine new n) in
+        let R : List ℕ → Type 0 = λ zs. IsPendingOf t zs (on_machine new m) in
+        let P : OnMachine → Type 0 = λ p. IsPendingOf t (those_below x (is_pending t m) ++ x ∷ []) p in
         let yes_ : is_pending t m x ≡ true = and_from (not (is_placed t.shop (placed t) x)) (nat_eq (machine_of t.shop x) m && nat_lt 0 (time_of t.shop x)) (ap not open_)
         (and_from (nat_eq (machine_of t.shop x) m) (nat_lt 0 (time_of t.shop x)) (eq-eqb (machine_of t.shop x) m (sym m_is)) (lt-ltb 0 (time_of t.shop x) w.lasts)) in
-        subst Q (sym same) (subst R (sym (those-yes x (is_pending t m) yes_)) (subst P (sym (get_or-set_same pending m q nothing_pending inside)) (with_step t x (get_or pending m nothing_pending) q (those_below x (is_pending t m)) (g.each m on) w)))
+        subst Q (sym same) (subst R (sym (those-yes x (is_pending t m) yes_)) (subst P (sym here) (with_step t x (on_machine pending m) q (those_below x (is_pending t m)) (g.each m on) w)))
     | inr other ↦
-        let R : List ℕ → Type 0 = λ zs. IsPendingOf t zs (get_or (set pending m q) i nothing_pending) in
-        let P : Pending → Type 0 = λ p. IsPendingOf t (those_below x (is_pending t i)) p in
+        let R : List ℕ → Type 0 = λ zs. IsPendingOf t zs (on_machine new i) in
+        let P : OnMachine → Type 0 = λ p. IsPendingOf t (those_below x (is_pending t i)) p in
         let no_ : is_pending t i x ≡ false = and_right (not (is_placed t.shop (placed t) x)) (nat_eq (machine_of t.shop x) i && nat_lt 0 (time_of t.shop x))
         (and_left (nat_eq (machine_of t.shop x) i) (nat_lt 0 (time_of t.shop x)) (ne_eqb (machine_of t.shop x) i (λ e. other (sym e ∙ sym m_is)))) in
-        subst R (sym (those-no x (is_pending t i) no_)) (subst P (sym (get_or-set_other pending m i q nothing_pending other)) (g.each i below))
+        subst R (sym (those-no x (is_pending t i) no_)) (subst P (sym (replaced-other pending new m i q other r)) (g.each i below))
   ]
 
-  few : (i : ℕ) → i < t.shop.machines → (get_or (set pending m q) i nothing_pending).times ≤ suc x * 10000
+  few : (i : ℕ) → i < t.shop.machines → slice_index new.times i ≤ suc x * 10000
   few i below = elim (cases_eq i m) [
-    | inl same ↦ omega (arith, g.few m on, w.times, time-short t.shop small x, ap (λ (p : Pending). p.times) (get_or-set_same pending m q nothing_pending inside), ap (λ n. (get_or (set pending m q) n nothing_pending).times) same)
-    | inr other ↦ omega (arith, g.few i below, ap (λ (p : Pending). p.times) (get_or-set_other pending m i q nothing_pending other))
+    | inl same ↦ omega (arith, g.few m on, w.times, time-short t.shop small x, ap (λ (p : OnMachine). p.times) here, ap (λ n. slice_index new.times n) same)
+    | inr other ↦ omega (arith, g.few i below, ap (λ (p : OnMachine). p.times) (replaced-other pending new m i q other r))
   ]
 
 -- ---- bounds
 
-pub pending-bound : (t : Standing) (zs : List ℕ) (p : Pending) → IsPendingOf t zs p → cond (nat_eq p.times 0) 0 (p.head + p.times + p.tail) ≡ bound_of_pending t.shop (placed t) zs
-pending-bound t [] p is = cond-true (nat_eq p.times 0) 0 (p.head + p.times + p.tail) (eq-eqb p.times 0 is)
+pub pending-bound : (t : Standing) (zs : List ℕ) (p : OnMachine) → IsPendingOf t zs p → cond (nat_eq p.times 0) 0 (p.head + p.times + p.tail) ≡ bound_of_pending t.shop (placed t) zs
+pending-bound t [] p is = cond-true (nat_eq p.times 0) 0 (p.head + p.times + p.tail) (eq-eqb p.times 0 is.0)
 pending-bound t (x ∷ zs) p is =
     omega (arith, cond-false (nat_eq p.times 0) 0 (p.head + p.times + p.tail) (ne_eqb p.times 0 (λ e. omega (arith, e, is.0))), is.1, is.2, is.3)
 
-pub pending-small : (t : Standing) (zs : List ℕ) (p : Pending) → IsPendingOf t zs p → 0 < p.times → (p.head ≤ 20000000) × (p.tail ≤ 1000000)
-pending-small t [] p is some = absurd (omega (arith, is, some))
+pub pending-small : (t : Standing) (zs : List ℕ) (p : OnMachine) → IsPendingOf t zs p → 0 < p.times → (p.head ≤ 20000000) × (p.tail ≤ 1000000)
+pending-small t [] p is some = absurd (omega (arith, is.0, some))
 pending-small t (x ∷ zs) p is some = (is.4, is.5)
 
 -- ---- the step at a place of a job, as it is read
@@ -219,17 +265,17 @@ job_bound-next t j head time tail next head_is time_is tail_is =
     omega (arith, is, head_is, time_is, tail_is, ap (λ n. times_from s (next_step s xs j) n) count)
 
 -- the bound of a machine, once all steps are gathered
-pub machine_bound-is : (t : Standing) (ps : List Pending) → IsShop t.shop → IsGathered t (t.shop.jobs * t.shop.machines) ps → (m b : ℕ) → m < t.shop.machines
-    → b ≡ cond (nat_eq (get_or ps m nothing_pending).times 0) 0 ((get_or ps m nothing_pending).head + (get_or ps m nothing_pending).times + (get_or ps m nothing_pending).tail)
+pub machine_bound-is : (t : Standing) (ps : Pending) → IsShop t.shop → IsGathered t (t.shop.jobs * t.shop.machines) ps → (m b : ℕ) → m < t.shop.machines
+    → b ≡ cond (nat_eq (on_machine ps m).times 0) 0 ((on_machine ps m).head + (on_machine ps m).times + (on_machine ps m).tail)
     → b ≡ bound_of_pending t.shop (placed t) (pending t.shop (placed t) m)
 machine_bound-is t ps shop g m b below is =
-    is ∙ pending-bound t (those_below (t.shop.jobs * t.shop.machines) (is_pending t m)) (get_or ps m nothing_pending) (g.each m below)
+    is ∙ pending-bound t (those_below (t.shop.jobs * t.shop.machines) (is_pending t m)) (on_machine ps m) (g.each m below)
     ∙ ap (λ n. bound_of_pending t.shop (placed t) (those_below n (is_pending t m))) (sym shop.all_steps)
 
-pub gathered-small : (t : Standing) (n : ℕ) (ps : List Pending) → IsGathered t n ps → n ≤ 1000 → (m : ℕ) → m < t.shop.machines → 0 < (get_or ps m nothing_pending).times
-    → (get_or ps m nothing_pending).head + (get_or ps m nothing_pending).times + (get_or ps m nothing_pending).tail < 1000000000
+pub gathered-small : (t : Standing) (n : ℕ) (ps : Pending) → IsGathered t n ps → n ≤ 1000 → (m : ℕ) → m < t.shop.machines → 0 < (on_machine ps m).times
+    → (on_machine ps m).head + (on_machine ps m).times + (on_machine ps m).tail < 1000000000
 gathered-small t n ps g few m below some =
-    let small = pending-small t (those_below n (is_pending t m)) (get_or ps m nothing_pending) (g.each m below) some in
+    let small = pending-small t (those_below n (is_pending t m)) (on_machine ps m) (g.each m below) some in
     omega (arith, small.0, small.1, g.few m below, few)
 
 -- the time left of a job that has a next step

@@ -1,5 +1,5 @@
 -- Where the tree of a shop stands, and what it keeps of what its word places (docs/DEFINITIONS.md, "Job shops").
-use Rattle.std.specs.Prelude.{◌≡◌, ℕ, ◌≤◌, ◌<◌, Bool, cond, ◌&&◌, ◌+◌, ◌*◌, not, min, nat_lt, nat_eq, List, [], ◌∷◌, Option, Some, None, length, map, get_or, slice_index, Contains}
+use Rattle.std.specs.Prelude.{◌≡◌, ℕ, ◌≤◌, ◌<◌, Bool, cond, ◌&&◌, ◌*◌, not, nat_lt, nat_eq, List, [], ◌∷◌, Option, Some, None, length, map, slice_index, Contains}
 use Rattle.std.specs.List.{sum_by}
 use Rattle.plan_shop.specs.Shop.{JobShop, count_steps, time_of, machine_of, job_of, place_of, those_below}
 use Rattle.plan_shop.specs.Words.{least_of, first_least, Placed, steps_done, has_next, is_placed, job_end, machine_free, next_step, next_end, ready, place, job_of_letter, with_next, letters_after, start_in}
@@ -84,19 +84,27 @@ sooner (Some first) job end = cond (nat_lt end first.1) (Some (job, end)) (Some 
 abbrev pub is_pending : Standing → ℕ → ℕ → Bool
 is_pending t m x = not (is_placed t.shop (placed t) x) && (nat_eq (machine_of t.shop x) m && nat_lt 0 (time_of t.shop x))
 
-abbrev pub nothing_pending : Pending
-nothing_pending = record { head = 0; times = 0; tail = 0 }
+-- the least head, all times and the least tail of what is pending on one machine
+pub record OnMachine : Type 0 where
+  pub head : ℕ
+  pub times : ℕ
+  pub tail : ℕ
 
--- of some steps the sum of all times, and where there are any the least head and the least tail
-abbrev pub IsPendingOf : Standing → List ℕ → Pending → Type 0
-IsPendingOf t [] p = p.times ≡ 0
+abbrev pub on_machine : Pending → ℕ → OnMachine
+on_machine pending m = record { head = slice_index pending.heads m; times = slice_index pending.times m; tail = slice_index pending.tails m }
+
+-- of some steps the sum of all times, the least head and the least tail; of none no time, and a head and a tail beyond all others
+abbrev pub IsPendingOf : Standing → List ℕ → OnMachine → Type 0
+IsPendingOf t [] p = (p.times ≡ 0) × (20000000 ≤ p.head) × (1000000 ≤ p.tail)
 IsPendingOf t (x ∷ zs) p =
     (0 < p.times) × (p.times ≡ sum_by (time_of t.shop) (x ∷ zs))
     × (p.head ≡ least_of (head_of t.shop (placed t)) x zs) × (p.tail ≡ least_of (tail_of t.shop) x zs)
     × (p.head ≤ 20000000) × (p.tail ≤ 1000000)
 
 -- of the first n steps, machine by machine
-pub record IsGathered (t : Standing) (n : ℕ) (pending : List Pending) : Type 0 where
-  pub size : length pending ≡ 20
-  pub each : (m : ℕ) → m < t.shop.machines → IsPendingOf t (those_below n (is_pending t m)) (get_or pending m nothing_pending)
-  pub few : (m : ℕ) → m < t.shop.machines → (get_or pending m nothing_pending).times ≤ n * 10000
+pub record IsGathered (t : Standing) (n : ℕ) (pending : Pending) : Type 0 where
+  pub heads_size : length pending.heads ≡ 20
+  pub times_size : length pending.times ≡ 20
+  pub tails_size : length pending.tails ≡ 20
+  pub each : (m : ℕ) → m < t.shop.machines → IsPendingOf t (those_below n (is_pending t m)) (on_machine pending m)
+  pub few : (m : ℕ) → m < t.shop.machines → slice_index pending.times m ≤ n * 10000

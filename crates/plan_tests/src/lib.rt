@@ -1,14 +1,30 @@
-//! Worked examples that cross crates: files that aren't there, each fault of a project file on
-//! its way to its line, and schedules by each rule.
+//! Worked examples that cross crates: files that aren't there, each fault of a project file on its way to its line, schedules by
+//! each rule, and best schedules; small random projects and shops beside a plain slow program; and calls whose allocations are refused.
 #![tactic(auto)]
 
 #[cfg(test)]
 mod best;
 #[cfg(test)]
+mod devices;
+#[cfg(test)]
+mod drawn;
+#[cfg(test)]
+mod drawn_projects;
+#[cfg(test)]
+mod drawn_shops;
+#[cfg(test)]
+mod drawn_trees;
+#[cfg(test)]
 mod faults;
 #[cfg(test)]
 mod files;
 #[cfg(test)]
+mod refusals;
+#[cfg(test)]
 mod schedules;
 #[cfg(test)]
+mod seen;
+#[cfg(test)]
 mod six;
+#[cfg(test)]
+mod slow;

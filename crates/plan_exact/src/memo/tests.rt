@@ -1,15 +1,12 @@
 //! What a memo keeps where memory suffices, which no contract can say.
 
-use super::{MOST_KEPT, Memo};
-use crate::Kind;
+use super::{MOST_KEPT, Memo, Question};
+use crate::{ExactFault, Kind};
 use plan_orlib::read_shop;
 use plan_shop::Shop;
-use std::alloc::Global;
+use std::alloc::{AllocError, Global};
 use std::process::Abort;
 use std::test::Fail;
-
-// Two jobs on two machines.
-const PAIR: &str = "2 2\n0 4 1 1\n0 1 1 3\n";
 
 // The shop of a text, with all its machines open.
 fn shop_of(rt: &impl Abort, alloc: Global, text: &str) -> Shop {
@@ -21,50 +18,58 @@ fn shop_of(rt: &impl Abort, alloc: Global, text: &str) -> Shop {
         panic!(rt; "{text} has too many machines");
     };
     let Ok(shop) = Shop::of_doc(alloc, &doc, usable) else {
-        panic!(rt; "{text} isn't open");
+        panic!(rt; "{text} has a closed machine");
     };
     shop
 }
 
+// A shop of one step.
+fn one_step(rt: &impl Abort, alloc: Global, time: u64) -> Result<Shop, AllocError> {
+    let text = format!(in alloc; "1 1\n0 {time}\n")?;
+    Ok(shop_of(rt, alloc, &text))
+}
+
+// What a memo answers, and how many answers it keeps then.
+fn asked(memo: &mut Memo, shop: &Shop, budget: u64) -> Result<(Kind, u64, usize), ExactFault> {
+    let solved = memo.solve(shop, budget)?;
+    Ok((solved.kind, solved.schedule.makespan, memo.len()))
+}
+
 #[test]
 fn keeps_an_answer_for_each_budget(rt: HostRuntime) -> Result<(), Fail> {
-    let shop = shop_of(&rt, rt.alloc(), PAIR);
+    let shop = shop_of(&rt, rt.alloc(), "2 2\n0 4 1 1\n0 1 1 3\n");
     let mut memo = Memo::new(rt.alloc())?;
+    assert_eq!(rt; memo.len(), 0);
     let cases = [
-        (6, Kind::Optimal, 6, 1),
-        (5, Kind::Budget, 8, 2),
-        (6, Kind::Optimal, 6, 2),
+        (6, (Kind::Optimal, 6, 1)),
+        (5, (Kind::Budget, 8, 2)),
+        (6, (Kind::Optimal, 6, 2)),
     ];
-    for (budget, kind, makespan, kept) in cases {
-        let solved = memo.solve(&shop, budget)?;
-        assert_eq!(rt;
-            (solved.kind, solved.schedule.makespan, memo.len()),
-            (kind, makespan, kept),
-            "budget {budget}"
-        );
+    for (budget, wanted) in cases {
+        assert_eq!(rt; asked(&mut memo, &shop, budget)?, wanted, "budget {budget}");
     }
+    assert!(rt; matches!(memo.solve(&shop, 0), Err(ExactFault::BadBudget)));
+    assert_eq!(rt; memo.len(), 2);
     Ok(())
 }
 
 #[test]
-fn keeps_the_answers_to_the_last_64(rt: HostRuntime) -> Result<(), Fail> {
+fn forgets_the_least_recently_asked(rt: HostRuntime) -> Result<(), Fail> {
     let mut memo = Memo::new(rt.alloc())?;
-    for time in 1..=65u64 {
-        let text = format!(in rt.alloc(); "1 1\n0 {time}\n")?;
-        let shop = shop_of(&rt, rt.alloc(), &text);
-        let solved = memo.solve(&shop, 1)?;
+    for time in 1..=65 {
+        let shop = one_step(&rt, rt.alloc(), time)?;
         let kept = MOST_KEPT.min(time as usize);
-        assert_eq!(rt;
-            (solved.kind, solved.schedule.makespan, memo.len()),
-            (Kind::Optimal, time, kept),
-            "time {time}"
-        );
+        assert_eq!(rt; asked(&mut memo, &shop, 1)?, (Kind::Optimal, time, kept));
     }
-    let first = shop_of(&rt, rt.alloc(), "1 1\n0 1\n");
-    let solved = memo.solve(&first, 1)?;
-    assert_eq!(rt;
-        (solved.kind, solved.schedule.makespan, memo.len()),
-        (Kind::Optimal, 1, MOST_KEPT)
-    );
+    // The second is asked again, and then the first, which was forgotten.
+    for time in [2, 1] {
+        let shop = one_step(&rt, rt.alloc(), time)?;
+        assert_eq!(rt; asked(&mut memo, &shop, 1)?, (Kind::Optimal, time, 64));
+    }
+    for (time, kept) in [(1, true), (2, true), (3, false), (4, true), (65, true)] {
+        let shop = one_step(&rt, rt.alloc(), time)?;
+        let question = Question::new(rt.alloc(), &shop, 1)?;
+        assert_eq!(rt; memo.kept.contains(&question), kept, "time {time}");
+    }
     Ok(())
 }

@@ -6,7 +6,6 @@ ghost use Rattle.plan_sgs.specs.Instances.{problem_of};
 ghost use Rattle.plan_sgs.specs.Checking.{IsBrokenAnswer, IsTooSoon};
 
 use crate::instance::Instance;
-use crate::lags::lag_between;
 use plan_net::Network;
 use plan_profile::END;
 
@@ -20,7 +19,7 @@ fn first_too_soon(network: &Network, starts: &[u64], i: u32) -> Option<u32>
 {
     let end = starts[i as usize - 1] + network.duration(i);
     'succs: for &j in network.succs(i) {
-        if starts[j as usize - 1] < end + lag_between(network, i, j) {
+        if starts[j as usize - 1] < end + network.lag_between(i, j) {
             return Some(j);
         }
     }

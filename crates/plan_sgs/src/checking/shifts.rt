@@ -8,7 +8,6 @@ ghost use Rattle.plan_sgs.specs.Verdicts.{HasShift};
 ghost use Rattle.plan_sgs.specs.Checking.{HoldsBefore, IsShiftAnswer};
 
 use crate::instance::Instance;
-use crate::lags::lag_between;
 use plan_net::Network;
 use plan_profile::{END, Profile};
 use std::alloc::{AllocError, Global};
@@ -42,7 +41,7 @@ fn release_of(network: &Network, starts: &[u64], j: u32) -> u64
     let mut latest = 0u64;
     'preds: for &i in network.preds(j) {
         let end = starts[i as usize - 1] + network.duration(i);
-        latest = latest.max(end + lag_between(network, i, j));
+        latest = latest.max(end + network.lag_between(i, j));
     }
     latest
 }

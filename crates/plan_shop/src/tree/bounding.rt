@@ -1,6 +1,6 @@
 //! The bound of a word.
 
-ghost use Rattle.std.specs.Prelude.{◌≡◌, ◌+◌, ◌*◌, ◌≤◌, ◌<◌, suc, cond, min, nat_eq};
+ghost use Rattle.std.specs.Prelude.{◌≡◌, ◌+◌, ◌*◌, ◌≤◌, ◌<◌, suc, cond, nat_eq};
 ghost use Rattle.plan_sgs.specs.Problem.{greatest_below};
 ghost use Rattle.plan_shop.specs.Bound as bounds;
 ghost use Rattle.plan_shop.specs.Trees as spec;
@@ -10,45 +10,24 @@ use crate::tree::ShopTree;
 // The most machines of a shop.
 const MOST_MACHINES: usize = 20;
 
-// Of unplaced steps of positive time on one machine: the least head, the sum of all times, and the least tail; no time where there is no step.
-#[derive(Clone, Copy, Drop)]
-struct Pending {
-    head: u64,
-    times: u64,
-    tail: u64,
-}
+// More than any head or tail.
+const FAR: u64 = 1_000_000_000;
 
-// One step more among those of a machine.
-fn with_step(pending: Pending, head: u64, time: u64, tail: u64) -> Pending
-    requires { pending.times + time ≤ 100000000 }
-    ensures head { result.head ≡ cond (nat_eq pending.times 0) head (min pending.head head) }
-    ensures times { result.times ≡ pending.times + time }
-    ensures tail { result.tail ≡ cond (nat_eq pending.times 0) tail (min pending.tail tail) }
-{
-    if pending.times == 0 {
-        return Pending {
-            head,
-            times: time,
-            tail,
-        };
-    }
-    Pending {
-        head: pending.head.min(head),
-        times: pending.times + time,
-        tail: pending.tail.min(tail),
-    }
+// Of the unplaced steps of positive time on each machine: the least head, the sum of all times, and the least tail. Where there is
+// no step there is no time, and head and tail are beyond those of all steps.
+#[derive(Drop)]
+struct Pending {
+    heads: [u64; MOST_MACHINES],
+    times: [u64; MOST_MACHINES],
+    tails: [u64; MOST_MACHINES],
 }
 
 // The bound of what is pending on a machine.
-fn machine_bound(pending: Pending) -> u64
-    requires { 0 < pending.times → pending.head + pending.times + pending.tail < 1000000000 }
-    ensures { result ≡ cond (nat_eq pending.times 0) 0 (pending.head + pending.times + pending.tail) }
+fn machine_bound(head: u64, times: u64, tail: u64) -> u64
+    requires { 0 < times → head + times + tail < 1000000000 }
+    ensures { result ≡ cond (nat_eq times 0) 0 (head + times + tail) }
 {
-    if pending.times == 0 {
-        0
-    } else {
-        pending.head + pending.times + pending.tail
-    }
+    if times == 0 { 0 } else { head + times + tail }
 }
 
 impl<'a> ShopTree<'a> {
@@ -65,43 +44,37 @@ impl<'a> ShopTree<'a> {
     }
 
     // Gathers what is pending of a job, machine by machine.
-    fn gather(&self, job: u32, pending: &mut [Pending])
+    fn gather(&self, job: u32, pending: &mut Pending)
         requires job { job < self.now.shop.jobs }
         requires before { spec.IsGathered self.now (job * self.now.shop.machines) pending.old }
         ensures { spec.IsGathered self.now (suc job * self.now.shop.machines) pending.new }
     {
         let machines = self.shop.machines();
+        let tails = self.tails.as_slice();
+        let free = self.free.as_slice();
         let mut end = self.ends[job as usize];
         for place in self.done[job as usize]..machines {
             let i = job * machines + place;
             let step = self.shop.step(i);
-            let head = self.raised(end, step);
             if step.time > 0 {
                 let machine = step.machine as usize;
-                pending[machine] = with_step(
-                    pending[machine],
-                    head,
-                    step.time,
-                    self.tails[i as usize],
-                );
+                let head = end.max(free[machine]);
+                pending.heads[machine] = pending.heads[machine].min(head);
+                pending.times[machine] += step.time;
+                pending.tails[machine] = pending.tails[machine].min(tails[i as usize]);
+                end = head + step.time;
             }
-            end = head + step.time;
         }
     }
 
-    // What is pending, machine by machine.
-    fn pending(&self) -> [Pending; MOST_MACHINES]
-        ensures { spec.IsGathered self.now (self.now.shop.jobs * self.now.shop.machines) result }
+    // Gathers what is pending of all jobs.
+    fn gather_all(&self, pending: &mut Pending)
+        requires { spec.IsGathered self.now 0 pending.old }
+        ensures { spec.IsGathered self.now (self.now.shop.jobs * self.now.shop.machines) pending.new }
     {
-        let mut pending = [Pending {
-            head: 0,
-            times: 0,
-            tail: 0,
-        }; MOST_MACHINES];
         for job in 0..self.shop.jobs() {
-            self.gather(job, &mut pending);
+            self.gather(job, pending);
         }
-        pending
     }
 
     // The greatest bound of a job.
@@ -120,10 +93,21 @@ impl<'a> ShopTree<'a> {
     pub fn bound(&self) -> u64
         ensures { result ≡ bounds.bound_of self.now.shop (spec.placed self.now) }
     {
-        let pending = self.pending();
+        let machines = self.shop.machines();
+        let mut pending = Pending {
+            heads: [FAR; MOST_MACHINES],
+            times: [0; MOST_MACHINES],
+            tails: [FAR; MOST_MACHINES],
+        };
+        self.gather_all(&mut pending);
         let mut greatest: u64 = self.greatest_job_bound();
-        for machine in 0..self.shop.machines() {
-            greatest = greatest.max(machine_bound(pending[machine as usize]));
+        for machine in 0..machines {
+            let m = machine as usize;
+            greatest = greatest.max(machine_bound(
+                pending.heads[m],
+                pending.times[m],
+                pending.tails[m],
+            ));
         }
         greatest
     }

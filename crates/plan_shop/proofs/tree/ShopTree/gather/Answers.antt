@@ -1,12 +1,13 @@
-use Rattle.std.proofs.Common.{◌≡◌, ◌+◌, ◌-◌, ◌*◌, ◌<◌, ◌≤◌, ◌∙◌, ℕ, List, suc, ap, sym, subst, set, get_or, cond, min, arith}
+use Rattle.std.proofs.Common.{◌≡◌, ◌+◌, ◌-◌, ◌*◌, ◌<◌, ◌≤◌, ◌∙◌, ℕ, List, suc, ap, sym, subst, get_or, min, max, arith}
 use Rattle.std.specs.Prelude.{nat_eq}
+use Rattle.std.proofs.lemmas.Bool.{cond-true, cond-false, eq-eqb, ne_eqb}
+use Rattle.plan_shop.specs.Shop.{JobShop}
 use Rattle.plan_shop.specs.declared.tree.bounding.Pending.{Pending}
-use Rattle.plan_shop.specs.Shop.{time_of}
-use Rattle.plan_shop.specs.Words.{steps_done}
+use Rattle.plan_shop.specs.Words.{Placed, steps_done, machine_free, raised}
 use Rattle.plan_shop.specs.Bound.{head_of, tail_of}
-use Rattle.plan_shop.specs.Trees.{Standing, placed, nothing_pending, IsGathered}
-use Rattle.plan_shop.proofs.HeldLemmas.{held, done-read, end-read, tail-read}
-use Rattle.plan_shop.proofs.PendingLemmas.{end_at, at-read, at-open, at-head, at-end, head_of-is, tail_of-short, gathered-placed, gathered-at_once, gathered-more, IsWithStep}
+use Rattle.plan_shop.specs.Trees.{Standing, placed, OnMachine, on_machine, IsGathered}
+use Rattle.plan_shop.proofs.HeldLemmas.{held, done-read, end-read}
+use Rattle.plan_shop.proofs.PendingLemmas.{end_at, at-read, at-open, at-head, at-end, head_of-is, tail_of-short, gathered-placed, gathered-at_once, gathered-more, IsWithStep, IsReplaced}
 use Rattle.plan_shop.proofs.tree.ShopTree.gather.Goals as goal
 use Rattle.plan_shop.proofs.tree.ShopTree.gather.Goals.{then-step-gt0, else-step-gt0}
 
@@ -23,39 +24,15 @@ loop-place-init c =
       gathered = gathered-placed c.args.self.now c.args.job c.index-place.result.now c.args.pending.now c.requires.before (omega (arith, done)) (omega (arith, done, h.within.done c.args.job));
     }
 
-pub raised-head-requires : goal.raised-head-requires
-raised-head-requires c =
-    let at = at-read c.self.inside.shop.now _ c.args.self.now c.self.view_is c.machines-machines.ensures.shop c.args.job c.loop-place.place c.machines-machines.result c.step-step.result c.requires.job c.loop-place-test.true c.machines-machines.ensures.value c.step-step.ensures in
-    at.on
-
-pub slice_copy_out-with_step : goal.slice_copy_out-with_step
-slice_copy_out-with_step c =
-    let h = held _ _ _ _ _ _ _ _ c.self.view_is c.self.invariant in
-    let at = at-read c.self.inside.shop.now _ c.args.self.now c.self.view_is c.machines-machines.ensures.shop c.args.job c.loop-place.place c.machines-machines.result c.step-step.result c.requires.job c.loop-place-test.true c.machines-machines.ensures.value c.step-step.ensures in
-    omega (arith, at.on, c.loop-place.invariant.gathered.size, h.small.few_machines)
-
-pub with_step-requires : goal.with_step-requires
-with_step-requires c =
-    let h = held _ _ _ _ _ _ _ _ c.self.view_is c.self.invariant in
-    let at = at-read c.self.inside.shop.now _ c.args.self.now c.self.view_is c.machines-machines.ensures.shop c.args.job c.loop-place.place c.machines-machines.result c.step-step.result c.requires.job c.loop-place-test.true c.machines-machines.ensures.value c.step-step.ensures in
-    let few : (get_or c.loop-place.pending c.step-step.result.machine nothing_pending).times ≤ (c.args.job * c.args.self.now.shop.machines + c.loop-place.place) * 10000 = c.loop-place.invariant.gathered.few c.step-step.result.machine at.on in
-    omega (arith, few, at.inside, at.few, at.short)
-
-pub bounds-pending-machine : goal.bounds-pending-machine
-bounds-pending-machine c =
-    let h = held _ _ _ _ _ _ _ _ c.self.view_is c.self.invariant in
-    let at = at-read c.self.inside.shop.now _ c.args.self.now c.self.view_is c.machines-machines.ensures.shop c.args.job c.loop-place.place c.machines-machines.result c.step-step.result c.requires.job c.loop-place-test.true c.machines-machines.ensures.value c.step-step.ensures in
-    omega (arith, at.on, c.loop-place.invariant.gathered.size, h.small.few_machines)
-
 pub overflow_add-end : goal.overflow_add-end
 overflow_add-end c =
     let h = held _ _ _ _ _ _ _ _ c.self.view_is c.self.invariant in
     let machines = ap (λ (v : Standing). v.shop.machines) c.self.view_is in
     let at = at-read c.self.inside.shop.now _ c.args.self.now c.self.view_is c.machines-machines.ensures.shop c.args.job c.loop-place.place c.machines-machines.result c.step-step.result c.requires.job c.loop-place-test.true c.machines-machines.ensures.value c.step-step.ensures in
-    let since = c.loop-place.invariant.since in
-    let early = c.loop-place.invariant.early in
+    let m : ℕ = c.step-step.result.machine in
+    let free : get_or c.as_slice-free.result.now m 0 ≡ machine_free c.args.self.now.shop (placed c.args.self.now) m = ap (λ (ys : List ℕ). get_or ys m 0) c.as_slice-free.ensures.value ∙ h.kept.free_is m at.on in
     let place : c.loop-place.place < c.args.self.now.shop.machines = omega (arith, machines, c.machines-machines.ensures.value, c.loop-place-test.true) in
-    let within : c.raised-head.result ≤ 20000000 = omega (arith, c.raised-head.ensures.within, early, place, h.small.few_machines) in
+    let within : c.max-head.result ≤ 20000000 = omega (arith, c.max-head.ensures, free, h.within.frees m, c.loop-place.invariant.early, place, h.small.few_machines) in
     omega (arith, within, at.short)
 
 pub loop-place-preserved : goal.loop-place-preserved
@@ -63,41 +40,58 @@ loop-place-preserved c =
     let h = held _ _ _ _ _ _ _ _ c.self.view_is c.self.invariant in
     let machines = ap (λ (v : Standing). v.shop.machines) c.self.view_is in
     let at = at-read c.self.inside.shop.now _ c.args.self.now c.self.view_is c.machines-machines.ensures.shop c.args.job c.loop-place.place c.machines-machines.result c.step-step.result c.requires.job c.loop-place-test.true c.machines-machines.ensures.value c.step-step.ensures in
+    let s : JobShop = c.args.self.now.shop in
+    let xs : List Placed = placed c.args.self.now in
+    let m : ℕ = c.step-step.result.machine in
+    let time : ℕ = c.step-step.result.time in
+    let free : get_or c.as_slice-free.result.now m 0 ≡ machine_free s xs m = ap (λ (ys : List ℕ). get_or ys m 0) c.as_slice-free.ensures.value ∙ h.kept.free_is m at.on in
     let since = c.loop-place.invariant.since in
     let early = c.loop-place.invariant.early in
-    let place : c.loop-place.place < c.args.self.now.shop.machines = omega (arith, machines, c.machines-machines.ensures.value, c.loop-place-test.true) in
-    let number : c.args.job * c.machines-machines.result + c.loop-place.place ≡ c.args.job * c.args.self.now.shop.machines + c.loop-place.place = ap (λ (n : ℕ). c.args.job * n + c.loop-place.place) (c.machines-machines.ensures.value ∙ machines) in
-    let within : c.raised-head.result ≤ 20000000 = omega (arith, c.raised-head.ensures.within, early, place, h.small.few_machines) in
-    let head = at-head c.args.self.now c.args.job c.loop-place.place c.raised-head.result c.loop-place.end c.step-step.result at c.loop-place.invariant.since c.loop-place.invariant.ended c.raised-head.ensures.value in
-    let x : ℕ = c.args.job * c.args.self.now.shop.machines + c.loop-place.place in
-    let next : suc x ≡ c.args.job * c.args.self.now.shop.machines + (c.loop-place.place + 1) = omega arith in
-    let head_is : c.raised-head.result ≡ head_of c.args.self.now.shop (placed c.args.self.now) x = head ∙ sym (head_of-is c.args.self.now.shop (placed c.args.self.now) c.args.job c.loop-place.place place) in
+    let place : c.loop-place.place < s.machines = omega (arith, machines, c.machines-machines.ensures.value, c.loop-place-test.true) in
+    let y : ℕ = c.args.job * c.machines-machines.result + c.loop-place.place in
+    let x : ℕ = c.args.job * s.machines + c.loop-place.place in
+    let number : y ≡ x = ap (λ (n : ℕ). c.args.job * n + c.loop-place.place) (c.machines-machines.ensures.value ∙ machines) in
+    let next : suc x ≡ c.args.job * s.machines + (c.loop-place.place + 1) = omega arith in
     let open_ = at-open c.args.self.now c.args.job c.loop-place.place place since in
-    let after : IsGathered c.args.self.now (suc x) c.if-step-gt0.pending = elim c.if-step-gt0.branch [
+    let past : (c.if-step-gt0.end ≡ end_at s xs c.args.job (c.loop-place.place + 1 - steps_done xs c.args.job)) × (c.if-step-gt0.end ≤ 10000000 + (c.loop-place.place + 1 - steps_done xs c.args.job) * 10000) × IsGathered c.args.self.now (suc x) c.if-step-gt0.pending = elim c.if-step-gt0.branch [
       | then-step-gt0 w ↦
-          let m : ℕ = c.step-step.result.machine in
-          let p : Pending = get_or c.loop-place.pending m nothing_pending in
-          let tail = tail-read _ _ _ _ _ _ h (c.args.job * c.machines-machines.result + c.loop-place.place) w.index.result.now (omega (arith, at.inside, number)) w.index.ensures ∙ ap (tail_of c.args.self.now.shop) number in
-          let step : IsWithStep c.args.self.now x p w.with_step.result = record {
+          let raises : w.max-head.result ≡ raised time c.loop-place.end (machine_free s xs m) = w.max-head.ensures ∙ ap (λ (n : ℕ). max c.loop-place.end n) free
+          ∙ sym (cond-false (nat_eq time 0) c.loop-place.end (max c.loop-place.end (machine_free s xs m)) (ne_eqb time 0 (λ e. omega (arith, e, w.if-step-gt0.true)))) in
+          let head = at-head c.args.self.now c.args.job c.loop-place.place w.max-head.result c.loop-place.end c.step-step.result at since c.loop-place.invariant.ended raises in
+          let head_is : w.max-head.result ≡ head_of s xs x = head ∙ sym (head_of-is s xs c.args.job c.loop-place.place place) in
+          let within : w.max-head.result ≤ 20000000 = omega (arith, w.max-head.ensures, free, h.within.frees m, early, place, h.small.few_machines) in
+          let tail : get_or c.as_slice-tails.result.now y 0 ≡ tail_of s x = ap (λ (ys : List ℕ). get_or ys y 0) c.as_slice-tails.ensures.value ∙ h.tails_are.each y (omega (arith, at.inside, number)) ∙ ap (tail_of s) number in
+          let p : OnMachine = on_machine c.loop-place.pending m in
+          let q : OnMachine = record { head = w.min.result; times = p.times + time; tail = w.min-then-step-gt0.result } in
+          let step : IsWithStep c.args.self.now x p q = record {
             lasts = omega (arith, w.if-step-gt0.true, at.time);
             early = omega (arith, head_is, within);
-            tail_early = omega (arith, tail_of-short c.args.self.now.shop h.small x);
-            head = w.with_step.ensures.head ∙ ap (λ (n : ℕ). cond (nat_eq p.times 0) n (min p.head n)) head_is;
-            times = w.with_step.ensures.times ∙ ap (λ (n : ℕ). p.times + n) at.time;
-            tail = w.with_step.ensures.tail ∙ ap (λ (n : ℕ). cond (nat_eq p.times 0) n (min p.tail n)) tail;
+            tail_early = omega (arith, tail_of-short s h.small x);
+            head = w.min.ensures ∙ ap (λ (n : ℕ). min p.head n) head_is;
+            times = ap (λ (n : ℕ). p.times + n) at.time;
+            tail = w.min-then-step-gt0.ensures ∙ ap (λ (n : ℕ). min p.tail n) tail;
           } in
-          let Q : List Pending → Type 0 = λ ps. IsGathered c.args.self.now (suc x) ps in
-          subst Q (sym w.pending-is) (gathered-more c.args.self.now x c.loop-place.pending h.small c.loop-place.invariant.gathered open_ m at.on at.machine w.with_step.result step)
+          let replaced : IsReplaced c.loop-place.pending c.if-step-gt0.pending m q = record { heads = ap (λ (v : Pending). v.heads) w.pending-is; times = ap (λ (v : Pending). v.times) w.pending-is; tails = ap (λ (v : Pending). v.tails) w.pending-is } in (
+            w.end-is ∙ at-end c.args.self.now c.args.job c.loop-place.place w.max-head.result c.step-step.result at since head,
+            omega (arith, w.end-is, w.max-head.ensures, free, h.within.frees m, early, since, at.short),
+            gathered-more c.args.self.now x c.loop-place.pending c.if-step-gt0.pending h.small c.loop-place.invariant.gathered open_ m at.on at.machine q step replaced,
+          )
       | else-step-gt0 w ↦
-          let Q : List Pending → Type 0 = λ ps. IsGathered c.args.self.now (suc x) ps in
-          subst Q (sym w.pending-is) (gathered-at_once c.args.self.now x c.loop-place.pending c.loop-place.invariant.gathered (omega (arith, w.if-step-gt0.false, at.time)))
+          let none : time ≡ 0 = omega (arith, w.if-step-gt0.false) in
+          let stays : c.loop-place.end ≡ raised time c.loop-place.end (machine_free s xs m) = sym (cond-true (nat_eq time 0) c.loop-place.end (max c.loop-place.end (machine_free s xs m)) (eq-eqb time 0 none)) in
+          let head = at-head c.args.self.now c.args.job c.loop-place.place c.loop-place.end c.loop-place.end c.step-step.result at since c.loop-place.invariant.ended stays in
+          let Q : Pending → Type 0 = λ ps. IsGathered c.args.self.now (suc x) ps in (
+            omega (arith, w.end-is, none, at-end c.args.self.now c.args.job c.loop-place.place c.loop-place.end c.step-step.result at since head),
+            omega (arith, w.end-is, early, since),
+            subst Q (sym w.pending-is) (gathered-at_once c.args.self.now x c.loop-place.pending c.loop-place.invariant.gathered (omega (arith, none, at.time))),
+          )
     ] in
     let R : ℕ → Type 0 = λ n. IsGathered c.args.self.now n c.if-step-gt0.pending in
     record {
       since = omega (arith, since);
-      ended = at-end c.args.self.now c.args.job c.loop-place.place c.raised-head.result c.step-step.result at since head;
-      early = omega (arith, c.raised-head.ensures.within, early, since, at.short);
-      gathered = subst R next after;
+      ended = past.0;
+      early = past.1;
+      gathered = subst R next past.2;
     }
 
 pub returns : goal.returns
