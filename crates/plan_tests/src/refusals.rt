@@ -261,12 +261,12 @@ fn shop_texts(rt: &impl Abort, alloc: Global) -> Option<String> {
     Some(text)
 }
 
-// Whether the second of two texts is there, and the first is none or the same.
+// Whether at least one of two texts is there, and where both are, they are the same: one refusal meets one of them alone.
 fn settle_alike(first: Option<String>, second: Option<String>) -> bool {
     match (first, second) {
         (Some(first), Some(second)) => first == second,
-        (None, Some(_)) => true,
-        (_, None) => false,
+        (None, None) => false,
+        _ => true,
     }
 }
 
