@@ -5,7 +5,7 @@ ghost use Rattle.plan_shop.specs.Docs.{shop_of};
 
 use crate::fault::CliFault;
 use plan_orlib::ShopDoc;
-use plan_shop::Shop;
+use plan_shop::{Shop, ShopFault};
 use std::alloc::Global;
 
 /// The shop that a file gives, all machines open: so it is refused for nothing.
@@ -16,6 +16,7 @@ pub(crate) fn open_shop(alloc: Global, doc: &ShopDoc) -> Result<Shop, CliFault>
     let usable = vec![in alloc; true; doc.machines() as usize]?;
     match Shop::of_doc(alloc, doc, &usable) {
         Ok(shop) => Ok(shop),
-        Err(_) => Err(CliFault::Memory),
+        Err(ShopFault::NoMemory) => Err(CliFault::Memory),
+        Err(_) => unreachable!(),
     }
 }

@@ -15,7 +15,6 @@ use Rattle.std.proofs.lemmas.List.Kept.{AllPairs-cons}
 use Rattle.lru.specs.LruCache.{LruCache, lru_cache, promoted, put_entries}
 use Rattle.lru.proofs.CallerLemmas.{Contains-lookup_entry, Contains-promoted}
 use Rattle.lru.proofs.Splits.{Contains-cons, Contains-head, Contains-tail}
-use Rattle.plan_profile.specs.declared.profile.TheConstants.{END}
 use Rattle.plan_orlib.specs.declared.steps.Step.{Step}
 use Rattle.plan_shop.specs.Shop.{JobShop}
 use Rattle.plan_exact.specs.Answers.{is_optimal}
@@ -141,7 +140,7 @@ copy_solves s budget solved copy kind starts makespan is = record {
   optimal = ap is_optimal kind ∙ is.optimal;
   starts = starts ∙ is.starts;
   makespan = makespan ∙ is.makespan;
-  within = All-same (λ t. t ≤ END) copy.schedule.starts.items solved.schedule.starts.items starts is.within;
+  within = All-same (λ t. t ≤ 10000000) copy.schedule.starts.items solved.schedule.starts.items starts is.within;
 }
 
 -- an entry's question is among the questions

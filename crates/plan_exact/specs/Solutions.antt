@@ -1,6 +1,5 @@
 -- The best schedule of a job shop that a search within a budget finds (docs/DEFINITIONS.md, "Best schedules").
 use Rattle.std.specs.Prelude.{◌≡◌, ℕ, ◌≤◌, ◌<◌, true, List, All, Option, Some, None}
-use Rattle.plan_profile.specs.declared.profile.TheConstants.{END}
 use Rattle.plan_shop.specs.Shop.{JobShop, count_steps}
 use Rattle.plan_sgs.specs.declared.schedule.Schedule.{Schedule}
 use Rattle.plan_shop.specs.Words.{IsWord, is_full, starts_of, makespan_of}
@@ -34,7 +33,7 @@ pub record IsFullWord (s : JobShop) (w : List ℕ) : Type 0 where
 pub record IsScheduleBy (s : JobShop) (w : List ℕ) (schedule : Schedule) : Type 0 where
   pub starts : schedule.starts.items ≡ starts_by s w
   pub makespan : schedule.makespan ≡ makespan_by s w
-  pub within : All (λ t. t ≤ END) schedule.starts.items
+  pub within : All (λ t. t ≤ 10000000) schedule.starts.items
 
 -- what a search of the shop's words answers
 unfoldable pub solution : JobShop → ℕ → Outcome
@@ -63,7 +62,7 @@ pub record IsSolution (s : JobShop) (budget : ℕ) (solved : Solved) : Type 0 wh
   pub optimal : is_optimal solved.kind ≡ (solution s budget).optimal
   pub starts : solved.schedule.starts.items ≡ answered_starts s (solution s budget)
   pub makespan : solved.schedule.makespan ≡ (solution s budget).found.value
-  pub within : All (λ t. t ≤ END) solved.schedule.starts.items
+  pub within : All (λ t. t ≤ 10000000) solved.schedule.starts.items
 
 -- a shop is refused for its size, or else for the budget, and for nothing else but want of memory
 abbrev pub RefusesSolving : JobShop → ℕ → ExactFault → Type 0

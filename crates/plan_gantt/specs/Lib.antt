@@ -1,6 +1,7 @@
 pub mod CalendarTable
 pub mod Column
 pub mod Chart
+pub mod Limits
 pub mod Charts
 pub mod Overlaps
 pub mod DateTable

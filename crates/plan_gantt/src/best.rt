@@ -1,6 +1,6 @@
 ghost use Rattle.std.specs.Prelude.{◌≡◌, ◌≤◌, length, slice_index, EachIndex, IfOk, string_bytes};
-ghost use Rattle.plan_profile.specs.declared.profile.TheConstants.{END};
 ghost use Rattle.plan_shop.specs.Shop.{count_steps};
+ghost use Rattle.plan_gantt.specs.Limits.{latest_start};
 ghost use Rattle.plan_gantt.specs.BestText.{kind_text, best_text_of};
 
 use crate::shops::push_shop_table;
@@ -22,7 +22,7 @@ fn kind_word(kind: Kind) -> &'static str
 /// The text of what was found for a shop: a line with `optimal` or `budget` and the makespan, and then the table of the schedule.
 pub fn best_text(alloc: Global, shop: &Shop, solved: &Solved) -> Result<String, AllocError>
     requires starts { length solved.now.schedule.starts.items ≡ count_steps shop.now }
-    requires limit { EachIndex solved.now.schedule.starts.items (λ k. slice_index solved.now.schedule.starts.items k ≤ END) }
+    requires limit { EachIndex solved.now.schedule.starts.items (λ k. slice_index solved.now.schedule.starts.items k ≤ latest_start) }
     ensures text { IfOk result (λ text. string_bytes text ≡ best_text_of shop.now solved.now) }
 {
     let mut text = String::new(alloc);

@@ -1,21 +1,21 @@
 ghost use Rattle.std.specs.Prelude.{◌≡◌, ◌+◌, ◌*◌, ◌++◌, ◌≤◌, All, length, slice_index, EachIndex, IfOk, OnOk, string_bytes};
 ghost use Rattle.plan_net.specs.Network.{IsActivity, count_of};
-ghost use Rattle.plan_profile.specs.declared.profile.TheConstants.{END};
+ghost use Rattle.plan_gantt.specs.Limits.{latest_start, latest_end};
 ghost use Rattle.plan_gantt.specs.Chart as spec;
 ghost use Rattle.plan_gantt.specs.Charts.{activity_interval, activity_intervals};
 
 use crate::column::push_first;
-use crate::interval::{Interval, LATEST_END, is_marked};
+use crate::interval::{Interval, is_marked};
 use plan_net::Network;
 use std::alloc::{AllocError, Global};
 use std::fmt::Write;
 
 // How many instants a cell has.
 fn chart_unit(makespan: u64) -> u64
-    requires { makespan ≤ LATEST_END }
+    requires { makespan ≤ latest_end }
     ensures unit { result ≡ spec.chart_unit makespan }
     ensures some { 1 ≤ result }
-    ensures few { result ≤ LATEST_END }
+    ensures few { result ≤ latest_end }
 {
     if makespan <= 60 {
         1
@@ -26,9 +26,9 @@ fn chart_unit(makespan: u64) -> u64
 
 // How many cells a line has.
 fn chart_cells(makespan: u64) -> u64
-    requires { makespan ≤ LATEST_END }
+    requires { makespan ≤ latest_end }
     ensures cells { result ≡ spec.chart_cells makespan }
-    ensures end { result * spec.chart_unit makespan ≤ 2 * LATEST_END }
+    ensures end { result * spec.chart_unit makespan ≤ 2 * latest_end }
 {
     makespan.div_ceil(chart_unit(makespan))
 }
@@ -36,8 +36,8 @@ fn chart_cells(makespan: u64) -> u64
 // A cell.
 #[tactic(auto, unfolding(crate::specs::Chart::cell_text))]
 fn cell_text(unit: u64, intervals: &[Interval], cell: u64) -> &'static str
-    requires instants { cell * unit + unit ≤ 2 * LATEST_END }
-    requires ends { All (λ v. v.start + v.duration ≤ LATEST_END) intervals.now }
+    requires instants { cell * unit + unit ≤ 2 * latest_end }
+    requires ends { All (λ v. v.start + v.duration ≤ latest_end) intervals.now }
     ensures { result.now ≡ spec.cell_text unit intervals.now cell }
 {
     if is_marked(unit, intervals, cell) {
@@ -49,8 +49,8 @@ fn cell_text(unit: u64, intervals: &[Interval], cell: u64) -> &'static str
 
 // The cells of a line.
 fn push_cells(text: &mut String, makespan: u64, intervals: &[Interval]) -> Result<(), AllocError>
-    requires makespan { makespan ≤ LATEST_END }
-    requires ends { All (λ v. v.start + v.duration ≤ LATEST_END) intervals.now }
+    requires makespan { makespan ≤ latest_end }
+    requires ends { All (λ v. v.start + v.duration ≤ latest_end) intervals.now }
     ensures { OnOk result (string_bytes text.new ≡ string_bytes text.old ++ spec.cell_texts (spec.chart_unit makespan) intervals.now (spec.chart_cells makespan)) }
 {
     let unit = chart_unit(makespan);
@@ -68,8 +68,8 @@ pub(crate) fn push_line(
     number: u32,
     intervals: &[Interval],
 ) -> Result<(), AllocError>
-    requires makespan { makespan ≤ LATEST_END }
-    requires ends { All (λ v. v.start + v.duration ≤ LATEST_END) intervals.now }
+    requires makespan { makespan ≤ latest_end }
+    requires ends { All (λ v. v.start + v.duration ≤ latest_end) intervals.now }
     ensures { OnOk result (string_bytes text.new ≡ string_bytes text.old ++ spec.chart_line makespan number intervals.now) }
 {
     push_first(text, number)?;
@@ -80,7 +80,7 @@ pub(crate) fn push_line(
 
 // The first line: how many instants a cell has.
 pub(crate) fn push_unit(text: &mut String, makespan: u64) -> Result<(), AllocError>
-    requires { makespan ≤ LATEST_END }
+    requires { makespan ≤ latest_end }
     ensures { OnOk result (string_bytes text.new ≡ string_bytes text.old ++ spec.unit_line makespan) }
 {
     let unit = chart_unit(makespan);
@@ -91,9 +91,9 @@ pub(crate) fn push_unit(text: &mut String, makespan: u64) -> Result<(), AllocErr
 pub(crate) fn interval_of(network: &Network, starts: &[u64], j: u32) -> Interval
     requires activity { IsActivity network.now j }
     requires starts { length starts.now ≡ count_of network.now }
-    requires limit { EachIndex starts.now (λ k. slice_index starts.now k ≤ END) }
+    requires limit { EachIndex starts.now (λ k. slice_index starts.now k ≤ latest_start) }
     ensures interval { result ≡ activity_interval network.now starts.now j }
-    ensures end { result.start + result.duration ≤ LATEST_END }
+    ensures end { result.start + result.duration ≤ latest_end }
 {
     Interval {
         start: starts[j as usize - 1],
@@ -111,8 +111,8 @@ fn push_activity(
 ) -> Result<(), AllocError>
     requires activity { IsActivity network.now j }
     requires starts { length starts.now ≡ count_of network.now }
-    requires limit { EachIndex starts.now (λ k. slice_index starts.now k ≤ END) }
-    requires makespan { makespan ≤ LATEST_END }
+    requires limit { EachIndex starts.now (λ k. slice_index starts.now k ≤ latest_start) }
+    requires makespan { makespan ≤ latest_end }
     ensures { OnOk result (string_bytes text.new ≡ string_bytes text.old ++ spec.chart_line makespan j (activity_intervals network.now starts.now j)) }
 {
     push_line(text, makespan, j, &[interval_of(network, starts, j)])
@@ -127,8 +127,8 @@ pub fn chart(
     makespan: u64,
 ) -> Result<String, AllocError>
     requires starts { length starts.now ≡ count_of network.now }
-    requires limit { EachIndex starts.now (λ k. slice_index starts.now k ≤ END) }
-    requires makespan { makespan ≤ LATEST_END }
+    requires limit { EachIndex starts.now (λ k. slice_index starts.now k ≤ latest_start) }
+    requires makespan { makespan ≤ latest_end }
     ensures text { IfOk result (λ text. string_bytes text ≡ spec.chart_text makespan (activity_intervals network.now starts.now) 1 (count_of network.now)) }
 {
     let mut text = String::new(alloc);

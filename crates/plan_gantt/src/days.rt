@@ -1,6 +1,6 @@
 ghost use Rattle.std.specs.Prelude.{◌≡◌, ◌+◌, ◌++◌, ◌≤◌, List, ℕ, length, slice_index, EachIndex, IfOk, OnOk, IsErrOf, string_bytes};
 ghost use Rattle.plan_net.specs.Network.{IsActivity, count_of};
-ghost use Rattle.plan_profile.specs.declared.profile.TheConstants.{END};
+ghost use Rattle.plan_gantt.specs.Limits.{latest_start, latest_end};
 ghost use Rattle.plan_gantt.specs.Charts.{activity_interval};
 ghost use Rattle.plan_gantt.specs.Column.{number_column};
 ghost use Rattle.plan_gantt.specs.WorkingDay.{IsBeyond};
@@ -10,7 +10,7 @@ ghost use Rattle.plan_gantt.specs.declared.days.DaysFault.TheVariants.{NoMemory}
 use crate::calendar::Calendar;
 use crate::charts::interval_of;
 use crate::column::{push_first, push_right};
-use crate::interval::{Interval, LATEST_END};
+use crate::interval::Interval;
 use plan_net::Network;
 use std::alloc::{AllocError, Global};
 use thiserror::Error;
@@ -53,7 +53,7 @@ pub(crate) fn push_days(
     calendar: &Calendar,
     interval: Interval,
 ) -> Result<(), DaysFault>
-    requires { interval.start + interval.duration ≤ LATEST_END }
+    requires { interval.start + interval.duration ≤ latest_end }
     ensures days { OnOk result ((days : List ℕ) × spec.IsDaysText calendar.now interval.start interval.duration days × (string_bytes text.new ≡ string_bytes text.old ++ days)) }
     ensures beyond { IsErrOf result DaysFault.BeyondCalendar → spec.HasDayBeyond calendar.now interval }
 {
@@ -76,7 +76,7 @@ fn push_line(
 ) -> Result<(), DaysFault>
     requires activity { IsActivity network.now j }
     requires starts { length starts.now ≡ count_of network.now }
-    requires limit { EachIndex starts.now (λ k. slice_index starts.now k ≤ END) }
+    requires limit { EachIndex starts.now (λ k. slice_index starts.now k ≤ latest_start) }
     ensures line { OnOk result ((line : List ℕ) × spec.IsDaysLine calendar.now (number_column 4 j) (activity_interval network.now starts.now j) line × (string_bytes text.new ≡ string_bytes text.old ++ line)) }
     ensures beyond { IsErrOf result DaysFault.BeyondCalendar → spec.HasDayBeyond calendar.now (activity_interval network.now starts.now j) }
 {
@@ -96,7 +96,7 @@ pub fn calendar_table(
     calendar: &Calendar,
 ) -> Result<String, DaysFault>
     requires starts { length starts.now ≡ count_of network.now }
-    requires limit { EachIndex starts.now (λ k. slice_index starts.now k ≤ END) }
+    requires limit { EachIndex starts.now (λ k. slice_index starts.now k ≤ latest_start) }
     ensures text { IfOk result (λ text. spec.IsCalendarTable calendar.now network.now starts.now (string_bytes text)) }
     ensures beyond { IsErrOf result DaysFault.BeyondCalendar → spec.HasActivityBeyond calendar.now network.now starts.now }
 {

@@ -1,9 +1,7 @@
 ghost use Rattle.std.specs.Prelude.{◌≡◌, ◌+◌, ◌*◌, ◌≤◌, All};
+ghost use Rattle.plan_gantt.specs.Limits.{latest_end};
 ghost use Rattle.plan_gantt.specs.Chart as spec;
 ghost use Rattle.plan_gantt.specs.Overlaps.{overlaps};
-
-/// No interval that is shown ends after this, in whole time units: a start at most 10,000,000, and a duration at most 10,000.
-pub const LATEST_END: u64 = 10_010_000;
 
 /// From an instant on, for so many instants.
 #[derive(Clone, Copy, Debug, PartialEq, Eq)]
@@ -14,8 +12,8 @@ pub struct Interval {
 
 // Whether an interval has one of the instants from one on, so many of them.
 fn overlaps(interval: Interval, from: u64, count: u64) -> bool
-    requires instants { from + count ≤ 2 * LATEST_END }
-    requires end { interval.start + interval.duration ≤ LATEST_END }
+    requires instants { from + count ≤ 2 * latest_end }
+    requires end { interval.start + interval.duration ≤ latest_end }
     ensures { result ≡ overlaps interval from count }
 {
     count > 0
@@ -27,8 +25,8 @@ fn overlaps(interval: Interval, from: u64, count: u64) -> bool
 /// Whether some instant of a cell lies in one of the intervals.
 #[tactic(auto, using(crate::proofs::CellLemmas::marked_by_bounds))]
 pub fn is_marked(unit: u64, intervals: &[Interval], cell: u64) -> bool
-    requires instants { cell * unit + unit ≤ 2 * LATEST_END }
-    requires ends { All (λ v. v.start + v.duration ≤ LATEST_END) intervals.now }
+    requires instants { cell * unit + unit ≤ 2 * latest_end }
+    requires ends { All (λ v. v.start + v.duration ≤ latest_end) intervals.now }
     ensures { result ≡ spec.is_marked unit intervals.now cell }
 {
     for &interval in intervals {

@@ -1,6 +1,6 @@
 ghost use Rattle.std.specs.Prelude.{◌≡◌, ◌++◌, ◌≤◌, length, slice_index, EachIndex, IfOk, OnOk, string_bytes};
 ghost use Rattle.plan_net.specs.Network.{IsActivity, count_of};
-ghost use Rattle.plan_profile.specs.declared.profile.TheConstants.{END};
+ghost use Rattle.plan_gantt.specs.Limits.{latest_start};
 ghost use Rattle.plan_gantt.specs.ScheduleTable.{schedule_line, schedule_table_text};
 
 use crate::column::{push_first, push_numbers};
@@ -13,7 +13,7 @@ use std::fmt::Write;
 fn push_line(text: &mut String, network: &Network, starts: &[u64], j: u32) -> Result<(), AllocError>
     requires activity { IsActivity network.now j }
     requires starts { length starts.now ≡ count_of network.now }
-    requires limit { EachIndex starts.now (λ k. slice_index starts.now k ≤ END) }
+    requires limit { EachIndex starts.now (λ k. slice_index starts.now k ≤ latest_start) }
     ensures { OnOk result (string_bytes text.new ≡ string_bytes text.old ++ schedule_line network.now starts.now j) }
 {
     let duration = network.duration(j);
@@ -32,7 +32,7 @@ pub fn schedule_table(
     makespan: u64,
 ) -> Result<String, AllocError>
     requires starts { length starts.now ≡ count_of network.now }
-    requires limit { EachIndex starts.now (λ k. slice_index starts.now k ≤ END) }
+    requires limit { EachIndex starts.now (λ k. slice_index starts.now k ≤ latest_start) }
     ensures text { IfOk result (λ text. string_bytes text ≡ schedule_table_text network.now starts.now makespan) }
 {
     let mut text = String::new(alloc);

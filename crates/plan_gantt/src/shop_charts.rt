@@ -1,11 +1,11 @@
 ghost use Rattle.std.specs.Prelude.{◌≡◌, ◌+◌, ◌≤◌, ◌<◌, All, length, slice_index, EachIndex, IfOk, string_bytes};
-ghost use Rattle.plan_profile.specs.declared.profile.TheConstants.{END};
 ghost use Rattle.plan_shop.specs.Shop.{count_steps, machine_of};
+ghost use Rattle.plan_gantt.specs.Limits.{latest_start, latest_end};
 ghost use Rattle.plan_gantt.specs.Chart.{chart_text};
 ghost use Rattle.plan_gantt.specs.ShopCharts as spec;
 
 use crate::charts::{push_line, push_unit};
-use crate::interval::{Interval, LATEST_END};
+use crate::interval::Interval;
 use crate::shops::step_count;
 use plan_shop::Shop;
 use std::alloc::{AllocError, Global};
@@ -14,9 +14,9 @@ use std::alloc::{AllocError, Global};
 pub(crate) fn step_interval(shop: &Shop, starts: &[u64], x: u32) -> Interval
     requires step { x < count_steps shop.now }
     requires starts { length starts.now ≡ count_steps shop.now }
-    requires limit { EachIndex starts.now (λ k. slice_index starts.now k ≤ END) }
+    requires limit { EachIndex starts.now (λ k. slice_index starts.now k ≤ latest_start) }
     ensures interval { result ≡ spec.step_interval shop.now starts.now x }
-    ensures end { result.start + result.duration ≤ LATEST_END }
+    ensures end { result.start + result.duration ≤ latest_end }
 {
     // the shop's facts, on which the proof rests
     let _machines = shop.machines();
@@ -42,9 +42,9 @@ fn machine_intervals(
     machine: u32,
 ) -> Result<Vec<Interval>, AllocError>
     requires starts { length starts.now ≡ count_steps shop.now }
-    requires limit { EachIndex starts.now (λ k. slice_index starts.now k ≤ END) }
+    requires limit { EachIndex starts.now (λ k. slice_index starts.now k ≤ latest_start) }
     ensures intervals { IfOk result (λ intervals. intervals.items ≡ spec.machine_intervals shop.now starts.now machine) }
-    ensures ends { IfOk result (λ intervals. All (λ v. v.start + v.duration ≤ LATEST_END) intervals.items) }
+    ensures ends { IfOk result (λ intervals. All (λ v. v.start + v.duration ≤ latest_end) intervals.items) }
 {
     let mut intervals = Vec::new(alloc);
     'all: for x in 0..step_count(shop) {
@@ -64,8 +64,8 @@ pub fn shop_chart(
     makespan: u64,
 ) -> Result<String, AllocError>
     requires starts { length starts.now ≡ count_steps shop.now }
-    requires limit { EachIndex starts.now (λ k. slice_index starts.now k ≤ END) }
-    requires makespan { makespan ≤ LATEST_END }
+    requires limit { EachIndex starts.now (λ k. slice_index starts.now k ≤ latest_start) }
+    requires makespan { makespan ≤ latest_end }
     ensures text { IfOk result (λ text. string_bytes text ≡ chart_text makespan (spec.machine_intervals shop.now starts.now) 0 shop.now.machines) }
 {
     let mut text = String::new(alloc);

@@ -1,6 +1,6 @@
 ghost use Rattle.std.specs.Prelude.{◌≡◌, ◌++◌, ◌≤◌, ◌<◌, List, ℕ, length, slice_index, EachIndex, IfOk, OnOk, IsErrOf, string_bytes};
-ghost use Rattle.plan_profile.specs.declared.profile.TheConstants.{END};
 ghost use Rattle.plan_shop.specs.Shop.{count_steps};
+ghost use Rattle.plan_gantt.specs.Limits.{latest_start};
 ghost use Rattle.plan_gantt.specs.CalendarTable.{IsDaysLine, HasDayBeyond};
 ghost use Rattle.plan_gantt.specs.ShopCharts as spec;
 
@@ -32,7 +32,7 @@ fn push_line(
 ) -> Result<(), DaysFault>
     requires step { x < count_steps shop.now }
     requires starts { length starts.now ≡ count_steps shop.now }
-    requires limit { EachIndex starts.now (λ k. slice_index starts.now k ≤ END) }
+    requires limit { EachIndex starts.now (λ k. slice_index starts.now k ≤ latest_start) }
     ensures line { OnOk result ((line : List ℕ) × IsDaysLine calendar.now (spec.step_front shop.now x) (spec.step_interval shop.now starts.now x) line × (string_bytes text.new ≡ string_bytes text.old ++ line)) }
     ensures beyond { IsErrOf result DaysFault.BeyondCalendar → HasDayBeyond calendar.now (spec.step_interval shop.now starts.now x) }
 {
@@ -52,7 +52,7 @@ pub fn shop_calendar_table(
     calendar: &Calendar,
 ) -> Result<String, DaysFault>
     requires starts { length starts.now ≡ count_steps shop.now }
-    requires limit { EachIndex starts.now (λ k. slice_index starts.now k ≤ END) }
+    requires limit { EachIndex starts.now (λ k. slice_index starts.now k ≤ latest_start) }
     ensures text { IfOk result (λ text. spec.IsShopCalendarTable calendar.now shop.now starts.now (string_bytes text)) }
     ensures beyond { IsErrOf result DaysFault.BeyondCalendar → spec.HasStepBeyond calendar.now shop.now starts.now }
 {

@@ -1,6 +1,6 @@
 ghost use Rattle.std.specs.Prelude.{◌≡◌, ◌+◌, ◌++◌, ◌≤◌, ◌<◌, length, slice_index, EachIndex, IfOk, OnOk, string_bytes};
-ghost use Rattle.plan_profile.specs.declared.profile.TheConstants.{END};
 ghost use Rattle.plan_shop.specs.Shop.{count_steps};
+ghost use Rattle.plan_gantt.specs.Limits.{latest_start};
 ghost use Rattle.plan_gantt.specs.ShopTable.{shop_line, shop_table_text};
 
 use crate::column::{push_first, push_numbers};
@@ -19,7 +19,7 @@ pub(crate) fn step_count(shop: &Shop) -> u32
 fn push_line(text: &mut String, shop: &Shop, starts: &[u64], x: u32) -> Result<(), AllocError>
     requires step { x < count_steps shop.now }
     requires starts { length starts.now ≡ count_steps shop.now }
-    requires limit { EachIndex starts.now (λ k. slice_index starts.now k ≤ END) }
+    requires limit { EachIndex starts.now (λ k. slice_index starts.now k ≤ latest_start) }
     ensures { OnOk result (string_bytes text.new ≡ string_bytes text.old ++ shop_line shop.now starts.now x) }
 {
     let step = shop.step(x);
@@ -49,7 +49,7 @@ pub(crate) fn push_shop_table(
     makespan: u64,
 ) -> Result<(), AllocError>
     requires starts { length starts.now ≡ count_steps shop.now }
-    requires limit { EachIndex starts.now (λ k. slice_index starts.now k ≤ END) }
+    requires limit { EachIndex starts.now (λ k. slice_index starts.now k ≤ latest_start) }
     ensures { OnOk result (string_bytes text.new ≡ string_bytes text.old ++ shop_table_text shop.now starts.now makespan) }
 {
     text.push_str(" job    step    mach       d   start     end\n")?;
@@ -69,7 +69,7 @@ pub fn shop_table(
     makespan: u64,
 ) -> Result<String, AllocError>
     requires starts { length starts.now ≡ count_steps shop.now }
-    requires limit { EachIndex starts.now (λ k. slice_index starts.now k ≤ END) }
+    requires limit { EachIndex starts.now (λ k. slice_index starts.now k ≤ latest_start) }
     ensures text { IfOk result (λ text. string_bytes text ≡ shop_table_text shop.now starts.now makespan) }
 {
     let mut text = String::new(alloc);

@@ -12,7 +12,7 @@ use Rattle.plan_net.proofs.LagLemmas.{lag_of-limit}
 use Rattle.plan_sgs.specs.Problem.{Link, count, total}
 use Rattle.plan_sgs.specs.Serial.{release, end_of}
 use Rattle.plan_sgs.specs.Instances.{Planned, IsInstance, problem_of, link_of}
-use Rattle.plan_sgs.specs.Placing.{IsBounded}
+use Rattle.plan_sgs.proofs.Bounds.{IsBounded}
 use Rattle.plan_sgs.proofs.PlacingLemmas.{release_above, release_least}
 
 -- what holds of each arc's link holds of all links

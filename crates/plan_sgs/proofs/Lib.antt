@@ -23,3 +23,4 @@ pub mod Shifts
 pub mod Deciding
 pub mod BrokenLemmas
 pub mod CheckRows
+mod Bounds

@@ -1,21 +1,15 @@
 -- How activities are placed one after another: what the profile holds, and by when all has ended. No public clause speaks of these
--- words but `AllEndBy`.
-use Rattle.std.specs.Prelude.{◌≡◌, ℕ, ◌+◌, ◌*◌, ◌≤◌, ◌<◌, true, cond, List, length, get_or, All, Option, Some, None}
+-- words but `AllEndBy` and `latest_end`.
+use Rattle.std.specs.Prelude.{◌≡◌, ℕ, ◌+◌, ◌≤◌, ◌<◌, true, List, length, get_or, All, Option, Some, None}
 use Rattle.plan_profile.specs.InUse.{in_use, capacities}
 use Rattle.plan_profile.specs.declared.profile.Profile.{Profile}
-use Rattle.plan_net.specs.declared.limits.TheConstants.{MOST_ACTIVITIES, LONGEST_DURATION, LONGEST_SUM, LONGEST_LAG}
-use Rattle.plan_sgs.specs.Problem.{Problem, count, duration, usage, total, LinksInside, NeedsFit}
-use Rattle.plan_sgs.specs.Rules.{is_member, places, is_activity_list}
+use Rattle.plan_sgs.specs.Problem.{Problem, count, duration, usage}
+use Rattle.plan_sgs.specs.Rules.{places, is_activity_list}
 
--- what holds of the problem of every instance
-pub record IsBounded (p : Problem) : Type 0 where
-  pub inside : LinksInside p
-  pub fit : NeedsFit p
-  pub rows : length p.needs ≡ count p
-  pub lags : All (λ a. a.lag ≤ LONGEST_LAG) p.links
-  pub lasting : (i : ℕ) → duration p i ≤ LONGEST_DURATION
-  pub work : total (count p) (duration p) ≤ LONGEST_SUM
-  pub few : count p ≤ MOST_ACTIVITIES
+-- the instant by which the activities of every serial schedule have ended: their durations, 1,000,000 together at most, and for each
+-- of at most 502 activities a lag of at most 10,000
+abbrev pub latest_end : ℕ
+latest_end = 6020000
 
 -- what is placed ends by an instant
 abbrev pub EndsBy : Problem → List (Option ℕ) → ℕ → Type 0
@@ -24,10 +18,6 @@ EndsBy p placed last = (i s : ℕ) → get_or placed i None ≡ Some s → s + d
 -- what a list of starts gives has ended by an instant
 abbrev pub AllEndBy : Problem → List ℕ → ℕ → Type 0
 AllEndBy p starts last = (i : ℕ) → i < count p → get_or starts i 0 + duration p i ≤ last
-
--- the instant by which the activities of a list have ended: their durations, and a greatest lag for each
-abbrev pub bound_of : Problem → List ℕ → ℕ
-bound_of p taken = total (count p) (λ i. cond (is_member i taken) (duration p i) 0) + length taken * LONGEST_LAG
 
 -- the profile has the capacities, and holds what the placed activities use
 pub record Holds (profile : Profile) (p : Problem) (placed : List (Option ℕ)) : Type 0 where

@@ -6,13 +6,13 @@ ghost use Rattle.plan_sgs.specs.Serial as spec;
 ghost use Rattle.plan_sgs.specs.Rules.{places, IsNumberedList, RefusesList};
 ghost use Rattle.plan_sgs.specs.Keys.{IsRuleSchedule};
 ghost use Rattle.plan_sgs.specs.Instances.{problem_of};
-ghost use Rattle.plan_sgs.specs.Placing.{AllEndBy};
+ghost use Rattle.plan_sgs.specs.Placing.{AllEndBy, latest_end};
 
 use crate::fault::SgsFault;
 use crate::instance::Instance;
 use crate::keys::keys_of;
 use crate::lists::{is_list, rule_list};
-use crate::placing::{LATEST_END, scheduled};
+use crate::placing::scheduled;
 use crate::rule::Rule;
 use crate::schedule::Schedule;
 use std::alloc::Global;
@@ -27,8 +27,8 @@ pub fn serial_list(alloc: Global, instance: &Instance, list: &[u32]) -> Result<S
     ensures starts { IfOk result (λ s. s.starts.items ≡ spec.serial (problem_of instance.now) (places list.now)) }
     ensures active { IfOk result (λ s. IsActive (problem_of instance.now) s.starts.items) }
     ensures makespan { IfOk result (λ s. s.makespan ≡ makespan (problem_of instance.now) s.starts.items) }
-    ensures ends { IfOk result (λ s. AllEndBy (problem_of instance.now) s.starts.items LATEST_END) }
-    ensures limit { IfOk result (λ s. s.makespan ≤ LATEST_END) }
+    ensures ends { IfOk result (λ s. AllEndBy (problem_of instance.now) s.starts.items latest_end) }
+    ensures limit { IfOk result (λ s. s.makespan ≤ latest_end) }
     ensures refused { IfErr result (RefusesList (problem_of instance.now) list.now) }
 {
     // the instance's facts, on which the proof rests
@@ -45,8 +45,8 @@ pub fn serial(alloc: Global, instance: &Instance, rule: Rule) -> Result<Schedule
     ensures list { IfOk result (λ s. IsRuleSchedule instance.now rule s.starts.items) }
     ensures active { IfOk result (λ s. IsActive (problem_of instance.now) s.starts.items) }
     ensures makespan { IfOk result (λ s. s.makespan ≡ makespan (problem_of instance.now) s.starts.items) }
-    ensures ends { IfOk result (λ s. AllEndBy (problem_of instance.now) s.starts.items LATEST_END) }
-    ensures limit { IfOk result (λ s. s.makespan ≤ LATEST_END) }
+    ensures ends { IfOk result (λ s. AllEndBy (problem_of instance.now) s.starts.items latest_end) }
+    ensures limit { IfOk result (λ s. s.makespan ≤ latest_end) }
     ensures err { IfErr result (λ fault. fault ≡ SgsFault.NoMemory) }
 {
     let keys = keys_of(alloc, instance.network(), rule)?;

@@ -1,20 +1,20 @@
 -- What a shop's problem says of broken arcs, usage and left shifts.
-use Rattle.std.proofs.Common.{◌≡◌, ◌≢◌, ℕ, zero, suc, ◌+◌, ◌-◌, ◌≤◌, ◌<◌, max, true, cond, nat_eq, ◌⊎◌, inl, inr, List, length, get_or, map, refl, sym, ◌∙◌, ap, subst, arith}
+use Rattle.std.proofs.Common.{◌≡◌, ◌≢◌, ℕ, suc, ◌+◌, ◌≤◌, ◌<◌, max, cond, nat_eq, ◌⊎◌, inl, inr, List, length, get_or, refl, sym, ◌∙◌, ap, arith}
 use Rattle.std.specs.List.{All, Contains}
 use Rattle.std.proofs.lemmas.Bool.{cases_lt, cases_eq, cases_order, cond-true, cond-false, eq-eqb, ne_eqb, eqb-true}
 use Rattle.std.proofs.lemmas.List.{get_or-map, length-map, length-replicate, get_or-replicate}
 use Rattle.std.proofs.lemmas.List.Elements.{All-map, All-weaker, All-contains, All-contains_itself}
-use Rattle.plan_sgs.specs.Problem.{Problem, Link, count, duration, need, capacity, total, usage, all_placed, KeepsArcs, KeepsCapacities, IsFeasible}
-use Rattle.plan_sgs.specs.Verdicts.{Breaks, IsNoLater, IsFirstBroken, IsOver, HasShift}
+use Rattle.plan_sgs.specs.Problem.{Problem, Link, count, duration, need, capacity, total, usage, all_placed, KeepsArcs, IsFeasible}
+use Rattle.plan_sgs.specs.Verdicts.{Breaks, IsNoLater, IsFirstBroken, IsOver}
 use Rattle.plan_sgs.proofs.AmountLemmas.{amount_before, amount_during}
 use Rattle.plan_sgs.proofs.TotalLemmas.{total_above, total_none}
-use Rattle.plan_sgs.proofs.StartLemmas.{amount_at, amount_late, amount_most, total_next, usage_is}
-use Rattle.plan_sgs.proofs.Shifts.{IsReleasedBy, FitsBeforeStart, CanStartAt, shift_from_start, start_from_shift}
+use Rattle.plan_sgs.proofs.StartLemmas.{amount_at, amount_late, amount_most, usage_is}
+use Rattle.plan_sgs.proofs.Shifts.{IsReleasedBy, FitsBeforeStart, CanStartAt}
 use Rattle.plan_shop.specs.Shop.{JobShop, IsShop, count_steps, idle, time_of, machine_of, job_of, those_below, step_link, problem_of}
-use Rattle.plan_shop.specs.Laws.{IsChained, ArcsAreNeighbours, NeedsAreMachines}
+use Rattle.plan_shop.specs.Laws.{ArcsAreNeighbours, NeedsAreMachines}
 use Rattle.plan_shop.specs.Checks.{IsBrokenAfter, IsUnderWayAt, IsReleaseOf, IsInTheWay, IsEndInTheWay}
 use Rattle.plan_shop.proofs.NumberLemmas.{there_passes, passes_there}
-use Rattle.plan_shop.proofs.ShopBasics.{arcs_are_neighbours, needs_are_machines, next_below, count_is, duration_is}
+use Rattle.plan_shop.proofs.ShopBasics.{arcs_are_neighbours, needs_are_machines, count_is, duration_is}
 
 -- what holds of each neighbour's link holds of each link
 pub links_have : (s : JobShop) (P : Link → Type 0) → ((x : ℕ) → x < count_steps s → job_of s (suc x) ≡ job_of s x → P (step_link x)) → All P (problem_of s).links

@@ -1,16 +1,33 @@
 -- The letter that a rule chooses.
-use Rattle.std.proofs.Common.{◌≡◌, ℕ, zero, suc, ◌+◌, ◌-◌, ◌≤◌, ◌<◌, inl, inr, Bool, true, false, cond, List, [], ◌∷◌, ◌++◌, Option, Some, None, length, map, get_or, take, refl, sym, ap, ◌∙◌, subst, arith}
+use Rattle.std.proofs.Common.{◌≡◌, ℕ, suc, ◌-◌, ◌≤◌, ◌<◌, inl, inr, Bool, true, false, cond, List, [], ◌∷◌, ◌++◌, Option, Some, None, length, map, get_or, take, refl, sym, ap, ◌∙◌, subst, arith}
 use Rattle.std.specs.Prelude.{Contains}
 use Rattle.std.specs.List.{fold}
+use Rattle.std.specs.Option.{MatchOption}
 use Rattle.std.proofs.Math.Seq.{take-suc}
-use Rattle.std.proofs.lemmas.Bool.{cases_Bool, cond-true, cond-false}
+use Rattle.std.proofs.lemmas.Bool.{cases_Bool, cond-true, cond-false, true≢false}
 use Rattle.std.proofs.Math.ListN.{get_or-map}
 use Rattle.std.proofs.lemmas.List.{length-map, get_or_default, take_all}
 use Rattle.plan_shop.specs.declared.rule.ShopRule.{ShopRule}
 use Rattle.plan_shop.specs.declared.rule.ShopRule.TheVariants as rules
 use Rattle.plan_shop.specs.Shop.{JobShop}
 use Rattle.plan_shop.specs.Words.{Placed, letter_of, jobs_after, letters_after}
-use Rattle.plan_shop.specs.Names.{chooser_of, key_of, comes_before, better, letter_among, letter_by}
+use Rattle.plan_shop.specs.Names.{chooser_of, key_of, comes_before, letter_among, letter_by}
+
+-- the one of two letters, each with its key, that a rule chooses: the first of them where the keys are equal
+better : ShopRule → Option (ℕ × ℕ) → ℕ → ℕ → Option (ℕ × ℕ)
+better rule None letter key = Some (letter, key)
+better rule (Some best) letter key = cond (comes_before rule key best.1) (Some (letter, key)) (Some best)
+
+-- a letter that comes first, and one that does not
+better-new : (rule : ShopRule) (best : Option (ℕ × ℕ)) (letter key : ℕ) (first : Bool) → MatchOption best (first ≡ true) (λ b. first ≡ comes_before rule key b.1) → first ≡ true → better rule best letter key ≡ Some (letter, key)
+unfolding better
+better-new rule None letter key first is taken = refl
+better-new rule (Some best) letter key first is taken = cond-true (comes_before rule key best.1) (Some (letter, key)) (Some best) (sym is ∙ taken)
+
+better-old : (rule : ShopRule) (best : Option (ℕ × ℕ)) (letter key : ℕ) (first : Bool) → MatchOption best (first ≡ true) (λ b. first ≡ comes_before rule key b.1) → first ≡ false → better rule best letter key ≡ best
+unfolding better
+better-old rule None letter key first is stays = absurd (true≢false (sym is ∙ stays))
+better-old rule (Some best) letter key first is stays = cond-false (comes_before rule key best.1) (Some (letter, key)) (Some best) (sym is ∙ stays)
 
 best_of : ShopRule → (ℕ → ℕ) → ℕ → List ℕ → ℕ
 best_of rule key h r = fold (λ b i. cond (comes_before rule (key i) (key b)) i b) h r
@@ -43,7 +60,7 @@ unfolding IsBestSoFar
 best-none rule s xs = refl
 
 best-more : (rule : ShopRule) (s : JobShop) (xs : List Placed) (js : List ℕ) (best : Option (ℕ × ℕ)) → IsBestSoFar rule s xs js best → (j key : ℕ) → key ≡ key_of rule s xs j → IsBestSoFar rule s xs (js ++ j ∷ []) (better rule best (suc j) key)
-unfolding IsBestSoFar best_of
+unfolding IsBestSoFar best_of better
 best-more rule s xs js None is j key key_is = record { head = j; rest = []; list = ap (λ ls. ls ++ j ∷ []) is; letter = refl; key = key_is }
 best-more rule s xs js (Some best) is j key key_is =
     let b : ℕ = best_of rule (key_of rule s xs) is.head is.rest in
@@ -60,7 +77,7 @@ best-more rule s xs js (Some best) is j key key_is =
     ]
 
 -- one letter more of those that may follow
-pub best-next : (rule : ShopRule) (s : JobShop) (xs : List Placed) (letters : List ℕ) → letters ≡ letters_after s xs → (k l key : ℕ) → k < length letters → l ≡ get_or letters k 0 → key ≡ key_of rule s xs (l - 1) → (best : Option (ℕ × ℕ))
+best-next : (rule : ShopRule) (s : JobShop) (xs : List Placed) (letters : List ℕ) → letters ≡ letters_after s xs → (k l key : ℕ) → k < length letters → l ≡ get_or letters k 0 → key ≡ key_of rule s xs (l - 1) → (best : Option (ℕ × ℕ))
     → IsBestSoFar rule s xs (take k (jobs_after s xs)) best → IsBestSoFar rule s xs (take (suc k) (jobs_after s xs)) (better rule best l key)
 best-next rule s xs letters all k l key inside is key_is best so_far =
     let js : List ℕ = jobs_after s xs in
@@ -71,6 +88,18 @@ best-next rule s xs letters all k l key inside is key_is best so_far =
     let Q : List ℕ → Type 0 = λ ls. IsBestSoFar rule s xs ls (better rule best (suc j) key) in
     let place : l - 1 ≡ j = omega (arith, at) in
     subst P (sym at) (subst Q (sym (take-suc js k 0 below)) (best-more rule s xs (take k js) best so_far j key (key_is ∙ ap (key_of rule s xs) place)))
+
+pub best-new : (rule : ShopRule) (s : JobShop) (xs : List Placed) (letters : List ℕ) → letters ≡ letters_after s xs → (k l key : ℕ) → k < length letters → l ≡ get_or letters k 0 → key ≡ key_of rule s xs (l - 1) → (best : Option (ℕ × ℕ))
+    → IsBestSoFar rule s xs (take k (jobs_after s xs)) best → (first : Bool) → MatchOption best (first ≡ true) (λ b. first ≡ comes_before rule key b.1) → first ≡ true → IsBestSoFar rule s xs (take (suc k) (jobs_after s xs)) (Some (l, key))
+best-new rule s xs letters all k l key inside is key_is best so_far first tells taken =
+    let Q : Option (ℕ × ℕ) → Type 0 = λ r. IsBestSoFar rule s xs (take (suc k) (jobs_after s xs)) r in
+    subst Q (better-new rule best l key first tells taken) (best-next rule s xs letters all k l key inside is key_is best so_far)
+
+pub best-old : (rule : ShopRule) (s : JobShop) (xs : List Placed) (letters : List ℕ) → letters ≡ letters_after s xs → (k l key : ℕ) → k < length letters → l ≡ get_or letters k 0 → key ≡ key_of rule s xs (l - 1) → (best : Option (ℕ × ℕ))
+    → IsBestSoFar rule s xs (take k (jobs_after s xs)) best → (first : Bool) → MatchOption best (first ≡ true) (λ b. first ≡ comes_before rule key b.1) → first ≡ false → IsBestSoFar rule s xs (take (suc k) (jobs_after s xs)) best
+best-old rule s xs letters all k l key inside is key_is best so_far first tells stays =
+    let Q : Option (ℕ × ℕ) → Type 0 = λ r. IsBestSoFar rule s xs (take (suc k) (jobs_after s xs)) r in
+    subst Q (better-old rule best l key first tells stays) (best-next rule s xs letters all k l key inside is key_is best so_far)
 
 -- the letter of the best of all
 letter-of : (rule : ShopRule) (s : JobShop) (xs : List Placed) (js : List ℕ) (best : ℕ × ℕ) → IsBest rule s xs js best → Some best.0 ≡ letter_among rule s xs js

@@ -1,12 +1,11 @@
 -- Lists of the numbers that pass a test, and the letters that may follow.
-use Rattle.std.proofs.Common.{◌≡◌, ℕ, zero, suc, ◌+◌, ◌≤◌, ◌<◌, ◌&&◌, inl, inr, Bool, true, false, cond, List, [], ◌∷◌, ◌++◌, Option, Some, None, map, refl, sym, ap, ◌∙◌, subst, append-nil, append_assoc, arith}
+use Rattle.std.proofs.Common.{◌≡◌, ℕ, zero, suc, ◌<◌, ◌&&◌, inl, inr, Bool, true, false, cond, List, [], ◌∷◌, ◌++◌, Option, Some, None, map, refl, sym, ap, ◌∙◌, subst, append-nil, append_assoc, arith}
 use Rattle.std.specs.Option.{IfSome, IfNone}
 use Rattle.std.proofs.lemmas.List.{map-append}
 use Rattle.std.specs.Prelude.{Contains, nat_eq, nat_lt}
-use Rattle.std.specs.List.{fold}
-use Rattle.std.proofs.lemmas.Bool.{cases_eq, cases_Bool, cond-true, cond-false, ltb-true}
+use Rattle.std.proofs.lemmas.Bool.{cases_eq, cases_Bool, cond-true, cond-false}
 use Rattle.plan_shop.specs.Shop.{JobShop, time_of, machine_of, those_below}
-use Rattle.plan_shop.specs.Words.{Placed, steps_done, has_next, next_step, next_end, ready, first_least, with_next, with_zero, rivals, rivals_of_first, jobs_by, jobs_after, letter_of, letters_after}
+use Rattle.plan_shop.specs.Words.{Placed, has_next, next_step, next_end, first_least, with_next, with_zero, rivals, rivals_of_first, jobs_by, jobs_after, letter_of, letters_after}
 use Rattle.plan_shop.specs.Trees.{Standing, placed, is_rival, IsFirstIn, IsFirstToEnd, sooner}
 use Rattle.plan_shop.proofs.NumberLemmas.{there_passes, first_least_in}
 

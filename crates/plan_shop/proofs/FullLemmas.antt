@@ -1,16 +1,16 @@
 -- When all steps are placed, and the makespan of what is placed.
-use Rattle.std.proofs.Common.{◌≡◌, ℕ, ◌+◌, ◌≤◌, ◌<◌, inl, inr, Bool, true, false, get_or, refl, sym, ap, ◌∙◌, subst, List, [], arith}
+use Rattle.std.proofs.Common.{◌≡◌, ℕ, ◌+◌, ◌<◌, inl, inr, true, false, get_or, sym, ap, ◌∙◌, subst, List, [], arith}
 use Rattle.std.specs.Prelude.{not, length, Some, ◌*◌}
 use Rattle.std.specs.List.{slice_get}
 use Rattle.plan_orlib.specs.declared.steps.Step.{Step}
 use Rattle.plan_shop.proofs.TailLemmas.{step-is}
-use Rattle.std.proofs.lemmas.Bool.{cases_Bool, both_ways, not-true, lt-ltb, true≢false}
-use Rattle.plan_sgs.specs.Problem.{greatest_below, all_below, count, duration, makespan}
+use Rattle.std.proofs.lemmas.Bool.{cases_Bool, both_ways, not-true, lt-ltb}
+use Rattle.plan_sgs.specs.Problem.{greatest_below, duration}
 use Rattle.plan_sgs.proofs.TotalLemmas.{all_below_at, all_below_from, greatest_same}
 use Rattle.plan_shop.specs.declared.tree.Turn.{Turn}
 use Rattle.plan_shop.specs.Shop.{JobShop, IsShop, count_steps, time_of, job_of, place_of, problem_of}
 use Rattle.plan_shop.specs.Words.{Placed, steps_done, has_next, is_placed, is_full, start_in, starts_of, makespan_of, IsWord}
-use Rattle.plan_shop.specs.Trees.{Standing, standing, placed, word_of, IsKept}
+use Rattle.plan_shop.specs.Trees.{Standing, standing, word_of, IsKept}
 use Rattle.plan_shop.proofs.ShopBasics.{count_is, duration_is, job_below, place_below}
 use Rattle.plan_shop.proofs.NumberLemmas.{get_or_table}
 use Rattle.plan_shop.proofs.Reached.{full_done}

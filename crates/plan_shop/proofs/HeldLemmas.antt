@@ -1,13 +1,12 @@
 -- What a tree that stands at a word holds, told of where it stands.
-use Rattle.std.proofs.Common.{◌≡◌, ℕ, ◌+◌, ◌≤◌, ◌<◌, List, length, get_or, refl, sym, ap, ◌∙◌, subst, arith}
+use Rattle.std.proofs.Common.{◌≡◌, ℕ, ◌<◌, List, length, get_or, ◌∙◌, subst, arith}
 use Rattle.std.proofs.lemmas.List.{get_or_default}
 use Rattle.plan_shop.specs.declared.tree.Turn.{Turn}
 use Rattle.plan_shop.specs.Shop.{JobShop, count_steps, job_of, place_of}
-use Rattle.plan_shop.specs.Words.{Placed, steps_done, job_end, machine_free, start_in}
+use Rattle.plan_shop.specs.Words.{steps_done, job_end, machine_free, start_in}
 use Rattle.plan_shop.specs.Bound.{tail_of}
 use Rattle.plan_shop.specs.Docs.{IsSmallShop}
-use Rattle.plan_shop.specs.Trees.{Standing, standing, placed, word_of, AreTurns, AreTails, Keeps, IsKept}
-use Rattle.plan_shop.specs.Laws.{placed_in}
+use Rattle.plan_shop.specs.Trees.{Standing, standing, placed, word_of, AreTails, Keeps, IsKept}
 use Rattle.plan_shop.proofs.PlacingLemmas.{IsPlacedWithin, placed-within}
 
 pub record IsHeld (t : Standing) (tails done ends free starts : List ℕ) : Type 0 where

@@ -1,14 +1,13 @@
 -- What a tree keeps goes along with each push, and comes back with each pop.
-use Rattle.std.proofs.Common.{◌≡◌, ◌≢◌, ℕ, zero, suc, ◌+◌, ◌-◌, ◌*◌, ◌≤◌, ◌<◌, ◌⊎◌, inl, inr, cond, List, [], ◌∷◌, ◌++◌, length, map, get_or, set, take, refl, sym, ap, ◌∙◌, subst, arith}
-use Rattle.std.specs.Prelude.{Contains, nat_eq, nat_lt}
+use Rattle.std.proofs.Common.{◌≡◌, ◌≢◌, ℕ, suc, ◌<◌, inl, inr, cond, List, [], ◌∷◌, ◌++◌, get_or, set, refl, sym, ap, ◌∙◌, arith}
+use Rattle.std.specs.Prelude.{nat_eq, nat_lt}
 use Rattle.std.proofs.lemmas.Bool.{cases_eq, cases_lt, cond-true, cond-false, eq-eqb, ne_eqb, lt-ltb, le-ltb}
 use Rattle.std.proofs.lemmas.List.{get_or-set_same, get_or-set_other, length-set}
 use Rattle.plan_shop.specs.declared.tree.Turn.{Turn}
-use Rattle.plan_shop.specs.Shop.{JobShop, IsShop, count_steps, time_of, machine_of, job_of, place_of}
-use Rattle.plan_shop.specs.Words.{Placed, steps_done, job_end, machine_free, next_step, next_end, ready, place, placed_by, job_of_letter, letters_after, Follows, start_in}
+use Rattle.plan_shop.specs.Shop.{JobShop, count_steps, time_of, machine_of, job_of, place_of}
+use Rattle.plan_shop.specs.Words.{Placed, steps_done, job_end, machine_free, next_step, next_end, ready, place, placed_by, job_of_letter, Follows, start_in}
 use Rattle.plan_shop.specs.Trees.{IsTurn, AreTurns, Keeps, word_of}
-use Rattle.plan_shop.specs.Laws.{placed_in}
-use Rattle.plan_shop.proofs.ShopBasics.{number_is, job_at, place_at, number_below}
+use Rattle.plan_shop.proofs.ShopBasics.{job_at, place_at}
 use Rattle.plan_shop.proofs.Reached.{placed_cases}
 use Rattle.plan_shop.proofs.PlacingLemmas.{done-same, done-other, end-same, end-other, free-same, free-other, free-at_once}
 

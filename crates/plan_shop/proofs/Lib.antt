@@ -22,3 +22,4 @@ pub mod Competing
 mod ChoosingLemmas
 mod RuleLemmas
 mod CheckLemmas
+mod RoomLemmas

@@ -1,10 +1,10 @@
 -- A letter that may follow is the number of a job that has a next step.
-use Rattle.std.proofs.Common.{◌≡◌, ◌≢◌, ℕ, zero, suc, ◌+◌, ◌≤◌, ◌<◌, ◌&&◌, ◌⊎◌, inl, inr, Bool, true, false, cond, List, [], ◌∷◌, ◌++◌, length, map, get_or, refl, sym, ap, ◌∙◌, subst, arith}
+use Rattle.std.proofs.Common.{◌≡◌, ℕ, zero, suc, ◌<◌, ◌&&◌, inl, inr, Bool, true, cond, List, [], ◌∷◌, length, map, get_or, refl, sym, ap, ◌∙◌, subst, arith}
 use Rattle.std.specs.Prelude.{Contains, nat_lt, nat_eq}
 use Rattle.std.proofs.lemmas.Bool.{and_parts, cond-true, cond-false, cases_Bool, ltb-true}
 use Rattle.std.proofs.lemmas.List.Elements.{Contains-append_cases}
 use Rattle.plan_shop.specs.Shop.{JobShop, time_of, machine_of, those_below}
-use Rattle.plan_shop.specs.Words.{Placed, steps_done, has_next, next_step, next_end, ready, first_least, letter_of, job_of_letter, with_next, with_zero, rivals, rivals_of_first, jobs_by, jobs_after, letters_after}
+use Rattle.plan_shop.specs.Words.{Placed, steps_done, has_next, next_step, next_end, ready, first_least, letter_of, job_of_letter, with_next, with_zero, rivals_of_first, jobs_by, jobs_after, letters_after}
 
 pub contains_later : (x : ℕ) (xs : List ℕ) (y : ℕ) → Contains xs y → Contains (x ∷ xs) y
 contains_later x xs y h = (suc h.0, omega (arith, h.1), h.2)

@@ -1,19 +1,19 @@
 -- What placing one more step does to the counts, the ends and the free machines, and limits on them.
-use Rattle.std.proofs.Common.{◌≡◌, ◌≢◌, ℕ, zero, suc, ◌+◌, ◌*◌, ◌≤◌, ◌<◌, ◌&&◌, ◌⊎◌, inl, inr, max, Bool, true, false, cond, List, [], ◌∷◌, ◌++◌, length, map, get_or, refl, sym, ap, ◌∙◌, subst, arith}
-use Rattle.std.specs.Prelude.{Contains, nat_lt, nat_eq, All}
-use Rattle.std.proofs.lemmas.Bool.{and_parts, cond-true, cond-false, cases_Bool, cases_eq, cases_lt, ltb-true, eq-eqb, ne_eqb, and_left, and_right, and_from, lt-ltb, le-ltb, eqb-true}
-use Rattle.std.proofs.lemmas.List.{length-map, get_or_past}
+use Rattle.std.proofs.Common.{◌≡◌, ◌≢◌, ℕ, suc, ◌+◌, ◌*◌, ◌≤◌, ◌<◌, ◌&&◌, inl, inr, max, true, false, List, [], ◌∷◌, length, refl, sym, ap, subst, arith}
+use Rattle.std.specs.Prelude.{nat_lt, nat_eq}
+use Rattle.std.proofs.lemmas.Bool.{cond-true, cond-false, cases_Bool, cases_eq, cases_lt, eq-eqb, ne_eqb, and_left, and_right, and_from, lt-ltb, le-ltb}
+use Rattle.std.proofs.lemmas.List.{get_or_past}
 use Rattle.std.proofs.Math.Nat.{mul-le-mul}
 use Rattle.plan_sgs.specs.Problem.{total}
 use Rattle.plan_sgs.proofs.TotalLemmas.{total_changed, total_limit, total_none}
 use Rattle.plan_orlib.specs.declared.steps.Step.{Step}
 use Rattle.plan_shop.specs.declared.tree.Turn.{Turn}
-use Rattle.plan_shop.specs.Shop.{JobShop, IsShop, count_steps, idle, time_of, machine_of, job_of, place_of}
-use Rattle.plan_shop.specs.Words.{Placed, steps_done, job_end, machine_free, has_next, next_step, next_end, raised, ready, place, placed_by, job_of_letter, letters_after, start_in}
+use Rattle.plan_shop.specs.Shop.{JobShop, idle, time_of, machine_of}
+use Rattle.plan_shop.specs.Words.{Placed, steps_done, job_end, machine_free, next_step, next_end, raised, ready, place, placed_by, job_of_letter, start_in}
 use Rattle.plan_shop.specs.Docs.{IsSmallShop}
-use Rattle.plan_shop.specs.Trees.{IsTurn, AreTurns, word_of}
+use Rattle.plan_shop.specs.Trees.{AreTurns, word_of}
 use Rattle.plan_shop.specs.Laws.{placed_in}
-use Rattle.plan_shop.proofs.NextLemmas.{IsLetter, letter_is}
+use Rattle.plan_shop.proofs.NextLemmas.{letter_is}
 
 -- ---- one more step
 

@@ -1,5 +1,5 @@
 -- The word of a rule, letter by letter.
-use Rattle.std.proofs.Common.{◌≡◌, ℕ, zero, suc, ◌+◌, ◌-◌, ◌*◌, ◌≤◌, ◌<◌, true, false, List, [], ◌∷◌, ◌++◌, Option, Some, None, length, refl, sym, ap, ◌∙◌, subst, append_assoc, append-nil, arith}
+use Rattle.std.proofs.Common.{◌≡◌, ℕ, suc, ◌-◌, ◌*◌, ◌<◌, true, false, List, [], ◌∷◌, ◌++◌, Option, Some, None, length, refl, sym, ap, ◌∙◌, subst, append_assoc, append-nil, arith}
 use Rattle.std.specs.Prelude.{Contains}
 use Rattle.std.proofs.lemmas.List.{length-append}
 use Rattle.plan_sgs.specs.Problem.{IsActive}
@@ -11,7 +11,7 @@ use Rattle.plan_shop.specs.Rules.{Chooses, rule_word, giffler}
 use Rattle.plan_shop.specs.Laws.{placed_in, FullIsActive, RuleIsFull}
 use Rattle.plan_shop.specs.Names.{chooser_of, word_by, letter_among, letter_by}
 use Rattle.plan_shop.specs.Trees.{Standing, standing, placed}
-use Rattle.plan_shop.proofs.Reached.{Reached, reached_by, letter_there}
+use Rattle.plan_shop.proofs.Reached.{reached_by, letter_there}
 use Rattle.plan_shop.proofs.WordCount.{spt_chooses, mwkr_chooses, fcfs_chooses, rule_follows, rule_is_full, short_not_full, length_placed}
 use Rattle.plan_shop.proofs.FullWords.{full_is_active}
 use Rattle.plan_shop.proofs.KeepLemmas.{placed_by-more}

@@ -1,9 +1,9 @@
 -- Sums of times along a job.
-use Rattle.std.proofs.Common.{◌≡◌, ℕ, zero, suc, ◌+◌, ◌-◌, ◌≤◌, ◌<◌, List, get_or, Some, refl, sym, ap, ◌∙◌, arith}
+use Rattle.std.proofs.Common.{◌≡◌, ℕ, zero, suc, ◌+◌, get_or, Some, ap, arith}
 use Rattle.std.specs.List.{slice_get}
 use Rattle.std.proofs.lemmas.Option.{get_or_from_slice_get}
 use Rattle.plan_orlib.specs.declared.steps.Step.{Step}
-use Rattle.plan_shop.specs.Shop.{JobShop, idle, time_of, machine_of, times_from}
+use Rattle.plan_shop.specs.Shop.{JobShop, idle, time_of, times_from}
 
 -- one more at the end
 pub times_from-more : (s : JobShop) (n x : ℕ) → times_from s x (suc n) ≡ times_from s x n + time_of s (x + n)

@@ -1,13 +1,12 @@
 -- A push and a pop as a whole: what the tree keeps before them, and after.
-use Rattle.std.proofs.Common.{◌≡◌, ◌≢◌, ℕ, zero, suc, ◌+◌, ◌-◌, ◌*◌, ◌≤◌, ◌<◌, cond, true, List, [], ◌∷◌, ◌++◌, length, get_or, set, refl, sym, ap, ◌∙◌, subst, arith}
+use Rattle.std.proofs.Common.{◌≡◌, ℕ, suc, ◌-◌, ◌*◌, ◌≤◌, ◌<◌, cond, true, List, [], ◌∷◌, ◌++◌, length, get_or, set, refl, sym, ap, ◌∙◌, subst, arith}
 use Rattle.std.specs.Prelude.{Contains, nat_lt}
 use Rattle.std.proofs.Math.Nat.{mul-le-mul}
 use Rattle.std.proofs.lemmas.Bool.{lt-ltb}
 use Rattle.std.proofs.lemmas.List.{length-append}
 use Rattle.plan_shop.specs.declared.tree.Turn.{Turn}
-use Rattle.plan_shop.specs.Shop.{JobShop, IsShop, count_steps, time_of, machine_of}
+use Rattle.plan_shop.specs.Shop.{JobShop, count_steps, time_of, machine_of}
 use Rattle.plan_shop.specs.Words.{Placed, steps_done, has_next, job_end, machine_free, next_step, next_end, ready, place, job_of_letter, letters_after}
-use Rattle.plan_shop.specs.Docs.{IsSmallShop}
 use Rattle.plan_shop.specs.Trees.{Standing, standing, placed, word_of, IsTurn, AreTurns, Keeps, IsKept}
 use Rattle.plan_shop.specs.Laws.{placed_in}
 use Rattle.plan_shop.proofs.ShopBasics.{number_below}

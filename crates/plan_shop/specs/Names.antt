@@ -1,5 +1,5 @@
 -- The names of priority rules, and how each chooses (docs/DEFINITIONS.md, "Job shops").
-use Rattle.std.specs.Prelude.{◌≡◌, ℕ, Bool, cond, nat_lt, List, [], ◌∷◌, Option, Some, None, codes}
+use Rattle.std.specs.Prelude.{◌≡◌, ℕ, Bool, nat_lt, List, [], ◌∷◌, Option, Some, None, codes}
 use Rattle.plan_shop.specs.Shop.{JobShop}
 use Rattle.plan_shop.specs.Words.{Placed, ready, letter_of, jobs_after}
 use Rattle.plan_shop.specs.Rules.{next_time, time_left, spt, mwkr, fcfs, giffler}
@@ -35,11 +35,6 @@ abbrev pub comes_before : ShopRule → ℕ → ℕ → Bool
 comes_before rule.ShortestTime m n = nat_lt m n
 comes_before rule.MostWorkRemaining m n = nat_lt n m
 comes_before rule.FirstCome m n = nat_lt m n
-
--- the one of two letters, each with its key, that a rule chooses: the first of them where the keys are equal
-abbrev pub better : ShopRule → Option (ℕ × ℕ) → ℕ → ℕ → Option (ℕ × ℕ)
-better rule None letter key = Some (letter, key)
-better rule (Some best) letter key = cond (comes_before rule key best.1) (Some (letter, key)) (Some best)
 
 -- the word of a rule
 abbrev pub word_by : ShopRule → JobShop → List ℕ

@@ -59,6 +59,11 @@ pub record IsKept (s : JobShop) (tails done ends free starts : List ℕ) (turns 
   pub turns_are : AreTurns s [] turns
   pub kept : Keeps s (placed_in s (word_of turns)) done ends free starts
 
+-- what a tree keeps, and memory for the turns of all its words
+pub record IsTree (s : JobShop) (tails done ends free starts : List ℕ) (turns : List Turn) (capacity : ℕ) : Type 0 where
+  pub kept : IsKept s tails done ends free starts turns
+  pub room : count_steps s ≤ capacity
+
 -- the next step of a job is on a machine, and could start before an instant
 abbrev pub is_rival : Standing → ℕ → ℕ → ℕ → Bool
 is_rival t machine end j = has_next t.shop (placed t) j && (nat_eq (machine_of t.shop (next_step t.shop (placed t) j)) machine && nat_lt (ready t.shop (placed t) j) end)

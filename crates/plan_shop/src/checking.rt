@@ -37,8 +37,7 @@ fn machine_at(shop: &Shop, x: u32) -> u32
 
 // The time of a step.
 fn time_at(shop: &Shop, x: u32) -> u64
-    requires step { x < count_steps shop.now }
-    requires shop { IsSmallShop shop.now }
+    requires { x < count_steps shop.now }
     ensures value { result ≡ time_of shop.now x }
     ensures short { result ≤ 10000 }
 {
@@ -48,7 +47,6 @@ fn time_at(shop: &Shop, x: u32) -> u64
 // The end of a step.
 fn end_at(shop: &Shop, starts: &[u64], x: u32) -> u64
     requires step { x < count_steps shop.now }
-    requires shop { IsSmallShop shop.now }
     requires whole { length starts.now ≡ count_steps shop.now }
     requires limit { All (λ t. t ≤ END) starts.now }
     ensures value { result ≡ slice_index starts.now x + time_of shop.now x }

@@ -102,10 +102,12 @@ impl Shop {
         self.jobs
     }
 
-    /// The step of a flat number.
+    /// The step of a flat number. Takes no memory.
     pub fn step(&self, i: u32) -> Step
         requires { i < length self.now.steps }
-        ensures { slice_get self.now.steps i ≡ Some result }
+        ensures value { slice_get self.now.steps i ≡ Some result }
+        ensures on { result.machine < self.now.machines }
+        ensures short { result.time ≤ 10000 }
     {
         self.steps[i as usize]
     }

@@ -41,13 +41,14 @@ pub struct ShopTree<'a> {
 }
 
 impl<'a> Model for ShopTree<'a> {
-    ghost use Rattle.plan_shop.specs.Trees.{Standing, word_of, IsKept};
+    ghost use Rattle.std.specs.Prelude.{vec_capacity};
+    ghost use Rattle.plan_shop.specs.Trees.{Standing, word_of, IsTree};
 
     ghost Value = { Standing };
 
     ghost view = { λ t. record { shop = t.shop.now; word = word_of t.turns.items } };
 
-    ghost invariant = { λ t. IsKept t.shop.now t.tails.items t.done.items t.ends.items t.free.items t.starts.items t.turns.items };
+    ghost invariant = { λ t. IsTree t.shop.now t.tails.items t.done.items t.ends.items t.free.items t.starts.items t.turns.items (vec_capacity t.turns) };
 }
 
 // When a machine is free behind a step that ends at an instant.
@@ -82,7 +83,7 @@ fn tails(alloc: Global, shop: &Shop) -> Result<Vec<u64>, AllocError>
 }
 
 impl<'a> ShopTree<'a> {
-    ghost use Rattle.std.specs.Prelude.{◌≡◌, ℕ, ◌+◌, ◌-◌, ◌≤◌, ◌<◌, List, [], ◌∷◌, ◌++◌, true, length, max, Contains, IfOk, OnOk, OnErr, IsTrue};
+    ghost use Rattle.std.specs.Prelude.{◌≡◌, ℕ, ◌+◌, ◌-◌, ◌≤◌, ◌<◌, List, [], ◌∷◌, ◌++◌, true, length, max, Contains, IfOk, IsOk, OnOk, OnErr, IsTrue};
     ghost use Rattle.plan_shop.specs.Words as words;
     ghost use Rattle.plan_shop.specs.Shop as flat;
     ghost use Rattle.plan_shop.specs.Trees as spec;
@@ -158,12 +159,13 @@ impl<'a> ShopTree<'a> {
         self.raised(self.ends[job as usize], self.next_step(job))
     }
 
-    /// Goes to the word with one letter more. Want of memory leaves the tree as it was; a tree has memory for all its words from
-    /// the first.
+    /// Goes to the word with one letter more. Takes no memory, so it never fails: a tree has memory for all its words from the
+    /// first.
     pub fn push(&mut self, job: u32) -> Result<(), AllocError>
         requires { Contains (words.letters_after self.old.shop (spec.placed self.old)) job }
         ensures ok { OnOk result (self.new ≡ spec.standing self.old.shop (self.old.word ++ job ∷ [])) }
         ensures err { OnErr result (self.new ≡ self.old) }
+        ensures succeeds { IsOk result }
     {
         let place = job - 1;
         let i = self.next_number(place) as usize;

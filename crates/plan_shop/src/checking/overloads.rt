@@ -5,7 +5,6 @@ ghost use Rattle.plan_sgs.specs.Problem.{KeepsArcs, usage, all_placed};
 ghost use Rattle.plan_sgs.specs.Verdicts.{IsOver};
 ghost use Rattle.plan_sgs.specs.Checking.{IsBefore, IsOverAnswer};
 ghost use Rattle.plan_shop.specs.Shop.{count_steps, problem_of};
-ghost use Rattle.plan_shop.specs.Docs.{IsSmallShop};
 ghost use Rattle.plan_shop.specs.Checks.{IsUnderWayAt, IsLeastOver};
 
 use super::{count, end_at, machine_at};
@@ -15,7 +14,6 @@ use plan_profile::END;
 // Whether a step is under way on a machine at an instant.
 fn is_under_way(shop: &Shop, starts: &[u64], t: u64, machine: u32, x: u32) -> bool
     requires step { x < count_steps shop.now }
-    requires shop { IsSmallShop shop.now }
     requires whole { length starts.now ≡ count_steps shop.now }
     requires limit { All (λ t. t ≤ END) starts.now }
     ensures { IsTrue result ↔ IsUnderWayAt shop.now starts.now t machine x }

@@ -30,7 +30,6 @@ fn release_of(shop: &Shop, starts: &[u64], x: u32) -> u64
 // Whether step `y` is in the way of step `x`, if that starts at an instant `at`.
 fn is_in_the_way(shop: &Shop, starts: &[u64], x: u32, at: u64, y: u32) -> bool
     requires step { x < count_steps shop.now }
-    requires shop { IsSmallShop shop.now }
     requires other { y < count_steps shop.now }
     requires whole { length starts.now ≡ count_steps shop.now }
     requires limit { All (λ t. t ≤ END) starts.now }

@@ -1,6 +1,6 @@
 //! The letter that a rule chooses, and the starts of a full word.
 
-ghost use Rattle.std.specs.Prelude.{◌≡◌, ◌≤◌, ◌<◌, All, true, length, IfOk};
+ghost use Rattle.std.specs.Prelude.{◌≡◌, ◌≤◌, ◌<◌, All, true, length, IfOk, MatchOption};
 ghost use Rattle.plan_shop.specs.Names as names;
 ghost use Rattle.plan_shop.specs.Rules as rules;
 ghost use Rattle.plan_shop.specs.Words as words;
@@ -10,21 +10,16 @@ use crate::rule::ShopRule;
 use crate::tree::ShopTree;
 use std::alloc::{AllocError, Global};
 
-// The one of two letters, each with its key, that a rule chooses.
-fn better(rule: ShopRule, best: Option<(u32, u64)>, letter: u32, key: u64) -> Option<(u32, u64)>
-    ensures { result ≡ names.better rule best letter key }
+// Whether a rule puts a key before that of the best letter so far.
+fn comes_first(rule: ShopRule, key: u64, best: Option<(u32, u64)>) -> bool
+    ensures { MatchOption best (result ≡ true) (λ b. result ≡ names.comes_before rule key b.1) }
 {
-    let Some((other, least)) = best else {
-        return Some((letter, key));
-    };
-    let comes_before = match rule {
-        ShopRule::ShortestTime | ShopRule::FirstCome => key < least,
-        ShopRule::MostWorkRemaining => least < key,
-    };
-    if comes_before {
-        Some((letter, key))
-    } else {
-        best
+    match best {
+        None => true,
+        Some((_, other)) => match rule {
+            ShopRule::ShortestTime | ShopRule::FirstCome => key < other,
+            ShopRule::MostWorkRemaining => other < key,
+        },
     }
 }
 
@@ -58,7 +53,10 @@ impl<'a> ShopTree<'a> {
     {
         let mut best: Option<(u32, u64)> = None;
         for letter in letters {
-            best = better(rule, best, *letter, self.key(rule, *letter - 1));
+            let key = self.key(rule, *letter - 1);
+            if comes_first(rule, key, best) {
+                best = Some((*letter, key));
+            }
         }
         match best {
             Some((letter, _)) => Some(letter),

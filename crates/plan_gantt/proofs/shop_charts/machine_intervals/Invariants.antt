@@ -1,5 +1,5 @@
 use Rattle.std.proofs.Common.{◌≡◌, ◌+◌, ◌≤◌, All}
-use Rattle.plan_gantt.specs.declared.interval.TheConstants.{LATEST_END}
+use Rattle.plan_gantt.specs.Limits.{latest_end}
 use Rattle.plan_gantt.proofs.ShopChartLemmas.{first_intervals}
 use Rattle.plan_gantt.proofs.shop_charts.machine_intervals.Given as goal
 
@@ -7,5 +7,5 @@ use Rattle.plan_gantt.proofs.shop_charts.machine_intervals.Given as goal
 abbrev pub invariant-all : goal.invariant-all
 invariant-all l = record {
   intervals : l.intervals.items ≡ first_intervals l.shop l.starts l.machine l.x;
-  ends : All (λ v. v.start + v.duration ≤ LATEST_END) l.intervals.items;
+  ends : All (λ v. v.start + v.duration ≤ latest_end) l.intervals.items;
 }

@@ -1,10 +1,10 @@
-use Rattle.std.proofs.Common.{◌≡◌, ◌∙◌, ◌*◌, ◌<◌, ℕ, List, suc, ap, sym, subst, add-one, arith}
+use Rattle.std.proofs.Common.{◌≡◌, ◌∙◌, ◌*◌, ◌<◌, ℕ, ap, sym, subst, add-one, arith}
 use Rattle.std.specs.Prelude.{Contains}
 use Rattle.plan_shop.specs.Shop.{JobShop}
 use Rattle.plan_shop.specs.Words.{letters_after}
 use Rattle.plan_shop.specs.Laws.{placed_in}
-use Rattle.plan_shop.specs.Trees.{Standing, standing, placed}
-use Rattle.plan_shop.proofs.RuleLemmas.{GoesOn, goes-first, goes-more, goes-last, next-letter, next-none}
+use Rattle.plan_shop.specs.Trees.{Standing}
+use Rattle.plan_shop.proofs.RuleLemmas.{GoesOn, goes-first, goes-more, next-letter, next-none}
 use Rattle.plan_shop.proofs.dispatch.at_word_of.Goals as goal
 use Rattle.plan_shop.proofs.dispatch.at_word_of.Goals.{in-Some+in_ok-push, in_default}
 

@@ -1,6 +1,6 @@
 use Rattle.std.proofs.Common.{◌≡◌, ◌∙◌, List, ℕ, true, ap, sym, subst}
 use Rattle.plan_sgs.specs.Problem.{IsActive, makespan}
-use Rattle.plan_shop.specs.Shop.{JobShop, IsShop, problem_of}
+use Rattle.plan_shop.specs.Shop.{IsShop, problem_of}
 use Rattle.plan_shop.specs.Words.{is_full, makespan_of, starts_of}
 use Rattle.plan_shop.specs.Trees.{Standing, placed}
 use Rattle.plan_shop.proofs.HeldLemmas.{held}
@@ -25,7 +25,7 @@ returns-clause-makespan c =
 
 pub returns-clause-active : goal.returns-clause-active
 returns-clause-active c =
-    let h = held _ _ _ _ _ _ _ _ c.tree.view_is c.tree.invariant in
+    let h = held _ _ _ _ _ _ _ _ c.tree.view_is c.tree.invariant.kept in
     let Q : List ℕ → Type 0 = λ xs. IsActive (problem_of c.args.shop.now) xs in
     let P : Standing → Type 0 = λ t. IsShop t.shop in
     subst Q (sym (c.in_ok-starts.ensures.starts ∙ ap (λ (t : Standing). starts_of t.shop (placed t)) c.in_ok-tree.ensures)) (word_by-active c.args.rule c.args.shop.now (subst P c.in_ok-tree.ensures h.small.shop))

@@ -1,5 +1,5 @@
 -- The times of the steps so far.
-use Rattle.std.proofs.Common.{◌≡◌, ◌+◌, ◌-◌, ◌*◌, ◌≤◌, suc}
+use Rattle.std.proofs.Common.{◌≡◌, ◌-◌, ◌*◌, ◌≤◌, suc}
 use Rattle.plan_shop.specs.Shop.{times_from}
 use Rattle.plan_shop.proofs.tree.tail.Given as goal
 

@@ -1,4 +1,4 @@
-use Rattle.std.proofs.Common.{ℕ, ◌≡◌, ◌<◌, length, sym, ◌∙◌, ap, arith}
+use Rattle.std.proofs.Common.{ℕ, ◌≡◌, ◌<◌, sym, ◌∙◌, ap, arith}
 use Rattle.std.proofs.lemmas.Bool.{both_ways}
 use Rattle.plan_sgs.specs.Problem.{count, total}
 use Rattle.plan_sgs.proofs.StartLemmas.{amount_at, total_next, usage_is}

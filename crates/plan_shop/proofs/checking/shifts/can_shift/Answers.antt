@@ -1,6 +1,5 @@
-use Rattle.std.proofs.Common.{◌≡◌, ◌≤◌, ◌<◌, false, length, get_or, refl, ◌∙◌, arith}
+use Rattle.std.proofs.Common.{◌<◌, false, get_or, refl, ◌∙◌, arith}
 use Rattle.std.proofs.lemmas.Bool.{both_ways}
-use Rattle.plan_sgs.specs.Problem.{count}
 use Rattle.plan_sgs.proofs.Shifts.{shift_from_start, start_from_shift}
 use Rattle.plan_shop.specs.Shop.{problem_of}
 use Rattle.plan_shop.proofs.ShopBasics.{count_is}

@@ -1,4 +1,4 @@
-use Rattle.std.proofs.Common.{◌≡◌, ◌<◌, ap, sym, ◌∙◌, arith}
+use Rattle.std.proofs.Common.{ap, sym, arith}
 use Rattle.plan_shop.specs.Trees.{Standing}
 use Rattle.plan_shop.proofs.FullLemmas.{not_full, all_full, held-word}
 use Rattle.plan_shop.proofs.tree.ShopTree.full.Goals as goal
@@ -9,7 +9,7 @@ returns-then-has_next-clause-value c =
     not_full c.args.self.now.shop _ c.loop-job.job (omega (arith, jobs, c.jobs-job-end.ensures.value, c.loop-job-test.true)) (sym c.if-has_next.ensures)
 
 pub returns-then-has_next-clause-word : goal.returns-then-has_next-clause-word
-returns-then-has_next-clause-word c = held-word _ _ _ _ _ _ _ _ c.self.view_is c.self.invariant
+returns-then-has_next-clause-word c = held-word _ _ _ _ _ _ _ _ c.self.view_is c.self.invariant.kept
 
 pub returns-clause-value : goal.returns-clause-value
 returns-clause-value c =
@@ -17,4 +17,4 @@ returns-clause-value c =
     all_full c.args.self.now.shop _ (λ j below. c.loop-job.invariant j (omega (arith, jobs, c.jobs-job-end.ensures.value, c.loop-job-test.false, below)))
 
 pub returns-clause-word : goal.returns-clause-word
-returns-clause-word c = held-word _ _ _ _ _ _ _ _ c.self.view_is c.self.invariant
+returns-clause-word c = held-word _ _ _ _ _ _ _ _ c.self.view_is c.self.invariant.kept

@@ -13,7 +13,7 @@ use Rattle.plan_shop.proofs.tree.ShopTree.gather.Goals.{then-step-gt0, else-step
 
 pub loop-place-init : goal.loop-place-init
 loop-place-init c =
-    let h = held _ _ _ _ _ _ _ _ c.self.view_is c.self.invariant in
+    let h = held _ _ _ _ _ _ _ _ c.self.view_is c.self.invariant.kept in
     let done = done-read _ _ _ _ _ _ h c.args.job c.index-place.result.now c.requires.job c.index-place.ensures in
     let end = end-read _ _ _ _ _ _ h c.args.job c.index-end.result.now c.requires.job c.index-end.ensures in
     let none : 0 ≡ c.index-place.result.now - steps_done (placed c.args.self.now) c.args.job = omega (arith, done) in
@@ -26,9 +26,9 @@ loop-place-init c =
 
 pub overflow_add-end : goal.overflow_add-end
 overflow_add-end c =
-    let h = held _ _ _ _ _ _ _ _ c.self.view_is c.self.invariant in
+    let h = held _ _ _ _ _ _ _ _ c.self.view_is c.self.invariant.kept in
     let machines = ap (λ (v : Standing). v.shop.machines) c.self.view_is in
-    let at = at-read c.self.inside.shop.now _ c.args.self.now c.self.view_is c.machines-machines.ensures.shop c.args.job c.loop-place.place c.machines-machines.result c.step-step.result c.requires.job c.loop-place-test.true c.machines-machines.ensures.value c.step-step.ensures in
+    let at = at-read c.self.inside.shop.now _ c.args.self.now c.self.view_is c.machines-machines.ensures.shop c.args.job c.loop-place.place c.machines-machines.result c.step-step.result c.requires.job c.loop-place-test.true c.machines-machines.ensures.value c.step-step.ensures.value in
     let m : ℕ = c.step-step.result.machine in
     let free : get_or c.as_slice-free.result.now m 0 ≡ machine_free c.args.self.now.shop (placed c.args.self.now) m = ap (λ (ys : List ℕ). get_or ys m 0) c.as_slice-free.ensures.value ∙ h.kept.free_is m at.on in
     let place : c.loop-place.place < c.args.self.now.shop.machines = omega (arith, machines, c.machines-machines.ensures.value, c.loop-place-test.true) in
@@ -37,9 +37,9 @@ overflow_add-end c =
 
 pub loop-place-preserved : goal.loop-place-preserved
 loop-place-preserved c =
-    let h = held _ _ _ _ _ _ _ _ c.self.view_is c.self.invariant in
+    let h = held _ _ _ _ _ _ _ _ c.self.view_is c.self.invariant.kept in
     let machines = ap (λ (v : Standing). v.shop.machines) c.self.view_is in
-    let at = at-read c.self.inside.shop.now _ c.args.self.now c.self.view_is c.machines-machines.ensures.shop c.args.job c.loop-place.place c.machines-machines.result c.step-step.result c.requires.job c.loop-place-test.true c.machines-machines.ensures.value c.step-step.ensures in
+    let at = at-read c.self.inside.shop.now _ c.args.self.now c.self.view_is c.machines-machines.ensures.shop c.args.job c.loop-place.place c.machines-machines.result c.step-step.result c.requires.job c.loop-place-test.true c.machines-machines.ensures.value c.step-step.ensures.value in
     let s : JobShop = c.args.self.now.shop in
     let xs : List Placed = placed c.args.self.now in
     let m : ℕ = c.step-step.result.machine in
@@ -96,7 +96,7 @@ loop-place-preserved c =
 
 pub returns : goal.returns
 returns c =
-    let h = held _ _ _ _ _ _ _ _ c.self.view_is c.self.invariant in
+    let h = held _ _ _ _ _ _ _ _ c.self.view_is c.self.invariant.kept in
     let machines = ap (λ (v : Standing). v.shop.machines) c.self.view_is in
     let done = done-read _ _ _ _ _ _ h c.args.job c.index-place.result.now c.requires.job c.index-place.ensures in
     let most = h.within.done c.args.job in

@@ -1,4 +1,4 @@
-use Rattle.std.proofs.Common.{◌≡◌, ◌++◌, ◌+◌, ◌<◌, ℕ, List, [], ◌∷◌, map, suc, true, ap, sym, ◌∙◌, add-one, append-nil, Vec, Global, arith}
+use Rattle.std.proofs.Common.{◌≡◌, ◌++◌, ℕ, List, [], ◌∷◌, map, suc, ap, sym, ◌∙◌, add-one, append-nil, Vec, Global, arith}
 use Rattle.plan_shop.specs.Shop.{those_below}
 use Rattle.plan_shop.specs.Words.{letter_of}
 use Rattle.plan_shop.specs.Trees.{Standing, is_rival}

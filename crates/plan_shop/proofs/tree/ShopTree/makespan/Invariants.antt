@@ -1,5 +1,5 @@
 -- The greatest end so far.
-use Rattle.std.proofs.Common.{ℕ, ◌+◌, ◌≤◌, ◌≡◌}
+use Rattle.std.proofs.Common.{◌+◌, ◌≡◌}
 use Rattle.plan_sgs.specs.Problem.{greatest_below}
 use Rattle.plan_shop.specs.Shop.{time_of}
 use Rattle.plan_shop.specs.Words.{start_in}

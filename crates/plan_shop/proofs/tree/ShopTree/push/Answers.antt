@@ -1,10 +1,9 @@
-use Rattle.std.proofs.Common.{◌≡◌, ◌+◌, ◌-◌, ◌<◌, ◌≤◌, ◌∙◌, ℕ, suc, ap, sym, cond, arith}
+use Rattle.std.proofs.Common.{◌+◌, ◌-◌, ◌∙◌, ℕ, ap, cond, arith}
 use Rattle.std.specs.Prelude.{nat_lt}
 use Rattle.plan_shop.specs.declared.tree.Turn.{Turn}
-use Rattle.plan_shop.specs.Words.{next_step, machine_free}
-use Rattle.plan_shop.specs.Trees.{placed}
 use Rattle.plan_shop.proofs.HeldLemmas.{held, done-read, end-read, free-read}
 use Rattle.plan_shop.proofs.TurnLemmas.{IsPush, pushable, pushed}
+use Rattle.plan_shop.proofs.RoomLemmas.{turns-room}
 use Rattle.plan_shop.proofs.tree.ShopTree.push.Goals as goal
 
 pub overflow_sub-place : goal.overflow_sub-place
@@ -24,7 +23,7 @@ ready-start-requires-clause-next c = (pushable _ _ c.args.job c.requires).has
 
 pub overflow_add-index_mut : goal.overflow_add-index_mut
 overflow_add-index_mut c =
-    let h = held _ _ _ _ _ _ _ _ c.self.view_is c.self.invariant in
+    let h = held _ _ _ _ _ _ _ _ c.self.view_is c.self.invariant.kept in
     let l = pushable _ _ c.args.job c.requires in
     let r = done-read _ _ _ _ _ _ h (c.args.job - 1) c.index_mut.result.now l.job c.index_mut.ensures.value in
     let next = l.next in
@@ -33,7 +32,7 @@ overflow_add-index_mut c =
 
 pub invariant_of-self-2 : goal.invariant_of-self-2
 invariant_of-self-2 c =
-    let h = held _ _ _ _ _ _ _ _ c.self.view_is c.self.invariant in
+    let h = held _ _ _ _ _ _ _ _ c.self.view_is c.self.invariant.kept in
     let l = pushable _ _ c.args.job c.requires in
     let done = done-read _ _ _ _ _ _ h (c.args.job - 1) c.index_mut.result.now l.job c.index_mut.ensures.value in
     let end = end-read _ _ _ _ _ _ h (c.args.job - 1) c.index.result.now l.job c.index.ensures in
@@ -52,6 +51,12 @@ invariant_of-self-2 c =
       on = c.next_step-step.ensures.on;
       inside = c.next_number-i.ensures.step;
     } in
-    pushed c.self.inside.shop.now c.self.inside.tails.items c.self.inside.done.items c.self.inside.ends.items c.self.inside.free.items c.self.inside.starts.items c.self.inside.turns.items c.push.new.self.items turn
+    let kept = pushed c.self.inside.shop.now c.self.inside.tails.items c.self.inside.done.items c.self.inside.ends.items c.self.inside.free.items c.self.inside.starts.items c.self.inside.turns.items c.push.new.self.items turn
     (c.index_mut.result.now + 1) (c.ready-start.result + c.next_step-step.result.time) c.next_step-step.result.machine c.free_after.result c.next_number-i.result c.ready-start.result
-    c.args.self.now c.self.view_is c.self.invariant facts c.in_ok-push.ensures.items
+    c.args.self.now c.self.view_is c.self.invariant.kept facts c.in_ok-push.ensures.items in
+    record { kept = kept; room = omega (arith, c.self.invariant.room, c.in_ok-push.ensures.capacity) }
+
+pub returns-in_err-push-clause-succeeds : goal.returns-in_err-push-clause-succeeds
+returns-in_err-push-clause-succeeds c =
+    let room = turns-room _ _ _ _ _ _ _ _ c.args.self.now c.self.view_is c.self.invariant c.args.job c.requires in
+    absurd (omega (arith, room, c.in_err-push.ensures.full, c.self.inside.turns.ok))
