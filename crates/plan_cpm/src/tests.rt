@@ -1,8 +1,10 @@
+ghost use Rattle.std.specs.Prelude.{◌≡◌, length};
 ghost use Rattle.plan_net.specs.Network.{IsActivity};
 
-use crate::{dates, tails, total_successors};
+use crate::{Dates, dates, tails, total_successors};
 use plan_net::{NetFault, Network};
 use std::alloc::Global;
+use std::process::Abort;
 use std::test::Fail;
 
 fn network_of(alloc: Global, durations: &[u64], arcs: &[(u32, u32)]) -> Result<Network, NetFault> {
@@ -17,72 +19,62 @@ const DURATIONS: [u64; 6] = [0, 3, 2, 4, 3, 0];
 
 const ARCS: [(u32, u32); 7] = [(1, 2), (1, 3), (2, 4), (3, 4), (3, 5), (4, 6), (5, 6)];
 
-#[test]
-fn gives_the_dates_of_a_small_project(rt: HostRuntime) -> Result<(), Fail> {
-    let mut network = network_of(rt.alloc(), &DURATIONS, &ARCS)?;
-    assert_eq!(rt; network.len(), 6);
-    let found = dates(rt.alloc(), &network)?;
-    assert_eq!(rt; found.duration(), 7);
-    // ES, EF, LS, LF, TF, FF
-    let wanted: [[u64; 6]; 6] = [
-        [0, 0, 0, 0, 0, 0],
-        [0, 3, 0, 3, 0, 0],
-        [0, 2, 1, 3, 1, 0],
-        [3, 7, 3, 7, 0, 0],
-        [2, 5, 4, 7, 2, 2],
-        [7, 7, 7, 7, 0, 0],
-    ];
+// ES, EF, LS, LF, TF and FF of each activity.
+const DATES: [[u64; 6]; 6] = [
+    [0, 0, 0, 0, 0, 0],
+    [0, 3, 0, 3, 0, 0],
+    [0, 2, 1, 3, 1, 0],
+    [3, 7, 3, 7, 0, 0],
+    [2, 5, 4, 7, 2, 2],
+    [7, 7, 7, 7, 0, 0],
+];
+
+// The same where a lag of 2 stands on the arc from 2 to 4.
+const DATES_WITH_A_LAG: [[u64; 6]; 6] = [
+    [0, 0, 0, 0, 0, 0],
+    [0, 3, 0, 3, 0, 0],
+    [0, 2, 3, 5, 3, 0],
+    [5, 9, 5, 9, 0, 0],
+    [2, 5, 6, 9, 4, 4],
+    [9, 9, 9, 9, 0, 0],
+];
+
+// That the dates are the wanted ones, and critical what has no total float.
+fn assert_dates(rt: &impl Abort, found: &Dates, wanted: &[[u64; 6]; 6])
+    requires { length found.now.durations ≡ 6 }
+{
     for k in 0..6 {
         let j = k as u32 + 1;
-        assert_eq!(rt;
-            [
-                found.es(j),
-                found.ef(j),
-                found.ls(j),
-                found.lf(j),
-                found.tf(j),
-                found.ff(j)
-            ],
-            wanted[k],
-            "activity {j}"
-        );
+        let dates = [
+            found.es(j),
+            found.ef(j),
+            found.ls(j),
+            found.lf(j),
+            found.tf(j),
+            found.ff(j),
+        ];
+        assert_eq!(rt; dates, wanted[k], "activity {j}");
         assert_eq!(rt; found.critical(j), wanted[k][4] == 0, "activity {j}");
     }
-    assert_eq!(rt;
-        tails(rt.alloc(), &network)?.as_slice(),
-        [7, 7, 6, 4, 3, 0].as_slice()
-    );
-    assert_eq!(rt;
-        total_successors(rt.alloc(), &network)?.as_slice(),
-        [5, 2, 3, 1, 1, 0].as_slice()
-    );
+}
+
+#[test]
+fn gives_the_dates_of_a_small_project(rt: HostRuntime) -> Result<(), Fail> {
+    let alloc = rt.alloc();
+    let mut network = network_of(alloc, &DURATIONS, &ARCS)?;
+    assert_eq!(rt; network.len(), 6);
+    let found = dates(alloc, &network)?;
+    assert_eq!(rt; found.duration(), 7);
+    assert_dates(&rt, &found, &DATES);
+    let rests = tails(alloc, &network)?;
+    assert_eq!(rt; rests.as_slice(), [7, 7, 6, 4, 3, 0].as_slice());
+    let totals = total_successors(alloc, &network)?;
+    assert_eq!(rt; totals.as_slice(), [5, 2, 3, 1, 1, 0].as_slice());
     network.set_lag(2, 4, 2)?;
     assert_eq!(rt; network.len(), 6);
-    let later = dates(rt.alloc(), &network)?;
+    let later = dates(alloc, &network)?;
     assert_eq!(rt; later.duration(), 9);
-    let wanted: [[u64; 6]; 6] = [
-        [0, 0, 0, 0, 0, 0],
-        [0, 3, 0, 3, 0, 0],
-        [0, 2, 3, 5, 3, 0],
-        [5, 9, 5, 9, 0, 0],
-        [2, 5, 6, 9, 4, 4],
-        [9, 9, 9, 9, 0, 0],
-    ];
-    for k in 0..6 {
-        let j = k as u32 + 1;
-        assert_eq!(rt;
-            [
-                later.es(j),
-                later.ef(j),
-                later.ls(j),
-                later.lf(j),
-                later.tf(j),
-                later.ff(j)
-            ],
-            wanted[k],
-            "activity {j}"
-        );
-    }
+    assert_dates(&rt, &later, &DATES_WITH_A_LAG);
     Ok(())
 }
 
@@ -186,6 +178,19 @@ fn drawn(alloc: Global, bits: u64) -> Result<Network, NetFault> {
     Ok(network)
 }
 
+// How many other activities up to `count` paths of at most six arcs lead to from `j`, path by path.
+fn count_after(network: &Network, j: u32, count: u32) -> u32
+    requires { IsActivity network.now j }
+{
+    let mut after = 0u32;
+    for k in 1..=count {
+        if k != j && leads(network, j, k, 6) {
+            after = after.saturating_add(1);
+        }
+    }
+    after
+}
+
 #[test]
 fn agrees_with_a_program_that_goes_over_all_paths(rt: HostRuntime) -> Result<(), Fail> {
     let alloc = rt.alloc();
@@ -195,34 +200,18 @@ fn agrees_with_a_program_that_goes_over_all_paths(rt: HostRuntime) -> Result<(),
             .wrapping_mul(6_364_136_223_846_793_005)
             .wrapping_add(1_442_695_040_888_963_407);
         let network = drawn(alloc, bits >> 11)?;
-        let count = network.len() as u32;
+        let count = network.len();
         let found = dates(alloc, &network)?;
         let rests = tails(alloc, &network)?;
         let totals = total_successors(alloc, &network)?;
-        assert_eq!(rt; rests.len(), count as usize);
-        assert_eq!(rt; totals.len(), count as usize);
-        for j in 1..=count {
-            assert_eq!(rt;
-                rests[j as usize - 1],
-                longest_from(&network, j, 6),
-                "tail of {j} at {bits}"
-            );
-            assert_eq!(rt;
-                found.ef(j),
-                longest_to(&network, j, 6),
-                "finish of {j} at {bits}"
-            );
-            let mut after = 0u32;
-            for k in 1..=count {
-                if k != j && leads(&network, j, k, 6) {
-                    after = after.saturating_add(1);
-                }
-            }
-            assert_eq!(rt;
-                totals[j as usize - 1],
-                after,
-                "successors of {j} at {bits}"
-            );
+        assert_eq!(rt; rests.len(), count);
+        assert_eq!(rt; totals.len(), count);
+        for k in 0..count {
+            let j = k as u32 + 1;
+            let by_paths = (longest_from(&network, j, 6), longest_to(&network, j, 6));
+            assert_eq!(rt; (rests[k], found.ef(j)), by_paths, "{j} at {bits}");
+            let after = count_after(&network, j, count as u32);
+            assert_eq!(rt; totals[k], after, "successors of {j} at {bits}");
         }
     }
     Ok(())
