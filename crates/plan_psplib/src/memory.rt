@@ -36,8 +36,7 @@ impl<'a> Source for MemSource<'a> {
         let (front, rest) = self.rest.split_at(n);
         buf[..n].copy_from_slice(front);
         self.rest = rest;
-        self.tally = self.tally.answered();
-        Ok(n)
+        self.tally.count(Ok::<usize, DeviceFault>(n))
     }
 }
 
@@ -77,15 +76,8 @@ impl Sink for MemSink {
     ghost taken = { λ sink. Some sink.bytes.items };
 
     fn write(&mut self, bytes: &[u8]) -> Result<usize, DeviceFault> {
-        match self.bytes.extend_from_slice(bytes) {
-            Ok(()) => {
-                self.tally = self.tally.answered();
-                Ok(bytes.len())
-            }
-            Err(_) => {
-                self.tally = self.tally.failed();
-                Err(DeviceFault)
-            }
-        }
+        let kept = self.bytes.extend_from_slice(bytes);
+        self.tally.count(kept)?;
+        Ok(bytes.len())
     }
 }

@@ -35,15 +35,7 @@ impl<W: Write + Drop> Sink for StdSink<W> {
     ghost taken = { λ sink. W.contents sink.inner };
 
     fn write(&mut self, bytes: &[u8]) -> Result<usize, DeviceFault> {
-        match self.inner.write(bytes) {
-            Ok(n) => {
-                self.tally = self.tally.answered();
-                Ok(n)
-            }
-            Err(_) => {
-                self.tally = self.tally.failed();
-                Err(DeviceFault)
-            }
-        }
+        let written = self.inner.write(bytes);
+        self.tally.count(written)
     }
 }

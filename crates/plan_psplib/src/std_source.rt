@@ -34,15 +34,7 @@ impl<R: Read + Drop> Source for StdSource<R> {
     ghost remaining = { λ source. R.remaining source.inner };
 
     fn read(&mut self, buf: &mut [u8]) -> Result<usize, DeviceFault> {
-        match self.inner.read(buf) {
-            Ok(n) => {
-                self.tally = self.tally.answered();
-                Ok(n)
-            }
-            Err(_) => {
-                self.tally = self.tally.failed();
-                Err(DeviceFault)
-            }
-        }
+        let read = self.inner.read(buf);
+        self.tally.count(read)
     }
 }

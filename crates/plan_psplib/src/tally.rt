@@ -1,8 +1,10 @@
 //! How often a device was called, and how often it failed.
 
-ghost use Rattle.std.specs.Prelude.{◌≡◌, ◌+◌, ℕ};
+ghost use Rattle.std.specs.Prelude.{◌≡◌, ◌+◌, ℕ, Ok, IsErr, MatchResult, if◌then◌else◌};
 ghost use Rattle.std.specs.Borrow.{ftrue};
+ghost use Rattle.plan_psplib.specs.Devices.{IsCounted};
 
+use crate::devices::DeviceFault;
 use std::marker::Model;
 
 /// The calls of one reader or writer, and those of them that it answered by a fault. Contracts alone
@@ -28,16 +30,18 @@ impl Tally {
         Tally {}
     }
 
-    /// With one call more, which had an answer.
-    pub fn answered(&self) -> Tally
-        ensures { (result.calls ≡ self.now.calls + 1) × (result.faults ≡ self.now.faults) }
+    /// Counts a call by what it answered, of which any error is a fault.
+    pub fn count<T, E: Drop>(&mut self, answer: Result<T, E>) -> Result<T, DeviceFault>
+        ensures counted { IsCounted self.old.calls self.new.calls self.old.faults self.new.faults result }
+        ensures answer { MatchResult answer (λ value. result ≡ Ok value) (λ _. IsErr result) }
     {
-        Tally {}
+        *self = self.with_call(answer.is_ok());
+        answer.map_err(|_| DeviceFault)
     }
 
-    /// With one call more, which had a fault for an answer.
-    pub fn failed(&self) -> Tally
-        ensures { (result.calls ≡ self.now.calls + 1) × (result.faults ≡ self.now.faults + 1) }
+    // With one call more, and with one fault more unless the call was good.
+    fn with_call(&self, good: bool) -> Tally
+        ensures { (result.calls ≡ self.now.calls + 1) × (result.faults ≡ (if good then self.now.faults else self.now.faults + 1)) }
     {
         Tally {}
     }

@@ -23,18 +23,15 @@ impl<'a> Source for FailingSource<'a> {
     ghost remaining = { λ _. None };
 
     fn read(&mut self, buf: &mut [u8]) -> Result<usize, DeviceFault> {
-        match (self.rest, buf) {
+        let read = match (self.rest, buf) {
             ([first, rest @ ..], [place, ..]) => {
                 *place = *first;
                 self.rest = rest;
-                self.tally = self.tally.answered();
                 Ok(1)
             }
-            _ => {
-                self.tally = self.tally.failed();
-                Err(DeviceFault)
-            }
-        }
+            _ => Err(DeviceFault),
+        };
+        self.tally.count(read)
     }
 }
 
@@ -54,14 +51,14 @@ impl Sink for FullSink {
     ghost taken = { λ _. None };
 
     fn write(&mut self, bytes: &[u8]) -> Result<usize, DeviceFault> {
-        if self.room == 0 && self.fails {
-            self.tally = self.tally.failed();
-            return Err(DeviceFault);
-        }
-        let n = self.room.min(bytes.len()).min(1);
-        self.room -= n;
-        self.tally = self.tally.answered();
-        Ok(n)
+        let written = if self.room == 0 && self.fails {
+            Err(DeviceFault)
+        } else {
+            let n = self.room.min(bytes.len()).min(1);
+            self.room -= n;
+            Ok(n)
+        };
+        self.tally.count(written)
     }
 }
 
