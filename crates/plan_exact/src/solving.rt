@@ -43,10 +43,7 @@ fn schedule_by(alloc: Global, shop: &Shop, word: &[u32]) -> Result<Schedule, All
     for letter in word {
         tree.push(*letter)?;
     }
-    Ok(Schedule {
-        starts: tree.starts(alloc)?,
-        makespan: tree.makespan(),
-    })
+    tree.schedule(alloc)
 }
 
 // What a search within a budget answers: the schedule of the word that it finds, or the initial one.

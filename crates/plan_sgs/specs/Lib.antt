@@ -9,4 +9,5 @@ pub mod Placing
 pub mod Waiting
 pub mod Laws
 pub use Rattle.plan_net.specs.Network
+pub use Rattle.plan_profile.specs.Usage
 pub use Rattle.plan_psplib.specs.Project

@@ -1,7 +1,8 @@
 //! The check of any list of starts.
 
-ghost use Rattle.std.specs.Prelude.{◌≡◌, ◌≤◌, ◌↔◌, length, All, IfOk, IfErr};
+ghost use Rattle.std.specs.Prelude.{◌≡◌, ◌↔◌, length, All, IfOk, IfErr};
 ghost use Rattle.plan_net.specs.Network.{count_of};
+ghost use Rattle.plan_profile.specs.Usage.{IsInTime};
 ghost use Rattle.plan_sgs.specs.Instances.{problem_of};
 ghost use Rattle.plan_sgs.specs.Problem.{IsActive};
 ghost use Rattle.plan_sgs.specs.Verdicts.{IsFirstVerdict};
@@ -14,7 +15,6 @@ use self::shifts::first_shift;
 use crate::fault::SgsFault;
 use crate::instance::Instance;
 use crate::verdict::Verdict;
-use plan_profile::END;
 use std::alloc::Global;
 
 mod broken;
@@ -23,11 +23,11 @@ mod shifts;
 
 /// What is wrong first with a list of starts, one for each activity: a broken arc, else an instant at which a resource is
 /// overloaded, else an activity that can start earlier with all others where they are; or that the list is active. Starts
-/// are whole time units, none of them after [`END`]. Feasible and active schedules as in Kolisch and Hartmann (1999). Want of
+/// are whole time units, none of them after 10,000,000. Feasible and active schedules as in Kolisch and Hartmann (1999). Want of
 /// memory is the one error.
 pub fn check(alloc: Global, instance: &Instance, starts: &[u64]) -> Result<Verdict, SgsFault>
     requires whole { length starts.now ≡ count_of instance.now.project.network }
-    requires limit { All (λ t. t ≤ END) starts.now }
+    requires limit { All IsInTime starts.now }
     ensures verdict { IfOk result (IsFirstVerdict (problem_of instance.now) starts.now) }
     ensures active { IfOk result (λ v. (v ≡ Active) ↔ IsActive (problem_of instance.now) starts.now) }
     ensures err { IfErr result (λ fault. fault ≡ NoMemory) }

@@ -23,7 +23,6 @@ pub use laws::{
     by_starts_is_no_longer, least_of_orders_is_shortest, rule_takes_first, serial_is_active,
     serial_is_no_later,
 };
-pub use placing::LATEST_END;
 pub use rule::Rule;
 pub use schedule::Schedule;
 pub use verdict::Verdict;

@@ -5,7 +5,7 @@ ghost use Rattle.plan_net.specs.Network.{IsActivity};
 ghost use Rattle.plan_sgs.specs.Problem as problem;
 ghost use Rattle.plan_sgs.specs.Serial as spec;
 ghost use Rattle.plan_sgs.specs.Instances.{IsInstance, problem_of};
-ghost use Rattle.plan_sgs.specs.Placing.{EndsBy, AllEndBy, Holds, IsTurnList};
+ghost use Rattle.plan_sgs.specs.Placing.{EndsBy, AllEndBy, Holds, IsTurnList, latest_end};
 ghost use Rattle.plan_sgs.specs.Rules.{places};
 
 use crate::instance::Instance;
@@ -14,16 +14,13 @@ use plan_net::{LONGEST_LAG, Network};
 use plan_profile::Profile;
 use std::alloc::{AllocError, Global};
 
-/// The instant by which all activities of a serial schedule have ended: their durations, and a greatest lag for each.
-pub const LATEST_END: u64 = 6_020_000;
-
 // The end of an activity, 0 where it isn't placed.
 fn end_of(instance: &Instance, placed: &[Option<u64>], j: u32) -> u64
     requires activity { IsActivity instance.now.project.network j }
     requires size { length placed.now ≡ problem.count (problem_of instance.now) }
-    requires ends { EndsBy (problem_of instance.now) placed.now LATEST_END }
+    requires ends { EndsBy (problem_of instance.now) placed.now latest_end }
     ensures value { result ≡ spec.end_of (problem_of instance.now) placed.now (j - 1) }
-    ensures limit { result ≤ LATEST_END }
+    ensures limit { result ≤ latest_end }
 {
     match placed[j as usize - 1] {
         Some(start) => start + instance.network().duration(j),
@@ -35,9 +32,9 @@ fn end_of(instance: &Instance, placed: &[Option<u64>], j: u32) -> u64
 fn release_of(instance: &Instance, placed: &[Option<u64>], j: u32) -> u64
     requires activity { IsActivity instance.now.project.network j }
     requires size { length placed.now ≡ problem.count (problem_of instance.now) }
-    requires ends { EndsBy (problem_of instance.now) placed.now LATEST_END }
+    requires ends { EndsBy (problem_of instance.now) placed.now latest_end }
     ensures value { result ≡ spec.release (problem_of instance.now) placed.now (j - 1) }
-    ensures limit { result ≤ LATEST_END + LONGEST_LAG }
+    ensures limit { result ≤ latest_end + LONGEST_LAG }
 {
     let network = instance.network();
     let mut from = 0u64;
@@ -58,7 +55,7 @@ fn place_next(
     requires activity { IsActivity instance.now.project.network j }
     requires size { length placed.old.items ≡ problem.count (problem_of instance.now) }
     requires open { get_or placed.old.items (j - 1) None ≡ None }
-    requires ends { EndsBy (problem_of instance.now) placed.old.items LATEST_END }
+    requires ends { EndsBy (problem_of instance.now) placed.old.items latest_end }
     requires holds { Holds profile.old (problem_of instance.now) placed.old.items }
     ensures ok { OnOk result (placed.new.items ≡ set placed.old.items (j - 1) (Some (spec.earliest (problem_of instance.now) placed.old.items (j - 1)))) }
     ensures holds { OnOk result (Holds profile.new (problem_of instance.now) placed.new.items) }
@@ -84,7 +81,7 @@ fn place_all(
     requires none { placed.old.items ≡ spec.unplaced (problem.count (problem_of instance.now)) }
     requires holds { Holds profile.old (problem_of instance.now) placed.old.items }
     ensures ok { OnOk result (placed.new.items ≡ spec.serial_from (problem_of instance.now) placed.old.items (places list.now)) }
-    ensures ends { OnOk result (EndsBy (problem_of instance.now) placed.new.items LATEST_END) }
+    ensures ends { OnOk result (EndsBy (problem_of instance.now) placed.new.items latest_end) }
 {
     for &j in list {
         place_next(instance, profile, placed, j)?;
@@ -110,9 +107,9 @@ fn starts_of(alloc: Global, placed: &[Option<u64>]) -> Result<Vec<u64>, AllocErr
 // The greatest end of an activity.
 fn makespan_of(instance: &Instance, starts: &[u64]) -> u64
     requires size { length starts.now ≡ problem.count (problem_of instance.now) }
-    requires ends { AllEndBy (problem_of instance.now) starts.now LATEST_END }
+    requires ends { AllEndBy (problem_of instance.now) starts.now latest_end }
     ensures value { result ≡ problem.makespan (problem_of instance.now) starts.now }
-    ensures limit { result ≤ LATEST_END }
+    ensures limit { result ≤ latest_end }
 {
     let network = instance.network();
     let mut latest = 0u64;
@@ -129,8 +126,8 @@ pub fn scheduled(alloc: Global, instance: &Instance, list: &[u32]) -> Result<Sch
     ensures starts { IfOk result (λ s. s.starts.items ≡ spec.serial (problem_of instance.now) (places list.now)) }
     ensures active { IfOk result (λ s. problem.IsActive (problem_of instance.now) s.starts.items) }
     ensures makespan { IfOk result (λ s. s.makespan ≡ problem.makespan (problem_of instance.now) s.starts.items) }
-    ensures ends { IfOk result (λ s. AllEndBy (problem_of instance.now) s.starts.items LATEST_END) }
-    ensures limit { IfOk result (λ s. s.makespan ≤ LATEST_END) }
+    ensures ends { IfOk result (λ s. AllEndBy (problem_of instance.now) s.starts.items latest_end) }
+    ensures limit { IfOk result (λ s. s.makespan ≤ latest_end) }
 {
     let caps = Vec::from_slice(alloc, instance.caps())?;
     let mut profile = Profile::new(alloc, caps)?;

@@ -1,12 +1,31 @@
 //! Which activities may come next, while others are taken.
 
-ghost use Rattle.std.specs.Prelude.{◌≡◌, ℕ, ◌-◌, ◌<◌, ◌↔◌, true, false, length, set, slice_index, IsTrue, IfOk, IfSome, MatchOption};
+ghost use Rattle.std.specs.Prelude.{◌≡◌, ℕ, ◌-◌, ◌≤◌, ◌<◌, ◌↔◌, true, false, length, set, slice_index, IsTrue, IfOk, IfSome, MatchOption};
+ghost use Rattle.std.specs.List.Sorted.{IsStrictlyIncreasing};
 ghost use Rattle.plan_net.specs.Network.{IsActivity, IsArc, count_of};
 ghost use Rattle.plan_net.specs.Placed.{IsPlaced};
 ghost use Rattle.plan_sgs.specs.Waiting.{AreWaits, WaitsFor, ChoosesBelow};
 
 use plan_net::Network;
 use std::alloc::{AllocError, Global};
+
+// Where a number stands in a rising row, or would stand.
+fn place_of(row: &[u32], number: u32) -> usize
+    requires { IsStrictlyIncreasing row.now }
+    ensures inside { result ≤ length row.now }
+    ensures before { (k : ℕ) → k < result → slice_index row.now k < number }
+    ensures behind { (k : ℕ) → result ≤ k → k < length row.now → number ≤ slice_index row.now k }
+{
+    // A row that has all numbers from 1 on has this one at a place that is known without a search.
+    let guess = (number as usize).saturating_sub(1);
+    if guess < row.len() && row[guess] == number {
+        return guess;
+    }
+    match row.binary_search(&number) {
+        Ok(place) => place,
+        Err(place) => place,
+    }
+}
 
 /// The least predecessor of activity `j` that isn't taken, where those before `after` are.
 pub fn open_pred(network: &Network, taken: &[bool], j: u32, after: u32) -> Option<u32>
@@ -16,10 +35,7 @@ pub fn open_pred(network: &Network, taken: &[bool], j: u32, after: u32) -> Optio
     ensures { WaitsFor network.now taken.now j result }
 {
     let preds = network.preds(j);
-    let first = match preds.binary_search(&after) {
-        Ok(place) => place,
-        Err(place) => place,
-    };
+    let first = place_of(preds, after);
     for k in first..preds.len() {
         if !taken[preds[k] as usize - 1] {
             return Some(preds[k]);

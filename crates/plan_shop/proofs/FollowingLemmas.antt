@@ -3,10 +3,10 @@ use Rattle.std.proofs.Common.{◌≡◌, ℕ, zero, suc, ◌<◌, ◌&&◌, inl,
 use Rattle.std.specs.Option.{IfSome, IfNone}
 use Rattle.std.proofs.lemmas.List.{map-append}
 use Rattle.std.specs.Prelude.{Contains, nat_eq, nat_lt}
-use Rattle.std.proofs.lemmas.Bool.{cases_eq, cases_Bool, cond-true, cond-false}
+use Rattle.std.proofs.lemmas.Bool.{cases_eq, cond-true, cond-false, lt-ltb, le-ltb}
 use Rattle.plan_shop.specs.Shop.{JobShop, time_of, machine_of, those_below}
 use Rattle.plan_shop.specs.Words.{Placed, has_next, next_step, next_end, first_least, with_next, with_zero, rivals, rivals_of_first, jobs_by, jobs_after, letter_of, letters_after}
-use Rattle.plan_shop.specs.Trees.{Standing, placed, is_rival, IsFirstIn, IsFirstToEnd, sooner}
+use Rattle.plan_shop.specs.Trees.{Standing, placed, is_rival, IsFirstIn, IsFirstToEnd, IsSooner}
 use Rattle.plan_shop.proofs.NumberLemmas.{there_passes, first_least_in}
 
 pub those-yes : (n : ℕ) (f : ℕ → Bool) → f n ≡ true → those_below (suc n) f ≡ those_below n f ++ n ∷ []
@@ -60,30 +60,35 @@ unfolding IsSoFar
 so_far-skips t n None is none = those-no n (has_next t.shop (placed t)) none ∙ is
 so_far-skips t n (Some first) is none = record { head = is.head; rest = is.rest; list = those-no n (has_next t.shop (placed t)) none ∙ is.list; job = is.job; end = is.end }
 
-pub so_far-more : (t : Standing) (n end : ℕ) (first : Option (ℕ × ℕ)) → IsSoFar t n first → has_next t.shop (placed t) n ≡ true → end ≡ next_end t.shop (placed t) n → IsSoFar t (suc n) (sooner first n end)
+pub so_far-more : (t : Standing) (n end : ℕ) (first : Option (ℕ × ℕ)) (chosen : ℕ × ℕ) → IsSoFar t n first → has_next t.shop (placed t) n ≡ true → end ≡ next_end t.shop (placed t) n → IsSooner first (n, end) chosen → IsSoFar t (suc n) (Some chosen)
 unfolding IsSoFar
-so_far-more t n end None is next end_is = record { head = n; rest = []; list = those-yes n (has_next t.shop (placed t)) next ∙ ap (λ xs. xs ++ n ∷ []) is; job = refl; end = end_is }
-so_far-more t n end (Some first) is next end_is =
+so_far-more t n end None chosen is next end_is sooner =
+    let Q : ℕ × ℕ → Type 0 = λ r. IsSoFar t (suc n) (Some r) in
+    subst Q (sym sooner) (record { head = n; rest = []; list = those-yes n (has_next t.shop (placed t)) next ∙ ap (λ xs. xs ++ n ∷ []) is; job = refl; end = end_is })
+so_far-more t n end (Some first) chosen is next end_is sooner =
     let key : ℕ → ℕ = next_end t.shop (placed t) in
     let list : those_below (suc n) (has_next t.shop (placed t)) ≡ is.head ∷ (is.rest ++ n ∷ []) = those-yes n (has_next t.shop (placed t)) next ∙ ap (λ xs. xs ++ n ∷ []) is.list in
     let least : first.1 ≡ key (first_least key is.head is.rest) = is.end ∙ ap key is.job in
-    let same : nat_lt end first.1 ≡ nat_lt (key n) (key (first_least key is.head is.rest)) = ap (λ m. nat_lt m first.1) end_is ∙ ap (λ m. nat_lt (key n) m) least in
-    let Q : Option (ℕ × ℕ) → Type 0 = λ r. IsSoFar t (suc n) r in
-    elim (cases_Bool (nat_lt end first.1)) [
-      | inl less ↦ subst Q (sym (cond-true (nat_lt end first.1) (Some (n, end)) (Some first) less)) (record {
-        head = is.head;
-        rest = is.rest ++ n ∷ [];
-        list = list;
-        job = sym (cond-true (nat_lt (key n) (key (first_least key is.head is.rest))) n (first_least key is.head is.rest) (sym same ∙ less)) ∙ sym (fold-more key is.head is.rest n);
-        end = end_is;
-      })
-      | inr more ↦ subst Q (sym (cond-false (nat_lt end first.1) (Some (n, end)) (Some first) more)) (record {
-        head = is.head;
-        rest = is.rest ++ n ∷ [];
-        list = list;
-        job = is.job ∙ sym (cond-false (nat_lt (key n) (key (first_least key is.head is.rest))) n (first_least key is.head is.rest) (sym same ∙ more)) ∙ sym (fold-more key is.head is.rest n);
-        end = is.end;
-      })
+    let Q : ℕ × ℕ → Type 0 = λ r. IsSoFar t (suc n) (Some r) in
+    elim sooner [
+      | inl (earlier, same) ↦
+          let kept : nat_lt (key n) (key (first_least key is.head is.rest)) ≡ false = le-ltb (key n) (key (first_least key is.head is.rest)) (omega (arith, earlier, end_is, least)) in
+          subst Q (sym same) (record {
+            head = is.head;
+            rest = is.rest ++ n ∷ [];
+            list = list;
+            job = is.job ∙ sym (cond-false (nat_lt (key n) (key (first_least key is.head is.rest))) n (first_least key is.head is.rest) kept) ∙ sym (fold-more key is.head is.rest n);
+            end = is.end;
+          })
+      | inr (earlier, same) ↦
+          let taken : nat_lt (key n) (key (first_least key is.head is.rest)) ≡ true = lt-ltb (key n) (key (first_least key is.head is.rest)) (omega (arith, earlier, end_is, least)) in
+          subst Q (sym same) (record {
+            head = is.head;
+            rest = is.rest ++ n ∷ [];
+            list = list;
+            job = sym (cond-true (nat_lt (key n) (key (first_least key is.head is.rest))) n (first_least key is.head is.rest) taken) ∙ sym (fold-more key is.head is.rest n);
+            end = end_is;
+          })
     ]
 
 pub so_far-some : (t : Standing) (n : ℕ) (first : ℕ × ℕ) → IsSoFar t n (Some first) → n ≡ t.shop.jobs → IsFirstToEnd t first

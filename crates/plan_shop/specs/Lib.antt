@@ -4,6 +4,7 @@ pub mod Bound
 pub mod Rules
 pub mod Continuing
 pub mod Laws
+pub use Rattle.plan_profile.specs.Usage
 pub use Rattle.plan_sgs.specs.Problem
 pub use Rattle.plan_orlib.specs.Shop as ShopDocs
 pub mod Docs

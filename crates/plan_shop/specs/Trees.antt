@@ -1,5 +1,5 @@
 -- Where the tree of a shop stands, and what it keeps of what its word places (docs/DEFINITIONS.md, "Job shops").
-use Rattle.std.specs.Prelude.{◌≡◌, ℕ, ◌≤◌, ◌<◌, Bool, cond, ◌&&◌, ◌*◌, not, nat_lt, nat_eq, List, [], ◌∷◌, Option, Some, None, length, map, slice_index, Contains}
+use Rattle.std.specs.Prelude.{◌≡◌, ℕ, ◌≤◌, ◌<◌, ◌⊎◌, Bool, cond, ◌&&◌, ◌*◌, not, nat_lt, nat_eq, List, [], ◌∷◌, Option, Some, None, length, map, slice_index, Contains}
 use Rattle.std.specs.List.{sum_by}
 use Rattle.plan_shop.specs.Shop.{JobShop, count_steps, time_of, machine_of, job_of, place_of, those_below}
 use Rattle.plan_shop.specs.Words.{least_of, first_least, Placed, steps_done, has_next, is_placed, job_end, machine_free, next_step, next_end, ready, place, job_of_letter, with_next, letters_after, start_in}
@@ -80,10 +80,10 @@ pub record IsFirstIn (t : Standing) (js : List ℕ) (first : ℕ × ℕ) : Type 
 abbrev pub IsFirstToEnd : Standing → ℕ × ℕ → Type 0
 IsFirstToEnd t first = IsFirstIn t (with_next t.shop (placed t)) first
 
--- the earlier of two ends, the first of them where they are equal
-abbrev pub sooner : Option (ℕ × ℕ) → ℕ → ℕ → Option (ℕ × ℕ)
-sooner None job end = Some (job, end)
-sooner (Some first) job end = cond (nat_lt end first.1) (Some (job, end)) (Some first)
+-- of a job that there may be and another behind it, each with its end, the one that ends first, and of equal ends the first
+abbrev pub IsSooner : Option (ℕ × ℕ) → ℕ × ℕ → ℕ × ℕ → Type 0
+IsSooner None next chosen = chosen ≡ next
+IsSooner (Some first) next chosen = ((first.1 ≤ next.1) × (chosen ≡ first)) ⊎ ((next.1 < first.1) × (chosen ≡ next))
 
 -- an unplaced step of positive time is on a machine
 abbrev pub is_pending : Standing → ℕ → ℕ → Bool

@@ -1,6 +1,7 @@
 //! The check of any list of starts of a shop.
 
 ghost use Rattle.std.specs.Prelude.{◌≡◌, ◌+◌, ◌≤◌, ◌<◌, ◌↔◌, length, All, slice_index};
+ghost use Rattle.plan_profile.specs.Usage.{IsInTime};
 ghost use Rattle.plan_sgs.specs.Problem.{IsActive};
 ghost use Rattle.plan_sgs.specs.Verdicts.{IsFirstVerdict};
 ghost use Rattle.plan_sgs.specs.declared.verdict.Verdict.TheVariants.{Active};
@@ -11,7 +12,6 @@ use self::broken::first_broken;
 use self::overloads::first_over;
 use self::shifts::first_shift;
 use crate::shop::Shop;
-use plan_profile::END;
 use plan_sgs::Verdict;
 
 mod broken;
@@ -48,7 +48,7 @@ fn time_at(shop: &Shop, x: u32) -> u64
 fn end_at(shop: &Shop, starts: &[u64], x: u32) -> u64
     requires step { x < count_steps shop.now }
     requires whole { length starts.now ≡ count_steps shop.now }
-    requires limit { All (λ t. t ≤ END) starts.now }
+    requires limit { All IsInTime starts.now }
     ensures value { result ≡ slice_index starts.now x + time_of shop.now x }
 {
     starts[x as usize] + time_at(shop, x)
@@ -57,11 +57,11 @@ fn end_at(shop: &Shop, starts: &[u64], x: u32) -> u64
 /// What is wrong first with a list of starts, one for each step in flat order: a step that starts before the one before it in
 /// its job ends, else an instant at which two steps of positive time are on one machine, else a step that can start earlier with all others where
 /// they are; or that the list is active. Activities are flat numbers of steps, resources are machines, both from 1 on.
-/// Starts are whole time units, none of them after [`END`]. Takes no memory. Active schedules as in Giffler and Thompson
+/// Starts are whole time units, none of them after 10,000,000. Takes no memory. Active schedules as in Giffler and Thompson
 /// (1960).
 pub fn check(shop: &Shop, starts: &[u64]) -> Verdict
     requires whole { length starts.now ≡ count_steps shop.now }
-    requires limit { All (λ t. t ≤ END) starts.now }
+    requires limit { All IsInTime starts.now }
     ensures verdict { IsFirstVerdict (problem_of shop.now) starts.now result }
     ensures active { (result ≡ Active) ↔ IsActive (problem_of shop.now) starts.now }
 {

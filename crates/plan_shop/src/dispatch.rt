@@ -1,7 +1,7 @@
 //! Active schedules by priority rules.
 
-ghost use Rattle.std.specs.Prelude.{◌≡◌, ◌≤◌, All, IfOk, IfErr};
-ghost use Rattle.plan_profile.specs.declared.profile.TheConstants.{END};
+ghost use Rattle.std.specs.Prelude.{◌≡◌, All, IfOk, IfErr};
+ghost use Rattle.plan_profile.specs.Usage.{IsInTime};
 ghost use Rattle.plan_sgs.specs.Problem.{IsActive, makespan};
 ghost use Rattle.plan_shop.specs.Laws.{placed_in};
 ghost use Rattle.plan_shop.specs.Names.{word_by};
@@ -25,14 +25,11 @@ pub fn giffler(alloc: Global, shop: &Shop, rule: ShopRule) -> Result<Schedule, S
     ensures starts { IfOk result (λ s. s.starts.items ≡ starts_of shop.now (placed_in shop.now (word_by rule shop.now))) }
     ensures makespan { IfOk result (λ s. s.makespan ≡ makespan (problem_of shop.now) s.starts.items) }
     ensures active { IfOk result (λ s. IsActive (problem_of shop.now) s.starts.items) }
-    ensures within { IfOk result (λ s. All (λ t. t ≤ END) s.starts.items) }
+    ensures within { IfOk result (λ s. All IsInTime s.starts.items) }
     ensures err { IfErr result (λ fault. fault ≡ NoMemory) }
 {
     let tree = at_word_of(alloc, shop, rule)?;
-    Ok(Schedule {
-        starts: tree.starts(alloc)?,
-        makespan: tree.makespan(),
-    })
+    Ok(tree.schedule(alloc)?)
 }
 
 // The tree of a shop at the word of a rule.

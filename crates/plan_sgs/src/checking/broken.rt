@@ -1,19 +1,19 @@
 //! The first broken arc.
 
-ghost use Rattle.std.specs.Prelude.{◌≡◌, ℕ, ◌≤◌, length, All, IfSome, IfNone};
-ghost use Rattle.plan_net.specs.Network.{IsActivity, IsArc, IsLeast, count_of, lag_of};
+ghost use Rattle.std.specs.Prelude.{◌≡◌, ℕ, length, All, IfSome, IfNone};
+ghost use Rattle.plan_net.specs.Network.{IsActivity, IsArc, IsLeast, count_of};
+ghost use Rattle.plan_profile.specs.Usage.{IsInTime};
 ghost use Rattle.plan_sgs.specs.Instances.{problem_of};
 ghost use Rattle.plan_sgs.specs.Checking.{IsBrokenAnswer, IsTooSoon};
 
 use crate::instance::Instance;
 use plan_net::Network;
-use plan_profile::END;
 
 // The least successor of activity `i` that starts too soon after it.
 fn first_too_soon(network: &Network, starts: &[u64], i: u32) -> Option<u32>
     requires activity { IsActivity network.now i }
     requires whole { length starts.now ≡ count_of network.now }
-    requires limit { All (λ t. t ≤ END) starts.now }
+    requires limit { All IsInTime starts.now }
     ensures some { IfSome result (IsLeast (λ j. IsArc network.now i j × IsTooSoon network.now starts.now i j)) }
     ensures none { IfNone result ((j : ℕ) → IsArc network.now i j → IsTooSoon network.now starts.now i j → ⊥) }
 {
@@ -29,7 +29,7 @@ fn first_too_soon(network: &Network, starts: &[u64], i: u32) -> Option<u32>
 // The first broken arc, by its first and then by its second activity.
 pub(super) fn first_broken(instance: &Instance, starts: &[u64]) -> Option<(u32, u32)>
     requires whole { length starts.now ≡ count_of instance.now.project.network }
-    requires limit { All (λ t. t ≤ END) starts.now }
+    requires limit { All IsInTime starts.now }
     ensures { IsBrokenAnswer (problem_of instance.now) starts.now result }
 {
     let network = instance.network();

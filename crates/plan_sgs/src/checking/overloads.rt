@@ -1,13 +1,13 @@
 //! The first overload.
 
-ghost use Rattle.std.specs.Prelude.{◌≡◌, ℕ, ◌+◌, ◌^◌, ◌≤◌, ◌<◌, ◌↔◌, length, All, EachIndex, IfOk, IsTrue, slice_index};
+ghost use Rattle.std.specs.Prelude.{◌≡◌, ℕ, ◌+◌, ◌^◌, ◌<◌, ◌↔◌, length, All, EachIndex, IfOk, IsTrue, slice_index};
 ghost use Rattle.plan_net.specs.Network.{count_of};
+ghost use Rattle.plan_profile.specs.Usage.{IsInTime};
 ghost use Rattle.plan_sgs.specs.Instances.{problem_of};
 ghost use Rattle.plan_sgs.specs.Problem.{KeepsArcs};
 ghost use Rattle.plan_sgs.specs.Checking.{AreNeedsAt, IsBefore, IsOverAnswer};
 
 use crate::instance::{Instance, first_above};
-use plan_profile::END;
 use std::alloc::{AllocError, Global};
 
 // Adds the needs of one activity to sums of needs.
@@ -30,7 +30,7 @@ fn needs_at(
     t: u64,
 ) -> Result<Vec<u64>, AllocError>
     requires whole { length starts.now ≡ count_of instance.now.project.network }
-    requires limit { All (λ t. t ≤ END) starts.now }
+    requires limit { All IsInTime starts.now }
     ensures { IfOk result (λ needs. AreNeedsAt (problem_of instance.now) starts.now t needs.items) }
 {
     let network = instance.network();
@@ -61,7 +61,7 @@ pub(super) fn first_over(
     starts: &[u64],
 ) -> Result<Option<(u64, u32)>, AllocError>
     requires whole { length starts.now ≡ count_of instance.now.project.network }
-    requires limit { All (λ t. t ≤ END) starts.now }
+    requires limit { All IsInTime starts.now }
     requires arcs { KeepsArcs (problem_of instance.now) starts.now }
     ensures { IfOk result (IsOverAnswer (problem_of instance.now) starts.now) }
 {

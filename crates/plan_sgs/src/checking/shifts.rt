@@ -2,6 +2,7 @@
 
 ghost use Rattle.std.specs.Prelude.{◌≡◌, ℕ, ◌+◌, ◌-◌, ◌≤◌, ◌↔◌, ◌⊎◌, length, All, IfOk, IsTrue, slice_index};
 ghost use Rattle.plan_net.specs.Network.{IsActivity, IsArc, count_of, duration_of, lag_of};
+ghost use Rattle.plan_profile.specs.Usage.{IsInTime};
 ghost use Rattle.plan_sgs.specs.Instances.{problem_of};
 ghost use Rattle.plan_sgs.specs.Problem.{IsFeasible, KeepsCapacities, all_placed};
 ghost use Rattle.plan_sgs.specs.Verdicts.{HasShift};
@@ -15,7 +16,7 @@ use std::alloc::{AllocError, Global};
 // A profile with all activities at their starts, as far as the end of its time.
 fn profile_of(alloc: Global, instance: &Instance, starts: &[u64]) -> Result<Profile, AllocError>
     requires whole { length starts.now ≡ count_of instance.now.project.network }
-    requires limit { All (λ t. t ≤ END) starts.now }
+    requires limit { All IsInTime starts.now }
     requires kept { KeepsCapacities (problem_of instance.now) (all_placed starts.now) }
     ensures { IfOk result (HoldsBefore END (problem_of instance.now) starts.now) }
 {
@@ -34,7 +35,7 @@ fn profile_of(alloc: Global, instance: &Instance, starts: &[u64]) -> Result<Prof
 fn release_of(network: &Network, starts: &[u64], j: u32) -> u64
     requires activity { IsActivity network.now j }
     requires whole { length starts.now ≡ count_of network.now }
-    requires limit { All (λ t. t ≤ END) starts.now }
+    requires limit { All IsInTime starts.now }
     ensures above { (i : ℕ) → IsArc network.now i j → slice_index starts.now (i - 1) + duration_of network.now i + lag_of network.now i j ≤ result }
     ensures reached { (result ≡ 0) ⊎ ((i : ℕ) × IsArc network.now i j × (result ≡ slice_index starts.now (i - 1) + duration_of network.now i + lag_of network.now i j)) }
 {
@@ -50,7 +51,7 @@ fn release_of(network: &Network, starts: &[u64], j: u32) -> u64
 // the last instant before it, and the activity fits there by itself.
 fn can_shift(instance: &Instance, profile: &Profile, starts: &[u64], j: u32) -> bool
     requires activity { IsActivity instance.now.project.network j }
-    requires limit { All (λ t. t ≤ END) starts.now }
+    requires limit { All IsInTime starts.now }
     requires feasible { IsFeasible (problem_of instance.now) starts.now }
     requires holds { HoldsBefore END (problem_of instance.now) starts.now profile.now }
     ensures { IsTrue result ↔ HasShift (problem_of instance.now) starts.now (j - 1) }
@@ -72,7 +73,7 @@ pub(super) fn first_shift(
     instance: &Instance,
     starts: &[u64],
 ) -> Result<Option<u32>, AllocError>
-    requires limit { All (λ t. t ≤ END) starts.now }
+    requires limit { All IsInTime starts.now }
     requires feasible { IsFeasible (problem_of instance.now) starts.now }
     ensures { IfOk result (IsShiftAnswer (problem_of instance.now) starts.now) }
 {

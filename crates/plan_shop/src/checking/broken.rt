@@ -1,19 +1,19 @@
 //! The first broken arc.
 
-ghost use Rattle.std.specs.Prelude.{◌≡◌, ◌≤◌, ◌<◌, ◌↔◌, length, All, IsTrue};
+ghost use Rattle.std.specs.Prelude.{◌≡◌, ◌<◌, ◌↔◌, length, All, IsTrue};
+ghost use Rattle.plan_profile.specs.Usage.{IsInTime};
 ghost use Rattle.plan_sgs.specs.Checking.{IsBrokenAnswer};
 ghost use Rattle.plan_shop.specs.Shop.{count_steps, problem_of};
 ghost use Rattle.plan_shop.specs.Checks.{IsBrokenAfter};
 
 use super::{count, end_at};
 use crate::shop::Shop;
-use plan_profile::END;
 
 // Whether the step after one is in its job and starts too soon.
 fn is_broken_after(shop: &Shop, starts: &[u64], x: u32) -> bool
     requires step { x < count_steps shop.now }
     requires whole { length starts.now ≡ count_steps shop.now }
-    requires limit { All (λ t. t ≤ END) starts.now }
+    requires limit { All IsInTime starts.now }
     ensures { IsTrue result ↔ IsBrokenAfter shop.now starts.now x }
 {
     let machines = shop.machines();
@@ -23,7 +23,7 @@ fn is_broken_after(shop: &Shop, starts: &[u64], x: u32) -> bool
 // The first broken arc: a step and the next one.
 pub(super) fn first_broken(shop: &Shop, starts: &[u64]) -> Option<(u32, u32)>
     requires whole { length starts.now ≡ count_steps shop.now }
-    requires limit { All (λ t. t ≤ END) starts.now }
+    requires limit { All IsInTime starts.now }
     ensures { IsBrokenAnswer (problem_of shop.now) starts.now result }
 {
     'all: for x in 0..count(shop) {

@@ -1,6 +1,7 @@
 //! The first overload.
 
-ghost use Rattle.std.specs.Prelude.{◌≡◌, ℕ, ◌≤◌, ◌<◌, ◌↔◌, length, All, IfSome, IfNone, IsTrue};
+ghost use Rattle.std.specs.Prelude.{◌≡◌, ℕ, ◌<◌, ◌↔◌, length, All, IfSome, IfNone, IsTrue};
+ghost use Rattle.plan_profile.specs.Usage.{IsInTime};
 ghost use Rattle.plan_sgs.specs.Problem.{KeepsArcs, usage, all_placed};
 ghost use Rattle.plan_sgs.specs.Verdicts.{IsOver};
 ghost use Rattle.plan_sgs.specs.Checking.{IsBefore, IsOverAnswer};
@@ -9,13 +10,12 @@ ghost use Rattle.plan_shop.specs.Checks.{IsUnderWayAt, IsLeastOver};
 
 use super::{count, end_at, machine_at};
 use crate::shop::Shop;
-use plan_profile::END;
 
 // Whether a step is under way on a machine at an instant.
 fn is_under_way(shop: &Shop, starts: &[u64], t: u64, machine: u32, x: u32) -> bool
     requires step { x < count_steps shop.now }
     requires whole { length starts.now ≡ count_steps shop.now }
-    requires limit { All (λ t. t ≤ END) starts.now }
+    requires limit { All IsInTime starts.now }
     ensures { IsTrue result ↔ IsUnderWayAt shop.now starts.now t machine x }
 {
     machine_at(shop, x) == machine && starts[x as usize] <= t && t < end_at(shop, starts, x)
@@ -24,7 +24,7 @@ fn is_under_way(shop: &Shop, starts: &[u64], t: u64, machine: u32, x: u32) -> bo
 // How many steps are under way on a machine at an instant.
 fn usage_at(shop: &Shop, starts: &[u64], t: u64, machine: u32) -> u32
     requires whole { length starts.now ≡ count_steps shop.now }
-    requires limit { All (λ t. t ≤ END) starts.now }
+    requires limit { All IsInTime starts.now }
     ensures { result ≡ usage (problem_of shop.now) (all_placed starts.now) t machine }
 {
     let mut used = 0u32;
@@ -39,7 +39,7 @@ fn usage_at(shop: &Shop, starts: &[u64], t: u64, machine: u32) -> u32
 // The least machine on which several steps are under way at an instant.
 fn first_overloaded(shop: &Shop, starts: &[u64], t: u64) -> Option<u32>
     requires whole { length starts.now ≡ count_steps shop.now }
-    requires limit { All (λ t. t ≤ END) starts.now }
+    requires limit { All IsInTime starts.now }
     ensures some { IfSome result (λ m. (m < 1000) × IsLeastOver shop.now starts.now t m) }
     ensures none { IfNone result ((l : ℕ) → IsOver (problem_of shop.now) starts.now t l → ⊥) }
 {
@@ -64,7 +64,7 @@ fn is_before(t: u64, over: Option<(u64, u32)>) -> bool
 // The least overloaded instant with the least machine that is overloaded then. It is a start: usage rises nowhere else.
 pub(super) fn first_over(shop: &Shop, starts: &[u64]) -> Option<(u64, u32)>
     requires whole { length starts.now ≡ count_steps shop.now }
-    requires limit { All (λ t. t ≤ END) starts.now }
+    requires limit { All IsInTime starts.now }
     requires arcs { KeepsArcs (problem_of shop.now) starts.now }
     ensures { IsOverAnswer (problem_of shop.now) starts.now result }
 {

@@ -1,6 +1,7 @@
 //! The first step that can start earlier.
 
-ghost use Rattle.std.specs.Prelude.{◌≡◌, ℕ, ◌≤◌, ◌<◌, ◌↔◌, length, All, IfSome, IfNone, IsTrue};
+ghost use Rattle.std.specs.Prelude.{◌≡◌, ℕ, ◌<◌, ◌↔◌, length, All, IfSome, IfNone, IsTrue};
+ghost use Rattle.plan_profile.specs.Usage.{IsInTime};
 ghost use Rattle.plan_sgs.specs.Problem.{IsFeasible};
 ghost use Rattle.plan_sgs.specs.Verdicts.{HasShift};
 ghost use Rattle.plan_sgs.specs.Checking.{IsShiftAnswer};
@@ -10,13 +11,12 @@ ghost use Rattle.plan_shop.specs.Checks.{IsReleaseOf, IsInTheWay, IsEndInTheWay}
 
 use super::{count, end_at, machine_at, time_at};
 use crate::shop::Shop;
-use plan_profile::END;
 
 // The least instant at which the step before one in its job lets it start.
 fn release_of(shop: &Shop, starts: &[u64], x: u32) -> u64
     requires step { x < count_steps shop.now }
     requires whole { length starts.now ≡ count_steps shop.now }
-    requires limit { All (λ t. t ≤ END) starts.now }
+    requires limit { All IsInTime starts.now }
     ensures { IsReleaseOf shop.now starts.now x result }
 {
     let machines = shop.machines();
@@ -32,8 +32,8 @@ fn is_in_the_way(shop: &Shop, starts: &[u64], x: u32, at: u64, y: u32) -> bool
     requires step { x < count_steps shop.now }
     requires other { y < count_steps shop.now }
     requires whole { length starts.now ≡ count_steps shop.now }
-    requires limit { All (λ t. t ≤ END) starts.now }
-    requires early { at ≤ END }
+    requires limit { All IsInTime starts.now }
+    requires early { IsInTime at }
     ensures { IsTrue result ↔ IsInTheWay shop.now starts.now x at y }
 {
     let time = time_at(shop, x);
@@ -50,8 +50,8 @@ fn is_in_the_way(shop: &Shop, starts: &[u64], x: u32, at: u64, y: u32) -> bool
 fn end_in_the_way(shop: &Shop, starts: &[u64], x: u32, at: u64) -> Option<u64>
     requires step { x < count_steps shop.now }
     requires whole { length starts.now ≡ count_steps shop.now }
-    requires limit { All (λ t. t ≤ END) starts.now }
-    requires early { at ≤ END }
+    requires limit { All IsInTime starts.now }
+    requires early { IsInTime at }
     ensures some { IfSome result (IsEndInTheWay shop.now starts.now x at) }
     ensures none { IfNone result ((y : ℕ) → y < count_steps shop.now → IsInTheWay shop.now starts.now x at y → ⊥) }
 {
@@ -67,7 +67,7 @@ fn end_in_the_way(shop: &Shop, starts: &[u64], x: u32, at: u64) -> Option<u64>
 fn can_shift(shop: &Shop, starts: &[u64], x: u32) -> bool
     requires step { x < count_steps shop.now }
     requires shop { IsSmallShop shop.now }
-    requires limit { All (λ t. t ≤ END) starts.now }
+    requires limit { All IsInTime starts.now }
     requires feasible { IsFeasible (problem_of shop.now) starts.now }
     ensures { IsTrue result ↔ HasShift (problem_of shop.now) starts.now x }
 {
@@ -84,7 +84,7 @@ fn can_shift(shop: &Shop, starts: &[u64], x: u32) -> bool
 
 // The first step that can start earlier with all others where they are.
 pub(super) fn first_shift(shop: &Shop, starts: &[u64]) -> Option<u32>
-    requires limit { All (λ t. t ≤ END) starts.now }
+    requires limit { All IsInTime starts.now }
     requires feasible { IsFeasible (problem_of shop.now) starts.now }
     ensures { IsShiftAnswer (problem_of shop.now) starts.now result }
 {

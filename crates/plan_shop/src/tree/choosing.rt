@@ -1,6 +1,7 @@
-//! The letter that a rule chooses, and the starts of a full word.
+//! The letter that a rule chooses, and the schedule of a full word.
 
-ghost use Rattle.std.specs.Prelude.{◌≡◌, ◌≤◌, ◌<◌, All, true, length, IfOk, MatchOption};
+ghost use Rattle.std.specs.Prelude.{◌≡◌, ◌<◌, All, true, length, IfOk, MatchOption};
+ghost use Rattle.plan_profile.specs.Usage.{IsInTime};
 ghost use Rattle.plan_shop.specs.Names as names;
 ghost use Rattle.plan_shop.specs.Rules as rules;
 ghost use Rattle.plan_shop.specs.Words as words;
@@ -8,6 +9,7 @@ ghost use Rattle.plan_shop.specs.Trees as spec;
 
 use crate::rule::ShopRule;
 use crate::tree::ShopTree;
+use plan_sgs::Schedule;
 use std::alloc::{AllocError, Global};
 
 // Whether a rule puts a key before that of the best letter so far.
@@ -64,16 +66,29 @@ impl<'a> ShopTree<'a> {
         }
     }
 
-    /// The starts of a full word in flat order, in whole time units.
-    pub fn starts(&self, alloc: Global) -> Result<Vec<u64>, AllocError>
+    // The starts of a full word in flat order.
+    fn starts(&self, alloc: Global) -> Result<Vec<u64>, AllocError>
         requires { words.is_full self.now.shop (spec.placed self.now) ≡ true }
         ensures starts { IfOk result (λ starts. starts.items ≡ words.starts_of self.now.shop (spec.placed self.now)) }
-        ensures within { IfOk result (λ starts. All (λ t. t ≤ 10000000) starts.items) }
+        ensures within { IfOk result (λ starts. All IsInTime starts.items) }
     {
         let mut starts = Vec::new(alloc);
         for i in 0..self.shop.jobs() * self.shop.machines() {
             starts.push(self.start(i))?;
         }
         Ok(starts)
+    }
+
+    /// The schedule of a full word: starts in flat order and the makespan, in whole time units.
+    pub fn schedule(&self, alloc: Global) -> Result<Schedule, AllocError>
+        requires { words.is_full self.now.shop (spec.placed self.now) ≡ true }
+        ensures starts { IfOk result (λ s. s.starts.items ≡ words.starts_of self.now.shop (spec.placed self.now)) }
+        ensures makespan { IfOk result (λ s. s.makespan ≡ words.makespan_of self.now.shop (spec.placed self.now)) }
+        ensures within { IfOk result (λ s. All IsInTime s.starts.items) }
+    {
+        Ok(Schedule {
+            starts: self.starts(alloc)?,
+            makespan: self.makespan(),
+        })
     }
 }

@@ -33,7 +33,7 @@ impl<'a> ShopTree<'a> {
         for job in 0..self.shop.jobs() {
             if self.has_next(job) {
                 let end = self.ready(job) + self.next_step(job).time;
-                first = sooner(first, job, end);
+                first = Some(sooner(first, (job, end)));
             }
         }
         first
@@ -69,12 +69,12 @@ impl<'a> ShopTree<'a> {
     }
 }
 
-// The job that ends first of one that there may be and another behind it.
-fn sooner(first: Option<(u32, u64)>, job: u32, end: u64) -> Option<(u32, u64)>
-    ensures { result ≡ spec.sooner first job end }
+// The job that ends first of one that there may be and another behind it, with its end.
+fn sooner(first: Option<(u32, u64)>, next: (u32, u64)) -> (u32, u64)
+    ensures { spec.IsSooner first next result }
 {
     match first {
-        Some((other, least)) if least <= end => Some((other, least)),
-        _ => Some((job, end)),
+        Some((other, least)) if least <= next.1 => (other, least),
+        _ => next,
     }
 }
