@@ -32,7 +32,7 @@ pub fn read_file<R: Source>(alloc: Global, reader: &mut R) -> Result<Vec<u8>, Cl
 
 /// What a file's fault says for people.
 pub fn told(alloc: Global, fault: &FileFault) -> CliFault
-    ensures { Tells fault.now result }
+    ensures { Refuses (Tells fault.now) result }
 {
     if fault.code == FileCode::Memory {
         return CliFault::Memory;

@@ -16,7 +16,7 @@ use std::alloc::Global;
 
 // What a fault of a schedule says for people.
 fn told(alloc: Global, fault: &SgsFault) -> CliFault
-    ensures { TellsSchedule fault.now result }
+    ensures { Refuses (TellsSchedule fault.now) result }
 {
     match schedule_fault_text(alloc, fault) {
         Ok(line) => CliFault::Refused(line),
