@@ -5,7 +5,7 @@ ghost use Rattle.plan_psplib.specs.Devices.{most_calls, HasFailed};
 ghost use Rattle.plan_cli.specs.Run.{ReadsFront, Refuses, Writes};
 ghost use Rattle.plan_cli.specs.BestRun as spec;
 
-use crate::fault::CliFault;
+use crate::fault::{CliFault, refusal_by};
 use crate::opening::{open_shop, read_instance};
 use crate::running::run_task;
 use crate::tasks::Task;
@@ -23,10 +23,7 @@ fn told(alloc: Global, fault: &ExactFault) -> CliFault
     if matches!(fault, ExactFault::NoMemory) {
         return CliFault::Memory;
     }
-    match exact_fault_text(fault).to_string(alloc) {
-        Ok(line) => CliFault::Refused(line),
-        Err(_) => CliFault::Memory,
-    }
+    refusal_by(exact_fault_text(fault).to_string(alloc))
 }
 
 // The text of the best schedule of a shop.

@@ -5,7 +5,7 @@ ghost use Rattle.plan_psplib.specs.Devices.{most_calls, HasFailed};
 ghost use Rattle.plan_cli.specs.Run.{ReadsFront, Refuses, Writes};
 ghost use Rattle.plan_cli.specs.ScheduleRun.{IsTableOf, IsScheduleTextOf, IsScheduleTableOf, TellsRefusal, TellsWhyNoSchedule, TellsSchedule};
 
-use crate::fault::CliFault;
+use crate::fault::{CliFault, refusal_by};
 use crate::reading::read_project;
 use crate::running::run_task;
 use crate::tasks::Task;
@@ -18,10 +18,7 @@ use std::alloc::Global;
 fn told(alloc: Global, fault: &SgsFault) -> CliFault
     ensures { Refuses (TellsSchedule fault.now) result }
 {
-    match schedule_fault_text(alloc, fault) {
-        Ok(line) => CliFault::Refused(line),
-        Err(_) => CliFault::Memory,
-    }
+    refusal_by(schedule_fault_text(alloc, fault))
 }
 
 // The schedule table of an instance.

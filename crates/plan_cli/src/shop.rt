@@ -5,7 +5,7 @@ ghost use Rattle.plan_psplib.specs.Devices.{most_calls, HasFailed};
 ghost use Rattle.plan_cli.specs.Run.{ReadsFront, Refuses, Writes};
 ghost use Rattle.plan_cli.specs.ShopRun as spec;
 
-use crate::fault::CliFault;
+use crate::fault::{CliFault, refusal_by};
 use crate::opening::{open_shop, read_instance};
 use crate::running::run_task;
 use crate::tasks::Task;
@@ -22,10 +22,7 @@ fn told(alloc: Global, fault: &ShopFault) -> CliFault
     if matches!(fault, ShopFault::NoMemory) {
         return CliFault::Memory;
     }
-    match shop_fault_text(alloc, fault) {
-        Ok(line) => CliFault::Refused(line),
-        Err(_) => CliFault::Memory,
-    }
+    refusal_by(shop_fault_text(alloc, fault))
 }
 
 // The table of a shop.
