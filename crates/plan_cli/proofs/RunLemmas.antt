@@ -25,13 +25,17 @@ use Rattle.plan_cli.specs.declared.fault.CliFault.{CliFault}
 use Rattle.plan_cli.specs.declared.fault.CliFault.TheVariants as cli
 use Rattle.plan_cli.specs.Run.{SaysProject, IsDateTableOf, TellsFirstFailing, Writes, JudgesFront, ReadsFront, Refuses, Tells, Sends}
 
+-- a refusal by one kind of line is one by another that has the same lines
+pub refuses_as : (IsLine IsOther : List ℕ → Type 0) (e : CliFault) → ((line : List ℕ) → IsLine line → IsOther line) → Refuses IsLine e → Refuses IsOther e
+refuses_as IsLine IsOther (cli.Refused line) same r = same (string_bytes line) r
+refuses_as IsLine IsOther cli.Memory same r = tt
+refuses_as IsLine IsOther cli.Input same r = absurd r
+refuses_as IsLine IsOther cli.Output same r = absurd r
+
 -- the fault that is told is the file's
-pub told_refuses : (file : List ℕ) (first : FileFault) (e : CliFault) → IsWantOfMemory first ⊎ IsFirstFailing file first → Tells first e → Refuses (TellsFirstFailing file) e
-told_refuses file first (cli.Refused line) (inl memory) t = absurd (t.0 memory.0)
-told_refuses file first (cli.Refused line) (inr failing) t = (first, failing, t.1)
-told_refuses file first cli.Memory w t = tt
-told_refuses file first cli.Input w t = absurd t
-told_refuses file first cli.Output w t = absurd t
+pub told_refuses : (file : List ℕ) (first : FileFault) (e : CliFault) → IsWantOfMemory first ⊎ IsFirstFailing file first → Refuses (Tells first) e → Refuses (TellsFirstFailing file) e
+told_refuses file first e (inl memory) t = refuses_as (Tells first) (TellsFirstFailing file) e (λ line tells. absurd (tells.0 memory.0)) t
+told_refuses file first e (inr failing) t = refuses_as (Tells first) (TellsFirstFailing file) e (λ line tells. (first, failing, tells.1)) t
 
 -- a text that is too long fails its first check
 too_long : (file : List ℕ) → longest_text < length file → document file ≡ fault code.TooLong 0
@@ -198,19 +202,9 @@ no_best_front budget instance file line (inl first) = inl (first_front instance 
 no_best_front budget instance file line (inr (doc, says, tells)) = inr (doc, says_shop_front instance file doc says, tells)
 
 -- the fault of a shop file that is told
-pub told_no_shop : (instance file : List ℕ) (first : FileFault) (e : CliFault) → IsWantOfMemory first ⊎ reading.FailsWith (reading.shop instance file) first → Tells first e → Refuses (TellsFirstShopFault instance file) e
-told_no_shop instance file first (cli.Refused line) (inl memory) t = absurd (t.0 memory.0)
-told_no_shop instance file first (cli.Refused line) (inr failing) t = (first, failing, t.1)
-told_no_shop instance file first cli.Memory w t = tt
-told_no_shop instance file first cli.Input w t = absurd t
-told_no_shop instance file first cli.Output w t = absurd t
-
--- a refusal by one kind of line is one by another that has the same lines
-pub refuses_as : (IsLine IsOther : List ℕ → Type 0) (e : CliFault) → ((line : List ℕ) → IsLine line → IsOther line) → Refuses IsLine e → Refuses IsOther e
-refuses_as IsLine IsOther (cli.Refused line) same r = same (string_bytes line) r
-refuses_as IsLine IsOther cli.Memory same r = tt
-refuses_as IsLine IsOther cli.Input same r = absurd r
-refuses_as IsLine IsOther cli.Output same r = absurd r
+pub told_no_shop : (instance file : List ℕ) (first : FileFault) (e : CliFault) → IsWantOfMemory first ⊎ reading.FailsWith (reading.shop instance file) first → Refuses (Tells first) e → Refuses (TellsFirstShopFault instance file) e
+told_no_shop instance file first e (inl memory) t = refuses_as (Tells first) (TellsFirstShopFault instance file) e (λ line tells. absurd (tells.0 memory.0)) t
+told_no_shop instance file first e (inr failing) t = refuses_as (Tells first) (TellsFirstShopFault instance file) e (λ line tells. (first, failing, tells.1)) t
 
 -- what a task makes of the front of a file it makes of the file
 pub task_front : (task : Task) → HoldsByFront (IsTextOf task)

@@ -1,5 +1,5 @@
 -- What `plan best` writes for the bytes that it reads (docs/DEFINITIONS.md, "Runs").
-use Rattle.std.specs.Prelude.{◌≡◌, ◌⊎◌, ◌<◌, ℕ, List, string_bytes}
+use Rattle.std.specs.Prelude.{◌≡◌, ◌⊎◌, ◌<◌, ℕ, List}
 use Rattle.plan_orlib.specs.Shop as docs
 use Rattle.plan_orlib.specs.Says.{Says}
 use Rattle.plan_sgs.specs.Problem.{IsActive, IsShortest, makespan}
@@ -14,8 +14,6 @@ use Rattle.plan_exact.specs.declared.fault.ExactFault.TheVariants as exact
 use Rattle.plan_gantt.specs.BestText.{best_text_of}
 use Rattle.plan_gantt.specs.ExactFaultText.{exact_fault_text_of}
 use Rattle.plan_cli.specs.ShopRun.{TellsFirstShopFault}
-use Rattle.plan_cli.specs.declared.fault.CliFault.{CliFault}
-use Rattle.plan_cli.specs.declared.fault.CliFault.TheVariants as fault
 
 -- a text tells what a search of a shop's words within a budget answers: an active schedule, and where it is called optimal one of least
 -- makespan among all feasible ones
@@ -54,9 +52,6 @@ TellsWhyNoBest word instance file line = TellsFirstShopFault instance file line
 abbrev pub TellsSolvingRefusal : ℕ → JobShop → List ℕ → Type 0
 TellsSolvingRefusal budget s line = (first : ExactFault) × (first ≡ exact.NoMemory → ⊥) × RefusesSolving s budget first × (line ≡ exact_fault_text_of first)
 
--- a refusal of a search is told by its line, or memory ran out
-abbrev pub TellsSolving : ExactFault → CliFault → Type 0
-TellsSolving first (fault.Refused line) = (first ≡ exact.NoMemory → ⊥) × (string_bytes line ≡ exact_fault_text_of first)
-TellsSolving first fault.Memory = Unit {0}
-TellsSolving first fault.Input = ⊥
-TellsSolving first fault.Output = ⊥
+-- a line tells a refusal of a search, which isn't want of memory
+abbrev pub TellsSolving : ExactFault → List ℕ → Type 0
+TellsSolving first line = (first ≡ exact.NoMemory → ⊥) × (line ≡ exact_fault_text_of first)

@@ -55,12 +55,9 @@ Refuses IsLine fault.Memory = Unit {0}
 Refuses IsLine fault.Input = ⊥
 Refuses IsLine fault.Output = ⊥
 
--- a file's fault is told by its line, or memory ran out
-abbrev pub Tells : FileFault → CliFault → Type 0
-Tells first (fault.Refused line) = (first.code ≡ code.Memory → ⊥) × (string_bytes line ≡ file_fault_text_of first)
-Tells first fault.Memory = Unit {0}
-Tells first fault.Input = ⊥
-Tells first fault.Output = ⊥
+-- a line tells a file's fault, which isn't want of memory
+abbrev pub Tells : FileFault → List ℕ → Type 0
+Tells first line = (first.code ≡ code.Memory → ⊥) × (line ≡ file_fault_text_of first)
 
 -- a sink takes a whole text, or a part from its front where the output fails
 abbrev pub Sends : List ℕ → Option (List ℕ) → Option (List ℕ) → Result (Unit {0}) CliFault → Type 0

@@ -1,5 +1,5 @@
 -- What `plan schedule` writes for the bytes that it reads (docs/DEFINITIONS.md, "Runs").
-use Rattle.std.specs.Prelude.{◌≡◌, ◌⊎◌, ℕ, List, string_bytes}
+use Rattle.std.specs.Prelude.{◌≡◌, ◌⊎◌, ℕ, List}
 use Rattle.plan_psplib.specs.Project.{Project}
 use Rattle.plan_sgs.specs.Problem.{IsActive, NeedsFit, makespan}
 use Rattle.plan_sgs.specs.Instances.{Planned, planned, problem_of, RefusesInstance}
@@ -9,8 +9,6 @@ use Rattle.plan_sgs.specs.declared.fault.SgsFault.{SgsFault}
 use Rattle.plan_gantt.specs.ScheduleTable.{schedule_table_text}
 use Rattle.plan_gantt.specs.ScheduleFaultText.{schedule_fault_text_of}
 use Rattle.plan_cli.specs.Run.{SaysProject, TellsFirstFailing}
-use Rattle.plan_cli.specs.declared.fault.CliFault.{CliFault}
-use Rattle.plan_cli.specs.declared.fault.CliFault.TheVariants as fault
 
 -- a project against its own availabilities
 abbrev pub as_available : Project → Planned
@@ -44,9 +42,6 @@ TellsRefusal name p line = (first : SgsFault) × RefusesSchedule name p first ×
 abbrev pub TellsWhyNoSchedule : List ℕ → List ℕ → List ℕ → Type 0
 TellsWhyNoSchedule name file line = TellsFirstFailing file line ⊎ ((p : Project) × SaysProject file p × TellsRefusal name p line)
 
--- a fault of a schedule is told by its line, or memory ran out
-abbrev pub TellsSchedule : SgsFault → CliFault → Type 0
-TellsSchedule first (fault.Refused line) = string_bytes line ≡ schedule_fault_text_of first
-TellsSchedule first fault.Memory = Unit {0}
-TellsSchedule first fault.Input = ⊥
-TellsSchedule first fault.Output = ⊥
+-- a line tells a fault of a schedule
+abbrev pub TellsSchedule : SgsFault → List ℕ → Type 0
+TellsSchedule first line = line ≡ schedule_fault_text_of first

@@ -1,5 +1,5 @@
 -- What `plan shop` writes for the bytes that it reads (docs/DEFINITIONS.md, "Runs").
-use Rattle.std.specs.Prelude.{◌≡◌, ◌⊎◌, ℕ, List, string_bytes}
+use Rattle.std.specs.Prelude.{◌≡◌, ◌⊎◌, ℕ, List}
 use Rattle.plan_psplib.specs.declared.fault.FileFault.{FileFault}
 use Rattle.plan_orlib.specs.Shop as docs
 use Rattle.plan_orlib.specs.Says.{Says}
@@ -16,8 +16,6 @@ use Rattle.plan_shop.specs.declared.fault.ShopFault.TheVariants as shops
 use Rattle.plan_gantt.specs.FaultText.{file_fault_text_of}
 use Rattle.plan_gantt.specs.ShopTable.{shop_table_text}
 use Rattle.plan_gantt.specs.ShopFaultText.{shop_fault_text_of}
-use Rattle.plan_cli.specs.declared.fault.CliFault.{CliFault}
-use Rattle.plan_cli.specs.declared.fault.CliFault.TheVariants as fault
 
 -- the starts that a rule gives the steps of a shop
 abbrev pub rule_starts : ShopRule → JobShop → List ℕ
@@ -49,9 +47,6 @@ abbrev pub TellsWhyNoShop : List ℕ → List ℕ → List ℕ → List ℕ → 
 TellsWhyNoShop name instance file line = TellsFirstShopFault instance file line
     ⊎ ((doc : docs.Shop) × Says instance file doc × TellsShopRefusal name line)
 
--- a fault of a shop is told by its line, or memory ran out
-abbrev pub TellsShop : ShopFault → CliFault → Type 0
-TellsShop first (fault.Refused line) = (first ≡ shops.NoMemory → ⊥) × (string_bytes line ≡ shop_fault_text_of first)
-TellsShop first fault.Memory = Unit {0}
-TellsShop first fault.Input = ⊥
-TellsShop first fault.Output = ⊥
+-- a line tells a fault of a shop, which isn't want of memory
+abbrev pub TellsShop : ShopFault → List ℕ → Type 0
+TellsShop first line = (first ≡ shops.NoMemory → ⊥) × (line ≡ shop_fault_text_of first)

@@ -5,29 +5,25 @@ ghost use Rattle.plan_psplib.specs.Devices.{most_calls, HasFailed};
 ghost use Rattle.plan_cli.specs.Run.{ReadsFront, Refuses, Writes};
 ghost use Rattle.plan_cli.specs.BestRun as spec;
 
-use crate::fault::CliFault;
-use crate::opening::open_shop;
-use crate::reading::told as file_told;
+use crate::fault::{CliFault, refusal_by};
+use crate::opening::{open_shop, read_instance};
 use crate::running::run_task;
 use crate::tasks::Task;
 use plan_exact::{ExactFault, parse_budget, solve_shop};
 use plan_gantt::{best_text, exact_fault_text};
-use plan_orlib::{ShopDoc, read_shop};
+use plan_orlib::ShopDoc;
 use plan_psplib::{Sink, Source};
 use plan_shop::Shop;
 use std::alloc::Global;
 
 // What a refusal of a search says for people.
 fn told(alloc: Global, fault: &ExactFault) -> CliFault
-    ensures { spec.TellsSolving fault.now result }
+    ensures { Refuses (spec.TellsSolving fault.now) result }
 {
     if matches!(fault, ExactFault::NoMemory) {
         return CliFault::Memory;
     }
-    match exact_fault_text(fault).to_string(alloc) {
-        Ok(line) => CliFault::Refused(line),
-        Err(_) => CliFault::Memory,
-    }
+    refusal_by(exact_fault_text(fault).to_string(alloc))
 }
 
 // The text of the best schedule of a shop.
@@ -64,9 +60,9 @@ pub(crate) fn best_text_of(
     ensures made { IfOk result (λ text. spec.IsBestTableOf budget.now instance.now file.now (string_bytes text)) }
     ensures refused { IfErr result (Refuses (spec.TellsWhyNoBest budget.now instance.now file.now)) }
 {
-    match read_shop(alloc, file, instance.as_bytes()) {
+    match read_instance(alloc, instance, file) {
         Ok(doc) => doc_text(alloc, budget, &doc),
-        Err(fault) => Err(file_told(alloc, &fault)),
+        Err(fault) => Err(fault),
     }
 }
 

@@ -1,6 +1,6 @@
 //! Why a command failed.
 
-ghost use Rattle.std.specs.Prelude.{◌≡◌};
+ghost use Rattle.std.specs.Prelude.{◌≡◌, IfOk, IfErr};
 ghost use Rattle.plan_cli.specs.declared.fault.CliFault.TheVariants.{Memory};
 
 use std::alloc::AllocError;
@@ -37,6 +37,17 @@ impl CliFault {
             CliFault::Input => "I1 file",
             CliFault::Output => "I3 output",
         }
+    }
+}
+
+// The refusal by a line, or want of memory where there was none for the line.
+pub(crate) fn refusal_by(line: Result<String, AllocError>) -> CliFault
+    ensures line { IfOk line (λ text. result ≡ CliFault.Refused text) }
+    ensures memory { IfErr line (λ _. result ≡ Memory) }
+{
+    match line {
+        Ok(line) => CliFault::Refused(line),
+        Err(_) => CliFault::Memory,
     }
 }
 

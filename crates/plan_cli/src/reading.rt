@@ -6,7 +6,7 @@ ghost use Rattle.plan_psplib.specs.Devices.{most_calls};
 ghost use Rattle.plan_psplib.specs.Document.{Document, longest_text};
 ghost use Rattle.plan_cli.specs.Run.{SaysProject, Refuses, Tells, TellsFirstFailing};
 
-use crate::fault::CliFault;
+use crate::fault::{CliFault, refusal_by};
 use plan_gantt::file_fault_text;
 use plan_psplib::{
     FileCode, FileFault, InputError, LONGEST_TEXT, ProjectDoc, Source, read_beyond, read_sm,
@@ -32,15 +32,12 @@ pub fn read_file<R: Source>(alloc: Global, reader: &mut R) -> Result<Vec<u8>, Cl
 
 /// What a file's fault says for people.
 pub fn told(alloc: Global, fault: &FileFault) -> CliFault
-    ensures { Tells fault.now result }
+    ensures { Refuses (Tells fault.now) result }
 {
     if fault.code == FileCode::Memory {
         return CliFault::Memory;
     }
-    match file_fault_text(alloc, fault) {
-        Ok(line) => CliFault::Refused(line),
-        Err(_) => CliFault::Memory,
-    }
+    refusal_by(file_fault_text(alloc, fault))
 }
 
 // The project that a file says.

@@ -5,7 +5,7 @@ ghost use Rattle.plan_psplib.specs.Devices.{most_calls, HasFailed};
 ghost use Rattle.plan_cli.specs.Run.{ReadsFront, Refuses, Writes};
 ghost use Rattle.plan_cli.specs.ScheduleRun.{IsTableOf, IsScheduleTextOf, IsScheduleTableOf, TellsRefusal, TellsWhyNoSchedule, TellsSchedule};
 
-use crate::fault::CliFault;
+use crate::fault::{CliFault, refusal_by};
 use crate::reading::read_project;
 use crate::running::run_task;
 use crate::tasks::Task;
@@ -16,12 +16,9 @@ use std::alloc::Global;
 
 // What a fault of a schedule says for people.
 fn told(alloc: Global, fault: &SgsFault) -> CliFault
-    ensures { TellsSchedule fault.now result }
+    ensures { Refuses (TellsSchedule fault.now) result }
 {
-    match schedule_fault_text(alloc, fault) {
-        Ok(line) => CliFault::Refused(line),
-        Err(_) => CliFault::Memory,
-    }
+    refusal_by(schedule_fault_text(alloc, fault))
 }
 
 // The schedule table of an instance.

@@ -5,28 +5,24 @@ ghost use Rattle.plan_psplib.specs.Devices.{most_calls, HasFailed};
 ghost use Rattle.plan_cli.specs.Run.{ReadsFront, Refuses, Writes};
 ghost use Rattle.plan_cli.specs.ShopRun as spec;
 
-use crate::fault::CliFault;
-use crate::opening::open_shop;
-use crate::reading::told as file_told;
+use crate::fault::{CliFault, refusal_by};
+use crate::opening::{open_shop, read_instance};
 use crate::running::run_task;
 use crate::tasks::Task;
 use plan_gantt::{shop_fault_text, shop_table};
-use plan_orlib::{ShopDoc, read_shop};
+use plan_orlib::ShopDoc;
 use plan_psplib::{Sink, Source};
 use plan_shop::{Shop, ShopFault, ShopRule, giffler};
 use std::alloc::Global;
 
 // What a fault of a shop says for people.
 fn told(alloc: Global, fault: &ShopFault) -> CliFault
-    ensures { spec.TellsShop fault.now result }
+    ensures { Refuses (spec.TellsShop fault.now) result }
 {
     if matches!(fault, ShopFault::NoMemory) {
         return CliFault::Memory;
     }
-    match shop_fault_text(alloc, fault) {
-        Ok(line) => CliFault::Refused(line),
-        Err(_) => CliFault::Memory,
-    }
+    refusal_by(shop_fault_text(alloc, fault))
 }
 
 // The table of a shop.
@@ -64,9 +60,9 @@ pub(crate) fn shop_text(
     ensures made { IfOk result (λ text. spec.IsShopTableOf name.now instance.now file.now (string_bytes text)) }
     ensures refused { IfErr result (Refuses (spec.TellsWhyNoShop name.now instance.now file.now)) }
 {
-    match read_shop(alloc, file, instance.as_bytes()) {
+    match read_instance(alloc, instance, file) {
         Ok(doc) => doc_text(alloc, name, &doc),
-        Err(fault) => Err(file_told(alloc, &fault)),
+        Err(fault) => Err(fault),
     }
 }
 

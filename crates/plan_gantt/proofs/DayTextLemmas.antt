@@ -1,6 +1,5 @@
 -- Texts of days, one behind another.
-use Rattle.std.proofs.Common.{◌≡◌, ℕ, zero, suc, ◌+◌, ◌-◌, ◌<◌, List, ◌++◌, sym, ap, ◌∙◌, refl, subst, arith, codes, Result, Ok, Err}
-use Rattle.std.specs.Result.{OnOk}
+use Rattle.std.proofs.Common.{◌≡◌, ℕ, zero, suc, ◌+◌, ◌-◌, ◌<◌, List, [], ◌++◌, sym, ap, ◌∙◌, refl, subst, arith, codes}
 use mathlib.Core.List.{append_assoc}
 use Rattle.plan_gantt.specs.CalendarTable.{IsDayText, IsDaysText, IsDaysLine, AreDaysLines, IsDaysTable}
 use Rattle.plan_gantt.specs.declared.interval.Interval.{Interval}
@@ -17,19 +16,14 @@ both_days calendar start (suc n) last old mid new some is (first, a, e) (second,
     let place : last ≡ start + n = omega (arith, is) in
     (first ++ second, (first, second, a, subst (λ t. IsDayText calendar t second) place b, refl), f ∙ ap (λ bytes. bytes ++ second) e ∙ append_assoc old first second)
 
--- what a success gives, said otherwise
-pub on_ok : {E : Type 0} {P Q : Type 0} → (r : Result (Unit {0}) E) → (P → Q) → OnOk r P → OnOk r Q
-on_ok (Ok u) f p = f p
-on_ok (Err e) f p = tt
-
--- a line: its front, its days and its end
-pub days_line : (calendar : Workdays) (front : List ℕ) (interval : Interval) (old fronted dayed new : List ℕ) → fronted ≡ old ++ front → Appended (IsDaysText calendar interval.start interval.duration) fronted dayed → new ≡ dayed ++ codes "\n" → Appended (IsDaysLine calendar front interval) old new
-days_line calendar front interval old fronted dayed new e (days, is, f) g = (
-  front ++ days ++ codes "\n",
-  (days, is, refl),
-  g ∙ ap (λ bytes. bytes ++ codes "\n") (f ∙ ap (λ bytes. bytes ++ days) e ∙ append_assoc old front days)
-      ∙ append_assoc old (front ++ days) (codes "\n"),
-)
+-- a line behind its front
+pub fronted_line : (calendar : Workdays) (front : List ℕ) (same interval : Interval) (old fronted new : List ℕ) → fronted ≡ old ++ front → same ≡ interval → Appended (IsDaysLine calendar [] same) fronted new → Appended (IsDaysLine calendar front interval) old new
+fronted_line calendar front same interval old fronted new e is (line, (days, are, f), g) =
+    let whole : front ++ line ≡ front ++ days ++ codes "\n" = ap (λ bytes. front ++ bytes) f ∙ sym (append_assoc front days (codes "\n")) in (
+      front ++ line,
+      (days, subst (λ v. IsDaysText calendar v.start v.duration days) is are, whole),
+      g ∙ ap (λ bytes. bytes ++ line) e ∙ append_assoc old front line,
+    )
 
 -- a table with its next line
 pub next_days_line : (calendar : Workdays) (heading : List ℕ) (front : ℕ → List ℕ) (interval : ℕ → Interval) (k : ℕ) (old new : List ℕ) → IsDaysTable calendar heading front interval k old → Appended (IsDaysLine calendar (front (k + 1)) (interval (k + 1))) old new → IsDaysTable calendar heading front interval (k + 1) new

@@ -2,7 +2,7 @@
 use Rattle.std.specs.Prelude.{ℕ, ◌+◌, ◌-◌, List, [], ◌∷◌, ◌++◌, slice_index, codes}
 use Rattle.std.specs.Fmt.{decimal}
 use Rattle.plan_net.specs.Network.{Net, count_of, duration_of}
-use Rattle.plan_gantt.specs.Column.{number_column, number_columns, lines_from}
+use Rattle.plan_gantt.specs.Column.{number_row, lines_from}
 
 -- the heading
 abbrev pub schedule_heading : List ℕ
@@ -14,8 +14,7 @@ start_of starts j = slice_index starts (j - 1)
 
 -- the line of activity j: its number, its duration, its start and its end
 unfoldable pub schedule_line : Net → List ℕ → ℕ → List ℕ
-schedule_line net starts j =
-    number_column 4 j ++ number_columns (duration_of net j ∷ start_of starts j ∷ (start_of starts j + duration_of net j) ∷ []) ++ codes "\n"
+schedule_line net starts j = number_row j (duration_of net j ∷ start_of starts j ∷ (start_of starts j + duration_of net j) ∷ [])
 
 -- the last line: when all activities have ended
 abbrev pub makespan_line : ℕ → List ℕ

@@ -3,7 +3,7 @@
 use Rattle.std.specs.Prelude.{ℕ, ◌+◌, ◌/◌, ◌%◌, List, [], ◌∷◌, ◌++◌, get_or, slice_index, codes}
 use Rattle.plan_shop.specs.Shop.{JobShop, count_steps, idle, job_of, place_of}
 use Rattle.plan_orlib.specs.declared.steps.Step.{Step}
-use Rattle.plan_gantt.specs.Column.{number_column, number_columns, lines_from}
+use Rattle.plan_gantt.specs.Column.{number_row, lines_from}
 use Rattle.plan_gantt.specs.ScheduleTable.{makespan_line}
 
 -- the heading
@@ -20,9 +20,7 @@ step_number s x = place_of s x + 1
 -- the line of step x of a shop with so many machines: its job, its number in the job, its machine, its time, its start and its end
 abbrev pub step_line : ℕ → ℕ → Step → ℕ → List ℕ
 step_line machines x step start =
-    number_column 4 (x / machines + 1)
-    ++ number_columns ((x % machines + 1) ∷ step.machine ∷ step.time ∷ start ∷ (start + step.time) ∷ [])
-    ++ codes "\n"
+    number_row (x / machines + 1) ((x % machines + 1) ∷ step.machine ∷ step.time ∷ start ∷ (start + step.time) ∷ [])
 
 -- the line of a step by its flat number
 unfoldable pub shop_line : JobShop → List ℕ → ℕ → List ℕ

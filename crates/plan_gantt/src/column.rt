@@ -1,5 +1,5 @@
 ghost use Rattle.std.specs.Prelude.{◌≡◌, ◌-◌, ◌++◌, OnOk, length, replicate, string_bytes};
-ghost use Rattle.plan_gantt.specs.Column.{column, number_column, number_columns};
+ghost use Rattle.plan_gantt.specs.Column.{column, number_column, number_columns, number_row};
 
 use std::alloc::AllocError;
 use std::fmt::Write;
@@ -28,6 +28,15 @@ pub fn push_numbers(text: &mut String, numbers: &[u64]) -> Result<(), AllocError
         push_number(text, n)?;
     }
     Ok(())
+}
+
+// A line of numbers: the first right in its column of 4 places, each other one in its column of 8.
+pub fn push_row(text: &mut String, first: u32, numbers: &[u64]) -> Result<(), AllocError>
+    ensures { OnOk result (string_bytes text.new ≡ string_bytes text.old ++ number_row first numbers.now) }
+{
+    push_first(text, first)?;
+    push_numbers(text, numbers)?;
+    text.push_str("\n")
 }
 
 // So many spaces.

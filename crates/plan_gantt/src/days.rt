@@ -1,4 +1,4 @@
-ghost use Rattle.std.specs.Prelude.{◌≡◌, ◌+◌, ◌++◌, ◌≤◌, List, ℕ, length, slice_index, EachIndex, IfOk, OnOk, IsErrOf, string_bytes};
+ghost use Rattle.std.specs.Prelude.{◌≡◌, ◌+◌, ◌++◌, ◌≤◌, List, [], ℕ, length, slice_index, EachIndex, IfOk, OnOk, IsErrOf, string_bytes};
 ghost use Rattle.plan_net.specs.Network.{IsActivity, count_of};
 ghost use Rattle.plan_gantt.specs.Limits.{latest_start, latest_end};
 ghost use Rattle.plan_gantt.specs.Charts.{activity_interval};
@@ -48,11 +48,7 @@ fn push_day(text: &mut String, calendar: &Calendar, t: u64) -> Result<(), DaysFa
 }
 
 // The days of the first and the last instant of an interval, in their columns.
-pub(crate) fn push_days(
-    text: &mut String,
-    calendar: &Calendar,
-    interval: Interval,
-) -> Result<(), DaysFault>
+fn push_days(text: &mut String, calendar: &Calendar, interval: Interval) -> Result<(), DaysFault>
     requires { interval.start + interval.duration ≤ latest_end }
     ensures days { OnOk result ((days : List ℕ) × spec.IsDaysText calendar.now interval.start interval.duration days × (string_bytes text.new ≡ string_bytes text.old ++ days)) }
     ensures beyond { IsErrOf result DaysFault.BeyondCalendar → spec.HasDayBeyond calendar.now interval }
@@ -64,6 +60,21 @@ pub(crate) fn push_days(
     }
     push_day(text, calendar, interval.start)?;
     push_day(text, calendar, interval.start + (interval.duration - 1))
+}
+
+// The end of a line: the days of an interval.
+pub(crate) fn push_days_line(
+    text: &mut String,
+    calendar: &Calendar,
+    interval: Interval,
+) -> Result<(), DaysFault>
+    requires { interval.start + interval.duration ≤ latest_end }
+    ensures line { OnOk result ((line : List ℕ) × spec.IsDaysLine calendar.now [] interval line × (string_bytes text.new ≡ string_bytes text.old ++ line)) }
+    ensures beyond { IsErrOf result DaysFault.BeyondCalendar → spec.HasDayBeyond calendar.now interval }
+{
+    push_days(text, calendar, interval)?;
+    text.push_str("\n")?;
+    Ok(())
 }
 
 // The line of activity `j`.
@@ -81,9 +92,7 @@ fn push_line(
     ensures beyond { IsErrOf result DaysFault.BeyondCalendar → spec.HasDayBeyond calendar.now (activity_interval network.now starts.now j) }
 {
     push_first(text, j)?;
-    push_days(text, calendar, interval_of(network, starts, j))?;
-    text.push_str("\n")?;
-    Ok(())
+    push_days_line(text, calendar, interval_of(network, starts, j))
 }
 
 /// The working days of a schedule: a line for each activity with the days of the first and of the last instant at which it goes

@@ -1,9 +1,9 @@
 ghost use Rattle.std.specs.Prelude.{◌≡◌, ◌++◌, ◌≤◌, length, slice_index, EachIndex, IfOk, OnOk, string_bytes};
 ghost use Rattle.plan_net.specs.Network.{IsActivity, count_of};
 ghost use Rattle.plan_gantt.specs.Limits.{latest_start};
-ghost use Rattle.plan_gantt.specs.ScheduleTable.{schedule_line, schedule_table_text};
+ghost use Rattle.plan_gantt.specs.ScheduleTable.{makespan_line, schedule_line, schedule_table_text};
 
-use crate::column::{push_first, push_numbers};
+use crate::column::push_row;
 use plan_net::Network;
 use std::alloc::{AllocError, Global};
 use std::fmt::Write;
@@ -18,9 +18,14 @@ fn push_line(text: &mut String, network: &Network, starts: &[u64], j: u32) -> Re
 {
     let duration = network.duration(j);
     let start = starts[j as usize - 1];
-    push_first(text, j)?;
-    push_numbers(text, &[duration, start, start + duration])?;
-    text.push_str("\n")
+    push_row(text, j, &[duration, start, start + duration])
+}
+
+// The last line.
+pub(crate) fn push_makespan(text: &mut String, makespan: u64) -> Result<(), AllocError>
+    ensures { OnOk result (string_bytes text.new ≡ string_bytes text.old ++ makespan_line makespan) }
+{
+    writeln!(text, "makespan {makespan}")
 }
 
 /// The table of a schedule: a line for each activity with its duration, start and end, and the makespan in the last line.
@@ -40,7 +45,7 @@ pub fn schedule_table(
     'all: for k in 0..network.len() {
         push_line(&mut text, network, starts, k as u32 + 1)?;
     }
-    writeln!(text, "makespan {makespan}")?;
+    push_makespan(&mut text, makespan)?;
     Ok(text)
 }
 

@@ -6,7 +6,7 @@ ghost use Rattle.plan_gantt.specs.ShopCharts as spec;
 
 use crate::calendar::Calendar;
 use crate::column::{push_first, push_number};
-use crate::days::{DaysFault, push_days};
+use crate::days::{DaysFault, push_days_line};
 use crate::shop_charts::step_interval;
 use crate::shops::step_count;
 use plan_shop::Shop;
@@ -37,9 +37,7 @@ fn push_line(
     ensures beyond { IsErrOf result DaysFault.BeyondCalendar → HasDayBeyond calendar.now (spec.step_interval shop.now starts.now x) }
 {
     push_front(text, shop, x)?;
-    push_days(text, calendar, step_interval(shop, starts, x))?;
-    text.push_str("\n")?;
-    Ok(())
+    push_days_line(text, calendar, step_interval(shop, starts, x))
 }
 
 /// The working days of a shop's schedule: a line for each step in flat order with its job and its number in the job, and the days of

@@ -3,10 +3,10 @@ ghost use Rattle.plan_shop.specs.Shop.{count_steps};
 ghost use Rattle.plan_gantt.specs.Limits.{latest_start};
 ghost use Rattle.plan_gantt.specs.ShopTable.{shop_line, shop_table_text};
 
-use crate::column::{push_first, push_numbers};
+use crate::column::push_row;
+use crate::schedules::push_makespan;
 use plan_shop::Shop;
 use std::alloc::{AllocError, Global};
-use std::fmt::Write;
 
 // How many steps a shop has.
 pub(crate) fn step_count(shop: &Shop) -> u32
@@ -25,20 +25,14 @@ fn push_line(text: &mut String, shop: &Shop, starts: &[u64], x: u32) -> Result<(
     let step = shop.step(x);
     let start = starts[x as usize];
     let machines = shop.machines();
-    push_first(text, x / machines + 1)?;
-    let place = (x % machines + 1) as u64;
-    push_numbers(
-        text,
-        &[
-            place,
-            step.machine as u64,
-            step.time,
-            start,
-            start + step.time,
-        ],
-    )?;
-    text.push_str("\n")?;
-    Ok(())
+    let others = [
+        (x % machines + 1) as u64,
+        step.machine as u64,
+        step.time,
+        start,
+        start + step.time,
+    ];
+    push_row(text, x / machines + 1, &others)
 }
 
 // The table of a schedule, behind what the text has.
@@ -56,8 +50,7 @@ pub(crate) fn push_shop_table(
     'all: for x in 0..step_count(shop) {
         push_line(text, shop, starts, x)?;
     }
-    writeln!(text, "makespan {makespan}")?;
-    Ok(())
+    push_makespan(text, makespan)
 }
 
 /// The table of a shop's schedule: a line for each step in flat order with its job and its number in the job (from 1), its machine

@@ -1,6 +1,7 @@
 use Rattle.std.proofs.Common.{rules, ◌+◌, ◌-◌, ◌<◌, arith, refl}
 use Rattle.std.specs.String.{string_bytes}
-use Rattle.plan_gantt.proofs.DayTextLemmas.{both_days, on_ok}
+use Rattle.std.proofs.lemmas.Result.{on_ok_weaker}
+use Rattle.plan_gantt.proofs.DayTextLemmas.{both_days}
 use Rattle.plan_gantt.proofs.days.push_days.Goals as goal
 
 pub returns-in_err-push_day-clause-beyond : goal.returns-in_err-push_day-clause-beyond
@@ -12,7 +13,7 @@ returns-clause-days c =
     let start = c.args.interval.start in
     let duration = c.args.interval.duration in
     let some : 0 < duration = omega arith in
-    on_ok c.push_day-2.result (both_days c.args.calendar.now start duration (start + (duration - 1)) (string_bytes c.args.text.now) (string_bytes c.push_day.new.text) (string_bytes c.push_day-2.new.text) some refl c.in_ok-push_day.ensures.day) c.push_day-2.ensures.day
+    on_ok_weaker c.push_day-2.result (both_days c.args.calendar.now start duration (start + (duration - 1)) (string_bytes c.args.text.now) (string_bytes c.push_day.new.text) (string_bytes c.push_day-2.new.text) some refl c.in_ok-push_day.ensures.day) c.push_day-2.ensures.day
 
 pub returns-clause-beyond : goal.returns-clause-beyond
 returns-clause-beyond c is =

@@ -1,6 +1,7 @@
 use Rattle.std.proofs.Common.{◌≡◌, ℕ, ◌++◌, ◌∙◌, refl, ap, subst, arith}
 use Rattle.std.specs.String.{string_bytes}
 use Rattle.std.proofs.lemmas.List.{append_assoc}
+use Rattle.std.proofs.lemmas.Result.{on_ok_weaker}
 use Rattle.plan_shop.specs.Shop.{count_steps}
 use Rattle.plan_gantt.specs.Column.{lines_from}
 use Rattle.plan_gantt.specs.ScheduleTable.{makespan_line}
@@ -19,5 +20,6 @@ returns c =
     let so_far : string_bytes c.all.text ≡ (before ++ shop_heading) ++ lines =
     subst (λ (n : ℕ). string_bytes c.all.text ≡ string_bytes c.push_str.new.self ++ lines_from (shop_line c.args.shop.now c.args.starts.now) 0 n) whole c.all.invariant
     ∙ ap (λ bytes. bytes ++ lines) c.in_ok-push_str.ensures.bytes in
-    c.in_ok-writeln.ensures.bytes ∙ ap (λ bytes. bytes ++ makespan_line c.args.makespan) so_far
-    ∙ append_assoc (before ++ shop_heading) lines (makespan_line c.args.makespan) ∙ append_assoc before shop_heading (lines ++ makespan_line c.args.makespan)
+    on_ok_weaker c.push_makespan.result (λ last.
+    last ∙ ap (λ bytes. bytes ++ makespan_line c.args.makespan) so_far
+    ∙ append_assoc (before ++ shop_heading) lines (makespan_line c.args.makespan) ∙ append_assoc before shop_heading (lines ++ makespan_line c.args.makespan)) c.push_makespan.ensures
