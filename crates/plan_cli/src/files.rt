@@ -1,6 +1,7 @@
 //! Commands on a file that is given by its name.
 
-ghost use Rattle.std.specs.Prelude.{◌≡◌, ◌⊎◌, ◌+◌, ◌≤◌, IfErr, IsErrOf, OnOk};
+ghost use Rattle.std.specs.Prelude.{◌≡◌, ◌⊎◌, ◌+◌, ◌≤◌, ◌↔◌, IfErr, IsErrOf, OnOk};
+ghost use Rattle.std.specs.IoError.{error_kind};
 ghost use Rattle.plan_psplib.specs.Devices.{most_calls, HasFailed};
 ghost use Rattle.plan_cli.specs.Tasks.{DoesTask};
 
@@ -8,14 +9,16 @@ use crate::fault::CliFault;
 use crate::running::run_task;
 use crate::tasks::Task;
 use plan_psplib::{Sink, StdSource};
+use std::fs;
+use std::io::{self, ErrorKind};
 use std::rt::Files;
-use std::{fs, io};
 
 // Why a file can't be opened.
 fn open_fault(error: &io::Error) -> CliFault
-    ensures { (result ≡ CliFault.Memory) ⊎ (result ≡ CliFault.Input) }
+    ensures memory { (result ≡ CliFault.Memory) ↔ (error_kind error.now ≡ ErrorKind.OutOfMemory) }
+    ensures input { (result ≡ CliFault.Memory) ⊎ (result ≡ CliFault.Input) }
 {
-    if error.kind() == io::ErrorKind::OutOfMemory {
+    if error.kind() == ErrorKind::OutOfMemory {
         return CliFault::Memory;
     }
     CliFault::Input
