@@ -1,5 +1,5 @@
 -- An instance is found by exactly the names that are listed.
-use Rattle.std.proofs.Common.{◌≡◌, ◌≢◌, ℕ, zero, suc, ◌+◌, ◌&&◌, Bool, true, false, List, [], ◌∷◌, ◌++◌, Option, Some, None, Result, Ok, Err, length, refl, sym, ap, ◌∙◌, ◌⊎◌, inl, inr, arith}
+use Rattle.std.proofs.Common.{◌≡◌, ◌≢◌, ℕ, zero, suc, ◌+◌, ◌&&◌, Bool, true, false, List, [], ◌∷◌, ◌++◌, Option, Some, None, Result, Ok, Err, length, refl, sym, ap, ◌∙◌, ◌⊎◌, inl, inr, subst, arith}
 use Rattle.std.specs.Prelude.{Contains, if◌then◌else◌, nat_le, nat_lt}
 use Rattle.std.specs.List.{filter_map, cons_option}
 use Rattle.std.specs.Str.{bytes_eq}
@@ -10,7 +10,7 @@ use Rattle.plan_psplib.specs.declared.fault.Fault.{Fault}
 use Rattle.plan_psplib.specs.declared.fault.FileFault.{FileFault}
 use Rattle.plan_psplib.specs.declared.fault.ReadError.{ReadError}
 use Rattle.plan_psplib.specs.declared.fault.ReadError.TheVariants as errors
-use Rattle.plan_psplib.specs.Faults.{IsWantOfMemory, TellsError}
+use Rattle.plan_psplib.specs.Faults.{TellsError}
 use Rattle.plan_psplib.specs.Lines.{NumberedLine, last_line, lines}
 use Rattle.plan_psplib.specs.Numbers.{number}
 use Rattle.plan_psplib.specs.Streams.{LineWord, Stream}
@@ -21,7 +21,7 @@ use Rattle.plan_psplib.proofs.GoesLemmas.{then_ok}
 use Rattle.plan_orlib.specs.declared.steps.Step.{Step}
 use Rattle.plan_orlib.specs.Instances.{instance_name, is_name, block, block_from, is_bare, bare_name, bare_stream, stream_of, names_of}
 use Rattle.plan_orlib.specs.Shop.{Shop, most_jobs, most_machines, time_of, total_time}
-use Rattle.plan_orlib.specs.Reading.{machine_at, step_at, steps_at, jobs_at, shop_at, found_stream, shop}
+use Rattle.plan_orlib.specs.Reading.{machine_at, step_at, steps_at, jobs_at, shop_at, found_stream, located, shop}
 use Rattle.plan_orlib.proofs.TextLemmas.{stream_is}
 
 abbrev all_names : List NumberedLine → List (List ℕ)
@@ -196,11 +196,11 @@ shop_missing name text f e missing listed = by_text (plain text) (avoids_plain t
     by_text (Ok u) avoids e = by_stream (stream_of name text) refl e
     by_text (Err g) avoids e = let same : g ≡ f = cc in avoids f (ap (λ (h : Fault). Err h) same) missing
 
-shop_unlisted : (name text : List ℕ) → plain text ≡ Ok tt → (Contains (names_of text) name → ⊥) → shop name text ≡ Err (record { code = code.NoInstance; line = last_line text })
-unfolding shop
-shop_unlisted name text good unlisted = ap (λ read. read >>= λ _. found_stream (last_line text) (stream_of name text) >>= λ s. shop_at s) good ∙ by_stream (stream_of name text) refl
+located_unlisted : (name text : List ℕ) → plain text ≡ Ok tt → (Contains (names_of text) name → ⊥) → located name text ≡ Err (record { code = code.NoInstance; line = last_line text })
+unfolding located
+located_unlisted name text good unlisted = ap (λ read. read >>= λ _. found_stream (last_line text) (stream_of name text)) good ∙ by_stream (stream_of name text) refl
   where
-    by_stream : (o : Option Stream) → stream_of name text ≡ o → (found_stream (last_line text) o >>= λ s. shop_at s) ≡ Err (record { code = code.NoInstance; line = last_line text })
+    by_stream : (o : Option Stream) → stream_of name text ≡ o → found_stream (last_line text) o ≡ Err (record { code = code.NoInstance; line = last_line text })
     by_stream None is = refl
     by_stream (Some s) is = absurd (unlisted (stream_listed name text s is))
 
@@ -209,12 +209,12 @@ pub missing_unlisted : (name text : List ℕ) (e : ReadError) (fault : FileFault
 missing_unlisted name text errors.Memory fault fails tells missing listed = let both : code.Memory ≡ code.NoInstance = sym tells.0 ∙ missing in absurd (cc)
 missing_unlisted name text (errors.Fault f) fault fails tells missing listed = shop_missing name text f fails (sym tells.0 ∙ missing) listed
 
-pub unlisted_missing : (name text : List ℕ) (e : ReadError) (fault : FileFault) → Fails e (shop name text) → TellsError e fault → plain text ≡ Ok tt → (Contains (names_of text) name → ⊥) → IsWantOfMemory fault ⊎ ((fault.code ≡ code.NoInstance) × (fault.line ≡ last_line text))
-unlisted_missing name text errors.Memory fault fails tells good unlisted = inl tells
-unlisted_missing name text (errors.Fault f) fault fails tells good unlisted =
-    let both : Path (Result Shop Fault) (Err f) (Err (record { code = code.NoInstance; line = last_line text })) = sym fails ∙ shop_unlisted name text good unlisted in
-    let same : f ≡ record { code = code.NoInstance; line = last_line text } = cc in
-    inr (tells.0 ∙ ap (λ (g : Fault). g.code) same, tells.1 ∙ ap (λ (g : Fault). g.line) same)
+-- a name that isn't listed is missing, whatever memory there is
+pub unlisted_missing : (name text : List ℕ) (e : ReadError) (fault : FileFault) → ((f : Fault) → located name text ≡ Err f → e ≡ errors.Fault f) → TellsError e fault → plain text ≡ Ok tt → (Contains (names_of text) name → ⊥) → (fault.code ≡ code.NoInstance) × (fault.line ≡ last_line text)
+unlisted_missing name text e fault early tells good unlisted =
+    let missing : Fault = record { code = code.NoInstance; line = last_line text } in
+    let told = subst (λ (other : ReadError). TellsError other fault) (early missing (located_unlisted name text good unlisted)) tells in
+    (told.0, told.1)
 
 pub unlisted_unread : (name text : List ℕ) (d : Shop) → shop name text ≡ Ok d → (Contains (names_of text) name → ⊥) → ⊥
 unlisted_unread name text d e unlisted = unlisted (shop_listed name text d e)

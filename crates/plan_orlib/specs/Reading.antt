@@ -52,6 +52,12 @@ abbrev pub found_stream : ℕ → Option Stream → Result Stream Fault
 found_stream last None = fault code.NoInstance last
 found_stream last (Some s) = Ok s
 
+-- the stream of the first instance of a name in a text, or the first check that fails before it is read
+unfoldable pub located : List ℕ → List ℕ → Result Stream Fault
+located name text = do
+  text_good ← plain text
+  found_stream (last_line text) (stream_of name text)
+
 -- the shop of the first instance of a name in a text, or the first check that fails
 unfoldable pub shop : List ℕ → List ℕ → Result Shop Fault
 shop name text = do

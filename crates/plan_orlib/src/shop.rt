@@ -82,7 +82,7 @@ impl ShopDoc {
 /// word by word `BadNumber` (F6), `Limit` (F10: 1 to 50 jobs, 1 to 20 machines, a time up to 10,000
 /// units, all times together up to 1,000,000), `BadMachine` (F14) and `Count` (F9: a word is missing;
 /// the line of the last word, or of the instance line where there is none). Words behind the last step
-/// are skipped. Want of memory may come in place of any answer.
+/// are skipped. Want of memory may come in place of any answer but a refusal before the words are read.
 ///
 /// The format is that of `jobshop1` (J. E. Beasley, "OR-Library: distributing test problems by
 /// electronic mail", Journal of the Operational Research Society 41, 1990).
@@ -93,13 +93,13 @@ pub fn read_shop(alloc: Global, text: &[u8], name: &[u8]) -> Result<ShopDoc, Fil
     ensures only { (shop : spec.Shop) → Says name.now text.now shop → MatchResult result (λ read. read ≡ shop) IsWantOfMemory }
     // Which check is the first that fails.
     ensures refused { IfErr result (λ fault. IsWantOfMemory fault ⊎ reading.FailsWith (reading.shop name.now text.now) fault) }
-    // A text that is too long or has a zero byte is refused for that, whatever memory there is.
-    ensures early { (f : Fault) → plain text.now ≡ Err f → MatchResult result (λ _. ⊥) (TellsError (errors.Fault f)) }
+    // What fails before the stream is read is refused for that, whatever memory there is.
+    ensures early { (f : Fault) → reading.located name.now text.now ≡ Err f → MatchResult result (λ _. ⊥) (TellsError (errors.Fault f)) }
     // What is found has one of the names that `names` gives.
     ensures named { IfOk result (λ _. Contains (names_of text.now) name.now) }
-    // Of a text that is fit to be read, any other name is missing, told at the last line.
+    // Of a text that is fit to be read, any other name is missing, told at the last line, whatever memory there is.
     ensures unnamed { plain text.now ≡ Ok tt → ¬ (Contains (names_of text.now) name.now) → MatchResult result (λ _. ⊥)
-        (λ fault. IsWantOfMemory fault ⊎ ((fault.code ≡ code.NoInstance) × (fault.line ≡ last_line text.now))) }
+        (λ fault. (fault.code ≡ code.NoInstance) × (fault.line ≡ last_line text.now)) }
     // No name is missing that `names` gives.
     ensures missing { IfErr result (λ fault. fault.code ≡ code.NoInstance → ¬ (Contains (names_of text.now) name.now)) }
 {
@@ -117,16 +117,16 @@ fn named_listing(alloc: Global, text: &[u8], name: &[u8]) -> Result<Listing, Rea
     ensures exact { Gives spec.shop_of result (reading.shop name.now text.now) }
     ensures found { IfOk result (λ l. Says name.now text.now (spec.shop_of l)) }
     ensures only { (shop : spec.Shop) → Says name.now text.now shop → Gives spec.shop_of result (Ok shop) }
-    ensures early { (f : Fault) → plain text.now ≡ Err f → MatchResult result (λ _. ⊥) (λ e. e ≡ errors.Fault f) }
+    ensures early { (f : Fault) → reading.located name.now text.now ≡ Err f → MatchResult result (λ _. ⊥) (λ e. e ≡ errors.Fault f) }
 {
     instance_listing(alloc, text, name)
 }
 
 // The shop of an instance, after the checks of the text.
-#[tactic(auto, unfolding(crate::specs::Reading::shop))]
+#[tactic(auto, unfolding(crate::specs::Reading::shop, crate::specs::Reading::located))]
 fn instance_listing(alloc: Global, text: &[u8], name: &[u8]) -> Result<Listing, ReadError>
     ensures exact { Gives spec.shop_of result (reading.shop name.now text.now) }
-    ensures early { (f : Fault) → plain text.now ≡ Err f → MatchResult result (λ _. ⊥) (λ e. e ≡ errors.Fault f) }
+    ensures early { (f : Fault) → reading.located name.now text.now ≡ Err f → MatchResult result (λ _. ⊥) (λ e. e ≡ errors.Fault f) }
 {
     check_text(text)?;
     let found = Found::of(text, name);

@@ -9,7 +9,7 @@ use Rattle.plan_psplib.specs.Lines.{is_line_feed, last_line}
 use Rattle.plan_psplib.specs.Streams.{Stream}
 use Rattle.plan_psplib.specs.Sections.{kept_lines, head_of, section, precedence_title, requests_title, availabilities_title}
 use Rattle.plan_psplib.specs.Reading.{◌>>=◌, fault, check}
-use Rattle.plan_psplib.specs.Head.{sizes}
+use Rattle.plan_psplib.specs.Head.{Sizes, sizes}
 use Rattle.plan_psplib.specs.Precedence.{precedence}
 use Rattle.plan_psplib.specs.Requests.{Requests, requests, requests_of, availabilities}
 
@@ -37,6 +37,14 @@ plain text = do
 abbrev pub found_section : ℕ → Option Stream → Result Stream Fault
 found_section last None = fault code.MissingSection last
 found_section last (Some s) = Ok s
+
+-- the sizes of a text and its precedence section, or the first check that fails before that section is read
+unfoldable pub opened : List ℕ → Result (Sizes × Stream) Fault
+opened text = do
+  text_good ← plain text
+  size ← sizes (last_line text) (head_of text)
+  first ← found_section (last_line text) (section precedence_title (kept_lines text))
+  Ok (size, first)
 
 -- what a text says of a project, whether its arcs have a cycle or not
 pub record Document : Type 0 where

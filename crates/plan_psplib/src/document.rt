@@ -36,17 +36,17 @@ pub fn read_document(alloc: Global, text: &[u8]) -> Result<Document, ReadError>
     ensures found { IfOk result (λ d. Says text.now (spec.document_of d)) }
     // What the text says is read, unless memory runs out.
     ensures only { (d : spec.Document) → Says text.now d → Gives spec.document_of result (Ok d) }
-    // A text that is too long or has a zero byte is refused before any memory is taken.
-    ensures early { (f : Fault) → spec.plain text.now ≡ Err f → MatchResult result (λ _. ⊥) (λ e. e ≡ errors.Fault f) }
+    // What fails before the first section is read is refused before any memory is taken.
+    ensures early { (f : Fault) → spec.opened text.now ≡ Err f → MatchResult result (λ _. ⊥) (λ e. e ≡ errors.Fault f) }
 {
     sections_of(alloc, text)
 }
 
 // The sections of a text, one after another.
-#[tactic(auto, unfolding(crate::specs::Document::document))]
+#[tactic(auto, unfolding(crate::specs::Document::document, crate::specs::Document::opened))]
 fn sections_of(alloc: Global, text: &[u8]) -> Result<Document, ReadError>
     ensures exact { Gives spec.document_of result (spec.document text.now) }
-    ensures early { (f : Fault) → spec.plain text.now ≡ Err f → MatchResult result (λ _. ⊥) (λ e. e ≡ errors.Fault f) }
+    ensures early { (f : Fault) → spec.opened text.now ≡ Err f → MatchResult result (λ _. ⊥) (λ e. e ≡ errors.Fault f) }
 {
     check_text(text)?;
     let outline = Outline::of(text);

@@ -5,7 +5,7 @@ ghost use Rattle.plan_net.specs.Network.{IsActivity, IsArc, with_lag};
 ghost use Rattle.plan_net.specs.Refusals.{IsLagFault};
 ghost use Rattle.plan_psplib.specs.declared.fault.Fault.{Fault};
 ghost use Rattle.plan_psplib.specs.declared.fault.ReadError.TheVariants as errors;
-ghost use Rattle.plan_psplib.specs.Document.{Document as Said, document_of, plain};
+ghost use Rattle.plan_psplib.specs.Document.{Document as Said, document_of, opened};
 ghost use Rattle.plan_psplib.specs.Faults.{IsWantOfMemory, TellsError};
 ghost use Rattle.plan_psplib.specs.Says.{Says};
 ghost use Rattle.plan_psplib.specs.Project as spec;
@@ -85,7 +85,7 @@ impl ProjectDoc {
 }
 
 /// Reads an `.sm` text: the project that it gives, or the first check that it fails, with its line. Want
-/// of memory may come in place of any answer.
+/// of memory may come in place of any answer but a refusal before the first section is read.
 pub fn read_sm(alloc: Global, text: &[u8]) -> Result<ProjectDoc, FileFault>
     // What is read is what the text says, and it has no cycle.
     ensures found { IfOk result (λ project. spec.IsProject project × ((d : Said) × Says text.now d × (project ≡ spec.project_of d))) }
@@ -94,8 +94,8 @@ pub fn read_sm(alloc: Global, text: &[u8]) -> Result<ProjectDoc, FileFault>
         (λ fault. IsWantOfMemory fault ⊎ spec.NamesCycleOf d fault) }
     // Which check is the first that fails.
     ensures refused { IfErr result (λ fault. IsWantOfMemory fault ⊎ spec.IsFirstFailing text.now fault) }
-    // A text that is too long or has a zero byte is refused for that, whatever memory there is.
-    ensures early { (f : Fault) → plain text.now ≡ Err f → MatchResult result (λ _. ⊥) (TellsError (errors.Fault f)) }
+    // What fails before the first section is read is refused for that, whatever memory there is.
+    ensures early { (f : Fault) → opened text.now ≡ Err f → MatchResult result (λ _. ⊥) (TellsError (errors.Fault f)) }
 {
     match read_document(alloc, text) {
         Ok(document) => project_of(alloc, document),

@@ -12,4 +12,4 @@ pub returns-in-Err-clause-missing : goal.returns-in-Err-clause-missing
 returns-in-Err-clause-missing c = λ missing listed. missing_unlisted c.args.name.now c.args.text.now c.in-Err.error c.of.result c.in-Err.ensures.exact c.of.ensures missing listed
 
 pub returns-in-Err-clause-unnamed : goal.returns-in-Err-clause-unnamed
-returns-in-Err-clause-unnamed c = λ good unlisted. unlisted_missing c.args.name.now c.args.text.now c.in-Err.error c.of.result c.in-Err.ensures.exact c.of.ensures good unlisted
+returns-in-Err-clause-unnamed c = λ good unlisted. unlisted_missing c.args.name.now c.args.text.now c.in-Err.error c.of.result c.in-Err.ensures.early c.of.ensures good unlisted
