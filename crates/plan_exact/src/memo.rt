@@ -128,7 +128,8 @@ impl Memo {
         requires { asked_by question ≡ asked shop.now budget }
         ensures solution { IfOk result (IsSolution shop.now budget) }
         ensures refused { IfErr result (RefusesSolving shop.now budget) }
-        ensures kept { OnOk result (Remembers self.old (asked shop.now budget) self.new ⊎ (self.new ≡ self.old)) }
+        // A question that is kept moves to the front; only a new one can fail to be kept.
+        ensures kept { OnOk result (Remembers self.old (asked shop.now budget) self.new ⊎ ((Contains self.old (asked shop.now budget) → ⊥) × (self.new ≡ self.old))) }
         ensures unchanged { OnErr result (self.new ≡ self.old) }
     {
         if let Some(solved) = self.recall(&question)? {
