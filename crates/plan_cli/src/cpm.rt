@@ -52,6 +52,3 @@ pub fn cpm_run<R: Source, W: Sink>(
 {
     run_task(alloc, Task::Dates, reader, writer)
 }
-
-#[cfg(test)]
-mod tests;

@@ -32,6 +32,3 @@ pub fn best_text(alloc: Global, shop: &Shop, solved: &Solved) -> Result<String, 
     push_shop_table(&mut text, shop, &schedule.starts, makespan)?;
     Ok(text)
 }
-
-#[cfg(test)]
-mod tests;

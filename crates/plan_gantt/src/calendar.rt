@@ -91,6 +91,3 @@ impl Calendar {
         }
     }
 }
-
-#[cfg(test)]
-mod tests;

@@ -138,6 +138,3 @@ pub fn chart(
     }
     Ok(text)
 }
-
-#[cfg(test)]
-mod tests;

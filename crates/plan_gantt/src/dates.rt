@@ -61,6 +61,3 @@ pub fn date_table(alloc: Global, network: &Network, dates: &Dates) -> Result<Str
     writeln!(text, "T {duration}")?;
     Ok(text)
 }
-
-#[cfg(test)]
-mod tests;

@@ -116,6 +116,3 @@ pub fn calendar_table(
     }
     Ok(text)
 }
-
-#[cfg(test)]
-mod tests;

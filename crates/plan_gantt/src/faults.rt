@@ -63,6 +63,3 @@ pub fn file_fault_text(alloc: Global, fault: &FileFault) -> Result<String, Alloc
     }
     Ok(text)
 }
-
-#[cfg(test)]
-mod tests;

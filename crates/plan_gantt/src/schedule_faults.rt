@@ -19,6 +19,3 @@ pub fn schedule_fault_text(alloc: Global, fault: &SgsFault) -> Result<String, Al
     }
     Ok(text)
 }
-
-#[cfg(test)]
-mod tests;

@@ -48,6 +48,3 @@ pub fn schedule_table(
     push_makespan(&mut text, makespan)?;
     Ok(text)
 }
-
-#[cfg(test)]
-mod tests;

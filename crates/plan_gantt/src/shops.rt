@@ -69,6 +69,3 @@ pub fn shop_table(
     push_shop_table(&mut text, shop, starts, makespan)?;
     Ok(text)
 }
-
-#[cfg(test)]
-mod tests;

@@ -43,6 +43,3 @@ pub fn check(alloc: Global, instance: &Instance, starts: &[u64]) -> Result<Verdi
         None => Ok(Verdict::Active),
     }
 }
-
-#[cfg(test)]
-mod tests;

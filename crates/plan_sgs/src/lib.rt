@@ -27,6 +27,3 @@ pub use rule::Rule;
 pub use schedule::Schedule;
 pub use verdict::Verdict;
 pub use verdict_laws::one_verdict_is_first;
-
-#[cfg(test)]
-mod tests;

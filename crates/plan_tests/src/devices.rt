@@ -1,8 +1,13 @@
-//! Readers and writers of std that fail: each of their errors is a fault, at that call, and nothing else is.
+//! Readers and writers that fail: each error of std's is a fault, at that call, and nothing else is; and a command tells such a fault.
 
 ghost use Rattle.std.specs.Prelude.{None};
 
-use plan_psplib::{InputError, StdSink, StdSource, read_beyond, write_whole};
+use crate::six::{SIX, SIX_DATES};
+use plan_cli::{CliFault, cpm_run};
+use plan_psplib::{
+    DeviceFault, InputError, MemSink, MemSource, Sink, Source, StdSink, StdSource, Tally,
+    read_beyond, write_whole,
+};
 use std::io::{self, ErrorKind, Read, Write};
 use std::test::Fail;
 
@@ -78,4 +83,94 @@ fn each_error_of_a_writer_is_a_fault(rt: HostRuntime) {
         let written = write_whole(&mut StdSink::new(failing_at(failing)), b"abc");
         assert_eq!(rt; written.err().map(|e| e.sent), sent, "at {failing}");
     }
+}
+
+// A source that gives bytes of memory and then fails.
+#[derive(Drop)]
+struct FailingSource<'a> {
+    inner: MemSource<'a>,
+    left: usize,
+    tally: Tally,
+}
+
+impl<'a> Source for FailingSource<'a> {
+    ghost calls = { λ source. source.tally.calls };
+
+    ghost faults = { λ source. source.tally.faults };
+
+    ghost remaining = { λ _. None };
+
+    fn read(&mut self, buf: &mut [u8]) -> Result<usize, DeviceFault> {
+        let n = buf.len().min(self.left);
+        if n == 0 {
+            self.tally = self.tally.failed();
+            return Err(DeviceFault);
+        }
+        self.left -= n;
+        self.tally = self.tally.answered();
+        self.inner.read(&mut buf[..n])
+    }
+}
+
+// A sink that takes so many bytes in all, and then fails or takes none.
+#[derive(Drop)]
+struct FullSink {
+    room: usize,
+    fails: bool,
+    tally: Tally,
+}
+
+impl Sink for FullSink {
+    ghost calls = { λ sink. sink.tally.calls };
+
+    ghost faults = { λ sink. sink.tally.faults };
+
+    ghost taken = { λ _. None };
+
+    fn write(&mut self, bytes: &[u8]) -> Result<usize, DeviceFault> {
+        if self.room == 0 && self.fails {
+            self.tally = self.tally.failed();
+            return Err(DeviceFault);
+        }
+        let n = self.room.min(bytes.len());
+        self.room -= n;
+        self.tally = self.tally.answered();
+        Ok(n)
+    }
+}
+
+#[test]
+fn tells_that_the_input_failed(rt: HostRuntime) -> Result<(), Fail> {
+    for left in [0, 1, SIX.len()] {
+        let mut source = FailingSource {
+            inner: MemSource::new(SIX.as_bytes()),
+            left,
+            tally: Tally::new(),
+        };
+        let mut sink = MemSink::new(Vec::new(rt.alloc()));
+        let run = cpm_run(rt.alloc(), &mut source, &mut sink);
+        assert_eq!(rt; matches!(run, Err(CliFault::Input)), true, "{left}");
+        assert_eq!(rt; sink.into_bytes().len(), 0, "{left}");
+    }
+    Ok(())
+}
+
+#[test]
+fn tells_that_the_output_failed(rt: HostRuntime) -> Result<(), Fail> {
+    for (room, fails, wanted) in [
+        (0, true, true),
+        (1, true, true),
+        (SIX_DATES.len() - 1, true, true),
+        (0, false, true),
+        (SIX_DATES.len(), true, false),
+    ] {
+        let mut sink = FullSink {
+            room,
+            fails,
+            tally: Tally::new(),
+        };
+        let run = cpm_run(rt.alloc(), &mut MemSource::new(SIX.as_bytes()), &mut sink);
+        assert_eq!(rt; matches!(run, Err(CliFault::Output)), wanted, "{room}");
+    }
+    Ok(())
 }

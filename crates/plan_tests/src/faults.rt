@@ -1,6 +1,6 @@
-//! Each fault of a project file, on its way from the text to the line that is printed.
+//! A project file on its way from the text to its date table, or to the line of its fault.
 
-use crate::six::{SIX, changed};
+use crate::six::{SIX, SIX_DATES, changed};
 use plan_cli::cpm_run;
 use plan_psplib::{MemSink, MemSource};
 use std::test::Fail;
@@ -17,17 +17,28 @@ fn printed(rt: &HostRuntime, file: &[u8]) -> Result<Vec<u8>, Fail> {
 }
 
 #[test]
+fn writes_the_date_table(rt: HostRuntime) -> Result<(), Fail> {
+    let written = printed(&rt, SIX.as_bytes())?;
+    assert_eq!(rt; written.as_slice(), SIX_DATES.as_bytes());
+    Ok(())
+}
+
+#[test]
 fn a_line_that_is_changed_is_told(rt: HostRuntime) -> Result<(), Fail> {
     let cases = [
         (3, "initial\0", "F2 line 3"),
         (10, "  - nonrenewable              :  1   N", "F4 line 10"),
+        (5, "x", "F3 line 39"),
         (5, "projects                      :", "F6 line 5"),
+        (6, "jobs: six", "F6 line 6"),
         (6, "jobs (incl. supersource/sink ):  1", "F10 line 6"),
         (19, "1 1 2 3", "F7 line 20"),
+        (19, "1 1 2 2 2", "F11 line 19"),
         (20, "2 1 2 4 4", "F11 line 20"),
         (20, "2 1 1 7", "F7 line 20"),
         (20, "2 1 1 x", "F6 line 20"),
         (21, "3 2 2 4 5", "F8 line 21"),
+        (22, "4 1 1 3", "F12 line 17 cycle 3 4"),
         (22, "4 1 1 4", "F12 line 17 cycle 4"),
         (22, "4 1 2 3 6", "F12 line 17 cycle 3 4"),
         (30, "2 1 10001 1", "F10 line 30"),
@@ -74,6 +85,20 @@ fn a_file_that_is_cut_off_is_told(rt: HostRuntime) -> Result<(), Fail> {
             fault.as_bytes(),
             "{count}"
         );
+    }
+    Ok(())
+}
+
+#[test]
+fn judges_a_file_by_one_byte_beyond_the_longest(rt: HostRuntime) -> Result<(), Fail> {
+    for (length, wanted) in [
+        (1_048_576, "F3 line 1"),
+        (1_048_577, "F1 line 0"),
+        (1_048_579, "F1 line 0"),
+    ] {
+        let file = vec![in rt.alloc(); b' '; length]?;
+        let written = printed(&rt, &file)?;
+        assert_eq!(rt; written.as_slice(), wanted.as_bytes(), "{length}");
     }
     Ok(())
 }

@@ -5,6 +5,10 @@
 #[cfg(test)]
 mod best;
 #[cfg(test)]
+mod calendars;
+#[cfg(test)]
+mod charts;
+#[cfg(test)]
 mod devices;
 #[cfg(test)]
 mod drawn;
@@ -14,6 +18,8 @@ mod drawn_projects;
 mod drawn_shops;
 #[cfg(test)]
 mod drawn_trees;
+#[cfg(test)]
+mod fault_lines;
 #[cfg(test)]
 mod faults;
 #[cfg(test)]
@@ -25,6 +31,14 @@ mod schedules;
 #[cfg(test)]
 mod seen;
 #[cfg(test)]
+mod serial;
+#[cfg(test)]
+mod shops;
+#[cfg(test)]
 mod six;
 #[cfg(test)]
 mod slow;
+#[cfg(test)]
+mod texts;
+#[cfg(test)]
+mod verdicts;

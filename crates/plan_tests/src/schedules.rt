@@ -1,6 +1,6 @@
 //! Schedules of a project file by priority rules, from the text to the table or the line of the fault.
 
-use crate::six::{SIX, changed};
+use crate::six::{changed, longer};
 use plan_cli::schedule_run;
 use plan_psplib::{MemSink, MemSource};
 use std::test::Fail;
@@ -39,8 +39,7 @@ makespan 14
 
 // What is printed for the six activities by a rule, where activity 5 lasts 5 and so many may go on at a time.
 fn printed(rt: &HostRuntime, rule: &str, capacity: &str) -> Result<Vec<u8>, Fail> {
-    let longer = changed(rt, SIX, 33, "  5      1     5       1", 39)?;
-    let Ok(longer) = String::from_utf8(longer) else {
+    let Ok(longer) = String::from_utf8(longer(rt)?) else {
         return Ok(Vec::new(rt.alloc()));
     };
     let file = changed(rt, &longer, 38, capacity, 39)?;

@@ -44,6 +44,17 @@ RESOURCEAVAILABILITIES:
 ****************************************
 ";
 
+/// Its date table, by hand.
+pub const SIX_DATES: &str = " act       d      ES      EF      LS      LF      TF      FF
+   1       0       0       0       0       0       0       0 *
+   2       3       0       3       0       3       0       0 *
+   3       2       0       2       1       3       1       0
+   4       4       3       7       3       7       0       0 *
+   5       3       2       5       4       7       2       2
+   6       0       7       7       7       7       0       0 *
+T 7
+";
+
 /// The first lines of a text, with another in the place of one of them.
 pub fn changed(
     rt: &HostRuntime,
@@ -59,4 +70,9 @@ pub fn changed(
         file.push(b'\n')?;
     }
     Ok(file)
+}
+
+/// The same, where activity 5 lasts 5.
+pub fn longer(rt: &HostRuntime) -> Result<Vec<u8>, Fail> {
+    changed(rt, SIX, 33, "  5      1     5       1", 39)
 }

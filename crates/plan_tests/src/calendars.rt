@@ -1,5 +1,7 @@
-use super::{Calendar, CalendarFault};
+//! Calendars: their two texts, and the day of an instant.
+
 use jiff::civil::Date;
+use plan_gantt::{Calendar, CalendarFault};
 use std::alloc::Global;
 use std::test::Fail;
 

@@ -1,39 +1,13 @@
-//! Worked examples of verdicts.
+//! Verdicts on starts of projects.
 
 ghost use Rattle.std.specs.Prelude.{All, ◌≤◌};
 
-use crate::{Instance, Verdict, check};
+use crate::six::longer;
 use plan_profile::END;
 use plan_psplib::read_sm;
+use plan_sgs::{Instance, Verdict, check};
 use std::alloc::Global;
 use std::test::Fail;
-
-// Six activities on one resource, of durations 0 3 2 4 5 0.
-const SIX: &str = "projects: 1
-jobs: 6
-- renewable: 1
-- nonrenewable: 0
-- doubly constrained: 0
-PRECEDENCE RELATIONS:
-jobnr. #modes #successors successors
-1 1 2 2 3
-2 1 1 4
-3 1 2 4 5
-4 1 1 6
-5 1 1 6
-6 1 0
-REQUESTS/DURATIONS:
-jobnr. mode duration R 1
-1 1 0 0
-2 1 3 1
-3 1 2 1
-4 1 4 1
-5 1 5 1
-6 1 0 0
-RESOURCEAVAILABILITIES:
-R 1
-2
-";
 
 // Two activities of duration 1 on one resource, with no arc between them.
 const PAIR: &str = "projects: 1
@@ -55,8 +29,8 @@ R 1
 ";
 
 // The verdict on these starts of a text's project, planned against one capacity.
-fn verdict(alloc: Global, text: &str, cap: u64, starts: &[u64]) -> Option<Verdict> {
-    let project = read_sm(alloc, text.as_bytes()).ok()?;
+fn verdict(alloc: Global, text: &[u8], cap: u64, starts: &[u64]) -> Option<Verdict> {
+    let project = read_sm(alloc, text).ok()?;
     let caps = [cap];
     if project.avail().len() != caps.len() {
         return None;
@@ -70,6 +44,7 @@ fn verdict(alloc: Global, text: &str, cap: u64, starts: &[u64]) -> Option<Verdic
 
 #[test]
 fn names_what_is_wrong_first(rt: HostRuntime) -> Result<(), Fail> {
+    let six = longer(&rt)?;
     let cases = [
         (2, [0, 0, 0, 3, 2, 7], Verdict::Active),
         (2, [0, 0, 0, 3, 3, 8], Verdict::Shift(5)),
@@ -81,7 +56,7 @@ fn names_what_is_wrong_first(rt: HostRuntime) -> Result<(), Fail> {
     ];
     for (cap, starts, wanted) in cases {
         assert_eq!(rt;
-            verdict(rt.alloc(), SIX, cap, &starts),
+            verdict(rt.alloc(), &six, cap, &starts),
             Some(wanted),
             "at {starts:?}"
         );
@@ -99,7 +74,7 @@ fn looks_as_far_as_the_last_start(rt: HostRuntime) -> Result<(), Fail> {
     ];
     for (starts, wanted) in cases {
         assert_eq!(rt;
-            verdict(rt.alloc(), PAIR, 1, &starts),
+            verdict(rt.alloc(), PAIR.as_bytes(), 1, &starts),
             Some(wanted),
             "at {starts:?}"
         );

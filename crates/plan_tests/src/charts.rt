@@ -1,4 +1,6 @@
-use super::chart;
+//! Charts of projects, in their cells.
+
+use plan_gantt::chart;
 use plan_net::Network;
 use std::alloc::Global;
 use std::test::Fail;

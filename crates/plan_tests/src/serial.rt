@@ -1,0 +1,68 @@
+//! Serial generation by a list, and with a lag: calls that no command makes.
+
+use crate::six::longer;
+use plan_psplib::{ProjectDoc, read_sm};
+use plan_sgs::{Instance, Rule, SgsFault, Verdict, check, serial, serial_list};
+use std::test::Fail;
+
+// The six activities, where activity 5 lasts 5.
+fn project(rt: &HostRuntime) -> Result<Option<ProjectDoc>, Fail> {
+    let file = longer(rt)?;
+    Ok(read_sm(rt.alloc(), &file).ok())
+}
+
+#[test]
+fn places_by_a_list(rt: HostRuntime) -> Result<(), Fail> {
+    let Some(project) = project(&rt)? else {
+        panic!(rt; "the file isn't read");
+    };
+    assert_eq!(rt; project.avail().len(), 1);
+    let caps = [2];
+    let instance = Instance::of_project(&project, &caps)?;
+    let found = serial_list(rt.alloc(), &instance, &[1, 2, 3, 5, 4, 6])?;
+    assert_eq!(rt; found.starts.as_slice(), [0, 0, 0, 3, 2, 7].as_slice());
+    assert_eq!(rt; found.makespan, 7);
+    let others: [&[u32]; 6] = [
+        &[1, 4, 2, 3, 5, 6],
+        &[0, 2, 3, 4, 5, 6],
+        &[1, 2, 3, 4, 5, 7],
+        &[1, 2, 2, 4, 5, 6],
+        &[1, 2, 3, 4, 5],
+        &[1, 2, 3, 4, 5, 6, 6],
+    ];
+    for list in others {
+        let refused = serial_list(rt.alloc(), &instance, list);
+        assert!(rt; matches!(refused, Err(SgsFault::NotAList)), "{list:?}");
+    }
+    Ok(())
+}
+
+#[test]
+fn keeps_a_lag(rt: HostRuntime) -> Result<(), Fail> {
+    let Some(mut project) = project(&rt)? else {
+        panic!(rt; "the file isn't read");
+    };
+    project.set_lag(2, 4, 2)?;
+    assert!(rt; project.avail().len() == 1);
+    let cases: [(u64, [u64; 6], u64); 2] = [
+        (2, [0, 0, 0, 5, 2, 9], 9),
+        (1, [0, 0, 3, 5, 9, 14], 14),
+    ];
+    for (capacity, starts, makespan) in cases {
+        let caps = [capacity];
+        let instance = Instance::of_project(&project, &caps)?;
+        let found = serial(rt.alloc(), &instance, Rule::LatestFinish)?;
+        assert_eq!(rt;
+            found.starts.as_slice(),
+            starts.as_slice(),
+            "with {capacity}"
+        );
+        assert_eq!(rt; found.makespan, makespan, "with {capacity}");
+    }
+    let caps = [2];
+    let instance = Instance::of_project(&project, &caps)?;
+    let starts: [u64; 6] = [0, 0, 0, 4, 2, 9];
+    assert!(rt; instance.network().len() == starts.len());
+    assert_eq!(rt; check(rt.alloc(), &instance, &starts)?, Verdict::Arc(2, 4));
+    Ok(())
+}
