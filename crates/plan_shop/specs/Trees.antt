@@ -1,5 +1,5 @@
 -- Where the tree of a shop stands, and what it keeps of what its word places (docs/DEFINITIONS.md, "Job shops").
-use Rattle.std.specs.Prelude.{◌≡◌, ℕ, ◌≤◌, ◌<◌, ◌⊎◌, Bool, cond, ◌&&◌, ◌*◌, not, nat_lt, nat_eq, List, [], ◌∷◌, Option, Some, None, length, map, slice_index, Contains}
+use Rattle.std.specs.Prelude.{◌≡◌, ℕ, ◌≤◌, ◌<◌, ◌⊎◌, Bool, ◌&&◌, ◌*◌, not, nat_lt, nat_eq, List, [], ◌∷◌, Option, Some, None, length, map, slice_index, Contains}
 use Rattle.std.specs.List.{sum_by}
 use Rattle.plan_shop.specs.Shop.{JobShop, count_steps, time_of, machine_of, job_of, place_of, those_below}
 use Rattle.plan_shop.specs.Words.{least_of, first_least, Placed, steps_done, has_next, is_placed, job_end, machine_free, next_step, next_end, ready, place, job_of_letter, with_next, letters_after, start_in}

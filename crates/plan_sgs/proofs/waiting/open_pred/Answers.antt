@@ -1,12 +1,10 @@
 -- The predecessors before the place that is looked for are taken, and then those up to the first that isn't.
-use Rattle.std.proofs.Common.{ℕ, ◌≡◌, ◌≤◌, ◌<◌, length, get_or, sym, ◌∙◌, subst, arith}
-use Rattle.std.specs.Result.{MatchResult}
+use Rattle.std.proofs.Common.{get_or, sym, ◌∙◌, arith}
 use Rattle.std.proofs.lemmas.List.Elements.{Contains-get_or}
-use Rattle.std.proofs.lemmas.List.Sorted.{searched}
 use Rattle.std.proofs.lemmas.Bool.{false≢true}
 use Rattle.plan_net.specs.Network.{IsArc}
 use Rattle.plan_net.specs.Placed.{IsPlaced, IsOpen}
-use Rattle.plan_net.proofs.RisingLemmas.{rising_later, rising_at_most, least_of_rising, each_of_rising}
+use Rattle.plan_net.proofs.RisingLemmas.{least_of_rising, each_of_rising}
 use Rattle.plan_sgs.proofs.waiting.open_pred.Goals as goal
 
 pub loop-k-init : goal.loop-k-init

@@ -1,4 +1,4 @@
-use Rattle.std.proofs.Common.{◌≡◌, ◌+◌, ℕ, Option, suc, ap, sym, ◌∙◌, add-one, refl, subst, arith}
+use Rattle.std.proofs.Common.{◌≡◌, ◌+◌, ℕ, Option, suc, ap, sym, add-one, refl, subst, arith}
 use Rattle.plan_shop.specs.Words.{next_end}
 use Rattle.plan_shop.specs.Trees.{Standing, placed}
 use Rattle.plan_shop.proofs.FollowingLemmas.{IsSoFar, so_far-none, so_far-skips, so_far-more, if-some, if-none}
