@@ -102,13 +102,13 @@ impl<'a> Source for FailingSource<'a> {
 
     fn read(&mut self, buf: &mut [u8]) -> Result<usize, DeviceFault> {
         let n = buf.len().min(self.left);
-        if n == 0 {
-            self.tally = self.tally.failed();
-            return Err(DeviceFault);
-        }
-        self.left -= n;
-        self.tally = self.tally.answered();
-        self.inner.read(&mut buf[..n])
+        let read = if n == 0 {
+            Err(DeviceFault)
+        } else {
+            self.left -= n;
+            self.inner.read(&mut buf[..n])
+        };
+        self.tally.count(read)
     }
 }
 
@@ -128,14 +128,14 @@ impl Sink for FullSink {
     ghost taken = { λ _. None };
 
     fn write(&mut self, bytes: &[u8]) -> Result<usize, DeviceFault> {
-        if self.room == 0 && self.fails {
-            self.tally = self.tally.failed();
-            return Err(DeviceFault);
-        }
-        let n = self.room.min(bytes.len());
-        self.room -= n;
-        self.tally = self.tally.answered();
-        Ok(n)
+        let written = if self.room == 0 && self.fails {
+            Err(DeviceFault)
+        } else {
+            let n = self.room.min(bytes.len());
+            self.room -= n;
+            Ok(n)
+        };
+        self.tally.count(written)
     }
 }
 
