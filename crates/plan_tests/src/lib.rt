@@ -1,5 +1,6 @@
-//! Worked examples that cross crates: files that aren't there, each fault of a project file on its way to its line, schedules by
-//! each rule, and best schedules; small random projects and shops beside a plain slow program; and calls whose allocations are refused.
+//! Worked examples of plan_sgs, plan_gantt and plan_cli, and of crates together: files that aren't there, devices
+//! that fail, each fault on its way to its line, schedules by each rule and by a list, verdicts, best schedules, tables, charts and
+//! calendars; small random projects and shops beside a plain slow program; and calls whose allocations are refused.
 #![tactic(auto)]
 
 #[cfg(test)]

@@ -1,4 +1,4 @@
-//! Serial generation by a list, and with a lag: calls that no command makes.
+//! Serial generation by a list, and with a lag.
 
 use crate::six::longer;
 use plan_psplib::{ProjectDoc, read_sm};

@@ -1,4 +1,4 @@
-//! Texts that no command writes yet: tables of working days, and what shows a shop.
+//! Working days as a table, and a shop as a table, as a chart and by its working days.
 
 use plan_gantt::{
     Calendar, DaysFault, calendar_table, shop_calendar_table, shop_chart, shop_table,
