@@ -68,7 +68,7 @@ impl Profile {
         requires first { 1 ≤ k }
         requires last { k ≤ length (capacities self.now) }
         ensures value { result ≡ in_use self.now t (k - 1) }
-        ensures ended { END ≤ t → result ≡ 0 }
+        ensures ended { 10000000 ≤ t → result ≡ 0 }
     {
         let i = self.row_in_force(t);
         self.rows[i][k as usize - 1]
