@@ -141,6 +141,3 @@ fn refusal(alloc: Global, fault: NetFault, precedence_line: u64) -> FileFault
         _ => unreachable!(),
     }
 }
-
-#[cfg(test)]
-mod tests;

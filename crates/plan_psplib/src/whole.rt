@@ -130,6 +130,3 @@ pub fn write_whole<W: Sink>(writer: &mut W, bytes: &[u8]) -> Result<(), OutputEr
     }
     Err(OutputError { sent })
 }
-
-#[cfg(test)]
-mod tests;

@@ -140,6 +140,57 @@ impl Sink for FullSink {
 }
 
 #[test]
+fn reads_no_further_than_a_byte_beyond(rt: HostRuntime) -> Result<(), Fail> {
+    let cases = [
+        (0, "a"),
+        (2, "abc"),
+        (5, "abcdef"),
+        (6, "abcdef"),
+        (9999, "abcdef"),
+    ];
+    for (limit, wanted) in cases {
+        let read = read_beyond(rt.alloc(), &mut MemSource::new(b"abcdef"), limit)?;
+        assert_eq!(rt; read.as_slice(), wanted.as_bytes(), "limit {limit}");
+    }
+    Ok(())
+}
+
+#[test]
+fn ends_with_a_fault_of_the_source(rt: HostRuntime) {
+    for bytes in ["", "a", "ab"] {
+        let mut source = FailingSource {
+            inner: MemSource::new(bytes.as_bytes()),
+            left: bytes.len(),
+            tally: Tally::new(),
+        };
+        let read = read_beyond(rt.alloc(), &mut source, 2);
+        assert_eq!(rt; read.err(), Some(InputError::Failed), "{bytes:?}");
+    }
+}
+
+#[test]
+fn tells_how_much_was_written(rt: HostRuntime) -> Result<(), Fail> {
+    for (room, fails, sent) in [
+        (0, true, Some(0)),
+        (2, true, Some(2)),
+        (0, false, Some(0)),
+        (3, false, None),
+    ] {
+        let mut sink = FullSink {
+            room,
+            fails,
+            tally: Tally::new(),
+        };
+        let written = write_whole(&mut sink, b"abc");
+        assert_eq!(rt; written.err().map(|e| e.sent), sent, "room {room}");
+    }
+    let mut sink = MemSink::new(Vec::from_slice(rt.alloc(), b"ab")?);
+    assert_eq!(rt; write_whole(&mut sink, b"cd").err(), None);
+    assert_eq!(rt; sink.into_bytes().as_slice(), b"abcd".as_slice());
+    Ok(())
+}
+
+#[test]
 fn tells_that_the_input_failed(rt: HostRuntime) -> Result<(), Fail> {
     for left in [0, 1, SIX.len()] {
         let mut source = FailingSource {

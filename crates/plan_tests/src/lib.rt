@@ -26,6 +26,8 @@ mod faults;
 #[cfg(test)]
 mod files;
 #[cfg(test)]
+mod reading;
+#[cfg(test)]
 mod refusals;
 #[cfg(test)]
 mod schedules;

@@ -1,52 +1,10 @@
-//! Worked examples of `.sm` texts.
+//! Worked examples of `.sm` texts: what is read however it is spelled, and which check is the first that fails.
 
-use crate::fault::FileCode;
-use crate::project::read_sm;
+use crate::six::{SIX, changed};
+use plan_psplib::{FileCode, read_sm};
 use std::alloc::Global;
 use std::process::Abort;
 use std::test::Fail;
-
-// Six activities, one resource, 39 lines. The precedence title is line 17.
-const FILE_A: &str = "****************************************
-file with basedata            : a.bas
-initial value random generator: 1
-****************************************
-projects                      :  1
-jobs (incl. supersource/sink ):  6
-horizon                       :  12
-RESOURCES
-  - renewable                 :  1   R
-  - nonrenewable              :  0   N
-  - doubly constrained        :  0   D
-****************************************
-PROJECT INFORMATION:
-pronr.  #jobs rel.date duedate tardcost  MPM-Time
-    1      4      0        7        0        7
-****************************************
-PRECEDENCE RELATIONS:
-jobnr.    #modes  #successors   successors
-   1        1          2           2   3
-   2        1          1           4
-   3        1          2           4   5
-   4        1          1           6
-   5        1          1           6
-   6        1          0
-****************************************
-REQUESTS/DURATIONS:
-jobnr. mode duration  R 1
-----------------------------------------
-  1      1     0       0
-  2      1     3       1
-  3      1     2       1
-  4      1     4       1
-  5      1     3       1
-  6      1     0       0
-****************************************
-RESOURCEAVAILABILITIES:
-  R 1
-   2
-****************************************
-";
 
 // A check that fails, and its line; none for a text that is read.
 type Verdict = Option<(FileCode, u64)>;
@@ -58,33 +16,8 @@ fn verdict(alloc: Global, text: &[u8]) -> Verdict {
     }
 }
 
-// The file with one of its lines replaced.
-fn with_line(alloc: Global, number: usize, line: &str) -> Result<Vec<u8>, Fail> {
-    let mut text = Vec::new(alloc);
-    for (i, old) in FILE_A.lines().enumerate() {
-        let chosen = if i.wrapping_add(1) == number {
-            line
-        } else {
-            old
-        };
-        text.extend_from_slice(chosen.as_bytes())?;
-        text.push(b'\n')?;
-    }
-    Ok(text)
-}
-
-// The first lines of the file.
-fn first_lines(alloc: Global, count: usize) -> Result<Vec<u8>, Fail> {
-    let mut text = Vec::new(alloc);
-    for line in FILE_A.lines().take(count) {
-        text.extend_from_slice(line.as_bytes())?;
-        text.push(b'\n')?;
-    }
-    Ok(text)
-}
-
 // That a text gives the project of the file.
-fn assert_file_a(rt: &impl Abort, alloc: Global, text: &[u8], name: &str) {
+fn assert_six(rt: &impl Abort, alloc: Global, text: &[u8], name: &str) {
     let Ok(project) = read_sm(alloc, text) else {
         panic!(rt; "{name} isn't read");
     };
@@ -112,7 +45,7 @@ fn assert_file_a(rt: &impl Abort, alloc: Global, text: &[u8], name: &str) {
 #[test]
 fn reads_what_is_spelled_otherwise(rt: HostRuntime) -> Result<(), Fail> {
     let alloc = rt.alloc();
-    assert_file_a(&rt, alloc, FILE_A.as_bytes(), "the file");
+    assert_six(&rt, alloc, SIX.as_bytes(), "the file");
     let other_lines = [
         (6, "jobs:6"),
         (6, "jobs : 6 x"),
@@ -126,16 +59,16 @@ fn reads_what_is_spelled_otherwise(rt: HostRuntime) -> Result<(), Fail> {
         (39, "PRECEDENCE RELATIONS:\nheads\n1 1 1 1"),
     ];
     for (number, line) in other_lines {
-        assert_file_a(&rt, alloc, &with_line(alloc, number, line)?, line);
+        assert_six(&rt, alloc, &changed(&rt, SIX, number, line, 39)?, line);
     }
     let mut carriage_returns = Vec::new(alloc);
-    for &byte in FILE_A.as_bytes() {
+    for &byte in SIX.as_bytes() {
         if byte == b'\n' {
             carriage_returns.push(b'\r')?;
         }
         carriage_returns.push(byte)?;
     }
-    assert_file_a(&rt, alloc, &carriage_returns, "carriage returns");
+    assert_six(&rt, alloc, &carriage_returns, "carriage returns");
     Ok(())
 }
 
@@ -143,14 +76,14 @@ fn reads_what_is_spelled_otherwise(rt: HostRuntime) -> Result<(), Fail> {
 fn takes_sections_in_any_order(rt: HostRuntime) -> Result<(), Fail> {
     let mut text = Vec::new(rt.alloc());
     for (first, last) in [(1, 16), (36, 39), (26, 35), (17, 25)] {
-        for (i, line) in FILE_A.lines().enumerate() {
+        for (i, line) in SIX.lines().enumerate() {
             if first <= i.wrapping_add(1) && i.wrapping_add(1) <= last {
                 text.extend_from_slice(line.as_bytes())?;
                 text.push(b'\n')?;
             }
         }
     }
-    assert_file_a(&rt, rt.alloc(), &text, "sections in another order");
+    assert_six(&rt, rt.alloc(), &text, "sections in another order");
     Ok(())
 }
 
@@ -190,7 +123,7 @@ fn names_the_first_check_that_fails(rt: HostRuntime) -> Result<(), Fail> {
         (38, "10001", FileCode::Limit, 38),
     ];
     for (number, line, code, at) in cases {
-        let text = with_line(rt.alloc(), number, line)?;
+        let text = changed(&rt, SIX, number, line, 39)?;
         assert_eq!(rt;
             verdict(rt.alloc(), &text),
             Some((code, at)),
@@ -217,7 +150,7 @@ fn judges_the_file_cut_after_each_line(rt: HostRuntime) -> Result<(), Fail> {
             36 | 37 => Some((FileCode::Count, 36)),
             _ => None,
         };
-        let text = first_lines(rt.alloc(), count)?;
+        let text = changed(&rt, SIX, 0, "", count)?;
         assert_eq!(rt; verdict(rt.alloc(), &text), wanted, "after line {count}");
     }
     Ok(())
@@ -226,7 +159,7 @@ fn judges_the_file_cut_after_each_line(rt: HostRuntime) -> Result<(), Fail> {
 #[test]
 fn judges_a_row_that_is_cut(rt: HostRuntime) -> Result<(), Fail> {
     let alloc = rt.alloc();
-    let mut text = first_lines(alloc, 30)?;
+    let mut text = changed(&rt, SIX, 0, "", 30)?;
     text.extend_from_slice(b"  3      1")?;
     assert_eq!(rt; verdict(alloc, &text), Some((FileCode::Count, 31)));
     Ok(())
@@ -239,7 +172,7 @@ fn names_the_cycle(rt: HostRuntime) -> Result<(), Fail> {
         (22, "4 1 1 4", [4].as_slice()),
     ];
     for (number, line, members) in cases {
-        let text = with_line(rt.alloc(), number, line)?;
+        let text = changed(&rt, SIX, number, line, 39)?;
         let Err(fault) = read_sm(rt.alloc(), &text) else {
             panic!(rt; "a cycle is read: {line:?}");
         };
@@ -265,13 +198,15 @@ fn judges_whole_texts(rt: HostRuntime) -> Result<(), Fail> {
     assert_eq!(rt; verdict(alloc, b"\n\n"), Some((FileCode::MissingHead, 2)));
     assert_eq!(rt; verdict(alloc, b"\r\r\r"), Some((FileCode::MissingHead, 1)));
     assert_eq!(rt;
-        verdict(alloc, &with_line(alloc, 3, "a zero \0 byte")?),
+        verdict(alloc, &changed(&rt, SIX, 3, "a zero \0 byte", 39)?),
         Some((FileCode::NotText, 3))
     );
-    let modes = with_line(
-        alloc,
+    let modes = changed(
+        &rt,
+        SIX,
         21,
         "3 2 2 4 5\nPRECEDENCE RELATIONS:\n1 1 1 1\nREQUESTS/DURATIONS\n",
+        39,
     )?;
     assert_eq!(rt; verdict(alloc, &modes), Some((FileCode::Modes, 21)));
     Ok(())
