@@ -148,6 +148,3 @@ fn no_instance(last: u64) -> ReadError
 {
     ReadError::Fault(Fault::new(FileCode::NoInstance, last))
 }
-
-#[cfg(test)]
-mod tests;

@@ -76,6 +76,3 @@ pub fn check(shop: &Shop, starts: &[u64]) -> Verdict
         None => Verdict::Active,
     }
 }
-
-#[cfg(test)]
-mod tests;

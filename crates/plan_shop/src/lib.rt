@@ -19,6 +19,3 @@ pub use laws::{
 pub use rule::ShopRule;
 pub use shop::Shop;
 pub use tree::ShopTree;
-
-#[cfg(test)]
-mod tests;

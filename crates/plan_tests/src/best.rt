@@ -1,24 +1,16 @@
 //! Best schedules of job shops, from the text to the table or the line of the fault.
 
+use crate::shop_texts::COLLECTION;
 use plan_cli::best_run;
 use plan_psplib::{MemSink, MemSource};
 use std::test::Fail;
 
-// Two orders on two machines; and the instance of Fisher and Thompson with six jobs on six machines, whose least makespan is 55.
+// Two orders on two machines.
 const SHOPS: &[u8] = b"instance printing
 two orders
 2 2
 0 4 1 1
 0 1 1 3
-instance ft06
-Fisher and Thompson 6x6
-6 6
-2 1 0 3 1 6 3 7 5 3 4 6
-1 8 2 5 4 10 5 10 0 10 3 4
-2 5 3 4 5 8 0 9 1 1 4 7
-1 5 0 5 2 5 3 3 4 8 5 9
-2 9 1 3 4 5 5 4 0 3 3 1
-1 3 3 3 5 9 0 10 4 4 2 1
 ";
 
 const OPTIMAL: &str = "optimal 6
@@ -75,7 +67,7 @@ fn the_known_least_makespan_is_proved_within_649_words(rt: HostRuntime) -> Resul
         ("649", "optimal 55\n"),
         ("200000", "optimal 55\n"),
     ] {
-        let text = printed(&rt, budget, "ft06", SHOPS)?;
+        let text = printed(&rt, budget, "ft06", COLLECTION.as_bytes())?;
         assert!(rt; text.starts_with(line.as_bytes()), "{budget}");
         assert!(rt; text.ends_with(b"\nmakespan 55\n"), "{budget}");
     }
@@ -104,7 +96,7 @@ fn what_is_no_budget_is_told(rt: HostRuntime) -> Result<(), Fail> {
     }
     assert_eq!(rt;
         printed(&rt, "0", "ft10", SHOPS)?.as_slice(),
-        "F13 line 14".as_bytes()
+        "F13 line 5".as_bytes()
     );
     Ok(())
 }

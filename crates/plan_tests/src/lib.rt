@@ -26,6 +26,8 @@ mod faults;
 #[cfg(test)]
 mod files;
 #[cfg(test)]
+mod job_shops;
+#[cfg(test)]
 mod reading;
 #[cfg(test)]
 mod refusals;
@@ -35,6 +37,10 @@ mod schedules;
 mod seen;
 #[cfg(test)]
 mod serial;
+#[cfg(test)]
+mod shop_texts;
+#[cfg(test)]
+mod shop_verdicts;
 #[cfg(test)]
 mod shops;
 #[cfg(test)]

@@ -1,19 +1,21 @@
-//! Worked examples of small job shops.
+//! Worked examples of small job shops: schedules by rules, closed machines, words.
 
-use crate::{Shop, ShopFault, ShopRule, ShopTree, giffler};
 use plan_orlib::{ShopDoc, read_shop};
+use plan_shop::{Shop, ShopFault, ShopRule, ShopTree, giffler};
 use std::alloc::Global;
 use std::process::Abort;
 use std::test::Fail;
 
-fn doc_of(rt: &impl Abort, alloc: Global, text: &str) -> ShopDoc {
+/// The shop of a text in the bare form.
+pub fn doc_of(rt: &impl Abort, alloc: Global, text: &str) -> ShopDoc {
     match read_shop(alloc, text.as_bytes(), b"-") {
         Ok(doc) => doc,
-        Err(_) => panic!(rt; "the shop isn't read"),
+        Err(_) => panic!(rt; "not read: {text}"),
     }
 }
 
-fn rule_of(rt: &impl Abort, word: &str) -> ShopRule {
+/// The rule of a name.
+pub fn rule_of(rt: &impl Abort, word: &str) -> ShopRule {
     match ShopRule::parse(word) {
         Ok(rule) => rule,
         Err(_) => panic!(rt; "{word} is no rule"),

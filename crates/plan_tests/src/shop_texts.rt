@@ -1,14 +1,13 @@
 //! Worked examples of job shop texts.
 
-use crate::naming::names;
-use crate::shop::{ShopDoc, read_shop};
+use plan_orlib::{ShopDoc, names, read_shop};
 use plan_psplib::FileCode;
 use std::alloc::Global;
 use std::process::Abort;
 use std::test::Fail;
 
-// A text of 21 lines: words, three instances, of which one is Fisher and Thompson's of 6 jobs and 6 machines.
-const COLLECTION: &str = "a collection of shops
+/// A text of 21 lines: words, three instances, of which one is Fisher and Thompson's of 6 jobs and 6 machines.
+pub const COLLECTION: &str = "a collection of shops
  instance ft06 again
 +++++++++++++++++++++++++++++
 instance tiny

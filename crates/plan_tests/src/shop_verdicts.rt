@@ -1,12 +1,11 @@
-//! Worked examples of verdicts.
+//! Worked examples of verdicts on starts of job shops.
 
 ghost use Rattle.std.specs.Prelude.{All, ◌≤◌};
 
-use super::{check, count};
-use crate::shop::Shop;
 use plan_orlib::read_shop;
 use plan_profile::END;
 use plan_sgs::Verdict;
+use plan_shop::{Shop, check};
 use std::alloc::Global;
 use std::test::Fail;
 
@@ -24,7 +23,9 @@ fn verdict(alloc: Global, text: &str, starts: &[u64]) -> Option<Verdict> {
         return None;
     }
     let shop = Shop::of_doc(alloc, &doc, &usable).ok()?;
-    if starts.len() != count(&shop) as usize || !starts.iter().all(|t| *t <= END) {
+    if starts.len() != shop.jobs() as usize * shop.machines() as usize
+        || !starts.iter().all(|t| *t <= END)
+    {
         return None;
     }
     Some(check(&shop, starts))
