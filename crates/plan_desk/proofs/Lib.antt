@@ -1,0 +1,6 @@
+pub mod RowLemmas
+pub mod OwnerLemmas
+pub mod SeenLemmas
+pub mod StoryLemmas
+pub mod OutcomeLemmas
+pub mod QuietLemmas

@@ -1,0 +1,127 @@
+-- What a JSON body says, or None where it is to be refused (docs/DEFINITIONS.md, "Desks"; RFC 8259).
+-- A body is read as serde_json reads it: of equal names the last one counts, a whole number is one
+-- that `as_u64` gives, and at most 127 arrays and objects nest.
+use Rattle.std.specs.Prelude.{ℕ, Bool, true, ◌&&◌, nat_le, if◌then◌else◌, Option, Some, None, option_map, option_and_then, codes}
+use Rattle.std.specs.Str.{is_utf8}
+use Rattle.serde_json.specs.Data.{Data}
+use Rattle.serde_json.specs.Read.{read}
+use Rattle.serde_json.specs.Find.{get, as_str, as_number, as_u64}
+use Rattle.plan_desk.specs.declared.kinds.Kind.{Kind}
+use Rattle.plan_desk.specs.declared.kinds.Kind.TheVariants.{Crew, Machine}
+use Rattle.plan_desk.specs.World.{Text, same_text}
+use Rattle.plan_desk.specs.Names.{is_name, is_key, is_from_to}
+
+-- the value that the bytes spell
+abbrev pub json : Text → Option Data
+json body = if is_utf8 body then read body else None
+
+-- a value that passes
+abbrev pub passing : {A : Type 0} → (A → Bool) → A → Option A
+passing passes x = if passes x then Some x else None
+
+-- a member of an object, where it is a text that passes
+abbrev pub text_in : (Text → Bool) → Text → Data → Option Text
+text_in passes name value = option_and_then (passing passes) (option_and_then as_str (get name value))
+
+-- a member of an object, where it is a whole number that passes
+abbrev pub number_in : (ℕ → Bool) → Text → Data → Option ℕ
+number_in passes name value =
+    option_and_then (passing passes)
+      (option_and_then as_u64 (option_and_then as_number (get name value)))
+
+abbrev pub any_text : Text → Bool
+any_text text = true
+
+-- `crew` or `machine`
+abbrev pub kind_named : Text → Option Kind
+kind_named text =
+    if same_text text (codes "crew") then Some Crew
+    else (if same_text text (codes "machine") then Some Machine else None)
+
+-- a code, its kind, and its capacity
+pub record PublishBody : Type 0 where
+  pub code : Text
+  pub kind : Kind
+  pub capacity : ℕ
+
+abbrev pub publish_members : Data → Option PublishBody
+publish_members value =
+    option_and_then (λ code. option_and_then (λ kind. option_map
+        (λ capacity. record { code = code; kind = kind; capacity = capacity })
+        (number_in (λ n. nat_le n 10000) (codes "capacity") value))
+      (option_and_then kind_named (text_in any_text (codes "kind") value)))
+    (text_in is_name (codes "code") value)
+
+unfoldable pub publish_body : Text → Option PublishBody
+publish_body body = option_and_then publish_members (json body)
+
+-- the name of a desk, and its key
+pub record DeskBody : Type 0 where
+  pub desk : Text
+  pub key : Text
+
+abbrev pub desk_members : Data → Option DeskBody
+desk_members value =
+    option_and_then
+      (λ desk. option_map (λ key. record { desk = desk; key = key })
+        (text_in is_key (codes "key") value))
+      (text_in is_name (codes "desk") value)
+
+unfoldable pub desk_body : Text → Option DeskBody
+desk_body body = option_and_then desk_members (json body)
+
+-- the desk that such a body names, be its other members right or not
+unfoldable pub desk_named : Text → Option Text
+desk_named body = option_and_then (text_in any_text (codes "desk")) (json body)
+
+-- a key
+unfoldable pub key_body : Text → Option Text
+key_body body = option_and_then (text_in is_key (codes "key")) (json body)
+
+-- a published code, and the place that it is bound to
+pub record BindBody : Type 0 where
+  pub code : Text
+  pub place : ℕ
+
+abbrev pub bind_members : (ℕ → Bool) → Data → Option BindBody
+bind_members is_place value =
+    option_and_then
+      (λ code. option_map (λ place. record { code = code; place = place })
+        (number_in is_place (codes "place") value))
+      (text_in is_name (codes "code") value)
+
+-- the place has to be one of the plan
+unfoldable pub bind_body : (ℕ → Bool) → Text → Option BindBody
+bind_body is_place body = option_and_then (bind_members is_place) (json body)
+
+-- a start date and seven marks, as texts: what they say is judged later
+pub record CalendarBody : Type 0 where
+  pub start : Text
+  pub days : Text
+
+abbrev pub calendar_members : Data → Option CalendarBody
+calendar_members value =
+    option_and_then
+      (λ start. option_map (λ days. record { start = start; days = days })
+        (text_in any_text (codes "days") value))
+      (text_in any_text (codes "start") value)
+
+unfoldable pub calendar_body : Text → Option CalendarBody
+calendar_body body = option_and_then calendar_members (json body)
+
+-- the ends of an arc, and its lag
+pub record LagBody : Type 0 where
+  pub source : ℕ
+  pub target : ℕ
+  pub lag : ℕ
+
+abbrev pub lag_members : Data → Option LagBody
+lag_members value =
+    option_and_then (λ source. option_and_then (λ target. option_map
+        (λ lag. record { source = source; target = target; lag = lag })
+        (number_in (λ n. nat_le n 10000) (codes "lag") value))
+      (number_in (is_from_to 1 502) (codes "to") value))
+    (number_in (is_from_to 1 502) (codes "from") value)
+
+unfoldable pub lag_body : Text → Option LagBody
+lag_body body = option_and_then lag_members (json body)

@@ -1,0 +1,36 @@
+-- What each call is answered, by what its desk sees, and which change that makes: all routes
+-- (docs/DEFINITIONS.md, "Desks"). Of several refusals the first of their order is answered; each
+-- route is told in that order.
+use Rattle.plan_desk.specs.World.{World}
+use Rattle.plan_desk.specs.Changes.{Change}
+use Rattle.plan_desk.specs.Views.{View}
+use Rattle.plan_desk.specs.Calls.{Call, publish, open_desk, set_key, capacities, plans, import_project, import_shop, remove, bind, set_calendar, set_lag, dates, schedule, chart, days, best, Request, Reply}
+use Rattle.plan_desk.specs.Stories as story
+use Rattle.plan_desk.specs.Outcomes.{tells}
+use Rattle.plan_desk.specs.JsonTexts.{codes_text, plans_text}
+use Rattle.plan_desk.specs.OfficeRoutes.{Publishes, Opens, SetsKey}
+use Rattle.plan_desk.specs.PlanRoutes.{ImportsProject, ImportsShop, Removes, Binds, Calendars, SetsLag}
+use Rattle.plan_desk.specs.PageRoutes.{Dates, Schedules, Charts, Days}
+use Rattle.plan_desk.specs.BestRoutes.{Best}
+
+abbrev pub Answers : View → Call → Reply → Change → Type 0
+Answers v (publish body) = Publishes v.published body
+Answers v (open_desk body) = Opens v body
+Answers v (set_key desk body) = SetsKey v desk body
+Answers v (capacities desk) = tells (codes_text v.published)
+Answers v (plans desk) = tells (plans_text v.plans)
+Answers v (import_project desk body) = ImportsProject v body
+Answers v (import_shop desk instance body) = ImportsShop v instance body
+Answers v (remove desk n) = Removes v n
+Answers v (bind desk n body) = Binds v n body
+Answers v (set_calendar desk n body) = Calendars v n body
+Answers v (set_lag desk n body) = SetsLag v n body
+Answers v (dates desk n) = Dates v n
+Answers v (schedule desk n rule) = Schedules v n rule
+Answers v (chart desk n rule) = Charts v n rule
+Answers v (days desk n rule) = Days v n rule
+Answers v (best desk n budget) = Best v n budget
+
+-- in a view a request is given this reply, and makes this change
+unfoldable pub Decides : View → Request → Reply → Change → Type 0
+Decides = story.IsDecided Answers

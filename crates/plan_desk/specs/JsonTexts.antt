@@ -1,0 +1,67 @@
+-- The answers in JSON: objects without blanks, their members in the order of their names
+-- (docs/DEFINITIONS.md, "Desks"; RFC 8259). Names and kinds need no escape.
+use Rattle.std.specs.Prelude.{ℕ, Bool, ◌&&◌, nat_lt, List, [], ◌∷◌, ◌++◌, map, codes, decimal}
+use Rattle.std.specs.Cmp.Lexicographic.{slice_cmp}
+use Rattle.std.specs.Ordering.{nat_cmp, is_lt}
+use Rattle.plan_desk.specs.declared.kinds.Kind.{Kind}
+use Rattle.plan_desk.specs.declared.kinds.PlanKind.{PlanKind}
+use Rattle.plan_desk.specs.declared.kinds.Kind.TheVariants.{Crew, Machine}
+use Rattle.plan_desk.specs.declared.kinds.PlanKind.TheVariants.{Project, Shop}
+use Rattle.plan_desk.specs.World.{Text, Published, Plan}
+use Rattle.plan_desk.specs.Plans.{in_order}
+
+abbrev pub kind_text : Kind → Text
+kind_text Crew = codes "crew"
+kind_text Machine = codes "machine"
+
+abbrev pub plan_kind_text : PlanKind → Text
+plan_kind_text Project = codes "project"
+plan_kind_text Shop = codes "shop"
+
+-- a published code
+abbrev pub code_text : Text → Kind → ℕ → Text
+code_text code kind capacity =
+    codes "{\"capacity\":" ++ decimal capacity ++ codes ",\"code\":\"" ++ code
+    ++ codes "\",\"kind\":\"" ++ kind_text kind ++ codes "\"}"
+
+abbrev pub desk_text : Text → Text
+desk_text desk = codes "{\"desk\":\"" ++ desk ++ codes "\"}"
+
+-- a plan, by its number and kind
+abbrev pub plan_text : ℕ → PlanKind → Text
+plan_text n kind = codes "{\"kind\":\"" ++ plan_kind_text kind ++ codes "\",\"n\":" ++ decimal n ++ codes "}"
+
+abbrev pub number_text : ℕ → Text
+number_text n = codes "{\"n\":" ++ decimal n ++ codes "}"
+
+abbrev pub bind_text : Text → ℕ → Text
+bind_text code place = codes "{\"code\":\"" ++ code ++ codes "\",\"place\":" ++ decimal place ++ codes "}"
+
+abbrev pub calendar_text : Text → Text → Text
+calendar_text start days = codes "{\"days\":\"" ++ days ++ codes "\",\"start\":\"" ++ start ++ codes "\"}"
+
+abbrev pub lag_text : ℕ → ℕ → ℕ → Text
+lag_text source target lag =
+    codes "{\"from\":" ++ decimal source ++ codes ",\"lag\":" ++ decimal lag ++ codes ",\"to\":"
+    ++ decimal target ++ codes "}"
+
+-- texts with a comma between each two
+abbrev pub separated : List Text → Text
+separated [] = []
+separated (text ∷ []) = text
+separated (text ∷ other ∷ texts) = text ++ codes "," ++ separated (other ∷ texts)
+
+abbrev pub code_before : Published → Published → Bool
+code_before a b = is_lt (slice_cmp nat_cmp a.code b.code)
+
+-- the published codes, rising byte by byte
+abbrev pub codes_text : List Published → Text
+codes_text rows =
+    codes "{\"capacities\":[" ++ separated (map (λ row. code_text row.code row.kind row.capacity) (in_order code_before rows)) ++ codes "]}"
+
+abbrev pub plan_before : Plan → Plan → Bool
+plan_before a b = nat_lt a.n b.n
+
+-- the plans of a desk, rising by number
+abbrev pub plans_text : List Plan → Text
+plans_text rows = codes "{\"plans\":[" ++ separated (map (λ row. plan_text row.n row.kind) (in_order plan_before rows)) ++ codes "]}"

@@ -1,0 +1,128 @@
+-- What is answered to a desk's questions about a plan: dates, schedules, charts, working days and
+-- best schedules (docs/DEFINITIONS.md, "Desks"). Each is for a request with the desk's key. A
+-- project is planned with the lags of the desk and against the published capacities that are bound
+-- to its resources; a shop with the machines that are open.
+use Rattle.std.specs.Prelude.{◌≡◌, ◌⊎◌, ℕ, ◌<◌, Bool, true, List, [], length, nat_eq}
+use Rattle.plan_psplib.specs.Project.{Project}
+use Rattle.plan_sgs.specs.Problem.{NeedsFit, makespan}
+use Rattle.plan_sgs.specs.Instances.{Planned, problem_of}
+use Rattle.plan_sgs.specs.Instances as instances
+use Rattle.plan_sgs.specs.Keys.{word_of}
+use Rattle.plan_sgs.specs.declared.rule.Rule.{Rule}
+use Rattle.plan_sgs.specs.declared.fault.SgsFault.{SgsFault}
+use Rattle.plan_shop.specs.Shop.{JobShop}
+use Rattle.plan_shop.specs.Shop as shops
+use Rattle.plan_shop.specs.Docs.{NoneIsClosed, IsFirstClosed}
+use Rattle.plan_shop.specs.Names as shop_names
+use Rattle.plan_shop.specs.declared.rule.ShopRule.{ShopRule}
+use Rattle.plan_shop.specs.declared.fault.ShopFault.TheVariants as shop_fault
+use Rattle.plan_gantt.specs.DateTable.{IsDateText}
+use Rattle.plan_gantt.specs.ScheduleText.{IsSchedule, RefusesSchedule, TellsRefusal}
+use Rattle.plan_gantt.specs.ScheduleTable.{schedule_table_text}
+use Rattle.plan_gantt.specs.ShopTable.{shop_table_text}
+use Rattle.plan_gantt.specs.ShopText.{rule_starts, TellsNoRule}
+use Rattle.plan_gantt.specs.ShopFaultText.{shop_fault_text_of}
+use Rattle.plan_gantt.specs.Chart.{chart_text}
+use Rattle.plan_gantt.specs.Charts.{activity_intervals}
+use Rattle.plan_gantt.specs.ShopCharts.{machine_intervals, IsShopCalendarTable, HasStepBeyond}
+use Rattle.plan_gantt.specs.CalendarTable.{IsCalendarTable, HasActivityBeyond}
+use Rattle.plan_gantt.specs.WorkingDay.{Workdays}
+use Rattle.plan_gantt.specs.CalendarFaultText.{calendar_fault_text_of, missing_calendar_text}
+use Rattle.plan_gantt.specs.declared.calendar.CalendarFault.TheVariants as calendar_fault
+use Rattle.plan_sgs.specs.Problem.{IsActive}
+use Rattle.plan_desk.specs.World.{Text, Plan}
+use Rattle.plan_desk.specs.Views.{View}
+use Rattle.plan_desk.specs.Outcomes.{Outcome, refuses, shows, unless, some, why_or}
+use Rattle.plan_desk.specs.Plans.{IsProjectOf, IsShopOf, bound_project, open_machines}
+use Rattle.plan_gantt.specs.CalendarText.{IsCalendar}
+use Rattle.plan_desk.specs.PlanRoutes.{of_plan, by_kind}
+use Rattle.plan_desk.specs.Refusals.{other_kind, bad_schedule, bad_calendar}
+
+-- the dates of a project without regard to its resources
+unfoldable pub Dates : View → Text → Outcome
+Dates v n = of_plan v n (λ plan. by_kind plan.kind
+  (some (IsProjectOf v plan) (λ p. shows (IsDateText p.network)))
+  (refuses other_kind))
+
+-- the starts are those of the active schedule of an instance by the rule of a name
+pub record IsScheduleBy (i : Planned) (name : Text) (starts : List ℕ) : Type 0 where
+  pub rule : Rule
+  pub named : name ≡ word_of rule
+  pub schedule : IsSchedule i rule starts
+
+-- the schedule of a project by the rule of a name, or why there is none: a need that is too much,
+-- else a name that is no rule's
+unfoldable pub OfSchedule : View → Plan → Text → (Planned → List ℕ → Outcome) → Outcome
+OfSchedule v plan rule Rest = some (IsProjectOf v plan) (λ p.
+  why_or (TellsRefusal rule (bound_project v plan p)) bad_schedule
+    (λ starts. NeedsFit (problem_of (bound_project v plan p)) × IsScheduleBy (bound_project v plan p) rule starts)
+    (Rest (bound_project v plan p)))
+
+-- a line tells which machine in use is closed
+abbrev pub TellsClosed : JobShop → List Bool → Text → Type 0
+TellsClosed s usable line =
+    (m : ℕ) × IsFirstClosed s.steps usable m × (line ≡ shop_fault_text_of (shop_fault.MachineClosed m))
+
+-- a line tells why a shop has no schedule by the rule of a name: the name is no rule's, or else a
+-- machine in use is closed
+abbrev pub TellsShopRefusal : Text → JobShop → List Bool → Text → Type 0
+TellsShopRefusal name s usable line =
+    TellsNoRule name line
+    ⊎ (((rule : ShopRule) × (name ≡ shop_names.word_of rule)) × TellsClosed s usable line)
+
+-- the starts are those of the active schedule of a shop by the rule of a name, all machines in use
+-- open
+pub record IsShopScheduleBy (s : JobShop) (usable : List Bool) (name : Text) (starts : List ℕ) : Type 0 where
+  pub rule : ShopRule
+  pub named : name ≡ shop_names.word_of rule
+  pub opened : NoneIsClosed s.steps usable
+  pub starts_are : starts ≡ rule_starts rule s
+  pub active : IsActive (shops.problem_of s) starts
+
+-- the schedule of a shop by the rule of a name, or why there is none
+unfoldable pub OfShopSchedule : View → Plan → Text → (JobShop → List ℕ → Outcome) → Outcome
+OfShopSchedule v plan rule Rest = some (IsShopOf plan) (λ s.
+  why_or (TellsShopRefusal rule s (open_machines v plan.n s.machines)) bad_schedule
+    (IsShopScheduleBy s (open_machines v plan.n s.machines) rule) (Rest s))
+
+-- the table of a schedule
+unfoldable pub Schedules : View → Text → Text → Outcome
+Schedules v n rule = of_plan v n (λ plan. by_kind plan.kind
+  (OfSchedule v plan rule (λ i starts. shows (λ text.
+    text ≡ schedule_table_text i.project.network starts (makespan (problem_of i) starts))))
+  (OfShopSchedule v plan rule (λ s starts. shows (λ text.
+    text ≡ shop_table_text s starts (makespan (shops.problem_of s) starts)))))
+
+-- the chart of a schedule: a line for each activity from 1 on, or for each machine from 0 on
+unfoldable pub Charts : View → Text → Text → Outcome
+Charts v n rule = of_plan v n (λ plan. by_kind plan.kind
+  (OfSchedule v plan rule (λ i starts. shows (λ text.
+    text ≡ chart_text (makespan (problem_of i) starts) (activity_intervals i.project.network starts) 1 (length i.project.network.durations))))
+  (OfShopSchedule v plan rule (λ s starts. shows (λ text.
+    text ≡ chart_text (makespan (shops.problem_of s) starts) (machine_intervals s starts) 0 s.machines))))
+
+-- a day that is to be shown is beyond the calendar, which is told by one line
+abbrev pub TellsBeyond : (Workdays → Type 0) → Text → Text → Text → Type 0
+TellsBeyond IsBeyond start days line =
+    (c : Workdays) × IsCalendar start days c × IsBeyond c
+    × (line ≡ calendar_fault_text_of calendar_fault.BeyondCalendar)
+
+-- a text shows the days of a calendar that texts spell
+abbrev pub ShowsDays : (Workdays → Text → Type 0) → Text → Text → Text → Type 0
+ShowsDays IsTable start days text = (c : Workdays) × IsCalendar start days c × IsTable c text
+
+-- a table of working days by the plan's calendar, or why there is none: no calendar is set, else a
+-- day that is to be shown is beyond it
+unfoldable pub OfCalendar : Plan → (Workdays → Text → Type 0) → (Workdays → Type 0) → Outcome
+OfCalendar plan IsTable IsBeyond =
+  unless (nat_eq (length plan.start) 0) (bad_calendar missing_calendar_text)
+  (why_or (TellsBeyond IsBeyond plan.start plan.days) bad_calendar
+    (ShowsDays IsTable plan.start plan.days) (λ text. shows (λ shown. shown ≡ text)))
+
+-- the working days of a schedule
+unfoldable pub Days : View → Text → Text → Outcome
+Days v n rule = of_plan v n (λ plan. by_kind plan.kind
+  (OfSchedule v plan rule (λ i starts.
+    OfCalendar plan (λ c. IsCalendarTable c i.project.network starts) (λ c. HasActivityBeyond c i.project.network starts)))
+  (OfShopSchedule v plan rule (λ s starts.
+    OfCalendar plan (λ c. IsShopCalendarTable c s starts) (λ c. HasStepBeyond c s starts))))
