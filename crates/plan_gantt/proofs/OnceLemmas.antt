@@ -11,11 +11,11 @@ use Rattle.plan_orlib.specs.Shop as docs
 use Rattle.plan_orlib.specs.Reading.{shop}
 use Rattle.plan_orlib.specs.Says as shop_texts
 use Rattle.plan_orlib.proofs.OnceLemmas as shop_once
-use Rattle.plan_sgs.specs.Problem.{makespan, NeedsFit}
+use Rattle.plan_sgs.specs.Problem.{makespan}
 use Rattle.plan_sgs.specs.Instances.{Planned, problem_of}
 use Rattle.plan_sgs.specs.declared.rule.Rule.{Rule}
 use Rattle.plan_sgs.specs.declared.fault.SgsFault.{SgsFault}
-use Rattle.plan_sgs.proofs.OnceLemmas.{starts_once, rule_once, refusal_once, fit_not_refused}
+use Rattle.plan_sgs.proofs.OnceLemmas.{starts_once, rule_once, feasible_fits, refusal_once, fit_not_refused}
 use Rattle.plan_shop.specs.Shop as shops
 use Rattle.plan_shop.specs.declared.rule.ShopRule.{ShopRule}
 use Rattle.plan_shop.specs.declared.fault.ShopFault.{ShopFault}
@@ -94,10 +94,11 @@ pub schedule_refusal_once : (name : List ℕ) (i : Planned) (x y : List ℕ) →
 schedule_refusal_once name i x y (f, first, is_x) (g, second, is_y) =
     is_x ∙ ap schedule_fault_text_of (refused_once name i f g first second) ∙ sym is_y
 
--- and none where the needs fit and a rule has the name
-pub schedule_refusal_apart : (name : List ℕ) (i : Planned) (line text : List ℕ) → NeedsFit (problem_of i) → IsScheduleTextOf name i text → TellsRefusal name i line → ⊥
-schedule_refusal_apart name i line text fit (r, named, table) (f, inl first, is) = fit_not_refused i f fit first
-schedule_refusal_apart name i line text fit (r, named, table) (f, inr second, is) = second.1.1 r named
+-- and none where there is a schedule by the rule of that name
+pub schedule_refusal_apart : (name : List ℕ) (i : Planned) (line text : List ℕ) → IsScheduleTextOf name i text → TellsRefusal name i line → ⊥
+schedule_refusal_apart name i line text (r, named, table) (f, inl first, is) =
+    fit_not_refused i f (feasible_fits (problem_of i) table.starts table.schedule.active.feasible) first
+schedule_refusal_apart name i line text (r, named, table) (f, inr second, is) = second.1.1 r named
 
 shop_table_once : (s : shops.JobShop) (r q : ShopRule) (x y : List ℕ) → r ≡ q → IsTableBy r s x → IsTableBy q s y → x ≡ y
 shop_table_once s r q x y same first second =

@@ -4,7 +4,7 @@ use Rattle.std.proofs.lemmas.Bool.{cases_lt}
 use Rattle.plan_net.specs.Network.{Net, count_of, duration_of}
 use Rattle.plan_cpm.specs.Dates.{DateTable, late_finish_of, total_float_of}
 use Rattle.plan_cpm.proofs.OnceLemmas.{dates_once, totals_once}
-use Rattle.plan_sgs.specs.Problem.{Problem, count, NeedsFit, IsFirstTooMuch}
+use Rattle.plan_sgs.specs.Problem.{Problem, count, IsFeasible, NeedsFit, IsFirstTooMuch}
 use Rattle.plan_sgs.specs.Serial.{serial}
 use Rattle.plan_sgs.specs.Rules.{is_eligible, eligible, least_key, rule_list_from, rule_list}
 use Rattle.plan_sgs.specs.Keys.{word_of, IsKeyOf, IsRuleSchedule}
@@ -13,6 +13,9 @@ use Rattle.plan_sgs.specs.declared.rule.Rule.{Rule}
 use Rattle.plan_sgs.specs.declared.rule.Rule.TheVariants as rule
 use Rattle.plan_sgs.specs.declared.fault.SgsFault.{SgsFault}
 use Rattle.plan_sgs.specs.declared.fault.SgsFault.TheVariants as fault
+use Rattle.plan_sgs.proofs.TotalLemmas.{total_above}
+use Rattle.plan_sgs.proofs.AmountLemmas.{amount_during}
+use Rattle.plan_sgs.proofs.StartLemmas.{amount_at, usage_is}
 use Rattle.plan_sgs.proofs.InstanceLemmas.{count-problem}
 use Rattle.plan_sgs.proofs.RuleLemmas.{IsFirstBelow, IsChosenBelow, chosen_below, first_once, next_of}
 
@@ -92,6 +95,16 @@ too_much_once p a k b q (i, x, is_a, is_k, much, first) (j, y, is_b, is_q, other
 -- and none where the needs fit
 pub fits_not : (p : Problem) (a k : ℕ) → NeedsFit p → IsFirstTooMuch p a k → ⊥
 fits_not p a k fit (i, x, is_a, is_k, much, first) = let low = fit i x much.0 much.2 much.1 in omega (arith, low, much.3)
+
+-- the needs fit where some list of starts is feasible: an activity is in use at its own start
+pub feasible_fits : (p : Problem) (s : List ℕ) → IsFeasible p s → NeedsFit p
+feasible_fits p s feasible i k below positive inside =
+    let start = get_or s i 0 in
+    let needs = amount_during p start k i start (omega arith) (omega (arith, positive)) in
+    let part = total_above (count p) (amount_at p s start k) i below in
+    let used = usage_is p s start k feasible.each_started in
+    let within = feasible.capacities start k inside in
+    omega (arith, needs, part, used, within)
 
 -- a project and capacities are refused for one fault
 pub refusal_once : (i : Planned) (f g : SgsFault) → RefusesInstance i f → RefusesInstance i g → f ≡ g
