@@ -4,14 +4,11 @@ use Rattle.plan_net.specs.Network.{Net, count_of, IsArc, IsActivity, IsGreatest,
 use Rattle.plan_net.specs.Path.{IsWalk, last_of, path_length}
 use Rattle.plan_net.specs.Limits.{IsWithinLimits}
 use Rattle.plan_net.proofs.RowLemmas.{arc_ends}
+use Rattle.plan_net.proofs.OnceLemmas.{greatest_once}
 use Rattle.plan_net.proofs.PathLemmas.{LastArc, last_arc}
 use Rattle.plan_cpm.specs.Lengths.{IsLength, IsLengthTo, IsLengthFrom, AreFinishes, AreTails}
 use Rattle.plan_cpm.specs.Dates.{DateTable, AreDates, AreFreeFloats, IsConsistent, IsNextStart, IsSuccessorStart, IsPredecessorFinish, IsSuccessorLateStart, KeepRecurrences, LeavesTails, early_start_of, early_finish_of, late_start_of, late_finish_of, free_float_of}
 use Rattle.plan_cpm.proofs.JoinLemmas.{lasts, remains, after_finish, before_tail, through, within_all}
-
--- two numbers that are the greatest with P are one
-greatest_once : (P : ℕ → Type 0) (a b : ℕ) → IsGreatest P a → IsGreatest P b → a ≡ b
-greatest_once P a b first second = let low : b ≤ a = first.1 b second.0 in let high : a ≤ b = second.1 a first.0 in omega arith
 
 -- a path ends with an activity
 pub last_activity : (net : Net) (i : ℕ) (others : List ℕ) → IsWithinLimits net → IsActivity net i → IsWalk net i others → IsActivity net (last_of i others)

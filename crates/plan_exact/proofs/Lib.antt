@@ -10,3 +10,4 @@ pub mod SolutionLemmas
 pub mod SpellingLemmas
 pub mod BudgetLemmas
 pub mod MemoLemmas
+pub mod OnceLemmas

@@ -23,4 +23,5 @@ pub mod Shifts
 pub mod Deciding
 pub mod BrokenLemmas
 pub mod CheckRows
+pub mod OnceLemmas
 mod Bounds
