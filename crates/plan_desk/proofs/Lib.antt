@@ -4,3 +4,5 @@ pub mod SeenLemmas
 pub mod StoryLemmas
 pub mod OutcomeLemmas
 pub mod QuietLemmas
+pub mod ProjectOnceStandIn
+pub mod OneLemmas

@@ -41,8 +41,8 @@ module _ {A : Type 0} (owner : A → Text) where
       → AllByRecursion (λ row. q row ≡ false) (filter (is_of d) xs)
   none_seen d s q apart within xs =
       all_weaker (λ row mine. false_from_ne_true (q row)
-        (λ e. both_ways (is_of d row) (of_other d s row (within row e) ∙ apart) mine))
-        (filter (is_of d) xs) (all_filtered (is_of d) xs)
+      (λ e. both_ways (is_of d row) (of_other d s row (within row e) ∙ apart) mine))
+      (filter (is_of d) xs) (all_filtered (is_of d) xs)
 
   pub seen_changed : (d : Text) (q : A → Bool) (f : A → A) → KeepsOwner f → (xs : List A)
       → filter (is_of d) (changed q f xs) ≡ filter (is_of d) (changed q f (filter (is_of d) xs))
@@ -70,7 +70,7 @@ module _ {A : Type 0} (owner : A → Text) where
   hidden_without d s q apart within xs =
       filter_swap (is_of d) (λ row. not (q row)) xs
       ∙ filter_all (λ row. not (q row)) (filter (is_of d) xs)
-        (all_weaker (λ row e. ap not e) (filter (is_of d) xs) (none_seen d s q apart within xs))
+      (all_weaker (λ row e. ap not e) (filter (is_of d) xs) (none_seen d s q apart within xs))
 
   pub seen_added : (d : Text) (new : A) (xs : List A)
       → filter (is_of d) (xs ++ new ∷ []) ≡ filter (is_of d) (filter (is_of d) xs ++ new ∷ [])

@@ -64,7 +64,7 @@ quiet_binds : (v : View) (n body : Text) → IsQuiet (Binds v n body)
 unfolding Binds
 quiet_binds v n body =
     quiet_of_plan _ _ _ (λ plan. quiet_some _ _ (λ count. quiet_given _ _ _ (λ b.
-      quiet_unless _ _ _ (quiet_unless _ _ _ (quiet_makes _ _ _ refl)))))
+    quiet_unless _ _ _ (quiet_unless _ _ _ (quiet_makes _ _ _ refl)))))
 
 quiet_calendars : (v : View) (n body : Text) → IsQuiet (Calendars v n body)
 unfolding Calendars
@@ -75,7 +75,7 @@ quiet_sets_lag : (v : View) (n body : Text) → IsQuiet (SetsLag v n body)
 unfolding SetsLag
 quiet_sets_lag v n body =
     quiet_of_plan _ _ _ (λ plan. quiet_given _ _ _ (λ b. quiet_by_kind _ _ _
-      (quiet_some _ _ (λ p. quiet_unless _ _ _ (quiet_makes _ _ _ refl))) (quiet_refuses _)))
+    (quiet_some _ _ (λ p. quiet_unless _ _ _ (quiet_makes _ _ _ refl))) (quiet_refuses _)))
 
 quiet_dates : (v : View) (n : Text) → IsQuiet (Dates v n)
 unfolding Dates
@@ -96,13 +96,13 @@ quiet_schedules : (v : View) (n rule : Text) → IsQuiet (Schedules v n rule)
 unfolding Schedules
 quiet_schedules v n rule =
     quiet_of_plan _ _ _ (λ plan. quiet_by_kind _ _ _
-      (quiet_of_schedule _ _ _ _ (λ i starts. quiet_shows _)) (quiet_of_shop_schedule _ _ _ _ (λ s starts. quiet_shows _)))
+    (quiet_of_schedule _ _ _ _ (λ i starts. quiet_shows _)) (quiet_of_shop_schedule _ _ _ _ (λ s starts. quiet_shows _)))
 
 quiet_charts : (v : View) (n rule : Text) → IsQuiet (Charts v n rule)
 unfolding Charts
 quiet_charts v n rule =
     quiet_of_plan _ _ _ (λ plan. quiet_by_kind _ _ _
-      (quiet_of_schedule _ _ _ _ (λ i starts. quiet_shows _)) (quiet_of_shop_schedule _ _ _ _ (λ s starts. quiet_shows _)))
+    (quiet_of_schedule _ _ _ _ (λ i starts. quiet_shows _)) (quiet_of_shop_schedule _ _ _ _ (λ s starts. quiet_shows _)))
 
 quiet_of_calendar : (plan : Plan) (IsTable : _) (IsBeyond : _) → IsQuiet (OfCalendar plan IsTable IsBeyond)
 unfolding OfCalendar
@@ -112,13 +112,13 @@ quiet_days : (v : View) (n rule : Text) → IsQuiet (Days v n rule)
 unfolding Days
 quiet_days v n rule =
     quiet_of_plan _ _ _ (λ plan. quiet_by_kind _ _ _
-      (quiet_of_schedule _ _ _ _ (λ i starts. quiet_of_calendar _ _ _)) (quiet_of_shop_schedule _ _ _ _ (λ s starts. quiet_of_calendar _ _ _)))
+    (quiet_of_schedule _ _ _ _ (λ i starts. quiet_of_calendar _ _ _)) (quiet_of_shop_schedule _ _ _ _ (λ s starts. quiet_of_calendar _ _ _)))
 
 quiet_best : (v : View) (n word : Text) → IsQuiet (Best v n word)
 unfolding Best OfProjectBest OfShopBest
 quiet_best v n word =
     quiet_of_plan _ _ _ (λ plan. quiet_by_kind _ _ _
-      (quiet_some _ _ (λ p. quiet_why_or _ _ _ _ (λ text. quiet_shows _))) (quiet_some _ _ (λ s. quiet_why_or _ _ _ _ (λ text. quiet_shows _))))
+    (quiet_some _ _ (λ p. quiet_why_or _ _ _ _ (λ text. quiet_shows _))) (quiet_some _ _ (λ s. quiet_why_or _ _ _ _ (λ text. quiet_shows _))))
 
 -- no call but that of the publishing route publishes
 pub quiet : (v : View) (call : Call) (reply : Reply) (c : Change) → is_publish call ≡ false → Answers v call reply c → is_publishing c ≡ false

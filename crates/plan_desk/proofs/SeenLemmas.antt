@@ -25,7 +25,12 @@ lag_owner row = row.desk
 pub same_view : (v u : View) → v.office ≡ u.office → v.published ≡ u.published → v.desk ≡ u.desk → v.plans ≡ u.plans
     → v.binds ≡ u.binds → v.lags ≡ u.lags → v ≡ u
 same_view v u office published desk plans binds lags = λ i. record {
-  office = office i; published = published i; desk = desk i; plans = plans i; binds = binds i; lags = lags i
+  office = office i;
+  published = published i;
+  desk = desk i;
+  plans = plans i;
+  binds = binds i;
+  lags = lags i;
 }
 
 -- an office that has the rows of a view alone is seen so
@@ -134,7 +139,7 @@ hidden_lags d s n i j lag apart xs = by_zero (cases_Bool (lag == 0))
 -- the number that a new plan gets is seen by its own desk, and no other sees the plan
 seen_plans : (d s : Text) (kind : _) (name body : Text) (w : World)
     → filter (is_plan_of d) (w.plans ++ new_plan s (next_of (desk_in w s)) kind name body ∷ [])
-      ≡ filter (is_plan_of d) (filter (is_plan_of d) w.plans ++ new_plan s (next_of (desk_in (alone (view d w)) s)) kind name body ∷ [])
+    ≡ filter (is_plan_of d) (filter (is_plan_of d) w.plans ++ new_plan s (next_of (desk_in (alone (view d w)) s)) kind name body ∷ [])
 seen_plans d s kind name body w = by_owner (cases_Bool (same_text s d))
   where
     added : ℕ → List Plan
@@ -148,7 +153,7 @@ seen_plans d s kind name body w = by_owner (cases_Bool (same_text s d))
     by_owner (inl same) =
         let e : d ≡ s = sym (text_from_same s d same) in
         let number : desk_in w s ≡ desk_in (alone (view d w)) s =
-            subst (λ t. desk_in w t ≡ desk_in (alone (view d w)) t) e (sym (find_again (is_desk d) w.desks)) in
+        subst (λ t. desk_in w t ≡ desk_in (alone (view d w)) t) e (sym (find_again (is_desk d) w.desks)) in
         seen_added plan_owner d (new_plan s (next_of (desk_in w s)) kind name body) w.plans
         ∙ ap (λ o. seen_added_in (next_of o)) number
     by_owner (inr apart) =
@@ -163,37 +168,37 @@ pub seen : (d s : Text) (c : Change) (w : World) → view d (apply s c w) ≡ vi
 seen d s Keep w = sym (view_alone d w)
 seen d s (Publish code kind capacity) w =
     same_view (view d (apply s (Publish code kind capacity) w)) (view d (apply s (Publish code kind capacity) (alone (view d w)))) refl refl
-      (sym (find_again (is_desk d) w.desks)) (sym (filter_again (is_plan_of d) w.plans))
-      (sym (filter_again (is_bind_by d) w.binds)) (sym (filter_again (is_lag_by d) w.lags))
+    (sym (find_again (is_desk d) w.desks)) (sym (filter_again (is_plan_of d) w.plans))
+    (sym (filter_again (is_bind_by d) w.binds)) (sym (filter_again (is_lag_by d) w.lags))
 seen d s (OpenDesk digest) w =
     same_view (view d (apply s (OpenDesk digest) w)) (view d (apply s (OpenDesk digest) (alone (view d w)))) refl refl
-      (seen_opened d (new_desk s digest) w.desks) (sym (filter_again (is_plan_of d) w.plans))
-      (sym (filter_again (is_bind_by d) w.binds)) (sym (filter_again (is_lag_by d) w.lags))
+    (seen_opened d (new_desk s digest) w.desks) (sym (filter_again (is_plan_of d) w.plans))
+    (sym (filter_again (is_bind_by d) w.binds)) (sym (filter_again (is_lag_by d) w.lags))
 seen d s (SetKey digest) w =
     same_view (view d (apply s (SetKey digest) w)) (view d (apply s (SetKey digest) (alone (view d w)))) refl refl
-      (seen_desks d s (with_digest digest) (λ row. refl) w.desks) (sym (filter_again (is_plan_of d) w.plans))
-      (sym (filter_again (is_bind_by d) w.binds)) (sym (filter_again (is_lag_by d) w.lags))
+    (seen_desks d s (with_digest digest) (λ row. refl) w.desks) (sym (filter_again (is_plan_of d) w.plans))
+    (sym (filter_again (is_bind_by d) w.binds)) (sym (filter_again (is_lag_by d) w.lags))
 seen d s (AddPlan kind name body) w =
     same_view (view d (apply s (AddPlan kind name body) w)) (view d (apply s (AddPlan kind name body) (alone (view d w)))) refl refl
-      (seen_desks d s risen (λ row. refl) w.desks) (seen_plans d s kind name body w)
-      (sym (filter_again (is_bind_by d) w.binds)) (sym (filter_again (is_lag_by d) w.lags))
+    (seen_desks d s risen (λ row. refl) w.desks) (seen_plans d s kind name body w)
+    (sym (filter_again (is_bind_by d) w.binds)) (sym (filter_again (is_lag_by d) w.lags))
 seen d s (RemovePlan n) w =
     same_view (view d (apply s (RemovePlan n) w)) (view d (apply s (RemovePlan n) (alone (view d w)))) refl refl
-      (sym (find_again (is_desk d) w.desks)) (seen_without plan_owner d (is_plan s n) w.plans)
-      (seen_without bind_owner d (is_bind_of s n) w.binds) (seen_without lag_owner d (is_lag_of s n) w.lags)
+    (sym (find_again (is_desk d) w.desks)) (seen_without plan_owner d (is_plan s n) w.plans)
+    (seen_without bind_owner d (is_bind_of s n) w.binds) (seen_without lag_owner d (is_lag_of s n) w.lags)
 seen d s (BindPlace n place code) w =
     same_view (view d (apply s (BindPlace n place code) w)) (view d (apply s (BindPlace n place code) (alone (view d w)))) refl refl
-      (sym (find_again (is_desk d) w.desks)) (sym (filter_again (is_plan_of d) w.plans))
-      (seen_put bind_owner d s (is_bind s n place) (with_code code) (new_bind s n place code) (λ row. refl) (bind_within s n place) refl w.binds)
-      (sym (filter_again (is_lag_by d) w.lags))
+    (sym (find_again (is_desk d) w.desks)) (sym (filter_again (is_plan_of d) w.plans))
+    (seen_put bind_owner d s (is_bind s n place) (with_code code) (new_bind s n place code) (λ row. refl) (bind_within s n place) refl w.binds)
+    (sym (filter_again (is_lag_by d) w.lags))
 seen d s (SetCalendar n start days) w =
     same_view (view d (apply s (SetCalendar n start days) w)) (view d (apply s (SetCalendar n start days) (alone (view d w)))) refl refl
-      (sym (find_again (is_desk d) w.desks)) (seen_changed plan_owner d (is_plan s n) (with_calendar start days) (λ row. refl) w.plans)
-      (sym (filter_again (is_bind_by d) w.binds)) (sym (filter_again (is_lag_by d) w.lags))
+    (sym (find_again (is_desk d) w.desks)) (seen_changed plan_owner d (is_plan s n) (with_calendar start days) (λ row. refl) w.plans)
+    (sym (filter_again (is_bind_by d) w.binds)) (sym (filter_again (is_lag_by d) w.lags))
 seen d s (SetLag n i j lag) w =
     same_view (view d (apply s (SetLag n i j lag) w)) (view d (apply s (SetLag n i j lag) (alone (view d w)))) refl refl
-      (sym (find_again (is_desk d) w.desks)) (sym (filter_again (is_plan_of d) w.plans))
-      (sym (filter_again (is_bind_by d) w.binds)) (seen_lags d s n i j lag w.lags)
+    (sym (find_again (is_desk d) w.desks)) (sym (filter_again (is_plan_of d) w.plans))
+    (sym (filter_again (is_bind_by d) w.binds)) (seen_lags d s n i j lag w.lags)
 
 -- a change that is made for another desk, and publishes nothing, is not seen
 pub hidden : (d s : Text) (c : Change) (w : World) → same_text s d ≡ false → is_publishing c ≡ false → view d (apply s c w) ≡ view d w
@@ -201,24 +206,24 @@ hidden d s Keep w apart quiet = refl
 hidden d s (Publish code kind capacity) w apart quiet = absurd (both_ways true quiet refl)
 hidden d s (OpenDesk digest) w apart quiet =
     same_view (view d (apply s (OpenDesk digest) w)) (view d w) refl refl
-      (find_past_new (is_desk d) (new_desk s digest) apart w.desks) refl refl refl
+    (find_past_new (is_desk d) (new_desk s digest) apart w.desks) refl refl refl
 hidden d s (SetKey digest) w apart quiet =
     same_view (view d (apply s (SetKey digest) w)) (view d w) refl refl
-      (hidden_desks d s (with_digest digest) (λ row. refl) apart w.desks) refl refl refl
+    (hidden_desks d s (with_digest digest) (λ row. refl) apart w.desks) refl refl refl
 hidden d s (AddPlan kind name body) w apart quiet =
     same_view (view d (apply s (AddPlan kind name body) w)) (view d w) refl refl
-      (hidden_desks d s risen (λ row. refl) apart w.desks)
-      (hidden_added plan_owner d (new_plan s (next_of (desk_in w s)) kind name body) apart w.plans) refl refl
+    (hidden_desks d s risen (λ row. refl) apart w.desks)
+    (hidden_added plan_owner d (new_plan s (next_of (desk_in w s)) kind name body) apart w.plans) refl refl
 hidden d s (RemovePlan n) w apart quiet =
     same_view (view d (apply s (RemovePlan n) w)) (view d w) refl refl refl
-      (hidden_without plan_owner d s (is_plan s n) apart (plan_within s n) w.plans)
-      (hidden_without bind_owner d s (is_bind_of s n) apart (binds_within s n) w.binds)
-      (hidden_without lag_owner d s (is_lag_of s n) apart (lags_within s n) w.lags)
+    (hidden_without plan_owner d s (is_plan s n) apart (plan_within s n) w.plans)
+    (hidden_without bind_owner d s (is_bind_of s n) apart (binds_within s n) w.binds)
+    (hidden_without lag_owner d s (is_lag_of s n) apart (lags_within s n) w.lags)
 hidden d s (BindPlace n place code) w apart quiet =
     same_view (view d (apply s (BindPlace n place code) w)) (view d w) refl refl refl refl
-      (hidden_put bind_owner d s (is_bind s n place) (with_code code) (new_bind s n place code) (λ row. refl) apart (bind_within s n place) refl w.binds) refl
+    (hidden_put bind_owner d s (is_bind s n place) (with_code code) (new_bind s n place code) (λ row. refl) apart (bind_within s n place) refl w.binds) refl
 hidden d s (SetCalendar n start days) w apart quiet =
     same_view (view d (apply s (SetCalendar n start days) w)) (view d w) refl refl refl
-      (hidden_changed plan_owner d s (is_plan s n) (with_calendar start days) (λ row. refl) apart (plan_within s n) w.plans) refl refl
+    (hidden_changed plan_owner d s (is_plan s n) (with_calendar start days) (λ row. refl) apart (plan_within s n) w.plans) refl refl
 hidden d s (SetLag n i j lag) w apart quiet =
     same_view (view d (apply s (SetLag n i j lag) w)) (view d w) refl refl refl refl refl (hidden_lags d s n i j lag apart w.lags)

@@ -94,8 +94,8 @@ module _ {Answers : View → Call → Reply → Change → Type 0} (keeps : Keep
   publishes_alike v u key body office published reply c h =
       let r : Request = record { key = key; call = publish body } in
       let mapped : decided (admits v r) (Answers u (publish body)) reply c =
-          decided_map (admits v r) (Answers v (publish body)) (Answers u (publish body))
-            (λ a b given. keeps.frugal v u body a b published given) reply c h in
+      decided_map (admits v r) (Answers v (publish body)) (Answers u (publish body))
+      (λ a b given. keeps.frugal v u body a b published given) reply c h in
       subst (λ b. decided b (Answers u (publish body)) reply c) (ap (λ o. admits (record v { office = o }) r) office) mapped
 
   -- a step on a request that belongs to a desk, in an office that has the rows of its view alone
@@ -110,7 +110,7 @@ module _ {Answers : View → Call → Reply → Change → Type 0} (keeps : Keep
   alike_publish d w key body reply after (c, h, e) = record {
     other = apply [] c (alone (view d w));
     step = (c, publishes_alike (view [] w) (view [] (alone (view d w))) key body refl refl reply c h, refl);
-    alike = ap (view d) e ∙ seen d [] c w
+    alike = ap (view d) e ∙ seen d [] c w;
   }
 
   alike_named : (d : Text) (w : World) (r : Request) (reply : Reply) (after : World) → subject r ≡ d
@@ -119,10 +119,14 @@ module _ {Answers : View → Call → Reply → Change → Type 0} (keeps : Keep
       let s : Text = subject r in
       record {
         other = apply s c (alone (view d w));
-        step = (c, subst (λ t. IsDecided Answers (view t (alone (view d w))) r reply c) (sym named)
-            (subst (λ v. IsDecided Answers v r reply c) (sym (view_alone d w))
-              (subst (λ t. IsDecided Answers (view t w) r reply c) named h)), refl);
-        alike = ap (view d) e ∙ seen d s c w
+        step = (
+          c,
+          subst (λ t. IsDecided Answers (view t (alone (view d w))) r reply c) (sym named)
+              (subst (λ v. IsDecided Answers v r reply c) (sym (view_alone d w))
+              (subst (λ t. IsDecided Answers (view t w) r reply c) named h)),
+          refl,
+        );
+        alike = ap (view d) e ∙ seen d s c w;
       }
 
   -- a request that belongs to a desk is answered as in an office that has the rows of its view alone
@@ -134,7 +138,7 @@ module _ {Answers : View → Call → Reply → Change → Type 0} (keeps : Keep
       by_concern (inl published) =
           let p : (body : Text) × (r.call ≡ publish body) = publish_only r.call published in
           subst (λ call. IsStep Answers w (record { key = r.key; call = call }) reply after → IsAlike d w (record { key = r.key; call = call }) reply after)
-            (sym p.1) (alike_publish d w r.key p.0 reply after) step
+          (sym p.1) (alike_publish d w r.key p.0 reply after) step
       by_concern (inr named) = alike_named d w r reply after (named_desk d (desk_of r.call) named) step
 
   -- a request that a desk isn't concerned with isn't seen by it
@@ -153,10 +157,10 @@ module _ {Answers : View → Call → Reply → Change → Type 0} (keeps : Keep
           by_body (inl p) = absurd (both_ways (is_publish r.call) parts.0 p)
           by_body (inr (body, is, nothing)) =
               ap (λ b. view d (apply (subject r) b w))
-                (keeps.nameless (view (subject r) w) body reply c nothing (subst (λ call. Answers (view (subject r) w) call reply c) is h))
+              (keeps.nameless (view (subject r) w) body reply c nothing (subst (λ call. Answers (view (subject r) w) call reply c) is h))
       by_desk (Some t) e =
           subst (λ s. view d (apply s c w) ≡ view d w) (sym (ap (λ o. unwrap_or o []) e))
-            (hidden d t c w (sym (ap (names d) e) ∙ parts.1) (keeps.quiet (view (subject r) w) r.call reply c parts.0 h))
+          (hidden d t c w (sym (ap (names d) e) ∙ parts.1) (keeps.quiet (view (subject r) w) r.call reply c parts.0 h))
 
   -- what the key of an admitted request opens, it opens in the view of each desk that it concerns
   admitted_alike : (d : Text) (w : World) (r : Request) → concerns d r.call ≡ true → admits (view (subject r) w) r ≡ admits (view d w) r
@@ -165,7 +169,7 @@ module _ {Answers : View → Call → Reply → Change → Type 0} (keeps : Keep
       by_concern : (is_publish r.call ≡ true) ⊎ (names d (desk_of r.call) ≡ true) → admits (view (subject r) w) r ≡ admits (view d w) r
       by_concern (inl published) =
           subst (λ call. admits (view (subject (record { key = r.key; call = call })) w) (record { key = r.key; call = call }) ≡ admits (view d w) (record { key = r.key; call = call }))
-            (sym (publish_only r.call published).1) refl
+          (sym (publish_only r.call published).1) refl
       by_concern (inr named) = ap (λ t. admits (view t w) r) (named_desk d (desk_of r.call) named)
 
   -- a request that doesn't belong to a desk leaves what it sees
@@ -182,17 +186,17 @@ module _ {Answers : View → Call → Reply → Change → Type 0} (keeps : Keep
           by_concern : (concerns d r.call ≡ true) ⊎ (concerns d r.call ≡ false) → view d (apply (subject r) c w) ≡ view d w
           by_concern (inl concerned) =
               absurd (both_ways (belongs d (view d w) r) outside
-                (grind (arith, concerned, unlocked, admitted_alike d w r concerned)))
+              (grind (arith, concerned, unlocked, admitted_alike d w r concerned)))
           by_concern (inr apart) =
               unconcerned d w r reply c apart
-                (decided_rest (admits (view (subject r) w) r) (Answers (view (subject r) w) r.call) reply c unlocked h)
+              (decided_rest (admits (view (subject r) w) r) (Answers (view (subject r) w) r.call) reply c unlocked h)
 
   -- one step for each request
   pub step_once : (w : World) (r : Request) (reply other : Reply) (after behind : World)
       → IsStep Answers w r reply after → IsStep Answers w r other behind → (reply ≡ other) × (after ≡ behind)
   step_once w r reply other after behind (c, h, e) (b, k, f) =
       let same : (reply ≡ other) × (c ≡ b) =
-          decided_once (admits (view (subject r) w) r) (Answers (view (subject r) w) r.call) (keeps.one (view (subject r) w) r.call) reply other c b h k in
+      decided_once (admits (view (subject r) w) r) (Answers (view (subject r) w) r.call) (keeps.one (view (subject r) w) r.call) reply other c b h k in
       (same.0, e ∙ ap (λ x. apply (subject r) x w) same.1 ∙ sym f)
 
   -- in every run of real steps a desk is told what its story is told in an office with the rows of
@@ -226,7 +230,7 @@ module _ {Answers : View → Call → Reply → Change → Type 0} (keeps : Keep
     where
       passed : ((story : List Request) × (given : List Reply) × IsStoryOf Answers d v requests replies story given) ⊎ IsWanting Answers d v requests replies
           → ((story : List Request) × (given : List Reply) × IsStoryOf Answers d v (r ∷ requests) (reply ∷ replies) story given)
-            ⊎ IsWanting Answers d v (r ∷ requests) (reply ∷ replies)
+          ⊎ IsWanting Answers d v (r ∷ requests) (reply ∷ replies)
       passed (inl (story, given, is)) = inl (story, given, inl (outside, is))
       passed (inr want) = inr (inl (outside, want))
   story_or_want d v (r ∷ requests) (reply ∷ replies) (inr (inside, inl want)) = inr (inr (inside, inl want))
@@ -234,7 +238,7 @@ module _ {Answers : View → Call → Reply → Change → Type 0} (keeps : Keep
     where
       passed : ((story : List Request) × (given : List Reply) × IsStoryOf Answers d (view d after) requests replies story given) ⊎ IsWanting Answers d (view d after) requests replies
           → ((story : List Request) × (given : List Reply) × IsStoryOf Answers d v (r ∷ requests) (reply ∷ replies) story given)
-            ⊎ IsWanting Answers d v (r ∷ requests) (reply ∷ replies)
+          ⊎ IsWanting Answers d v (r ∷ requests) (reply ∷ replies)
       passed (inl (story, given, is)) = inl (r ∷ story, reply ∷ given, inr (inside, (story, given, refl, refl, (after, step, is))))
       passed (inr want) = inr (inr (inside, inr (after, step, want)))
 
@@ -260,11 +264,11 @@ module _ {Answers : View → Call → Reply → Change → Type 0} (keeps : Keep
   meet d v r reply after more others xs step e behind (o ∷ requests) (given ∷ replies) ys (inr (inside, (more2, others2, f, g, (after2, step2, rest)))) =
       let same : r ≡ o = head_of_cons r o more more2 f in
       let once : (reply ≡ given) × (after ≡ after2) =
-          step_once (alone v) r reply given after after2 step (subst (λ q. IsStep Answers (alone v) q given after2) (sym same) step2) in
+      step_once (alone v) r reply given after after2 step (subst (λ q. IsStep Answers (alone v) q given after2) (sym same) step2) in
       let tails : others ≡ others2 =
-          behind requests replies others2
-            (subst (λ l. IsStoryOf Answers d (view d after) requests replies l others2) (sym (tail_of_cons r o more more2 f))
-              (subst (λ w. IsStoryOf Answers d (view d w) requests replies more2 others2) (sym once.1) rest)) in
+      behind requests replies others2
+      (subst (λ l. IsStoryOf Answers d (view d after) requests replies l others2) (sym (tail_of_cons r o more more2 f))
+      (subst (λ w. IsStoryOf Answers d (view d w) requests replies more2 others2) (sym once.1) rest)) in
       e ∙ ap (λ a. a ∷ others) once.0 ∙ ap (λ l. given ∷ l) tails ∙ sym g
 
   -- the story of a view is told one thing
@@ -279,5 +283,5 @@ module _ {Answers : View → Call → Reply → Change → Type 0} (keeps : Keep
       told_alike d v requests replies story xs h others answers ys k
   told_alike d v (r ∷ requests) (reply ∷ replies) story xs (inr (inside, (more, given, e, f, (after, step, rest)))) others answers ys k =
       meet d v r reply after more given xs step f
-        (λ rs bs zs l. told_alike d (view d after) requests replies more given rest rs bs zs l)
-        others answers ys (subst (λ l. IsStoryOf Answers d v others answers l ys) e k)
+      (λ rs bs zs l. told_alike d (view d after) requests replies more given rest rs bs zs l)
+      others answers ys (subst (λ l. IsStoryOf Answers d v others answers l ys) e k)

@@ -29,8 +29,8 @@ TellsNoProjectBest word i line =
 -- the best schedule of a project within the budget that a word spells, or why it isn't searched
 unfoldable pub OfProjectBest : View → Plan → Text → Outcome
 OfProjectBest v plan word = some (IsProjectOf v plan) (λ p.
-  why_or (TellsNoProjectBest word (bound_project v plan p)) bad_schedule
-    (λ text. NeedsFit (problem_of (bound_project v plan p)) × IsProjectBestTextOf word (bound_project v plan p) text)
+    why_or (TellsNoProjectBest word (bound_project v plan p)) bad_schedule
+    (IsProjectBestTextOf word (bound_project v plan p))
     (λ text. shows (λ shown. shown ≡ text)))
 
 -- a line tells why a shop isn't searched: a machine in use is closed, else it is too large, else a
@@ -42,7 +42,7 @@ TellsNoShopBest word s usable line =
 -- the best schedule of a shop within the budget that a word spells, or why it isn't searched
 unfoldable pub OfShopBest : View → Plan → Text → Outcome
 OfShopBest v plan word = some (IsShopOf plan) (λ s.
-  why_or (TellsNoShopBest word s (open_machines v plan.n s.machines)) bad_schedule
+    why_or (TellsNoShopBest word s (open_machines v plan.n s.machines)) bad_schedule
     (λ text. NoneIsClosed s.steps (open_machines v plan.n s.machines) × IsBestTextOf word s text)
     (λ text. shows (λ shown. shown ≡ text)))
 

@@ -27,7 +27,7 @@ text_in passes name value = option_and_then (passing passes) (option_and_then as
 abbrev pub number_in : (ℕ → Bool) → Text → Data → Option ℕ
 number_in passes name value =
     option_and_then (passing passes)
-      (option_and_then as_u64 (option_and_then as_number (get name value)))
+    (option_and_then as_u64 (option_and_then as_number (get name value)))
 
 abbrev pub any_text : Text → Bool
 any_text text = true
@@ -47,9 +47,9 @@ pub record PublishBody : Type 0 where
 abbrev pub publish_members : Data → Option PublishBody
 publish_members value =
     option_and_then (λ code. option_and_then (λ kind. option_map
-        (λ capacity. record { code = code; kind = kind; capacity = capacity })
-        (number_in (λ n. nat_le n 10000) (codes "capacity") value))
-      (option_and_then kind_named (text_in any_text (codes "kind") value)))
+    (λ capacity. record { code = code; kind = kind; capacity = capacity })
+    (number_in (λ n. nat_le n 10000) (codes "capacity") value))
+    (option_and_then kind_named (text_in any_text (codes "kind") value)))
     (text_in is_name (codes "code") value)
 
 unfoldable pub publish_body : Text → Option PublishBody
@@ -63,9 +63,9 @@ pub record DeskBody : Type 0 where
 abbrev pub desk_members : Data → Option DeskBody
 desk_members value =
     option_and_then
-      (λ desk. option_map (λ key. record { desk = desk; key = key })
-        (text_in is_key (codes "key") value))
-      (text_in is_name (codes "desk") value)
+    (λ desk. option_map (λ key. record { desk = desk; key = key })
+    (text_in is_key (codes "key") value))
+    (text_in is_name (codes "desk") value)
 
 unfoldable pub desk_body : Text → Option DeskBody
 desk_body body = option_and_then desk_members (json body)
@@ -86,9 +86,9 @@ pub record BindBody : Type 0 where
 abbrev pub bind_members : (ℕ → Bool) → Data → Option BindBody
 bind_members is_place value =
     option_and_then
-      (λ code. option_map (λ place. record { code = code; place = place })
-        (number_in is_place (codes "place") value))
-      (text_in is_name (codes "code") value)
+    (λ code. option_map (λ place. record { code = code; place = place })
+    (number_in is_place (codes "place") value))
+    (text_in is_name (codes "code") value)
 
 -- the place has to be one of the plan
 unfoldable pub bind_body : (ℕ → Bool) → Text → Option BindBody
@@ -102,9 +102,9 @@ pub record CalendarBody : Type 0 where
 abbrev pub calendar_members : Data → Option CalendarBody
 calendar_members value =
     option_and_then
-      (λ start. option_map (λ days. record { start = start; days = days })
-        (text_in any_text (codes "days") value))
-      (text_in any_text (codes "start") value)
+    (λ start. option_map (λ days. record { start = start; days = days })
+    (text_in any_text (codes "days") value))
+    (text_in any_text (codes "start") value)
 
 unfoldable pub calendar_body : Text → Option CalendarBody
 calendar_body body = option_and_then calendar_members (json body)
@@ -118,9 +118,9 @@ pub record LagBody : Type 0 where
 abbrev pub lag_members : Data → Option LagBody
 lag_members value =
     option_and_then (λ source. option_and_then (λ target. option_map
-        (λ lag. record { source = source; target = target; lag = lag })
-        (number_in (λ n. nat_le n 10000) (codes "lag") value))
-      (number_in (is_from_to 1 502) (codes "to") value))
+    (λ lag. record { source = source; target = target; lag = lag })
+    (number_in (λ n. nat_le n 10000) (codes "lag") value))
+    (number_in (is_from_to 1 502) (codes "to") value))
     (number_in (is_from_to 1 502) (codes "from") value)
 
 unfoldable pub lag_body : Text → Option LagBody

@@ -85,7 +85,7 @@ apply desk Keep w = w
 -- a known code gets the capacity, and a new one a row
 apply desk (Publish code kind capacity) w =
     record w {
-      published = put (is_code code) (with_capacity capacity) (new_code code kind capacity) w.published
+      published = put (is_code code) (with_capacity capacity) (new_code code kind capacity) w.published;
     }
 apply desk (OpenDesk digest) w = record w { desks = w.desks ++ new_desk desk digest ∷ [] }
 apply desk (SetKey digest) w =
@@ -94,18 +94,18 @@ apply desk (SetKey digest) w =
 apply desk (AddPlan kind name body) w =
     record w {
       desks = changed (is_desk desk) risen w.desks;
-      plans = w.plans ++ new_plan desk (next_of (desk_in w desk)) kind name body ∷ []
+      plans = w.plans ++ new_plan desk (next_of (desk_in w desk)) kind name body ∷ [];
     }
 -- a plan goes with its binds and lags
 apply desk (RemovePlan n) w =
     record w {
       plans = without (is_plan desk n) w.plans;
       binds = without (is_bind_of desk n) w.binds;
-      lags = without (is_lag_of desk n) w.lags
+      lags = without (is_lag_of desk n) w.lags;
     }
 apply desk (BindPlace n place code) w =
     record w {
-      binds = put (is_bind desk n place) (with_code code) (new_bind desk n place code) w.binds
+      binds = put (is_bind desk n place) (with_code code) (new_bind desk n place code) w.binds;
     }
 apply desk (SetCalendar n start days) w =
     record w { plans = changed (is_plan desk n) (with_calendar start days) w.plans }

@@ -19,15 +19,15 @@ is_other_kind kind (Some row) = not (same_kind row.kind kind)
 -- a code is published, or published anew with its kind
 unfoldable pub Publishes : List Published → Text → Outcome
 Publishes rows body = given (publish_body body) bad_body (λ b.
-  unless (is_other_kind b.kind (code_in rows b.code)) kind_differs
-  (makes 200 (code_text b.code b.kind b.capacity) (Publish b.code b.kind b.capacity)))
+    unless (is_other_kind b.kind (code_in rows b.code)) kind_differs
+    (makes 200 (code_text b.code b.kind b.capacity) (Publish b.code b.kind b.capacity)))
 
 -- a desk is opened, unless it is there; the view is that of the desk that the body names
 unfoldable pub Opens : View → Text → Outcome
 Opens v body = given (desk_body body) bad_body (λ b.
-  unless (is_some v.desk) desk_exists (makes 201 (desk_text b.desk) (OpenDesk (sha256 b.key))))
+    unless (is_some v.desk) desk_exists (makes 201 (desk_text b.desk) (OpenDesk (sha256 b.key))))
 
 -- a desk that is there gets another key
 unfoldable pub SetsKey : View → Text → Text → Outcome
 SetsKey v desk body = unless (not (is_some v.desk)) not_found
-  (given (key_body body) bad_body (λ key. makes 200 (desk_text desk) (SetKey (sha256 key))))
+    (given (key_body body) bad_body (λ key. makes 200 (desk_text desk) (SetKey (sha256 key))))

@@ -4,7 +4,7 @@
 -- to its resources; a shop with the machines that are open.
 use Rattle.std.specs.Prelude.{◌≡◌, ◌⊎◌, ℕ, ◌<◌, Bool, true, List, [], length, nat_eq}
 use Rattle.plan_psplib.specs.Project.{Project}
-use Rattle.plan_sgs.specs.Problem.{NeedsFit, makespan}
+use Rattle.plan_sgs.specs.Problem.{makespan}
 use Rattle.plan_sgs.specs.Instances.{Planned, problem_of}
 use Rattle.plan_sgs.specs.Instances as instances
 use Rattle.plan_sgs.specs.Keys.{word_of}
@@ -41,8 +41,8 @@ use Rattle.plan_desk.specs.Refusals.{other_kind, bad_schedule, bad_calendar}
 -- the dates of a project without regard to its resources
 unfoldable pub Dates : View → Text → Outcome
 Dates v n = of_plan v n (λ plan. by_kind plan.kind
-  (some (IsProjectOf v plan) (λ p. shows (IsDateText p.network)))
-  (refuses other_kind))
+    (some (IsProjectOf v plan) (λ p. shows (IsDateText p.network)))
+    (refuses other_kind))
 
 -- the starts are those of the active schedule of an instance by the rule of a name
 pub record IsScheduleBy (i : Planned) (name : Text) (starts : List ℕ) : Type 0 where
@@ -54,8 +54,8 @@ pub record IsScheduleBy (i : Planned) (name : Text) (starts : List ℕ) : Type 0
 -- else a name that is no rule's
 unfoldable pub OfSchedule : View → Plan → Text → (Planned → List ℕ → Outcome) → Outcome
 OfSchedule v plan rule Rest = some (IsProjectOf v plan) (λ p.
-  why_or (TellsRefusal rule (bound_project v plan p)) bad_schedule
-    (λ starts. NeedsFit (problem_of (bound_project v plan p)) × IsScheduleBy (bound_project v plan p) rule starts)
+    why_or (TellsRefusal rule (bound_project v plan p)) bad_schedule
+    (IsScheduleBy (bound_project v plan p) rule)
     (Rest (bound_project v plan p)))
 
 -- a line tells which machine in use is closed
@@ -82,23 +82,23 @@ pub record IsShopScheduleBy (s : JobShop) (usable : List Bool) (name : Text) (st
 -- the schedule of a shop by the rule of a name, or why there is none
 unfoldable pub OfShopSchedule : View → Plan → Text → (JobShop → List ℕ → Outcome) → Outcome
 OfShopSchedule v plan rule Rest = some (IsShopOf plan) (λ s.
-  why_or (TellsShopRefusal rule s (open_machines v plan.n s.machines)) bad_schedule
+    why_or (TellsShopRefusal rule s (open_machines v plan.n s.machines)) bad_schedule
     (IsShopScheduleBy s (open_machines v plan.n s.machines) rule) (Rest s))
 
 -- the table of a schedule
 unfoldable pub Schedules : View → Text → Text → Outcome
 Schedules v n rule = of_plan v n (λ plan. by_kind plan.kind
-  (OfSchedule v plan rule (λ i starts. shows (λ text.
+    (OfSchedule v plan rule (λ i starts. shows (λ text.
     text ≡ schedule_table_text i.project.network starts (makespan (problem_of i) starts))))
-  (OfShopSchedule v plan rule (λ s starts. shows (λ text.
+    (OfShopSchedule v plan rule (λ s starts. shows (λ text.
     text ≡ shop_table_text s starts (makespan (shops.problem_of s) starts)))))
 
 -- the chart of a schedule: a line for each activity from 1 on, or for each machine from 0 on
 unfoldable pub Charts : View → Text → Text → Outcome
 Charts v n rule = of_plan v n (λ plan. by_kind plan.kind
-  (OfSchedule v plan rule (λ i starts. shows (λ text.
+    (OfSchedule v plan rule (λ i starts. shows (λ text.
     text ≡ chart_text (makespan (problem_of i) starts) (activity_intervals i.project.network starts) 1 (length i.project.network.durations))))
-  (OfShopSchedule v plan rule (λ s starts. shows (λ text.
+    (OfShopSchedule v plan rule (λ s starts. shows (λ text.
     text ≡ chart_text (makespan (shops.problem_of s) starts) (machine_intervals s starts) 0 s.machines))))
 
 -- a day that is to be shown is beyond the calendar, which is told by one line
@@ -115,14 +115,14 @@ ShowsDays IsTable start days text = (c : Workdays) × IsCalendar start days c ×
 -- day that is to be shown is beyond it
 unfoldable pub OfCalendar : Plan → (Workdays → Text → Type 0) → (Workdays → Type 0) → Outcome
 OfCalendar plan IsTable IsBeyond =
-  unless (nat_eq (length plan.start) 0) (bad_calendar missing_calendar_text)
-  (why_or (TellsBeyond IsBeyond plan.start plan.days) bad_calendar
+    unless (nat_eq (length plan.start) 0) (bad_calendar missing_calendar_text)
+    (why_or (TellsBeyond IsBeyond plan.start plan.days) bad_calendar
     (ShowsDays IsTable plan.start plan.days) (λ text. shows (λ shown. shown ≡ text)))
 
 -- the working days of a schedule
 unfoldable pub Days : View → Text → Text → Outcome
 Days v n rule = of_plan v n (λ plan. by_kind plan.kind
-  (OfSchedule v plan rule (λ i starts.
+    (OfSchedule v plan rule (λ i starts.
     OfCalendar plan (λ c. IsCalendarTable c i.project.network starts) (λ c. HasActivityBeyond c i.project.network starts)))
-  (OfShopSchedule v plan rule (λ s starts.
+    (OfShopSchedule v plan rule (λ s starts.
     OfCalendar plan (λ c. IsShopCalendarTable c s starts) (λ c. HasStepBeyond c s starts))))

@@ -37,9 +37,9 @@ by_kind kinds.Shop OfProject OfShop = OfShop
 -- a file is kept as a plan with the desk's next number, or the first check that it fails is told
 unfoldable pub Imports : {A : Type 0} → View → PlanKind → Text → Text → (Text → Type 0) → (A → Type 0) → Outcome
 Imports v kind name body Tells Reads = given v.desk not_found (λ row.
-  unless (nat_le 100 (length v.plans)) many_plans
-  (unless (nat_le 1000001 row.next) numbers_spent
-  (why_or Tells bad_file Reads (λ read. makes 201 (plan_text row.next kind) (AddPlan kind name body)))))
+    unless (nat_le 100 (length v.plans)) many_plans
+    (unless (nat_le 1000001 row.next) numbers_spent
+    (why_or Tells bad_file Reads (λ read. makes 201 (plan_text row.next kind) (AddPlan kind name body)))))
 
 -- the project of a PSPLIB text
 unfoldable pub ImportsProject : View → Text → Outcome
@@ -56,10 +56,10 @@ Removes v n = of_plan v n (λ plan. makes 200 (number_text plan.n) (RemovePlan p
 -- a published code of the right kind is bound to a place of a plan
 unfoldable pub Binds : View → Text → Text → Outcome
 Binds v n body = of_plan v n (λ plan. some (HasPlaces plan.kind plan.name plan.body) (λ count.
-  given (bind_body (is_place plan.kind count) body) bad_body (λ b.
-  unless (not (is_some (code_in v.published b.code))) unpublished
-  (unless (is_other_kind (takes plan.kind) (code_in v.published b.code)) kind_differs
-  (makes 200 (bind_text b.code b.place) (BindPlace plan.n b.place b.code))))))
+    given (bind_body (is_place plan.kind count) body) bad_body (λ b.
+    unless (not (is_some (code_in v.published b.code))) unpublished
+    (unless (is_other_kind (takes plan.kind) (code_in v.published b.code)) kind_differs
+    (makes 200 (bind_text b.code b.place) (BindPlace plan.n b.place b.code))))))
 
 -- a line tells what the texts of a calendar are refused for
 abbrev pub TellsTexts : Text → Text → Text → Type 0
@@ -69,7 +69,7 @@ TellsTexts start marks line =
 -- a plan gets a calendar
 unfoldable pub Calendars : View → Text → Text → Outcome
 Calendars v n body = of_plan v n (λ plan. given (calendar_body body) bad_body (λ b.
-  why_or (TellsTexts b.start b.days) bad_calendar (IsCalendar b.start b.days)
+    why_or (TellsTexts b.start b.days) bad_calendar (IsCalendar b.start b.days)
     (λ c. makes 200 (calendar_text b.start b.days) (SetCalendar plan.n b.start b.days))))
 
 -- the network has the arc
@@ -79,8 +79,8 @@ has_arc net source target = list_any (λ arc. joins arc source target) net.arcs
 -- an arc of a project gets a lag
 unfoldable pub SetsLag : View → Text → Text → Outcome
 SetsLag v n body = of_plan v n (λ plan. given (lag_body body) bad_body (λ b.
-  by_kind plan.kind
+    by_kind plan.kind
     (some (files.SaysProject plan.body) (λ p.
-      unless (not (has_arc p.network b.source b.target)) bad_body
-      (makes 200 (lag_text b.source b.target b.lag) (SetLag plan.n b.source b.target b.lag))))
+    unless (not (has_arc p.network b.source b.target)) bad_body
+    (makes 200 (lag_text b.source b.target b.lag) (SetLag plan.n b.source b.target b.lag))))
     (refuses other_kind)))

@@ -59,7 +59,7 @@ module _ (Answers : View → Call → Reply → Change → Type 0) where
   AreTold desk v (r ∷ requests) (reply ∷ replies) =
       ((belongs desk v r ≡ false) × AreTold desk v requests replies)
       ⊎ ((belongs desk v r ≡ true) × (IsWant reply ⊎ ((after : World)
-          × IsStep (alone v) r reply after × AreTold desk (view desk after) requests replies)))
+      × IsStep (alone v) r reply after × AreTold desk (view desk after) requests replies)))
   AreTold desk v requests replies = ⊥
 
   -- the requests of a list that belong to a desk, each judged in the view that the earlier ones of
@@ -69,9 +69,9 @@ module _ (Answers : View → Call → Reply → Change → Type 0) where
   IsStoryOf desk v (r ∷ requests) (reply ∷ replies) story told =
       ((belongs desk v r ≡ false) × IsStoryOf desk v requests replies story told)
       ⊎ ((belongs desk v r ≡ true) × ((more : List Request) × (others : List Reply)
-          × (story ≡ r ∷ more) × (told ≡ reply ∷ others) × ((after : World)
-          × IsStep (alone v) r reply after
-          × IsStoryOf desk (view desk after) requests replies more others)))
+      × (story ≡ r ∷ more) × (told ≡ reply ∷ others) × ((after : World)
+      × IsStep (alone v) r reply after
+      × IsStoryOf desk (view desk after) requests replies more others)))
   IsStoryOf desk v requests replies story told = ⊥
 
   -- a request of the desk's story was answered for want
@@ -79,7 +79,7 @@ module _ (Answers : View → Call → Reply → Change → Type 0) where
   IsWanting desk v (r ∷ requests) (reply ∷ replies) =
       ((belongs desk v r ≡ false) × IsWanting desk v requests replies)
       ⊎ ((belongs desk v r ≡ true) × (IsWant reply ⊎ ((after : World)
-          × IsStep (alone v) r reply after × IsWanting desk (view desk after) requests replies)))
+      × IsStep (alone v) r reply after × IsWanting desk (view desk after) requests replies)))
   IsWanting desk v requests replies = ⊥
 
   -- What a crash may leave after a request: after an accepted command the world after it alone;
@@ -88,7 +88,7 @@ module _ (Answers : View → Call → Reply → Change → Type 0) where
   abbrev pub LeavesAfter : (Option World → Type 0) → World → Request → Reply → Option World → Type 0
   LeavesAfter might w r reply left =
       ((is_accepted r reply ≡ true)
-        × ((after : World) × IsStep w r reply after × (left ≡ Some after)))
+      × ((after : World) × IsStep w r reply after × (left ≡ Some after)))
       ⊎ ((is_accepted r reply ≡ false)
-        × (might left ⊎ (IsWant reply × (writes r.call ≡ true) × ((other : Reply)
-          × (after : World) × IsStep w r other after × (left ≡ Some after)))))
+      × (might left ⊎ (IsWant reply × (writes r.call ≡ true) × ((other : Reply)
+      × (after : World) × IsStep w r other after × (left ≡ Some after)))))

@@ -19,7 +19,7 @@ view desk w = record {
   desk = desk_in w desk;
   plans = filter (is_plan_of desk) w.plans;
   binds = filter (is_bind_by desk) w.binds;
-  lags = filter (is_lag_by desk) w.lags
+  lags = filter (is_lag_by desk) w.lags;
 }
 
 -- the office that has the rows of the view and no others
@@ -30,7 +30,7 @@ alone v = record {
   desks = option_to_list v.desk;
   plans = v.plans;
   binds = v.binds;
-  lags = v.lags
+  lags = v.lags;
 }
 
 -- two views have the same rows, in whatever order each was written
