@@ -30,15 +30,15 @@ decided_map true R Q f reply c h = f reply c h
 decided_map false R Q f reply c h = h
 
 -- a request that isn't admitted changes nothing
-decided_keeps : (b : Bool) (R : Reply → Change → Type 0) (reply : Reply) (c : Change) → b ≡ false → decided b R reply c → c ≡ Keep
+pub decided_keeps : (b : Bool) (R : Reply → Change → Type 0) (reply : Reply) (c : Change) → b ≡ false → decided b R reply c → c ≡ Keep
 decided_keeps true R reply c e h = absurd (both_ways true e refl)
 decided_keeps false R reply c e h = h.1
 
-decided_rest : (b : Bool) (R : Reply → Change → Type 0) (reply : Reply) (c : Change) → b ≡ true → decided b R reply c → R reply c
+pub decided_rest : (b : Bool) (R : Reply → Change → Type 0) (reply : Reply) (c : Change) → b ≡ true → decided b R reply c → R reply c
 decided_rest true R reply c e h = h
 decided_rest false R reply c e h = absurd (both_ways false refl e)
 
-decided_once : (b : Bool) (R : Reply → Change → Type 0) → ((reply other : Reply) (c d : Change) → R reply c → R other d → (reply ≡ other) × (c ≡ d))
+pub decided_once : (b : Bool) (R : Reply → Change → Type 0) → ((reply other : Reply) (c d : Change) → R reply c → R other d → (reply ≡ other) × (c ≡ d))
     → (reply other : Reply) (c d : Change) → decided b R reply c → decided b R other d → (reply ≡ other) × (c ≡ d)
 decided_once true R one reply other c d h k = one reply other c d h k
 decided_once false R one reply other c d h k = (h.0 ∙ sym k.0, h.1 ∙ sym k.1)

@@ -1,7 +1,8 @@
 -- What each call is answered, by what its desk sees, and which change that makes: all routes
 -- (docs/DEFINITIONS.md, "Desks"). Of several refusals the first of their order is answered; each
 -- route is told in that order.
-use Rattle.plan_desk.specs.World.{World}
+use Rattle.std.specs.Prelude.{List, Option}
+use Rattle.plan_desk.specs.World.{Text, World}
 use Rattle.plan_desk.specs.Changes.{Change}
 use Rattle.plan_desk.specs.Views.{View}
 use Rattle.plan_desk.specs.Calls.{Call, publish, open_desk, set_key, capacities, plans, import_project, import_shop, remove, bind, set_calendar, set_lag, dates, schedule, chart, days, best, Request, Reply}
@@ -32,5 +33,33 @@ Answers v (days desk n rule) = Days v n rule
 Answers v (best desk n budget) = Best v n budget
 
 -- in a view a request is given this reply, and makes this change
-unfoldable pub Decides : View → Request → Reply → Change → Type 0
-Decides = story.IsDecided Answers
+unfoldable pub IsDecision : View → Request → Reply → Change → Type 0
+IsDecision = story.IsDecided Answers
+
+-- a step of the office: decide by what the desk sees, then apply
+unfoldable pub IsStep : World → Request → Reply → World → Type 0
+IsStep = story.IsStep Answers
+
+-- a step, or a refusal for want of memory or by the store, with the rows as they were
+unfoldable pub IsRealStep : World → Request → Reply → World → Type 0
+IsRealStep = story.IsRealStep Answers
+
+-- the replies to requests, and the worlds after each of them
+unfoldable pub IsRun : World → List Request → List Reply → List World → Type 0
+IsRun = story.IsRun Answers
+
+-- what the requests of a list that belong to a desk are told, by its view
+unfoldable pub AreTold : Text → View → List Request → List Reply → Type 0
+AreTold = story.AreTold Answers
+
+-- the story of a view in a list of requests, and what it was told
+unfoldable pub IsStoryOf : Text → View → List Request → List Reply → List Request → List Reply → Type 0
+IsStoryOf = story.IsStoryOf Answers
+
+-- a request of the story was answered for want
+unfoldable pub IsWanting : Text → View → List Request → List Reply → Type 0
+IsWanting = story.IsWanting Answers
+
+-- what a crash may leave after a request, by what it might leave before
+unfoldable pub LeavesAfter : (Option World → Type 0) → World → Request → Reply → Option World → Type 0
+LeavesAfter = story.LeavesAfter Answers

@@ -16,3 +16,4 @@ pub mod PageRoutes
 pub mod BestRoutes
 pub mod Decisions
 pub mod Rules
+pub mod Laws

@@ -3,5 +3,7 @@
 #![tactic(auto)]
 
 mod kinds;
+mod laws;
 
 pub use kinds::{Kind, PlanKind, ReplyKind};
+pub use laws::{desks_are_apart, one_decision, outside_is_unseen};

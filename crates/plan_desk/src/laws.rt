@@ -1,0 +1,21 @@
+//! Laws of the office, for proofs above to cite: functions that do nothing.
+
+ghost use Rattle.plan_desk.specs.Laws.{OneDecision, OutsideIsUnseen, DesksAreApart, ToldIsStory, StoriesAreToldAlike};
+
+/// A view and a request have one reply and one change at most.
+pub fn one_decision()
+    ensures { OneDecision }
+{}
+
+/// A request that doesn't belong to a desk leaves what the desk sees.
+pub fn outside_is_unseen()
+    ensures { OutsideIsUnseen }
+{}
+
+/// No desk sees another: whatever other desks send before or between, a desk is told what its story
+/// is told in an office that has its rows and no others. One story is told one thing.
+pub fn desks_are_apart()
+    ensures apart { DesksAreApart }
+    ensures story { ToldIsStory }
+    ensures alike { StoriesAreToldAlike }
+{}
