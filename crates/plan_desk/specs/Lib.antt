@@ -17,3 +17,4 @@ pub mod BestRoutes
 pub mod Decisions
 pub mod Rules
 pub mod Laws
+pub mod Books

@@ -2,8 +2,14 @@
 //! why no desk sees another.
 #![tactic(auto)]
 
+mod book;
+mod fault;
 mod kinds;
 mod laws;
+mod rows;
 
+pub use book::Book;
+pub use fault::BookFault;
 pub use kinds::{Kind, PlanKind, ReplyKind};
 pub use laws::{desks_are_apart, one_decision, outside_is_unseen};
+pub use rows::{BindEntry, CodeRow, DeskRow, LagEntry, PlanEntry, PlanRow};
