@@ -6,10 +6,12 @@ mod book;
 mod fault;
 mod kinds;
 mod laws;
+mod names;
 mod rows;
 
 pub use book::Book;
 pub use fault::BookFault;
+pub use names::{is_key, is_name, key_digest, plan_number};
 pub use kinds::{Kind, PlanKind, ReplyKind};
 pub use laws::{desks_are_apart, one_decision, outside_is_unseen};
 pub use rows::{BindEntry, CodeRow, DeskRow, LagEntry, PlanEntry, PlanRow};
