@@ -18,3 +18,4 @@ pub mod Decisions
 pub mod Rules
 pub mod Laws
 pub mod Books
+pub mod BodyViews

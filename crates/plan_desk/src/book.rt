@@ -80,7 +80,7 @@ pub trait Book {
         ensures { Writes shelf self.old self.new result (apply desk.now (RemovePlan n)) };
 
     /// Binds a published code to a place of a plan, in the place of the one that is bound there.
-    fn bind(&mut self, desk: &str, n: u64, place: u32, code: &str) -> Result<(), BookFault>
+    fn bind(&mut self, desk: &str, n: u64, place: u64, code: &str) -> Result<(), BookFault>
         requires there { shelf.honest self.old → shelf.stands self.old → IsSome (plan_in (shelf.world self.old) desk.now n) }
         requires published { shelf.honest self.old → shelf.stands self.old → IsSome (code_in (shelf.world self.old).published code.now) }
         requires kept { shelf.honest self.old → shelf.stands self.old → IsWorld (apply desk.now (BindPlace n place code.now) (shelf.world self.old)) }

@@ -2,6 +2,7 @@
 //! why no desk sees another.
 #![tactic(auto)]
 
+mod bodies;
 mod book;
 mod fault;
 mod kinds;
@@ -11,7 +12,7 @@ mod rows;
 
 pub use book::Book;
 pub use fault::BookFault;
-pub use names::{is_key, is_name, key_digest, plan_number};
 pub use kinds::{Kind, PlanKind, ReplyKind};
 pub use laws::{desks_are_apart, one_decision, outside_is_unseen};
+pub use names::{is_key, is_name, key_digest, plan_number};
 pub use rows::{BindEntry, CodeRow, DeskRow, LagEntry, PlanEntry, PlanRow};

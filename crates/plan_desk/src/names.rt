@@ -13,6 +13,7 @@ const LONGEST_NAME: usize = 32;
 
 // The least and the most bytes of a key.
 const SHORTEST_KEY: usize = 8;
+
 const LONGEST_KEY: usize = 64;
 
 // The most digits of a plan's number.
@@ -45,7 +46,10 @@ fn begins_with(byte: u8, text: &[u8]) -> bool
 pub fn is_name(text: &[u8]) -> bool
     ensures { result ≡ spec.is_name text.now }
 {
-    !text.is_empty() && text.len() <= LONGEST_NAME && are_name_bytes(text) && !begins_with(b'-', text)
+    !text.is_empty()
+        && text.len() <= LONGEST_NAME
+        && are_name_bytes(text)
+        && !begins_with(b'-', text)
 }
 
 fn are_printed(text: &[u8]) -> bool

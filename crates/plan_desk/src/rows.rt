@@ -28,7 +28,7 @@ pub struct PlanEntry {
 /// 0 on.
 #[derive(Debug, Drop)]
 pub struct BindEntry {
-    pub place: u32,
+    pub place: u64,
     pub code: String,
 }
 

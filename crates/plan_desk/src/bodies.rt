@@ -1,0 +1,297 @@
+//! What the JSON bodies of requests say.
+
+ghost use Rattle.std.specs.Prelude.{◌≡◌, ◌≤◌, ℕ, Bool, IfOk, IfSome, option_map, string_bytes, codes};
+ghost use Rattle.plan_desk.specs.Plans as plans;
+ghost use Rattle.serde_json.specs.View.{view};
+ghost use Rattle.plan_desk.specs.Bodies as spec;
+ghost use Rattle.plan_desk.specs.Names as names;
+ghost use Rattle.plan_desk.specs.BodyViews.{publish_in, desk_body_in, bind_body_in, calendar_in, lag_body_in};
+
+use crate::kinds::{Kind, PlanKind};
+use crate::names::{is_key, is_name};
+use serde_json::Value;
+use std::alloc::{AllocError, Global};
+
+// The greatest capacity, and the greatest lag.
+const MOST_CAPACITY: u64 = 10_000;
+
+const LONGEST_LAG: u64 = 10_000;
+
+// The greatest number of an activity.
+const MOST_ACTIVITIES: u64 = 502;
+
+// A code, its kind, and its capacity.
+#[derive(Drop)]
+pub(crate) struct PublishBody {
+    pub code: String,
+    pub kind: Kind,
+    pub capacity: u64,
+}
+
+// The name of a desk, and its key.
+#[derive(Drop)]
+pub(crate) struct DeskBody {
+    pub desk: String,
+    pub key: String,
+}
+
+// A published code, and the place that it is bound to.
+#[derive(Drop)]
+pub(crate) struct BindBody {
+    pub code: String,
+    pub place: u64,
+}
+
+// A start date and seven marks, as texts.
+#[derive(Drop)]
+pub(crate) struct CalendarBody {
+    pub start: String,
+    pub days: String,
+}
+
+// The ends of an arc, and its lag.
+#[derive(Clone, Copy, Drop)]
+pub(crate) struct LagBody {
+    pub source: u32,
+    pub target: u32,
+    pub lag: u64,
+}
+
+// The value that a body spells, or none where it is no JSON.
+fn json(alloc: Global, body: &[u8]) -> Result<Option<Value>, AllocError>
+    ensures { IfOk result (λ value. option_map view value ≡ spec.json body.now) }
+{
+    match Value::from_slice(alloc, body) {
+        Ok(value) => Ok(Some(value)),
+        Err(error) => {
+            if error.is_memory() {
+                Err(AllocError)
+            } else {
+                Ok(None)
+            }
+        }
+    }
+}
+
+// A member that is a text.
+fn text_in<'v>(name: &str, value: &'v Value) -> Option<&'v str>
+    ensures { option_map (λ s. s.now) result ≡ spec.text_in spec.any_text name.now (view value.now) }
+{
+    value.get(name).and_then(Value::as_str)
+}
+
+// A member that can be the name of a desk, or a code.
+fn name_in<'v>(name: &str, value: &'v Value) -> Option<&'v str>
+    ensures { option_map (λ s. s.now) result ≡ spec.text_in names.is_name name.now (view value.now) }
+{
+    text_in(name, value).filter(|text| is_name(text.as_bytes()))
+}
+
+// A member that can be a key.
+fn key_in<'v>(name: &str, value: &'v Value) -> Option<&'v str>
+    ensures { option_map (λ s. s.now) result ≡ spec.text_in names.is_key name.now (view value.now) }
+{
+    text_in(name, value).filter(|text| is_key(text.as_bytes()))
+}
+
+// A member that is a whole number from one to another.
+fn number_in(name: &str, least: u64, most: u64, value: &Value) -> Option<u64>
+    ensures value { result ≡ spec.number_in (names.is_from_to least most) name.now (view value.now) }
+    ensures most { IfSome result (λ n. n ≤ most) }
+{
+    value
+        .get(name)
+        .and_then(Value::as_u64)
+        .filter(|n| (least..=most).contains(n))
+}
+
+fn kind_named(text: &str) -> Option<Kind>
+    ensures { result ≡ spec.kind_named text.now }
+{
+    match text {
+        "crew" => Some(Kind::Crew),
+        "machine" => Some(Kind::Machine),
+        _ => None,
+    }
+}
+
+fn publish_members(alloc: Global, value: &Value) -> Result<Option<PublishBody>, AllocError>
+    ensures { IfOk result (λ b. option_map publish_in b ≡ spec.publish_members (view value.now)) }
+{
+    let Some(code) = name_in("code", value) else {
+        return Ok(None);
+    };
+    let Some(kind) = text_in("kind", value).and_then(kind_named) else {
+        return Ok(None);
+    };
+    let Some(capacity) = number_in("capacity", 0, MOST_CAPACITY, value) else {
+        return Ok(None);
+    };
+    Ok(Some(PublishBody {
+        code: String::from_str(alloc, code)?,
+        kind,
+        capacity,
+    }))
+}
+
+// What a body that publishes a code says.
+#[tactic(auto, unfolding(crate::specs::Bodies::publish_body))]
+pub(crate) fn publish_body(alloc: Global, body: &[u8]) -> Result<Option<PublishBody>, AllocError>
+    ensures { IfOk result (λ b. option_map publish_in b ≡ spec.publish_body body.now) }
+{
+    match json(alloc, body)? {
+        Some(value) => publish_members(alloc, &value),
+        None => Ok(None),
+    }
+}
+
+fn desk_members(alloc: Global, value: &Value) -> Result<Option<DeskBody>, AllocError>
+    ensures { IfOk result (λ b. option_map desk_body_in b ≡ spec.desk_members (view value.now)) }
+{
+    let Some(desk) = name_in("desk", value) else {
+        return Ok(None);
+    };
+    let Some(key) = key_in("key", value) else {
+        return Ok(None);
+    };
+    Ok(Some(DeskBody {
+        desk: String::from_str(alloc, desk)?,
+        key: String::from_str(alloc, key)?,
+    }))
+}
+
+// What a body that opens a desk says.
+#[tactic(auto, unfolding(crate::specs::Bodies::desk_body))]
+pub(crate) fn desk_body(alloc: Global, body: &[u8]) -> Result<Option<DeskBody>, AllocError>
+    ensures { IfOk result (λ b. option_map desk_body_in b ≡ spec.desk_body body.now) }
+{
+    match json(alloc, body)? {
+        Some(value) => desk_members(alloc, &value),
+        None => Ok(None),
+    }
+}
+
+fn key_member(alloc: Global, value: &Value) -> Result<Option<String>, AllocError>
+    ensures { IfOk result (λ key. option_map string_bytes key ≡ spec.text_in names.is_key (codes "key") (view value.now)) }
+{
+    match key_in("key", value) {
+        Some(key) => Ok(Some(String::from_str(alloc, key)?)),
+        None => Ok(None),
+    }
+}
+
+// What a body that sets a key says.
+#[tactic(auto, unfolding(crate::specs::Bodies::key_body))]
+pub(crate) fn key_body(alloc: Global, body: &[u8]) -> Result<Option<String>, AllocError>
+    ensures { IfOk result (λ key. option_map string_bytes key ≡ spec.key_body body.now) }
+{
+    match json(alloc, body)? {
+        Some(value) => key_member(alloc, &value),
+        None => Ok(None),
+    }
+}
+
+// Whether a plan of so many places has a place.
+fn is_place(kind: PlanKind, count: u64, place: u64) -> bool
+    ensures { result ≡ plans.is_place kind count place }
+{
+    match kind {
+        PlanKind::Project => place >= 1 && place <= count,
+        PlanKind::Shop => place < count,
+    }
+}
+
+fn place_in(kind: PlanKind, count: u64, value: &Value) -> Option<u64>
+    ensures { result ≡ spec.number_in (plans.is_place kind count) (codes "place") (view value.now) }
+{
+    value
+        .get("place")
+        .and_then(Value::as_u64)
+        .filter(|place| is_place(kind, count, *place))
+}
+
+fn bind_members(
+    alloc: Global,
+    kind: PlanKind,
+    count: u64,
+    value: &Value,
+) -> Result<Option<BindBody>, AllocError>
+    ensures { IfOk result (λ b. option_map bind_body_in b ≡ spec.bind_members (plans.is_place kind count) (view value.now)) }
+{
+    let Some(code) = name_in("code", value) else {
+        return Ok(None);
+    };
+    let Some(place) = place_in(kind, count, value) else {
+        return Ok(None);
+    };
+    Ok(Some(BindBody {
+        code: String::from_str(alloc, code)?,
+        place,
+    }))
+}
+
+// What a body that binds a code says, to a plan of so many places.
+#[tactic(auto, unfolding(crate::specs::Bodies::bind_body))]
+pub(crate) fn bind_body(
+    alloc: Global,
+    kind: PlanKind,
+    count: u64,
+    body: &[u8],
+) -> Result<Option<BindBody>, AllocError>
+    ensures { IfOk result (λ b. option_map bind_body_in b ≡ spec.bind_body (plans.is_place kind count) body.now) }
+{
+    match json(alloc, body)? {
+        Some(value) => bind_members(alloc, kind, count, &value),
+        None => Ok(None),
+    }
+}
+
+fn calendar_members(alloc: Global, value: &Value) -> Result<Option<CalendarBody>, AllocError>
+    ensures { IfOk result (λ b. option_map calendar_in b ≡ spec.calendar_members (view value.now)) }
+{
+    let Some(start) = text_in("start", value) else {
+        return Ok(None);
+    };
+    let Some(days) = text_in("days", value) else {
+        return Ok(None);
+    };
+    Ok(Some(CalendarBody {
+        start: String::from_str(alloc, start)?,
+        days: String::from_str(alloc, days)?,
+    }))
+}
+
+// What a body that sets a calendar says.
+#[tactic(auto, unfolding(crate::specs::Bodies::calendar_body))]
+pub(crate) fn calendar_body(alloc: Global, body: &[u8]) -> Result<Option<CalendarBody>, AllocError>
+    ensures { IfOk result (λ b. option_map calendar_in b ≡ spec.calendar_body body.now) }
+{
+    match json(alloc, body)? {
+        Some(value) => calendar_members(alloc, &value),
+        None => Ok(None),
+    }
+}
+
+fn lag_members(value: &Value) -> Option<LagBody>
+    ensures { option_map lag_body_in result ≡ spec.lag_members (view value.now) }
+{
+    let source = number_in("from", 1, MOST_ACTIVITIES, value)?;
+    let target = number_in("to", 1, MOST_ACTIVITIES, value)?;
+    let lag = number_in("lag", 0, LONGEST_LAG, value)?;
+    Some(LagBody {
+        source: source as u32,
+        target: target as u32,
+        lag,
+    })
+}
+
+// What a body that sets a lag says.
+#[tactic(auto, unfolding(crate::specs::Bodies::lag_body))]
+pub(crate) fn lag_body(alloc: Global, body: &[u8]) -> Result<Option<LagBody>, AllocError>
+    ensures { IfOk result (λ b. option_map lag_body_in b ≡ spec.lag_body body.now) }
+{
+    match json(alloc, body)? {
+        Some(value) => Ok(lag_members(&value)),
+        None => Ok(None),
+    }
+}
