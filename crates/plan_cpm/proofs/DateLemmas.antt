@@ -4,7 +4,6 @@ use Rattle.plan_net.specs.Network.{Net, count_of, IsArc, IsActivity, IsGreatest,
 use Rattle.plan_net.specs.Path.{IsWalk, last_of, path_length}
 use Rattle.plan_net.specs.Limits.{IsWithinLimits}
 use Rattle.plan_net.proofs.RowLemmas.{arc_ends}
-use Rattle.plan_net.proofs.OnceLemmas.{greatest_once}
 use Rattle.plan_net.proofs.PathLemmas.{LastArc, last_arc}
 use Rattle.plan_cpm.specs.Lengths.{IsLength, IsLengthTo, IsLengthFrom, AreFinishes, AreTails}
 use Rattle.plan_cpm.specs.Dates.{DateTable, AreDates, AreFreeFloats, IsConsistent, IsNextStart, IsSuccessorStart, IsPredecessorFinish, IsSuccessorLateStart, KeepRecurrences, LeavesTails, early_start_of, early_finish_of, late_start_of, late_finish_of, free_float_of}

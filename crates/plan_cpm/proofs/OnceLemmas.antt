@@ -1,5 +1,5 @@
 -- Of each of these a network has only one: its dates, its numbers of total successors.
-use Rattle.std.proofs.Common.{ℕ, ◌≡◌, ◌+◌, ◌-◌, ◌≤◌, ◌<◌, ◌⊎◌, inl, inr, List, length, get_or, refl, sym, ◌∙◌, ap, subst, arith}
+use Rattle.std.proofs.Common.{ℕ, ◌≡◌, ◌+◌, ◌-◌, ◌⊎◌, inl, inr, List, length, get_or, sym, ◌∙◌, ap, subst, arith}
 use Rattle.plan_net.specs.Network.{Net, count_of, IsArc, IsActivity, IsLeast}
 use Rattle.plan_net.proofs.RisingLemmas.{least_once}
 use Rattle.plan_net.proofs.OnceLemmas.{greatest_once, same_entries, rising_once, next_or_none}

@@ -1,5 +1,5 @@
 -- Of each of these texts there is only one, and no text where there is a line that tells why not.
-use Rattle.std.proofs.Common.{ℕ, ◌≡◌, ◌<◌, ◌≤◌, ◌⊎◌, inl, inr, List, ◌++◌, refl, sym, ◌∙◌, ap, subst, arith}
+use Rattle.std.proofs.Common.{ℕ, ◌≡◌, inl, inr, List, ◌++◌, refl, sym, ◌∙◌, ap, subst, arith}
 use Rattle.plan_net.specs.Network.{Net}
 use Rattle.plan_cpm.specs.Dates.{DateTable}
 use Rattle.plan_cpm.proofs.OnceLemmas.{dates_once}
@@ -18,7 +18,6 @@ use Rattle.plan_sgs.specs.declared.fault.SgsFault.{SgsFault}
 use Rattle.plan_sgs.proofs.OnceLemmas.{starts_once, rule_once, feasible_fits, refusal_once, fit_not_refused}
 use Rattle.plan_shop.specs.Shop as shops
 use Rattle.plan_shop.specs.declared.rule.ShopRule.{ShopRule}
-use Rattle.plan_shop.specs.declared.fault.ShopFault.{ShopFault}
 use Rattle.plan_shop.proofs.OnceLemmas as rules
 use Rattle.plan_exact.specs.declared.answer.Kind.{Kind}
 use Rattle.plan_exact.specs.declared.solving.Solved.{Solved}

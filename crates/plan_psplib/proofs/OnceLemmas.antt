@@ -1,6 +1,5 @@
 -- Of each of these a text has only one: its document, its project, the first check that it fails.
-use Rattle.std.proofs.Common.{◌≡◌, ℕ, ◌⊎◌, inl, inr, List, Result, Ok, Err, refl, sym, ap, ◌∙◌, subst}
-use Rattle.plan_net.specs.Network.{Net}
+use Rattle.std.proofs.Common.{◌≡◌, ℕ, inl, inr, List, Result, Ok, Err, sym, ap, ◌∙◌, subst}
 use Rattle.plan_net.specs.Limits.{IsSound}
 use Rattle.plan_net.specs.Cycle.{IsNamedCycle}
 use Rattle.plan_net.proofs.OnceLemmas.{cycle_once, sound_unnamed}

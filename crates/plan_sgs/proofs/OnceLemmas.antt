@@ -1,12 +1,12 @@
 -- Of each of these there is only one: the list of a rule, its schedule, the first need that is too much, the rule of a name.
 use Rattle.std.proofs.Common.{ℕ, zero, suc, true, nat_eq, cond, ◌≡◌, ◌+◌, ◌≤◌, ◌<◌, ◌⊎◌, ◌↔◌, inl, inr, List, [], ◌∷◌, ◌++◌, get_or, refl, sym, ◌∙◌, ap, subst, arith}
 use Rattle.std.proofs.lemmas.Bool.{cases_lt}
-use Rattle.plan_net.specs.Network.{Net, count_of, duration_of}
+use Rattle.plan_net.specs.Network.{Net, count_of}
 use Rattle.plan_cpm.specs.Dates.{DateTable, late_finish_of, total_float_of}
 use Rattle.plan_cpm.proofs.OnceLemmas.{dates_once, totals_once}
 use Rattle.plan_sgs.specs.Problem.{Problem, count, IsFeasible, NeedsFit, IsFirstTooMuch}
 use Rattle.plan_sgs.specs.Serial.{serial}
-use Rattle.plan_sgs.specs.Rules.{is_eligible, eligible, least_key, rule_list_from, rule_list}
+use Rattle.plan_sgs.specs.Rules.{is_eligible, least_key, rule_list_from, rule_list}
 use Rattle.plan_sgs.specs.Keys.{word_of, IsKeyOf, IsRuleSchedule}
 use Rattle.plan_sgs.specs.Instances.{Planned, problem_of, RefusesInstance}
 use Rattle.plan_sgs.specs.declared.rule.Rule.{Rule}

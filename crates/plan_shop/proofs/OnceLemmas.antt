@@ -1,5 +1,5 @@
 -- Of each of these there is only one: the least closed machine in use, the rule of a name.
-use Rattle.std.proofs.Common.{ℕ, nat_eq, cond, ◌≡◌, ◌<◌, ◌≤◌, ◌⊎◌, inl, inr, Bool, List, get_or, refl, sym, ◌∙◌, ap, arith}
+use Rattle.std.proofs.Common.{ℕ, nat_eq, cond, ◌≡◌, inl, inr, Bool, List, get_or, refl, sym, ◌∙◌, ap}
 use Rattle.std.proofs.lemmas.Bool.{cases_order}
 use Rattle.plan_orlib.specs.declared.steps.Step.{Step}
 use Rattle.plan_shop.specs.Docs.{IsFirstClosed, NoneIsClosed}
