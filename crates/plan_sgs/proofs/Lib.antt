@@ -22,5 +22,8 @@ pub mod Findings
 pub mod Shifts
 pub mod Deciding
 pub mod BrokenLemmas
+pub mod WordLemmas
+pub mod PathTailLemmas
+pub mod FullWordLemmas
 pub mod CheckRows
 mod Bounds
