@@ -25,5 +25,7 @@ pub mod BrokenLemmas
 pub mod WordLemmas
 pub mod PathTailLemmas
 pub mod FullWordLemmas
+pub mod WorkLemmas
+pub mod WordBoundLemmas
 pub mod CheckRows
 mod Bounds
