@@ -27,5 +27,6 @@ pub mod PathTailLemmas
 pub mod FullWordLemmas
 pub mod WorkLemmas
 pub mod WordBoundLemmas
+pub mod ProjectTreeLemmas
 pub mod CheckRows
 mod Bounds

@@ -16,8 +16,8 @@ fn longest(instance: &Instance, tails: &[u64]) -> u64
     ensures { result ≡ longest_of instance.now.project.network }
 {
     let mut longest: u64 = 0;
-    for tail in tails {
-        longest = longest.max(*tail);
+    for i in 0..instance.network().len() {
+        longest = longest.max(tails[i]);
     }
     longest
 }
