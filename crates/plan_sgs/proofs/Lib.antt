@@ -28,5 +28,6 @@ pub mod FullWordLemmas
 pub mod WorkLemmas
 pub mod WordBoundLemmas
 pub mod ProjectTreeLemmas
+pub mod ProjectTurnLemmas
 pub mod CheckRows
 mod Bounds
