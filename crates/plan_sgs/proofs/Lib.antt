@@ -29,5 +29,6 @@ pub mod WorkLemmas
 pub mod WordBoundLemmas
 pub mod ProjectTreeLemmas
 pub mod ProjectTurnLemmas
+pub mod ProjectReadLemmas
 pub mod CheckRows
 mod Bounds
