@@ -22,6 +22,14 @@ pub mod Findings
 pub mod Shifts
 pub mod Deciding
 pub mod BrokenLemmas
+pub mod WordLemmas
+pub mod PathTailLemmas
+pub mod FullWordLemmas
+pub mod WorkLemmas
+pub mod WordBoundLemmas
+pub mod ProjectTreeLemmas
+pub mod ProjectTurnLemmas
+pub mod ProjectReadLemmas
 pub mod CheckRows
 pub mod OnceLemmas
 mod Bounds
