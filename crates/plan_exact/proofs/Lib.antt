@@ -8,5 +8,8 @@ pub mod TableLemmas
 pub mod ShopTreeLemmas
 pub mod SolutionLemmas
 pub mod SpellingLemmas
+pub mod ProjectTreeLemmas
+pub mod ProjectSolutionLemmas
 pub mod BudgetLemmas
+pub mod ContentLemmas
 pub mod MemoLemmas
