@@ -167,3 +167,7 @@ duration_bound_without_lags net duration sound greatest none =
     let path = greatest.0 in
     let most : path_length net path.0 path.1 ≤ sum net.durations = path_bound_without_lags net path.0 path.1 sound none path.2 in
     omega (arith, most, path.3)
+
+-- and has no more activities than there are
+pub path_count : (net : Net) (i : ℕ) (others : List ℕ) → IsSound net → IsPath net i others → length others < count_of net
+path_count net i others sound path = omega (arith, few net.durations (i ∷ others) (path_distinct net i others sound.limits sound.acyclic path.0 path.1) (path_places net i others sound.limits path.0 path.1))

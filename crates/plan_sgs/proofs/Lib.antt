@@ -22,5 +22,11 @@ pub mod Findings
 pub mod Shifts
 pub mod Deciding
 pub mod BrokenLemmas
+pub mod WordLemmas
+pub mod PathTailLemmas
+pub mod FullWordLemmas
+pub mod WorkLemmas
+pub mod WordBoundLemmas
+pub mod ProjectTreeLemmas
 pub mod CheckRows
 mod Bounds

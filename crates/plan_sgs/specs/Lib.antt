@@ -8,6 +8,10 @@ pub mod Keys
 pub mod Placing
 pub mod Waiting
 pub mod Laws
+pub mod PathTails
+pub mod ProjectWords
+pub mod ProjectTrees
+pub mod ProjectLaws
 pub use Rattle.plan_net.specs.Network
 pub use Rattle.plan_profile.specs.Usage
 pub use Rattle.plan_psplib.specs.Project

@@ -9,6 +9,8 @@ mod keys;
 mod laws;
 mod lists;
 mod placing;
+mod project_laws;
+mod project_tree;
 mod rule;
 mod schedule;
 mod verdict;
@@ -23,6 +25,11 @@ pub use laws::{
     by_starts_is_no_longer, least_of_orders_is_shortest, rule_takes_first, serial_is_active,
     serial_is_no_later,
 };
+pub use project_laws::{
+    bounds_are_meant, full_words_are_lists, project_bounds_hold, project_letters_rise,
+    project_words_are_finite, project_words_reach_shortest,
+};
+pub use project_tree::ProjectTree;
 pub use rule::Rule;
 pub use schedule::Schedule;
 pub use verdict::Verdict;

@@ -2,6 +2,7 @@
 
 ghost use Rattle.std.specs.Prelude.{◌≡◌, ℕ, ◌+◌, ◌-◌, ◌≤◌, length, get_or, set, map, None, Some, IfOk, OnOk};
 ghost use Rattle.plan_net.specs.Network.{IsActivity};
+ghost use Rattle.plan_profile.specs.Usage.{IsInTime};
 ghost use Rattle.plan_sgs.specs.Problem as problem;
 ghost use Rattle.plan_sgs.specs.Serial as spec;
 ghost use Rattle.plan_sgs.specs.Instances.{IsInstance, problem_of};
@@ -45,6 +46,30 @@ fn release_of(instance: &Instance, placed: &[Option<u64>], j: u32) -> u64
     from
 }
 
+// Adds an activity to a profile at its earliest start, which it answers.
+pub(crate) fn place_one(
+    instance: &Instance,
+    profile: &mut Profile,
+    placed: &[Option<u64>],
+    j: u32,
+) -> Result<u64, AllocError>
+    requires activity { IsActivity instance.now.project.network j }
+    requires size { length placed.now ≡ problem.count (problem_of instance.now) }
+    requires open { get_or placed.now (j - 1) None ≡ None }
+    requires ends { EndsBy (problem_of instance.now) placed.now latest_end }
+    requires holds { Holds profile.old (problem_of instance.now) placed.now }
+    ensures start { IfOk result (λ start. start ≡ spec.earliest (problem_of instance.now) placed.now (j - 1)) }
+    ensures holds { IfOk result (λ start. Holds profile.new (problem_of instance.now) (set placed.now (j - 1) (Some start))) }
+    ensures in_time { IfOk result IsInTime }
+{
+    let needs = instance.needs(j);
+    let duration = instance.network().duration(j);
+    let from = release_of(instance, placed, j);
+    let start = profile.earliest(from, duration, needs);
+    profile.place(start, duration, needs)?;
+    Ok(start)
+}
+
 // Places an activity at its earliest start.
 fn place_next(
     instance: &Instance,
@@ -60,11 +85,7 @@ fn place_next(
     ensures ok { OnOk result (placed.new.items ≡ set placed.old.items (j - 1) (Some (spec.earliest (problem_of instance.now) placed.old.items (j - 1)))) }
     ensures holds { OnOk result (Holds profile.new (problem_of instance.now) placed.new.items) }
 {
-    let needs = instance.needs(j);
-    let duration = instance.network().duration(j);
-    let from = release_of(instance, placed, j);
-    let start = profile.earliest(from, duration, needs);
-    profile.place(start, duration, needs)?;
+    let start = place_one(instance, profile, placed, j)?;
     placed[j as usize - 1] = Some(start);
     Ok(())
 }
@@ -90,7 +111,7 @@ fn place_all(
 }
 
 // The starts of what is placed.
-fn starts_of(alloc: Global, placed: &[Option<u64>]) -> Result<Vec<u64>, AllocError>
+pub(crate) fn starts_of(alloc: Global, placed: &[Option<u64>]) -> Result<Vec<u64>, AllocError>
     ensures { IfOk result (λ starts. starts.items ≡ map spec.start_or_zero placed.now) }
 {
     let mut starts = Vec::with_capacity(alloc, placed.len())?;

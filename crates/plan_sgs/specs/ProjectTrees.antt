@@ -1,0 +1,53 @@
+-- Where the tree of a project stands, and what it keeps of what its word places (docs/DEFINITIONS.md, "Words of a project").
+-- Public clauses speak of `Standing` and `standing` alone.
+use Rattle.std.specs.Prelude.{◌≡◌, ℕ, ◌-◌, ◌<◌, List, [], ◌∷◌, ◌++◌, map, slice_index, Option, Some, None, get_or, length}
+use Rattle.plan_cpm.specs.Lengths.{AreTails}
+use Rattle.plan_profile.specs.declared.profile.Profile.{Profile}
+use Rattle.plan_sgs.specs.Problem.{greatest_below}
+use Rattle.plan_sgs.specs.Serial.{unplaced, end_of}
+use Rattle.plan_sgs.specs.Instances.{Planned, IsInstance, problem_of}
+use Rattle.plan_sgs.specs.Placing.{Holds}
+use Rattle.plan_sgs.specs.ProjectWords.{depth_of, placed_by, IsWord, least_of_all, reach_of}
+use Rattle.plan_sgs.specs.declared.project_tree.Turn.{Turn}
+
+-- a project with its capacities, and the word at which its tree stands
+pub record Standing : Type 0 where
+  pub instance : Planned
+  pub word : List ℕ
+
+abbrev pub standing : Planned → List ℕ → Standing
+standing instance word = record { instance = instance; word = word }
+
+-- the letters of the turns
+abbrev pub word_of : List Turn → List ℕ
+word_of turns = map (λ turn. turn.letter) turns
+
+-- the greatest end of what a word places
+abbrev pub end_by : Planned → List ℕ → ℕ
+end_by i w = greatest_below (depth_of i) (end_of (problem_of i) (placed_by i w))
+
+-- the greatest start and tail of what a word places
+abbrev pub reach_by : Planned → List ℕ → ℕ
+reach_by i w = greatest_below (depth_of i) (reach_of i (placed_by i w))
+
+-- a turn has the profile of all that the word places, which ends with its letter, and the greatest end and reach of it
+pub record IsTurn (i : Planned) (w : List ℕ) (turn : Turn) : Type 0 where
+  pub held : Holds turn.profile (problem_of i) (placed_by i w)
+  pub latest : turn.end ≡ end_by i w
+  pub farthest : turn.reach ≡ reach_by i w
+
+-- each turn is that of the word that it ends
+abbrev pub AreTurns : Planned → List ℕ → List Turn → Type 0
+AreTurns i u [] = Unit {0}
+AreTurns i u (turn ∷ turns) =
+    IsTurn i (u ++ turn.letter ∷ []) turn × AreTurns i (u ++ turn.letter ∷ []) turns
+
+-- all that a tree keeps
+pub record IsTree (i : Planned) (tails : List ℕ) (least : ℕ) (empty : Profile) (placed : List (Option ℕ)) (turns : List Turn) : Type 0 where
+  pub instance : IsInstance i
+  pub tails_are : AreTails i.project.network tails
+  pub least_is : least ≡ least_of_all i
+  pub none_held : Holds empty (problem_of i) (unplaced (depth_of i))
+  pub word : IsWord i (word_of turns)
+  pub placed_are : placed ≡ placed_by i (word_of turns)
+  pub turns_are : AreTurns i [] turns
