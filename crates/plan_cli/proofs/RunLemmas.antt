@@ -11,11 +11,12 @@ use Rattle.plan_psplib.specs.Faults.{IsWantOfMemory}
 use Rattle.plan_psplib.specs.Document.{Document, longest_text, document, plain}
 use Rattle.plan_psplib.specs.Reading.{fault}
 use Rattle.plan_psplib.specs.Says.{Says}
-use Rattle.plan_psplib.specs.Project.{Project, IsFirstFailing}
+use Rattle.plan_psplib.specs.Project.{Project, SaysProject, IsFirstFailing}
 use Rattle.plan_orlib.specs.Shop as docs
 use Rattle.plan_orlib.specs.Says.{Says as ShopSays}
 use Rattle.plan_orlib.specs.Reading as reading
-use Rattle.plan_cli.specs.ShopRun.{IsShopTableOf, TellsFirstShopFault, TellsWhyNoShop}
+use Rattle.plan_gantt.specs.FirstFaults.{TellsFirstFailing, TellsFirstShopFault}
+use Rattle.plan_cli.specs.ShopRun.{IsShopTableOf, TellsWhyNoShop}
 use Rattle.plan_cli.specs.BestRun.{IsBestTableOf, TellsWhyNoBest}
 use Rattle.plan_cli.specs.Tasks.{IsTextOf, IsLineOf}
 use Rattle.plan_cli.specs.declared.tasks.Task.{Task}
@@ -23,7 +24,7 @@ use Rattle.plan_cli.specs.declared.tasks.Task.TheVariants as task
 use Rattle.plan_cli.specs.ScheduleRun.{IsScheduleTableOf, TellsWhyNoSchedule}
 use Rattle.plan_cli.specs.declared.fault.CliFault.{CliFault}
 use Rattle.plan_cli.specs.declared.fault.CliFault.TheVariants as cli
-use Rattle.plan_cli.specs.Run.{SaysProject, IsDateTableOf, TellsFirstFailing, Writes, JudgesFront, ReadsFront, Refuses, Tells, Sends}
+use Rattle.plan_cli.specs.Run.{IsDateTableOf, Writes, JudgesFront, ReadsFront, Refuses, Tells, Sends}
 
 -- a refusal by one kind of line is one by another that has the same lines
 pub refuses_as : (IsLine IsOther : List ℕ → Type 0) (e : CliFault) → ((line : List ℕ) → IsLine line → IsOther line) → Refuses IsLine e → Refuses IsOther e
@@ -76,7 +77,7 @@ pub project_front : (file : List ℕ) (p : Project) → SaysProject (take (longe
 project_front file p (d, says, same, project) = (d, says_front file d says, same, project)
 
 table_front : HoldsByFront IsDateTableOf
-table_front file text (p, dates, says, are, same) = (p, dates, project_front file p says, are, same)
+table_front file text (p, says, table) = (p, project_front file p says, table)
 
 line_front : HoldsByFront TellsFirstFailing
 line_front file line (first, failing, e) = (first, failing_front file first failing, e)

@@ -11,4 +11,8 @@ pub use Rattle.plan_psplib.specs.Project
 pub use Rattle.plan_psplib.specs.Says
 pub use Rattle.plan_gantt.specs.DateTable
 pub use Rattle.plan_gantt.specs.FaultText
+pub use Rattle.plan_gantt.specs.FirstFaults
+pub use Rattle.plan_gantt.specs.ScheduleText
+pub use Rattle.plan_gantt.specs.ShopText
+pub use Rattle.plan_gantt.specs.ShopBestText
 pub mod BestRun

@@ -1,29 +1,18 @@
 -- What a command writes for the bytes that it reads (docs/DEFINITIONS.md, "Runs").
 use Rattle.std.specs.Prelude.{◌≡◌, ℕ, ◌+◌, ◌≤◌, ◌<◌, List, Option, Result, Ok, Err, IfSome, length, take, string_bytes}
 use Rattle.std.specs.Io.KnownBytes.{Consumes, Appends}
-use Rattle.plan_cpm.specs.Dates.{DateTable, AreDates}
 use Rattle.plan_psplib.specs.declared.fault.FileCode.TheVariants as code
 use Rattle.plan_psplib.specs.declared.fault.FileFault.{FileFault}
-use Rattle.plan_psplib.specs.Document.{Document, longest_text}
-use Rattle.plan_psplib.specs.Says.{Says}
-use Rattle.plan_psplib.specs.Project.{Project, IsProject, IsFirstFailing, project_of}
-use Rattle.plan_gantt.specs.DateTable.{date_table_text}
+use Rattle.plan_psplib.specs.Document.{longest_text}
+use Rattle.plan_psplib.specs.Project.{Project, SaysProject}
+use Rattle.plan_gantt.specs.DateTable.{IsDateText}
 use Rattle.plan_gantt.specs.FaultText.{file_fault_text_of}
 use Rattle.plan_cli.specs.declared.fault.CliFault.{CliFault}
 use Rattle.plan_cli.specs.declared.fault.CliFault.TheVariants as fault
 
--- a project is the one that a file says
-abbrev pub SaysProject : List ℕ → Project → Type 0
-SaysProject file p = (d : Document) × Says file d × (p ≡ project_of d) × IsProject p
-
 -- a text is the date table of the project that a file says
 abbrev pub IsDateTableOf : List ℕ → List ℕ → Type 0
-IsDateTableOf file text = (p : Project) × (dates : DateTable) × SaysProject file p
-    × AreDates p.network dates × (text ≡ date_table_text p.network dates)
-
--- a line tells the first check that a file fails
-abbrev pub TellsFirstFailing : List ℕ → List ℕ → Type 0
-TellsFirstFailing file line = (first : FileFault) × IsFirstFailing file first × (line ≡ file_fault_text_of first)
+IsDateTableOf file text = (p : Project) × SaysProject file p × IsDateText p.network text
 
 -- what a sink has taken after a run: the whole text; or nothing, and the fault is the file's first, or memory ran out, or the
 -- input failed; or a part from the front, shorter than the text, where the output failed

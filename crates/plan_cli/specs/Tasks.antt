@@ -1,6 +1,7 @@
 -- What is made of a file that is given by its name (docs/DEFINITIONS.md, "Runs").
 use Rattle.std.specs.Prelude.{ℕ, List, Option, None, Result}
-use Rattle.plan_cli.specs.Run.{IsDateTableOf, TellsFirstFailing, ReadsFront}
+use Rattle.plan_gantt.specs.FirstFaults.{TellsFirstFailing}
+use Rattle.plan_cli.specs.Run.{IsDateTableOf, ReadsFront}
 use Rattle.plan_cli.specs.ScheduleRun.{IsScheduleTableOf, TellsWhyNoSchedule}
 use Rattle.plan_cli.specs.ShopRun.{IsShopTableOf, TellsWhyNoShop}
 use Rattle.plan_cli.specs.BestRun.{IsBestTableOf, TellsWhyNoBest}

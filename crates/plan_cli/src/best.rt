@@ -3,6 +3,8 @@
 ghost use Rattle.std.specs.Prelude.{◌≡◌, ◌⊎◌, ◌+◌, ◌≤◌, IfOk, OnOk, IfErr, IfSome, IsErrOf, string_bytes};
 ghost use Rattle.plan_psplib.specs.Devices.{most_calls, HasFailed};
 ghost use Rattle.plan_cli.specs.Run.{ReadsFront, Refuses, Writes};
+ghost use Rattle.plan_shop.specs.Docs.{shop_of};
+ghost use Rattle.plan_gantt.specs.ShopBestText.{IsBestBy, IsBestTextOf, TellsBestRefusal};
 ghost use Rattle.plan_cli.specs.BestRun as spec;
 
 use crate::fault::{CliFault, refusal_by};
@@ -28,7 +30,7 @@ fn told(alloc: Global, fault: &ExactFault) -> CliFault
 
 // The text of the best schedule of a shop.
 fn solved_text(alloc: Global, budget: u64, shop: &Shop) -> Result<String, CliFault>
-    ensures made { IfOk result (λ text. spec.IsBestBy budget shop.now (string_bytes text)) }
+    ensures made { IfOk result (λ text. IsBestBy budget shop.now (string_bytes text)) }
     ensures refused { IfErr result (Refuses (spec.TellsSolvingRefusal budget shop.now)) }
 {
     match solve_shop(alloc, shop, budget) {
@@ -39,8 +41,8 @@ fn solved_text(alloc: Global, budget: u64, shop: &Shop) -> Result<String, CliFau
 
 // The text of the best schedule of a file's shop. A text that spells no budget is refused as 0 is, so the shop's size comes first.
 fn doc_text(alloc: Global, budget: &str, doc: &ShopDoc) -> Result<String, CliFault>
-    ensures made { IfOk result (λ text. spec.IsBestTextOf budget.now doc.now (string_bytes text)) }
-    ensures refused { IfErr result (Refuses (spec.TellsBestRefusal budget.now doc.now)) }
+    ensures made { IfOk result (λ text. IsBestTextOf budget.now (shop_of doc.now) (string_bytes text)) }
+    ensures refused { IfErr result (Refuses (TellsBestRefusal budget.now (shop_of doc.now))) }
 {
     let shop = open_shop(alloc, doc)?;
     let budget = match parse_budget(budget) {

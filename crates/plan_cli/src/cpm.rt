@@ -2,7 +2,8 @@
 
 ghost use Rattle.std.specs.Prelude.{◌≡◌, ◌⊎◌, ◌+◌, ◌≤◌, IfOk, OnOk, IfErr, IfSome, IsErrOf, string_bytes};
 ghost use Rattle.plan_psplib.specs.Devices.{most_calls, HasFailed};
-ghost use Rattle.plan_cli.specs.Run.{IsDateTableOf, ReadsFront, Refuses, TellsFirstFailing, Writes};
+ghost use Rattle.plan_gantt.specs.FirstFaults.{TellsFirstFailing};
+ghost use Rattle.plan_cli.specs.Run.{IsDateTableOf, ReadsFront, Refuses, Writes};
 
 use crate::fault::CliFault;
 use crate::reading::read_project;

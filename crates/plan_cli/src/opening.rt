@@ -3,8 +3,8 @@
 ghost use Rattle.std.specs.Prelude.{◌≡◌, IfOk, IfErr};
 ghost use Rattle.plan_orlib.specs.Says.{Says};
 ghost use Rattle.plan_shop.specs.Docs.{shop_of};
+ghost use Rattle.plan_gantt.specs.FirstFaults.{TellsFirstShopFault};
 ghost use Rattle.plan_cli.specs.Run.{Refuses};
-ghost use Rattle.plan_cli.specs.ShopRun.{TellsFirstShopFault};
 
 use crate::fault::CliFault;
 use crate::reading::told;

@@ -3,7 +3,8 @@
 ghost use Rattle.std.specs.Prelude.{◌≡◌, ◌⊎◌, ◌+◌, ◌≤◌, IfOk, OnOk, IfErr, IfSome, IsErrOf, string_bytes};
 ghost use Rattle.plan_psplib.specs.Devices.{most_calls, HasFailed};
 ghost use Rattle.plan_cli.specs.Run.{ReadsFront, Refuses, Writes};
-ghost use Rattle.plan_cli.specs.ScheduleRun.{IsTableOf, IsScheduleTextOf, IsScheduleTableOf, TellsRefusal, TellsWhyNoSchedule, TellsSchedule};
+ghost use Rattle.plan_gantt.specs.ScheduleText.{IsTableOf, IsScheduleTextOf, TellsRefusal};
+ghost use Rattle.plan_cli.specs.ScheduleRun.{as_available, IsScheduleTableOf, TellsWhyNoSchedule, TellsSchedule};
 
 use crate::fault::{CliFault, refusal_by};
 use crate::reading::read_project;
@@ -42,8 +43,8 @@ fn instance_text(alloc: Global, instance: &Instance, rule: Rule) -> Result<Strin
 
 // The schedule table of a project.
 fn project_text(alloc: Global, name: &str, project: &ProjectDoc) -> Result<String, CliFault>
-    ensures made { IfOk result (λ text. IsScheduleTextOf name.now project.now (string_bytes text)) }
-    ensures refused { IfErr result (Refuses (TellsRefusal name.now project.now)) }
+    ensures made { IfOk result (λ text. IsScheduleTextOf name.now (as_available project.now) (string_bytes text)) }
+    ensures refused { IfErr result (Refuses (TellsRefusal name.now (as_available project.now))) }
 {
     let instance = match Instance::of_project(project, project.avail()) {
         Ok(instance) => instance,

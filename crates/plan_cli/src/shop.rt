@@ -3,6 +3,8 @@
 ghost use Rattle.std.specs.Prelude.{◌≡◌, ◌⊎◌, ◌+◌, ◌≤◌, IfOk, OnOk, IfErr, IfSome, IsErrOf, string_bytes};
 ghost use Rattle.plan_psplib.specs.Devices.{most_calls, HasFailed};
 ghost use Rattle.plan_cli.specs.Run.{ReadsFront, Refuses, Writes};
+ghost use Rattle.plan_shop.specs.Docs.{shop_of};
+ghost use Rattle.plan_gantt.specs.ShopText.{IsTableBy, IsShopTextOf, TellsNoRule};
 ghost use Rattle.plan_cli.specs.ShopRun as spec;
 
 use crate::fault::{CliFault, refusal_by};
@@ -27,7 +29,7 @@ fn told(alloc: Global, fault: &ShopFault) -> CliFault
 
 // The table of a shop.
 fn table_by(alloc: Global, rule: ShopRule, shop: &Shop) -> Result<String, CliFault>
-    ensures made { IfOk result (λ text. spec.IsTableBy rule shop.now (string_bytes text)) }
+    ensures made { IfOk result (λ text. IsTableBy rule shop.now (string_bytes text)) }
     ensures refused { IfErr result (λ e. e ≡ CliFault.Memory) }
 {
     let Ok(schedule) = giffler(alloc, shop, rule) else {
@@ -41,8 +43,8 @@ fn table_by(alloc: Global, rule: ShopRule, shop: &Shop) -> Result<String, CliFau
 
 // The table of a file's shop.
 fn doc_text(alloc: Global, name: &str, doc: &ShopDoc) -> Result<String, CliFault>
-    ensures made { IfOk result (λ text. spec.IsShopTextOf name.now doc.now (string_bytes text)) }
-    ensures refused { IfErr result (Refuses (spec.TellsShopRefusal name.now)) }
+    ensures made { IfOk result (λ text. IsShopTextOf name.now (shop_of doc.now) (string_bytes text)) }
+    ensures refused { IfErr result (Refuses (TellsNoRule name.now)) }
 {
     match ShopRule::parse(name) {
         Ok(rule) => table_by(alloc, rule, &open_shop(alloc, doc)?),

@@ -1,9 +1,9 @@
 -- Texts of days, one behind another.
-use Rattle.std.proofs.Common.{◌≡◌, ℕ, zero, suc, ◌+◌, ◌-◌, ◌<◌, List, [], ◌++◌, sym, ap, ◌∙◌, refl, subst, arith, codes}
+use Rattle.std.proofs.Common.{◌≡◌, ℕ, zero, suc, ◌+◌, ◌-◌, ◌<◌, ◌⊎◌, inl, inr, List, [], ◌++◌, sym, ap, ◌∙◌, refl, subst, arith, codes}
 use mathlib.Core.List.{append_assoc}
-use Rattle.plan_gantt.specs.CalendarTable.{IsDayText, IsDaysText, IsDaysLine, AreDaysLines, IsDaysTable}
+use Rattle.plan_gantt.specs.CalendarTable.{IsDayText, IsDaysText, IsDaysLine, AreDaysLines, IsDaysTable, ShowsBeyond}
 use Rattle.plan_gantt.specs.declared.interval.Interval.{Interval}
-use Rattle.plan_gantt.specs.WorkingDay.{Workdays}
+use Rattle.plan_gantt.specs.WorkingDay.{Workdays, IsBeyond}
 
 -- what was put behind a text: something of which P holds
 abbrev pub Appended : (List ℕ → Type 0) → List ℕ → List ℕ → Type 0
@@ -32,3 +32,11 @@ next_days_line calendar heading front interval k old new (lines, are, e) (line, 
     let more : AreDaysLines calendar front interval (suc k) (lines ++ line) =
     (lines, line, are, subst (λ j. IsDaysLine calendar (front j) (interval j) line) place is, refl) in
     (lines ++ line, subst (λ j. AreDaysLines calendar front interval j (lines ++ line)) (sym place) more, f ∙ ap (λ bytes. bytes ++ line) e ∙ append_assoc heading lines line)
+
+-- the first or the last day of an interval that isn't empty is beyond
+pub shown_beyond : (calendar : Workdays) (start duration : ℕ) → 0 < duration → IsBeyond calendar start ⊎ IsBeyond calendar (start + (duration - 1)) → ShowsBeyond calendar start duration
+shown_beyond calendar start zero some beyond = absurd (omega (arith, some))
+shown_beyond calendar start (suc n) some (inl first) = inl first
+shown_beyond calendar start (suc n) some (inr last) =
+    let place : start + (suc n - 1) ≡ start + n = omega arith in
+    inr (subst (λ t. IsBeyond calendar t) place last)

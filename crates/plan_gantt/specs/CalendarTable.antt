@@ -1,5 +1,5 @@
 -- Tables of working days (docs/DEFINITIONS.md, "Texts"). The day of an instant is a relation, so these texts are relations too.
-use Rattle.std.specs.Prelude.{◌≡◌, ℕ, ◌+◌, ◌≤◌, ◌<◌, zero, suc, List, [], ◌++◌, codes}
+use Rattle.std.specs.Prelude.{◌≡◌, ℕ, ◌+◌, ◌⊎◌, zero, suc, List, [], ◌++◌, codes}
 use Rattle.jiff_core.specs.declared.civil.date.Date.{Date}
 use Rattle.jiff.specs.Words.{date_text}
 use Rattle.plan_gantt.specs.Column.{column, number_column}
@@ -35,9 +35,14 @@ abbrev pub IsDaysTable : Workdays → List ℕ → (ℕ → List ℕ) → (ℕ �
 IsDaysTable calendar heading front interval count text =
     (lines : List ℕ) × AreDaysLines calendar front interval count lines × (text ≡ heading ++ lines)
 
--- the day of an occupied instant would come after the last date
+-- the day of the first or of the last of so many instants from one on would come after the last date
+abbrev pub ShowsBeyond : Workdays → ℕ → ℕ → Type 0
+ShowsBeyond calendar start zero = ⊥
+ShowsBeyond calendar start (suc n) = IsBeyond calendar start ⊎ IsBeyond calendar (start + n)
+
+-- a day that is shown of an interval would come after the last date
 abbrev pub HasDayBeyond : Workdays → Interval → Type 0
-HasDayBeyond calendar interval = (t : ℕ) × (interval.start ≤ t) × (t < interval.start + interval.duration) × IsBeyond calendar t
+HasDayBeyond calendar interval = ShowsBeyond calendar interval.start interval.duration
 
 -- the heading of the table of a project
 abbrev pub activity_days_heading : List ℕ
@@ -48,6 +53,6 @@ abbrev pub IsCalendarTable : Workdays → Net → List ℕ → List ℕ → Type
 IsCalendarTable calendar net starts text =
     IsDaysTable calendar activity_days_heading (λ j. number_column 4 j) (activity_interval net starts) (count_of net) text
 
--- the day of an instant of some activity would come after the last date
+-- a day that is shown of some activity would come after the last date
 abbrev pub HasActivityBeyond : Workdays → Net → List ℕ → Type 0
 HasActivityBeyond calendar net starts = (j : ℕ) × IsActivity net j × HasDayBeyond calendar (activity_interval net starts j)

@@ -3,7 +3,7 @@ use Rattle.std.specs.Prelude.{◌≡◌, ℕ, ◌+◌, ◌/◌, ◌%◌, ◌⊎�
 use Rattle.jiff_core.specs.Calendar.{IsBetween}
 use Rattle.jiff_core.specs.declared.civil.date.Date.{Date}
 use Rattle.jiff.specs.Words.{date_text}
-use Rattle.plan_gantt.specs.WorkingDay.{IsWeek}
+use Rattle.plan_gantt.specs.WorkingDay.{Workdays, IsWeek}
 use Rattle.plan_gantt.specs.declared.calendar.CalendarFault.{CalendarFault}
 use Rattle.plan_gantt.specs.declared.calendar.CalendarFault.TheVariants as fault
 
@@ -28,6 +28,11 @@ pub record IsMarksText (text : List ℕ) (marks : List Bool) : Type 0 where
 -- the text has no such marks
 abbrev pub HasNoMarks : List ℕ → Type 0
 HasNoMarks text = (marks : List Bool) → IsMarksText text marks → ⊥
+
+-- the texts are those of a calendar
+pub record IsCalendar (start marks : List ℕ) (calendar : Workdays) : Type 0 where
+  pub start_text : IsStartText start calendar.start
+  pub marks_text : IsMarksText marks calendar.marks
 
 -- the texts are refused for this: the date comes first
 abbrev pub RefusesTexts : List ℕ → List ℕ → CalendarFault → Type 0

@@ -1,8 +1,8 @@
 -- The date table of a network (docs/DEFINITIONS.md, "Texts").
-use Rattle.std.specs.Prelude.{ℕ, Bool, List, [], ◌∷◌, ◌++◌, if◌then◌else◌, ◌==◌, codes}
+use Rattle.std.specs.Prelude.{◌≡◌, ℕ, Bool, List, [], ◌∷◌, ◌++◌, if◌then◌else◌, ◌==◌, codes}
 use Rattle.std.specs.Fmt.{decimal}
 use Rattle.plan_net.specs.Network.{Net, count_of, duration_of}
-use Rattle.plan_cpm.specs.Dates.{DateTable, early_start_of, early_finish_of, late_start_of, late_finish_of, total_float_of, free_float_of}
+use Rattle.plan_cpm.specs.Dates.{DateTable, AreDates, early_start_of, early_finish_of, late_start_of, late_finish_of, total_float_of, free_float_of}
 use Rattle.plan_gantt.specs.Column.{number_column, number_columns, lines_from}
 
 -- the heading
@@ -29,3 +29,7 @@ duration_line duration = codes "T " ++ decimal duration ++ codes "\n"
 -- the date table: its heading, a line for each activity from 1 on, and the duration
 abbrev pub date_table_text : Net → DateTable → List ℕ
 date_table_text net dates = date_heading ++ lines_from (date_line net dates) 1 (count_of net) ++ duration_line dates.duration
+
+-- a text is the date table of a network
+abbrev pub IsDateText : Net → List ℕ → Type 0
+IsDateText net text = (dates : DateTable) × AreDates net dates × (text ≡ date_table_text net dates)

@@ -19,3 +19,8 @@ pub use Rattle.plan_cpm.specs.Dates
 pub use Rattle.plan_psplib.specs.Faults
 pub mod BestText
 pub mod ExactFaultText
+pub mod FirstFaults
+pub mod ScheduleText
+pub mod ShopText
+pub mod ShopBestText
+pub mod CalendarFaultText

@@ -28,6 +28,6 @@ abbrev pub IsShopCalendarTable : Workdays → JobShop → List ℕ → List ℕ 
 IsShopCalendarTable calendar s starts text =
     IsDaysTable calendar step_days_heading (λ n. step_front s (n - 1)) (λ n. step_interval s starts (n - 1)) (count_steps s) text
 
--- the day of an instant of some step would come after the last date
+-- a day that is shown of some step would come after the last date
 abbrev pub HasStepBeyond : Workdays → JobShop → List ℕ → Type 0
 HasStepBeyond calendar s starts = (x : ℕ) × (x < count_steps s) × HasDayBeyond calendar (step_interval s starts x)

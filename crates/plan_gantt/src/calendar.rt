@@ -2,7 +2,7 @@ ghost use Rattle.std.specs.Prelude.{◌≡◌, ◌+◌, ◌*◌, ◌≤◌, pos,
 ghost use Rattle.jiff_core.specs.Calendar.{IsEpochDay};
 ghost use Rattle.jiff_core.specs.Date.{epoch_day};
 ghost use Rattle.plan_gantt.specs.WorkingDay.{IsWorkingDay, IsBeyond};
-ghost use Rattle.plan_gantt.specs.CalendarText.{IsStartText, IsMarksText, RefusesTexts};
+ghost use Rattle.plan_gantt.specs.CalendarText.{IsCalendar, RefusesTexts};
 ghost use Rattle.plan_gantt.specs.declared.weeks.TheConstants.{MOST_DAYS};
 ghost use Rattle.plan_gantt.specs.declared.calendar.CalendarFault.TheVariants.{BeyondCalendar};
 
@@ -62,7 +62,7 @@ impl Calendar {
     /// The calendar with this first date, ten bytes `YYYY-MM-DD` from 1900-01-01 to 2199-12-31, and these marks, a byte `0` or
     /// `1` for each weekday, Monday first, of which one is `1`. Where both are bad the date is refused. Takes no memory.
     pub fn new(start: &str, marks: &str) -> Result<Calendar, CalendarFault>
-        ensures ok { IfOk result (λ c. IsStartText start.now c.start × IsMarksText marks.now c.marks) }
+        ensures ok { IfOk result (IsCalendar start.now marks.now) }
         ensures refused { IfErr result (RefusesTexts start.now marks.now) }
     {
         let Some(start) = start_date(start) else {

@@ -21,7 +21,7 @@ pub enum DaysFault {
     /// Memory ran out.
     #[error("no memory")]
     NoMemory,
-    /// The day of some occupied instant would come after 9999-12-31.
+    /// The day of the first or of the last instant of some interval would come after 9999-12-31.
     #[error("G3 beyond calendar")]
     BeyondCalendar,
 }

@@ -4,6 +4,7 @@
 
 mod best;
 mod calendar;
+mod calendar_faults;
 mod charts;
 mod column;
 mod dates;
@@ -23,6 +24,7 @@ mod weeks;
 
 pub use best::best_text;
 pub use calendar::{Calendar, CalendarFault};
+pub use calendar_faults::{calendar_fault_text, missing_calendar};
 pub use charts::chart;
 pub use dates::date_table;
 pub use days::{DaysFault, calendar_table};

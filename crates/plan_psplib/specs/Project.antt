@@ -42,6 +42,10 @@ network_of d = unlagged d.requests.durations d.arcs
 abbrev pub project_of : Document → Project
 project_of d = record { network = network_of d; needs = d.requests.needs; available = d.available }
 
+-- a project is the one that a text says
+abbrev pub SaysProject : List ℕ → Project → Type 0
+SaysProject text p = (d : Document) × Says text d × (p ≡ project_of d) × IsProject p
+
 -- a document whose arcs have a cycle: it is named, at the line of the precedence title
 abbrev pub NamesCycleOf : Document → FileFault → Type 0
 NamesCycleOf d fault = (fault.code ≡ code.Cycle) × (fault.line ≡ d.precedence_line) × IsNamedCycle (network_of d) fault.cycle.items

@@ -88,7 +88,7 @@ impl ProjectDoc {
 /// of memory may come in place of any answer but a refusal before the first section is read.
 pub fn read_sm(alloc: Global, text: &[u8]) -> Result<ProjectDoc, FileFault>
     // What is read is what the text says, and it has no cycle.
-    ensures found { IfOk result (λ project. spec.IsProject project × ((d : Said) × Says text.now d × (project ≡ spec.project_of d))) }
+    ensures found { IfOk result (spec.SaysProject text.now) }
     // What the text says is read, unless memory runs out or its arcs have a cycle.
     ensures only { (d : Said) → Says text.now d → MatchResult result (λ project. project ≡ spec.project_of d)
         (λ fault. IsWantOfMemory fault ⊎ spec.NamesCycleOf d fault) }

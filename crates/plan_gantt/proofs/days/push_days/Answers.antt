@@ -1,12 +1,12 @@
-use Rattle.std.proofs.Common.{rules, ◌+◌, ◌-◌, ◌<◌, arith, refl}
+use Rattle.std.proofs.Common.{rules, ◌+◌, ◌-◌, ◌<◌, inl, inr, arith, refl}
 use Rattle.std.specs.String.{string_bytes}
 use Rattle.std.proofs.lemmas.Result.{on_ok_weaker}
-use Rattle.plan_gantt.proofs.DayTextLemmas.{both_days}
+use Rattle.plan_gantt.proofs.DayTextLemmas.{both_days, shown_beyond}
 use Rattle.plan_gantt.proofs.days.push_days.Goals as goal
 
 pub returns-in_err-push_day-clause-beyond : goal.returns-in_err-push_day-clause-beyond
 returns-in_err-push_day-clause-beyond c is =
-    (c.args.interval.start, omega arith, omega arith, c.push_day.ensures.beyond (search rules))
+    shown_beyond c.args.calendar.now c.args.interval.start c.args.interval.duration (omega arith) (inl (c.push_day.ensures.beyond (search rules)))
 
 pub returns-clause-days : goal.returns-clause-days
 returns-clause-days c =
@@ -17,4 +17,4 @@ returns-clause-days c =
 
 pub returns-clause-beyond : goal.returns-clause-beyond
 returns-clause-beyond c is =
-    (c.args.interval.start + (c.args.interval.duration - 1), omega arith, omega arith, c.push_day-2.ensures.beyond is)
+    shown_beyond c.args.calendar.now c.args.interval.start c.args.interval.duration (omega arith) (inr (c.push_day-2.ensures.beyond is))

@@ -1,0 +1,14 @@
+-- The texts of what working days are refused for (docs/DEFINITIONS.md, "Texts").
+use Rattle.std.specs.Prelude.{ℕ, List, codes}
+use Rattle.plan_gantt.specs.declared.calendar.CalendarFault.{CalendarFault}
+use Rattle.plan_gantt.specs.declared.calendar.CalendarFault.TheVariants as fault
+
+-- the text of what a calendar is refused for, or a day of it
+abbrev pub calendar_fault_text_of : CalendarFault → List ℕ
+calendar_fault_text_of fault.BadDate = codes "G1 date"
+calendar_fault_text_of fault.BadDays = codes "G2 days"
+calendar_fault_text_of fault.BeyondCalendar = codes "G3 beyond calendar"
+
+-- the text of what is refused where no calendar was given
+abbrev pub missing_calendar_text : List ℕ
+missing_calendar_text = codes "G4 no calendar"
