@@ -48,11 +48,14 @@ count_most : (b : Bool) → one_if b ≤ 1
 count_most true = omega arith
 count_most false = omega arith
 
-pub words_are_finite : ProjectWordsAreFinite
-unfolding ProjectWordsAreFinite
-words_are_finite i w word =
+pub words_most : (i : Planned) (w : List ℕ) → IsWord i w → length w ≤ depth_of i
+words_most i w word =
     let most : taken_count (problem_of i) (places w) ≤ 1 * depth_of i = total_limit (depth_of i) (λ j. one_if (is_member j (places w))) 1 (λ j below. count_most (is_member j (places w))) in
     omega (arith, most, word_count i w word)
+
+pub words_are_finite : ProjectWordsAreFinite
+unfolding ProjectWordsAreFinite
+words_are_finite i w word = words_most i w word
 
 -- a word is full just where it is as long as there are activities
 pub full_long : (i : Planned) (w : List ℕ) → IsWord i w → is_full i w ≡ true → length w ≡ depth_of i

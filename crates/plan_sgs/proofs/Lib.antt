@@ -28,5 +28,7 @@ pub mod FullWordLemmas
 pub mod WorkLemmas
 pub mod WordBoundLemmas
 pub mod ProjectTreeLemmas
+pub mod ProjectTurnLemmas
+pub mod ProjectReadLemmas
 pub mod CheckRows
 mod Bounds

@@ -144,11 +144,14 @@ tails_are_greatest net j sound activity =
 
 pub longest_is_greatest : LongestIsGreatest
 unfolding LongestIsGreatest longest_of
-longest_is_greatest net sound = (reached, λ v (i, others, path, is).
-    let below : path_length net i others ≤ tail_of net i = (tail i path.0).1 (path_length net i others) (others, path, refl) in
-    let number : suc (i - 1) ≡ i = omega (arith, path.0) in
-    let here : tail_of net (suc (i - 1)) ≤ greatest_below (count_of net) (λ h. tail_of net (suc h)) = greatest_above (count_of net) (λ h. tail_of net (suc h)) (i - 1) (omega (arith, path.0)) in
-    omega (arith, is, below, here, ap (tail_of net) number)) where
+longest_is_greatest net sound = (
+  reached,
+  λ v (i, others, path, is).
+      let below : path_length net i others ≤ tail_of net i = (tail i path.0).1 (path_length net i others) (others, path, refl) in
+      let number : suc (i - 1) ≡ i = omega (arith, path.0) in
+      let here : tail_of net (suc (i - 1)) ≤ greatest_below (count_of net) (λ h. tail_of net (suc h)) = greatest_above (count_of net) (λ h. tail_of net (suc h)) (i - 1) (omega (arith, path.0)) in
+      omega (arith, is, below, here, ap (tail_of net) number),
+) where
   tail : (j : ℕ) → IsActivity net j → IsGreatest (IsLengthFrom net j) (tail_of net j)
   tail j activity = unfold TailsAreGreatest in tails_are_greatest net j sound activity
 

@@ -127,9 +127,10 @@ turns_word i u (a ∷ w) from_one turns =
     let turn = turn_parts (problem_of i) (places u) (a - 1) (places w) turns in
     let first : 1 ≤ a = All-head (λ b. 1 ≤ b) a w from_one in
     let letter : Contains (letters_after i u) (suc (a - 1)) = letter_from i u (a - 1) turn.0 turn.1 in
-    let number : suc (a - 1) ≡ a = omega (arith, first) in
-    (subst (Contains (letters_after i u)) number letter,
-    turns_word i (u ++ a ∷ []) w (All-tail (λ b. 1 ≤ b) a w from_one) (subst (λ (xs : List ℕ). takes_in_turn (problem_of i) xs (places w) ≡ true) (sym (places_push u a)) turn.2))
+    let number : suc (a - 1) ≡ a = omega (arith, first) in (
+      subst (Contains (letters_after i u)) number letter,
+      turns_word i (u ++ a ∷ []) w (All-tail (λ b. 1 ≤ b) a w from_one) (subst (λ (xs : List ℕ). takes_in_turn (problem_of i) xs (places w) ≡ true) (sym (places_push u a)) turn.2),
+    )
 
 -- a word goes on where its last letter may follow
 pub word_push : (i : Planned) (u w : List ℕ) (a : ℕ) → Follows i u w → Contains (letters_after i (u ++ w)) a → Follows i u (w ++ a ∷ [])

@@ -177,6 +177,8 @@ impl<'a> ProjectTree<'a> {
         ensures value { result ≡ words.makespan_by self.now.instance self.now.word }
         ensures limit { result ≤ latest_end }
     {
+        // what the tree keeps, on which the proof rests
+        let _turns = &self.turns;
         self.end()
     }
 

@@ -1,6 +1,7 @@
 //! The letters that may follow.
 
-ghost use Rattle.std.specs.Prelude.{◌≡◌, ◌-◌, ◌≤◌, ◌++◌, ◌↔◌, None, length, get_or, slice_index, EachIndex, IsSome, IsTrue, OnOk};
+ghost use Rattle.std.specs.Prelude.{◌≡◌, ◌-◌, ◌≤◌, ◌++◌, ◌↔◌, None, length, get_or, slice_index, EachIndex, IsTrue, OnOk, true};
+ghost use Rattle.std.specs.Option.{is_some};
 ghost use Rattle.plan_net.specs.Network.{IsActivity};
 ghost use Rattle.plan_sgs.specs.Instances.{problem_of};
 ghost use Rattle.plan_sgs.specs.ProjectWords as words;
@@ -13,7 +14,7 @@ use std::alloc::AllocError;
 fn are_placed(placed: &[Option<u64>], activities: &[u32]) -> bool
     requires first { EachIndex activities.now (λ k. 1 ≤ slice_index activities.now k) }
     requires last { EachIndex activities.now (λ k. slice_index activities.now k ≤ length placed.now) }
-    ensures { IsTrue result ↔ EachIndex activities.now (λ k. IsSome (get_or placed.now (slice_index activities.now k - 1) None)) }
+    ensures { IsTrue result ↔ EachIndex activities.now (λ k. is_some (get_or placed.now (slice_index activities.now k - 1) None) ≡ true) }
 {
     for &activity in activities {
         if placed[activity as usize - 1].is_none() {

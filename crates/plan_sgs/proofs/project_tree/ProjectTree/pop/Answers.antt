@@ -1,0 +1,18 @@
+-- One turn less.
+use Rattle.std.proofs.Common.{arith}
+use Rattle.plan_sgs.proofs.ProjectTurnLemmas.{can_pop, tree_pop, popped}
+use Rattle.plan_sgs.proofs.project_tree.ProjectTree.pop.Goals as goal
+
+pub overflow_sub-turn : goal.overflow_sub-turn
+overflow_sub-turn c = (can_pop _ _ _ _ _ c.pop.new.self.items _ c.in-Some.turn c.self.invariant c.in-Some.ensures.items).from_one
+
+pub index_mut-requires : goal.index_mut-requires
+index_mut-requires c =
+    let can = can_pop _ _ _ _ _ c.pop.new.self.items _ c.in-Some.turn c.self.invariant c.in-Some.ensures.items in
+    omega (arith, can.inside, c.self.inside.placed.ok.0)
+
+pub invariant_of-self-2 : goal.invariant_of-self-2
+invariant_of-self-2 c = tree_pop _ _ _ _ _ c.pop.new.self.items _ c.in-Some.turn c.self.invariant (can_pop _ _ _ _ _ c.pop.new.self.items _ c.in-Some.turn c.self.invariant c.in-Some.ensures.items)
+
+pub returns-clause-word : goal.returns-clause-word
+returns-clause-word c = popped c.self.inside.instance.now c.pop.new.self.items c.self.inside.turns.items c.in-Some.turn c.args.self.now c.self.view_is c.in-Some.ensures.items
