@@ -6,7 +6,7 @@ use std::alloc::{AllocError, Global};
 
 // What follows the help.
 const EXAMPLES: &str =
-    "Examples:\n  plan cpm examples/house.sm\n  plan schedule lft examples/house.sm\n  plan shop mwkr examples/shops.txt ft06\n  plan best 200000 examples/shops.txt ft06\n\nA command that fails prints one line; docs/FAULTS.md tells what it means and what to do.";
+    "Examples:\n  plan cpm examples/house.sm\n  plan schedule lft examples/house.sm\n  plan shop mwkr examples/shops.txt ft06\n  plan best 200000 examples/shops.txt ft06\n  plan best-project 200000 examples/house.sm\n\nA command that fails prints one line; docs/FAULTS.md tells what it means and what to do.";
 
 // The word for a file.
 fn file<'a>(alloc: Global) -> Arg<'a> {
@@ -50,20 +50,35 @@ fn shop<'a>(alloc: Global) -> Result<Command<'a>, AllocError> {
         .arg(instance(alloc))
 }
 
-// `plan best`: a budget that begins with a hyphen is told to be none.
-fn best<'a>(alloc: Global) -> Result<Command<'a>, AllocError> {
-    let budget = Arg::new(alloc, "BUDGET")
+// The word for a budget, which may begin with a hyphen and is then told to be none.
+fn budget<'a>(alloc: Global) -> Arg<'a> {
+    Arg::new(alloc, "BUDGET")
         .required(true)
         .allow_hyphen_values(true)
-        .help("how many words the search may visit, 1 to 200000");
+        .help("how many words the search may visit, 1 to 200000")
+}
+
+// `plan best`.
+fn best<'a>(alloc: Global) -> Result<Command<'a>, AllocError> {
     Command::new(alloc, "best")
         .about(
             "Prints the best schedule of a job shop that a search finds, and whether it is proved optimal",
         )
         .after_help("Example:\n  plan best 200000 examples/shops.txt ft06")
-        .arg(budget)?
+        .arg(budget(alloc))?
         .arg(file(alloc))?
         .arg(instance(alloc))
+}
+
+// `plan best-project`.
+fn best_project<'a>(alloc: Global) -> Result<Command<'a>, AllocError> {
+    Command::new(alloc, "best-project")
+        .about(
+            "Prints the best schedule of a project that a search finds, and whether it is proved optimal",
+        )
+        .after_help("Example:\n  plan best-project 200000 examples/house.sm")
+        .arg(budget(alloc))?
+        .arg(file(alloc))
 }
 
 /// The command line.
@@ -80,7 +95,8 @@ pub fn command<'a>(alloc: Global) -> Result<Command<'a>, AllocError> {
         .subcommand(cpm)?
         .subcommand(schedule(alloc)?)?
         .subcommand(shop(alloc)?)?
-        .subcommand(best(alloc)?)
+        .subcommand(best(alloc)?)?
+        .subcommand(best_project(alloc)?)
 }
 
 /// The task that the words ask for, and the name of its file. The parse saw that a command stands there with what it requires.
@@ -98,6 +114,9 @@ pub fn task_of<'a>(matches: &'a ArgMatches<'_>) -> Option<(Task<'a>, &'a str)> {
         "best" => Task::Best {
             budget: inner.get_str("BUDGET")?,
             instance: inner.get_str("INSTANCE")?,
+        },
+        "best-project" => Task::BestProject {
+            budget: inner.get_str("BUDGET")?,
         },
         _ => return None,
     };

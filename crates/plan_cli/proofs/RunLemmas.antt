@@ -18,6 +18,7 @@ use Rattle.plan_orlib.specs.Reading as reading
 use Rattle.plan_gantt.specs.FirstFaults.{TellsFirstFailing, TellsFirstShopFault}
 use Rattle.plan_cli.specs.ShopRun.{IsShopTableOf, TellsWhyNoShop}
 use Rattle.plan_cli.specs.BestRun.{IsBestTableOf, TellsWhyNoBest}
+use Rattle.plan_cli.specs.BestProjectRun.{IsBestProjectTableOf, TellsWhyNoBestProject}
 use Rattle.plan_cli.specs.Tasks.{IsTextOf, IsLineOf}
 use Rattle.plan_cli.specs.declared.tasks.Task.{Task}
 use Rattle.plan_cli.specs.declared.tasks.Task.TheVariants as task
@@ -140,6 +141,13 @@ why_front : (name : List ℕ) → HoldsByFront (TellsWhyNoSchedule name)
 why_front name file line (inl first) = inl (line_front file line first)
 why_front name file line (inr (p, says, tells)) = inr (p, project_front file p says, tells)
 
+best_project_front : (budget : List ℕ) → HoldsByFront (IsBestProjectTableOf budget)
+best_project_front budget file text (p, says, table) = (p, project_front file p says, table)
+
+no_best_project_front : (budget : List ℕ) → HoldsByFront (TellsWhyNoBestProject budget)
+no_best_project_front budget file line (inl first) = inl (line_front file line first)
+no_best_project_front budget file line (inr (p, says, tells)) = inr (p, project_front file p says, tells)
+
 -- a shop file that is too long fails its first check
 long_shop : (instance file : List ℕ) → longest_text < length file → reading.shop instance file ≡ fault code.TooLong 0
 unfolding reading.shop plain
@@ -213,9 +221,11 @@ task_front task.Dates = table_front
 task_front (task.Schedule rule) = schedule_front rule.now
 task_front (task.Shop rule instance) = shop_front rule.now instance.now
 task_front (task.Best budget instance) = best_front budget.now instance.now
+task_front (task.BestProject budget) = best_project_front budget.now
 
 pub task_line_front : (task : Task) → HoldsByFront (IsLineOf task)
 task_line_front task.Dates = line_front
 task_line_front (task.Schedule rule) = why_front rule.now
 task_line_front (task.Shop rule instance) = no_shop_front rule.now instance.now
 task_line_front (task.Best budget instance) = no_best_front budget.now instance.now
+task_line_front (task.BestProject budget) = no_best_project_front budget.now

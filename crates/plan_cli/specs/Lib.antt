@@ -15,4 +15,6 @@ pub use Rattle.plan_gantt.specs.FirstFaults
 pub use Rattle.plan_gantt.specs.ScheduleText
 pub use Rattle.plan_gantt.specs.ShopText
 pub use Rattle.plan_gantt.specs.ShopBestText
+pub use Rattle.plan_gantt.specs.ProjectBestText
 pub mod BestRun
+pub mod BestProjectRun

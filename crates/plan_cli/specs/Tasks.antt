@@ -5,6 +5,7 @@ use Rattle.plan_cli.specs.Run.{IsDateTableOf, ReadsFront}
 use Rattle.plan_cli.specs.ScheduleRun.{IsScheduleTableOf, TellsWhyNoSchedule}
 use Rattle.plan_cli.specs.ShopRun.{IsShopTableOf, TellsWhyNoShop}
 use Rattle.plan_cli.specs.BestRun.{IsBestTableOf, TellsWhyNoBest}
+use Rattle.plan_cli.specs.BestProjectRun.{IsBestProjectTableOf, TellsWhyNoBestProject}
 use Rattle.plan_cli.specs.declared.tasks.Task.{Task}
 use Rattle.plan_cli.specs.declared.tasks.Task.TheVariants as task
 use Rattle.plan_cli.specs.declared.fault.CliFault.{CliFault}
@@ -15,6 +16,7 @@ IsTextOf task.Dates = IsDateTableOf
 IsTextOf (task.Schedule rule) = IsScheduleTableOf rule.now
 IsTextOf (task.Shop rule instance) = IsShopTableOf rule.now instance.now
 IsTextOf (task.Best budget instance) = IsBestTableOf budget.now instance.now
+IsTextOf (task.BestProject budget) = IsBestProjectTableOf budget.now
 
 -- the lines that tell why a task refuses a file
 abbrev pub IsLineOf : Task → List ℕ → List ℕ → Type 0
@@ -22,6 +24,7 @@ IsLineOf task.Dates = TellsFirstFailing
 IsLineOf (task.Schedule rule) = TellsWhyNoSchedule rule.now
 IsLineOf (task.Shop rule instance) = TellsWhyNoShop rule.now instance.now
 IsLineOf (task.Best budget instance) = TellsWhyNoBest budget.now instance.now
+IsLineOf (task.BestProject budget) = TellsWhyNoBestProject budget.now
 
 -- a task judges some bytes that were read, unless the input failed or memory ran out
 abbrev pub DoesTask : Task → Option (List ℕ) → Option (List ℕ) → Result (Unit {0}) CliFault → Type 0

@@ -19,7 +19,7 @@ use plan_shop::Shop;
 use std::alloc::Global;
 
 // What a refusal of a search says for people.
-fn told(alloc: Global, fault: &ExactFault) -> CliFault
+pub(crate) fn told(alloc: Global, fault: &ExactFault) -> CliFault
     ensures { Refuses (spec.TellsSolving fault.now) result }
 {
     if matches!(fault, ExactFault::NoMemory) {

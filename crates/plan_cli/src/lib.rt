@@ -2,6 +2,7 @@
 #![tactic(auto)]
 
 mod best;
+mod best_project;
 mod cpm;
 mod fault;
 mod files;
@@ -14,6 +15,7 @@ mod shop;
 mod tasks;
 
 pub use best::best_run;
+pub use best_project::best_project_run;
 pub use cpm::cpm_run;
 pub use fault::CliFault;
 pub use files::run_on_file;

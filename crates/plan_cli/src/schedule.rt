@@ -16,7 +16,7 @@ use plan_sgs::{Instance, Rule, SgsFault, serial};
 use std::alloc::Global;
 
 // What a fault of a schedule says for people.
-fn told(alloc: Global, fault: &SgsFault) -> CliFault
+pub(crate) fn told(alloc: Global, fault: &SgsFault) -> CliFault
     ensures { Refuses (TellsSchedule fault.now) result }
 {
     refusal_by(schedule_fault_text(alloc, fault))

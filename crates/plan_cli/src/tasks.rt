@@ -5,6 +5,7 @@ ghost use Rattle.plan_cli.specs.Run.{Refuses};
 ghost use Rattle.plan_cli.specs.Tasks.{IsTextOf, IsLineOf};
 
 use crate::best::best_text_of;
+use crate::best_project::best_project_text_of;
 use crate::cpm::date_text;
 use crate::fault::CliFault;
 use crate::schedule::schedule_text;
@@ -22,6 +23,8 @@ pub enum Task<'a> {
     Shop { rule: &'a str, instance: &'a str },
     /// The best schedule of a job shop that a search within a budget finds: that of an instance of the file.
     Best { budget: &'a str, instance: &'a str },
+    /// The best schedule of a project that a search within a budget finds.
+    BestProject { budget: &'a str },
 }
 
 /// The text that a task makes of a file.
@@ -34,5 +37,6 @@ pub(crate) fn text_of(alloc: Global, task: Task<'_>, file: &[u8]) -> Result<Stri
         Task::Schedule { rule } => schedule_text(alloc, rule, file),
         Task::Shop { rule, instance } => shop_text(alloc, rule, instance, file),
         Task::Best { budget, instance } => best_text_of(alloc, budget, instance, file),
+        Task::BestProject { budget } => best_project_text_of(alloc, budget, file),
     }
 }

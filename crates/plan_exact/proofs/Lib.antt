@@ -8,6 +8,9 @@ pub mod TableLemmas
 pub mod ShopTreeLemmas
 pub mod SolutionLemmas
 pub mod SpellingLemmas
+pub mod ProjectTreeLemmas
+pub mod ProjectSolutionLemmas
 pub mod BudgetLemmas
+pub mod ContentLemmas
 pub mod MemoLemmas
 pub mod OnceLemmas

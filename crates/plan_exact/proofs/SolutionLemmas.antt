@@ -25,7 +25,7 @@ use Rattle.plan_exact.proofs.BestLemmas.{first_least}
 use Rattle.plan_exact.proofs.ShopTreeLemmas.{keeps_laws, tree_has_words, found_is_shortest}
 
 -- what is found is the first of least makespan of some words of the tree
-record IsFoundIn (t : WordTree) (initial : ℕ) (f : Found) : Type 0 where
+pub record IsFoundIn (t : WordTree) (initial : ℕ) (f : Found) : Type 0 where
   pub list : List (List ℕ)
   pub are_words : All (IsWord t) list
   pub least : IsFirstLeast t initial list f
@@ -49,7 +49,7 @@ visited_are_words : (t : WordTree) (initial : ℕ) → KeepsLaws t → All (IsWo
 unfolding visited_words
 visited_are_words t initial k = All-filter (is_visited t initial) (IsWord t) (words t) (words_listed t k).alone
 
-found_in_words : (t : WordTree) (initial budget : ℕ) → KeepsLaws t → IsFoundIn t initial (outcome t initial budget).found
+pub found_in_words : (t : WordTree) (initial budget : ℕ) → KeepsLaws t → IsFoundIn t initial (outcome t initial budget).found
 found_in_words t initial budget k = by_budget (cases_Bool (nat_le (length (visited_words t initial)) budget))
   where
     among : (list : List (List ℕ)) → All (IsWord t) list → IsFoundIn t initial (best t (initial_found initial) list)
@@ -62,7 +62,7 @@ found_in_words t initial budget k = by_budget (cases_Bool (nat_le (length (visit
         (among (take budget (visited_words t initial)) (All-take (IsWord t) budget (visited_words t initial) (visited_are_words t initial k)))
 
 -- an outcome that is called optimal is the first of least makespan of all words
-optimal_in_words : (t : WordTree) (initial budget : ℕ) → (outcome t initial budget).optimal ≡ true → IsFirstLeast t initial (words t) (outcome t initial budget).found
+pub optimal_in_words : (t : WordTree) (initial budget : ℕ) → (outcome t initial budget).optimal ≡ true → IsFirstLeast t initial (words t) (outcome t initial budget).found
 optimal_in_words t initial budget optimal = by_budget (cases_Bool (nat_le (length (visited_words t initial)) budget))
   where
     by_budget : (nat_le (length (visited_words t initial)) budget ≡ true) ⊎ (nat_le (length (visited_words t initial)) budget ≡ false) → IsFirstLeast t initial (words t) (outcome t initial budget).found

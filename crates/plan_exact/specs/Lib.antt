@@ -6,5 +6,7 @@ pub mod Explored
 pub mod TableTree
 pub mod ShopTrees
 pub mod Solutions
+pub mod ProjectTrees
+pub mod ProjectSolutions
 pub mod Budgets
 pub mod Memos

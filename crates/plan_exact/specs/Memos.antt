@@ -1,30 +1,57 @@
 -- Answers that are kept, by what was asked (docs/DEFINITIONS.md, "Kept answers").
 use Rattle.std.specs.Prelude.{◌≡◌, ℕ, List, ◌∷◌, ◌++◌, map, take, All, Contains, ◌⊎◌}
 use Rattle.lru.specs.LruCache.{LruCache}
+use Rattle.plan_net.specs.Network.{Net}
+use Rattle.plan_sgs.specs.Instances.{Planned}
 use Rattle.plan_shop.specs.Shop.{JobShop}
 use Rattle.plan_exact.specs.Solutions.{IsSolution}
+use Rattle.plan_exact.specs.ProjectSolutions.{IsProjectSolution}
 use Rattle.plan_exact.specs.declared.solving.Solved.{Solved}
-use Rattle.plan_exact.specs.declared.memo.Question.{Question}
+use Rattle.plan_exact.specs.declared.questions.Question.{Question}
+use Rattle.plan_exact.specs.declared.questions.Question.TheVariants as question
 
--- what is asked for: the best schedule of a shop within a budget
-pub record Asked : Type 0 where
-  pub shop : JobShop
-  pub budget : ℕ
+-- what the best schedule of a project depends on: its network with the lags, the needs, and the capacities
+pub record Content : Type 0 where
+  pub network : Net
+  pub needs : List (List ℕ)
+  pub capacities : List ℕ
 
-abbrev pub asked : JobShop → ℕ → Asked
-asked s budget = record { shop = s; budget = budget }
+abbrev pub content_of : Planned → Content
+content_of i = record { network = i.project.network; needs = i.project.needs; capacities = i.capacities }
+
+-- what is asked for: the best schedule of a shop, or of a project against capacities, within a budget
+pub data Asked : Type 0 where
+  OfShop : JobShop → ℕ → Asked
+  OfProject : Content → ℕ → Asked
+
+abbrev pub asked_of_shop : JobShop → ℕ → Asked
+asked_of_shop s budget = OfShop s budget
+
+abbrev pub asked_of_project : Planned → ℕ → Asked
+asked_of_project i budget = OfProject (content_of i) budget
 
 -- what a key asks for
 abbrev pub asked_by : Question → Asked
-asked_by q = asked (record { machines = q.machines; jobs = q.jobs; steps = q.steps.items }) q.budget
+asked_by (question.Shop q) = OfShop (record { machines = q.machines; jobs = q.jobs; steps = q.steps.items }) q.budget
+asked_by (question.Project q) =
+    OfProject (record {
+      network = record { durations = q.durations.items; arcs = q.arcs.items; lags = q.lags.items };
+      needs = map (λ row. row.items) q.needs.items;
+      capacities = q.capacities.items;
+    }) q.budget
+
+-- what is found answers what is asked: for a project it is the solution of every instance with that content
+abbrev pub Answers : Asked → Solved → Type 0
+Answers (OfShop s budget) solved = IsSolution s budget solved
+Answers (OfProject content budget) solved = (i : Planned) → content_of i ≡ content → IsProjectSolution i budget solved
 
 -- what the keys of some answers ask for
 abbrev pub questions : List (Question × Solved) → List Asked
 questions entries = map (λ e. asked_by e.0) entries
 
--- an answer solves the shop of its key within the budget of its key
+-- an answer to its key
 abbrev pub IsAnswered : Question × Solved → Type 0
-IsAnswered e = IsSolution (asked_by e.0).shop e.0.budget e.1
+IsAnswered e = Answers (asked_by e.0) e.1
 
 -- at most 64 answers, each to its key
 pub record IsMemo (kept : LruCache Question Solved) : Type 0 where

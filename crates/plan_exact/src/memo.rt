@@ -1,17 +1,19 @@
-//! Answers that are kept, so that a shop asked for again is not searched again.
+//! Answers that are kept, so that a shop or a project asked for again is not searched again.
 
 ghost use Rattle.std.specs.Prelude.{◌≡◌, ◌≢◌, ◌≤◌, ◌⊎◌, [], length, Contains, IfOk, IfErr, IfSome, IfNone, OnOk, OnErr};
 ghost use Rattle.std.specs.List.{AllPairs};
 ghost use Rattle.plan_sgs.specs.Problem.{IsActive, IsShortest, makespan};
-ghost use Rattle.plan_shop.specs.Shop.{IsShop, problem_of};
+ghost use Rattle.plan_shop.specs.Shop.{problem_of};
+ghost use Rattle.plan_sgs.specs.Instances as projects;
 ghost use Rattle.plan_exact.specs.Solutions.{IsSolution, RefusesSolving};
-ghost use Rattle.plan_exact.specs.Memos.{asked, asked_by, Remembers};
+ghost use Rattle.plan_exact.specs.ProjectSolutions.{IsProjectSolution, RefusesProject};
+ghost use Rattle.plan_exact.specs.Memos.{Answers, asked_of_shop, asked_of_project, asked_by, Remembers};
 ghost use Rattle.plan_exact.specs.declared.answer.Kind.TheVariants.{Optimal};
 
-use crate::{ExactFault, Solved, solve_shop};
+use crate::questions::Question;
+use crate::{ExactFault, Solved, solve_project, solve_shop};
 use lru::LruCache;
-use plan_orlib::Step;
-use plan_sgs::Schedule;
+use plan_sgs::{Instance, Schedule};
 use plan_shop::Shop;
 use std::alloc::{AllocError, Global};
 use std::marker::Model;
@@ -19,35 +21,6 @@ use std::num::NonZeroUsize;
 
 /// The most answers that are kept.
 pub const MOST_KEPT: usize = 64;
-
-/// All that an answer depends on: the whole shop and the budget.
-#[derive(PartialEq, Eq, Hash, Drop)]
-struct Question {
-    machines: u32,
-    jobs: u32,
-    steps: Vec<Step>,
-    budget: u64,
-}
-
-impl Question {
-    // The question for the best schedule of a shop within a budget. Every shop has a step of each job for each machine.
-    fn new(alloc: Global, shop: &Shop, budget: u64) -> Result<Question, AllocError>
-        ensures asked { IfOk result (λ question. asked_by question ≡ asked shop.now budget) }
-        ensures shop { IsShop shop.now }
-    {
-        let count = shop.jobs() * shop.machines();
-        let mut steps = Vec::with_capacity(alloc, count as usize)?;
-        for i in 0..count {
-            steps.push(shop.step(i))?;
-        }
-        Ok(Question {
-            machines: shop.machines(),
-            jobs: shop.jobs(),
-            steps,
-            budget,
-        })
-    }
-}
 
 // A copy of an answer.
 fn copy_of(alloc: Global, solved: &Solved) -> Result<Solved, AllocError>
@@ -65,12 +38,12 @@ fn copy_of(alloc: Global, solved: &Solved) -> Result<Solved, AllocError>
     })
 }
 
-/// The answers to the last 64 questions that were asked, each question a whole shop with a budget. Contracts see the questions,
-/// the one asked last first.
+/// The answers to the last 64 questions that were asked, each question a whole shop with a budget, or a project's network, lags and
+/// needs with capacities and a budget. Contracts see the questions, the one asked last first.
 #[derive(Drop)]
 pub struct Memo {
     alloc: Global,
-    // The hash has a fixed seed. Whoever picks the shops can make no more than these 64 keys collide.
+    // The hash has a fixed seed. Whoever picks the shops and projects can make no more than these 64 keys collide.
     kept: LruCache<Question, Solved>,
 }
 
@@ -114,22 +87,45 @@ impl Memo {
         ensures makespan { IfOk result (λ solved. solved.schedule.makespan ≡ makespan (problem_of shop.now) solved.schedule.starts.items) }
         ensures refused { IfErr result (RefusesSolving shop.now budget) }
         // All questions stay as they were where there is no memory to keep this one.
-        ensures kept { OnOk result (Remembers self.old (asked shop.now budget) self.new ⊎ (self.new ≡ self.old)) }
+        ensures kept { OnOk result (Remembers self.old (asked_of_shop shop.now budget) self.new ⊎ (self.new ≡ self.old)) }
         ensures unchanged { OnErr result (self.new ≡ self.old) }
     {
-        match Question::new(self.alloc, shop, budget) {
-            Ok(question) => self.answer(question, shop, budget),
+        match Question::of_shop(self.alloc, shop, budget) {
+            Ok(question) => self.shop_answer(question, shop, budget),
             Err(_) => solve_shop(self.alloc, shop, budget),
         }
     }
 
-    // The answer to a question, kept or new.
-    fn answer(&mut self, question: Question, shop: &Shop, budget: u64) -> Result<Solved, ExactFault>
-        requires { asked_by question ≡ asked shop.now budget }
+    /// As [`solve_project`], whatever is kept: an answer that is kept for the same network, lags, needs, capacities and budget is
+    /// answered again, and a new one is kept where there is memory.
+    pub fn solve_project(&mut self, instance: &Instance, budget: u64) -> Result<Solved, ExactFault>
+        ensures solution { IfOk result (IsProjectSolution instance.now budget) }
+        ensures shortest { IfOk result (λ solved. solved.kind ≡ Optimal → IsShortest (projects.problem_of instance.now) solved.schedule.starts.items) }
+        ensures active { IfOk result (λ solved. IsActive (projects.problem_of instance.now) solved.schedule.starts.items) }
+        ensures makespan { IfOk result (λ solved. solved.schedule.makespan ≡ makespan (projects.problem_of instance.now) solved.schedule.starts.items) }
+        ensures refused { IfErr result (RefusesProject instance.now budget) }
+        // All questions stay as they were where there is no memory to keep this one.
+        ensures kept { OnOk result (Remembers self.old (asked_of_project instance.now budget) self.new ⊎ (self.new ≡ self.old)) }
+        ensures unchanged { OnErr result (self.new ≡ self.old) }
+    {
+        match Question::of_project(self.alloc, instance, budget) {
+            Ok(question) => self.project_answer(question, instance, budget),
+            Err(_) => solve_project(self.alloc, instance, budget),
+        }
+    }
+
+    // The answer to a question on a shop, kept or new.
+    fn shop_answer(
+        &mut self,
+        question: Question,
+        shop: &Shop,
+        budget: u64,
+    ) -> Result<Solved, ExactFault>
+        requires { asked_by question ≡ asked_of_shop shop.now budget }
         ensures solution { IfOk result (IsSolution shop.now budget) }
         ensures refused { IfErr result (RefusesSolving shop.now budget) }
         // A question that is kept moves to the front; only a new one can fail to be kept.
-        ensures kept { OnOk result (Remembers self.old (asked shop.now budget) self.new ⊎ ((Contains self.old (asked shop.now budget) → ⊥) × (self.new ≡ self.old))) }
+        ensures kept { OnOk result (Remembers self.old (asked_of_shop shop.now budget) self.new ⊎ ((Contains self.old (asked_of_shop shop.now budget) → ⊥) × (self.new ≡ self.old))) }
         ensures unchanged { OnErr result (self.new ≡ self.old) }
     {
         if let Some(solved) = self.recall(&question)? {
@@ -141,9 +137,32 @@ impl Memo {
         Ok(solved)
     }
 
+    // The answer to a question on a project, kept or new.
+    fn project_answer(
+        &mut self,
+        question: Question,
+        instance: &Instance,
+        budget: u64,
+    ) -> Result<Solved, ExactFault>
+        requires { asked_by question ≡ asked_of_project instance.now budget }
+        ensures solution { IfOk result (IsProjectSolution instance.now budget) }
+        ensures refused { IfErr result (RefusesProject instance.now budget) }
+        // A question that is kept moves to the front; only a new one can fail to be kept.
+        ensures kept { OnOk result (Remembers self.old (asked_of_project instance.now budget) self.new ⊎ ((Contains self.old (asked_of_project instance.now budget) → ⊥) × (self.new ≡ self.old))) }
+        ensures unchanged { OnErr result (self.new ≡ self.old) }
+    {
+        if let Some(solved) = self.recall(&question)? {
+            return Ok(solved);
+        }
+        let solved = solve_project(self.alloc, instance, budget)?;
+        // Where there is no memory to keep it, it is answered all the same.
+        let _ = self.keep(question, &solved);
+        Ok(solved)
+    }
+
     // A copy of the answer that is kept for a question, which becomes the most recently used.
     fn recall(&mut self, question: &Question) -> Result<Option<Solved>, AllocError>
-        ensures found { IfOk result (λ found. IfSome found (IsSolution (asked_by question.now).shop (asked_by question.now).budget)) }
+        ensures found { IfOk result (λ found. IfSome found (Answers (asked_by question.now))) }
         ensures moved { IfOk result (λ found. IfSome found (λ _. Remembers self.old (asked_by question.now) self.new)) }
         ensures missing { IfOk result (λ found. IfNone found ((Contains self.old (asked_by question.now) → ⊥) × (self.new ≡ self.old))) }
         ensures unchanged { OnErr result (self.new ≡ self.old) }
@@ -159,7 +178,7 @@ impl Memo {
     // Keeps a copy of an answer.
     fn keep(&mut self, question: Question, solved: &Solved) -> Result<(), AllocError>
         requires new { Contains self.old (asked_by question) → ⊥ }
-        requires answered { IsSolution (asked_by question).shop (asked_by question).budget solved.now }
+        requires answered { Answers (asked_by question) solved.now }
         ensures ok { OnOk result (Remembers self.old (asked_by question) self.new) }
         ensures err { OnErr result (self.new ≡ self.old) }
     {

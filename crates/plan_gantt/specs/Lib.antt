@@ -18,6 +18,7 @@ pub use Rattle.plan_net.specs.Network
 pub use Rattle.plan_cpm.specs.Dates
 pub use Rattle.plan_psplib.specs.Faults
 pub mod BestText
+pub mod ProjectBestText
 pub mod ExactFaultText
 pub mod FirstFaults
 pub mod ScheduleText

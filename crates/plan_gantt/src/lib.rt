@@ -22,7 +22,7 @@ mod shop_faults;
 mod shops;
 mod weeks;
 
-pub use best::best_text;
+pub use best::{best_project_text, best_text};
 pub use calendar::{Calendar, CalendarFault};
 pub use calendar_faults::{calendar_fault_text, missing_calendar};
 pub use charts::chart;

@@ -28,6 +28,24 @@ pub(crate) fn push_makespan(text: &mut String, makespan: u64) -> Result<(), Allo
     writeln!(text, "makespan {makespan}")
 }
 
+// The table of a schedule, behind what the text has.
+pub(crate) fn push_schedule_table(
+    text: &mut String,
+    network: &Network,
+    starts: &[u64],
+    makespan: u64,
+) -> Result<(), AllocError>
+    requires starts { length starts.now ≡ count_of network.now }
+    requires limit { EachIndex starts.now (λ k. slice_index starts.now k ≤ latest_start) }
+    ensures { OnOk result (string_bytes text.new ≡ string_bytes text.old ++ schedule_table_text network.now starts.now makespan) }
+{
+    text.push_str(" act       d   start     end\n")?;
+    'all: for k in 0..network.len() {
+        push_line(text, network, starts, k as u32 + 1)?;
+    }
+    push_makespan(text, makespan)
+}
+
 /// The table of a schedule: a line for each activity with its duration, start and end, and the makespan in the last line.
 /// The start at place `k` is that of activity `k + 1`.
 pub fn schedule_table(
@@ -41,10 +59,6 @@ pub fn schedule_table(
     ensures text { IfOk result (λ text. string_bytes text ≡ schedule_table_text network.now starts.now makespan) }
 {
     let mut text = String::new(alloc);
-    text.push_str(" act       d   start     end\n")?;
-    'all: for k in 0..network.len() {
-        push_line(&mut text, network, starts, k as u32 + 1)?;
-    }
-    push_makespan(&mut text, makespan)?;
+    push_schedule_table(&mut text, network, starts, makespan)?;
     Ok(text)
 }

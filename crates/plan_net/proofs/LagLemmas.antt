@@ -10,7 +10,8 @@ use Rattle.std.proofs.lemmas.Bool.{cases_eq, cases_lt, cases_Bool, false≢true,
 use Rattle.plan_net.specs.Network.{Net, IsArc, joins, lag_beside, lags_with, lag_of, with_lag, unlagged}
 use Rattle.plan_net.specs.Limits.{HasGoodLags}
 use Rattle.plan_net.specs.declared.limits.TheConstants.{LONGEST_LAG}
-use Rattle.plan_net.specs.Indexed.{row_at, beside, lag_in}
+use Rattle.plan_net.specs.Indexed.{row_at, beside, lag_in, net_of}
+use Rattle.plan_net.specs.declared.arcs.Arcs.TheInside.{Inside}
 use Rattle.plan_net.specs.Marks.{AreNoLags}
 use Rattle.plan_net.proofs.MarkLemmas.{row_at-set_same, row_at-set_other, row_at-past}
 use Rattle.plan_net.proofs.RowLemmas.{row_at-read}
@@ -299,3 +300,15 @@ lag_beside-zeros (arc ∷ arcs) (suc n) i j =
 pub lag_of-unlagged : (durations : List ℕ) (arcs : List (ℕ × ℕ)) (i j : ℕ) → lag_of (unlagged durations arcs) i j ≡ 0
 unfolding lag_of
 lag_of-unlagged durations arcs i j = lag_beside-zeros arcs (length arcs) i j
+
+-- the lags of a network whose lags are what a function gives of its arcs
+lags_by : (net : Net) (f : ℕ × ℕ → ℕ) → net.lags ≡ map f net.arcs → net.lags ≡ map (λ arc. lag_of net arc.0 arc.1) net.arcs
+unfolding lag_of
+lags_by net f by =
+    let each : map (λ arc. lag_beside net.arcs net.lags arc.0 arc.1) net.arcs ≡ map f net.arcs =
+    map-agree f (λ arc. lag_beside net.arcs net.lags arc.0 arc.1) net.arcs (λ arc has. ap (λ (lags : List ℕ). lag_beside net.arcs lags arc.0 arc.1) by ∙ lag_beside-map f net.arcs arc.0 arc.1 has) in
+    by ∙ sym each
+
+-- the lags beside the arcs are those that are told arc by arc
+pub lags_told : (a : Inside) (net : Net) → net_of a ≡ net → net.lags ≡ map (λ arc. lag_of net arc.0 arc.1) net.arcs
+lags_told a net is = subst (λ (n : Net). n.lags ≡ map (λ arc. lag_of n arc.0 arc.1) n.arcs) is (lags_by (net_of a) (lag_in a.preds.items a.lags.items) refl)

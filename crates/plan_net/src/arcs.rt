@@ -1,4 +1,4 @@
-ghost use Rattle.std.specs.Prelude.{◌≡◌, ℕ, ◌↔◌, ◌≤◌, length, slice_index, EachIndex, IfOk, IfErr, OnOk, OnErr, IfSome, IfNone};
+ghost use Rattle.std.specs.Prelude.{◌≡◌, ℕ, ◌↔◌, ◌≤◌, length, map, slice_index, EachIndex, IfOk, IfErr, OnOk, OnErr, IfSome, IfNone};
 ghost use Rattle.plan_net.specs.Network.{IsActivity, IsArc, ListsRising, duration_of, count_of, lag_of, unlagged, with_lag};
 ghost use Rattle.plan_net.specs.Limits.{IsWithinLimits, HasGoodSize, HasGoodDurations, HasGoodArcs};
 ghost use Rattle.plan_net.specs.Refusals.{IsFirstFault, IsLagFault, NamesCycle};
@@ -92,6 +92,14 @@ impl Arcs {
         ensures limit { result ≤ LONGEST_DURATION }
     {
         self.durations[j as usize - 1]
+    }
+
+    /// The arcs, as they were handed in.
+    pub fn arcs(&self) -> &[(u32, u32)]
+        ensures value { result.now ≡ self.now.arcs }
+        ensures lags { self.now.lags ≡ map (λ arc. lag_of self.now arc.0 arc.1) self.now.arcs }
+    {
+        self.arcs.as_slice()
     }
 
     /// The predecessors, rising.

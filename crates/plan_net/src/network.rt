@@ -1,4 +1,4 @@
-ghost use Rattle.std.specs.Prelude.{◌≡◌, ℕ, ◌↔◌, ◌≤◌, length, IfOk, IfErr, OnOk, OnErr, IfSome, IfNone, slice_index, EachIndex};
+ghost use Rattle.std.specs.Prelude.{◌≡◌, ℕ, ◌↔◌, ◌≤◌, length, map, IfOk, IfErr, OnOk, OnErr, IfSome, IfNone, slice_index, EachIndex};
 ghost use Rattle.plan_net.specs.Network.{IsActivity, IsArc, ListsRising, duration_of, count_of, lag_of, unlagged, with_lag};
 ghost use Rattle.plan_net.specs.Order.{IsLeastOrder, IsTopological};
 ghost use Rattle.plan_net.specs.Limits.{IsSound};
@@ -69,6 +69,15 @@ impl Network {
         ensures limit { result ≤ LONGEST_DURATION }
     {
         self.arcs.duration(j)
+    }
+
+    /// The arcs, each as the pair of its ends, in the order in which they were handed in.
+    pub fn arcs(&self) -> &[(u32, u32)]
+        ensures value { result.now ≡ self.now.arcs }
+        // the lags are told by `lag`, arc by arc
+        ensures lags { self.now.lags ≡ map (λ arc. lag_of self.now arc.0 arc.1) self.now.arcs }
+    {
+        self.arcs.arcs()
     }
 
     /// The predecessors of activity `j`, rising.

@@ -88,9 +88,22 @@ pub fn drawn_project(rng: &mut StdRng) -> Small {
         resources,
         durations,
         arcs: drawn_arcs(rng, count),
+        lags: [[0; 12]; 12],
         needs,
         caps,
     }
+}
+
+/// Lags of 0 to 2 for the arcs of a project, and 0 for most of them.
+pub fn drawn_lags(rng: &mut StdRng, arcs: &[[bool; 12]; 12]) -> [[u64; 12]; 12] {
+    let mut lags = [[0; 12]; 12];
+    for i in 0..12usize {
+        for j in 0..12usize {
+            let lag = rng.random_range(0u64..6).saturating_sub(3);
+            lags[i][j] = if arcs[i][j] { lag } else { 0 };
+        }
+    }
+    lags
 }
 
 /// A shop of 1 to 4 jobs on 1 to 3 machines, with times from 0 to 4.

@@ -1,10 +1,12 @@
 //! Worked examples of plan_sgs, plan_gantt and plan_cli, and of crates together: files that aren't there, devices
-//! that fail, each fault on its way to its line, schedules by each rule and by a list, verdicts, best schedules, tables, charts and
+//! that fail, each fault on its way to its line, schedules by each rule and by a list, verdicts, best schedules of shops and of projects, tables, charts and
 //! calendars; small random projects and shops beside a plain slow program; and calls whose allocations are refused.
 #![tactic(auto)]
 
 #[cfg(test)]
 mod best;
+#[cfg(test)]
+mod best_projects;
 #[cfg(test)]
 mod calendars;
 #[cfg(test)]
@@ -13,6 +15,8 @@ mod charts;
 mod devices;
 #[cfg(test)]
 mod drawn;
+#[cfg(test)]
+mod drawn_best;
 #[cfg(test)]
 mod drawn_projects;
 #[cfg(test)]
@@ -27,6 +31,8 @@ mod faults;
 mod files;
 #[cfg(test)]
 mod job_shops;
+#[cfg(test)]
+mod kept_projects;
 #[cfg(test)]
 mod reading;
 #[cfg(test)]

@@ -1,11 +1,14 @@
 //! Public calls that allocate, each made twice. With ample memory both answers are the known one. Where one allocation is refused
 //! (`refusals/run` refuses each in turn) the first may be want of memory, and then nothing is left of it: the second is the known one.
 
+use crate::best_projects::FIVE;
 use crate::six::SIX;
 use plan_cpm::{dates, tails, total_successors};
-use plan_exact::{Branching, CountedTree, ExactFault, Memo, search, solve_shop};
+use plan_exact::{
+    Branching, CountedProjectTree, CountedTree, ExactFault, Memo, search, solve_project, solve_shop,
+};
 use plan_gantt::{
-    Calendar, DaysFault, best_text, calendar_table, chart, date_table, schedule_table,
+    Calendar, DaysFault, best_project_text, best_text, calendar_table, chart, date_table, schedule_table,
     shop_calendar_table, shop_chart, shop_table,
 };
 use plan_net::{NetFault, Network};
@@ -224,6 +227,41 @@ fn solved(rt: &impl Abort, alloc: Global) -> Option<(u64, u64, u64)> {
 fn searches(rt: HostRuntime) -> Result<(), Fail> {
     let (first, second) = (solved(&rt, rt.alloc()), solved(&rt, rt.alloc()));
     assert!(rt; settles(first, second, (6, 6, 6)));
+    Ok(())
+}
+
+// The least makespan of a project by a search, by its solution, and by a memo of which a refusal leaves nothing; and how long the
+// text is.
+fn solved_project(rt: &impl Abort, alloc: Global) -> Option<(u64, u64, u64, usize)> {
+    let project = of_file(rt, read_sm(alloc, FIVE.as_bytes()))?;
+    let instance = of_schedule(rt, Instance::of_project(&project, project.avail()))?;
+    let mut tree = CountedProjectTree::new(alloc, &instance).ok()?;
+    let Ok(answer) = search(alloc, &mut tree, 3, 10) else {
+        assert!(rt; !tree.full());
+        return None;
+    };
+    let mut memo = Memo::new(alloc).ok()?;
+    let Some(kept) = of_search(rt, memo.solve_project(&instance, 10)) else {
+        assert!(rt; memo.len() == 0);
+        return None;
+    };
+    let solved = of_search(rt, solve_project(alloc, &instance, 10))?;
+    assert!(rt; solved.schedule.starts.len() == instance.network().len());
+    assert!(rt; solved.schedule.starts.iter().all(|start| *start <= END));
+    let text = best_project_text(alloc, &instance, &solved).ok()?;
+    Some((
+        answer.value,
+        solved.schedule.makespan,
+        kept.schedule.makespan,
+        text.len(),
+    ))
+}
+
+#[test]
+fn searches_of_projects(rt: HostRuntime) -> Result<(), Fail> {
+    let first = solved_project(&rt, rt.alloc());
+    let second = solved_project(&rt, rt.alloc());
+    assert!(rt; settles(first, second, (2, 2, 2, 195)));
     Ok(())
 }
 

@@ -6,6 +6,7 @@ ghost use Rattle.std.specs.Prelude.{◌<◌};
 mod paths;
 mod placing;
 pub mod shops;
+pub mod words;
 
 /// The instants that are looked at: none of the lists of starts that are compared ends later.
 pub const HORIZON: u64 = 80;
@@ -21,6 +22,8 @@ pub struct Small {
     pub durations: [u64; 12],
     /// Whether an arc leads from the first activity to the second.
     pub arcs: [[bool; 12]; 12],
+    /// What passes at least between the end of the first activity and the start of the second, where an arc leads there.
+    pub lags: [[u64; 12]; 12],
     pub needs: [[u64; 3]; 12],
     pub caps: [u64; 3],
 }
@@ -75,7 +78,8 @@ impl Small {
     fn broken_arc(&self, starts: &[u64; 12]) -> Option<(u32, u32)> {
         for i in 0..12usize {
             for j in 0..12usize {
-                if self.arcs[i][j] && starts[j] < starts[i].saturating_add(self.durations[i]) {
+                let end = starts[i].saturating_add(self.durations[i]);
+                if self.arcs[i][j] && starts[j] < end.saturating_add(self.lags[i][j]) {
                     return Some((i as u32 + 1, j as u32 + 1));
                 }
             }

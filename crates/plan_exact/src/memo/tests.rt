@@ -1,6 +1,7 @@
 //! What a memo keeps where memory suffices, which no contract can say.
 
-use super::{MOST_KEPT, Memo, Question};
+use super::{MOST_KEPT, Memo};
+use crate::questions::Question;
 use crate::{ExactFault, Kind};
 use plan_orlib::read_shop;
 use plan_shop::Shop;
@@ -68,7 +69,7 @@ fn forgets_the_least_recently_asked(rt: HostRuntime) -> Result<(), Fail> {
     }
     for (time, kept) in [(1, true), (2, true), (3, false), (4, true), (65, true)] {
         let shop = one_step(&rt, rt.alloc(), time)?;
-        let question = Question::new(rt.alloc(), &shop, 1)?;
+        let question = Question::of_shop(rt.alloc(), &shop, 1)?;
         assert_eq!(rt; memo.kept.contains(&question), kept, "time {time}");
     }
     Ok(())

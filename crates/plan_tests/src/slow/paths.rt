@@ -11,6 +11,7 @@ impl Small {
         for i in 0..12usize {
             for j in 0..12usize {
                 other.arcs[i][j] = self.arcs[j][i];
+                other.lags[i][j] = self.lags[j][i];
             }
         }
         other
@@ -23,14 +24,14 @@ impl Small {
         let mut rest = 0u64;
         for j in 0..12usize {
             if self.arcs[i][j] {
-                rest = rest.max(lengths[j]);
+                rest = rest.max(lengths[j].saturating_add(self.lags[i][j]));
             }
         }
         self.durations[i].saturating_add(rest)
     }
 
-    // The greatest length of a path from each activity on: of paths of one activity, then of two, and so on.
-    fn longest_paths(&self) -> [u64; 12] {
+    /// The greatest length of a path from each activity on: of paths of one activity, then of two, and so on.
+    pub fn longest_paths(&self) -> [u64; 12] {
         let mut lengths = self.durations;
         for _ in 0..12usize {
             let shorter = lengths;

@@ -5,8 +5,8 @@ ghost use Rattle.std.specs.Prelude.{◌<◌};
 use crate::slow::{HORIZON, Small};
 
 impl Small {
-    // Whether an activity isn't placed and all its predecessors are.
-    fn is_eligible(&self, placed: &[Option<u64>; 12], j: usize) -> bool
+    /// Whether an activity isn't placed and all its predecessors are.
+    pub fn is_eligible(&self, placed: &[Option<u64>; 12], j: usize) -> bool
         requires { j < 12 }
     {
         for i in 0..12usize {
@@ -30,13 +30,13 @@ impl Small {
         self.is_eligible(placed, j)
     }
 
-    // Whether the predecessors of an activity have ended by an instant.
-    fn is_released(&self, placed: &[Option<u64>; 12], j: usize, t: u64) -> bool
+    /// Whether the predecessors of an activity have ended by an instant, and the lags behind them have passed.
+    pub fn is_released(&self, placed: &[Option<u64>; 12], j: usize, t: u64) -> bool
         requires { j < 12 }
     {
         for i in 0..12usize {
             let end = placed[i].map_or(0, |start| start.saturating_add(self.durations[i]));
-            if self.arcs[i][j] && end > t {
+            if self.arcs[i][j] && end.saturating_add(self.lags[i][j]) > t {
                 return false;
             }
         }

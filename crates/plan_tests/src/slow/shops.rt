@@ -38,6 +38,7 @@ impl SmallShop {
             resources: self.machines,
             durations: self.time,
             arcs,
+            lags: [[0; 12]; 12],
             needs,
             caps: [1; 3],
         }

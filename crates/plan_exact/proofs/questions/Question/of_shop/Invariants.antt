@@ -1,5 +1,5 @@
 use Rattle.std.proofs.Common.{◌≡◌, take}
-use Rattle.plan_exact.proofs.memo.Question.new.Given as goal
+use Rattle.plan_exact.proofs.questions.Question.of_shop.Given as goal
 
 -- the steps read so far
 abbrev pub invariant-loop-i : goal.invariant-loop-i

@@ -1,0 +1,26 @@
+-- What `plan best-project` writes for the bytes that it reads (docs/DEFINITIONS.md, "Runs").
+use Rattle.std.specs.Prelude.{◌≡◌, ◌⊎◌, ℕ, List}
+use Rattle.plan_psplib.specs.Project.{Project, SaysProject}
+use Rattle.plan_sgs.specs.Instances.{Planned}
+use Rattle.plan_exact.specs.ProjectSolutions.{RefusesProject}
+use Rattle.plan_exact.specs.declared.fault.ExactFault.{ExactFault}
+use Rattle.plan_exact.specs.declared.fault.ExactFault.TheVariants as exact
+use Rattle.plan_gantt.specs.FirstFaults.{TellsFirstFailing}
+use Rattle.plan_gantt.specs.ProjectBestText.{IsBestProjectTextOf, TellsBestProjectRefusal}
+use Rattle.plan_gantt.specs.ExactFaultText.{exact_fault_text_of}
+use Rattle.plan_cli.specs.ScheduleRun.{as_available}
+
+-- a text tells the best schedule of the project that a file says, within the budget that a word spells, against the file's
+-- availabilities
+abbrev pub IsBestProjectTableOf : List ℕ → List ℕ → List ℕ → Type 0
+IsBestProjectTableOf word file text = (p : Project) × SaysProject file p × IsBestProjectTextOf word (as_available p) text
+
+-- a line tells the first check that a file fails, or else what the project that it says is refused for
+abbrev pub TellsWhyNoBestProject : List ℕ → List ℕ → List ℕ → Type 0
+TellsWhyNoBestProject word file line =
+    TellsFirstFailing file line ⊎ ((p : Project) × SaysProject file p × TellsBestProjectRefusal word (as_available p) line)
+
+-- a line tells what a search within a budget is refused for
+abbrev pub TellsSearchRefusal : ℕ → Planned → List ℕ → Type 0
+TellsSearchRefusal budget i line =
+    (first : ExactFault) × (first ≡ exact.NoMemory → ⊥) × RefusesProject i budget first × (line ≡ exact_fault_text_of first)

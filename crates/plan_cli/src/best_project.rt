@@ -1,0 +1,98 @@
+//! `plan best-project`: the best schedule of a project that a search within a budget finds.
+
+ghost use Rattle.std.specs.Prelude.{◌≡◌, ◌⊎◌, ◌+◌, ◌≤◌, IfOk, OnOk, IfErr, IfSome, IsErrOf, string_bytes};
+ghost use Rattle.plan_psplib.specs.Devices.{most_calls, HasFailed};
+ghost use Rattle.plan_gantt.specs.ProjectBestText.{IsBestProjectBy, IsBestProjectTextOf, TellsNoBestProject, TellsBestProjectRefusal};
+ghost use Rattle.plan_cli.specs.Run.{ReadsFront, Refuses, Writes};
+ghost use Rattle.plan_cli.specs.ScheduleRun.{as_available};
+ghost use Rattle.plan_cli.specs.BestProjectRun as spec;
+
+use crate::best::told;
+use crate::fault::CliFault;
+use crate::reading::read_project;
+use crate::running::run_task;
+use crate::schedule::told as told_schedule;
+use crate::tasks::Task;
+use plan_exact::{parse_budget, solve_project};
+use plan_gantt::best_project_text;
+use plan_psplib::{ProjectDoc, Sink, Source};
+use plan_sgs::Instance;
+use std::alloc::Global;
+
+// The text of the best schedule of an instance.
+fn solved_text(alloc: Global, budget: u64, instance: &Instance) -> Result<String, CliFault>
+    ensures made { IfOk result (λ text. IsBestProjectBy budget instance.now (string_bytes text)) }
+    ensures refused { IfErr result (Refuses (spec.TellsSearchRefusal budget instance.now)) }
+{
+    match solve_project(alloc, instance, budget) {
+        Ok(solved) => Ok(best_project_text(alloc, instance, &solved)?),
+        Err(fault) => Err(told(alloc, &fault)),
+    }
+}
+
+// The same within the budget that a word spells. A word that spells none is refused as 0 is, so the project's size comes first.
+fn instance_text(alloc: Global, budget: &str, instance: &Instance) -> Result<String, CliFault>
+    ensures made { IfOk result (λ text. IsBestProjectTextOf budget.now instance.now (string_bytes text)) }
+    ensures refused { IfErr result (Refuses (TellsNoBestProject budget.now instance.now)) }
+{
+    let budget = match parse_budget(budget) {
+        Ok(budget) => budget,
+        Err(_) => 0,
+    };
+    solved_text(alloc, budget, instance)
+}
+
+// The text of the best schedule of a project.
+fn project_text(alloc: Global, budget: &str, project: &ProjectDoc) -> Result<String, CliFault>
+    ensures made { IfOk result (λ text. IsBestProjectTextOf budget.now (as_available project.now) (string_bytes text)) }
+    ensures refused { IfErr result (Refuses (TellsBestProjectRefusal budget.now (as_available project.now))) }
+{
+    match Instance::of_project(project, project.avail()) {
+        Ok(instance) => instance_text(alloc, budget, &instance),
+        Err(fault) => Err(told_schedule(alloc, &fault)),
+    }
+}
+
+// The text of the best schedule of a file's project.
+pub(crate) fn best_project_text_of(
+    alloc: Global,
+    budget: &str,
+    file: &[u8],
+) -> Result<String, CliFault>
+    ensures made { IfOk result (λ text. spec.IsBestProjectTableOf budget.now file.now (string_bytes text)) }
+    ensures refused { IfErr result (Refuses (spec.TellsWhyNoBestProject budget.now file.now)) }
+{
+    match read_project(alloc, file) {
+        Ok(project) => project_text(alloc, budget, &project),
+        Err(fault) => Err(fault),
+    }
+}
+
+/// Reads a project file and writes its best schedule that a search within a budget finds, against the file's availabilities: `optimal`
+/// or `budget` and the makespan, and then the schedule table. The budget is the most words that the search may visit, 1 to 200,000 in
+/// decimal digits. Nothing is written unless the text is whole, and a fault of the reader or of the writer is never tried again. The
+/// first fault is told: the file's, then `S1` (an activity that needs too much), then `S5` (more than 40 activities), then `S6` (the
+/// budget).
+pub fn best_project_run<R: Source, W: Sink>(
+    alloc: Global,
+    budget: &str,
+    reader: &mut R,
+    writer: &mut W,
+) -> Result<(), CliFault>
+    ensures reads { R.calls reader.new ≤ R.calls reader.old + most_calls }
+    ensures writes { W.calls writer.new ≤ W.calls writer.old + most_calls }
+    // The text for the file, or nothing and its first fault; a part of the text after a fault of the output.
+    ensures text { IfSome (R.remaining reader.old) (λ file. Writes (spec.IsBestProjectTableOf budget.now file) (spec.TellsWhyNoBestProject budget.now file) (W.taken writer.old) (W.taken writer.new) result) }
+    // Unless memory runs out or the input fails, what is done is that for the bytes that were read, at most 1,048,577.
+    ensures front { ReadsFront (spec.IsBestProjectTableOf budget.now) (spec.TellsWhyNoBestProject budget.now) (R.remaining reader.old) (R.remaining reader.new) (W.taken writer.old) (W.taken writer.new) result }
+    // Nothing is written with any other fault than that of the output.
+    ensures quiet { IfErr result (λ e. (e ≡ CliFault.Output) ⊎ (writer.new ≡ writer.old)) }
+    ensures fine { OnOk result ((R.faults reader.new ≡ R.faults reader.old) × (W.faults writer.new ≡ W.faults writer.old)) }
+    // A fault of the reader is told as such.
+    ensures heard { IfErr result (λ e. (e ≡ CliFault.Input) ⊎ (R.faults reader.new ≡ R.faults reader.old)) }
+    ensures input { IsErrOf result CliFault.Input → R.faults reader.new ≡ R.faults reader.old + 1 }
+    ensures output { IsErrOf result CliFault.Output →
+        HasFailed (W.calls writer.old) (W.calls writer.new) (W.faults writer.old) (W.faults writer.new) }
+{
+    run_task(alloc, Task::BestProject { budget }, reader, writer)
+}

@@ -1,9 +1,0 @@
-use Rattle.std.proofs.Common.{◌≡◌, ◌++◌}
-use Rattle.std.specs.String.{string_bytes}
-use Rattle.plan_gantt.specs.Column.{lines_from}
-use Rattle.plan_gantt.specs.ScheduleTable.{schedule_heading, schedule_line}
-use Rattle.plan_gantt.proofs.schedules.schedule_table.Given as goal
-
--- behind the heading stand the lines of the activities so far
-abbrev pub invariant-all : goal.invariant-all
-invariant-all l = string_bytes l.text ≡ schedule_heading ++ lines_from (schedule_line l.network l.starts) 1 l.k

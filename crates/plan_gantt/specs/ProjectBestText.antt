@@ -1,0 +1,53 @@
+-- The best text of a project within the budget that a word spells, or why there is none (docs/DEFINITIONS.md, "Texts").
+use Rattle.std.specs.Prelude.{◌≡◌, ◌<◌, ◌⊎◌, ℕ, List, ◌++◌}
+use Rattle.plan_net.specs.Network.{count_of}
+use Rattle.plan_sgs.specs.Problem.{IsActive, IsShortest, NeedsFit, makespan}
+use Rattle.plan_sgs.specs.Instances.{Planned, problem_of, RefusesInstance}
+use Rattle.plan_sgs.specs.declared.fault.SgsFault.{SgsFault}
+use Rattle.plan_exact.specs.Budgets.{IsBudgetText}
+use Rattle.plan_exact.specs.ProjectSolutions.{HasFewActivities, IsProjectSolution}
+use Rattle.plan_exact.specs.declared.answer.Kind.TheVariants.{Optimal}
+use Rattle.plan_exact.specs.declared.solving.Solved.{Solved}
+use Rattle.plan_exact.specs.declared.fault.ExactFault.{ExactFault}
+use Rattle.plan_exact.specs.declared.fault.ExactFault.TheVariants as exact
+use Rattle.plan_gantt.specs.BestText.{kind_line}
+use Rattle.plan_gantt.specs.ScheduleTable.{schedule_table_text}
+use Rattle.plan_gantt.specs.ScheduleFaultText.{schedule_fault_text_of}
+use Rattle.plan_gantt.specs.ExactFaultText.{exact_fault_text_of}
+
+-- the line of what is known, and then the table of the schedule
+abbrev pub best_project_text_of : Planned → Solved → List ℕ
+best_project_text_of i solved =
+    kind_line solved.kind solved.schedule.makespan
+    ++ schedule_table_text i.project.network solved.schedule.starts.items solved.schedule.makespan
+
+-- a text tells what a search of a project's words within a budget answers: an active schedule, and where it is called
+-- optimal one of least makespan among all feasible ones
+pub record IsBestProjectBy (budget : ℕ) (i : Planned) (text : List ℕ) : Type 0 where
+  pub solved : Solved
+  pub solution : IsProjectSolution i budget solved
+  pub shortest : solved.kind ≡ Optimal → IsShortest (problem_of i) solved.schedule.starts.items
+  pub active : IsActive (problem_of i) solved.schedule.starts.items
+  pub makespan : solved.schedule.makespan ≡ makespan (problem_of i) solved.schedule.starts.items
+  pub shown : text ≡ best_project_text_of i solved
+
+-- a text tells the best schedule of an instance within the budget that a word spells
+abbrev pub IsBestProjectTextOf : List ℕ → Planned → List ℕ → Type 0
+IsBestProjectTextOf word i text = (budget : ℕ) × IsBudgetText word budget × IsBestProjectBy budget i text
+
+-- an instance is refused for its size, or else since a word spells no budget
+abbrev pub RefusesBestProject : List ℕ → Planned → ExactFault → Type 0
+RefusesBestProject word i exact.NoMemory = ⊥
+RefusesBestProject word i exact.TooLarge = 40 < count_of i.project.network
+RefusesBestProject word i exact.BadBudget = HasFewActivities i × ((budget : ℕ) → IsBudgetText word budget → ⊥)
+
+-- a line tells what an instance is refused for
+abbrev pub TellsNoBestProject : List ℕ → Planned → List ℕ → Type 0
+TellsNoBestProject word i line =
+    (first : ExactFault) × RefusesBestProject word i first × (line ≡ exact_fault_text_of first)
+
+-- a line tells the first need that is too much, or else what the instance is refused for
+abbrev pub TellsBestProjectRefusal : List ℕ → Planned → List ℕ → Type 0
+TellsBestProjectRefusal word i line =
+    ((first : SgsFault) × RefusesInstance i first × (line ≡ schedule_fault_text_of first))
+    ⊎ (NeedsFit (problem_of i) × TellsNoBestProject word i line)

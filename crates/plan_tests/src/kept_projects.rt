@@ -1,0 +1,78 @@
+//! What a memo answers where it is asked for projects that differ in one thing, and for a shop between them.
+
+use crate::best_projects::FIVE;
+use plan_exact::{Kind, Memo};
+use plan_orlib::read_shop;
+use plan_psplib::{ProjectDoc, read_sm};
+use plan_sgs::Instance;
+use plan_shop::Shop;
+use std::alloc::Global;
+use std::process::Abort;
+use std::test::Fail;
+
+// A capacity, the lag between activities 2 and 5, and a budget; whether the answer is optimal, its makespan, and how many answers are
+// kept then. With one at a time the work takes 4; with a lag of 3 the longest path does.
+const ASKED: [(u64, u64, u64, Kind, u64, usize); 9] = [
+    (2, 0, 10, Kind::Optimal, 2, 1),
+    (2, 0, 7, Kind::Budget, 3, 2),
+    (1, 0, 10, Kind::Optimal, 4, 3),
+    (2, 3, 10, Kind::Optimal, 4, 4),
+    (2, 2, 10, Kind::Optimal, 3, 5),
+    (2, 0, 10, Kind::Optimal, 2, 5),
+    (2, 3, 10, Kind::Optimal, 4, 5),
+    (1, 0, 10, Kind::Optimal, 4, 5),
+    (2, 0, 7, Kind::Budget, 3, 5),
+];
+
+fn five(rt: &impl Abort, alloc: Global) -> ProjectDoc {
+    match read_sm(alloc, FIVE.as_bytes()) {
+        Ok(project) => project,
+        Err(_) => panic!(rt; "the project isn't read"),
+    }
+}
+
+// A shop of one step.
+fn step(rt: &impl Abort, alloc: Global) -> Shop {
+    let Ok(doc) = read_shop(alloc, b"1 1\n0 4\n", b"-") else {
+        panic!(rt; "the shop isn't read");
+    };
+    assert!(rt; doc.machines() == 1);
+    match Shop::of_doc(alloc, &doc, &[true]) {
+        Ok(shop) => shop,
+        Err(_) => panic!(rt; "the machine is closed"),
+    }
+}
+
+#[test]
+fn keeps_an_answer_for_each_capacity_lag_and_budget(rt: HostRuntime) -> Result<(), Fail> {
+    let mut memo = Memo::new(rt.alloc())?;
+    let mut project = five(&rt, rt.alloc());
+    for (capacity, lag, budget, kind, makespan, kept) in ASKED {
+        project.set_lag(2, 5, lag)?;
+        assert!(rt; project.avail().len() == 1);
+        let caps = [capacity];
+        let instance = Instance::of_project(&project, &caps)?;
+        let found = memo.solve_project(&instance, budget)?;
+        assert_eq!(rt; found.kind, kind, "{capacity} {lag} {budget}");
+        assert_eq!(rt; found.schedule.makespan, makespan, "{capacity} {lag} {budget}");
+        assert_eq!(rt; memo.len(), kept, "{capacity} {lag} {budget}");
+    }
+    Ok(())
+}
+
+#[test]
+fn keeps_answers_of_both_kinds(rt: HostRuntime) -> Result<(), Fail> {
+    let mut memo = Memo::new(rt.alloc())?;
+    let project = five(&rt, rt.alloc());
+    assert!(rt; project.avail().len() == 1);
+    let caps = [2];
+    let instance = Instance::of_project(&project, &caps)?;
+    let shop = step(&rt, rt.alloc());
+    for kept in [1, 2] {
+        assert_eq!(rt; memo.solve_project(&instance, 10)?.schedule.makespan, 2);
+        assert_eq!(rt; memo.len(), kept);
+        assert_eq!(rt; memo.solve(&shop, 10)?.schedule.makespan, 4);
+        assert_eq!(rt; memo.len(), 2);
+    }
+    Ok(())
+}
