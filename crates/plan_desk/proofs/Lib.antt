@@ -4,6 +4,5 @@ pub mod SeenLemmas
 pub mod StoryLemmas
 pub mod OutcomeLemmas
 pub mod QuietLemmas
-pub mod ProjectOnceStandIn
 pub mod OneLemmas
 pub mod LawLemmas

@@ -23,12 +23,10 @@ use Rattle.plan_gantt.specs.DateTable.{IsDateText}
 use Rattle.plan_gantt.specs.ScheduleText.{IsSchedule, TellsRefusal}
 use Rattle.plan_shop.specs.Names as shop_names
 use Rattle.plan_shop.specs.declared.rule.ShopRule.{ShopRule}
-use Rattle.plan_desk.proofs.ProjectOnceStandIn as project_once
+use Rattle.plan_gantt.proofs.ProjectOnceLemmas as projects
 use Rattle.plan_gantt.specs.ShopText.{rule_starts, TellsNoRule}
 use Rattle.plan_gantt.specs.ShopFaultText.{shop_fault_text_of}
-use Rattle.plan_gantt.specs.ScheduleFaultText.{schedule_fault_text_of}
 use Rattle.plan_gantt.specs.ShopBestText.{IsBestTextOf, TellsBestRefusal}
-use Rattle.plan_desk.specs.ProjectBestText.{IsProjectBestTextOf, TellsProjectBestRefusal}
 use Rattle.plan_gantt.proofs.OnceLemmas as once
 use Rattle.plan_gantt.proofs.CalendarOnceLemmas as calendars
 use Rattle.plan_desk.specs.declared.kinds.PlanKind.{PlanKind}
@@ -42,7 +40,7 @@ use Rattle.plan_desk.specs.Plans.{lagged_by, lags_of, IsProjectOf, IsShopOf, bou
 use Rattle.plan_desk.specs.OfficeRoutes.{Publishes, Opens, SetsKey}
 use Rattle.plan_desk.specs.PlanRoutes.{of_plan, by_kind, Imports, ImportsProject, ImportsShop, Removes, Binds, TellsTexts, Calendars, SetsLag}
 use Rattle.plan_desk.specs.PageRoutes.{Dates, IsScheduleBy, OfSchedule, TellsClosed, TellsShopRefusal, IsShopScheduleBy, OfShopSchedule, Schedules, Charts, TellsBeyond, ShowsDays, OfCalendar, Days}
-use Rattle.plan_desk.specs.BestRoutes.{TellsNoProjectBest, OfProjectBest, TellsNoShopBest, OfShopBest, Best}
+use Rattle.plan_desk.specs.BestRoutes.{OfProjectBest, TellsNoShopBest, OfShopBest, Best}
 use Rattle.plan_desk.specs.Decisions.{Answers}
 use Rattle.plan_desk.proofs.OutcomeLemmas.{IsOne, AreOne, IsUnique, one_refuses, one_tells, one_shows, one_makes, one_unless, one_given, one_some, one_unique, one_why_or, one_known}
 
@@ -264,22 +262,13 @@ one_shop_best v plan word =
     one_why_or _ _ _ _ (no_shop_best_once word s (open_machines v plan.n s.machines)) (shop_best_apart word s (open_machines v plan.n s.machines))
     (one_unique _ _ (λ x y a b. once.best_text_once word s x y a.1 b.1) (λ text has. one_known text)))
 
-no_project_best_once : (word : Text) (i : Planned) → IsUnique (TellsNoProjectBest word i)
-no_project_best_once word i x y (inl (f, refused, e)) (inl (g, refused2, h)) = e ∙ ap schedule_fault_text_of (sgs.refusal_once i f g refused refused2) ∙ sym h
-no_project_best_once word i x y (inl (f, refused, e)) (inr (fits, b)) = absurd (sgs.fit_not_refused i f fits refused)
-no_project_best_once word i x y (inr (fits, a)) (inl (f, refused, e)) = absurd (sgs.fit_not_refused i f fits refused)
-no_project_best_once word i x y (inr (fits, a)) (inr (fits2, b)) = project_once.refusal_once word i x y a b
-
-project_best_apart : (word : Text) (i : Planned) (line text : Text) → TellsNoProjectBest word i line → IsProjectBestTextOf word i text → ⊥
-project_best_apart word i line text (inl (f, refused, e)) shown = sgs.fit_not_refused i f (project_once.text_fits word i text shown) refused
-project_best_apart word i line text (inr (fits, a)) shown = project_once.refusal_apart word i line text shown a
-
 one_project_best : (v : View) (plan : Plan) (word : Text) → IsOne (OfProjectBest v plan word)
 unfolding OfProjectBest
 one_project_best v plan word =
     one_unique _ _ (project_of_once v plan) (λ p is.
-    one_why_or _ _ _ _ (no_project_best_once word (bound_project v plan p)) (project_best_apart word (bound_project v plan p))
-    (one_unique _ _ (project_once.text_once word (bound_project v plan p)) (λ text has. one_known text)))
+    one_why_or _ _ _ _ (projects.best_project_refusal_once word (bound_project v plan p))
+    (λ line text told shown. projects.best_project_refusal_apart word (bound_project v plan p) line text shown told)
+    (one_unique _ _ (projects.best_project_text_once word (bound_project v plan p)) (λ text has. one_known text)))
 
 one_best : (v : View) (n word : Text) → IsOne (Best v n word)
 unfolding Best

@@ -2,15 +2,10 @@
 -- answer that the definition of the search fixes, an active schedule, and one of least makespan
 -- among all feasible ones where it is called optimal.
 use Rattle.std.specs.Prelude.{◌≡◌, ◌⊎◌, ℕ, Bool, List}
-use Rattle.plan_psplib.specs.Project.{Project}
-use Rattle.plan_sgs.specs.Problem.{NeedsFit}
-use Rattle.plan_sgs.specs.Instances.{Planned, problem_of, RefusesInstance}
-use Rattle.plan_sgs.specs.declared.fault.SgsFault.{SgsFault}
 use Rattle.plan_shop.specs.Shop.{JobShop}
 use Rattle.plan_shop.specs.Docs.{NoneIsClosed}
-use Rattle.plan_gantt.specs.ScheduleFaultText.{schedule_fault_text_of}
 use Rattle.plan_gantt.specs.ShopBestText.{IsBestTextOf, TellsBestRefusal}
-use Rattle.plan_desk.specs.ProjectBestText.{IsProjectBestTextOf, TellsProjectBestRefusal}
+use Rattle.plan_gantt.specs.ProjectBestText.{IsBestProjectTextOf, TellsBestProjectRefusal}
 use Rattle.plan_desk.specs.World.{Text, Plan}
 use Rattle.plan_desk.specs.Views.{View}
 use Rattle.plan_desk.specs.Outcomes.{Outcome, shows, some, why_or}
@@ -19,18 +14,11 @@ use Rattle.plan_desk.specs.PlanRoutes.{of_plan, by_kind}
 use Rattle.plan_desk.specs.PageRoutes.{TellsClosed}
 use Rattle.plan_desk.specs.Refusals.{bad_schedule}
 
--- a line tells why a project isn't searched: a need is too much, else it is too large, else a word
--- is no budget
-abbrev pub TellsNoProjectBest : Text → Planned → Text → Type 0
-TellsNoProjectBest word i line =
-    ((first : SgsFault) × RefusesInstance i first × (line ≡ schedule_fault_text_of first))
-    ⊎ (NeedsFit (problem_of i) × TellsProjectBestRefusal word i line)
-
 -- the best schedule of a project within the budget that a word spells, or why it isn't searched
 unfoldable pub OfProjectBest : View → Plan → Text → Outcome
 OfProjectBest v plan word = some (IsProjectOf v plan) (λ p.
-    why_or (TellsNoProjectBest word (bound_project v plan p)) bad_schedule
-    (IsProjectBestTextOf word (bound_project v plan p))
+    why_or (TellsBestProjectRefusal word (bound_project v plan p)) bad_schedule
+    (IsBestProjectTextOf word (bound_project v plan p))
     (λ text. shows (λ shown. shown ≡ text)))
 
 -- a line tells why a shop isn't searched: a machine in use is closed, else it is too large, else a

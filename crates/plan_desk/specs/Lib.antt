@@ -1,4 +1,3 @@
-pub mod ProjectBestText
 pub mod World
 pub mod Changes
 pub mod Views

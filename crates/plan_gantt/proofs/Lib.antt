@@ -8,3 +8,4 @@ pub mod ShopLineLemmas
 pub mod ShopChartLemmas
 pub mod OnceLemmas
 pub mod CalendarOnceLemmas
+pub mod ProjectOnceLemmas
