@@ -6,3 +6,4 @@ pub mod OutcomeLemmas
 pub mod QuietLemmas
 pub mod OneLemmas
 pub mod LawLemmas
+pub mod RuleLemmas
