@@ -7,3 +7,4 @@ pub mod QuietLemmas
 pub mod OneLemmas
 pub mod LawLemmas
 pub mod RuleLemmas
+pub mod KeepLemmas

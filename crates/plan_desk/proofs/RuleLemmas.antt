@@ -122,3 +122,48 @@ module _ {A : Type 0} where
   pub find_kept : (p keep : A → Bool) → ((x : A) → p x ≡ true → keep x ≡ true) → (xs : List A) → find p (filter keep xs) ≡ find p xs
   find_kept p keep kept [] = refl
   find_kept p keep kept (x ∷ xs) = grind (arith, cases_Bool (p x), cases_Bool (keep x), kept x, find_kept p keep kept xs)
+
+  pub there_put : (Q : A → Type 0) (p q : A → Bool) (f : A → A) (new : A) → ((x : A) → p (f x) ≡ p x) → ((x : A) → Q x → Q (change_of q f x))
+      → (xs : List A) → IsThereAnd (find p xs) Q → IsThereAnd (find p (put q f new xs)) Q
+  there_put Q p q f new same keeps xs h = by_any (cases_Bool (list_any q xs))
+    where
+      by_any : (list_any q xs ≡ true) ⊎ (list_any q xs ≡ false) → IsThereAnd (find p (put q f new xs)) Q
+      by_any (inl e) = rw (cond-true (list_any q xs) (changed q f xs) (xs ++ new ∷ []) e) (there_changed Q Q p q f same keeps xs h)
+      by_any (inr e) = rw (cond-false (list_any q xs) (changed q f xs) (xs ++ new ∷ []) e) (there_append Q p new xs h)
+
+  pub there_map : (Q R : A → Type 0) → ((x : A) → Q x → R x) → (o : Option A) → IsThereAnd o Q → IsThereAnd o R
+  there_map Q R weaker None h = absurd h
+  there_map Q R weaker (Some x) h = weaker x h
+
+  -- what isn't found isn't there
+  pub find_none : (p : A → Bool) (xs : List A) → find p xs ≡ None → AllByRecursion (λ x. p x ≡ false) xs
+  find_none p [] e = tt
+  find_none p (x ∷ xs) e = by_test (cases_Bool (p x)) (λ rest. find_none p xs rest)
+    where
+      by_test : (p x ≡ true) ⊎ (p x ≡ false) → (find p xs ≡ None → AllByRecursion (λ x. p x ≡ false) xs) → AllByRecursion (λ x. p x ≡ false) (x ∷ xs)
+      by_test (inl in_) rest = absurd (grind (arith, e, in_))
+      by_test (inr out_) rest = (out_, rest (grind (arith, e, out_)))
+
+  -- where rows that pass are alike, and rows differ, the one that is found is the only one that passes
+  pub all_found : (alike : A → A → Bool) (p : A → Bool) (row : A) → ((x y : A) → p x ≡ true → p y ≡ true → alike x y ≡ true) → (xs : List A)
+      → AllDiffer alike xs → find p xs ≡ Some row → AllByRecursion (λ x. p x ≡ true → x ≡ row) xs
+  all_found alike p row pass [] apart e = tt
+  all_found alike p row pass (x ∷ xs) apart e = by_test (cases_Bool (p x)) (λ rest. all_found alike p row pass xs apart.1 rest)
+    where
+      others : p x ≡ true → (ys : List A) → AllByRecursion (λ y. alike x y ≡ false) ys → AllByRecursion (λ y. p y ≡ true → y ≡ row) ys
+      others in_ [] none = tt
+      others in_ (y ∷ ys) none = ((λ also. absurd (both_ways (alike x y) none.0 (pass x y in_ also))), others in_ ys none.1)
+
+      by_test : (p x ≡ true) ⊎ (p x ≡ false) → (find p xs ≡ Some row → AllByRecursion (λ x. p x ≡ true → x ≡ row) xs)
+          → AllByRecursion (λ x. p x ≡ true → x ≡ row) (x ∷ xs)
+      by_test (inl in_) rest = ((λ also. grind (arith, e, in_)), others in_ xs apart.0)
+      by_test (inr out_) rest = ((λ also. absurd (both_ways (p x) out_ also)), rest (grind (arith, e, out_)))
+
+  pub all_both : (P Q : A → Type 0) (xs : List A) → AllByRecursion P xs → AllByRecursion Q xs → AllByRecursion (λ x. P x × Q x) xs
+  all_both P Q [] h k = tt
+  all_both P Q (x ∷ xs) h k = ((h.0, k.0), all_both P Q xs h.1 k.1)
+
+  -- what a filter keeps of fewer rows isn't more
+  pub length_fewer : (p q : A → Bool) (xs : List A) → length (filter p (filter q xs)) ≤ length (filter p xs)
+  length_fewer p q [] = omega arith
+  length_fewer p q (x ∷ xs) = grind (arith, cases_Bool (p x), cases_Bool (q x), length_fewer p q xs)
