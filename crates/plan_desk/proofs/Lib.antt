@@ -8,3 +8,4 @@ pub mod OneLemmas
 pub mod LawLemmas
 pub mod RuleLemmas
 pub mod KeepLemmas
+pub mod FitLemmas
