@@ -54,13 +54,13 @@ digest_low h zero = refl
 digest_low h (suc n) =
     list_all-append (λ b. nat_lt b 256) (digest_bytes h n) (to_be_bytes w32 (slice_index h n))
     ∙ and_from (list_all (λ b. nat_lt b 256) (digest_bytes h n)) (list_all (λ b. nat_lt b 256) (to_be_bytes w32 (slice_index h n)))
-      (digest_low h n) (low_bytes 4 (slice_index h n))
+    (digest_low h n) (low_bytes 4 (slice_index h n))
 
 pub sha256_is_digest : (text : Text) → is_digest (sha256 text) ≡ true
 unfolding sha256
 sha256_is_digest text =
     and_from (length (sha256 text) == 32) (list_all (λ b. nat_lt b 256) (sha256 text))
-      (eq-eqb (length (sha256 text)) 32 (length-sha256 text)) (digest_low (final_hash initial_hash_256 text) 8)
+    (eq-eqb (length (sha256 text)) 32 (length-sha256 text)) (digest_low (final_hash initial_hash_256 text) 8)
 
 -- ---- what bodies say
 
@@ -111,19 +111,21 @@ publish_says body b e =
     let value = and_then_some publish_members (json body) b e in
     let code = and_then_some _ (text_in is_name (codes "code") value.0) b value.2 in
     let kind = and_then_some (λ (named : Kind). option_map (λ (capacity : ℕ). code_said code.0 named capacity) (number_in (λ n. nat_le n 10000) (codes "capacity") value.0))
-      (option_and_then kind_named (text_in any_text (codes "kind") value.0)) b code.2 in
-    let capacity = map_some _ (number_in (λ n. nat_le n 10000) (codes "capacity") value.0) b kind.2 in
-    (subst (λ r. is_name r.code ≡ true) capacity.2 (text_passes is_name (codes "code") value.0 code.0 code.1),
-      subst (λ r. nat_le r.capacity 10000 ≡ true) capacity.2 (number_passes (λ n. nat_le n 10000) (codes "capacity") value.0 capacity.0 capacity.1))
+    (option_and_then kind_named (text_in any_text (codes "kind") value.0)) b code.2 in
+    let capacity = map_some _ (number_in (λ n. nat_le n 10000) (codes "capacity") value.0) b kind.2 in (
+      subst (λ r. is_name r.code ≡ true) capacity.2 (text_passes is_name (codes "code") value.0 code.0 code.1),
+      subst (λ r. nat_le r.capacity 10000 ≡ true) capacity.2 (number_passes (λ n. nat_le n 10000) (codes "capacity") value.0 capacity.0 capacity.1),
+    )
 
 desk_says : (body : Text) (b : DeskBody) → desk_body body ≡ Some b → (is_name b.desk ≡ true) × (desk_named body ≡ Some b.desk)
 unfolding desk_body desk_named
 desk_says body b e =
     let value = and_then_some desk_members (json body) b e in
     let desk = and_then_some _ (text_in is_name (codes "desk") value.0) b value.2 in
-    let key = map_some _ (text_in is_key (codes "key") value.0) b desk.2 in
-    (subst (λ r. is_name r.desk ≡ true) key.2 (text_passes is_name (codes "desk") value.0 desk.0 desk.1),
-      ap (option_and_then (text_in any_text (codes "desk"))) value.1 ∙ any_named is_name (codes "desk") value.0 desk.0 desk.1 ∙ ap (λ r. Some r.desk) key.2)
+    let key = map_some _ (text_in is_key (codes "key") value.0) b desk.2 in (
+      subst (λ r. is_name r.desk ≡ true) key.2 (text_passes is_name (codes "desk") value.0 desk.0 desk.1),
+      ap (option_and_then (text_in any_text (codes "desk"))) value.1 ∙ any_named is_name (codes "desk") value.0 desk.0 desk.1 ∙ ap (λ r. Some r.desk) key.2,
+    )
 
 bind_says : (p : ℕ → Bool) (body : Text) (b : BindBody) → bind_body p body ≡ Some b → p b.place ≡ true
 unfolding bind_body
@@ -228,7 +230,8 @@ fit_opens s w body named =
     fit_given s w _ _ _ (λ b e. fit_unless s w _ _ _ (λ absent. fit_makes s w _ _ _ (
       subst (λ t. is_name t ≡ true) (sym (named ∙ ap (λ o. unwrap_or o []) (desk_says body b e).1)) (desk_says body b e).0,
       sha256_is_digest b.key,
-      no_row (desk_in w s) absent)))
+      no_row (desk_in w s) absent,
+    )))
   where
     no_row : (o : Option Desk) → is_some o ≡ false → o ≡ None
     no_row None e = refl
@@ -243,7 +246,13 @@ fit_imports : {A : Type 0} (s : Text) (w : World) (kind : PlanKind) (name body :
 unfolding Imports
 fit_imports s w kind name body Tells Reads named reads =
     fit_given s w _ _ _ (λ row found. fit_unless s w _ _ _ (λ room. fit_unless s w _ _ _ (λ next. fit_why_or s w _ _ _ _ (λ x is. fit_makes s w _ _ _ (
-      row, found, leb-false 100 (length (view s w).plans) room, below (leb-false 1000001 row.next next), named, reads x is)))))
+      row,
+      found,
+      leb-false 100 (length (view s w).plans) room,
+      below (leb-false 1000001 row.next next),
+      named,
+      reads x is,
+    )))))
   where
     below : {n : ℕ} → n < 1000001 → n ≤ 1000000
     below h = omega (arith, h)
@@ -269,12 +278,12 @@ fit_binds : (s : Text) (w : World) (n body : Text) → IsFit s w (Binds (view s 
 unfolding Binds
 fit_binds s w n body =
     fit_of_plan s w _ _ _ (λ plan seen. fit_some s w _ _ (λ count has. fit_given s w _ _ _ (λ b e.
-      fit_unless s w _ _ _ (λ there. fit_unless s w _ _ _ (λ right. fit_makes s w _ _ _
-        (subst (λ o. IsThereAnd o (λ found.
-            ((count : ℕ) × HasPlaces found.kind found.name found.body count × (is_place found.kind count b.place ≡ true))
-            × IsThereAnd (code_in w.published b.code) (λ code. same_kind code.kind (takes found.kind) ≡ true)))
-          (sym (seen_there s w n plan seen))
-          ((count, has, bind_says (is_place plan.kind count) body b e), right_kind (takes plan.kind) (code_in w.published b.code) there right)))))))
+    fit_unless s w _ _ _ (λ there. fit_unless s w _ _ _ (λ right. fit_makes s w _ _ _
+    (subst (λ o. IsThereAnd o (λ found.
+    ((count : ℕ) × HasPlaces found.kind found.name found.body count × (is_place found.kind count b.place ≡ true))
+    × IsThereAnd (code_in w.published b.code) (λ code. same_kind code.kind (takes found.kind) ≡ true)))
+    (sym (seen_there s w n plan seen))
+    ((count, has, bind_says (is_place plan.kind count) body b e), right_kind (takes plan.kind) (code_in w.published b.code) there right)))))))
 
 fit_calendars : (s : Text) (w : World) (n body : Text) → IsFit s w (Calendars (view s w) n body)
 unfolding Calendars
@@ -285,11 +294,12 @@ fit_sets_lag : (s : Text) (w : World) (n body : Text) → IsFit s w (SetsLag (vi
 unfolding SetsLag
 fit_sets_lag s w n body =
     fit_of_plan s w _ _ _ (λ plan seen. fit_given s w _ _ _ (λ b e. fit_by_kind s w _ _ _
-      (λ kind. fit_some s w _ _ (λ p says. fit_unless s w _ _ _ (λ arc. fit_makes s w _ _ _ (
-        subst (λ o. IsThereAnd o (λ found. (found.kind ≡ kinds.Project) × ((q : Project) × SaysProject found.body q × (has_arc q.network b.source b.target ≡ true))))
+    (λ kind. fit_some s w _ _ (λ p says. fit_unless s w _ _ _ (λ arc. fit_makes s w _ _ _ (
+      subst (λ o. IsThereAnd o (λ found. (found.kind ≡ kinds.Project) × ((q : Project) × SaysProject found.body q × (has_arc q.network b.source b.target ≡ true))))
           (sym (seen_there s w n plan seen)) (kind, (p, says, not-false (has_arc p.network b.source b.target) arc)),
-        lag_says body b e))))
-      (λ kind. fit_refuses s w _)))
+      lag_says body b e,
+    ))))
+    (λ kind. fit_refuses s w _)))
 
 fit_dates : (s : Text) (w : World) (n : Text) → IsFit s w (Dates (view s w) n)
 unfolding Dates
@@ -299,15 +309,15 @@ fit_schedules : (s : Text) (w : World) (n rule : Text) → IsFit s w (Schedules 
 unfolding Schedules OfSchedule OfShopSchedule
 fit_schedules s w n rule =
     fit_of_plan s w _ _ _ (λ plan seen. fit_by_kind s w _ _ _
-      (λ kind. fit_some s w _ _ (λ p is. fit_why_or s w _ _ _ _ (λ starts by. fit_shows s w _)))
-      (λ kind. fit_some s w _ _ (λ shop is. fit_why_or s w _ _ _ _ (λ starts by. fit_shows s w _))))
+    (λ kind. fit_some s w _ _ (λ p is. fit_why_or s w _ _ _ _ (λ starts by. fit_shows s w _)))
+    (λ kind. fit_some s w _ _ (λ shop is. fit_why_or s w _ _ _ _ (λ starts by. fit_shows s w _))))
 
 fit_charts : (s : Text) (w : World) (n rule : Text) → IsFit s w (Charts (view s w) n rule)
 unfolding Charts OfSchedule OfShopSchedule
 fit_charts s w n rule =
     fit_of_plan s w _ _ _ (λ plan seen. fit_by_kind s w _ _ _
-      (λ kind. fit_some s w _ _ (λ p is. fit_why_or s w _ _ _ _ (λ starts by. fit_shows s w _)))
-      (λ kind. fit_some s w _ _ (λ shop is. fit_why_or s w _ _ _ _ (λ starts by. fit_shows s w _))))
+    (λ kind. fit_some s w _ _ (λ p is. fit_why_or s w _ _ _ _ (λ starts by. fit_shows s w _)))
+    (λ kind. fit_some s w _ _ (λ shop is. fit_why_or s w _ _ _ _ (λ starts by. fit_shows s w _))))
 
 fit_of_calendar : (s : Text) (w : World) (plan : Plan) (IsTable : Workdays → Text → Type 0) (IsBeyond : Workdays → Type 0) → IsFit s w (OfCalendar plan IsTable IsBeyond)
 unfolding OfCalendar
@@ -317,15 +327,15 @@ fit_days : (s : Text) (w : World) (n rule : Text) → IsFit s w (Days (view s w)
 unfolding Days OfSchedule OfShopSchedule
 fit_days s w n rule =
     fit_of_plan s w _ _ _ (λ plan seen. fit_by_kind s w _ _ _
-      (λ kind. fit_some s w _ _ (λ p is. fit_why_or s w _ _ _ _ (λ starts by. fit_of_calendar s w _ _ _)))
-      (λ kind. fit_some s w _ _ (λ shop is. fit_why_or s w _ _ _ _ (λ starts by. fit_of_calendar s w _ _ _))))
+    (λ kind. fit_some s w _ _ (λ p is. fit_why_or s w _ _ _ _ (λ starts by. fit_of_calendar s w _ _ _)))
+    (λ kind. fit_some s w _ _ (λ shop is. fit_why_or s w _ _ _ _ (λ starts by. fit_of_calendar s w _ _ _))))
 
 fit_best : (s : Text) (w : World) (n word : Text) → IsFit s w (Best (view s w) n word)
 unfolding Best OfProjectBest OfShopBest
 fit_best s w n word =
     fit_of_plan s w _ _ _ (λ plan seen. fit_by_kind s w _ _ _
-      (λ kind. fit_some s w _ _ (λ p is. fit_why_or s w _ _ _ _ (λ text by. fit_shows s w _)))
-      (λ kind. fit_some s w _ _ (λ shop is. fit_why_or s w _ _ _ _ (λ text by. fit_shows s w _))))
+    (λ kind. fit_some s w _ _ (λ p is. fit_why_or s w _ _ _ _ (λ text by. fit_shows s w _)))
+    (λ kind. fit_some s w _ _ (λ shop is. fit_why_or s w _ _ _ _ (λ text by. fit_shows s w _))))
 
 -- what an admitted request makes fits
 answers_fit : (w : World) (r : Request) → IsFit (subject r) w (Answers (view (subject r) w) r.call)

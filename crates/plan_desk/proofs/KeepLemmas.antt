@@ -28,6 +28,17 @@ abbrev pub HasLagArc : World → Text → ℕ → ℕ → ℕ → Type 0
 HasLagArc w desk n source target = IsThereAnd (plan_in w desk n) (λ plan.
     (plan.kind ≡ kinds.Project) × ((p : Project) × SaysProject plan.body p × (has_arc p.network source target ≡ true)))
 
+-- what the rules ask of the plan of a bind, and of that of a lag
+abbrev pub HasBound : World → Bind → Plan → Type 0
+HasBound w row plan =
+    ((count : ℕ) × HasPlaces plan.kind plan.name plan.body count × (is_place plan.kind count row.place ≡ true))
+    × IsThereAnd (code_in w.published row.code) (λ code. same_kind code.kind (takes plan.kind) ≡ true)
+
+abbrev pub HasLag : Lag → Plan → Type 0
+HasLag row plan =
+    (plan.kind ≡ kinds.Project) × ((p : Project) × SaysProject plan.body p × (has_arc p.network row.source row.target ≡ true))
+    × (is_from_to 1 10000 row.lag ≡ true)
+
 -- what a change needs to keep the rules, where it is made for a desk
 abbrev pub Fits : Text → World → Change → Type 0
 Fits s w Keep = Unit {0}
@@ -77,8 +88,8 @@ keep_publish : (s : Text) (w : World) (code : Text) (kind : Kind) (capacity : �
 keep_publish s w code kind capacity k fits = record {
   office = k.office;
   published = all_put (λ row. is_published_row row ≡ true) (λ row. is_published_row row ≡ true) (is_code code) (with_capacity capacity) (new_code code kind capacity)
-    (λ x in_ e. and_from (is_name x.code) (nat_le capacity 10000) (and_parts (is_name x.code) (nat_le x.capacity 10000) e).0 fits.1) (λ x e. e)
-    (and_from (is_name code) (nat_le capacity 10000) fits.0 fits.1) w.published k.published;
+      (λ x in_ e. and_from (is_name x.code) (nat_le capacity 10000) (and_parts (is_name x.code) (nat_le x.capacity 10000) e).0 fits.1) (λ x e. e)
+      (and_from (is_name code) (nat_le capacity 10000) fits.0 fits.1) w.published k.published;
   desks = k.desks;
   plans = k.plans;
   codes_differ = differ_put (λ a b. same_text a.code b.code) (is_code code) (with_capacity capacity) (new_code code kind capacity) (λ x y. (refl, refl)) (λ x. refl) w.published k.codes_differ;
@@ -100,9 +111,11 @@ keep_publish s w code kind capacity k fits = record {
         by_code (inr out_) = ap (λ row. same_kind row.kind of_kind) (cond-false (is_code code x) (with_capacity capacity x) x out_) ∙ e
 
     bound_still : (row : Bind) → IsBindRow w row → IsBindRow (apply s (Publish code kind capacity) w) row
-    bound_still row h = there_map _ _ (λ plan both. (both.0,
-        there_put (λ published. same_kind published.kind (takes plan.kind) ≡ true) (is_code row.code) (is_code code) (with_capacity capacity) (new_code code kind capacity)
-          (λ x. refl) (kind_stays (takes plan.kind)) w.published both.1)) (plan_in w row.desk row.n) h
+    bound_still row h = there_map _ _ (λ plan both. (
+      both.0,
+      there_put (λ published. same_kind published.kind (takes plan.kind) ≡ true) (is_code row.code) (is_code code) (with_capacity capacity) (new_code code kind capacity)
+          (λ x. refl) (kind_stays (takes plan.kind)) w.published both.1,
+    )) (plan_in w row.desk row.n) h
 
 keep_open : (s : Text) (w : World) (digest : Digest) → IsWorld w → Fits s w (OpenDesk digest) → IsWorld (apply s (OpenDesk digest) w)
 keep_open s w digest k fits = record {
@@ -116,7 +129,7 @@ keep_open s w digest k fits = record {
   binds_differ = k.binds_differ;
   lags_differ = k.lags_differ;
   few = all_append (λ row. length (filter (is_plan_of row.desk) w.plans) ≤ 100) w.desks (new_desk s digest) k.few
-    (subst (λ rows. length rows ≤ 100) (sym (filter_none (is_plan_of s) w.plans (all_weaker unowned w.plans k.owned))) (omega arith));
+      (subst (λ rows. length rows ≤ 100) (sym (filter_none (is_plan_of s) w.plans (all_weaker unowned w.plans k.owned))) (omega arith));
   owned = all_weaker (λ row h. there_append (λ desk. row.n < desk.next) (is_desk row.desk) (new_desk s digest) w.desks h) w.plans k.owned;
   bound = k.bound;
   lagged = k.lagged;
@@ -135,10 +148,10 @@ keep_key s w digest k fits = record {
   office = k.office;
   published = k.published;
   desks = all_changed (λ row. is_desk_row row ≡ true) (λ row. is_desk_row row ≡ true) (is_desk s) (with_digest digest)
-    (λ x in_ e. let parts = and_parts (is_name x.desk) (is_digest x.digest && is_from_to 1 1000001 x.next) e in
+      (λ x in_ e. let parts = and_parts (is_name x.desk) (is_digest x.digest && is_from_to 1 1000001 x.next) e in
       and_from (is_name x.desk) (is_digest digest && is_from_to 1 1000001 x.next) parts.0
-        (and_from (is_digest digest) (is_from_to 1 1000001 x.next) fits (and_parts (is_digest x.digest) (is_from_to 1 1000001 x.next) parts.1).1))
-    (λ x e. e) w.desks k.desks;
+      (and_from (is_digest digest) (is_from_to 1 1000001 x.next) fits (and_parts (is_digest x.digest) (is_from_to 1 1000001 x.next) parts.1).1))
+      (λ x e. e) w.desks k.desks;
   plans = k.plans;
   codes_differ = k.codes_differ;
   desks_differ = differ_changed (λ a b. same_text a.desk b.desk) (is_desk s) (with_digest digest) (λ x y. (refl, refl)) w.desks k.desks_differ;
@@ -146,7 +159,7 @@ keep_key s w digest k fits = record {
   binds_differ = k.binds_differ;
   lags_differ = k.lags_differ;
   few = all_changed (λ row. length (filter (is_plan_of row.desk) w.plans) ≤ 100) (λ row. length (filter (is_plan_of row.desk) w.plans) ≤ 100) (is_desk s) (with_digest digest)
-    (λ x in_ h. h) (λ x h. h) w.desks k.few;
+      (λ x in_ h. h) (λ x h. h) w.desks k.few;
   owned = all_weaker (λ row h. there_changed (λ desk. row.n < desk.next) (λ desk. row.n < desk.next) (is_desk row.desk) (is_desk s) (with_digest digest) (λ x. refl) (next_stays row.n) w.desks h) w.plans k.owned;
   bound = k.bound;
   lagged = k.lagged;
@@ -197,7 +210,7 @@ keep_add s w kind name body k (row, found, room, spent, named, reads) = record {
   office = k.office;
   published = k.published;
   desks = all_changed (λ x. (is_desk_row x ≡ true) × (is_desk s x ≡ true → x ≡ row)) (λ x. is_desk_row x ≡ true) (is_desk s) risen
-    (λ x in_ h. risen_row x h.0 (h.1 in_)) (λ x h. h.0) w.desks (all_both (λ x. is_desk_row x ≡ true) (λ x. is_desk s x ≡ true → x ≡ row) w.desks k.desks only);
+      (λ x in_ h. risen_row x h.0 (h.1 in_)) (λ x h. h.0) w.desks (all_both (λ x. is_desk_row x ≡ true) (λ x. is_desk s x ≡ true → x ≡ row) w.desks k.desks only);
   plans = all_append IsPlanRow w.plans new k.plans (record { number = number; name = named; reads = reads; calendar = inl (refl, refl) });
   codes_differ = k.codes_differ;
   desks_differ = differ_changed (λ a b. same_text a.desk b.desk) (is_desk s) risen (λ x y. (refl, refl)) w.desks k.desks_differ;
@@ -205,7 +218,7 @@ keep_add s w kind name body k (row, found, room, spent, named, reads) = record {
   binds_differ = k.binds_differ;
   lags_differ = k.lags_differ;
   few = all_changed (λ x. length (filter (is_plan_of x.desk) w.plans) ≤ 100) (λ x. length (filter (is_plan_of x.desk) (w.plans ++ new ∷ [])) ≤ 100) (is_desk s) risen
-    (λ x in_ h. few_still s w new refl room x.desk h) (λ x h. few_still s w new refl room x.desk h) w.desks k.few;
+      (λ x in_ h. few_still s w new refl room x.desk h) (λ x h. few_still s w new refl room x.desk h) w.desks k.few;
   owned = all_append (IsOwned after) w.plans new (all_weaker owned_still w.plans k.owned) owns_new;
   bound = all_weaker (λ x h. there_append _ (is_plan x.desk x.n) new w.plans h) w.binds k.bound;
   lagged = all_weaker (λ x h. there_append _ (is_plan x.desk x.n) new w.plans h) w.lags k.lagged;
@@ -225,7 +238,7 @@ keep_add s w kind name body k (row, found, room, spent, named, reads) = record {
 
     only : AllByRecursion (λ x. is_desk s x ≡ true → x ≡ row) w.desks
     only = all_found (λ a b. same_text a.desk b.desk) (is_desk s) row
-      (λ x y a b. subst (λ t. same_text x.desk t ≡ true) (sym (text_from_same y.desk s b)) a) w.desks k.desks_differ found
+        (λ x y a b. subst (λ t. same_text x.desk t ≡ true) (sym (text_from_same y.desk s b)) a) w.desks k.desks_differ found
 
     low : is_from_to 1 1000001 row.next ≡ true
     low = (and_parts (is_digest row.digest) (is_from_to 1 1000001 row.next) (and_parts (is_name row.desk) (is_digest row.digest && is_from_to 1 1000001 row.next) its_row.0).1).1
@@ -235,7 +248,7 @@ keep_add s w kind name body k (row, found, room, spent, named, reads) = record {
 
     number : is_from_to 1 1000000 (next_of (desk_in w s)) ≡ true
     number = subst (λ n. is_from_to 1 1000000 n ≡ true) (sym numbered)
-      (and_from (nat_le 1 row.next) (nat_le row.next 1000000) (le-leb 1 row.next from_one) (le-leb row.next 1000000 spent))
+        (and_from (nat_le 1 row.next) (nat_le row.next 1000000) (le-leb 1 row.next from_one) (le-leb row.next 1000000 spent))
 
     risen_row : (x : Desk) → is_desk_row x ≡ true → x ≡ row → is_desk_row (risen x) ≡ true
     risen_row x e same =
@@ -243,8 +256,8 @@ keep_add s w kind name body k (row, found, room, spent, named, reads) = record {
         let digest = (and_parts (is_digest x.digest) (is_from_to 1 1000001 x.next) parts.1).0 in
         let next : x.next ≤ 1000000 = subst (λ z. z.next ≤ 1000000) (sym same) spent in
         and_from (is_name x.desk) (is_digest x.digest && is_from_to 1 1000001 (x.next + 1)) parts.0
-          (and_from (is_digest x.digest) (is_from_to 1 1000001 (x.next + 1)) digest
-            (and_from (nat_le 1 (x.next + 1)) (nat_le (x.next + 1) 1000001) (le-leb 1 (x.next + 1) (omega arith)) (le-leb (x.next + 1) 1000001 (omega (arith, next)))))
+        (and_from (is_digest x.digest) (is_from_to 1 1000001 (x.next + 1)) digest
+        (and_from (nat_le 1 (x.next + 1)) (nat_le (x.next + 1) 1000001) (le-leb 1 (x.next + 1) (omega arith)) (le-leb (x.next + 1) 1000001 (omega (arith, next)))))
 
     unlike : (x : Plan) → IsOwned w x → is_plan x.desk x.n new ≡ false
     unlike x owned = by_key (cases_Bool (is_plan x.desk x.n new))
@@ -263,8 +276,8 @@ keep_add s w kind name body k (row, found, room, spent, named, reads) = record {
     owns_new : IsOwned after new
     owns_new =
         rw (find-changed (is_desk s) (is_desk s) risen (λ y. refl) w.desks)
-          (subst (λ o. IsThereAnd (option_map (change_of (is_desk s) risen) o) (λ desk. next_of (desk_in w s) < desk.next)) (sym found)
-            (subst (λ z. next_of (desk_in w s) < z.next) (sym (cond-true (is_desk s row) (risen row) row its_row.1)) (omega (arith, numbered))))
+        (subst (λ o. IsThereAnd (option_map (change_of (is_desk s) risen) o) (λ desk. next_of (desk_in w s) < desk.next)) (sym found)
+        (subst (λ z. next_of (desk_in w s) < z.next) (sym (cond-true (is_desk s row) (risen row) row its_row.1)) (omega (arith, numbered))))
 
 -- ---- a plan less
 
@@ -282,9 +295,9 @@ keep_remove s w n k = record {
   few = all_weaker (λ row h. let fewer = length_fewer (is_plan_of row.desk) stays w.plans in omega (arith, h, fewer)) w.desks k.few;
   owned = all_filter (IsOwned w) (IsOwned w) stays (λ x in_ h. h) w.plans k.owned;
   bound = all_filter (IsBindRow w) (IsBindRow after) (λ x. not (is_bind_of s n x))
-    (λ x in_ h. subst (λ o. IsThereAnd o (λ plan. HasBound x plan)) (sym (found_still x.desk x.n (not-true (is_bind_of s n x) in_))) h) w.binds k.bound;
+      (λ x in_ h. subst (λ o. IsThereAnd o (λ plan. HasBound w x plan)) (sym (found_still x.desk x.n (not-true (is_bind_of s n x) in_))) h) w.binds k.bound;
   lagged = all_filter (IsLagRow w) (IsLagRow after) (λ x. not (is_lag_of s n x))
-    (λ x in_ h. subst (λ o. IsThereAnd o (λ plan. HasLag x plan)) (sym (found_still x.desk x.n (not-true (is_lag_of s n x) in_))) h) w.lags k.lagged;
+      (λ x in_ h. subst (λ o. IsThereAnd o (λ plan. HasLag x plan)) (sym (found_still x.desk x.n (not-true (is_lag_of s n x) in_))) h) w.lags k.lagged;
 }
   where
     stays : Plan → Bool
@@ -292,17 +305,6 @@ keep_remove s w n k = record {
 
     after : World
     after = apply s (RemovePlan n) w
-
-    -- what the rules ask of a bind's plan, and of a lag's
-    HasBound : Bind → Plan → Type 0
-    HasBound row plan =
-        ((count : ℕ) × HasPlaces plan.kind plan.name plan.body count × (is_place plan.kind count row.place ≡ true))
-        × IsThereAnd (code_in w.published row.code) (λ code. same_kind code.kind (takes plan.kind) ≡ true)
-
-    HasLag : Lag → Plan → Type 0
-    HasLag row plan =
-        (plan.kind ≡ kinds.Project) × ((p : Project) × SaysProject plan.body p × (has_arc p.network row.source row.target ≡ true))
-        × (is_from_to 1 10000 row.lag ≡ true)
 
     -- another plan is still found
     found_still : (d : Text) (m : ℕ) → (same_text d s && (m == n)) ≡ false → plan_in after d m ≡ plan_in w d m
@@ -318,7 +320,7 @@ keep_remove s w n k = record {
                 let by : x.desk ≡ s = text_from_same x.desk s (and_parts (is_plan_of s x) (x.n == n) e).0 in
                 let number : m ≡ n = sym (eqb-true x.n m (and_parts (is_plan_of d x) (x.n == m) is).1) ∙ eqb-true x.n n (and_parts (is_plan_of s x) (x.n == n) e).1 in
                 absurd (both_ways (same_text d s && (m == n)) other
-                  (and_from (same_text d s) (m == n) ((bytes_eq-Decides d s).1 (sym at ∙ by)) (eq-eqb m n number)))
+                (and_from (same_text d s) (m == n) ((bytes_eq-Decides d s).1 (sym at ∙ by)) (eq-eqb m n number)))
 
 -- ---- binds, calendars and lags
 
@@ -332,7 +334,7 @@ keep_bind s w n place code k fits = record {
   desks_differ = k.desks_differ;
   plans_differ = k.plans_differ;
   binds_differ = differ_put (λ a b. is_bind a.desk a.n a.place b) (is_bind s n place) (with_code code) (new_bind s n place code) (λ x y. (refl, refl))
-    (same_bind_key s n place code) w.binds k.binds_differ;
+      (same_bind_key s n place code) w.binds k.binds_differ;
   lags_differ = k.lags_differ;
   few = k.few;
   owned = k.owned;
@@ -348,7 +350,7 @@ keep_bind s w n place code k fits = record {
         let number : x.n ≡ n = eqb-true x.n n at.1 in
         let position : x.place ≡ place = eqb-true x.place place own.1 in
         subst (λ d. IsBindRow w (new_bind d x.n x.place code)) (sym desk)
-          (subst (λ m. IsBindRow w (new_bind s m x.place code)) (sym number) (subst (λ q. IsBindRow w (new_bind s n q code)) (sym position) fits))
+        (subst (λ m. IsBindRow w (new_bind s m x.place code)) (sym number) (subst (λ q. IsBindRow w (new_bind s n q code)) (sym position) fits))
 
 keep_calendar : (s : Text) (w : World) (n : ℕ) (start days : Text) → IsWorld w → Fits s w (SetCalendar n start days) → IsWorld (apply s (SetCalendar n start days) w)
 keep_calendar s w n start days k fits = record {
@@ -364,10 +366,10 @@ keep_calendar s w n start days k fits = record {
   few = all_weaker (λ row h. subst (λ m. m ≤ 100) (sym (as_many row.desk)) h) w.desks k.few;
   owned = all_changed (IsOwned w) (IsOwned w) q f (λ x in_ h. h) (λ x h. h) w.plans k.owned;
   bound = all_weaker (λ x h. there_changed _ _ (is_plan x.desk x.n) q f (λ y. refl)
-    (λ plan both. still (λ z. ((count : ℕ) × HasPlaces z.kind z.name z.body count × (is_place z.kind count x.place ≡ true))
+      (λ plan both. still (λ z. ((count : ℕ) × HasPlaces z.kind z.name z.body count × (is_place z.kind count x.place ≡ true))
       × IsThereAnd (code_in w.published x.code) (λ code. same_kind code.kind (takes z.kind) ≡ true)) plan both both) w.plans h) w.binds k.bound;
   lagged = all_weaker (λ x h. there_changed _ _ (is_plan x.desk x.n) q f (λ y. refl)
-    (λ plan both. still (λ z. (z.kind ≡ kinds.Project) × ((p : Project) × SaysProject z.body p × (has_arc p.network x.source x.target ≡ true))
+      (λ plan both. still (λ z. (z.kind ≡ kinds.Project) × ((p : Project) × SaysProject z.body p × (has_arc p.network x.source x.target ≡ true))
       × (is_from_to 1 10000 x.lag ≡ true)) plan both both) w.plans h) w.lags k.lagged;
 }
   where
@@ -435,11 +437,12 @@ keep_lag s w n source target lag k fits = record {
         → AllDiffer alike (lags_after s n source target lag w.lags) × AllByRecursion (IsLagRow w) (lags_after s n source target lag w.lags)
     by_zero (inl e) =
         rw (cond-true (lag == 0) (without q w.lags) (put q (with_lag lag) new w.lags) e)
-          (differ_filter alike (λ x. not (q x)) w.lags k.lags_differ, all_filter (IsLagRow w) (IsLagRow w) (λ x. not (q x)) (λ x in_ h. h) w.lags k.lagged)
+        (differ_filter alike (λ x. not (q x)) w.lags k.lags_differ, all_filter (IsLagRow w) (IsLagRow w) (λ x. not (q x)) (λ x in_ h. h) w.lags k.lagged)
     by_zero (inr e) =
-        rw (cond-false (lag == 0) (without q w.lags) (put q (with_lag lag) new w.lags) e)
-          (differ_put alike q (with_lag lag) new (λ x y. (refl, refl)) (same_lag_key s n source target lag) w.lags k.lags_differ,
-            all_put (IsLagRow w) (IsLagRow w) q (with_lag lag) new (relagged (positive e)) (λ x h. h) (on_arc fits.0 (positive e)) w.lags k.lagged)
+        rw (cond-false (lag == 0) (without q w.lags) (put q (with_lag lag) new w.lags) e) (
+          differ_put alike q (with_lag lag) new (λ x y. (refl, refl)) (same_lag_key s n source target lag) w.lags k.lags_differ,
+          all_put (IsLagRow w) (IsLagRow w) q (with_lag lag) new (relagged (positive e)) (λ x h. h) (on_arc fits.0 (positive e)) w.lags k.lagged,
+        )
 
 -- a change that fits keeps the rules
 pub fits_keeps : (s : Text) (c : Change) (w : World) → IsWorld w → Fits s w c → IsWorld (apply s c w)

@@ -9,3 +9,4 @@ pub mod LawLemmas
 pub mod RuleLemmas
 pub mod KeepLemmas
 pub mod FitLemmas
+pub mod AloneLemmas

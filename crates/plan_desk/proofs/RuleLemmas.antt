@@ -65,7 +65,7 @@ module _ {A : Type 0} where
       by_test : (p x ≡ true) ⊎ (p x ≡ false) → AllDiffer alike (filter p xs) → AllDiffer alike (filter p (x ∷ xs))
       by_test (inl in_) rest =
           rw (cond-true (p x) (x ∷ filter p xs) (filter p xs) in_)
-            (all_filter (λ y. alike x y ≡ false) (λ y. alike x y ≡ false) p (λ y kept e. e) xs apart.0, rest)
+          (all_filter (λ y. alike x y ≡ false) (λ y. alike x y ≡ false) p (λ y kept e. e) xs apart.0, rest)
       by_test (inr out_) rest = rw (cond-false (p x) (x ∷ filter p xs) (filter p xs) out_) rest
 
   -- no row that is there passes

@@ -1,6 +1,6 @@
 //! Laws of the office, for proofs above to cite: functions that do nothing.
 
-ghost use Rattle.plan_desk.specs.Laws.{OneDecision, OutsideIsUnseen, DesksAreApart, ToldIsStory, StoriesAreToldAlike};
+ghost use Rattle.plan_desk.specs.Laws.{OneDecision, StepsKeepRules, AloneKeepsRules, OutsideIsUnseen, DesksAreApart, ToldIsStory, StoriesAreToldAlike};
 
 /// A view and a request have one reply and one change at most.
 pub fn one_decision()
@@ -18,4 +18,10 @@ pub fn desks_are_apart()
     ensures apart { DesksAreApart }
     ensures story { ToldIsStory }
     ensures alike { StoriesAreToldAlike }
+{}
+
+/// A step keeps the rules of rows, and so does an office that has the rows of one desk alone.
+pub fn steps_keep_rules()
+    ensures steps { StepsKeepRules }
+    ensures alone { AloneKeepsRules }
 {}
