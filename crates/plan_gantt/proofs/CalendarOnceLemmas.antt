@@ -118,7 +118,8 @@ lines_once c d front v (suc n) x y same (a, k, are_a, is_k, is_x) (b, l, are_b, 
     is_x ∙ ap (λ (text : List ℕ). text ++ k) (lines_once c d front v n a b same are_a are_b)
     ∙ ap (λ (text : List ℕ). b ++ text) (line_once c d (front (suc n)) (v (suc n)) k l same is_k is_l) ∙ sym is_y
 
-table_once : (c d : Workdays) (heading : List ℕ) (front : ℕ → List ℕ) (v : ℕ → Interval) (n : ℕ) (x y : List ℕ) → GoAlike c d → IsDaysTable c heading front v n x → IsDaysTable d heading front v n y → x ≡ y
+table_once : (c d : Workdays) (heading : List ℕ) (front : ℕ → List ℕ) (v : ℕ → Interval) (n : ℕ) (x y : List ℕ)
+    → GoAlike c d → IsDaysTable c heading front v n x → IsDaysTable d heading front v n y → x ≡ y
 table_once c d heading front v n x y same (a, are_a, is_x) (b, are_b, is_y) =
     is_x ∙ ap (λ (text : List ℕ). heading ++ text) (lines_once c d front v n a b same are_a are_b) ∙ sym is_y
 
