@@ -75,9 +75,6 @@ texts_apart start marks c fault.BadDate calendar refused = refused c.start calen
 texts_apart start marks c fault.BadDays calendar refused = refused.1 c.marks calendar.marks_text
 texts_apart start marks c fault.BeyondCalendar calendar refused = refused
 
-turned : (c d : Workdays) → GoAlike c d → GoAlike d c
-turned c d same = record { start = sym same.start; marks = sym same.marks }
-
 -- calendars that go alike have the same working days
 pub working_alike : (c d : Workdays) (t : ℕ) (date : Date) → GoAlike c d → IsWorkingDay c t date → IsWorkingDay d t date
 working_alike c d t date same day = record {
