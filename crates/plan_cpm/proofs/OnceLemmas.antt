@@ -33,7 +33,8 @@ starts_as : (net : Net) (a b : DateTable) (j : ℕ) → ((k : ℕ) → early_sta
 starts_as net a b j same v (k, arc, is) = (k, arc, is ∙ same k)
 
 -- the free floats of an activity, where all else is the same
-floats_once : (net : Net) (a b : DateTable) → AreDates net a → AreDates net b → a.duration ≡ b.duration → a.durations ≡ b.durations → a.finishes ≡ b.finishes → (j : ℕ) → IsActivity net j → free_float_of a j ≡ free_float_of b j
+floats_once : (net : Net) (a b : DateTable) → AreDates net a → AreDates net b → a.duration ≡ b.duration → a.durations ≡ b.durations → a.finishes ≡ b.finishes
+    → (j : ℕ) → IsActivity net j → free_float_of a j ≡ free_float_of b j
 floats_once net a b first second long lasting ends j activity = by_next (next_or_none net j) where
   early : (k : ℕ) → early_start_of a k ≡ early_start_of b k
   early k = ap (λ (xs : List ℕ). get_or xs (k - 1) 0 - get_or a.durations (k - 1) 0) ends ∙ ap (λ (xs : List ℕ). get_or b.finishes (k - 1) 0 - get_or xs (k - 1) 0) lasting

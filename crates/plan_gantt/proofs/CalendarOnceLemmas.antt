@@ -75,9 +75,6 @@ texts_apart start marks c fault.BadDate calendar refused = refused c.start calen
 texts_apart start marks c fault.BadDays calendar refused = refused.1 c.marks calendar.marks_text
 texts_apart start marks c fault.BeyondCalendar calendar refused = refused
 
-turned : (c d : Workdays) → GoAlike c d → GoAlike d c
-turned c d same = record { start = sym same.start; marks = sym same.marks }
-
 -- calendars that go alike have the same working days
 pub working_alike : (c d : Workdays) (t : ℕ) (date : Date) → GoAlike c d → IsWorkingDay c t date → IsWorkingDay d t date
 working_alike c d t date same day = record {
@@ -118,7 +115,8 @@ lines_once c d front v (suc n) x y same (a, k, are_a, is_k, is_x) (b, l, are_b, 
     is_x ∙ ap (λ (text : List ℕ). text ++ k) (lines_once c d front v n a b same are_a are_b)
     ∙ ap (λ (text : List ℕ). b ++ text) (line_once c d (front (suc n)) (v (suc n)) k l same is_k is_l) ∙ sym is_y
 
-table_once : (c d : Workdays) (heading : List ℕ) (front : ℕ → List ℕ) (v : ℕ → Interval) (n : ℕ) (x y : List ℕ) → GoAlike c d → IsDaysTable c heading front v n x → IsDaysTable d heading front v n y → x ≡ y
+table_once : (c d : Workdays) (heading : List ℕ) (front : ℕ → List ℕ) (v : ℕ → Interval) (n : ℕ) (x y : List ℕ)
+    → GoAlike c d → IsDaysTable c heading front v n x → IsDaysTable d heading front v n y → x ≡ y
 table_once c d heading front v n x y same (a, are_a, is_x) (b, are_b, is_y) =
     is_x ∙ ap (λ (text : List ℕ). heading ++ text) (lines_once c d front v n a b same are_a are_b) ∙ sym is_y
 

@@ -1,4 +1,5 @@
--- The best text of a job shop within the budget that a word spells, or why there is none (docs/DEFINITIONS.md, "Texts").
+-- The best text of a job shop within the budget that a word spells, or why there is none
+-- (docs/DEFINITIONS.md, "Texts").
 use Rattle.std.specs.Prelude.{◌≡◌, ◌<◌, ℕ, List}
 use Rattle.plan_sgs.specs.Problem.{IsActive, IsShortest, makespan}
 use Rattle.plan_shop.specs.Shop.{JobShop, problem_of, count_steps}
@@ -11,8 +12,8 @@ use Rattle.plan_exact.specs.declared.fault.ExactFault.TheVariants as exact
 use Rattle.plan_gantt.specs.BestText.{best_text_of}
 use Rattle.plan_gantt.specs.ExactFaultText.{exact_fault_text_of}
 
--- a text tells what a search of a shop's words within a budget answers: an active schedule, and where it is called
--- optimal one of least makespan among all feasible ones
+-- a text tells what a search of a shop's words within a budget answers: an active schedule, and
+-- where it is called optimal one of least makespan among all feasible ones
 pub record IsBestBy (budget : ℕ) (s : JobShop) (text : List ℕ) : Type 0 where
   pub solved : Solved
   pub solution : IsSolution s budget solved

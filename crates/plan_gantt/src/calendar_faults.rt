@@ -5,7 +5,8 @@ ghost use Rattle.plan_gantt.specs.CalendarFaultText.{calendar_fault_text_of, mis
 
 use crate::calendar::CalendarFault;
 
-/// The text of what a calendar, or a day of it, is refused for, as `G1 date`, without an end of line. Takes no memory.
+/// The text of what a calendar, or a day of it, is refused for, as `G1 date`, without an end of
+/// line. Takes no memory.
 pub fn calendar_fault_text(fault: CalendarFault) -> &'static str
     ensures text { result.now ≡ calendar_fault_text_of fault }
 {
@@ -16,8 +17,8 @@ pub fn calendar_fault_text(fault: CalendarFault) -> &'static str
     }
 }
 
-/// The text of what is refused where working days are asked for and no calendar was given, without an end of line. Takes no
-/// memory.
+/// The text of what is refused where working days are asked for and no calendar was given, without
+/// an end of line. Takes no memory.
 pub fn missing_calendar() -> &'static str
     ensures text { result.now ≡ missing_calendar_text }
 {

@@ -20,7 +20,9 @@ same_entries xs ys long same =
     same_lists xs ys long (λ k d within. get_or_default xs k d 0 within ∙ same k within ∙ get_or_default ys k 0 d (omega (arith, long)))
 
 -- what a rising list has at a place the other has there, where the lists agree at all places before
-same_place : (xs ys : List ℕ) (P : ℕ → Type 0) → ListsRising P xs → ListsRising P ys → (k : ℕ) → k < length xs → ((j : ℕ) → j < k → j < length xs → (j < length ys) × (get_or ys j 0 ≡ get_or xs j 0)) → (m : ℕ) → m < length ys → get_or ys m 0 ≡ get_or xs k 0 → (k < length ys) × (get_or ys k 0 ≡ get_or xs k 0)
+same_place : (xs ys : List ℕ) (P : ℕ → Type 0) → ListsRising P xs → ListsRising P ys → (k : ℕ) → k < length xs
+    → ((j : ℕ) → j < k → j < length xs → (j < length ys) × (get_or ys j 0 ≡ get_or xs j 0))
+    → (m : ℕ) → m < length ys → get_or ys m 0 ≡ get_or xs k 0 → (k < length ys) × (get_or ys k 0 ≡ get_or xs k 0)
 same_place xs ys P first second k within before m inside is =
     elim (cases_lt m k) [
       | inl lower ↦
@@ -89,7 +91,8 @@ arc_or_none ((a, b) ∷ arcs) j = by_first (cases_eq a j) (arc_or_none arcs j) w
     | inr later ↦ none k later
   ]
 
-  by_first : (a ≡ j) ⊎ (a ≡ j → ⊥) → ((k : ℕ) × Contains arcs (j, k)) ⊎ ((k : ℕ) → Contains arcs (j, k) → ⊥) → ((k : ℕ) × Contains ((a, b) ∷ arcs) (j, k)) ⊎ ((k : ℕ) → Contains ((a, b) ∷ arcs) (j, k) → ⊥)
+  by_first : (a ≡ j) ⊎ (a ≡ j → ⊥) → ((k : ℕ) × Contains arcs (j, k)) ⊎ ((k : ℕ) → Contains arcs (j, k) → ⊥)
+      → ((k : ℕ) × Contains ((a, b) ∷ arcs) (j, k)) ⊎ ((k : ℕ) → Contains ((a, b) ∷ arcs) (j, k) → ⊥)
   by_first (inl same) others = inl (b, (0, omega arith, ap (λ (x : ℕ). (x, b)) same))
   by_first (inr differs) (inl (k, later)) = inl (k, Contains-append_right ((a, b) ∷ []) arcs (j, k) later)
   by_first (inr differs) (inr none) = inr (no_other differs none)
