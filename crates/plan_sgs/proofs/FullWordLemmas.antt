@@ -1,19 +1,18 @@
 -- The full words of a project are the activity lists; words are finite, and go on while they aren't full.
-use Rattle.std.proofs.Common.{ℕ, suc, Bool, true, false, ◌≡◌, ◌+◌, ◌*◌, ◌≤◌, ◌<◌, inl, inr, List, [], ◌∷◌, length, get_or, map, nat_eq, refl, sym, ◌∙◌, ap, subst, arith}
-use Rattle.std.specs.List.{All, AllPairs}
-use Rattle.std.proofs.lemmas.Bool.{cases_eq, and_from, eq-eqb, eqb-true}
+use Rattle.std.proofs.Common.{ℕ, suc, Bool, true, false, ◌≡◌, ◌+◌, ◌*◌, ◌≤◌, ◌<◌, List, [], ◌∷◌, length, get_or, map, nat_eq, refl, sym, ◌∙◌, ap, subst, arith}
+use Rattle.std.specs.List.{All}
+use Rattle.std.proofs.lemmas.Bool.{and_from, eq-eqb, eqb-true}
 use Rattle.std.proofs.lemmas.List.{length-map, get_or-map}
 use Rattle.std.proofs.lemmas.List.Elements.{All-nil, All-cons, Contains-get_or}
-use Rattle.plan_sgs.specs.Problem.{Problem, count, all_below, makespan}
+use Rattle.plan_sgs.specs.Problem.{count, makespan}
 use Rattle.plan_sgs.specs.Serial.{serial}
 use Rattle.plan_sgs.specs.Rules.{places, is_member, is_activity_list, takes_in_turn, eligible, rule_list}
-use Rattle.plan_sgs.specs.Instances.{Planned, IsInstance, problem_of}
+use Rattle.plan_sgs.specs.Instances.{Planned, problem_of}
 use Rattle.plan_sgs.specs.Laws.{by_starts}
-use Rattle.plan_sgs.specs.ProjectWords.{depth_of, letters_after, IsWord, is_full, starts_by, makespan_by}
-use Rattle.plan_sgs.specs.ProjectLaws.{ProjectLettersRise, LettersAreActivities, ProjectWordsAreFinite, WordsGoOn, IsFullWord, FullWordsAreLists, ProjectFullIsActive, ReachesBy, ProjectWordsReach, LeastProjectWordIsShortest, rule_word, RuleWordIsFull}
-use Rattle.plan_sgs.proofs.Bounds.{IsBounded}
+use Rattle.plan_sgs.specs.ProjectWords.{depth_of, letters_after, IsWord, is_full, makespan_by}
+use Rattle.plan_sgs.specs.ProjectLaws.{ProjectLettersRise, LettersAreActivities, ProjectWordsAreFinite, WordsGoOn, IsFullWord, FullWordsAreLists, ProjectFullIsActive, ProjectWordsReach, LeastProjectWordIsShortest, RuleWordIsFull}
 use Rattle.plan_sgs.proofs.TotalLemmas.{all_below_at, all_below_from, all_below_not, total_limit}
-use Rattle.plan_sgs.proofs.SerialLemmas.{taken_count, taken_all, taken_none, full_has, list_parts, takes_each, serial_active, one_if}
+use Rattle.plan_sgs.proofs.SerialLemmas.{taken_count, taken_all, taken_none, full_has, list_parts, serial_active, one_if}
 use Rattle.plan_sgs.proofs.ListLemmas.{total_ones, told_by_places, told_by_entries}
 use Rattle.plan_sgs.proofs.RuleLemmas.{rule_list_is, some_eligible}
 use Rattle.plan_sgs.proofs.LawLemmas.{by_starts_least, least_shortest}

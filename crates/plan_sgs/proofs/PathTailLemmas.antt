@@ -1,9 +1,9 @@
 -- The listed walks are all walks, so that tails are the greatest lengths of paths; and how many arcs may follow ranks the activities.
-use Rattle.std.proofs.Common.{ℕ, zero, suc, max, Bool, true, false, cond, nat_eq, ◌≡◌, ◌+◌, ◌-◌, ◌≤◌, ◌<◌, ◌⊎◌, inl, inr, List, [], ◌∷◌, ◌++◌, length, get_or, map, flat_map, refl, sym, ◌∙◌, ap, subst, arith}
+use Rattle.std.proofs.Common.{ℕ, zero, suc, Bool, true, false, cond, nat_eq, ◌≡◌, ◌-◌, ◌≤◌, ◌<◌, ◌⊎◌, inl, inr, List, [], ◌∷◌, ◌++◌, length, map, flat_map, refl, sym, ◌∙◌, ap, subst, arith}
 use Rattle.std.specs.List.{Contains, filter}
 use Rattle.std.proofs.lemmas.Bool.{cases_lt, cond-true, eqb-true, eq-eqb}
 use Rattle.plan_net.specs.Network.{Net, count_of, IsArc, IsActivity, IsGreatest}
-use Rattle.plan_net.specs.Path.{IsWalk, IsPath, path_length}
+use Rattle.plan_net.specs.Path.{IsWalk, path_length}
 use Rattle.plan_net.specs.Limits.{IsSound}
 use Rattle.plan_net.proofs.RowLemmas.{arc_ends}
 use Rattle.plan_cpm.specs.Lengths.{IsLength, IsLengthFrom}

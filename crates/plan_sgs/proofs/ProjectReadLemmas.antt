@@ -1,13 +1,12 @@
 -- What the calls of a project's tree read: which activities may follow, whether all are placed, starts and the makespan.
-use Rattle.std.proofs.Common.{ℕ, zero, suc, Bool, true, false, cond, nat_eq, ◌≡◌, ◌+◌, ◌-◌, ◌≤◌, ◌<◌, ◌↔◌, List, [], ◌∷◌, ◌++◌, length, get_or, map, Option, Some, None, IsTrue, refl, sym, ◌∙◌, ap, subst, arith}
-use Rattle.std.specs.List.{All, Contains}
+use Rattle.std.proofs.Common.{ℕ, suc, Bool, true, false, cond, nat_eq, ◌≡◌, ◌+◌, ◌-◌, ◌≤◌, ◌<◌, List, [], ◌∷◌, ◌++◌, length, get_or, map, Option, Some, None, refl, sym, ◌∙◌, ap, subst, arith}
+use Rattle.std.specs.List.{Contains}
 use Rattle.std.specs.Option.{is_some}
-use Rattle.std.proofs.lemmas.Bool.{both_ways, false≢true}
-use Rattle.std.proofs.lemmas.List.{append-nil, append_assoc, length-map, map-append, get_or_default}
+use Rattle.std.proofs.lemmas.List.{append-nil, append_assoc, map-append, get_or_default}
 use Rattle.std.proofs.lemmas.List.Elements.{All-contains, Contains-get_or}
-use Rattle.plan_net.specs.Network.{count_of, IsArc, IsActivity, ListsRising}
+use Rattle.plan_net.specs.Network.{IsArc, IsActivity, ListsRising}
 use Rattle.plan_net.proofs.RowLemmas.{arc_ends}
-use Rattle.plan_sgs.specs.Problem.{Problem, count, duration, greatest_below, makespan}
+use Rattle.plan_sgs.specs.Problem.{Problem, duration}
 use Rattle.plan_sgs.specs.Serial.{end_from, end_of, serial, start_or_zero}
 use Rattle.plan_sgs.specs.Rules.{places, is_member, is_eligible, eligible}
 use Rattle.plan_sgs.specs.Instances.{problem_of}

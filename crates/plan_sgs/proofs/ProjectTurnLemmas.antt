@@ -1,28 +1,27 @@
 -- What the tree of a project keeps gives what its calls read, and each push and pop keeps it.
-use Rattle.std.proofs.Common.{ℕ, zero, suc, max, Bool, true, false, ◌≡◌, ◌≢◌, ◌+◌, ◌-◌, ◌≤◌, ◌<◌, inl, inr, List, [], ◌∷◌, ◌++◌, length, get_or, set, map, take, Option, Some, None, refl, sym, ◌∙◌, ap, subst, arith, length-append, get_or-set_same, get_or-set_other}
+use Rattle.std.proofs.Common.{ℕ, zero, suc, max, true, ◌≡◌, ◌≢◌, ◌+◌, ◌-◌, ◌≤◌, ◌<◌, inl, inr, List, [], ◌∷◌, ◌++◌, length, get_or, set, take, Option, Some, None, refl, sym, ◌∙◌, ap, subst, arith, length-append, get_or-set_same, get_or-set_other}
 use Rattle.std.specs.List.{Contains, slice_get}
-use Rattle.std.specs.Option.{is_some}
 use Rattle.std.proofs.lemmas.Bool.{cases_eq}
-use Rattle.std.proofs.lemmas.List.{append-nil, append_assoc, length-set, length-map, map_push, set-set, set-get_or, take_all, get_or_default}
+use Rattle.std.proofs.lemmas.List.{append-nil, append_assoc, length-set, map_push, set-set, set-get_or, take_all, get_or_default}
 use Rattle.std.proofs.lemmas.Option.{none-some, slice_get_within, slice_get-get_or, same_Some}
 use Rattle.plan_net.specs.Network.{count_of, IsActivity}
 use Rattle.plan_cpm.specs.Lengths.{AreTails}
 use Rattle.plan_profile.specs.declared.profile.Profile.{Profile}
-use Rattle.plan_sgs.specs.Problem.{Problem, count, duration, greatest_below, makespan}
-use Rattle.plan_sgs.specs.Serial.{end_from, end_of, earliest, unplaced, serial_from, serial, start_or_zero}
-use Rattle.plan_sgs.specs.Rules.{places, is_member, takes_in_turn}
+use Rattle.plan_sgs.specs.Problem.{Problem, count, duration, greatest_below}
+use Rattle.plan_sgs.specs.Serial.{end_from, end_of, earliest, unplaced, serial_from}
+use Rattle.plan_sgs.specs.Rules.{places, takes_in_turn}
 use Rattle.plan_sgs.specs.Instances.{Planned, IsInstance, problem_of}
 use Rattle.plan_sgs.specs.Placing.{EndsBy, Holds}
 use Rattle.plan_sgs.specs.PathTails.{tail_of}
-use Rattle.plan_sgs.specs.ProjectWords.{depth_of, placed_by, letters_after, Follows, IsWord, is_full, starts_by, makespan_by, reach_of}
+use Rattle.plan_sgs.specs.ProjectWords.{depth_of, placed_by, letters_after, Follows, IsWord, reach_of}
 use Rattle.plan_sgs.specs.ProjectTrees.{Standing, standing, word_of, end_by, reach_by, IsTurn, AreTurns, IsTree}
 use Rattle.plan_sgs.specs.declared.project_tree.Turn.{Turn}
 use Rattle.plan_sgs.proofs.Bounds.{IsBounded, bound_of}
-use Rattle.plan_sgs.proofs.TotalLemmas.{greatest_least, greatest_above, greatest_same}
+use Rattle.plan_sgs.proofs.TotalLemmas.{greatest_least, greatest_above}
 use Rattle.plan_sgs.proofs.InstanceLemmas.{count-problem}
 use Rattle.plan_sgs.proofs.BoundedLemmas.{bounded}
 use Rattle.plan_sgs.proofs.PlacingLemmas.{IsPartial}
-use Rattle.plan_sgs.proofs.SerialLemmas.{TakenIs, taken_open, taken_placed, turn_parts, eligible_not, unplaced_at, start_at}
+use Rattle.plan_sgs.proofs.SerialLemmas.{TakenIs, taken_open, turn_parts, eligible_not, unplaced_at}
 use Rattle.plan_sgs.proofs.StepLemmas.{ends_set, bound_more, bound_within, end_of-limit}
 use Rattle.plan_sgs.proofs.RunLemmas.{length-places}
 use Rattle.plan_sgs.proofs.WordLemmas.{IsLetter, letter_is, word_turns, word_push, word_split}

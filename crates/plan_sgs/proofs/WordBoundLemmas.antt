@@ -1,15 +1,13 @@
 -- The bound of a word is at most the makespan of each full word that begins with it.
-use Rattle.std.proofs.Common.{ℕ, zero, suc, Bool, true, false, max, ◌≡◌, ◌≢◌, ◌+◌, ◌-◌, ◌≤◌, ◌<◌, inl, inr, List, [], ◌∷◌, ◌++◌, length, get_or, set, map, Option, Some, None, refl, sym, ◌∙◌, ap, subst, arith, get_or-set_other}
-use Rattle.std.proofs.lemmas.Bool.{cases_eq, both_ways}
-use Rattle.std.proofs.lemmas.List.{append_assoc}
+use Rattle.std.proofs.Common.{ℕ, suc, true, ◌≡◌, ◌≢◌, ◌+◌, ◌-◌, ◌≤◌, ◌<◌, List, [], ◌∷◌, ◌++◌, length, get_or, set, Option, Some, None, refl, sym, ◌∙◌, ap, subst, arith, get_or-set_other}
+use Rattle.std.proofs.lemmas.Bool.{both_ways}
 use Rattle.std.specs.Option.{is_some}
-use Rattle.plan_net.specs.Network.{Net, count_of, IsArc, IsActivity, IsGreatest, duration_of, lag_of}
-use Rattle.plan_net.specs.Path.{IsWalk, path_length, length_after}
+use Rattle.plan_net.specs.Network.{IsActivity, lag_of}
+use Rattle.plan_net.specs.Path.{IsWalk, path_length}
 use Rattle.plan_net.specs.Limits.{IsSound}
 use Rattle.plan_net.proofs.RowLemmas.{arc_ends}
-use Rattle.plan_cpm.specs.Lengths.{IsLength, IsLengthFrom}
-use Rattle.plan_sgs.specs.Problem.{Problem, count, duration, greatest_below, IsFeasible, IsActive, makespan}
-use Rattle.plan_sgs.specs.Serial.{end_from, earliest, unplaced, serial_from, serial, start_or_zero}
+use Rattle.plan_sgs.specs.Problem.{Problem, count, duration, greatest_below, IsFeasible, makespan}
+use Rattle.plan_sgs.specs.Serial.{end_from, earliest, unplaced, serial_from, serial}
 use Rattle.plan_sgs.specs.Rules.{places, is_member, takes_in_turn}
 use Rattle.plan_sgs.specs.Instances.{Planned, IsInstance, problem_of}
 use Rattle.plan_sgs.specs.PathTails.{tail_of, longest_of}
@@ -23,7 +21,7 @@ use Rattle.plan_sgs.proofs.PlacingLemmas.{IsPartial}
 use Rattle.plan_sgs.proofs.SerialLemmas.{TakenIs, taken_first, turn_parts, eligible_not, start_at, member_other, partial_after, partial_first}
 use Rattle.plan_sgs.proofs.PathTailLemmas.{tails_are_greatest, longest_is_greatest}
 use Rattle.plan_sgs.proofs.WorkLemmas.{busy_fits}
-use Rattle.plan_sgs.proofs.WordLemmas.{word_turns, word_split, places_append, TakesTurns}
+use Rattle.plan_sgs.proofs.WordLemmas.{word_turns, word_split, places_append}
 use Rattle.plan_sgs.proofs.FullWordLemmas.{full_is_active}
 
 -- in a feasible schedule what follows an activity on a path comes after it

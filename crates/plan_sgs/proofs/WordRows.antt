@@ -1,5 +1,5 @@
 -- Worked examples: the words of a project of five activities with one resource, computed by the definitions.
-use Rattle.std.proofs.Common.{ℕ, true, ◌≡◌, List, [], ◌∷◌, refl}
+use Rattle.std.proofs.Common.{ℕ, true, ◌≡◌, [], ◌∷◌, refl}
 use Rattle.plan_net.specs.Network.{Net, unlagged, lag_of}
 use Rattle.plan_sgs.specs.Problem.{usage}
 use Rattle.plan_sgs.specs.Serial.{serial, earliest, fits}

@@ -1,6 +1,6 @@
 -- The work on a resource fits beside its capacity into each feasible schedule.
-use Rattle.std.proofs.Common.{ℕ, zero, suc, min, cond, nat_lt, ◌≡◌, ◌+◌, ◌-◌, ◌*◌, ◌/◌, ◌%◌, ◌≤◌, ◌<◌, inl, inr, List, length, get_or, Some, refl, sym, ◌∙◌, ap, arith}
-use Rattle.std.proofs.lemmas.Bool.{cases_lt, cases_eq, cond-true, cond-false, lt-ltb, le-ltb}
+use Rattle.std.proofs.Common.{ℕ, zero, suc, min, nat_lt, ◌≡◌, ◌+◌, ◌-◌, ◌*◌, ◌/◌, ◌%◌, ◌≤◌, ◌<◌, inl, inr, List, length, get_or, Some, refl, sym, ◌∙◌, ap, arith}
+use Rattle.std.proofs.lemmas.Bool.{cases_lt, cond-true, cond-false, lt-ltb, le-ltb}
 use Rattle.std.proofs.lemmas.Nat.{mul-le, div-add-mod'}
 use Rattle.std.proofs.Math.Nat.{suc-mul, mul_comm}
 use Rattle.plan_sgs.specs.Problem.{Problem, count, duration, need, capacity, total, amount_of, usage, all_placed, IsFeasible, makespan}

@@ -1,6 +1,6 @@
 -- Where the tree of a project stands, and what it keeps of what its word places (docs/DEFINITIONS.md, "Words of a project").
 -- Public clauses speak of `Standing` and `standing` alone.
-use Rattle.std.specs.Prelude.{◌≡◌, ℕ, ◌-◌, ◌<◌, List, [], ◌∷◌, ◌++◌, map, slice_index, Option, Some, None, get_or, length}
+use Rattle.std.specs.Prelude.{◌≡◌, ℕ, List, [], ◌∷◌, ◌++◌, map, Option}
 use Rattle.plan_cpm.specs.Lengths.{AreTails}
 use Rattle.plan_profile.specs.declared.profile.Profile.{Profile}
 use Rattle.plan_sgs.specs.Problem.{greatest_below}

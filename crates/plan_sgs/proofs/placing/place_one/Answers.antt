@@ -1,9 +1,8 @@
 -- The profile's earliest start is that of the definition.
-use Rattle.std.proofs.Common.{ℕ, ◌≡◌, ◌-◌, List, length, set, Option, Some, ◌∙◌, ap, arith}
+use Rattle.std.proofs.Common.{ℕ, ◌≡◌, ◌-◌, List, length, ◌∙◌, ap, arith}
 use Rattle.plan_net.specs.Network.{Net, duration_of}
 use Rattle.plan_profile.specs.InUse.{in_use, capacities}
 use Rattle.plan_sgs.specs.Problem.{duration}
-use Rattle.plan_sgs.specs.Serial.{release}
 use Rattle.plan_sgs.specs.Instances.{problem_of}
 use Rattle.plan_sgs.proofs.InstanceLemmas.{capacities-problem}
 use Rattle.plan_sgs.proofs.BoundedLemmas.{bounded}

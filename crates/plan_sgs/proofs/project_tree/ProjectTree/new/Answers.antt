@@ -1,5 +1,5 @@
 -- Nothing is placed yet.
-use Rattle.std.proofs.Common.{ℕ, List, [], ◌≡◌, ◌+◌, length, replicate, Option, None, refl, sym, ap, subst, ◌∙◌, rules}
+use Rattle.std.proofs.Common.{List, [], ◌≡◌, replicate, None, sym, ap, subst, ◌∙◌, rules}
 use Rattle.plan_net.specs.Network.{count_of}
 use Rattle.plan_profile.specs.InUse.{in_use}
 use Rattle.plan_sgs.specs.Problem.{count}

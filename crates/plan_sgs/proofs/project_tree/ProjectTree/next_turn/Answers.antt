@@ -1,13 +1,11 @@
 -- The letter is placed, and the turn has the greater of what was and what it adds.
-use Rattle.std.proofs.Common.{ℕ, suc, max, ◌≡◌, ◌+◌, ◌-◌, ◌≤◌, List, length, get_or, set, Option, Some, None, refl, sym, ap, subst, ◌∙◌, arith}
+use Rattle.std.proofs.Common.{ℕ, ◌≡◌, ◌+◌, ◌-◌, ◌≤◌, List, length, get_or, set, Option, Some, None, sym, ap, subst, ◌∙◌, arith}
 use Rattle.plan_net.specs.Network.{Net, count_of, duration_of}
 use Rattle.plan_sgs.specs.Problem.{count, duration}
 use Rattle.plan_sgs.specs.Serial.{earliest}
 use Rattle.plan_sgs.specs.Instances.{problem_of}
 use Rattle.plan_sgs.specs.Placing.{Holds}
-use Rattle.plan_sgs.specs.PathTails.{tail_of}
-use Rattle.plan_sgs.specs.ProjectTrees.{Standing, standing, word_of}
-use Rattle.plan_sgs.proofs.InstanceLemmas.{count-problem}
+use Rattle.plan_sgs.specs.ProjectTrees.{Standing}
 use Rattle.plan_sgs.proofs.PlaceLemmas.{duration_place}
 use Rattle.plan_sgs.proofs.ProjectTurnLemmas.{tree_facts, can_place, tail_at, next_turn}
 use Rattle.plan_sgs.proofs.project_tree.ProjectTree.next_turn.Goals as goal

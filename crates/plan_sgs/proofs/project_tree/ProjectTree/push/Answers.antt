@@ -1,10 +1,10 @@
 -- One turn more.
-use Rattle.std.proofs.Common.{◌≡◌, ◌-◌, List, ℕ, Some, Option, ◌++◌, [], ◌∷◌, refl, sym, ap, subst, ◌∙◌, arith}
+use Rattle.std.proofs.Common.{◌≡◌, ◌-◌, ◌++◌, [], ◌∷◌, sym, subst, arith}
 use Rattle.plan_sgs.specs.Serial.{earliest}
 use Rattle.plan_sgs.specs.Instances.{problem_of}
 use Rattle.plan_sgs.specs.ProjectWords.{placed_by}
 use Rattle.plan_sgs.specs.ProjectTrees.{Standing, standing, word_of, IsTurn}
-use Rattle.plan_sgs.proofs.ProjectTurnLemmas.{tree_facts, can_place, may_inside, tree_push, CanPlace}
+use Rattle.plan_sgs.proofs.ProjectTurnLemmas.{tree_facts, can_place, may_inside, tree_push}
 use Rattle.plan_sgs.proofs.project_tree.ProjectTree.push.Goals as goal
 
 pub overflow_sub-activity : goal.overflow_sub-activity

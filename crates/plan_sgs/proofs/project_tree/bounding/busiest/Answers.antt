@@ -2,7 +2,7 @@
 use Rattle.std.proofs.Common.{ℕ, List, cond, nat_lt, ◌≡◌, ◌+◌, sym, ◌∙◌, ap, get_or, arith}
 use Rattle.plan_sgs.specs.Problem.{greatest_below, capacity}
 use Rattle.plan_sgs.specs.Instances.{problem_of}
-use Rattle.plan_sgs.specs.ProjectWords.{busy_of, work_of, rounded_up}
+use Rattle.plan_sgs.specs.ProjectWords.{busy_of, rounded_up}
 use Rattle.plan_sgs.proofs.InstanceLemmas.{capacities-problem}
 use Rattle.plan_sgs.proofs.ProjectTreeLemmas.{greatest_next}
 use Rattle.plan_sgs.proofs.project_tree.bounding.busiest.Goals as goal

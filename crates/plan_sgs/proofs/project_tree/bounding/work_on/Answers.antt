@@ -1,5 +1,5 @@
 -- One activity more at each turn.
-use Rattle.std.proofs.Common.{ℕ, ◌≡◌, ◌+◌, ◌*◌, ◌∙◌, ap, get_or, arith}
+use Rattle.std.proofs.Common.{ℕ, ◌≡◌, ◌+◌, ◌*◌, ◌∙◌, ap, arith}
 use Rattle.plan_net.specs.Network.{Net, count_of, duration_of}
 use Rattle.plan_sgs.specs.Problem.{count, duration, need, total}
 use Rattle.plan_sgs.specs.Instances.{problem_of}
