@@ -1,5 +1,6 @@
--- Where the tree of a project stands, and what it keeps of what its word places (docs/DEFINITIONS.md, "Words of a project").
--- Public clauses speak of `Standing` and `standing` alone.
+-- Where the tree of a project stands, and what it keeps of what its word places
+-- (docs/DEFINITIONS.md, "Words of a project"). Public clauses speak of `Standing` and `standing`
+-- alone.
 use Rattle.std.specs.Prelude.{◌≡◌, ℕ, List, [], ◌∷◌, ◌++◌, map, Option}
 use Rattle.plan_cpm.specs.Lengths.{AreTails}
 use Rattle.plan_profile.specs.declared.profile.Profile.{Profile}
@@ -30,7 +31,8 @@ end_by i w = greatest_below (depth_of i) (end_of (problem_of i) (placed_by i w))
 abbrev pub reach_by : Planned → List ℕ → ℕ
 reach_by i w = greatest_below (depth_of i) (reach_of i (placed_by i w))
 
--- a turn has the profile of all that the word places, which ends with its letter, and the greatest end and reach of it
+-- a turn has the profile of all that the word places, which ends with its letter, and the greatest
+-- end and reach of it
 pub record IsTurn (i : Planned) (w : List ℕ) (turn : Turn) : Type 0 where
   pub held : Holds turn.profile (problem_of i) (placed_by i w)
   pub latest : turn.end ≡ end_by i w
@@ -43,7 +45,8 @@ AreTurns i u (turn ∷ turns) =
     IsTurn i (u ++ turn.letter ∷ []) turn × AreTurns i (u ++ turn.letter ∷ []) turns
 
 -- all that a tree keeps
-pub record IsTree (i : Planned) (tails : List ℕ) (least : ℕ) (empty : Profile) (placed : List (Option ℕ)) (turns : List Turn) : Type 0 where
+pub record IsTree (i : Planned) (tails : List ℕ) (least : ℕ) (empty : Profile)
+    (placed : List (Option ℕ)) (turns : List Turn) : Type 0 where
   pub instance : IsInstance i
   pub tails_are : AreTails i.project.network tails
   pub least_is : least ≡ least_of_all i

@@ -12,7 +12,8 @@ use plan_profile::Profile;
 use std::alloc::{AllocError, Global};
 use std::marker::Model;
 
-// A letter of the word, with the profile of what is placed when it is, the greatest end of that, and the greatest start and tail.
+// A letter of the word, with the profile of what is placed when it is, the greatest end of that,
+// and the greatest start and tail.
 #[derive(Drop)]
 struct Turn {
     letter: u32,
@@ -21,8 +22,9 @@ struct Turn {
     profile: Profile,
 }
 
-/// The tree of a project's words, which stands at one of them. A letter is the number, from 1 on, of the activity that is placed
-/// next by serial generation: one that isn't placed, with all its predecessors placed. The full words are the activity lists.
+/// The tree of a project's words, which stands at one of them. A letter is the number, from 1 on,
+/// of the activity that is placed next by serial generation: one that isn't placed, with all its
+/// predecessors placed. The full words are the activity lists.
 ///
 /// Each push makes the profile of its word from that of the word before, and each pop drops it.
 #[derive(Drop)]
@@ -42,11 +44,13 @@ impl<'a> Model for ProjectTree<'a> {
 
     ghost view = { λ t. record { instance = t.instance.now; word = word_of t.turns.items } };
 
-    ghost invariant = { λ t. IsTree t.instance.now t.tails.items t.least t.empty t.placed.items t.turns.items };
+    ghost invariant = { λ t. IsTree t.instance.now t.tails.items t.least t.empty t.placed.items
+        t.turns.items };
 }
 
 impl<'a> ProjectTree<'a> {
-    ghost use Rattle.std.specs.Prelude.{◌≡◌, ℕ, ◌-◌, ◌≤◌, ◌<◌, List, [], ◌∷◌, ◌++◌, true, All, Option, Some, None, length, get_or, Contains, IfOk, OnOk, OnErr};
+    ghost use Rattle.std.specs.Prelude.{◌≡◌, ℕ, ◌-◌, ◌≤◌, ◌<◌, List, [], ◌∷◌, ◌++◌, true, Some, None};
+    ghost use Rattle.std.specs.Prelude.{length, get_or, Contains, IfOk, OnOk, OnErr};
     ghost use Rattle.plan_profile.specs.Usage.{IsInTime};
     ghost use Rattle.plan_sgs.specs.Instances.{IsInstance, problem_of};
     ghost use Rattle.plan_sgs.specs.Placing.{Holds, AllEndBy, latest_end};
@@ -77,7 +81,8 @@ impl<'a> ProjectTree<'a> {
 
     // The profile of what the word places.
     fn profile(&self) -> &Profile
-        ensures { Holds result.now (problem_of self.now.instance) (words.placed_by self.now.instance self.now.word) }
+        ensures { Holds result.now (problem_of self.now.instance)
+            (words.placed_by self.now.instance self.now.word) }
     {
         match self.turns.last() {
             Some(turn) => &turn.profile,
@@ -109,9 +114,11 @@ impl<'a> ProjectTree<'a> {
     // Where one letter more is placed, and its turn.
     fn next_turn(&self, activity: u32) -> Result<(u64, Turn), AllocError>
         requires { Contains (words.letters_after self.now.instance self.now.word) activity }
-        ensures start { IfOk result (λ made. made.0 ≡ serial.earliest (problem_of self.now.instance) (words.placed_by self.now.instance self.now.word) (activity - 1)) }
+        ensures start { IfOk result (λ made. made.0 ≡ serial.earliest (problem_of self.now.instance)
+            (words.placed_by self.now.instance self.now.word) (activity - 1)) }
         ensures letter { IfOk result (λ made. made.1.letter ≡ activity) }
-        ensures turn { IfOk result (λ made. spec.IsTurn self.now.instance (self.now.word ++ activity ∷ []) made.1) }
+        ensures turn { IfOk result (λ made.
+            spec.IsTurn self.now.instance (self.now.word ++ activity ∷ []) made.1) }
     {
         let mut profile = self.profile().copy()?;
         let start = place_one(self.instance, &mut profile, &self.placed, activity)?;
@@ -126,10 +133,12 @@ impl<'a> ProjectTree<'a> {
         Ok((start, turn))
     }
 
-    /// Goes to the word with one letter more: places the activity at its earliest start. After want of memory the tree is as it was.
+    /// Goes to the word with one letter more: places the activity at its earliest start. After want
+    /// of memory the tree is as it was.
     pub fn push(&mut self, activity: u32) -> Result<(), AllocError>
         requires { Contains (words.letters_after self.old.instance self.old.word) activity }
-        ensures ok { OnOk result (self.new ≡ spec.standing self.old.instance (self.old.word ++ activity ∷ [])) }
+        ensures ok { OnOk result
+            (self.new ≡ spec.standing self.old.instance (self.old.word ++ activity ∷ [])) }
         ensures err { OnErr result (self.new ≡ self.old) }
     {
         let (start, turn) = self.next_turn(activity)?;
@@ -162,7 +171,8 @@ impl<'a> ProjectTree<'a> {
     /// The start of activity `j`, which is placed.
     pub fn start(&self, j: u32) -> u64
         requires { Contains self.now.word j }
-        ensures value { get_or (words.placed_by self.now.instance self.now.word) (j - 1) None ≡ Some result }
+        ensures value { get_or (words.placed_by self.now.instance self.now.word) (j - 1) None
+            ≡ Some result }
         ensures within { IsInTime result }
     {
         match self.placed[j as usize - 1] {
@@ -182,12 +192,16 @@ impl<'a> ProjectTree<'a> {
         self.end()
     }
 
-    /// The schedule of a full word: starts in the order of the activities and the makespan, in whole time units.
+    /// The schedule of a full word: starts in the order of the activities and the makespan, in
+    /// whole time units.
     pub fn schedule(&self, alloc: Global) -> Result<Schedule, AllocError>
         requires { words.is_full self.now.instance self.now.word ≡ true }
-        ensures starts { IfOk result (λ s. s.starts.items ≡ words.starts_by self.now.instance self.now.word) }
-        ensures makespan { IfOk result (λ s. s.makespan ≡ words.makespan_by self.now.instance self.now.word) }
-        ensures ends { IfOk result (λ s. AllEndBy (problem_of self.now.instance) s.starts.items latest_end) }
+        ensures starts { IfOk result (λ s.
+            s.starts.items ≡ words.starts_by self.now.instance self.now.word) }
+        ensures makespan { IfOk result (λ s.
+            s.makespan ≡ words.makespan_by self.now.instance self.now.word) }
+        ensures ends { IfOk result (λ s.
+            AllEndBy (problem_of self.now.instance) s.starts.items latest_end) }
         ensures limit { IfOk result (λ s. s.makespan ≤ latest_end) }
     {
         Ok(Schedule {
