@@ -60,7 +60,8 @@ words_are_finite i w word = words_most i w word
 pub full_long : (i : Planned) (w : List ℕ) → IsWord i w → is_full i w ≡ true → length w ≡ depth_of i
 unfolding is_full
 full_long i w word full =
-    let ones : taken_count (problem_of i) (places w) ≡ depth_of i = total_ones (depth_of i) (λ j. one_if (is_member j (places w))) (λ j below. ap one_if (all_below_at (depth_of i) (λ j. is_member j (places w)) j full below)) in
+    let ones : taken_count (problem_of i) (places w) ≡ depth_of i =
+    total_ones (depth_of i) (λ j. one_if (is_member j (places w))) (λ j below. ap one_if (all_below_at (depth_of i) (λ j. is_member j (places w)) j full below)) in
     omega (arith, ones, word_count i w word)
 
 pub long_full : (i : Planned) (w : List ℕ) → IsWord i w → depth_of i ≤ length w → is_full i w ≡ true
@@ -134,7 +135,8 @@ words_reach i starts instance feasible = record {
   word = map suc (by_starts (problem_of i) starts);
   full = list_word i (by_starts (problem_of i) starts) (rule_list_is (problem_of i) (rank_by i.project.network) (λ h. get_or starts h 0) (bounded i instance).inside (ranked i instance.project.network));
   makespan =
-      let low : makespan (problem_of i) (serial (problem_of i) (by_starts (problem_of i) starts)) ≤ makespan (problem_of i) starts = by_starts_least (problem_of i) (rank_by i.project.network) starts (bounded i instance).inside instance.fit (ranked i instance.project.network) feasible in
+      let low : makespan (problem_of i) (serial (problem_of i) (by_starts (problem_of i) starts)) ≤ makespan (problem_of i) starts =
+      by_starts_least (problem_of i) (rank_by i.project.network) starts (bounded i instance).inside instance.fit (ranked i instance.project.network) feasible in
       let same : makespan (problem_of i) (serial (problem_of i) (places (map suc (by_starts (problem_of i) starts)))) ≡ makespan (problem_of i) (serial (problem_of i) (by_starts (problem_of i) starts)) = ap (λ (js : List ℕ). makespan (problem_of i) (serial (problem_of i) js)) (places_suc (by_starts (problem_of i) starts)) in
       omega (arith, low, same);
 }

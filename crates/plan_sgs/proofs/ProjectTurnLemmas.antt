@@ -30,7 +30,8 @@ use Rattle.plan_sgs.proofs.WordBoundLemmas.{word_partial, placed_append}
 use Rattle.plan_sgs.proofs.ProjectTreeLemmas.{tail_read, tail_short}
 
 -- by when what is placed in turn has ended
-ends_after : (p : Problem) (js taken : List ℕ) (placed : List (Option ℕ)) → IsBounded p → length placed ≡ count p → takes_in_turn p taken js ≡ true → EndsBy p placed (bound_of p taken) → EndsBy p (serial_from p placed js) (bound_of p (taken ++ js))
+ends_after : (p : Problem) (js taken : List ℕ) (placed : List (Option ℕ)) → IsBounded p → length placed ≡ count p → takes_in_turn p taken js ≡ true → EndsBy p placed (bound_of p taken)
+    → EndsBy p (serial_from p placed js) (bound_of p (taken ++ js))
 ends_after p [] taken placed limits size turns ends h s is = let same : bound_of p (taken ++ []) ≡ bound_of p taken = ap (bound_of p) (append-nil taken) in omega (arith, same, ends h s is)
 ends_after p (j ∷ js) taken placed limits size turns ends h s is =
     let turn = turn_parts p taken j js turns in
@@ -75,7 +76,8 @@ facts_of i w placed instance word are = subst (TreeFacts (standing i w)) (sym ar
   partial : IsPartial (problem_of i) (placed_by i w) × TakenIs (placed_by i w) (places w)
   partial = word_partial i w instance word
 
-pub tree_facts : (i : Planned) (tails : List ℕ) (least : ℕ) (empty : Profile) (placed : List (Option ℕ)) (turns : List Turn) (v : Standing) → standing i (word_of turns) ≡ v → IsTree i tails least empty placed turns → TreeFacts v placed
+pub tree_facts : (i : Planned) (tails : List ℕ) (least : ℕ) (empty : Profile) (placed : List (Option ℕ)) (turns : List Turn) (v : Standing) → standing i (word_of turns) ≡ v
+    → IsTree i tails least empty placed turns → TreeFacts v placed
 tree_facts i tails least empty placed turns v is tree = subst (λ (x : Standing). TreeFacts x placed) is (facts_of i (word_of turns) placed tree.instance tree.word tree.placed_are)
 
 -- the turn of a place
@@ -85,7 +87,8 @@ turn_at i u (t ∷ ts) zero turn is are = subst (IsTurn i (u ++ t.letter ∷ [])
 turn_at i u (t ∷ ts) (suc k) turn is are = subst (λ (xs : List ℕ). IsTurn i xs turn) (append_assoc u (t.letter ∷ []) (word_of (take (suc k) ts))) (turn_at i (u ++ t.letter ∷ []) ts k turn is are.1)
 
 -- the last turn is that of the word
-pub last_turn : (i : Planned) (turns ys : List Turn) (v : Standing) (turn : Turn) → standing i (word_of turns) ≡ v → AreTurns i [] turns → ys ≡ turns → Some turn ≡ slice_get ys (length ys - 1) → IsTurn v.instance v.word turn
+pub last_turn : (i : Planned) (turns ys : List Turn) (v : Standing) (turn : Turn) → standing i (word_of turns) ≡ v → AreTurns i [] turns → ys ≡ turns
+    → Some turn ≡ slice_get ys (length ys - 1) → IsTurn v.instance v.word turn
 last_turn i turns ys v turn is are same last =
     let there : slice_get turns (length turns - 1) ≡ Some turn = sym (last ∙ ap (λ (xs : List Turn). slice_get xs (length xs - 1)) same) in
     let within = slice_get_within turns (length turns - 1) turn there in
@@ -163,7 +166,8 @@ greatest_placed n length_of placed j s inside within none =
     omega (arith, all, here)
 
 -- the turn of one letter more
-pub next_turn : (v : Standing) (placed : List (Option ℕ)) (a start end reach : ℕ) (profile : Profile) → TreeFacts v placed → CanPlace v placed a → start ≡ earliest (problem_of v.instance) placed (a - 1)
+pub next_turn : (v : Standing) (placed : List (Option ℕ)) (a start end reach : ℕ) (profile : Profile) → TreeFacts v placed → CanPlace v placed a
+    → start ≡ earliest (problem_of v.instance) placed (a - 1)
     → Holds profile (problem_of v.instance) (set placed (a - 1) (Some start))
     → end ≡ max (end_by v.instance v.word) (start + duration (problem_of v.instance) (a - 1)) → reach ≡ max (reach_by v.instance v.word) (start + tail_of v.instance.project.network (suc (a - 1)))
     → IsTurn v.instance (v.word ++ a ∷ []) (record { letter = a; end = end; reach = reach; profile = profile })
@@ -200,7 +204,8 @@ turns_front i u [] turn are = tt
 turns_front i u (t ∷ ts) turn are = (are.0, turns_front i (u ++ t.letter ∷ []) ts turn are.1)
 
 -- a push keeps the tree
-pub tree_push : (i : Planned) (tails : List ℕ) (least : ℕ) (empty : Profile) (placed : List (Option ℕ)) (turns after : List Turn) (turn : Turn) (a start : ℕ) → IsTree i tails least empty placed turns → Contains (letters_after i (word_of turns)) a
+pub tree_push : (i : Planned) (tails : List ℕ) (least : ℕ) (empty : Profile) (placed : List (Option ℕ)) (turns after : List Turn) (turn : Turn) (a start : ℕ)
+    → IsTree i tails least empty placed turns → Contains (letters_after i (word_of turns)) a
     → after ≡ turns ++ turn ∷ [] → turn.letter ≡ a → start ≡ earliest (problem_of i) (placed_by i (word_of turns)) (a - 1) → IsTurn i (word_of turns ++ a ∷ []) turn
     → IsTree i tails least empty (set placed (a - 1) (Some start)) after
 tree_push i tails least empty placed turns after turn a start tree may all letter is here = record {
@@ -224,7 +229,8 @@ pub record CanPop (i : Planned) (placed : List (Option ℕ)) (turns : List Turn)
   pub undone : set placed (turn.letter - 1) None ≡ placed_by i (word_of turns)
   pub turns_are : AreTurns i [] turns
 
-pub can_pop : (i : Planned) (tails : List ℕ) (least : ℕ) (empty : Profile) (placed : List (Option ℕ)) (turns whole : List Turn) (turn : Turn) → IsTree i tails least empty placed whole → whole ≡ turns ++ turn ∷ [] → CanPop i placed turns turn
+pub can_pop : (i : Planned) (tails : List ℕ) (least : ℕ) (empty : Profile) (placed : List (Option ℕ)) (turns whole : List Turn) (turn : Turn) → IsTree i tails least empty placed whole
+    → whole ≡ turns ++ turn ∷ [] → CanPop i placed turns turn
 can_pop i tails least empty placed turns whole turn tree all = record {
   from_one = letter.from_one;
   inside = omega (arith, letter.inside, ap (λ (xs : List (Option ℕ)). length xs) tree.placed_are, (word_partial i (word_of whole) tree.instance tree.word).0.size);
@@ -246,7 +252,8 @@ can_pop i tails least empty placed turns whole turn tree all = record {
   none : get_or (placed_by i (word_of turns)) (turn.letter - 1) None ≡ None
   none = taken_open (placed_by i (word_of turns)) (places (word_of turns)) (turn.letter - 1) (word_partial i (word_of turns) tree.instance parts.0).1 (eligible_not (problem_of i) (places (word_of turns)) (turn.letter - 1) letter.eligible)
 
-pub tree_pop : (i : Planned) (tails : List ℕ) (least : ℕ) (empty : Profile) (placed : List (Option ℕ)) (turns whole : List Turn) (turn : Turn) → IsTree i tails least empty placed whole → CanPop i placed turns turn → IsTree i tails least empty (set placed (turn.letter - 1) None) turns
+pub tree_pop : (i : Planned) (tails : List ℕ) (least : ℕ) (empty : Profile) (placed : List (Option ℕ)) (turns whole : List Turn) (turn : Turn) → IsTree i tails least empty placed whole
+    → CanPop i placed turns turn → IsTree i tails least empty (set placed (turn.letter - 1) None) turns
 tree_pop i tails least empty placed turns whole turn tree can = record {
   instance = tree.instance;
   tails_are = tree.tails_are;
@@ -269,12 +276,14 @@ same_front (x ∷ xs) (y ∷ ys) a b is =
     cc
 
 -- the word without its last letter
-pub popped : (i : Planned) (turns whole : List Turn) (turn : Turn) (v : Standing) → standing i (word_of whole) ≡ v → whole ≡ turns ++ turn ∷ [] → (u : List ℕ) (a : ℕ) → v.word ≡ u ++ a ∷ [] → word_of turns ≡ u
+pub popped : (i : Planned) (turns whole : List Turn) (turn : Turn) (v : Standing) → standing i (word_of whole) ≡ v → whole ≡ turns ++ turn ∷ [] → (u : List ℕ) (a : ℕ) → v.word ≡ u ++ a ∷ []
+    → word_of turns ≡ u
 popped i turns whole turn v is all u a word =
     same_front (word_of turns) u turn.letter a (sym (word_of-push turns turn) ∙ ap (λ (xs : List Turn). word_of xs) (sym all) ∙ ap (λ (x : Standing). x.word) is ∙ word)
 
 -- the tail that a push reads
-pub tail_at : (v : Standing) (i : Planned) (tails : List ℕ) {w : List ℕ} → standing i w ≡ v → AreTails i.project.network tails → (a tail : ℕ) {placed : List (Option ℕ)} → TreeFacts v placed → CanPlace v placed a → tail ≡ get_or tails (a - 1) tail
+pub tail_at : (v : Standing) (i : Planned) (tails : List ℕ) {w : List ℕ} → standing i w ≡ v → AreTails i.project.network tails → (a tail : ℕ) {placed : List (Option ℕ)} → TreeFacts v placed
+    → CanPlace v placed a → tail ≡ get_or tails (a - 1) tail
     → (tail ≡ tail_of v.instance.project.network (suc (a - 1))) × (tail ≤ 6010000)
 tail_at v i tails is are a tail facts can read =
     let net = v.instance.project.network in

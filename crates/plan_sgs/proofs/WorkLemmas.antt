@@ -75,7 +75,8 @@ work_fits p s k feasible within =
     let each : work_of p k ≡ total (count p) (λ i. total (makespan p s) (λ t. amount_at p s t k i)) =
     total_same (count p) (λ i. duration p i * need p i k) (λ i. total (makespan p s) (λ t. amount_at p s t k i)) (λ i below.
     sym (amount_all p k i (get_or s i 0) (makespan p s) (greatest_above (count p) (λ h. get_or s h 0 + duration p h) i below))) in
-    let turned : total (count p) (λ i. total (makespan p s) (λ t. amount_at p s t k i)) ≡ total (makespan p s) (λ t. total (count p) (λ i. amount_at p s t k i)) = total_both (count p) (makespan p s) (λ i t. amount_at p s t k i) in
+    let turned : total (count p) (λ i. total (makespan p s) (λ t. amount_at p s t k i)) ≡ total (makespan p s) (λ t. total (count p) (λ i. amount_at p s t k i)) =
+    total_both (count p) (makespan p s) (λ i t. amount_at p s t k i) in
     let most : total (makespan p s) (λ t. total (count p) (λ i. amount_at p s t k i)) ≤ capacity p k * makespan p s =
     total_limit (makespan p s) (λ t. total (count p) (λ i. amount_at p s t k i)) (capacity p k) (λ t below.
     let used : usage p (all_placed s) t k ≡ total (count p) (amount_at p s t k) = usage_is p s t k feasible.each_started in
