@@ -87,9 +87,7 @@ impl<'a> ProjectTree<'a> {
     ghost use Rattle.std.specs.Prelude.{length, get_or, Contains, IfOk, OnOk, OnErr};
     ghost use Rattle.plan_profile.specs.Usage.{IsInTime};
     ghost use Rattle.plan_sgs.specs.Instances.{IsInstance, problem_of};
-    ghost use Rattle.plan_sgs.specs.Placing.{Holds, AllEndBy, latest_end};
-    ghost use Rattle.plan_sgs.specs.Problem as problem;
-    ghost use Rattle.plan_sgs.specs.Serial as serial;
+    ghost use Rattle.plan_sgs.specs.Placing.{AllEndBy, latest_end};
     ghost use Rattle.plan_sgs.specs.ProjectWords as words;
     ghost use Rattle.plan_sgs.specs.ProjectTrees as spec;
 
