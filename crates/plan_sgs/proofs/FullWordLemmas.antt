@@ -1,19 +1,18 @@
 -- The full words of a project are the activity lists; words are finite, and go on while they aren't full.
-use Rattle.std.proofs.Common.{ℕ, suc, Bool, true, false, ◌≡◌, ◌+◌, ◌*◌, ◌≤◌, ◌<◌, inl, inr, List, [], ◌∷◌, length, get_or, map, nat_eq, refl, sym, ◌∙◌, ap, subst, arith}
-use Rattle.std.specs.List.{All, AllPairs}
-use Rattle.std.proofs.lemmas.Bool.{cases_eq, and_from, eq-eqb, eqb-true}
+use Rattle.std.proofs.Common.{ℕ, suc, Bool, true, false, ◌≡◌, ◌+◌, ◌*◌, ◌≤◌, ◌<◌, List, [], ◌∷◌, length, get_or, map, nat_eq, refl, sym, ◌∙◌, ap, subst, arith}
+use Rattle.std.specs.List.{All}
+use Rattle.std.proofs.lemmas.Bool.{and_from, eq-eqb, eqb-true}
 use Rattle.std.proofs.lemmas.List.{length-map, get_or-map}
 use Rattle.std.proofs.lemmas.List.Elements.{All-nil, All-cons, Contains-get_or}
-use Rattle.plan_sgs.specs.Problem.{Problem, count, all_below, makespan}
+use Rattle.plan_sgs.specs.Problem.{count, makespan}
 use Rattle.plan_sgs.specs.Serial.{serial}
 use Rattle.plan_sgs.specs.Rules.{places, is_member, is_activity_list, takes_in_turn, eligible, rule_list}
-use Rattle.plan_sgs.specs.Instances.{Planned, IsInstance, problem_of}
+use Rattle.plan_sgs.specs.Instances.{Planned, problem_of}
 use Rattle.plan_sgs.specs.Laws.{by_starts}
-use Rattle.plan_sgs.specs.ProjectWords.{depth_of, letters_after, IsWord, is_full, starts_by, makespan_by}
-use Rattle.plan_sgs.specs.ProjectLaws.{ProjectLettersRise, LettersAreActivities, ProjectWordsAreFinite, WordsGoOn, IsFullWord, FullWordsAreLists, ProjectFullIsActive, ReachesBy, ProjectWordsReach, LeastProjectWordIsShortest, rule_word, RuleWordIsFull}
-use Rattle.plan_sgs.proofs.Bounds.{IsBounded}
+use Rattle.plan_sgs.specs.ProjectWords.{depth_of, letters_after, IsWord, is_full, makespan_by}
+use Rattle.plan_sgs.specs.ProjectLaws.{ProjectLettersRise, LettersAreActivities, ProjectWordsAreFinite, WordsGoOn, IsFullWord, FullWordsAreLists, ProjectFullIsActive, ProjectWordsReach, LeastProjectWordIsShortest, RuleWordIsFull}
 use Rattle.plan_sgs.proofs.TotalLemmas.{all_below_at, all_below_from, all_below_not, total_limit}
-use Rattle.plan_sgs.proofs.SerialLemmas.{taken_count, taken_all, taken_none, full_has, list_parts, takes_each, serial_active, one_if}
+use Rattle.plan_sgs.proofs.SerialLemmas.{taken_count, taken_all, taken_none, full_has, list_parts, serial_active, one_if}
 use Rattle.plan_sgs.proofs.ListLemmas.{total_ones, told_by_places, told_by_entries}
 use Rattle.plan_sgs.proofs.RuleLemmas.{rule_list_is, some_eligible}
 use Rattle.plan_sgs.proofs.LawLemmas.{by_starts_least, least_shortest}
@@ -61,7 +60,8 @@ words_are_finite i w word = words_most i w word
 pub full_long : (i : Planned) (w : List ℕ) → IsWord i w → is_full i w ≡ true → length w ≡ depth_of i
 unfolding is_full
 full_long i w word full =
-    let ones : taken_count (problem_of i) (places w) ≡ depth_of i = total_ones (depth_of i) (λ j. one_if (is_member j (places w))) (λ j below. ap one_if (all_below_at (depth_of i) (λ j. is_member j (places w)) j full below)) in
+    let ones : taken_count (problem_of i) (places w) ≡ depth_of i =
+    total_ones (depth_of i) (λ j. one_if (is_member j (places w))) (λ j below. ap one_if (all_below_at (depth_of i) (λ j. is_member j (places w)) j full below)) in
     omega (arith, ones, word_count i w word)
 
 pub long_full : (i : Planned) (w : List ℕ) → IsWord i w → depth_of i ≤ length w → is_full i w ≡ true
@@ -135,7 +135,8 @@ words_reach i starts instance feasible = record {
   word = map suc (by_starts (problem_of i) starts);
   full = list_word i (by_starts (problem_of i) starts) (rule_list_is (problem_of i) (rank_by i.project.network) (λ h. get_or starts h 0) (bounded i instance).inside (ranked i instance.project.network));
   makespan =
-      let low : makespan (problem_of i) (serial (problem_of i) (by_starts (problem_of i) starts)) ≤ makespan (problem_of i) starts = by_starts_least (problem_of i) (rank_by i.project.network) starts (bounded i instance).inside instance.fit (ranked i instance.project.network) feasible in
+      let low : makespan (problem_of i) (serial (problem_of i) (by_starts (problem_of i) starts)) ≤ makespan (problem_of i) starts =
+      by_starts_least (problem_of i) (rank_by i.project.network) starts (bounded i instance).inside instance.fit (ranked i instance.project.network) feasible in
       let same : makespan (problem_of i) (serial (problem_of i) (places (map suc (by_starts (problem_of i) starts)))) ≡ makespan (problem_of i) (serial (problem_of i) (by_starts (problem_of i) starts)) = ap (λ (js : List ℕ). makespan (problem_of i) (serial (problem_of i) js)) (places_suc (by_starts (problem_of i) starts)) in
       omega (arith, low, same);
 }

@@ -30,6 +30,7 @@ pub mod WordBoundLemmas
 pub mod ProjectTreeLemmas
 pub mod ProjectTurnLemmas
 pub mod ProjectReadLemmas
+pub mod WordRows
 pub mod CheckRows
 pub mod OnceLemmas
 mod Bounds

@@ -1,9 +1,9 @@
 -- The listed walks are all walks, so that tails are the greatest lengths of paths; and how many arcs may follow ranks the activities.
-use Rattle.std.proofs.Common.{ℕ, zero, suc, max, Bool, true, false, cond, nat_eq, ◌≡◌, ◌+◌, ◌-◌, ◌≤◌, ◌<◌, ◌⊎◌, inl, inr, List, [], ◌∷◌, ◌++◌, length, get_or, map, flat_map, refl, sym, ◌∙◌, ap, subst, arith}
+use Rattle.std.proofs.Common.{ℕ, zero, suc, Bool, true, false, cond, nat_eq, ◌≡◌, ◌-◌, ◌≤◌, ◌<◌, ◌⊎◌, inl, inr, List, [], ◌∷◌, ◌++◌, length, map, flat_map, refl, sym, ◌∙◌, ap, subst, arith}
 use Rattle.std.specs.List.{Contains, filter}
 use Rattle.std.proofs.lemmas.Bool.{cases_lt, cond-true, eqb-true, eq-eqb}
 use Rattle.plan_net.specs.Network.{Net, count_of, IsArc, IsActivity, IsGreatest}
-use Rattle.plan_net.specs.Path.{IsWalk, IsPath, path_length}
+use Rattle.plan_net.specs.Path.{IsWalk, path_length}
 use Rattle.plan_net.specs.Limits.{IsSound}
 use Rattle.plan_net.proofs.RowLemmas.{arc_ends}
 use Rattle.plan_cpm.specs.Lengths.{IsLength, IsLengthFrom}
@@ -74,7 +74,8 @@ ends_there : (arcs : List (ℕ × ℕ)) (j k : ℕ) → Among arcs (j, k) → Am
 ends_there [] j k m = absurd m
 ends_there (arc ∷ arcs) j k (inl e) =
     let first : nat_eq arc.0 j ≡ true = eq-eqb arc.0 j (ap (λ (a : ℕ × ℕ). a.0) e) in
-    let kept : filter (λ arc. nat_eq arc.0 j) (arc ∷ arcs) ≡ arc ∷ filter (λ arc. nat_eq arc.0 j) arcs = cond-true (nat_eq arc.0 j) (arc ∷ filter (λ arc. nat_eq arc.0 j) arcs) (filter (λ arc. nat_eq arc.0 j) arcs) first in
+    let kept : filter (λ arc. nat_eq arc.0 j) (arc ∷ arcs) ≡ arc ∷ filter (λ arc. nat_eq arc.0 j) arcs =
+    cond-true (nat_eq arc.0 j) (arc ∷ filter (λ arc. nat_eq arc.0 j) arcs) (filter (λ arc. nat_eq arc.0 j) arcs) first in
     subst (λ (xs : List (ℕ × ℕ)). Among (map (λ (a : ℕ × ℕ). a.1) xs) k) (sym kept) (inl (ap (λ (a : ℕ × ℕ). a.1) e))
 ends_there (arc ∷ arcs) j k (inr m) = by_test (nat_eq arc.0 j) (ends_there arcs j k m) where
   by_test : (b : Bool) → Among (ends_from arcs j) k → Among (map (λ (a : ℕ × ℕ). a.1) (cond b (arc ∷ filter (λ arc. nat_eq arc.0 j) arcs) (filter (λ arc. nat_eq arc.0 j) arcs))) k
@@ -84,7 +85,8 @@ ends_there (arc ∷ arcs) j k (inr m) = by_test (nat_eq arc.0 j) (ends_there arc
 ends_in : (arcs : List (ℕ × ℕ)) (j k : ℕ) → Among (ends_from arcs j) k → Among arcs (j, k)
 ends_in [] j k m = absurd m
 ends_in (arc ∷ arcs) j k m = by_test (nat_eq arc.0 j) refl (ends_in arcs j k) m where
-  by_test : (b : Bool) → nat_eq arc.0 j ≡ b → (Among (ends_from arcs j) k → Among arcs (j, k)) → Among (map (λ (a : ℕ × ℕ). a.1) (cond b (arc ∷ filter (λ arc. nat_eq arc.0 j) arcs) (filter (λ arc. nat_eq arc.0 j) arcs))) k → Among (arc ∷ arcs) (j, k)
+  by_test : (b : Bool) → nat_eq arc.0 j ≡ b → (Among (ends_from arcs j) k → Among arcs (j, k))
+      → Among (map (λ (a : ℕ × ℕ). a.1) (cond b (arc ∷ filter (λ arc. nat_eq arc.0 j) arcs) (filter (λ arc. nat_eq arc.0 j) arcs))) k → Among (arc ∷ arcs) (j, k)
   by_test true is later (inl e) =
       let from : arc.0 ≡ j = eqb-true arc.0 j is in
       inl (ap (λ (x : ℕ). let pair : ℕ × ℕ = (x, arc.1) in pair) from ∙ ap (λ (x : ℕ). let pair : ℕ × ℕ = (j, x) in pair) e)

@@ -1,13 +1,12 @@
 -- What the calls of a project's tree read: which activities may follow, whether all are placed, starts and the makespan.
-use Rattle.std.proofs.Common.{ℕ, zero, suc, Bool, true, false, cond, nat_eq, ◌≡◌, ◌+◌, ◌-◌, ◌≤◌, ◌<◌, ◌↔◌, List, [], ◌∷◌, ◌++◌, length, get_or, map, Option, Some, None, IsTrue, refl, sym, ◌∙◌, ap, subst, arith}
-use Rattle.std.specs.List.{All, Contains}
+use Rattle.std.proofs.Common.{ℕ, suc, Bool, true, false, cond, nat_eq, ◌≡◌, ◌+◌, ◌-◌, ◌≤◌, ◌<◌, List, [], ◌∷◌, ◌++◌, length, get_or, map, Option, Some, None, refl, sym, ◌∙◌, ap, subst, arith}
+use Rattle.std.specs.List.{Contains}
 use Rattle.std.specs.Option.{is_some}
-use Rattle.std.proofs.lemmas.Bool.{both_ways, false≢true}
-use Rattle.std.proofs.lemmas.List.{append-nil, append_assoc, length-map, map-append, get_or_default}
+use Rattle.std.proofs.lemmas.List.{append-nil, append_assoc, map-append, get_or_default}
 use Rattle.std.proofs.lemmas.List.Elements.{All-contains, Contains-get_or}
-use Rattle.plan_net.specs.Network.{count_of, IsArc, IsActivity, ListsRising}
+use Rattle.plan_net.specs.Network.{IsArc, IsActivity, ListsRising}
 use Rattle.plan_net.proofs.RowLemmas.{arc_ends}
-use Rattle.plan_sgs.specs.Problem.{Problem, count, duration, greatest_below, makespan}
+use Rattle.plan_sgs.specs.Problem.{Problem, duration}
 use Rattle.plan_sgs.specs.Serial.{end_from, end_of, serial, start_or_zero}
 use Rattle.plan_sgs.specs.Rules.{places, is_member, is_eligible, eligible}
 use Rattle.plan_sgs.specs.Instances.{problem_of}
@@ -29,7 +28,8 @@ abbrev pub AllPlaced : List (Option ℕ) → List ℕ → Type 0
 AllPlaced placed preds = (k : ℕ) → k < length preds → is_some (get_or placed (get_or preds k 0 - 1) None) ≡ true
 
 -- an activity that isn't placed, with all its predecessors placed, is eligible
-preds_in : (v : Standing) (placed : List (Option ℕ)) (a : ℕ) (preds : List ℕ) → TreeFacts v placed → IsActivity v.instance.project.network a → ListsRising (λ h. IsArc v.instance.project.network h a) preds
+preds_in : (v : Standing) (placed : List (Option ℕ)) (a : ℕ) (preds : List ℕ) → TreeFacts v placed → IsActivity v.instance.project.network a
+    → ListsRising (λ h. IsArc v.instance.project.network h a) preds
     → is_some (get_or placed (a - 1) None) ≡ false → AllPlaced placed preds → is_eligible (problem_of v.instance) (places v.word) (a - 1) ≡ true
 preds_in v placed a preds facts activity row none all =
     eligible_from (problem_of v.instance) (places v.word) (a - 1) (sym (facts.taken (a - 1)) ∙ none)
@@ -50,7 +50,8 @@ preds_out v placed a preds facts row is k within =
     facts.taken (get_or preds k 0 - 1) ∙ has
 
 -- so the test of the predecessors tells whether it is eligible
-pub eligible_by : (v : Standing) (placed : List (Option ℕ)) (a : ℕ) (preds : List ℕ) (r : Bool) → TreeFacts v placed → IsActivity v.instance.project.network a → ListsRising (λ h. IsArc v.instance.project.network h a) preds
+pub eligible_by : (v : Standing) (placed : List (Option ℕ)) (a : ℕ) (preds : List ℕ) (r : Bool) → TreeFacts v placed → IsActivity v.instance.project.network a
+    → ListsRising (λ h. IsArc v.instance.project.network h a) preds
     → is_some (get_or placed (a - 1) None) ≡ false → (r ≡ true → AllPlaced placed preds) → (AllPlaced placed preds → r ≡ true) → r ≡ is_eligible (problem_of v.instance) (places v.word) (a - 1)
 eligible_by v placed a preds true facts activity row none told tells = sym (preds_in v placed a preds facts activity row none (told refl))
 eligible_by v placed a preds false facts activity row none told tells = by_test (is_eligible (problem_of v.instance) (places v.word) (a - 1)) refl where
@@ -59,26 +60,30 @@ eligible_by v placed a preds false facts activity row none told tells = by_test 
   by_test false is = refl
 
 -- what is placed isn't eligible
-pub not_eligible : (v : Standing) (placed : List (Option ℕ)) (a : ℕ) → TreeFacts v placed → is_some (get_or placed (a - 1) None) ≡ true → false ≡ is_eligible (problem_of v.instance) (places v.word) (a - 1)
+pub not_eligible : (v : Standing) (placed : List (Option ℕ)) (a : ℕ) → TreeFacts v placed → is_some (get_or placed (a - 1) None) ≡ true
+    → false ≡ is_eligible (problem_of v.instance) (places v.word) (a - 1)
 not_eligible v placed a facts some = by_test (is_eligible (problem_of v.instance) (places v.word) (a - 1)) refl where
   by_test : (b : Bool) → is_eligible (problem_of v.instance) (places v.word) (a - 1) ≡ b → false ≡ b
   by_test true is = sym (eligible_not (problem_of v.instance) (places v.word) (a - 1) is) ∙ sym (facts.taken (a - 1)) ∙ some
   by_test false is = refl
 
 -- one more that may follow, and one that may not
-pub letters_yes : (p : Problem) (taken : List ℕ) (n : ℕ) (first list after : List ℕ) → list ≡ first ++ map suc (eligible p taken n) → is_eligible p taken n ≡ true → after ≡ list ++ suc n ∷ [] → after ≡ first ++ map suc (eligible p taken (suc n))
+pub letters_yes : (p : Problem) (taken : List ℕ) (n : ℕ) (first list after : List ℕ) → list ≡ first ++ map suc (eligible p taken n) → is_eligible p taken n ≡ true
+    → after ≡ list ++ suc n ∷ [] → after ≡ first ++ map suc (eligible p taken (suc n))
 letters_yes p taken n first list after is may pushed =
     let more : eligible p taken (suc n) ≡ eligible p taken n ++ n ∷ [] = ap (λ (b : Bool). eligible p taken n ++ cond b (n ∷ []) []) may in
     pushed ∙ ap (λ (xs : List ℕ). xs ++ suc n ∷ []) is ∙ append_assoc first (map suc (eligible p taken n)) (suc n ∷ [])
     ∙ ap (λ (xs : List ℕ). first ++ xs) (sym (map-append suc (eligible p taken n) (n ∷ []))) ∙ ap (λ (xs : List ℕ). first ++ map suc xs) (sym more)
 
-pub letters_no : (p : Problem) (taken : List ℕ) (n : ℕ) (first list : List ℕ) → list ≡ first ++ map suc (eligible p taken n) → is_eligible p taken n ≡ false → list ≡ first ++ map suc (eligible p taken (suc n))
+pub letters_no : (p : Problem) (taken : List ℕ) (n : ℕ) (first list : List ℕ) → list ≡ first ++ map suc (eligible p taken n) → is_eligible p taken n ≡ false
+    → list ≡ first ++ map suc (eligible p taken (suc n))
 letters_no p taken n first list is bars =
     let same : eligible p taken (suc n) ≡ eligible p taken n = ap (λ (b : Bool). eligible p taken n ++ cond b (n ∷ []) []) bars ∙ append-nil (eligible p taken n) in
     is ∙ ap (λ (xs : List ℕ). first ++ map suc xs) (sym same)
 
 -- the start of an activity of the word
-pub start_there : (v : Standing) (placed : List (Option ℕ)) (j : ℕ) → TreeFacts v placed → Contains v.word j → (1 ≤ j) × (j - 1 < length placed) × ((s : ℕ) × (get_or placed (j - 1) None ≡ Some s) × (s ≤ 6020000))
+pub start_there : (v : Standing) (placed : List (Option ℕ)) (j : ℕ) → TreeFacts v placed → Contains v.word j
+    → (1 ≤ j) × (j - 1 < length placed) × ((s : ℕ) × (get_or placed (j - 1) None ≡ Some s) × (s ≤ 6020000))
 start_there v placed j facts (k, within, is) =
     let from_one = All-contains (λ a. 1 ≤ a) v.word j (word_turns v.instance [] v.word facts.word).from_one (k, within, is) in
     let here : get_or v.word k 0 ≡ j = get_or_default v.word k 0 j within ∙ is in

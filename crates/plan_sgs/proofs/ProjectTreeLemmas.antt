@@ -1,20 +1,18 @@
 -- What a tree of a project keeps, and what its turns read and write.
-use Rattle.std.proofs.Common.{ℕ, zero, suc, max, ◌≡◌, ◌≢◌, ◌+◌, ◌-◌, ◌*◌, ◌≤◌, ◌<◌, inl, inr, List, [], ◌∷◌, ◌++◌, length, get_or, set, map, take, sum, Option, Some, None, refl, sym, ◌∙◌, ap, subst, arith}
+use Rattle.std.proofs.Common.{ℕ, suc, max, ◌≡◌, ◌+◌, ◌-◌, ◌*◌, ◌≤◌, ◌<◌, List, get_or, take, sum, Some, refl, sym, ◌∙◌, ap, arith}
 use Rattle.std.specs.List.{slice_get}
-use Rattle.std.proofs.lemmas.Bool.{cases_eq}
 use Rattle.std.proofs.lemmas.List.{take_all}
 use Rattle.std.proofs.lemmas.Nat.{mul-le}
-use Rattle.plan_net.specs.Network.{Net, Net, count_of, IsActivity, IsGreatest, duration_of}
+use Rattle.plan_net.specs.Network.{Net, Net, count_of, IsActivity, duration_of}
 use Rattle.plan_net.specs.Limits.{IsSound}
 use Rattle.plan_psplib.specs.Project.{AreAmounts}
-use Rattle.plan_cpm.specs.Lengths.{AreTails, IsLengthFrom}
+use Rattle.plan_cpm.specs.Lengths.{AreTails}
 use Rattle.plan_cpm.proofs.BoundLemmas.{path_bound}
-use Rattle.plan_sgs.specs.Problem.{Problem, count, duration, need, total, greatest_below}
+use Rattle.plan_sgs.specs.Problem.{duration, need, total, greatest_below}
 use Rattle.plan_sgs.specs.Instances.{Planned, IsInstance, problem_of}
-use Rattle.plan_sgs.specs.PathTails.{tail_of, longest_of}
-use Rattle.plan_sgs.specs.ProjectWords.{work_of}
+use Rattle.plan_sgs.specs.PathTails.{tail_of}
 use Rattle.plan_sgs.specs.ProjectLaws.{TailsAreGreatest}
-use Rattle.plan_sgs.proofs.InstanceLemmas.{count-problem, duration-problem, need-problem}
+use Rattle.plan_sgs.proofs.InstanceLemmas.{duration-problem, need-problem}
 use Rattle.plan_sgs.proofs.SumLemmas.{amounts_small}
 use Rattle.plan_sgs.proofs.PathTailLemmas.{tails_are_greatest}
 

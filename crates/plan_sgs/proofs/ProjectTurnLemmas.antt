@@ -1,28 +1,27 @@
 -- What the tree of a project keeps gives what its calls read, and each push and pop keeps it.
-use Rattle.std.proofs.Common.{ℕ, zero, suc, max, Bool, true, false, ◌≡◌, ◌≢◌, ◌+◌, ◌-◌, ◌≤◌, ◌<◌, inl, inr, List, [], ◌∷◌, ◌++◌, length, get_or, set, map, take, Option, Some, None, refl, sym, ◌∙◌, ap, subst, arith, length-append, get_or-set_same, get_or-set_other}
+use Rattle.std.proofs.Common.{ℕ, zero, suc, max, true, ◌≡◌, ◌≢◌, ◌+◌, ◌-◌, ◌≤◌, ◌<◌, inl, inr, List, [], ◌∷◌, ◌++◌, length, get_or, set, take, Option, Some, None, refl, sym, ◌∙◌, ap, subst, arith, length-append, get_or-set_same, get_or-set_other}
 use Rattle.std.specs.List.{Contains, slice_get}
-use Rattle.std.specs.Option.{is_some}
 use Rattle.std.proofs.lemmas.Bool.{cases_eq}
-use Rattle.std.proofs.lemmas.List.{append-nil, append_assoc, length-set, length-map, map_push, set-set, set-get_or, take_all, get_or_default}
+use Rattle.std.proofs.lemmas.List.{length-map, length_push, length-take-le, take_more, take-append-le, get_or-take, get_or_push, get_or_append_left, append-nil, append_assoc, length-set, map_push, set-set, set-get_or, take_all, get_or_default}
 use Rattle.std.proofs.lemmas.Option.{none-some, slice_get_within, slice_get-get_or, same_Some}
 use Rattle.plan_net.specs.Network.{count_of, IsActivity}
 use Rattle.plan_cpm.specs.Lengths.{AreTails}
 use Rattle.plan_profile.specs.declared.profile.Profile.{Profile}
-use Rattle.plan_sgs.specs.Problem.{Problem, count, duration, greatest_below, makespan}
-use Rattle.plan_sgs.specs.Serial.{end_from, end_of, earliest, unplaced, serial_from, serial, start_or_zero}
-use Rattle.plan_sgs.specs.Rules.{places, is_member, takes_in_turn}
+use Rattle.plan_sgs.specs.Problem.{Problem, count, duration, greatest_below}
+use Rattle.plan_sgs.specs.Serial.{end_from, end_of, earliest, unplaced, serial_from}
+use Rattle.plan_sgs.specs.Rules.{places, takes_in_turn}
 use Rattle.plan_sgs.specs.Instances.{Planned, IsInstance, problem_of}
 use Rattle.plan_sgs.specs.Placing.{EndsBy, Holds}
 use Rattle.plan_sgs.specs.PathTails.{tail_of}
-use Rattle.plan_sgs.specs.ProjectWords.{depth_of, placed_by, letters_after, Follows, IsWord, is_full, starts_by, makespan_by, reach_of}
-use Rattle.plan_sgs.specs.ProjectTrees.{Standing, standing, word_of, end_by, reach_by, IsTurn, AreTurns, IsTree}
+use Rattle.plan_sgs.specs.ProjectWords.{depth_of, placed_by, letters_after, Follows, IsWord, reach_of}
+use Rattle.plan_sgs.specs.ProjectTrees.{Standing, standing, word_of, end_by, reach_by, IsTurn, AreTurns, AreProfiles, IsTree}
 use Rattle.plan_sgs.specs.declared.project_tree.Turn.{Turn}
 use Rattle.plan_sgs.proofs.Bounds.{IsBounded, bound_of}
-use Rattle.plan_sgs.proofs.TotalLemmas.{greatest_least, greatest_above, greatest_same}
+use Rattle.plan_sgs.proofs.TotalLemmas.{greatest_least, greatest_above}
 use Rattle.plan_sgs.proofs.InstanceLemmas.{count-problem}
 use Rattle.plan_sgs.proofs.BoundedLemmas.{bounded}
 use Rattle.plan_sgs.proofs.PlacingLemmas.{IsPartial}
-use Rattle.plan_sgs.proofs.SerialLemmas.{TakenIs, taken_open, taken_placed, turn_parts, eligible_not, unplaced_at, start_at}
+use Rattle.plan_sgs.proofs.SerialLemmas.{TakenIs, taken_open, turn_parts, eligible_not, unplaced_at}
 use Rattle.plan_sgs.proofs.StepLemmas.{ends_set, bound_more, bound_within, end_of-limit}
 use Rattle.plan_sgs.proofs.RunLemmas.{length-places}
 use Rattle.plan_sgs.proofs.WordLemmas.{IsLetter, letter_is, word_turns, word_push, word_split}
@@ -31,7 +30,8 @@ use Rattle.plan_sgs.proofs.WordBoundLemmas.{word_partial, placed_append}
 use Rattle.plan_sgs.proofs.ProjectTreeLemmas.{tail_read, tail_short}
 
 -- by when what is placed in turn has ended
-ends_after : (p : Problem) (js taken : List ℕ) (placed : List (Option ℕ)) → IsBounded p → length placed ≡ count p → takes_in_turn p taken js ≡ true → EndsBy p placed (bound_of p taken) → EndsBy p (serial_from p placed js) (bound_of p (taken ++ js))
+ends_after : (p : Problem) (js taken : List ℕ) (placed : List (Option ℕ)) → IsBounded p → length placed ≡ count p → takes_in_turn p taken js ≡ true → EndsBy p placed (bound_of p taken)
+    → EndsBy p (serial_from p placed js) (bound_of p (taken ++ js))
 ends_after p [] taken placed limits size turns ends h s is = let same : bound_of p (taken ++ []) ≡ bound_of p taken = ap (bound_of p) (append-nil taken) in omega (arith, same, ends h s is)
 ends_after p (j ∷ js) taken placed limits size turns ends h s is =
     let turn = turn_parts p taken j js turns in
@@ -62,7 +62,7 @@ pub record TreeFacts (v : Standing) (placed : List (Option ℕ)) : Type 0 where
   pub taken : TakenIs placed (places v.word)
   pub ends : EndsBy (problem_of v.instance) placed 6020000
 
-facts_of : (i : Planned) (w : List ℕ) (placed : List (Option ℕ)) → IsInstance i → IsWord i w → placed ≡ placed_by i w → TreeFacts (standing i w) placed
+pub facts_of : (i : Planned) (w : List ℕ) (placed : List (Option ℕ)) → IsInstance i → IsWord i w → placed ≡ placed_by i w → TreeFacts (standing i w) placed
 facts_of i w placed instance word are = subst (TreeFacts (standing i w)) (sym are) (record {
   instance = instance;
   word = word;
@@ -76,8 +76,9 @@ facts_of i w placed instance word are = subst (TreeFacts (standing i w)) (sym ar
   partial : IsPartial (problem_of i) (placed_by i w) × TakenIs (placed_by i w) (places w)
   partial = word_partial i w instance word
 
-pub tree_facts : (i : Planned) (tails : List ℕ) (least : ℕ) (empty : Profile) (placed : List (Option ℕ)) (turns : List Turn) (v : Standing) → standing i (word_of turns) ≡ v → IsTree i tails least empty placed turns → TreeFacts v placed
-tree_facts i tails least empty placed turns v is tree = subst (λ (x : Standing). TreeFacts x placed) is (facts_of i (word_of turns) placed tree.instance tree.word tree.placed_are)
+pub tree_facts : (i : Planned) (tails : List ℕ) (least : ℕ) (placed : List (Option ℕ)) (profiles : List Profile) (turns : List Turn) (v : Standing) → standing i (word_of turns) ≡ v
+    → IsTree i tails least placed profiles turns → TreeFacts v placed
+tree_facts i tails least placed profiles turns v is tree = subst (λ (x : Standing). TreeFacts x placed) is (facts_of i (word_of turns) placed tree.instance tree.word tree.placed_are)
 
 -- the turn of a place
 turn_at : (i : Planned) (u : List ℕ) (turns : List Turn) (k : ℕ) (turn : Turn) → slice_get turns k ≡ Some turn → AreTurns i u turns → IsTurn i (u ++ word_of (take (suc k) turns)) turn
@@ -86,7 +87,8 @@ turn_at i u (t ∷ ts) zero turn is are = subst (IsTurn i (u ++ t.letter ∷ [])
 turn_at i u (t ∷ ts) (suc k) turn is are = subst (λ (xs : List ℕ). IsTurn i xs turn) (append_assoc u (t.letter ∷ []) (word_of (take (suc k) ts))) (turn_at i (u ++ t.letter ∷ []) ts k turn is are.1)
 
 -- the last turn is that of the word
-pub last_turn : (i : Planned) (turns ys : List Turn) (v : Standing) (turn : Turn) → standing i (word_of turns) ≡ v → AreTurns i [] turns → ys ≡ turns → Some turn ≡ slice_get ys (length ys - 1) → IsTurn v.instance v.word turn
+pub last_turn : (i : Planned) (turns ys : List Turn) (v : Standing) (turn : Turn) → standing i (word_of turns) ≡ v → AreTurns i [] turns → ys ≡ turns
+    → Some turn ≡ slice_get ys (length ys - 1) → IsTurn v.instance v.word turn
 last_turn i turns ys v turn is are same last =
     let there : slice_get turns (length turns - 1) ≡ Some turn = sym (last ∙ ap (λ (xs : List Turn). slice_get xs (length xs - 1)) same) in
     let within = slice_get_within turns (length turns - 1) turn there in
@@ -164,12 +166,10 @@ greatest_placed n length_of placed j s inside within none =
     omega (arith, all, here)
 
 -- the turn of one letter more
-pub next_turn : (v : Standing) (placed : List (Option ℕ)) (a start end reach : ℕ) (profile : Profile) → TreeFacts v placed → CanPlace v placed a → start ≡ earliest (problem_of v.instance) placed (a - 1)
-    → Holds profile (problem_of v.instance) (set placed (a - 1) (Some start))
+pub next_turn : (v : Standing) (placed : List (Option ℕ)) (a start end reach : ℕ) → TreeFacts v placed → CanPlace v placed a → start ≡ earliest (problem_of v.instance) placed (a - 1)
     → end ≡ max (end_by v.instance v.word) (start + duration (problem_of v.instance) (a - 1)) → reach ≡ max (reach_by v.instance v.word) (start + tail_of v.instance.project.network (suc (a - 1)))
-    → IsTurn v.instance (v.word ++ a ∷ []) (record { letter = a; end = end; reach = reach; profile = profile })
-next_turn v placed a start end reach profile facts can is held ends reaches = record {
-  held = subst (Holds profile (problem_of v.instance)) after held;
+    → IsTurn v.instance (v.word ++ a ∷ []) (record { letter = a; end = end; reach = reach })
+next_turn v placed a start end reach facts can is ends reaches = record {
   latest = omega (arith, ends, before_end, greatest_placed (depth_of v.instance) (duration (problem_of v.instance)) placed (a - 1) start (omega (arith, can.inside, facts.size)) can.inside can.none, after_end);
   farthest = omega (arith, reaches, before_reach, greatest_placed (depth_of v.instance) (λ h. tail_of v.instance.project.network (suc h)) placed (a - 1) start (omega (arith, can.inside, facts.size)) can.inside can.none, after_reach);
 } where
@@ -200,63 +200,196 @@ turns_front : (i : Planned) (u : List ℕ) (turns : List Turn) (turn : Turn) →
 turns_front i u [] turn are = tt
 turns_front i u (t ∷ ts) turn are = (are.0, turns_front i (u ++ t.letter ∷ []) ts turn are.1)
 
+-- one letter more leaves the profiles those of the words on the way
+profiles_push : (i : Planned) (w : List ℕ) (a : ℕ) (profiles : List Profile) → AreProfiles i w profiles → length profiles ≡ length w + 1 → AreProfiles i (w ++ a ∷ []) profiles
+profiles_push i w a profiles are made = record {
+  some = are.some;
+  enough = omega (arith, made, length_push w a);
+  most = omega (arith, made, length_push w a);
+  held = λ k profile within is. subst (λ (xs : List ℕ). Holds profile (problem_of i) (placed_by i xs)) (sym (take-append-le k w (a ∷ []) (omega (arith, within, made)))) (are.held k profile within is);
+}
+
+-- one letter less leaves those that there are room for
+profiles_pop : (i : Planned) (w : List ℕ) (a n : ℕ) (profiles after : List Profile) → AreProfiles i (w ++ a ∷ []) profiles → n ≡ length w + 1 → after ≡ take n profiles → AreProfiles i w after
+profiles_pop i w a n profiles after are size cut = subst (AreProfiles i w) (sym cut) (record {
+  some = omega (arith, long, size);
+  enough = omega (arith, long, size);
+  most = omega (arith, long, size);
+  held = λ k profile within is.
+      let low : k < n = omega (arith, within, long) in
+      subst (λ (xs : List ℕ). Holds profile (problem_of i) (placed_by i xs)) (take-append-le k w (a ∷ []) (omega (arith, low, size)))
+      (are.held k profile (omega (arith, low, size, are.enough, length_push w a)) (is ∙ get_or-take n profiles k profile low));
+}) where
+  long : length (take n profiles) ≡ n
+  long = length-take-le n profiles (omega (arith, size, are.enough, length_push w a))
+
 -- a push keeps the tree
-pub tree_push : (i : Planned) (tails : List ℕ) (least : ℕ) (empty : Profile) (placed : List (Option ℕ)) (turns after : List Turn) (turn : Turn) (a start : ℕ) → IsTree i tails least empty placed turns → Contains (letters_after i (word_of turns)) a
+pub tree_push : (i : Planned) (tails : List ℕ) (least : ℕ) (placed : List (Option ℕ)) (profiles made : List Profile) (turns after : List Turn) (turn : Turn) (a start : ℕ)
+    → IsTree i tails least placed profiles turns
+    → Contains (letters_after i (word_of turns)) a → AreProfiles i (word_of turns) made → length made ≡ length turns + 1
     → after ≡ turns ++ turn ∷ [] → turn.letter ≡ a → start ≡ earliest (problem_of i) (placed_by i (word_of turns)) (a - 1) → IsTurn i (word_of turns ++ a ∷ []) turn
-    → IsTree i tails least empty (set placed (a - 1) (Some start)) after
-tree_push i tails least empty placed turns after turn a start tree may all letter is here = record {
+    → IsTree i tails least (set placed (a - 1) (Some start)) made after
+tree_push i tails least placed profiles made turns after turn a start tree may are size all letter is here = record {
   instance = tree.instance;
   tails_are = tree.tails_are;
   least_is = tree.least_is;
-  none_held = tree.none_held;
   word = subst (IsWord i) (sym word) (word_push i [] (word_of turns) a tree.word may);
   placed_are = ap (λ (t : ℕ). set placed (a - 1) (Some t)) is ∙ ap (λ (xs : List (Option ℕ)). set xs (a - 1) (Some (earliest (problem_of i) (placed_by i (word_of turns)) (a - 1)))) tree.placed_are
       ∙ sym (placed_push i (word_of turns) a) ∙ ap (placed_by i) (sym word);
+  profiles_are = subst (λ (xs : List ℕ). AreProfiles i xs made) (sym word) (profiles_push i (word_of turns) a made are (omega (arith, size, length-map turns (λ (t : Turn). t.letter))));
   turns_are = subst (AreTurns i []) (sym all) (turns_push i [] turns turn tree.turns_are (subst (λ (b : ℕ). IsTurn i (word_of turns ++ b ∷ []) turn) (sym letter) here));
 } where
   word : word_of after ≡ word_of turns ++ a ∷ []
   word = ap (λ (xs : List Turn). word_of xs) all ∙ word_of-push turns turn ∙ ap (λ (b : ℕ). word_of turns ++ b ∷ []) letter
 
--- what a pop may count on
-pub record CanPop (i : Planned) (placed : List (Option ℕ)) (turns : List Turn) (turn : Turn) : Type 0 where
-  pub from_one : 1 ≤ turn.letter
-  pub inside : turn.letter - 1 < length placed
-  pub word : IsWord i (word_of turns)
-  pub undone : set placed (turn.letter - 1) None ≡ placed_by i (word_of turns)
-  pub turns_are : AreTurns i [] turns
+-- where a push found no memory, the tree has the profiles that there are
+pub tree_same : (i : Planned) (tails : List ℕ) (least : ℕ) (placed : List (Option ℕ)) (profiles made : List Profile) (turns : List Turn) → IsTree i tails least placed profiles turns
+    → AreProfiles i (word_of turns) made → IsTree i tails least placed made turns
+tree_same i tails least placed profiles made turns tree are = record {
+  instance = tree.instance;
+  tails_are = tree.tails_are;
+  least_is = tree.least_is;
+  word = tree.word;
+  placed_are = tree.placed_are;
+  profiles_are = are;
+  turns_are = tree.turns_are;
+}
 
-pub can_pop : (i : Planned) (tails : List ℕ) (least : ℕ) (empty : Profile) (placed : List (Option ℕ)) (turns whole : List Turn) (turn : Turn) → IsTree i tails least empty placed whole → whole ≡ turns ++ turn ∷ [] → CanPop i placed turns turn
-can_pop i tails least empty placed turns whole turn tree all = record {
-  from_one = letter.from_one;
-  inside = omega (arith, letter.inside, ap (λ (xs : List (Option ℕ)). length xs) tree.placed_are, (word_partial i (word_of whole) tree.instance tree.word).0.size);
+-- what the last letter of a word may count on, and the word before it
+pub record IsLast (i : Planned) (u : List ℕ) (placed : List (Option ℕ)) (a : ℕ) : Type 0 where
+  pub activity : IsActivity i.project.network a
+  pub inside : a - 1 < length placed
+  pub word : IsWord i u
+  pub undone : set placed (a - 1) None ≡ placed_by i u
+  pub last : get_or placed (a - 1) None ≡ Some (earliest (problem_of i) (set placed (a - 1) None) (a - 1))
+
+pub last_is : (i : Planned) (w u : List ℕ) (placed : List (Option ℕ)) (a : ℕ) → IsInstance i → IsWord i w → placed ≡ placed_by i w → w ≡ u ++ a ∷ [] → IsLast i u placed a
+last_is i w u placed a instance is_word are word = record {
+  activity = (letter.from_one, omega (arith, letter.from_one, letter.inside, count-problem i));
+  inside = inside;
   word = parts.0;
-  undone = ap (λ (xs : List (Option ℕ)). set xs (turn.letter - 1) None) (tree.placed_are ∙ ap (placed_by i) word ∙ placed_push i (word_of turns) turn.letter)
-      ∙ set-set (placed_by i (word_of turns)) (turn.letter - 1) (Some (earliest (problem_of i) (placed_by i (word_of turns)) (turn.letter - 1))) None
-      ∙ ap (λ (o : Option ℕ). set (placed_by i (word_of turns)) (turn.letter - 1) o) (sym none) ∙ set-get_or (placed_by i (word_of turns)) (turn.letter - 1) None;
+  undone = undone;
+  last = ap (λ (xs : List (Option ℕ)). get_or xs (a - 1) None) pushed ∙ get_or-set_same (placed_by i u) (a - 1) (Some (earliest (problem_of i) (placed_by i u) (a - 1))) None (omega (arith, letter.inside, (word_partial i u instance parts.0).0.size))
+      ∙ ap (λ (xs : List (Option ℕ)). Some (earliest (problem_of i) xs (a - 1))) (sym undone);
+} where
+  parts : Follows i [] u × Follows i ([] ++ u) (a ∷ [])
+  parts = word_split i [] u (a ∷ []) (subst (IsWord i) word is_word)
+
+  letter : IsLetter i u a
+  letter = letter_is i u a parts.1.0
+
+  inside : a - 1 < length placed
+  inside = omega (arith, letter.inside, ap (λ (xs : List (Option ℕ)). length xs) are, (word_partial i w instance is_word).0.size)
+
+  none : get_or (placed_by i u) (a - 1) None ≡ None
+  none = taken_open (placed_by i u) (places u) (a - 1) (word_partial i u instance parts.0).1 (eligible_not (problem_of i) (places u) (a - 1) letter.eligible)
+
+  pushed : placed ≡ set (placed_by i u) (a - 1) (Some (earliest (problem_of i) (placed_by i u) (a - 1)))
+  pushed = are ∙ ap (placed_by i) word ∙ placed_push i u a
+
+  undone : set placed (a - 1) None ≡ placed_by i u
+  undone = ap (λ (xs : List (Option ℕ)). set xs (a - 1) None) pushed ∙ set-set (placed_by i u) (a - 1) (Some (earliest (problem_of i) (placed_by i u) (a - 1))) None
+      ∙ ap (λ (o : Option ℕ). set (placed_by i u) (a - 1) o) (sym none) ∙ set-get_or (placed_by i u) (a - 1) None
+
+-- what a pop may count on
+pub can_pop : (i : Planned) (tails : List ℕ) (least : ℕ) (placed : List (Option ℕ)) (profiles : List Profile) (turns whole : List Turn) (turn : Turn)
+    → IsTree i tails least placed profiles whole → whole ≡ turns ++ turn ∷ [] → IsLast i (word_of turns) placed turn.letter
+can_pop i tails least placed profiles turns whole turn tree all =
+    last_is i (word_of whole) (word_of turns) placed turn.letter tree.instance tree.word tree.placed_are (ap (λ (xs : List Turn). word_of xs) all ∙ word_of-push turns turn)
+
+pub tree_pop : (i : Planned) (tails : List ℕ) (least : ℕ) (placed : List (Option ℕ)) (profiles after : List Profile) (turns whole : List Turn) (turn : Turn) (n : ℕ)
+    → IsTree i tails least placed profiles whole → whole ≡ turns ++ turn ∷ []
+    → n ≡ length turns + 1 → after ≡ take n profiles → IsTree i tails least (set placed (turn.letter - 1) None) after turns
+tree_pop i tails least placed profiles after turns whole turn n tree all size cut = record {
+  instance = tree.instance;
+  tails_are = tree.tails_are;
+  least_is = tree.least_is;
+  word = can.word;
+  placed_are = can.undone;
+  profiles_are = profiles_pop i (word_of turns) turn.letter n profiles after (subst (λ (xs : List ℕ). AreProfiles i xs profiles) word tree.profiles_are) (omega (arith, size, length-map turns (λ (t : Turn). t.letter))) cut;
   turns_are = turns_front i [] turns turn (subst (AreTurns i []) all tree.turns_are);
 } where
   word : word_of whole ≡ word_of turns ++ turn.letter ∷ []
   word = ap (λ (xs : List Turn). word_of xs) all ∙ word_of-push turns turn
 
-  parts : Follows i [] (word_of turns) × Follows i ([] ++ word_of turns) (turn.letter ∷ [])
-  parts = word_split i [] (word_of turns) (turn.letter ∷ []) (subst (IsWord i) word tree.word)
+  can : IsLast i (word_of turns) placed turn.letter
+  can = can_pop i tails least placed profiles turns whole turn tree all
 
-  letter : IsLetter i (word_of turns) turn.letter
-  letter = letter_is i (word_of turns) turn.letter parts.1.0
+-- the last turn by its place
+pub turns_split : (turns : List Turn) (at : ℕ) (turn : Turn) → at ≡ length turns → 0 < at → turn ≡ get_or turns (at - 1) turn → word_of turns ≡ word_of (take (at - 1) turns) ++ turn.letter ∷ []
+turns_split turns at turn size some is =
+    let whole : take (at - 1 + 1) turns ≡ turns = take_all (at - 1 + 1) turns (omega (arith, size, some)) in
+    let more : take (at - 1 + 1) turns ≡ take (at - 1) turns ++ turn ∷ [] = take_more turns (at - 1) turn (omega (arith, size, some)) ∙ ap (λ (t : Turn). take (at - 1) turns ++ t ∷ []) (sym is) in
+    ap (λ (xs : List Turn). word_of xs) (sym whole ∙ more) ∙ word_of-push (take (at - 1) turns) turn
 
-  none : get_or (placed_by i (word_of turns)) (turn.letter - 1) None ≡ None
-  none = taken_open (placed_by i (word_of turns)) (places (word_of turns)) (turn.letter - 1) (word_partial i (word_of turns) tree.instance parts.0).1 (eligible_not (problem_of i) (places (word_of turns)) (turn.letter - 1) letter.eligible)
+-- the profile of the word before the last letter
+pub held_before : (i : Planned) (w u : List ℕ) (a at : ℕ) (profiles : List Profile) (profile : Profile) → AreProfiles i w profiles → w ≡ u ++ a ∷ [] → at ≡ length u
+    → profile ≡ get_or profiles at profile → Holds profile (problem_of i) (placed_by i u)
+held_before i w u a at profiles profile are word size is =
+    let long : length w ≡ length u + 1 = ap (λ (xs : List ℕ). length xs) word ∙ length_push u a in
+    let cut : take at w ≡ u = ap (λ (xs : List ℕ). take at xs) word ∙ take-append-le at u (a ∷ []) (omega (arith, size)) ∙ take_all at u (omega (arith, size)) in
+    subst (λ (xs : List ℕ). Holds profile (problem_of i) (placed_by i xs)) cut (are.held at profile (omega (arith, long, size, are.enough)) is)
 
-pub tree_pop : (i : Planned) (tails : List ℕ) (least : ℕ) (empty : Profile) (placed : List (Option ℕ)) (turns whole : List Turn) (turn : Turn) → IsTree i tails least empty placed whole → CanPop i placed turns turn → IsTree i tails least empty (set placed (turn.letter - 1) None) turns
-tree_pop i tails least empty placed turns whole turn tree can = record {
-  instance = tree.instance;
-  tails_are = tree.tails_are;
-  least_is = tree.least_is;
-  none_held = tree.none_held;
-  word = can.word;
-  placed_are = can.undone;
-  turns_are = can.turns_are;
-}
+-- the profile of the word itself
+pub held_here : (i : Planned) (w : List ℕ) (at : ℕ) (profiles : List Profile) (profile : Profile) → AreProfiles i w profiles → at ≡ length w → at < length profiles
+    → profile ≡ get_or profiles at profile → Holds profile (problem_of i) (placed_by i w)
+held_here i w at profiles profile are size within is =
+    subst (λ (xs : List ℕ). Holds profile (problem_of i) (placed_by i xs)) (take_all at w (omega (arith, size))) (are.held at profile within is)
+
+-- what stands behind a word where its own profile isn't there yet
+abbrev pub no_turn_yet : Turn
+no_turn_yet = record { letter = 0; end = 0; reach = 0 }
+
+pub record IsBehind (i : Planned) (turns : List Turn) (placed : List (Option ℕ)) (profiles : List Profile) : Type 0 where
+  pub last : IsLast i (word_of (take (length turns - 1) turns)) placed (get_or turns (length turns - 1) no_turn_yet).letter
+  pub held : (profile : Profile) → profile ≡ get_or profiles (length turns - 1) profile → Holds profile (problem_of i) (set placed ((get_or turns (length turns - 1) no_turn_yet).letter - 1) None)
+
+pub behind : (i : Planned) (turns : List Turn) (placed : List (Option ℕ)) (profiles : List Profile) → IsInstance i → IsWord i (word_of turns) → placed ≡ placed_by i (word_of turns)
+    → AreProfiles i (word_of turns) profiles → length profiles ≡ length turns
+    → IsBehind i turns placed profiles
+behind i turns placed profiles instance word are kept size = record {
+  last = last;
+  held = λ profile is. subst (Holds profile (problem_of i)) (sym last.undone) (held_before i (word_of turns) (word_of (take (length turns - 1) turns)) (get_or turns (length turns - 1) no_turn_yet).letter (length turns - 1) profiles profile kept split short is);
+} where
+  split : word_of turns ≡ word_of (take (length turns - 1) turns) ++ (get_or turns (length turns - 1) no_turn_yet).letter ∷ []
+  split = turns_split turns (length turns) (get_or turns (length turns - 1) no_turn_yet) refl (omega (arith, kept.some, size)) (get_or_default turns (length turns - 1) no_turn_yet (get_or turns (length turns - 1) no_turn_yet) (omega (arith, kept.some, size)))
+
+  last : IsLast i (word_of (take (length turns - 1) turns)) placed (get_or turns (length turns - 1) no_turn_yet).letter
+  last = last_is i (word_of turns) (word_of (take (length turns - 1) turns)) placed (get_or turns (length turns - 1) no_turn_yet).letter instance word are split
+
+  short : length turns - 1 ≡ length (word_of (take (length turns - 1) turns))
+  short = omega (arith, length-map (take (length turns - 1) turns) (λ (t : Turn). t.letter), length-take-le (length turns - 1) turns (omega arith))
+
+-- the profile of the empty word alone
+held_first : (i : Planned) (first : Profile) (k : ℕ) (profile : Profile) → Holds first (problem_of i) (placed_by i []) → k < 1 → profile ≡ get_or (first ∷ []) k profile
+    → Holds profile (problem_of i) (placed_by i (take k []))
+held_first i first zero profile held low is = subst (λ (x : Profile). Holds x (problem_of i) (placed_by i [])) (sym is) held
+held_first i first (suc k) profile held low is = absurd (omega (arith, low))
+
+pub first_profile : (i : Planned) (first : Profile) (profiles : List Profile) → Holds first (problem_of i) (placed_by i []) → profiles ≡ first ∷ [] → AreProfiles i [] profiles
+first_profile i first profiles held all = subst (AreProfiles i []) (sym all) (record {
+  some = omega arith;
+  enough = omega arith;
+  most = omega arith;
+  held = λ k profile within is. held_first i first k profile held within is;
+})
+
+-- one profile more, that of the word
+pub profiles_more : (i : Planned) (w : List ℕ) (profiles after : List Profile) (made : Profile) → AreProfiles i w profiles → length profiles ≡ length w
+    → Holds made (problem_of i) (placed_by i w) → after ≡ profiles ++ made ∷ [] → AreProfiles i w after
+profiles_more i w profiles after made are size held more = subst (AreProfiles i w) (sym more) (record {
+  some = omega (arith, length_push profiles made);
+  enough = omega (arith, length_push profiles made, size);
+  most = omega (arith, length_push profiles made, size);
+  held = λ k profile within is. elim (cases_eq k (length profiles)) [
+    | inl last ↦
+        let same : profile ≡ made = is ∙ get_or_push profiles made profile k (sym last) in
+        subst (λ (x : Profile). Holds x (problem_of i) (placed_by i (take k w))) (sym same) (subst (λ (xs : List ℕ). Holds made (problem_of i) (placed_by i xs)) (sym (take_all k w (omega (arith, last, size)))) held)
+    | inr other ↦
+        let before : k < length profiles = omega (arith, within, other, length_push profiles made) in
+        are.held k profile before (is ∙ get_or_append_left profiles (made ∷ []) profile k before)
+  ];
+})
 
 -- lists that agree with one more at the end agree before it
 same_front : (xs ys : List ℕ) (a b : ℕ) → xs ++ a ∷ [] ≡ ys ++ b ∷ [] → xs ≡ ys
@@ -270,12 +403,14 @@ same_front (x ∷ xs) (y ∷ ys) a b is =
     cc
 
 -- the word without its last letter
-pub popped : (i : Planned) (turns whole : List Turn) (turn : Turn) (v : Standing) → standing i (word_of whole) ≡ v → whole ≡ turns ++ turn ∷ [] → (u : List ℕ) (a : ℕ) → v.word ≡ u ++ a ∷ [] → word_of turns ≡ u
+pub popped : (i : Planned) (turns whole : List Turn) (turn : Turn) (v : Standing) → standing i (word_of whole) ≡ v → whole ≡ turns ++ turn ∷ [] → (u : List ℕ) (a : ℕ) → v.word ≡ u ++ a ∷ []
+    → word_of turns ≡ u
 popped i turns whole turn v is all u a word =
     same_front (word_of turns) u turn.letter a (sym (word_of-push turns turn) ∙ ap (λ (xs : List Turn). word_of xs) (sym all) ∙ ap (λ (x : Standing). x.word) is ∙ word)
 
 -- the tail that a push reads
-pub tail_at : (v : Standing) (i : Planned) (tails : List ℕ) {w : List ℕ} → standing i w ≡ v → AreTails i.project.network tails → (a tail : ℕ) {placed : List (Option ℕ)} → TreeFacts v placed → CanPlace v placed a → tail ≡ get_or tails (a - 1) tail
+pub tail_at : (v : Standing) (i : Planned) (tails : List ℕ) {w : List ℕ} → standing i w ≡ v → AreTails i.project.network tails → (a tail : ℕ) {placed : List (Option ℕ)} → TreeFacts v placed
+    → CanPlace v placed a → tail ≡ get_or tails (a - 1) tail
     → (tail ≡ tail_of v.instance.project.network (suc (a - 1))) × (tail ≤ 6010000)
 tail_at v i tails is are a tail facts can read =
     let net = v.instance.project.network in

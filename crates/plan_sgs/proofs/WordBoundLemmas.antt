@@ -1,15 +1,13 @@
 -- The bound of a word is at most the makespan of each full word that begins with it.
-use Rattle.std.proofs.Common.{ℕ, zero, suc, Bool, true, false, max, ◌≡◌, ◌≢◌, ◌+◌, ◌-◌, ◌≤◌, ◌<◌, inl, inr, List, [], ◌∷◌, ◌++◌, length, get_or, set, map, Option, Some, None, refl, sym, ◌∙◌, ap, subst, arith, get_or-set_other}
-use Rattle.std.proofs.lemmas.Bool.{cases_eq, both_ways}
-use Rattle.std.proofs.lemmas.List.{append_assoc}
+use Rattle.std.proofs.Common.{ℕ, suc, true, ◌≡◌, ◌≢◌, ◌+◌, ◌-◌, ◌≤◌, ◌<◌, List, [], ◌∷◌, ◌++◌, length, get_or, set, Option, Some, None, refl, sym, ◌∙◌, ap, subst, arith, get_or-set_other}
+use Rattle.std.proofs.lemmas.Bool.{both_ways}
 use Rattle.std.specs.Option.{is_some}
-use Rattle.plan_net.specs.Network.{Net, count_of, IsArc, IsActivity, IsGreatest, duration_of, lag_of}
-use Rattle.plan_net.specs.Path.{IsWalk, path_length, length_after}
+use Rattle.plan_net.specs.Network.{IsActivity, lag_of}
+use Rattle.plan_net.specs.Path.{IsWalk, path_length}
 use Rattle.plan_net.specs.Limits.{IsSound}
 use Rattle.plan_net.proofs.RowLemmas.{arc_ends}
-use Rattle.plan_cpm.specs.Lengths.{IsLength, IsLengthFrom}
-use Rattle.plan_sgs.specs.Problem.{Problem, count, duration, greatest_below, IsFeasible, IsActive, makespan}
-use Rattle.plan_sgs.specs.Serial.{end_from, earliest, unplaced, serial_from, serial, start_or_zero}
+use Rattle.plan_sgs.specs.Problem.{Problem, count, duration, greatest_below, IsFeasible, makespan}
+use Rattle.plan_sgs.specs.Serial.{end_from, earliest, unplaced, serial_from, serial}
 use Rattle.plan_sgs.specs.Rules.{places, is_member, takes_in_turn}
 use Rattle.plan_sgs.specs.Instances.{Planned, IsInstance, problem_of}
 use Rattle.plan_sgs.specs.PathTails.{tail_of, longest_of}
@@ -23,23 +21,26 @@ use Rattle.plan_sgs.proofs.PlacingLemmas.{IsPartial}
 use Rattle.plan_sgs.proofs.SerialLemmas.{TakenIs, taken_first, turn_parts, eligible_not, start_at, member_other, partial_after, partial_first}
 use Rattle.plan_sgs.proofs.PathTailLemmas.{tails_are_greatest, longest_is_greatest}
 use Rattle.plan_sgs.proofs.WorkLemmas.{busy_fits}
-use Rattle.plan_sgs.proofs.WordLemmas.{word_turns, word_split, places_append, TakesTurns}
+use Rattle.plan_sgs.proofs.WordLemmas.{word_turns, word_split, places_append}
 use Rattle.plan_sgs.proofs.FullWordLemmas.{full_is_active}
 
 -- in a feasible schedule what follows an activity on a path comes after it
 walk_fits : (i : Planned) (s : List ℕ) (j : ℕ) (others : List ℕ) → IsSound i.project.network → IsFeasible (problem_of i) s → IsActivity i.project.network j → IsWalk i.project.network j others
     → get_or s (j - 1) 0 + path_length i.project.network j others ≤ makespan (problem_of i) s
 walk_fits i s j [] sound feasible activity walk =
-    let end : get_or s (j - 1) 0 + duration (problem_of i) (j - 1) ≤ makespan (problem_of i) s = greatest_above (count (problem_of i)) (λ h. get_or s h 0 + duration (problem_of i) h) (j - 1) (activity_place i j activity) in
+    let end : get_or s (j - 1) 0 + duration (problem_of i) (j - 1) ≤ makespan (problem_of i) s =
+    greatest_above (count (problem_of i)) (λ h. get_or s h 0 + duration (problem_of i) h) (j - 1) (activity_place i j activity) in
     omega (arith, end, duration_place i j activity)
 walk_fits i s j (k ∷ others) sound feasible activity (arc, walk) =
     let ends = arc_ends i.project.network j k sound.limits arc in
     let rest : get_or s (k - 1) 0 + path_length i.project.network k others ≤ makespan (problem_of i) s = walk_fits i s k others sound feasible ends.1 walk in
-    let apart : get_or s (j - 1) 0 + duration (problem_of i) (j - 1) + lag_of i.project.network j k ≤ get_or s (k - 1) 0 = link_at i (λ a. get_or s a.from 0 + duration (problem_of i) a.from + a.lag ≤ get_or s a.to 0) feasible.arcs j k arc in
+    let apart : get_or s (j - 1) 0 + duration (problem_of i) (j - 1) + lag_of i.project.network j k ≤ get_or s (k - 1) 0 =
+    link_at i (λ a. get_or s a.from 0 + duration (problem_of i) a.from + a.lag ≤ get_or s a.to 0) feasible.arcs j k arc in
     omega (arith, rest, apart, duration_place i j activity)
 
 -- so do its tail and the longest path
-tail_fits : (i : Planned) (s : List ℕ) (j : ℕ) → IsSound i.project.network → IsFeasible (problem_of i) s → IsActivity i.project.network j → get_or s (j - 1) 0 + tail_of i.project.network j ≤ makespan (problem_of i) s
+tail_fits : (i : Planned) (s : List ℕ) (j : ℕ) → IsSound i.project.network → IsFeasible (problem_of i) s → IsActivity i.project.network j
+    → get_or s (j - 1) 0 + tail_of i.project.network j ≤ makespan (problem_of i) s
 unfolding TailsAreGreatest
 tail_fits i s j sound feasible activity =
     let path = (tails_are_greatest i.project.network j sound activity).0 in
@@ -63,7 +64,8 @@ least_fits i s instance feasible =
     omega (arith, busy, longest_fits i s instance.project.network feasible)
 
 -- what is placed stays where it is while others are
-placed_stays : (p : Problem) (js taken : List ℕ) (placed : List (Option ℕ)) (h s : ℕ) → takes_in_turn p taken js ≡ true → is_member h taken ≡ true → get_or placed h None ≡ Some s → get_or (serial_from p placed js) h None ≡ Some s
+placed_stays : (p : Problem) (js taken : List ℕ) (placed : List (Option ℕ)) (h s : ℕ) → takes_in_turn p taken js ≡ true → is_member h taken ≡ true → get_or placed h None ≡ Some s
+    → get_or (serial_from p placed js) h None ≡ Some s
 placed_stays p [] taken placed h s turns has is = is
 placed_stays p (j ∷ js) taken placed h s turns has is =
     let turn = turn_parts p taken j js turns in
@@ -89,7 +91,8 @@ unfolding serial
 start_stays i u v j s instance word is =
     let parts = word_split i [] u v word in
     let has : is_member j (places u) ≡ true = sym ((word_partial i u instance parts.0).1 j) ∙ ap is_some is in
-    let stays : get_or (serial_from (problem_of i) (placed_by i u) (places v)) j None ≡ Some s = placed_stays (problem_of i) (places v) (places u) (placed_by i u) j s (word_turns i u v parts.1).turns has is in
+    let stays : get_or (serial_from (problem_of i) (placed_by i u) (places v)) j None ≡ Some s =
+    placed_stays (problem_of i) (places v) (places u) (placed_by i u) j s (word_turns i u v parts.1).turns has is in
     start_at (placed_by i (u ++ v)) j s (ap (λ (xs : List (Option ℕ)). get_or xs j None) (placed_append i u v) ∙ stays)
 
 reach_fits : (i : Planned) (u v : List ℕ) (j : ℕ) → IsInstance i → IsFullWord i (u ++ v) → j < depth_of i → reach_of i (placed_by i u) j ≤ makespan (problem_of i) (starts_by i (u ++ v))

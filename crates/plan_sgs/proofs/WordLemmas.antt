@@ -1,13 +1,13 @@
 -- The words of a project are the lists that take activities in turn.
-use Rattle.std.proofs.Common.{ℕ, zero, suc, Bool, true, false, cond, nat_eq, ◌≡◌, ◌+◌, ◌-◌, ◌≤◌, ◌<◌, ◌⊎◌, inl, inr, List, [], ◌∷◌, ◌++◌, length, get_or, map, refl, sym, ◌∙◌, ap, subst, arith, length-append}
+use Rattle.std.proofs.Common.{ℕ, zero, suc, Bool, true, false, cond, ◌≡◌, ◌+◌, ◌-◌, ◌≤◌, ◌<◌, inl, inr, List, [], ◌∷◌, ◌++◌, length, get_or, refl, sym, ◌∙◌, ap, subst, arith, length-append}
 use Rattle.std.specs.List.{All, AllPairs, Contains}
 use Rattle.std.proofs.lemmas.Bool.{cases_lt, cases_eq, false≢true}
 use Rattle.std.proofs.lemmas.List.{append-nil, append_assoc, length-map, get_or-map, get_or_default, map-append, map_push, get_or_append_left, get_or-append_right}
 use Rattle.std.proofs.lemmas.List.Elements.{All-nil, All-cons, All-head, All-tail, Contains-append_cases, Contains-append_left, Contains-append_right, Contains-get_or}
-use Rattle.plan_sgs.specs.Problem.{Problem, count}
-use Rattle.plan_sgs.specs.Rules.{places, is_member, is_eligible, eligible, takes_in_turn}
+use Rattle.plan_sgs.specs.Problem.{Problem}
+use Rattle.plan_sgs.specs.Rules.{places, is_eligible, eligible, takes_in_turn}
 use Rattle.plan_sgs.specs.Instances.{Planned, problem_of}
-use Rattle.plan_sgs.specs.ProjectWords.{depth_of, letters_after, Follows, IsWord}
+use Rattle.plan_sgs.specs.ProjectWords.{depth_of, letters_after, Follows}
 use Rattle.plan_sgs.proofs.SerialLemmas.{turn_parts, turn_from}
 
 -- the one element of a list of at most one

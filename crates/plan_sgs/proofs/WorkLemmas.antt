@@ -1,6 +1,6 @@
 -- The work on a resource fits beside its capacity into each feasible schedule.
-use Rattle.std.proofs.Common.{ℕ, zero, suc, min, cond, nat_lt, ◌≡◌, ◌+◌, ◌-◌, ◌*◌, ◌/◌, ◌%◌, ◌≤◌, ◌<◌, inl, inr, List, length, get_or, Some, refl, sym, ◌∙◌, ap, arith}
-use Rattle.std.proofs.lemmas.Bool.{cases_lt, cases_eq, cond-true, cond-false, lt-ltb, le-ltb}
+use Rattle.std.proofs.Common.{ℕ, zero, suc, min, nat_lt, ◌≡◌, ◌+◌, ◌-◌, ◌*◌, ◌/◌, ◌%◌, ◌≤◌, ◌<◌, inl, inr, List, length, get_or, Some, refl, sym, ◌∙◌, ap, arith}
+use Rattle.std.proofs.lemmas.Bool.{cases_lt, cond-true, cond-false, lt-ltb, le-ltb}
 use Rattle.std.proofs.lemmas.Nat.{mul-le, div-add-mod'}
 use Rattle.std.proofs.Math.Nat.{suc-mul, mul_comm}
 use Rattle.plan_sgs.specs.Problem.{Problem, count, duration, need, capacity, total, amount_of, usage, all_placed, IsFeasible, makespan}
@@ -75,7 +75,8 @@ work_fits p s k feasible within =
     let each : work_of p k ≡ total (count p) (λ i. total (makespan p s) (λ t. amount_at p s t k i)) =
     total_same (count p) (λ i. duration p i * need p i k) (λ i. total (makespan p s) (λ t. amount_at p s t k i)) (λ i below.
     sym (amount_all p k i (get_or s i 0) (makespan p s) (greatest_above (count p) (λ h. get_or s h 0 + duration p h) i below))) in
-    let turned : total (count p) (λ i. total (makespan p s) (λ t. amount_at p s t k i)) ≡ total (makespan p s) (λ t. total (count p) (λ i. amount_at p s t k i)) = total_both (count p) (makespan p s) (λ i t. amount_at p s t k i) in
+    let turned : total (count p) (λ i. total (makespan p s) (λ t. amount_at p s t k i)) ≡ total (makespan p s) (λ t. total (count p) (λ i. amount_at p s t k i)) =
+    total_both (count p) (makespan p s) (λ i t. amount_at p s t k i) in
     let most : total (makespan p s) (λ t. total (count p) (λ i. amount_at p s t k i)) ≤ capacity p k * makespan p s =
     total_limit (makespan p s) (λ t. total (count p) (λ i. amount_at p s t k i)) (capacity p k) (λ t below.
     let used : usage p (all_placed s) t k ≡ total (count p) (amount_at p s t k) = usage_is p s t k feasible.each_started in

@@ -1,10 +1,11 @@
--- Where the tree of a project stands, and what it keeps of what its word places (docs/DEFINITIONS.md, "Words of a project").
--- Public clauses speak of `Standing` and `standing` alone.
-use Rattle.std.specs.Prelude.{◌≡◌, ℕ, ◌-◌, ◌<◌, List, [], ◌∷◌, ◌++◌, map, slice_index, Option, Some, None, get_or, length}
+-- Where the tree of a project stands, and what it keeps of what its word places
+-- (docs/DEFINITIONS.md, "Words of a project"). Public clauses speak of `Standing` and `standing`
+-- alone.
+use Rattle.std.specs.Prelude.{◌≡◌, ℕ, ◌+◌, ◌≤◌, ◌<◌, List, [], ◌∷◌, ◌++◌, length, get_or, take, map, Option}
 use Rattle.plan_cpm.specs.Lengths.{AreTails}
 use Rattle.plan_profile.specs.declared.profile.Profile.{Profile}
 use Rattle.plan_sgs.specs.Problem.{greatest_below}
-use Rattle.plan_sgs.specs.Serial.{unplaced, end_of}
+use Rattle.plan_sgs.specs.Serial.{end_of}
 use Rattle.plan_sgs.specs.Instances.{Planned, IsInstance, problem_of}
 use Rattle.plan_sgs.specs.Placing.{Holds}
 use Rattle.plan_sgs.specs.ProjectWords.{depth_of, placed_by, IsWord, least_of_all, reach_of}
@@ -30,9 +31,9 @@ end_by i w = greatest_below (depth_of i) (end_of (problem_of i) (placed_by i w))
 abbrev pub reach_by : Planned → List ℕ → ℕ
 reach_by i w = greatest_below (depth_of i) (reach_of i (placed_by i w))
 
--- a turn has the profile of all that the word places, which ends with its letter, and the greatest end and reach of it
+-- a turn has the greatest end and the greatest start and tail of all that the word places that it
+-- ends end and reach of it
 pub record IsTurn (i : Planned) (w : List ℕ) (turn : Turn) : Type 0 where
-  pub held : Holds turn.profile (problem_of i) (placed_by i w)
   pub latest : turn.end ≡ end_by i w
   pub farthest : turn.reach ≡ reach_by i w
 
@@ -42,12 +43,22 @@ AreTurns i u [] = Unit {0}
 AreTurns i u (turn ∷ turns) =
     IsTurn i (u ++ turn.letter ∷ []) turn × AreTurns i (u ++ turn.letter ∷ []) turns
 
+-- the profiles of the words on the way to one, the empty word's first, and that of the word itself
+-- or not
+pub record AreProfiles (i : Planned) (w : List ℕ) (profiles : List Profile) : Type 0 where
+  pub some : 0 < length profiles
+  pub enough : length w ≤ length profiles
+  pub most : length profiles ≤ length w + 1
+  pub held : (k : ℕ) (profile : Profile) → k < length profiles → profile ≡ get_or profiles k profile
+      → Holds profile (problem_of i) (placed_by i (take k w))
+
 -- all that a tree keeps
-pub record IsTree (i : Planned) (tails : List ℕ) (least : ℕ) (empty : Profile) (placed : List (Option ℕ)) (turns : List Turn) : Type 0 where
+pub record IsTree (i : Planned) (tails : List ℕ) (least : ℕ) (placed : List (Option ℕ))
+    (profiles : List Profile) (turns : List Turn) : Type 0 where
   pub instance : IsInstance i
   pub tails_are : AreTails i.project.network tails
   pub least_is : least ≡ least_of_all i
-  pub none_held : Holds empty (problem_of i) (unplaced (depth_of i))
   pub word : IsWord i (word_of turns)
   pub placed_are : placed ≡ placed_by i (word_of turns)
+  pub profiles_are : AreProfiles i (word_of turns) profiles
   pub turns_are : AreTurns i [] turns

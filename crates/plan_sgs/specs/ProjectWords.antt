@@ -1,6 +1,7 @@
--- Words of a project: lists of activities, each placed in its turn by serial generation (docs/DEFINITIONS.md, "Words of a project";
--- the precedence tree of Patterson, Słowiński, Talbot and Węglarz 1989, Sprecher 2000). Letters are activity numbers from 1 on.
-use Rattle.std.specs.Prelude.{◌≡◌, ℕ, suc, ◌+◌, ◌*◌, ◌/◌, ◌%◌, max, min, Bool, cond, List, [], ◌∷◌, ◌++◌, length, get_or, map, nat_lt, Option, None, Contains}
+-- Words of a project: lists of activities, each placed in its turn by serial generation
+-- (docs/DEFINITIONS.md, "Words of a project"; the precedence tree of Patterson, Słowiński, Talbot
+-- and Węglarz 1989, Sprecher 2000). Letters are activity numbers from 1 on.
+use Rattle.std.specs.Prelude.{ℕ, suc, ◌+◌, ◌*◌, ◌/◌, ◌%◌, max, min, Bool, cond, List, [], ◌∷◌, ◌++◌, length, get_or, map, nat_lt, Option, None, Contains}
 use Rattle.plan_sgs.specs.Problem.{Problem, count, duration, need, capacity, total, greatest_below, all_below, makespan}
 use Rattle.plan_sgs.specs.Serial.{end_from, unplaced, serial_from, serial}
 use Rattle.plan_sgs.specs.Rules.{places, is_member, eligible}
@@ -15,7 +16,8 @@ depth_of i = count (problem_of i)
 abbrev pub placed_by : Planned → List ℕ → List (Option ℕ)
 placed_by i w = serial_from (problem_of i) (unplaced (depth_of i)) (places w)
 
--- the letters that may follow a word: the activities that aren't in it and whose predecessors all are, rising
+-- the letters that may follow a word: the activities that aren't in it and whose predecessors all
+-- are, rising
 unfoldable pub letters_after : Planned → List ℕ → List ℕ
 letters_after i w = map suc (eligible (problem_of i) (places w) (depth_of i))
 
@@ -52,7 +54,8 @@ rounded_up a b = a / b + min (a % b) 1
 abbrev pub busy_of : Problem → ℕ → ℕ
 busy_of p k = cond (nat_lt 0 (capacity p k)) (rounded_up (work_of p k) (capacity p k)) 0
 
--- the part of each bound that no word changes: the longest path, and how long each resource is busy at least
+-- the part of each bound that no word changes: the longest path, and how long each resource is busy
+-- at least
 unfoldable pub least_of_all : Planned → ℕ
 least_of_all i =
     max (longest_of i.project.network) (greatest_below (length i.capacities) (busy_of (problem_of i)))

@@ -46,30 +46,6 @@ fn release_of(instance: &Instance, placed: &[Option<u64>], j: u32) -> u64
     from
 }
 
-// Adds an activity to a profile at its earliest start, which it answers.
-pub(crate) fn place_one(
-    instance: &Instance,
-    profile: &mut Profile,
-    placed: &[Option<u64>],
-    j: u32,
-) -> Result<u64, AllocError>
-    requires activity { IsActivity instance.now.project.network j }
-    requires size { length placed.now ≡ problem.count (problem_of instance.now) }
-    requires open { get_or placed.now (j - 1) None ≡ None }
-    requires ends { EndsBy (problem_of instance.now) placed.now latest_end }
-    requires holds { Holds profile.old (problem_of instance.now) placed.now }
-    ensures start { IfOk result (λ start. start ≡ spec.earliest (problem_of instance.now) placed.now (j - 1)) }
-    ensures holds { IfOk result (λ start. Holds profile.new (problem_of instance.now) (set placed.now (j - 1) (Some start))) }
-    ensures in_time { IfOk result IsInTime }
-{
-    let needs = instance.needs(j);
-    let duration = instance.network().duration(j);
-    let from = release_of(instance, placed, j);
-    let start = profile.earliest(from, duration, needs);
-    profile.place(start, duration, needs)?;
-    Ok(start)
-}
-
 // Places an activity at its earliest start.
 fn place_next(
     instance: &Instance,
@@ -85,9 +61,58 @@ fn place_next(
     ensures ok { OnOk result (placed.new.items ≡ set placed.old.items (j - 1) (Some (spec.earliest (problem_of instance.now) placed.old.items (j - 1)))) }
     ensures holds { OnOk result (Holds profile.new (problem_of instance.now) placed.new.items) }
 {
-    let start = place_one(instance, profile, placed, j)?;
+    let needs = instance.needs(j);
+    let duration = instance.network().duration(j);
+    let from = release_of(instance, placed, j);
+    let start = profile.earliest(from, duration, needs);
+    profile.place(start, duration, needs)?;
     placed[j as usize - 1] = Some(start);
     Ok(())
+}
+
+// The earliest start of an activity beside what a profile holds.
+pub(crate) fn earliest_start(
+    instance: &Instance,
+    profile: &Profile,
+    placed: &[Option<u64>],
+    j: u32,
+) -> u64
+    requires activity { IsActivity instance.now.project.network j }
+    requires size { length placed.now ≡ problem.count (problem_of instance.now) }
+    requires ends { EndsBy (problem_of instance.now) placed.now latest_end }
+    requires holds { Holds profile.now (problem_of instance.now) placed.now }
+    ensures start { result ≡ spec.earliest (problem_of instance.now) placed.now (j - 1) }
+    ensures in_time { IsInTime result }
+{
+    let needs = instance.needs(j);
+    let duration = instance.network().duration(j);
+    let from = release_of(instance, placed, j);
+    profile.earliest(from, duration, needs)
+}
+
+// The profile of all that is placed, out of that of all but an activity that was placed last.
+pub(crate) fn profile_with(
+    instance: &Instance,
+    profile: &Profile,
+    placed: &[Option<u64>],
+    j: u32,
+) -> Result<Profile, AllocError>
+    requires activity { IsActivity instance.now.project.network j }
+    requires size { length placed.now ≡ problem.count (problem_of instance.now) }
+    requires last { get_or placed.now (j - 1) None
+        ≡ Some (spec.earliest (problem_of instance.now) (set placed.now (j - 1) None) (j - 1)) }
+    requires ends { EndsBy (problem_of instance.now) placed.now latest_end }
+    requires holds { Holds profile.now (problem_of instance.now) (set placed.now (j - 1) None) }
+    ensures { IfOk result (λ made. Holds made (problem_of instance.now) placed.now) }
+{
+    let Some(start) = placed[j as usize - 1] else {
+        unreachable!()
+    };
+    let needs = instance.needs(j);
+    let duration = instance.network().duration(j);
+    let mut made = profile.copy()?;
+    made.place(start, duration, needs)?;
+    Ok(made)
 }
 
 // Places the activities of a list, one after another.

@@ -16,8 +16,9 @@ ghost use Rattle.plan_sgs.specs.ProjectLaws.{
   LeastProjectWordIsShortest,
 };
 
-/// The tails by which words are bounded are the greatest lengths of paths, and the longest path is the longest of all. What a
-/// resource is busy at least is the least number of instants whose capacities make up its work.
+/// The tails by which words are bounded are the greatest lengths of paths, and the longest path is
+/// the longest of all. What a resource is busy at least is the least number of instants whose
+/// capacities make up its work.
 pub fn bounds_are_meant()
     ensures tails { TailsAreGreatest }
     ensures longest { LongestIsGreatest }
@@ -36,7 +37,8 @@ pub fn project_words_are_finite()
     ensures go_on { WordsGoOn }
 {}
 
-/// The full words are the activity lists, and so their schedules are active; the list of every priority rule is one.
+/// The full words are the activity lists, and so their schedules are active; the list of every
+/// priority rule is one.
 pub fn full_words_are_lists()
     ensures lists { FullWordsAreLists }
     ensures active { ProjectFullIsActive }
@@ -48,7 +50,8 @@ pub fn project_bounds_hold()
     ensures { ProjectBoundHolds }
 {}
 
-/// Each feasible schedule has a full word that is no longer. So a full word with the least makespan of all is a shortest schedule.
+/// Each feasible schedule has a full word that is no longer. So a full word with the least makespan
+/// of all is a shortest schedule.
 pub fn project_words_reach_shortest()
     ensures reach { ProjectWordsReach }
     ensures shortest { LeastProjectWordIsShortest }

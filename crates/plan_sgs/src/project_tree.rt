@@ -1,10 +1,17 @@
 //! The tree of a project's words.
 
+ghost use Rattle.std.specs.Prelude.{◌≡◌, ◌+◌, ◌-◌, length, Contains, IfOk, OnOk};
+ghost use Rattle.plan_profile.specs.Usage.{IsInTime};
+ghost use Rattle.plan_sgs.specs.Instances.{IsInstance, problem_of};
+ghost use Rattle.plan_sgs.specs.Serial.{earliest};
+ghost use Rattle.plan_sgs.specs.ProjectWords as words;
+ghost use Rattle.plan_sgs.specs.ProjectTrees as spec;
+
 mod bounding;
 mod following;
 
 use crate::instance::Instance;
-use crate::placing::{place_one, starts_of};
+use crate::placing::{earliest_start, profile_with, starts_of};
 use crate::schedule::Schedule;
 use bounding::least_of_all;
 use plan_cpm::tails;
@@ -12,26 +19,28 @@ use plan_profile::Profile;
 use std::alloc::{AllocError, Global};
 use std::marker::Model;
 
-// A letter of the word, with the profile of what is placed when it is, the greatest end of that, and the greatest start and tail.
-#[derive(Drop)]
+// A letter of the word, with the greatest end of what is placed when it is, and the greatest start
+// and tail.
+#[derive(Clone, Copy, Drop)]
 struct Turn {
     letter: u32,
     end: u64,
     reach: u64,
-    profile: Profile,
 }
 
-/// The tree of a project's words, which stands at one of them. A letter is the number, from 1 on, of the activity that is placed
-/// next by serial generation: one that isn't placed, with all its predecessors placed. The full words are the activity lists.
+/// The tree of a project's words, which stands at one of them. A letter is the number, from 1 on,
+/// of the activity that is placed next by serial generation: one that isn't placed, with all its
+/// predecessors placed. The full words are the activity lists.
 ///
-/// Each push makes the profile of its word from that of the word before, and each pop drops it.
+/// The profile of a word is made when the first letter is placed behind it, out of that of the word
+/// before; a pop drops it. So a word at which a search turns back costs none.
 #[derive(Drop)]
 pub struct ProjectTree<'a> {
     instance: &'a Instance<'a>,
     tails: Vec<u64>,
     least: u64,
-    empty: Profile,
     placed: Vec<Option<u64>>,
+    profiles: Vec<Profile>,
     turns: Vec<Turn>,
 }
 
@@ -42,16 +51,43 @@ impl<'a> Model for ProjectTree<'a> {
 
     ghost view = { λ t. record { instance = t.instance.now; word = word_of t.turns.items } };
 
-    ghost invariant = { λ t. IsTree t.instance.now t.tails.items t.least t.empty t.placed.items t.turns.items };
+    ghost invariant = { λ t. IsTree t.instance.now t.tails.items t.least t.placed.items
+        t.profiles.items t.turns.items };
+}
+
+// The start of one letter more. Where there is no profile of the word yet, it is made.
+fn start_of(
+    instance: &Instance,
+    profiles: &mut Vec<Profile>,
+    placed: &[Option<u64>],
+    turns: &[Turn],
+    activity: u32,
+) -> Result<u64, AllocError>
+    requires instance { IsInstance instance.now }
+    requires word { words.IsWord instance.now (spec.word_of turns.now) }
+    requires placed { placed.now ≡ words.placed_by instance.now (spec.word_of turns.now) }
+    requires profiles { spec.AreProfiles instance.now (spec.word_of turns.now) profiles.old.items }
+    requires letter { Contains (words.letters_after instance.now (spec.word_of turns.now)) activity }
+    ensures start { IfOk result (λ start.
+        start ≡ earliest (problem_of instance.now) placed.now (activity - 1)) }
+    ensures in_time { IfOk result IsInTime }
+    ensures profiles { spec.AreProfiles instance.now (spec.word_of turns.now) profiles.new.items }
+    ensures made { OnOk result (length profiles.new.items ≡ length turns.now + 1) }
+{
+    let at = turns.len();
+    if profiles.len() == at {
+        let made = profile_with(instance, &profiles[at - 1], placed, turns[at - 1].letter)?;
+        profiles.push(made)?;
+    }
+    Ok(earliest_start(instance, &profiles[at], placed, activity))
 }
 
 impl<'a> ProjectTree<'a> {
-    ghost use Rattle.std.specs.Prelude.{◌≡◌, ℕ, ◌-◌, ◌≤◌, ◌<◌, List, [], ◌∷◌, ◌++◌, true, All, Option, Some, None, length, get_or, Contains, IfOk, OnOk, OnErr};
+    ghost use Rattle.std.specs.Prelude.{◌≡◌, ℕ, ◌-◌, ◌≤◌, ◌<◌, List, [], ◌∷◌, ◌++◌, true, Some, None};
+    ghost use Rattle.std.specs.Prelude.{length, get_or, Contains, IfOk, OnOk, OnErr};
     ghost use Rattle.plan_profile.specs.Usage.{IsInTime};
     ghost use Rattle.plan_sgs.specs.Instances.{IsInstance, problem_of};
-    ghost use Rattle.plan_sgs.specs.Placing.{Holds, AllEndBy, latest_end};
-    ghost use Rattle.plan_sgs.specs.Problem as problem;
-    ghost use Rattle.plan_sgs.specs.Serial as serial;
+    ghost use Rattle.plan_sgs.specs.Placing.{AllEndBy, latest_end};
     ghost use Rattle.plan_sgs.specs.ProjectWords as words;
     ghost use Rattle.plan_sgs.specs.ProjectTrees as spec;
 
@@ -62,27 +98,18 @@ impl<'a> ProjectTree<'a> {
         let tails = tails(alloc, instance.network())?;
         let least = least_of_all(instance, &tails);
         let caps = Vec::from_slice(alloc, instance.caps())?;
-        let empty = Profile::new(alloc, caps)?;
+        let mut profiles = Vec::new(alloc);
+        profiles.push(Profile::new(alloc, caps)?)?;
         let placed = vec![in alloc; None; instance.network().len()]?;
         let turns = Vec::with_capacity(alloc, instance.network().len())?;
         Ok(ProjectTree {
             instance,
             tails,
             least,
-            empty,
             placed,
+            profiles,
             turns,
         })
-    }
-
-    // The profile of what the word places.
-    fn profile(&self) -> &Profile
-        ensures { Holds result.now (problem_of self.now.instance) (words.placed_by self.now.instance self.now.word) }
-    {
-        match self.turns.last() {
-            Some(turn) => &turn.profile,
-            None => &self.empty,
-        }
     }
 
     // The greatest end of what the word places.
@@ -106,35 +133,31 @@ impl<'a> ProjectTree<'a> {
         }
     }
 
-    // Where one letter more is placed, and its turn.
-    fn next_turn(&self, activity: u32) -> Result<(u64, Turn), AllocError>
-        requires { Contains (words.letters_after self.now.instance self.now.word) activity }
-        ensures start { IfOk result (λ made. made.0 ≡ serial.earliest (problem_of self.now.instance) (words.placed_by self.now.instance self.now.word) (activity - 1)) }
-        ensures letter { IfOk result (λ made. made.1.letter ≡ activity) }
-        ensures turn { IfOk result (λ made. spec.IsTurn self.now.instance (self.now.word ++ activity ∷ []) made.1) }
-    {
-        let mut profile = self.profile().copy()?;
-        let start = place_one(self.instance, &mut profile, &self.placed, activity)?;
-        let duration = self.instance.network().duration(activity);
-        let tail = self.tails[activity as usize - 1];
-        let turn = Turn {
-            letter: activity,
-            end: self.end().max(start + duration),
-            reach: self.reach().max(start + tail),
-            profile,
-        };
-        Ok((start, turn))
-    }
-
-    /// Goes to the word with one letter more: places the activity at its earliest start. After want of memory the tree is as it was.
+    /// Goes to the word with one letter more: places the activity at its earliest start. After want
+    /// of memory the tree is as it was.
     pub fn push(&mut self, activity: u32) -> Result<(), AllocError>
         requires { Contains (words.letters_after self.old.instance self.old.word) activity }
-        ensures ok { OnOk result (self.new ≡ spec.standing self.old.instance (self.old.word ++ activity ∷ [])) }
+        ensures ok { OnOk result
+            (self.new ≡ spec.standing self.old.instance (self.old.word ++ activity ∷ [])) }
         ensures err { OnErr result (self.new ≡ self.old) }
     {
-        let (start, turn) = self.next_turn(activity)?;
-        self.turns.push(turn)?;
-        self.placed[activity as usize - 1] = Some(start);
+        let (end, reach) = (self.end(), self.reach());
+        let start = start_of(
+            self.instance,
+            &mut self.profiles,
+            &self.placed,
+            &self.turns,
+            activity,
+        )?;
+        let place = activity as usize - 1;
+        let duration = self.instance.network().duration(activity);
+        let tail = self.tails[place];
+        self.turns.push(Turn {
+            letter: activity,
+            end: end.max(start + duration),
+            reach: reach.max(start + tail),
+        })?;
+        self.placed[place] = Some(start);
         Ok(())
     }
 
@@ -147,6 +170,7 @@ impl<'a> ProjectTree<'a> {
         let Some(turn) = self.turns.pop() else {
             return;
         };
+        self.profiles.truncate(self.turns.len() + 1);
         self.placed[turn.letter as usize - 1] = None;
     }
 
@@ -162,7 +186,8 @@ impl<'a> ProjectTree<'a> {
     /// The start of activity `j`, which is placed.
     pub fn start(&self, j: u32) -> u64
         requires { Contains self.now.word j }
-        ensures value { get_or (words.placed_by self.now.instance self.now.word) (j - 1) None ≡ Some result }
+        ensures value { get_or (words.placed_by self.now.instance self.now.word) (j - 1) None
+            ≡ Some result }
         ensures within { IsInTime result }
     {
         match self.placed[j as usize - 1] {
@@ -182,12 +207,16 @@ impl<'a> ProjectTree<'a> {
         self.end()
     }
 
-    /// The schedule of a full word: starts in the order of the activities and the makespan, in whole time units.
+    /// The schedule of a full word: starts in the order of the activities and the makespan, in
+    /// whole time units.
     pub fn schedule(&self, alloc: Global) -> Result<Schedule, AllocError>
         requires { words.is_full self.now.instance self.now.word ≡ true }
-        ensures starts { IfOk result (λ s. s.starts.items ≡ words.starts_by self.now.instance self.now.word) }
-        ensures makespan { IfOk result (λ s. s.makespan ≡ words.makespan_by self.now.instance self.now.word) }
-        ensures ends { IfOk result (λ s. AllEndBy (problem_of self.now.instance) s.starts.items latest_end) }
+        ensures starts { IfOk result (λ s.
+            s.starts.items ≡ words.starts_by self.now.instance self.now.word) }
+        ensures makespan { IfOk result (λ s.
+            s.makespan ≡ words.makespan_by self.now.instance self.now.word) }
+        ensures ends { IfOk result (λ s.
+            AllEndBy (problem_of self.now.instance) s.starts.items latest_end) }
         ensures limit { IfOk result (λ s. s.makespan ≤ latest_end) }
     {
         Ok(Schedule {

@@ -48,7 +48,8 @@ fn busy(work: u64, cap: u64) -> u64
 
 // The greatest of that for each resource.
 fn busiest(instance: &Instance) -> u64
-    ensures { result ≡ greatest_below (length instance.now.capacities) (words.busy_of (problem_of instance.now)) }
+    ensures { result ≡ greatest_below (length instance.now.capacities)
+        (words.busy_of (problem_of instance.now)) }
 {
     let caps = instance.caps();
     let mut busiest: u64 = 0;
@@ -67,8 +68,8 @@ pub(crate) fn least_of_all(instance: &Instance, tails: &[u64]) -> u64
 }
 
 impl<'a> ProjectTree<'a> {
-    /// The bound of the word, in whole time units: the greatest of the longest path, of what each resource is busy at least, and of
-    /// the start and tail of each activity that is placed.
+    /// The bound of the word, in whole time units: the greatest of the longest path, of what each
+    /// resource is busy at least, and of the start and tail of each activity that is placed.
     pub fn bound(&self) -> u64
         ensures { result ≡ words.bound_of self.now.instance self.now.word }
     {

@@ -1,5 +1,5 @@
 -- As many turns as activities.
-use Rattle.std.proofs.Common.{◌≡◌, length, ap, ◌∙◌, arith}
+use Rattle.std.proofs.Common.{length, ap, arith}
 use Rattle.std.proofs.lemmas.List.{length-map}
 use Rattle.plan_sgs.specs.ProjectTrees.{Standing}
 use Rattle.plan_sgs.specs.declared.project_tree.Turn.{Turn}

@@ -1,5 +1,5 @@
 -- One activity more at each turn.
-use Rattle.std.proofs.Common.{ℕ, suc, List, [], ◌∷◌, ◌++◌, ◌≡◌, ◌+◌, ◌-◌, map, append-nil, add-one, sym, ap, ◌∙◌, refl, Vec, Global, arith}
+use Rattle.std.proofs.Common.{ℕ, suc, [], ◌∷◌, ◌++◌, ◌≡◌, ◌+◌, ◌-◌, map, append-nil, add-one, sym, ap, ◌∙◌, Vec, Global, arith}
 use Rattle.plan_sgs.specs.Rules.{places, eligible, is_eligible}
 use Rattle.plan_sgs.specs.Instances.{problem_of}
 use Rattle.plan_sgs.specs.ProjectWords.{depth_of, letters_after}

@@ -1,5 +1,5 @@
 -- The test of the predecessors tells whether it is eligible.
-use Rattle.std.proofs.Common.{ℕ, List, Bool, Option, None, not, false, true, ◌≡◌, ◌-◌, ◌<◌, length, get_or, sym, ap, subst, ◌∙◌, arith}
+use Rattle.std.proofs.Common.{ℕ, List, Option, None, false, true, ◌≡◌, ◌-◌, length, get_or, sym, ap, subst, ◌∙◌, arith}
 use Rattle.std.specs.Option.{is_some}
 use Rattle.std.proofs.lemmas.List.{get_or_default}
 use Rattle.plan_net.specs.Network.{Net, count_of, IsArc, ListsRising}

@@ -4,7 +4,7 @@ use Rattle.plan_sgs.proofs.ProjectTurnLemmas.{can_pop, tree_pop, popped}
 use Rattle.plan_sgs.proofs.project_tree.ProjectTree.pop.Goals as goal
 
 pub overflow_sub-turn : goal.overflow_sub-turn
-overflow_sub-turn c = (can_pop _ _ _ _ _ c.pop.new.self.items _ c.in-Some.turn c.self.invariant c.in-Some.ensures.items).from_one
+overflow_sub-turn c = (can_pop _ _ _ _ _ c.pop.new.self.items _ c.in-Some.turn c.self.invariant c.in-Some.ensures.items).activity.0
 
 pub index_mut-requires : goal.index_mut-requires
 index_mut-requires c =
@@ -12,7 +12,8 @@ index_mut-requires c =
     omega (arith, can.inside, c.self.inside.placed.ok.0)
 
 pub invariant_of-self-2 : goal.invariant_of-self-2
-invariant_of-self-2 c = tree_pop _ _ _ _ _ c.pop.new.self.items _ c.in-Some.turn c.self.invariant (can_pop _ _ _ _ _ c.pop.new.self.items _ c.in-Some.turn c.self.invariant c.in-Some.ensures.items)
+invariant_of-self-2 c = tree_pop _ _ _ _ _ c.truncate.new.self.items c.pop.new.self.items _ c.in-Some.turn _ c.self.invariant c.in-Some.ensures.items
+    (omega (arith, c.len.ensures, c.pop.new.self.ok.0)) c.truncate.ensures.items
 
 pub returns-clause-word : goal.returns-clause-word
 returns-clause-word c = popped c.self.inside.instance.now c.pop.new.self.items c.self.inside.turns.items c.in-Some.turn c.args.self.now c.self.view_is c.in-Some.ensures.items

@@ -1,16 +1,36 @@
--- One turn more.
-use Rattle.std.proofs.Common.{◌≡◌, ◌-◌, List, ℕ, Some, Option, ◌++◌, [], ◌∷◌, refl, sym, ap, subst, ◌∙◌, arith}
+-- One turn more: the letter is placed, and the turn has the greater of what was and what it adds.
+use Rattle.std.proofs.Common.{ℕ, ◌≡◌, ◌+◌, ◌-◌, List, length, Option, ◌++◌, [], ◌∷◌, refl, sym, ap, subst, ◌∙◌, arith}
+use Rattle.plan_net.specs.Network.{Net, count_of, duration_of}
+use Rattle.plan_sgs.specs.Problem.{duration}
 use Rattle.plan_sgs.specs.Serial.{earliest}
 use Rattle.plan_sgs.specs.Instances.{problem_of}
-use Rattle.plan_sgs.specs.ProjectWords.{placed_by}
-use Rattle.plan_sgs.specs.ProjectTrees.{Standing, standing, word_of, IsTurn}
-use Rattle.plan_sgs.proofs.ProjectTurnLemmas.{tree_facts, can_place, may_inside, tree_push, CanPlace}
+use Rattle.plan_sgs.specs.ProjectTrees.{Standing, word_of, IsTurn, AreProfiles}
+use Rattle.plan_sgs.specs.declared.project_tree.Turn.{Turn}
+use Rattle.plan_sgs.proofs.PlaceLemmas.{duration_place}
+use Rattle.plan_sgs.proofs.ProjectTurnLemmas.{tree_facts, can_place, may_inside, tail_at, next_turn, tree_push}
 use Rattle.plan_sgs.proofs.project_tree.ProjectTree.push.Goals as goal
 
-pub overflow_sub-activity : goal.overflow_sub-activity
-overflow_sub-activity c =
+pub overflow_sub-place : goal.overflow_sub-place
+overflow_sub-place c =
     let can = can_place c.args.self.now c.self.inside.placed.items c.args.activity (tree_facts _ _ _ _ _ _ _ c.self.view_is c.self.invariant) c.requires in
     can.activity.0
+
+pub duration-duration-requires : goal.duration-duration-requires
+duration-duration-requires c =
+    let can = can_place c.args.self.now c.self.inside.placed.items c.args.activity (tree_facts _ _ _ _ _ _ _ c.self.view_is c.self.invariant) c.requires in
+    (can.activity.0, omega (arith, can.activity.1, ap (λ (v : Standing). count_of v.instance.project.network) c.self.view_is, ap (λ (n : Net). count_of n) c.network.ensures.network))
+
+pub index-tail-requires : goal.index-tail-requires
+index-tail-requires c =
+    let can = can_place c.args.self.now c.self.inside.placed.items c.args.activity (tree_facts _ _ _ _ _ _ _ c.self.view_is c.self.invariant) c.requires in
+    omega (arith, can.activity, c.self.invariant.tails_are.whole, c.self.inside.tails.ok.0, ap (λ (v : Standing). count_of v.instance.project.network) c.self.view_is)
+
+pub overflow_add-start-2 : goal.overflow_add-start-2
+overflow_add-start-2 c =
+    let facts = tree_facts _ _ _ _ _ _ _ c.self.view_is c.self.invariant in
+    let can = can_place c.args.self.now c.self.inside.placed.items c.args.activity facts c.requires in
+    let tail = tail_at c.args.self.now c.self.inside.instance.now c.self.inside.tails.items c.self.view_is c.self.invariant.tails_are c.args.activity c.index-tail.result.now facts can c.index-tail.ensures in
+    omega (arith, tail.1, c.in_ok-start.ensures.in_time)
 
 pub index_mut-requires : goal.index_mut-requires
 index_mut-requires c =
@@ -19,9 +39,25 @@ index_mut-requires c =
 
 pub invariant_of-self-2 : goal.invariant_of-self-2
 invariant_of-self-2 c =
-    let v : Standing = standing c.self.inside.instance.now (word_of c.self.inside.turns.items) in
-    tree_push c.self.inside.instance.now c.self.inside.tails.items c.self.inside.least c.self.inside.empty c.self.inside.placed.items c.self.inside.turns.items c.push.new.self.items c.in_ok-start.turn c.args.activity c.in_ok-start.start c.self.invariant
-    (may_inside c.self.inside.instance.now (word_of c.self.inside.turns.items) c.args.self.now c.args.activity c.self.view_is c.requires)
-    c.in_ok-push.ensures.items c.in_ok-start.ensures.letter
-    (subst (λ (x : Standing). c.in_ok-start.start ≡ earliest (problem_of x.instance) (placed_by x.instance x.word) (c.args.activity - 1)) (sym c.self.view_is) c.in_ok-start.ensures.start)
-    (subst (λ (x : Standing). IsTurn x.instance (x.word ++ c.args.activity ∷ []) c.in_ok-start.turn) (sym c.self.view_is) c.in_ok-start.ensures.turn)
+    let facts = tree_facts _ _ _ _ _ _ _ c.self.view_is c.self.invariant in
+    let can = can_place c.args.self.now c.self.inside.placed.items c.args.activity facts c.requires in
+    let tail = tail_at c.args.self.now c.self.inside.instance.now c.self.inside.tails.items c.self.view_is c.self.invariant.tails_are c.args.activity c.index-tail.result.now facts can c.index-tail.ensures in
+    let lasts : c.duration-duration.result ≡ duration (problem_of c.args.self.now.instance) (c.args.activity - 1) =
+    c.duration-duration.ensures.value ∙ ap (λ (n : Net). duration_of n c.args.activity) c.network.ensures.network
+    ∙ ap (λ (v : Standing). duration_of v.instance.project.network c.args.activity) c.self.view_is ∙ duration_place c.args.self.now.instance c.args.activity can.activity in
+    let inside : c.in_ok-start.start ≡ earliest (problem_of c.self.inside.instance.now) c.self.inside.placed.items (c.args.activity - 1) =
+    c.in_ok-start.ensures.start ∙ ap (λ (xs : List (Option ℕ)). earliest (problem_of c.self.inside.instance.now) xs (c.args.activity - 1)) c.deref.ensures.value in
+    let start : c.in_ok-start.start ≡ earliest (problem_of c.args.self.now.instance) c.self.inside.placed.items (c.args.activity - 1) =
+    inside ∙ ap (λ (v : Standing). earliest (problem_of v.instance) c.self.inside.placed.items (c.args.activity - 1)) c.self.view_is in
+    let turn : IsTurn c.args.self.now.instance (c.args.self.now.word ++ c.args.activity ∷ []) (record { letter = c.args.activity; end = c.max.result; reach = c.max-2.result }) =
+    next_turn c.args.self.now c.self.inside.placed.items c.args.activity c.in_ok-start.start c.max.result c.max-2.result facts can start
+    (omega (arith, c.max.ensures, c.end-end.ensures.value, lasts)) (omega (arith, c.max-2.ensures, c.reach-reach.ensures, tail.0)) in
+    let here : IsTurn c.self.inside.instance.now (word_of c.self.inside.turns.items ++ c.args.activity ∷ []) (record { letter = c.args.activity; end = c.max.result; reach = c.max-2.result }) =
+    subst (λ (x : Standing). IsTurn x.instance (x.word ++ c.args.activity ∷ []) (record { letter = c.args.activity; end = c.max.result; reach = c.max-2.result })) (sym c.self.view_is) turn in
+    let are : AreProfiles c.self.inside.instance.now (word_of c.self.inside.turns.items) c.start_of.new.profiles.items =
+    subst (λ (xs : List Turn). AreProfiles c.self.inside.instance.now (word_of xs) c.start_of.new.profiles.items) c.deref-2.ensures.value c.in_ok-start.ensures.profiles in
+    tree_push c.self.inside.instance.now c.self.inside.tails.items c.self.inside.least c.self.inside.placed.items c.self.inside.profiles.items c.start_of.new.profiles.items c.self.inside.turns.items c.push.new.self.items
+    (record { letter = c.args.activity; end = c.max.result; reach = c.max-2.result }) c.args.activity c.in_ok-start.start c.self.invariant
+    (may_inside c.self.inside.instance.now (word_of c.self.inside.turns.items) c.args.self.now c.args.activity c.self.view_is c.requires) are
+    (c.in_ok-start.ensures.made ∙ ap (λ (xs : List Turn). length xs + 1) c.deref-2.ensures.value) c.in_ok-push.ensures.items refl
+    (inside ∙ ap (λ (xs : List (Option ℕ)). earliest (problem_of c.self.inside.instance.now) xs (c.args.activity - 1)) c.self.invariant.placed_are) here

@@ -1,5 +1,5 @@
 -- The starts of all that is placed.
-use Rattle.std.proofs.Common.{ℕ, List, Option, ◌≡◌, map, sym, ap, subst, ◌∙◌}
+use Rattle.std.proofs.Common.{ℕ, List, Option, map, sym, ap, subst, ◌∙◌}
 use Rattle.plan_sgs.specs.Serial.{start_or_zero}
 use Rattle.plan_sgs.specs.Instances.{problem_of}
 use Rattle.plan_sgs.specs.Placing.{AllEndBy}

@@ -1,5 +1,5 @@
 -- One tail more at each turn.
-use Rattle.std.proofs.Common.{ℕ, suc, ◌≡◌, ◌∙◌, ap, get_or, arith}
+use Rattle.std.proofs.Common.{ℕ, suc, ◌≡◌, ◌∙◌, ap, arith}
 use Rattle.plan_net.specs.Network.{count_of}
 use Rattle.plan_sgs.specs.Problem.{greatest_below}
 use Rattle.plan_sgs.specs.PathTails.{tail_of, longest_of}

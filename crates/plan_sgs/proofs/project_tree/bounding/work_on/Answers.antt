@@ -1,5 +1,5 @@
 -- One activity more at each turn.
-use Rattle.std.proofs.Common.{ℕ, ◌≡◌, ◌+◌, ◌*◌, ◌∙◌, ap, get_or, arith}
+use Rattle.std.proofs.Common.{ℕ, ◌≡◌, ◌+◌, ◌*◌, ◌∙◌, ap, arith}
 use Rattle.plan_net.specs.Network.{Net, count_of, duration_of}
 use Rattle.plan_sgs.specs.Problem.{count, duration, need, total}
 use Rattle.plan_sgs.specs.Instances.{problem_of}
@@ -18,7 +18,8 @@ pub loop-i-preserved : goal.loop-i-preserved
 loop-i-preserved c =
     let i = c.args.instance.now in
     let size : c.len-i-end.result ≡ count_of c.args.instance.now.project.network = c.len-i-end.ensures.count ∙ ap count_of c.network-network.ensures.network in
-    let lasts : c.duration.result ≡ duration_of c.args.instance.now.project.network (c.loop-i.i + 1) = c.duration.ensures.value ∙ ap (λ (n : Net). duration_of n (c.loop-i.i + 1)) c.network-network.ensures.network in
+    let lasts : c.duration.result ≡ duration_of c.args.instance.now.project.network (c.loop-i.i + 1) =
+    c.duration.ensures.value ∙ ap (λ (n : Net). duration_of n (c.loop-i.i + 1)) c.network-network.ensures.network in
     let here = work_more i c.args.k c.loop-i.i c.duration.result c.needs.result.now c.network-network.ensures.instance (omega (arith, c.loop-i-test.true, size)) lasts c.needs.ensures.row in
     let small = work_small _ c.args.k c.duration.result c.needs.result.now c.duration.ensures.limit c.needs.ensures.amounts in
     record {
