@@ -30,5 +30,6 @@ pub mod WordBoundLemmas
 pub mod ProjectTreeLemmas
 pub mod ProjectTurnLemmas
 pub mod ProjectReadLemmas
+pub mod WordRows
 pub mod CheckRows
 mod Bounds
