@@ -9,10 +9,6 @@ use Rattle.plan_cpm.specs.Lengths.{IsLength, IsLengthTo, IsLengthFrom, AreFinish
 use Rattle.plan_cpm.specs.Dates.{DateTable, AreDates, AreFreeFloats, IsConsistent, IsNextStart, IsSuccessorStart, IsPredecessorFinish, IsSuccessorLateStart, KeepRecurrences, LeavesTails, early_start_of, early_finish_of, late_start_of, late_finish_of, free_float_of}
 use Rattle.plan_cpm.proofs.JoinLemmas.{lasts, remains, after_finish, before_tail, through, within_all}
 
--- two numbers that are the greatest with P are one
-greatest_once : (P : ℕ → Type 0) (a b : ℕ) → IsGreatest P a → IsGreatest P b → a ≡ b
-greatest_once P a b first second = let low : b ≤ a = first.1 b second.0 in let high : a ≤ b = second.1 a first.0 in omega arith
-
 -- a path ends with an activity
 pub last_activity : (net : Net) (i : ℕ) (others : List ℕ) → IsWithinLimits net → IsActivity net i → IsWalk net i others → IsActivity net (last_of i others)
 last_activity net i [] limits activity walk = activity

@@ -4,3 +4,4 @@ pub mod JoinLemmas
 pub mod DateLemmas
 pub mod BoundLemmas
 pub mod ReachLemmas
+pub mod OnceLemmas

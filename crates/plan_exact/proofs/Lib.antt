@@ -13,3 +13,4 @@ pub mod ProjectSolutionLemmas
 pub mod BudgetLemmas
 pub mod ContentLemmas
 pub mod MemoLemmas
+pub mod OnceLemmas

@@ -6,3 +6,5 @@ pub mod CellLemmas
 pub mod DayTextLemmas
 pub mod ShopLineLemmas
 pub mod ShopChartLemmas
+pub mod OnceLemmas
+pub mod CalendarOnceLemmas

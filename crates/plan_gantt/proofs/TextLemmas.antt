@@ -13,7 +13,8 @@ pub none_weaker : {A : Type 0} (r : Option A) (P Q : Type 0) → (P → Q) → I
 none_weaker None P Q follows p = follows p
 none_weaker (Some x) P Q follows p = p
 
-natural_year : (y : ℤ) → IsBetween (pos 1900) (pos 2199) y → (n : ℕ) × (y ≡ pos n)
+-- a year of a calendar is a natural number
+pub natural_year : (y : ℤ) → IsBetween (pos 1900) (pos 2199) y → (n : ℕ) × (y ≡ pos n)
 natural_year (pos n) range = (n, refl)
 natural_year (negsuc n) range = absurd (omega (arith, signed_arith, range.0))
 

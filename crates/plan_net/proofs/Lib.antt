@@ -9,3 +9,4 @@ pub mod LagLemmas
 pub mod IndexLemmas
 pub mod PathLemmas
 pub mod SoundLemmas
+pub mod OnceLemmas

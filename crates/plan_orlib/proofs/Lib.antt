@@ -5,3 +5,4 @@ pub mod NameLemmas
 pub mod TextLemmas
 pub mod FoundLemmas
 pub mod Rows
+pub mod OnceLemmas

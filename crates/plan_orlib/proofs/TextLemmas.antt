@@ -29,7 +29,7 @@ shop_said name text d e =
     record { readable = good; stream = (s, stream_is (last_line text) (stream_of name text) s found, spelled.0); limits = spelled.1 }))
 
 -- what a text says is read
-said_shop : (name text : List ℕ) (d : Shop) → Says name text d → shop name text ≡ Ok d
+pub said_shop : (name text : List ℕ) (d : Shop) → Says name text d → shop name text ≡ Ok d
 unfolding shop
 said_shop name text d h =
     let at = h.stream in

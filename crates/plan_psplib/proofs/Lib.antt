@@ -12,3 +12,4 @@ pub mod AmountsLemmas
 pub mod HeadLemmas
 pub mod SaysLemmas
 pub mod NetworkLemmas
+pub mod OnceLemmas

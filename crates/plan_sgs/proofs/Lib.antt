@@ -32,4 +32,5 @@ pub mod ProjectTurnLemmas
 pub mod ProjectReadLemmas
 pub mod WordRows
 pub mod CheckRows
+pub mod OnceLemmas
 mod Bounds

@@ -112,7 +112,7 @@ chosen_more p key taken other n is some before = inr (let long : length (eligibl
     ];
   })
 
-chosen_below : (p : Problem) (key : ℕ → ℕ) (taken : List ℕ) (other n : ℕ) → IsChosenBelow p key taken other n
+pub chosen_below : (p : Problem) (key : ℕ → ℕ) (taken : List ℕ) (other n : ℕ) → IsChosenBelow p key taken other n
 chosen_below p key taken other zero = inl (refl, λ h below is. omega (arith, below))
 chosen_below p key taken other (suc n) = elim (cases_Bool (is_eligible p taken n)) [
   | inr isnt ↦ chosen_skip p key taken other n isnt (chosen_below p key taken other n)

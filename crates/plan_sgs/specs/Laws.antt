@@ -1,8 +1,12 @@
 -- Laws of serial generation (docs/DEFINITIONS.md, "Schedules"; Kelley 1963, Sprecher, Kolisch and Drexl 1995).
-use Rattle.std.specs.Prelude.{ℕ, ◌≤◌, ◌<◌, List, get_or, take}
+use Rattle.std.specs.Prelude.{ℕ, ◌≤◌, ◌<◌, List, Option, get_or, take}
 use Rattle.plan_sgs.specs.Problem.{Problem, count, makespan, IsFeasible, IsActive, IsShortest, LinksInside, NeedsFit, IsRanked}
-use Rattle.plan_sgs.specs.Serial.{serial}
+use Rattle.plan_sgs.specs.Serial.{serial, earliest, IsEarliest}
 use Rattle.plan_sgs.specs.Rules.{IsActivityList, IsFirstBy, RisesBy, rule_list}
+
+-- where no activity needs too much, its earliest start is the least instant from its release on at which it fits
+unfoldable pub EarliestIsLeast : Type 0
+EarliestIsLeast = (p : Problem) (placed : List (Option ℕ)) (j : ℕ) → NeedsFit p → j < count p → IsEarliest p placed j (earliest p placed j)
 
 -- the serial schedule of an order of all activities that has each after its predecessors is active
 unfoldable pub SerialIsActive : Type 0

@@ -1,6 +1,12 @@
 //! Laws of the definitions, for proofs of other crates to cite. The functions do nothing.
 
-ghost use Rattle.plan_sgs.specs.Laws.{SerialIsActive, RuleTakesFirst, SerialIsNoLater, ByStartsIsNoLonger, LeastOfOrdersIsShortest};
+ghost use Rattle.plan_sgs.specs.Laws.{EarliestIsLeast, SerialIsActive, RuleTakesFirst, SerialIsNoLater, ByStartsIsNoLonger, LeastOfOrdersIsShortest};
+
+/// The earliest start of an activity, beside those placed before it, is the least instant from its release on at which it fits,
+/// where no activity needs more than there is.
+pub fn earliest_is_least()
+    ensures { EarliestIsLeast }
+{}
 
 /// The serial schedule of an order of all activities that has each after its predecessors is feasible, and no activity of it can
 /// start earlier with all others where they are.

@@ -22,8 +22,8 @@ pub use fault::SgsFault;
 pub use generation::{serial, serial_list};
 pub use instance::Instance;
 pub use laws::{
-    by_starts_is_no_longer, least_of_orders_is_shortest, rule_takes_first, serial_is_active,
-    serial_is_no_later,
+    by_starts_is_no_longer, earliest_is_least, least_of_orders_is_shortest, rule_takes_first,
+    serial_is_active, serial_is_no_later,
 };
 pub use project_laws::{
     bounds_are_meant, full_words_are_lists, project_bounds_hold, project_letters_rise,

@@ -23,3 +23,4 @@ mod ChoosingLemmas
 mod RuleLemmas
 mod CheckLemmas
 mod RoomLemmas
+pub mod OnceLemmas

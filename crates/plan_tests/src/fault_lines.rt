@@ -1,7 +1,10 @@
 //! The line of each kind of fault.
 
 use plan_exact::ExactFault;
-use plan_gantt::{exact_fault_text, file_fault_text, schedule_fault_text, shop_fault_text};
+use plan_gantt::{
+    CalendarFault, calendar_fault_text, exact_fault_text, file_fault_text, missing_calendar,
+    schedule_fault_text, shop_fault_text,
+};
 use plan_psplib::{FileCode, FileFault};
 use plan_sgs::SgsFault;
 use plan_shop::ShopFault;
@@ -65,4 +68,15 @@ fn tells_each_fault_of_a_search(rt: HostRuntime) {
     assert_eq!(rt; exact_fault_text(&ExactFault::TooLarge), "S5 too large");
     assert_eq!(rt; exact_fault_text(&ExactFault::BadBudget), "S6 budget");
     assert_eq!(rt; exact_fault_text(&ExactFault::NoMemory), "E90 memory");
+}
+
+#[test]
+fn tells_each_fault_of_a_calendar(rt: HostRuntime) {
+    assert_eq!(rt; calendar_fault_text(CalendarFault::BadDate), "G1 date");
+    assert_eq!(rt; calendar_fault_text(CalendarFault::BadDays), "G2 days");
+    assert_eq!(rt;
+        calendar_fault_text(CalendarFault::BeyondCalendar),
+        "G3 beyond calendar"
+    );
+    assert_eq!(rt; missing_calendar(), "G4 no calendar");
 }

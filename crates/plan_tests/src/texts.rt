@@ -34,20 +34,22 @@ fn shows_the_days_of_the_first_and_last_instants(rt: HostRuntime) -> Result<(), 
 }
 
 #[test]
-fn an_occupied_instant_beyond_the_last_date_is_refused(rt: HostRuntime) -> Result<(), Fail> {
+fn a_first_or_last_day_beyond_the_last_date_is_refused(rt: HostRuntime) -> Result<(), Fail> {
     let alloc = rt.alloc();
-    let durations: [u64; 2] = [1, 0];
-    let network = Network::new(alloc, Vec::from_slice(alloc, &durations)?, Vec::new(alloc))?;
-    assert!(rt; network.len() == 2);
     let calendar = Calendar::new("2000-01-01", "0000001")?;
     // the last Sunday of the calendar, 9999-12-26, is instant 417,419; an activity that takes no time occupies none
-    for (start, second, fault) in [
-        (417_419, 417_420, None),
-        (417_420, 0, Some(DaysFault::BeyondCalendar)),
+    for (duration, start, second, fault) in [
+        (1u64, 417_419, 417_420, None),
+        (1, 417_420, 0, Some(DaysFault::BeyondCalendar)),
+        (2, 417_418, 0, None),
+        (2, 417_419, 0, Some(DaysFault::BeyondCalendar)),
     ] {
+        let durations: [u64; 2] = [duration, 0];
+        let network = Network::new(alloc, Vec::from_slice(alloc, &durations)?, Vec::new(alloc))?;
+        assert!(rt; network.len() == 2);
         let starts: [u64; 2] = [start, second];
         let table = calendar_table(alloc, &network, &starts, &calendar);
-        assert_eq!(rt; table.err(), fault, "{start}");
+        assert_eq!(rt; table.err(), fault, "{duration} from {start} on");
     }
     Ok(())
 }
