@@ -73,8 +73,8 @@ same_shop_decides q k =
     Decides-like (same_shop q k)
     (λ e. λ i. OfShop (record { machines = e.0 i; jobs = e.1.0 i; steps = e.1.1.0 i }) (e.1.1.1 i))
     (λ e.
-      let parts = of_shop-parts _ _ _ _ e in
-      (ap (λ (s : JobShop). s.machines) parts.0, (ap (λ (s : JobShop). s.jobs) parts.0, (ap (λ (s : JobShop). s.steps) parts.0, parts.1))))
+    let parts = of_shop-parts _ _ _ _ e in
+    (ap (λ (s : JobShop). s.machines) parts.0, (ap (λ (s : JobShop). s.jobs) parts.0, (ap (λ (s : JobShop). s.steps) parts.0, parts.1))))
     (Decides-and _ _ (Decides-eqb q.machines k.machines)
     (Decides-and _ _ (Decides-eqb q.jobs k.jobs)
     (Decides-and _ _ steps (Decides-eqb q.budget k.budget))))
@@ -110,11 +110,16 @@ same_project_decides q k =
       capacities = e.1.1.1.1.0 i;
     }) (e.1.1.1.1.1 i))
     (λ e.
-      let parts = of_project-parts _ _ _ _ e in
-      (ap (λ (c : Content). c.network.durations) parts.0,
-      (ap (λ (c : Content). c.network.arcs) parts.0,
-      (ap (λ (c : Content). c.network.lags) parts.0,
-      (ap (λ (c : Content). c.needs) parts.0, (ap (λ (c : Content). c.capacities) parts.0, parts.1))))))
+    let parts = of_project-parts _ _ _ _ e in (
+      ap (λ (c : Content). c.network.durations) parts.0,
+      (
+        ap (λ (c : Content). c.network.arcs) parts.0,
+        (
+          ap (λ (c : Content). c.network.lags) parts.0,
+          (ap (λ (c : Content). c.needs) parts.0, (ap (λ (c : Content). c.capacities) parts.0, parts.1)),
+        ),
+      ),
+    ))
     (Decides-and _ _ (same_numbers_decides q.durations.items k.durations.items)
     (Decides-and _ _ arcs
     (Decides-and _ _ (same_numbers_decides q.lags.items k.lags.items)

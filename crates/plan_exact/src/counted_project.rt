@@ -27,7 +27,10 @@ impl<'a> CountedProjectTree<'a> {
     ghost use Rattle.std.specs.Prelude.{◌≡◌, [], IfOk};
 
     /// The tree of a project, at the empty word.
-    pub fn new(alloc: Global, instance: &'a Instance<'a>) -> Result<CountedProjectTree<'a>, AllocError>
+    pub fn new(
+        alloc: Global,
+        instance: &'a Instance<'a>,
+    ) -> Result<CountedProjectTree<'a>, AllocError>
         ensures { IfOk result (λ tree. tree ≡ record { instance = instance.now; word = []; pushes = 0 }) }
     {
         // Asking the instance for its network tells a proof that it is one.
