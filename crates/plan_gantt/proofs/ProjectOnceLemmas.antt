@@ -46,9 +46,9 @@ not_solved_once word i exact.BadBudget exact.BadBudget first second = refl
 pub best_project_refusal_once : (word : List ℕ) (i : Planned) (x y : List ℕ) → TellsBestProjectRefusal word i x → TellsBestProjectRefusal word i y → x ≡ y
 best_project_refusal_once word i x y (inl (f, first, is_x)) (inl (g, second, is_y)) =
     is_x ∙ ap schedule_fault_text_of (refusal_once i f g first second) ∙ sym is_y
-best_project_refusal_once word i x y (inl (f, first, is_x)) (inr (fit, g, second, is_y)) = absurd (fit_not_refused i f fit first)
-best_project_refusal_once word i x y (inr (fit, f, first, is_x)) (inl (g, second, is_y)) = absurd (fit_not_refused i g fit second)
-best_project_refusal_once word i x y (inr (fit, f, first, is_x)) (inr (also, g, second, is_y)) =
+best_project_refusal_once word i x y (inl (f, first, is_x)) (inr (fit, (g, second, is_y))) = absurd (fit_not_refused i f fit first)
+best_project_refusal_once word i x y (inr (fit, (f, first, is_x))) (inl (g, second, is_y)) = absurd (fit_not_refused i g fit second)
+best_project_refusal_once word i x y (inr (fit, (f, first, is_x))) (inr (also, (g, second, is_y))) =
     is_x ∙ not_solved_once word i f g first second ∙ sym is_y
 
 not_both : (word : List ℕ) (i : Planned) (f : ExactFault) (budget : ℕ) (text : List ℕ) → IsBudgetText word budget → IsBestProjectBy budget i text → RefusesBestProject word i f → ⊥
@@ -60,4 +60,4 @@ not_both word i exact.BadBudget budget text spelled best refused = refused.1 bud
 pub best_project_refusal_apart : (word : List ℕ) (i : Planned) (line text : List ℕ) → IsBestProjectTextOf word i text → TellsBestProjectRefusal word i line → ⊥
 best_project_refusal_apart word i line text (budget, spelled, best) (inl (f, refused, is)) =
     fit_not_refused i f (feasible_fits (problem_of i) best.solved.schedule.starts.items best.active.feasible) refused
-best_project_refusal_apart word i line text (budget, spelled, best) (inr (fit, f, refused, is)) = not_both word i f budget text spelled best refused
+best_project_refusal_apart word i line text (budget, spelled, best) (inr (fit, (f, refused, is))) = not_both word i f budget text spelled best refused
