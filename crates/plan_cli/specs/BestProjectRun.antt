@@ -10,12 +10,13 @@ use Rattle.plan_gantt.specs.ProjectBestText.{IsBestProjectTextOf, TellsBestProje
 use Rattle.plan_gantt.specs.ExactFaultText.{exact_fault_text_of}
 use Rattle.plan_cli.specs.ScheduleRun.{as_available}
 
--- a text tells the best schedule of the project that a file says, within the budget that a word spells, against the file's
--- availabilities
+-- a text tells the best schedule of the project that a file says, within the budget that a word
+-- spells, against the file's availabilities
 abbrev pub IsBestProjectTableOf : List ℕ → List ℕ → List ℕ → Type 0
 IsBestProjectTableOf word file text = (p : Project) × SaysProject file p × IsBestProjectTextOf word (as_available p) text
 
--- a line tells the first check that a file fails, or else what the project that it says is refused for
+-- a line tells the first check that a file fails, or else what the project that it says is refused
+-- for
 abbrev pub TellsWhyNoBestProject : List ℕ → List ℕ → List ℕ → Type 0
 TellsWhyNoBestProject word file line =
     TellsFirstFailing file line ⊎ ((p : Project) × SaysProject file p × TellsBestProjectRefusal word (as_available p) line)

@@ -30,7 +30,8 @@ fn solved_text(alloc: Global, budget: u64, instance: &Instance) -> Result<String
     }
 }
 
-// The same within the budget that a word spells. A word that spells none is refused as 0 is, so the project's size comes first.
+// The same within the budget that a word spells. A word that spells none is refused as 0 is, so the
+// project's size comes first.
 fn instance_text(alloc: Global, budget: &str, instance: &Instance) -> Result<String, CliFault>
     ensures made { IfOk result (λ text. IsBestProjectTextOf budget.now instance.now (string_bytes text)) }
     ensures refused { IfErr result (Refuses (TellsNoBestProject budget.now instance.now)) }
@@ -68,11 +69,12 @@ pub(crate) fn best_project_text_of(
     }
 }
 
-/// Reads a project file and writes its best schedule that a search within a budget finds, against the file's availabilities: `optimal`
-/// or `budget` and the makespan, and then the schedule table. The budget is the most words that the search may visit, 1 to 200,000 in
-/// decimal digits. Nothing is written unless the text is whole, and a fault of the reader or of the writer is never tried again. The
-/// first fault is told: the file's, then `S1` (an activity that needs too much), then `S5` (more than 40 activities), then `S6` (the
-/// budget).
+/// Reads a project file and writes its best schedule that a search within a budget finds, against
+/// the file's availabilities: `optimal` or `budget` and the makespan, and then the schedule table.
+/// The budget is the most words that the search may visit, 1 to 200,000 in decimal digits. Nothing
+/// is written unless the text is whole, and a fault of the reader or of the writer is never tried
+/// again. The first fault is told: the file's, then `S1` (an activity that needs too much), then
+/// `S5` (more than 40 activities), then `S6` (the budget).
 pub fn best_project_run<R: Source, W: Sink>(
     alloc: Global,
     budget: &str,
@@ -81,9 +83,11 @@ pub fn best_project_run<R: Source, W: Sink>(
 ) -> Result<(), CliFault>
     ensures reads { R.calls reader.new ≤ R.calls reader.old + most_calls }
     ensures writes { W.calls writer.new ≤ W.calls writer.old + most_calls }
-    // The text for the file, or nothing and its first fault; a part of the text after a fault of the output.
+    // The text for the file, or nothing and its first fault; a part of the text after a fault of
+    // the output.
     ensures text { IfSome (R.remaining reader.old) (λ file. Writes (spec.IsBestProjectTableOf budget.now file) (spec.TellsWhyNoBestProject budget.now file) (W.taken writer.old) (W.taken writer.new) result) }
-    // Unless memory runs out or the input fails, what is done is that for the bytes that were read, at most 1,048,577.
+    // Unless memory runs out or the input fails, what is done is that for the bytes that were read,
+    // at most 1,048,577.
     ensures front { ReadsFront (spec.IsBestProjectTableOf budget.now) (spec.TellsWhyNoBestProject budget.now) (R.remaining reader.old) (R.remaining reader.new) (W.taken writer.old) (W.taken writer.new) result }
     // Nothing is written with any other fault than that of the output.
     ensures quiet { IfErr result (λ e. (e ≡ CliFault.Output) ⊎ (writer.new ≡ writer.old)) }

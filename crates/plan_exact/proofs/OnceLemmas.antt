@@ -1,14 +1,14 @@
 -- Of each of these there is only one: the budget of a text, the answer of a search within a budget.
 use Rattle.std.proofs.Common.{ℕ, ◌≡◌, List, refl, sym, ◌∙◌, subst, arith}
 use Rattle.std.proofs.lemmas.Fmt.{decimal_injective}
-use Rattle.plan_shop.specs.Shop.{JobShop}
 use Rattle.plan_sgs.specs.Instances.{Planned}
 use Rattle.plan_sgs.specs.declared.rule.Rule.TheVariants as rule
 use Rattle.plan_sgs.proofs.OnceLemmas.{starts_once}
-use Rattle.plan_exact.specs.ProjectSolutions.{IsFoundFrom, IsProjectSolution}
+use Rattle.plan_shop.specs.Shop.{JobShop}
 use Rattle.plan_exact.specs.Answers.{is_optimal}
 use Rattle.plan_exact.specs.Budgets.{IsBudgetText}
 use Rattle.plan_exact.specs.Solutions.{IsSolution}
+use Rattle.plan_exact.specs.ProjectSolutions.{IsFoundFrom, IsProjectSolution}
 use Rattle.plan_exact.specs.declared.answer.Kind.{Kind}
 use Rattle.plan_exact.specs.declared.answer.Kind.TheVariants as kind
 use Rattle.plan_exact.specs.declared.solving.Solved.{Solved}
@@ -40,11 +40,11 @@ solution_once s budget a b first second = record {
   makespan = first.makespan ∙ sym second.makespan;
 }
 
--- and so has a project: the initial starts are those of one rule
+-- and a project against its capacities has one
 pub project_solution_once : (i : Planned) (budget : ℕ) (a b : Solved) → IsProjectSolution i budget a → IsProjectSolution i budget b → SolvedAlike a b
 project_solution_once i budget a b first second =
-    let same : first.initial ≡ second.initial = starts_once i rule.LatestFinish first.initial second.initial first.by_rule second.by_rule in
-    let found : IsFoundFrom i second.initial budget a = subst (λ initial. IsFoundFrom i initial budget a) same first.found in
+    let same = starts_once i rule.LatestFinish first.initial second.initial first.by_rule second.by_rule in
+    let found : IsFoundFrom i second.initial budget a = subst (λ (xs : List ℕ). IsFoundFrom i xs budget a) same first.found in
     record {
       kind = kind_once a.kind b.kind (found.optimal ∙ sym second.found.optimal);
       starts = found.starts ∙ sym second.found.starts;

@@ -10,7 +10,8 @@ use Rattle.plan_exact.specs.declared.solving.Solved.{Solved}
 use Rattle.plan_exact.specs.declared.questions.Question.{Question}
 use Rattle.plan_exact.specs.declared.questions.Question.TheVariants as question
 
--- what the best schedule of a project depends on: its network with the lags, the needs, and the capacities
+-- what the best schedule of a project depends on: its network with the lags, the needs, and the
+-- capacities
 pub record Content : Type 0 where
   pub network : Net
   pub needs : List (List ℕ)
@@ -19,7 +20,8 @@ pub record Content : Type 0 where
 abbrev pub content_of : Planned → Content
 content_of i = record { network = i.project.network; needs = i.project.needs; capacities = i.capacities }
 
--- what is asked for: the best schedule of a shop, or of a project against capacities, within a budget
+-- what is asked for: the best schedule of a shop, or of a project against capacities, within a
+-- budget
 pub data Asked : Type 0 where
   OfShop : JobShop → ℕ → Asked
   OfProject : Content → ℕ → Asked
@@ -40,7 +42,8 @@ asked_by (question.Project q) =
       capacities = q.capacities.items;
     }) q.budget
 
--- what is found answers what is asked: for a project it is the solution of every instance with that content
+-- what is found answers what is asked: for a project it is the solution of every instance with that
+-- content
 abbrev pub Answers : Asked → Solved → Type 0
 Answers (OfShop s budget) solved = IsSolution s budget solved
 Answers (OfProject content budget) solved = (i : Planned) → content_of i ≡ content → IsProjectSolution i budget solved
@@ -58,7 +61,8 @@ pub record IsMemo (kept : LruCache Question Solved) : Type 0 where
   pub room : kept.cap ≡ 64
   pub answered : All IsAnswered kept.entries
 
--- a question that was there moves to the front, and a new one goes there, where the last of 64 leaves
+-- a question that was there moves to the front, and a new one goes there, where the last of 64
+-- leaves
 abbrev pub Remembers : List Asked → Asked → List Asked → Type 0
 Remembers old q new =
     ((before : List Asked) × (after : List Asked) × (old ≡ before ++ q ∷ after) × (new ≡ q ∷ before ++ after))

@@ -1,4 +1,5 @@
--- The best schedule of a project that a search within a budget finds (docs/DEFINITIONS.md, "Best schedules").
+-- The best schedule of a project that a search within a budget finds (docs/DEFINITIONS.md, "Best
+-- schedules").
 use Rattle.std.specs.Prelude.{◌≡◌, ℕ, ◌≤◌, ◌<◌, List, Option, Some, None}
 use Rattle.plan_net.specs.Network.{count_of}
 use Rattle.plan_sgs.specs.Problem.{makespan}
@@ -46,7 +47,8 @@ pub record IsFoundFrom (i : Planned) (initial : List ℕ) (budget : ℕ) (solved
   pub starts : solved.schedule.starts.items ≡ starts_or i initial (project_outcome i initial budget).found.word
   pub makespan : solved.schedule.makespan ≡ (project_outcome i initial budget).found.value
 
--- a project is solved as the search answers, within the limits: the initial starts are those of the rule of the least latest finish
+-- a project is solved as the search answers, within the limits: the initial starts are those of the
+-- rule of the least latest finish
 pub record IsProjectSolution (i : Planned) (budget : ℕ) (solved : Solved) : Type 0 where
   pub few_activities : HasFewActivities i
   pub allowed : IsBudget budget
@@ -55,7 +57,8 @@ pub record IsProjectSolution (i : Planned) (budget : ℕ) (solved : Solved) : Ty
   pub found : IsFoundFrom i initial budget solved
   pub ends : AllEndBy (problem_of i) solved.schedule.starts.items latest_end
 
--- a project is refused for its size, or else for the budget, and for nothing else but want of memory
+-- a project is refused for its size, or else for the budget, and for nothing else but want of
+-- memory
 abbrev pub RefusesProject : Planned → ℕ → ExactFault → Type 0
 RefusesProject i budget fault.NoMemory = Unit {0}
 RefusesProject i budget fault.TooLarge = 40 < count_of i.project.network

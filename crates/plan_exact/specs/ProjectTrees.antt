@@ -31,7 +31,8 @@ TreeHasProjectWords i = (w : List ℕ) → IsWord (project_tree i) w ↔ IsProje
 unfoldable pub ProjectTreesKeepLaws : Type 0
 ProjectTreesKeepLaws = (i : Planned) → IsInstance i → KeepsLaws (project_tree i)
 
--- what is found first of least makespan among all words is no greater than the makespan of any feasible schedule
+-- what is found first of least makespan among all words is no greater than the makespan of any
+-- feasible schedule
 unfoldable pub FoundIsShortestProject : Type 0
 FoundIsShortestProject =
     (i : Planned) (initial : ℕ) (f : Found) (starts : List ℕ) → IsInstance i

@@ -39,7 +39,8 @@ fn schedule_by(alloc: Global, instance: &Instance, word: &[u32]) -> Result<Sched
     }
 }
 
-// What a search within a budget answers: the schedule of the word that it finds, or the initial one.
+// What a search within a budget answers: the schedule of the word that it finds, or the initial
+// one.
 fn searched(alloc: Global, instance: &Instance, budget: u64) -> Result<Solved, AllocError>
     requires instance { IsInstance instance.now }
     requires few { spec.HasFewActivities instance.now }
@@ -60,13 +61,16 @@ fn searched(alloc: Global, instance: &Instance, budget: u64) -> Result<Solved, A
     Ok(Solved { kind, schedule })
 }
 
-/// The best schedule of a project against its capacities that a search within a budget of 1 to 200,000 visited words finds. Branch and
-/// bound over the precedence tree (Patterson, Słowiński, Talbot and Węglarz 1989; Sprecher, "Scheduling resource-constrained projects
-/// competitively at modest memory requirements", Management Science 46, 2000): each activity of a word is placed by serial generation;
-/// depth first in the order of the letters, from the schedule of the least latest finish on.
+/// The best schedule of a project against its capacities that a search within a budget of 1 to
+/// 200,000 visited words finds. Branch and bound over the precedence tree (Patterson, Słowiński,
+/// Talbot and Węglarz 1989; Sprecher, "Scheduling resource-constrained projects competitively at
+/// modest memory requirements", Management Science 46, 2000): each activity of a word is placed by
+/// serial generation; depth first in the order of the letters, from the schedule of the least
+/// latest finish on.
 ///
-/// Refused with [`ExactFault::TooLarge`] where the project has more than 40 activities, else with [`ExactFault::BadBudget`] where the
-/// budget is not from 1 to 200,000. Want of memory may come in place of any answer.
+/// Refused with [`ExactFault::TooLarge`] where the project has more than 40 activities, else with
+/// [`ExactFault::BadBudget`] where the budget is not from 1 to 200,000. Want of memory may come in
+/// place of any answer.
 pub fn solve_project(alloc: Global, instance: &Instance, budget: u64) -> Result<Solved, ExactFault>
     ensures solution { IfOk result (spec.IsProjectSolution instance.now budget) }
     // An answer that is called optimal has the least makespan of all feasible lists of starts.

@@ -7,5 +7,5 @@ pub mod DayTextLemmas
 pub mod ShopLineLemmas
 pub mod ShopChartLemmas
 pub mod OnceLemmas
-pub mod CalendarOnceLemmas
 pub mod ProjectOnceLemmas
+pub mod CalendarOnceLemmas

@@ -1,4 +1,5 @@
--- The best text of a project within the budget that a word spells, or why there is none (docs/DEFINITIONS.md, "Texts").
+-- The best text of a project within the budget that a word spells, or why there is none
+-- (docs/DEFINITIONS.md, "Texts").
 use Rattle.std.specs.Prelude.{◌≡◌, ◌<◌, ◌⊎◌, ℕ, List, ◌++◌}
 use Rattle.plan_net.specs.Network.{count_of}
 use Rattle.plan_sgs.specs.Problem.{IsActive, IsShortest, NeedsFit, makespan}
@@ -21,8 +22,8 @@ best_project_text_of i solved =
     kind_line solved.kind solved.schedule.makespan
     ++ schedule_table_text i.project.network solved.schedule.starts.items solved.schedule.makespan
 
--- a text tells what a search of a project's words within a budget answers: an active schedule, and where it is called
--- optimal one of least makespan among all feasible ones
+-- a text tells what a search of a project's words within a budget answers: an active schedule, and
+-- where it is called optimal one of least makespan among all feasible ones
 pub record IsBestProjectBy (budget : ℕ) (i : Planned) (text : List ℕ) : Type 0 where
   pub solved : Solved
   pub solution : IsProjectSolution i budget solved

@@ -165,7 +165,13 @@ fn more_than_40_activities_are_told_before_the_budget(rt: HostRuntime) -> Result
     }
     let text = printed(rt.alloc(), "1", chain(&rt, 40)?.as_bytes())?;
     assert!(rt; text.starts_with(b"optimal 40\n"));
-    expect(&rt, rt.alloc(), "0", chain(&rt, 40)?.as_bytes(), "S6 budget")?;
+    expect(
+        &rt,
+        rt.alloc(),
+        "0",
+        chain(&rt, 40)?.as_bytes(),
+        "S6 budget",
+    )?;
     Ok(())
 }
 
@@ -174,7 +180,13 @@ fn the_file_and_then_needs_are_told_first(rt: HostRuntime) -> Result<(), Fail> {
     for budget in ["1", "0"] {
         let none = six_with(&rt, "   0")?;
         expect(&rt, rt.alloc(), budget, &none, "S1 activity 2 resource 1")?;
-        expect(&rt, rt.alloc(), budget, &changed(&rt, SIX, 5, "x", 39)?, "F3 line 39")?;
+        expect(
+            &rt,
+            rt.alloc(),
+            budget,
+            &changed(&rt, SIX, 5, "x", 39)?,
+            "F3 line 39",
+        )?;
     }
     Ok(())
 }

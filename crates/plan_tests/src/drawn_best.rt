@@ -1,5 +1,5 @@
-//! Best schedules of small random projects with lags, beside a plain slow program that goes through all orders, and through those
-//! words alone that its own bounds leave.
+//! Best schedules of small random projects with lags, beside a plain slow program that goes through
+//! all orders, and through those words alone that its own bounds leave.
 
 ghost use Rattle.std.specs.Prelude.{All, ◌≤◌};
 

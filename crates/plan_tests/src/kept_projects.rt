@@ -1,4 +1,5 @@
-//! What a memo answers where it is asked for projects that differ in one thing, and for a shop between them.
+//! What a memo answers where it is asked for projects that differ in one thing, and for a shop
+//! between them.
 
 use crate::best_projects::FIVE;
 use plan_exact::{Kind, Memo};
@@ -10,8 +11,9 @@ use std::alloc::Global;
 use std::process::Abort;
 use std::test::Fail;
 
-// A capacity, the lag between activities 2 and 5, and a budget; whether the answer is optimal, its makespan, and how many answers are
-// kept then. With one at a time the work takes 4; with a lag of 3 the longest path does.
+// A capacity, the lag between activities 2 and 5, and a budget; whether the answer is optimal, its
+// makespan, and how many answers are kept then. With one at a time the work takes 4; with a lag of
+// 3 the longest path does.
 const ASKED: [(u64, u64, u64, Kind, u64, usize); 9] = [
     (2, 0, 10, Kind::Optimal, 2, 1),
     (2, 0, 7, Kind::Budget, 3, 2),
@@ -54,7 +56,11 @@ fn keeps_an_answer_for_each_capacity_lag_and_budget(rt: HostRuntime) -> Result<(
         let instance = Instance::of_project(&project, &caps)?;
         let found = memo.solve_project(&instance, budget)?;
         assert_eq!(rt; found.kind, kind, "{capacity} {lag} {budget}");
-        assert_eq!(rt; found.schedule.makespan, makespan, "{capacity} {lag} {budget}");
+        assert_eq!(rt;
+            found.schedule.makespan,
+            makespan,
+            "{capacity} {lag} {budget}"
+        );
         assert_eq!(rt; memo.len(), kept, "{capacity} {lag} {budget}");
     }
     Ok(())

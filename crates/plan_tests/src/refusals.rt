@@ -8,8 +8,8 @@ use plan_exact::{
     Branching, CountedProjectTree, CountedTree, ExactFault, Memo, search, solve_project, solve_shop,
 };
 use plan_gantt::{
-    Calendar, DaysFault, best_project_text, best_text, calendar_table, chart, date_table, schedule_table,
-    shop_calendar_table, shop_chart, shop_table,
+    Calendar, DaysFault, best_project_text, best_text, calendar_table, chart, date_table,
+    schedule_table, shop_calendar_table, shop_chart, shop_table,
 };
 use plan_net::{NetFault, Network};
 use plan_orlib::{ShopDoc, names, read_shop};

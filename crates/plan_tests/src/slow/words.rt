@@ -74,7 +74,8 @@ impl Small {
         bound
     }
 
-    // Notes the starts where all activities are placed and end sooner than all that was found before.
+    // Notes the starts where all activities are placed and end sooner than all that was found
+    // before.
     fn note(&self, placed: &[Option<u64>; 12], walk: &mut Walk) {
         let mut starts = [0; 12];
         for i in 0..12usize {
