@@ -11,3 +11,5 @@ pub mod KeepLemmas
 pub mod FitLemmas
 pub mod AloneLemmas
 pub mod SameLemmas
+pub mod SortLemmas
+pub mod LooksLemmas

@@ -62,7 +62,7 @@ module _ {A : Type 0} where
       by_test (inr out_) (inl is) later = absurd (both_ways (p x) (subst (λ z. p z ≡ false) is out_) e)
       by_test (inr out_) (inr rest) later = rw (cond-false (p y) (y ∷ filter p ys) (filter p ys) out_) (later rest)
 
-  filter_has : (p : A → Bool) (xs : List A) (x : A) → Has (filter p xs) x → Has xs x × (p x ≡ true)
+  pub filter_has : (p : A → Bool) (xs : List A) (x : A) → Has (filter p xs) x → Has xs x × (p x ≡ true)
   filter_has p [] x h = absurd h
   filter_has p (y ∷ ys) x h = by_test (cases_Bool (p y)) (λ rest. filter_has p ys x rest)
     where
@@ -142,7 +142,7 @@ module _ {A : Type 0} where
 
   -- ---- what is found
 
-  found_there : (p : A → Bool) (xs : List A) (x : A) → find p xs ≡ Some x → Has xs x × (p x ≡ true)
+  pub found_there : (p : A → Bool) (xs : List A) (x : A) → find p xs ≡ Some x → Has xs x × (p x ≡ true)
   found_there p [] x e = absurd (grind (arith, e))
   found_there p (y ∷ ys) x e = by_test (cases_Bool (p y)) (λ rest. found_there p ys x rest)
     where
