@@ -13,3 +13,4 @@ pub mod AloneLemmas
 pub mod SameLemmas
 pub mod SortLemmas
 pub mod LooksLemmas
+pub mod PartLemmas
