@@ -14,3 +14,4 @@ pub mod SameLemmas
 pub mod SortLemmas
 pub mod LooksLemmas
 pub mod PartLemmas
+pub mod OrderLemmas

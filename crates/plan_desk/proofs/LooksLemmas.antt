@@ -113,8 +113,8 @@ numbers_differ v k = differ_weaker (λ a b. is_plan a.desk a.n b) same_number v.
     weaker x y h l e =
         let desk : y.desk ≡ x.desk = one_desk v.desk y.desk x.desk (plan_desk v k y l) (plan_desk v k x h) in
         false_from_ne_true (same_number x y)
-          (λ same. both_ways (is_plan x.desk x.n y) e
-            (and_from (same_text y.desk x.desk) (y.n == x.n) (subst (λ t. same_text y.desk t ≡ true) desk (same_text_refl y.desk)) same))
+        (λ same. both_ways (is_plan x.desk x.n y) e
+        (and_from (same_text y.desk x.desk) (y.n == x.n) (subst (λ t. same_text y.desk t ≡ true) desk (same_text_refl y.desk)) same))
 
 bind_desk : (v : View) → IsWorld (alone v) → (x : Bind) → Has v.binds x → (row : Desk) × (v.desk ≡ Some row) × (x.desk ≡ row.desk)
 bind_desk v k x h = found_desk v k x.desk x.n _ (all_has (IsBindRow (alone v)) v.binds x k.bound h)
@@ -182,7 +182,7 @@ lag_is_before : (x y : Lag) → (x.source < y.source) ⊎ ((x.source ≡ y.sourc
 lag_is_before x y (inl less) = or_left (nat_lt x.source y.source) ((x.source == y.source) && nat_lt x.target y.target) (lt-ltb x.source y.source less)
 lag_is_before x y (inr (same, less)) =
     or_right (nat_lt x.source y.source) ((x.source == y.source) && nat_lt x.target y.target)
-      (and_from (x.source == y.source) (nat_lt x.target y.target) (eq-eqb x.source y.source same) (lt-ltb x.target y.target less))
+    (and_from (x.source == y.source) (nat_lt x.target y.target) (eq-eqb x.source y.source same) (lt-ltb x.target y.target less))
 
 arc_orders : Orders same_arc lag_before
 arc_orders = record {
@@ -259,7 +259,7 @@ looks_alike v u k l same = record {
   code = code_same;
   bound = λ n place. ap (option_and_then (λ row. code_in v.published row.code)) (bind_same n place) ∙ at_code (find (is_bound_at n place) u.binds);
   lags = λ n. ap (map arc_of) (in_order_same arc_orders (filter (λ row. row.n == n) v.lags) (filter (λ row. row.n == n) u.lags)
-    (same_filter (λ row. row.n == n) v.lags u.lags same.lags) (arcs_differ v n k) (arcs_differ u n l));
+      (same_filter (λ row. row.n == n) v.lags u.lags same.lags) (arcs_differ v n k) (arcs_differ u n l));
   codes = ap (λ rows. codes_listed rows) (in_order_same code_orders v.published u.published same.published k.codes_differ l.codes_differ);
   plans = ap (λ rows. plans_listed rows) (in_order_same number_orders v.plans u.plans same.plans (numbers_differ v k) (numbers_differ u l));
   count = length_same number_orders v.plans u.plans same.plans (numbers_differ v k) (numbers_differ u l);
@@ -273,11 +273,11 @@ looks_alike v u k l same = record {
 
     code_same : (text : Text) → code_in v.published text ≡ code_in u.published text
     code_same text = find_same same_code (is_code text)
-      (λ x y a b. subst (λ t. same_text x.code t ≡ true) (sym (text_from_same y.code text b)) a) v.published u.published same.published k.codes_differ l.codes_differ
+        (λ x y a b. subst (λ t. same_text x.code t ≡ true) (sym (text_from_same y.code text b)) a) v.published u.published same.published k.codes_differ l.codes_differ
 
     plan_same : (n : ℕ) → find (has_number n) v.plans ≡ find (has_number n) u.plans
     plan_same n = find_same same_number (has_number n) (λ x y a b. eq-eqb y.n x.n (eqb-true y.n n b ∙ sym (eqb-true x.n n a)))
-      v.plans u.plans same.plans (numbers_differ v k) (numbers_differ u l)
+        v.plans u.plans same.plans (numbers_differ v k) (numbers_differ u l)
 
     ap_numbers : (o : Option ℕ) → option_and_then (λ n. find (has_number n) v.plans) o ≡ option_and_then (λ n. find (has_number n) u.plans) o
     ap_numbers None = refl
@@ -291,7 +291,7 @@ looks_alike v u k l same = record {
             let at_x = and_parts (x.n == n) (x.place == place) a in
             let at_y = and_parts (y.n == n) (y.place == place) b in
             and_from (y.n == x.n) (y.place == x.place) (eq-eqb y.n x.n (eqb-true y.n n at_y.0 ∙ sym (eqb-true x.n n at_x.0)))
-              (eq-eqb y.place x.place (eqb-true y.place place at_y.1 ∙ sym (eqb-true x.place place at_x.1)))
+            (eq-eqb y.place x.place (eqb-true y.place place at_y.1 ∙ sym (eqb-true x.place place at_x.1)))
 
     at_code : (o : Option Bind) → option_and_then (λ row. code_in v.published row.code) o ≡ option_and_then (λ row. code_in u.published row.code) o
     at_code None = refl

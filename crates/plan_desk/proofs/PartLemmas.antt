@@ -121,8 +121,8 @@ part_binds : (v u : View) (n body : Text) → LooksAlike v u → IsPart (Binds v
 unfolding Binds
 part_binds v u n body alike =
     part_of_plan _ _ _ _ _ alike (λ plan. part_some _ _ _ _ (λ count has. has) (λ count. part_given _ _ _ _ _ refl (λ b.
-      part_unless _ _ _ _ _ (ap (λ o. not (is_some o)) (alike.code b.code))
-        (part_unless _ _ _ _ _ (ap (is_other_kind (takes plan.kind)) (alike.code b.code)) (part_itself _)))))
+    part_unless _ _ _ _ _ (ap (λ o. not (is_some o)) (alike.code b.code))
+    (part_unless _ _ _ _ _ (ap (is_other_kind (takes plan.kind)) (alike.code b.code)) (part_itself _)))))
 
 part_calendars : (v u : View) (n body : Text) → LooksAlike v u → IsPart (Calendars v n body) (Calendars u n body)
 unfolding Calendars
@@ -136,7 +136,7 @@ part_dates : (v u : View) (n : Text) → LooksAlike v u → IsPart (Dates v n) (
 unfolding Dates
 part_dates v u n alike =
     part_of_plan _ _ _ _ _ alike (λ plan. part_by_kind _ _ _ _ _
-      (part_some _ _ _ _ (λ p is. project_alike v u plan p alike is) (λ p. part_itself _)) (part_itself _))
+    (part_some _ _ _ _ (λ p is. project_alike v u plan p alike is) (λ p. part_itself _)) (part_itself _))
 
 part_of_schedule : (v u : View) (plan : Plan) (rule : Text) (Rest : Planned → List ℕ → Outcome) → LooksAlike v u → IsPart (OfSchedule v plan rule Rest) (OfSchedule u plan rule Rest)
 unfolding OfSchedule
@@ -167,11 +167,11 @@ part_best : (v u : View) (n word : Text) → LooksAlike v u → IsPart (Best v n
 unfolding Best OfProjectBest OfShopBest
 part_best v u n word alike =
     part_of_plan _ _ _ _ _ alike (λ plan. part_by_kind _ _ _ _ _
-      (part_some _ _ _ _ (λ p is. project_alike v u plan p alike is) (λ p reply c h.
-        subst (λ i. why_or (TellsBestProjectRefusal word i) bad_schedule (IsBestProjectTextOf word i) (λ text. shows (λ shown. shown ≡ text)) reply c) (bound_alike v u plan p alike) h))
-      (part_some _ _ _ _ (λ s is. is) (λ s reply c h.
-        subst (λ usable. why_or (TellsNoShopBest word s usable) bad_schedule (λ text. NoneIsClosed s.steps usable × IsBestTextOf word s text) (λ text. shows (λ shown. shown ≡ text)) reply c)
-          (open_alike v u plan.n s.machines alike) h)))
+    (part_some _ _ _ _ (λ p is. project_alike v u plan p alike is) (λ p reply c h.
+    subst (λ i. why_or (TellsBestProjectRefusal word i) bad_schedule (IsBestProjectTextOf word i) (λ text. shows (λ shown. shown ≡ text)) reply c) (bound_alike v u plan p alike) h))
+    (part_some _ _ _ _ (λ s is. is) (λ s reply c h.
+    subst (λ usable. why_or (TellsNoShopBest word s usable) bad_schedule (λ text. NoneIsClosed s.steps usable × IsBestTextOf word s text) (λ text. shows (λ shown. shown ≡ text)) reply c)
+    (open_alike v u plan.n s.machines alike) h)))
 
 -- views that look alike are answered alike
 pub answers_alike : (v u : View) (call : Call) → LooksAlike v u → IsPart (Answers v call) (Answers u call)

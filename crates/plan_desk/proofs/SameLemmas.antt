@@ -95,9 +95,9 @@ module _ {A : Type 0} where
   pub same_changed : (q : A → Bool) (f : A → A) (xs ys : List A) → AreSame xs ys → AreSame (changed q f xs) (changed q f ys)
   same_changed q f xs ys same = record {
     there = λ x h. let old = map_has (change_of q f) xs x h in
-      subst (Has (changed q f ys)) old.2 (has_map (change_of q f) ys old.0 (same.there old.0 old.1));
+        subst (Has (changed q f ys)) old.2 (has_map (change_of q f) ys old.0 (same.there old.0 old.1));
     back = λ x h. let old = map_has (change_of q f) ys x h in
-      subst (Has (changed q f xs)) old.2 (has_map (change_of q f) xs old.0 (same.back old.0 old.1));
+        subst (Has (changed q f xs)) old.2 (has_map (change_of q f) xs old.0 (same.back old.0 old.1));
   }
 
   pub same_added : (new : A) (xs ys : List A) → AreSame xs ys → AreSame (xs ++ new ∷ []) (ys ++ new ∷ [])
@@ -135,10 +135,10 @@ module _ {A : Type 0} where
       by_any : (list_any q xs ≡ true) ⊎ (list_any q xs ≡ false) → AreSame (put q f new xs) (put q f new ys)
       by_any (inl e) =
           rw (cond-true (list_any q xs) (changed q f xs) (xs ++ new ∷ []) e)
-            (rw (cond-true (list_any q ys) (changed q f ys) (ys ++ new ∷ []) (sym (same_any q xs ys same) ∙ e)) (same_changed q f xs ys same))
+          (rw (cond-true (list_any q ys) (changed q f ys) (ys ++ new ∷ []) (sym (same_any q xs ys same) ∙ e)) (same_changed q f xs ys same))
       by_any (inr e) =
           rw (cond-false (list_any q xs) (changed q f xs) (xs ++ new ∷ []) e)
-            (rw (cond-false (list_any q ys) (changed q f ys) (ys ++ new ∷ []) (sym (same_any q xs ys same) ∙ e)) (same_added new xs ys same))
+          (rw (cond-false (list_any q ys) (changed q f ys) (ys ++ new ∷ []) (sym (same_any q xs ys same) ∙ e)) (same_added new xs ys same))
 
   -- ---- what is found
 

@@ -108,7 +108,7 @@ module _ {A : Type 0} {alike before : A → A → Bool} (orders : Orders alike b
   in_order_same (x ∷ xs) ys same apart also = at_split (split_at ys x (same.there x (inl refl))) (λ front back. in_order_same xs (front ++ back))
     where
       at_split : IsSplit ys x → ((front back : List A) → AreSame xs (front ++ back) → AllDiffer alike xs → AllDiffer alike (front ++ back)
-            → in_order before xs ≡ in_order before (front ++ back))
+          → in_order before xs ≡ in_order before (front ++ back))
           → put_in_order before x (in_order before xs) ≡ in_order before ys
       at_split s rest =
           let here : AreSame (x ∷ xs) (s.front ++ x ∷ s.back) = subst (AreSame (x ∷ xs)) s.is same in

@@ -24,7 +24,7 @@ pub record KeepsApart (Answers : View → Call → Reply → Change → Type 0) 
   pub one : (v : View) (call : Call) (reply other : Reply) (c b : Change)
       → Answers v call reply c → Answers v call other b → (reply ≡ other) × (c ≡ b)
 
-decided_map : (b : Bool) (R Q : Reply → Change → Type 0) → ((reply : Reply) (c : Change) → R reply c → Q reply c)
+pub decided_map : (b : Bool) (R Q : Reply → Change → Type 0) → ((reply : Reply) (c : Change) → R reply c → Q reply c)
     → (reply : Reply) (c : Change) → decided b R reply c → decided b Q reply c
 decided_map true R Q f reply c h = f reply c h
 decided_map false R Q f reply c h = h
@@ -243,7 +243,7 @@ module _ {Answers : View → Call → Reply → Change → Type 0} (keeps : Keep
       passed (inr want) = inr (inr (inside, inr (after, step, want)))
 
   -- an empty story is told nothing
-  nothing_told : (d : Text) (v : View) (requests : List Request) (replies given : List Reply)
+  pub nothing_told : (d : Text) (v : View) (requests : List Request) (replies given : List Reply)
       → IsStoryOf Answers d v requests replies [] given → given ≡ []
   nothing_told d v [] [] given h = h.1
   nothing_told d v [] (x ∷ xs) given h = absurd h

@@ -1,6 +1,6 @@
 //! Laws of the office, for proofs above to cite: functions that do nothing.
 
-ghost use Rattle.plan_desk.specs.Laws.{OneDecision, StepsKeepRules, AloneKeepsRules, OutsideIsUnseen, DesksAreApart, ToldIsStory, StoriesAreToldAlike};
+ghost use Rattle.plan_desk.specs.Laws.{OneDecision, OrderIsUnseen, AgreeingViewsAreToldAlike, StepsKeepRules, AloneKeepsRules, OutsideIsUnseen, DesksAreApart, ToldIsStory, StoriesAreToldAlike};
 
 /// A view and a request have one reply and one change at most.
 pub fn one_decision()
@@ -24,4 +24,12 @@ pub fn desks_are_apart()
 pub fn steps_keep_rules()
     ensures steps { StepsKeepRules }
     ensures alone { AloneKeepsRules }
+{}
+
+/// The order in which rows were written makes no difference: views of the same rows decide alike,
+/// and one story is told one thing in them, whatever other requests come before or between. So two
+/// offices that published the same codes in another order agree.
+pub fn order_is_unseen()
+    ensures decisions { OrderIsUnseen }
+    ensures stories { AgreeingViewsAreToldAlike }
 {}

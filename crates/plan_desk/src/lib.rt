@@ -13,6 +13,8 @@ mod rows;
 pub use book::Book;
 pub use fault::BookFault;
 pub use kinds::{Kind, PlanKind, ReplyKind};
-pub use laws::{desks_are_apart, one_decision, outside_is_unseen, steps_keep_rules};
+pub use laws::{
+    desks_are_apart, one_decision, order_is_unseen, outside_is_unseen, steps_keep_rules,
+};
 pub use names::{is_key, is_name, key_digest, plan_number};
 pub use rows::{BindEntry, CodeRow, DeskRow, LagEntry, PlanEntry, PlanRow};
