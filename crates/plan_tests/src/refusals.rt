@@ -5,7 +5,8 @@ use crate::best_projects::FIVE;
 use crate::six::SIX;
 use plan_cpm::{dates, tails, total_successors};
 use plan_exact::{
-    Branching, CountedProjectTree, CountedTree, ExactFault, Memo, search, solve_project, solve_shop,
+    Branching, CountedProjectTree, CountedTree, ExactFault, Memo, Solved, search, solve_project,
+    solve_shop,
 };
 use plan_gantt::{
     Calendar, DaysFault, best_project_text, best_text, calendar_table, chart, date_table,
@@ -230,6 +231,19 @@ fn searches(rt: HostRuntime) -> Result<(), Fail> {
     Ok(())
 }
 
+// How long the text of a solution is.
+fn told_best(
+    rt: &impl Abort,
+    alloc: Global,
+    instance: &Instance<'_>,
+    solved: &Solved,
+) -> Option<usize> {
+    let starts = &solved.schedule.starts;
+    assert!(rt; starts.len() == instance.network().len());
+    assert!(rt; starts.iter().all(|start| *start <= END));
+    Some(best_project_text(alloc, instance, solved).ok()?.len())
+}
+
 // The least makespan of a project by a search, by its solution, and by a memo of which a refusal leaves nothing; and how long the
 // text is.
 fn solved_project(rt: &impl Abort, alloc: Global) -> Option<(u64, u64, u64, usize)> {
@@ -246,14 +260,11 @@ fn solved_project(rt: &impl Abort, alloc: Global) -> Option<(u64, u64, u64, usiz
         return None;
     };
     let solved = of_search(rt, solve_project(alloc, &instance, 10))?;
-    assert!(rt; solved.schedule.starts.len() == instance.network().len());
-    assert!(rt; solved.schedule.starts.iter().all(|start| *start <= END));
-    let text = best_project_text(alloc, &instance, &solved).ok()?;
     Some((
         answer.value,
         solved.schedule.makespan,
         kept.schedule.makespan,
-        text.len(),
+        told_best(rt, alloc, &instance, &solved)?,
     ))
 }
 
