@@ -10,3 +10,4 @@ pub mod RuleLemmas
 pub mod KeepLemmas
 pub mod FitLemmas
 pub mod AloneLemmas
+pub mod RouteRefusalLemmas
