@@ -18,3 +18,5 @@ pub mod Rules
 pub mod Laws
 pub mod Books
 pub mod BodyViews
+pub mod Replies
+pub mod RouteRefusals

@@ -8,6 +8,8 @@ mod fault;
 mod kinds;
 mod laws;
 mod names;
+mod reply;
+mod route_refusals;
 mod rows;
 
 pub use book::Book;
@@ -17,4 +19,5 @@ pub use laws::{
     desks_are_apart, one_decision, order_is_unseen, outside_is_unseen, steps_keep_rules,
 };
 pub use names::{is_key, is_name, key_digest, plan_number};
+pub use reply::{Body, Reply};
 pub use rows::{BindEntry, CodeRow, DeskRow, LagEntry, PlanEntry, PlanRow};

@@ -1,0 +1,61 @@
+-- What a route refuses, if anything, as a function or relation of values (docs/DEFINITIONS.md,
+-- "Desks"). Of several refusals the first of their order is answered.
+use Rattle.std.specs.Prelude.{◌≡◌, ◌⊎◌, ◌≤◌, ◌<◌, ℕ, Bool, true, false, if◌then◌else◌, Option, Some, None}
+use Rattle.plan_psplib.specs.Project.{Project, SaysProject}
+use Rattle.plan_orlib.specs.Shop as docs
+use Rattle.plan_orlib.specs.Says.{Says}
+use Rattle.plan_gantt.specs.FirstFaults.{TellsFirstFailing, TellsFirstShopFault}
+use Rattle.plan_gantt.specs.CalendarFaultText.{missing_calendar_text}
+use Rattle.plan_desk.specs.declared.kinds.Kind.{Kind}
+use Rattle.plan_desk.specs.declared.kinds.PlanKind.{PlanKind}
+use Rattle.plan_desk.specs.declared.kinds.PlanKind.TheVariants as kinds
+use Rattle.plan_desk.specs.World.{Text, same_kind}
+use Rattle.plan_desk.specs.Calls.{Reply}
+use Rattle.plan_desk.specs.Bodies.{BindBody, LagBody}
+use Rattle.plan_desk.specs.PlanRoutes.{has_arc}
+use Rattle.plan_desk.specs.Refusals.{bad_body, unpublished, kind_differs, other_kind, many_plans, numbers_spent, bad_file, bad_schedule, bad_calendar}
+
+-- a file says a project, or a shop by the name of an instance
+abbrev pub IsRead : PlanKind → Text → Text → Type 0
+IsRead kinds.Project name body = (p : Project) × SaysProject body p
+IsRead kinds.Shop name body = (shop : docs.Shop) × Says name body shop
+
+-- a line tells the first check that a file fails
+abbrev pub TellsFileFault : PlanKind → Text → Text → Text → Type 0
+TellsFileFault kinds.Project name body = TellsFirstFailing body
+TellsFileFault kinds.Shop name body = TellsFirstShopFault name body
+
+-- a file is read, or the first check that it fails is told
+abbrev pub IsFileRefusal : PlanKind → Text → Text → Option Reply → Type 0
+IsFileRefusal kind name body None = IsRead kind name body
+IsFileRefusal kind name body (Some reply) =
+    (line : Text) × TellsFileFault kind name body line × (reply ≡ bad_file line)
+
+-- an import by a desk that holds so many plans and gives its next one this number: the desk is full,
+-- else its numbers are spent, else the file is judged
+abbrev pub IsImportRefusal : ℕ → ℕ → PlanKind → Text → Text → Option Reply → Type 0
+IsImportRefusal held next kind name body refusal =
+    ((100 ≤ held) × (refusal ≡ Some many_plans))
+    ⊎ (((held < 100) × (1000001 ≤ next) × (refusal ≡ Some numbers_spent))
+    ⊎ ((held < 100) × (next < 1000001) × IsFileRefusal kind name body refusal))
+
+-- a bind, by what its body says, the kind of the code where it is published, and the kind that the
+-- plan takes
+abbrev pub bind_refusal_of : Option BindBody → Option Kind → Kind → Option Reply
+bind_refusal_of None published takes = Some bad_body
+bind_refusal_of (Some b) None takes = Some unpublished
+bind_refusal_of (Some b) (Some kind) takes =
+    if same_kind kind takes then None else Some kind_differs
+
+-- a lag, by what its body says, and the project of the plan: a shop has none
+abbrev pub lag_refusal_of : Option LagBody → Option Project → Option Reply
+lag_refusal_of None project = Some bad_body
+lag_refusal_of (Some b) None = Some other_kind
+lag_refusal_of (Some b) (Some p) =
+    if has_arc p.network b.source b.target then None else Some bad_body
+
+-- working days, by why there is no schedule, and whether a calendar is set
+abbrev pub days_refusal_of : Option Text → Bool → Option Reply
+days_refusal_of (Some line) is_set = Some (bad_schedule line)
+days_refusal_of None true = None
+days_refusal_of None false = Some (bad_calendar missing_calendar_text)

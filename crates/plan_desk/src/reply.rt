@@ -1,0 +1,168 @@
+//! Replies as code makes them: refusals, answers and whole texts.
+
+ghost use Rattle.std.specs.Prelude.{◌≡◌, ◌++◌, IfOk, string_bytes, codes};
+ghost use Rattle.plan_desk.specs.declared.kinds.ReplyKind.TheVariants.{Plain, Json};
+ghost use Rattle.plan_desk.specs.Calls as calls;
+ghost use Rattle.plan_desk.specs.Refusals as refusals;
+ghost use Rattle.plan_desk.specs.Replies.{reply_of};
+
+use crate::kinds::ReplyKind;
+use std::alloc::{AllocError, Global};
+
+/// The body of a reply, with its end of line.
+#[derive(Debug, Drop)]
+pub enum Body {
+    /// One that is always the same, which takes no memory.
+    Fixed(&'static str),
+    /// One that was made.
+    Owned(String),
+}
+
+/// A reply: a status by RFC 9110, what the body is, and the body.
+#[derive(Debug, Drop)]
+pub struct Reply {
+    pub status: u16,
+    pub kind: ReplyKind,
+    pub body: Body,
+}
+
+// A refusal of which the whole line is known.
+fn fixed(status: u16, line: &'static str) -> Reply
+    ensures { reply_of result ≡ record { status = status; kind = Plain; body = line.now } }
+{
+    Reply {
+        status,
+        kind: ReplyKind::Plain,
+        body: Body::Fixed(line),
+    }
+}
+
+pub(crate) fn no_key() -> Reply
+    ensures { reply_of result ≡ calls.no_key }
+{
+    fixed(403, "E01 key\n")
+}
+
+pub(crate) fn not_found() -> Reply
+    ensures { reply_of result ≡ refusals.not_found }
+{
+    fixed(404, "E02 not found\n")
+}
+
+pub(crate) fn bad_body() -> Reply
+    ensures { reply_of result ≡ refusals.bad_body }
+{
+    fixed(400, "E03 body\n")
+}
+
+pub(crate) fn desk_exists() -> Reply
+    ensures { reply_of result ≡ refusals.desk_exists }
+{
+    fixed(409, "E04 desk exists\n")
+}
+
+pub(crate) fn unpublished() -> Reply
+    ensures { reply_of result ≡ refusals.unpublished }
+{
+    fixed(404, "E05 code not published\n")
+}
+
+pub(crate) fn kind_differs() -> Reply
+    ensures { reply_of result ≡ refusals.kind_differs }
+{
+    fixed(409, "E06 kind differs\n")
+}
+
+pub(crate) fn other_kind() -> Reply
+    ensures { reply_of result ≡ refusals.other_kind }
+{
+    fixed(409, "E07 other kind of plan\n")
+}
+
+pub(crate) fn many_plans() -> Reply
+    ensures { reply_of result ≡ refusals.many_plans }
+{
+    fixed(409, "E08 100 plans\n")
+}
+
+pub(crate) fn numbers_spent() -> Reply
+    ensures { reply_of result ≡ refusals.numbers_spent }
+{
+    fixed(409, "E09 numbers spent\n")
+}
+
+// Want of memory.
+pub(crate) fn no_memory() -> Reply
+    ensures { reply_of result ≡ calls.refusal 503 (codes "E90 memory") }
+{
+    fixed(503, "E90 memory\n")
+}
+
+pub(crate) fn store_refused() -> Reply
+    ensures { reply_of result ≡ calls.refusal 507 (codes "E91 store") }
+{
+    fixed(507, "E91 store\n")
+}
+
+// A line that begins so.
+fn line(alloc: Global, front: &str, text: &str) -> Result<String, AllocError>
+    ensures { IfOk result (λ made. string_bytes made ≡ calls.line (front.now ++ text.now)) }
+{
+    let mut made = String::from_str(alloc, front)?;
+    made.push_str(text)?;
+    made.push_str("\n")?;
+    Ok(made)
+}
+
+fn unusable(alloc: Global, front: &str, text: &str) -> Result<Reply, AllocError>
+    ensures { IfOk result (λ reply. reply_of reply ≡ calls.refusal 422 (front.now ++ text.now)) }
+{
+    Ok(Reply {
+        status: 422,
+        kind: ReplyKind::Plain,
+        body: Body::Owned(line(alloc, front, text)?),
+    })
+}
+
+// The line of a file fault.
+pub(crate) fn bad_file(alloc: Global, text: &str) -> Result<Reply, AllocError>
+    ensures { IfOk result (λ reply. reply_of reply ≡ refusals.bad_file text.now) }
+{
+    unusable(alloc, "E10 ", text)
+}
+
+// Why there is no schedule.
+pub(crate) fn bad_schedule(alloc: Global, text: &str) -> Result<Reply, AllocError>
+    ensures { IfOk result (λ reply. reply_of reply ≡ refusals.bad_schedule text.now) }
+{
+    unusable(alloc, "E11 ", text)
+}
+
+// Why a calendar can't be used.
+pub(crate) fn bad_calendar(alloc: Global, text: &str) -> Result<Reply, AllocError>
+    ensures { IfOk result (λ reply. reply_of reply ≡ refusals.bad_calendar text.now) }
+{
+    unusable(alloc, "E12 ", text)
+}
+
+// An answer in JSON.
+pub(crate) fn answer(alloc: Global, status: u16, text: &str) -> Result<Reply, AllocError>
+    ensures { IfOk result (λ reply. reply_of reply ≡ calls.answer status text.now) }
+{
+    Ok(Reply {
+        status,
+        kind: ReplyKind::Json,
+        body: Body::Owned(line(alloc, "", text)?),
+    })
+}
+
+// A whole text, which has its ends of lines.
+pub(crate) fn page(text: String) -> Reply
+    ensures { reply_of result ≡ calls.page (string_bytes text) }
+{
+    Reply {
+        status: 200,
+        kind: ReplyKind::Plain,
+        body: Body::Owned(text),
+    }
+}
