@@ -15,3 +15,4 @@ pub mod SortLemmas
 pub mod LooksLemmas
 pub mod PartLemmas
 pub mod OrderLemmas
+pub mod Examples
