@@ -16,3 +16,4 @@ pub mod LooksLemmas
 pub mod PartLemmas
 pub mod OrderLemmas
 pub mod RouteRefusalLemmas
+pub mod Examples

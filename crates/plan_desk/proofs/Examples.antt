@@ -1,0 +1,188 @@
+-- Worked examples of an office, computed from the definitions: names, bodies, changes, decisions.
+use Rattle.std.proofs.Common.{◌≡◌, ℕ, zero, suc, Bool, true, false, List, [], ◌∷◌, Option, Some, None, codes, refl, sym, subst}
+use Rattle.serde_json.proofs.OnLiterals.{serde_json_on_literals}
+use Rattle.plan_desk.specs.declared.kinds.Kind.TheVariants.{Crew, Machine}
+use Rattle.plan_desk.specs.declared.kinds.PlanKind.{PlanKind}
+use Rattle.plan_desk.specs.declared.kinds.PlanKind.TheVariants.{Project, Shop}
+use Rattle.plan_desk.specs.World.{Text, Published, Desk, Plan, Bind, Lag, World, empty_world}
+use Rattle.plan_desk.specs.Views.{View, view}
+use Rattle.plan_desk.specs.Names.{is_name, is_key, is_from_to}
+use Rattle.plan_desk.specs.Plans.{plan_number}
+use Rattle.plan_desk.specs.Changes.{Change, Keep, Publish, OpenDesk, SetKey, AddPlan, RemovePlan, BindPlace, SetCalendar, SetLag, apply}
+
+-- a name has small letters, digits and `-`
+name_with_a_digit : is_name (codes "north-2") ≡ true
+name_with_a_digit = refl
+
+-- and 32 bytes at most
+name_of_32 : is_name (codes "abcdefghijklmnopqrstuvwxyz012345") ≡ true
+name_of_32 = refl
+
+name_of_33 : is_name (codes "abcdefghijklmnopqrstuvwxyz0123456") ≡ false
+name_of_33 = refl
+
+-- `-` doesn't begin a name
+name_after_a_dash : is_name (codes "-a") ≡ false
+name_after_a_dash = refl
+
+-- an empty text is no name
+name_of_none : is_name (codes "") ≡ false
+name_of_none = refl
+
+-- nor is one with a capital letter
+name_with_a_capital : is_name (codes "North") ≡ false
+name_with_a_capital = refl
+
+-- a key has 8 to 64 characters
+key_of_7 : is_key (codes "Secret1") ≡ false
+key_of_7 = refl
+
+key_of_8 : is_key (codes "Secret12") ≡ true
+key_of_8 = refl
+
+key_of_64 : is_key (codes "0123456789abcdef0123456789abcdef0123456789abcdef0123456789abcdef") ≡ true
+key_of_64 = refl
+
+key_of_65 : is_key (codes "0123456789abcdef0123456789abcdef0123456789abcdef0123456789abcdef0") ≡ false
+key_of_65 = refl
+
+-- and no blank
+key_with_a_blank : is_key (codes "Secret 12") ≡ false
+key_with_a_blank = refl
+
+-- the number of a plan has 1 to 7 digits
+plan_7 : plan_number (codes "7") ≡ Some 7
+plan_7 = refl
+
+plan_1000000 : plan_number (codes "1000000") ≡ Some 1000000
+plan_1000000 = refl
+
+plan_of_eight_digits : plan_number (codes "10000000") ≡ None
+plan_of_eight_digits = refl
+
+-- a zero in front is none of them
+plan_007 : plan_number (codes "007") ≡ None
+plan_007 = refl
+
+plan_0 : plan_number (codes "0") ≡ None
+plan_0 = refl
+
+-- and other words are no numbers
+plan_x : plan_number (codes "x") ≡ None
+plan_x = refl
+
+-- rows of plans, binds and lags
+abbrev plan : Text → ℕ → PlanKind → Plan
+plan desk n kind =
+    record { desk = desk; n = n; kind = kind; name = []; body = []; start = []; days = [] }
+
+abbrev bound : Text → ℕ → ℕ → Text → Bind
+bound desk n place code = record { desk = desk; n = n; place = place; code = code }
+
+abbrev lagged : Text → ℕ → ℕ → ℕ → ℕ → Lag
+lagged desk n source target lag =
+    record { desk = desk; n = n; source = source; target = target; lag = lag }
+
+abbrev desk_row : Text → ℕ → Desk
+desk_row desk next = record { desk = desk; digest = []; next = next }
+
+abbrev north : Text
+north = codes "north"
+
+abbrev north2 : Text
+north2 = codes "north-2"
+
+abbrev crew_a : Text
+crew_a = codes "crew-a"
+
+-- A code, and two desks: the name of one begins with that of the other. Plan 1 of both has binds and
+-- lags, and the rows stand in no order.
+abbrev office : World
+office = record {
+  office = [];
+  published = record { code = crew_a; kind = Crew; capacity = 2 } ∷ [];
+  desks = desk_row north2 2 ∷ desk_row north 5 ∷ [];
+  plans = plan north 4 Project ∷ plan north2 1 Shop ∷ plan north 1 Project ∷ plan north 2 Project ∷ [];
+  binds = bound north 1 1 crew_a ∷ bound north2 1 0 (codes "m-1") ∷ bound north 2 1 crew_a ∷ [];
+  lags = lagged north 2 1 2 3 ∷ lagged north 1 2 3 4 ∷ lagged north2 1 2 3 5 ∷ [];
+}
+
+-- a desk sees its own rows, and all codes
+north_sees : view north office ≡ record {
+  office = [];
+  published = record { code = crew_a; kind = Crew; capacity = 2 } ∷ [];
+  desk = Some (desk_row north 5);
+  plans = plan north 4 Project ∷ plan north 1 Project ∷ plan north 2 Project ∷ [];
+  binds = bound north 1 1 crew_a ∷ bound north 2 1 crew_a ∷ [];
+  lags = lagged north 2 1 2 3 ∷ lagged north 1 2 3 4 ∷ [];
+}
+north_sees = refl
+
+-- a part of a desk's name is another desk, which has no row
+nor_sees : (view (codes "nor") office).plans ≡ []
+nor_sees = refl
+
+-- a known code keeps its one row, which gets the capacity
+published_again : (apply [] (Publish crew_a Crew 7) office).published ≡ record { code = crew_a; kind = Crew; capacity = 7 } ∷ []
+published_again = refl
+
+-- another code gets a row
+published_besides : (apply [] (Publish (codes "m-1") Machine 1) office).published
+    ≡ record { code = crew_a; kind = Crew; capacity = 2 } ∷ record { code = codes "m-1"; kind = Machine; capacity = 1 } ∷ []
+published_besides = refl
+
+-- a new desk has its name and the digest of its key, and its first plan gets number 1
+opened : (apply (codes "south") (OpenDesk (3 ∷ [])) office).desks
+    ≡ desk_row north2 2 ∷ desk_row north 5 ∷ record { desk = codes "south"; digest = 3 ∷ []; next = 1 } ∷ []
+opened = refl
+
+-- another key for one desk alone
+key_set : (apply north (SetKey (3 ∷ [])) office).desks
+    ≡ desk_row north2 2 ∷ record { desk = north; digest = 3 ∷ []; next = 5 } ∷ []
+key_set = refl
+
+-- a plan gets the desk's next number, which rises by 1, and the other desk stays
+added : apply north (AddPlan Shop (codes "tiny") (codes "x")) office ≡ record office {
+  desks = desk_row north2 2 ∷ desk_row north 6 ∷ [];
+  plans = plan north 4 Project ∷ plan north2 1 Shop ∷ plan north 1 Project ∷ plan north 2 Project
+      ∷ record { desk = north; n = 5; kind = Shop; name = codes "tiny"; body = codes "x"; start = []; days = [] } ∷ [];
+}
+added = refl
+
+-- a plan takes its binds and lags along, and plan 1 of the other desk stays
+removed : apply north (RemovePlan 1) office ≡ record office {
+  plans = plan north 4 Project ∷ plan north2 1 Shop ∷ plan north 2 Project ∷ [];
+  binds = bound north2 1 0 (codes "m-1") ∷ bound north 2 1 crew_a ∷ [];
+  lags = lagged north 2 1 2 3 ∷ lagged north2 1 2 3 5 ∷ [];
+}
+removed = refl
+
+-- a bound place gets another code
+bound_again : (apply north (BindPlace 2 1 (codes "crew-b")) office).binds
+    ≡ bound north 1 1 crew_a ∷ bound north2 1 0 (codes "m-1") ∷ bound north 2 1 (codes "crew-b") ∷ []
+bound_again = refl
+
+-- another place gets a row
+bound_besides : (apply north (BindPlace 2 2 crew_a) office).binds
+    ≡ bound north 1 1 crew_a ∷ bound north2 1 0 (codes "m-1") ∷ bound north 2 1 crew_a ∷ bound north 2 2 crew_a ∷ []
+bound_besides = refl
+
+-- lag 0 drops the row
+lag_dropped : (apply north (SetLag 1 2 3 0) office).lags ≡ lagged north 2 1 2 3 ∷ lagged north2 1 2 3 5 ∷ []
+lag_dropped = refl
+
+-- lag 0 on an arc without a row gives it none
+lag_of_none : (apply north (SetLag 4 1 2 0) office).lags ≡ office.lags
+lag_of_none = refl
+
+-- another lag on an arc that has one
+lag_changed : (apply north (SetLag 1 2 3 9) office).lags
+    ≡ lagged north 2 1 2 3 ∷ lagged north 1 2 3 9 ∷ lagged north2 1 2 3 5 ∷ []
+lag_changed = refl
+
+-- a calendar for one plan alone
+calendar_set : (apply north2 (SetCalendar 1 (codes "2026-11-23") (codes "1111100")) office).plans
+    ≡ plan north 4 Project
+    ∷ record { desk = north2; n = 1; kind = Shop; name = []; body = []; start = codes "2026-11-23"; days = codes "1111100" }
+    ∷ plan north 1 Project ∷ plan north 2 Project ∷ []
+calendar_set = refl
