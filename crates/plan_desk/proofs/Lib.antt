@@ -11,3 +11,4 @@ pub mod KeepLemmas
 pub mod FitLemmas
 pub mod AloneLemmas
 pub mod RouteRefusalLemmas
+pub mod RefusedLemmas
