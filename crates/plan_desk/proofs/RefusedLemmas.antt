@@ -1,5 +1,5 @@
 -- What the functions of values refuse is what the routes answer.
-use Rattle.std.proofs.Common.{◌≡◌, ◌⊎◌, inl, inr, ℕ, ◌≤◌, ◌<◌, Bool, true, false, Option, Some, None, List, length, refl, sym, ap, subst}
+use Rattle.std.proofs.Common.{◌≡◌, inl, inr, ℕ, Bool, true, false, Option, Some, None, List, length, refl, sym, ap, subst}
 use Rattle.std.specs.Prelude.{option_map, option_and_then, unwrap_or, is_some, not, if◌then◌else◌, nat_le}
 use Rattle.std.proofs.lemmas.Bool.{both_ways, lt-leb, le-leb}
 use Rattle.plan_desk.specs.declared.kinds.Kind.{Kind}
@@ -7,14 +7,14 @@ use Rattle.plan_desk.specs.declared.kinds.PlanKind.{PlanKind}
 use Rattle.plan_desk.specs.declared.kinds.PlanKind.TheVariants as kinds
 use Rattle.plan_psplib.specs.Project.{Project, SaysProject}
 use Rattle.plan_desk.specs.World.{Text, Published, Desk, Plan, same_kind, takes, code_in}
-use Rattle.plan_desk.specs.Changes.{Change, Keep, AddPlan}
+use Rattle.plan_desk.specs.Changes.{Change, Keep, AddPlan, BindPlace, SetLag}
 use Rattle.plan_desk.specs.Calls.{Reply, answer}
 use Rattle.plan_desk.specs.Views.{View}
 use Rattle.plan_desk.specs.Bodies.{BindBody, LagBody, bind_body, lag_body}
 use Rattle.plan_desk.specs.Outcomes.{Outcome, refuses, makes, unless, given, some, why_or}
 use Rattle.plan_desk.specs.Plans.{plan_seen, HasPlaces, is_place}
 use Rattle.plan_desk.specs.OfficeRoutes.{is_other_kind}
-use Rattle.plan_desk.specs.JsonTexts.{plan_text}
+use Rattle.plan_desk.specs.JsonTexts.{plan_text, bind_text, lag_text}
 use Rattle.plan_desk.specs.PlanRoutes.{of_plan, by_kind, has_arc, Imports, Binds, SetsLag}
 use Rattle.plan_desk.specs.Refusals.{not_found, bad_body, unpublished, kind_differs, other_kind, many_plans, numbers_spent, bad_file}
 use Rattle.plan_desk.specs.RouteRefusals.{TellsFileFault, IsFileRefusal, IsImportRefusal, bind_refusal_of, lag_refusal_of}
@@ -148,3 +148,35 @@ pub sets_lag_refused : (v : View) (plan : Plan) (project : Option Project) (n bo
 unfolding SetsLag of_plan
 sets_lag_refused v plan project n body reply there is e =
     given_there (plan_seen v n) plan not_found _ reply Keep there (lag_refused (lag_body body) plan project _ reply is e)
+
+code_passed : (b : BindBody) (code : Option Published) (kind : Kind) (Rest : Outcome) (reply : Reply) (c : Change)
+    → bind_refusal_of (Some b) (option_map (λ (row : Published). row.kind) code) kind ≡ None → Rest reply c
+    → unless (not (is_some code)) unpublished (unless (is_other_kind kind code) kind_differs Rest) reply c
+unfolding unless
+code_passed b None kind Rest reply c e rest = absurd (not_none _ e)
+code_passed b (Some row) kind Rest reply c e rest = test_passed (same_kind row.kind kind) kind_differs Rest reply c e rest
+
+-- a bind of which nothing is refused is made
+pub binds_made : (v : View) (plan : Plan) (n body : Text) (count : ℕ) (b : BindBody) → plan_seen v n ≡ Some plan
+    → HasPlaces plan.kind plan.name plan.body count → bind_body (is_place plan.kind count) body ≡ Some b
+    → bind_refusal_of (Some b) (option_map (λ (row : Published). row.kind) (code_in v.published b.code)) (takes plan.kind) ≡ None
+    → Binds v n body (answer 200 (bind_text b.code b.place)) (BindPlace plan.n b.place b.code)
+unfolding Binds of_plan some makes
+binds_made v plan n body count b there has says e =
+    given_there (plan_seen v n) plan not_found _ _ _ there (
+      count,
+      has,
+      given_there (bind_body (is_place plan.kind count) body) b bad_body _ _ _ says
+          (code_passed b (code_in v.published b.code) (takes plan.kind) _ _ _ e (refl, refl)),
+    )
+
+-- a lag of which nothing is refused is set
+pub sets_lag_made : (v : View) (plan : Plan) (p : Project) (n body : Text) (b : LagBody) → plan_seen v n ≡ Some plan → IsProjectIn plan (Some p)
+    → lag_body body ≡ Some b → lag_refusal_of (Some b) (Some p) ≡ None
+    → SetsLag v n body (answer 200 (lag_text b.source b.target b.lag)) (SetLag plan.n b.source b.target b.lag)
+unfolding SetsLag of_plan by_kind some makes
+sets_lag_made v plan p n body b there is says e =
+    given_there (plan_seen v n) plan not_found _ _ _ there
+    (given_there (lag_body body) b bad_body _ _ _ says
+    (of_kind kinds.Project plan.kind _ _ _ _ is.0
+    (p, is.1, test_passed (has_arc p.network b.source b.target) bad_body _ _ _ e (refl, refl))))
