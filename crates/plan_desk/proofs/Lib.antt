@@ -17,3 +17,4 @@ pub mod PartLemmas
 pub mod OrderLemmas
 pub mod RouteRefusalLemmas
 pub mod Examples
+pub mod RefusedLemmas
