@@ -1,5 +1,6 @@
 -- Worked examples of an office, computed from the definitions: names, bodies, changes, decisions.
 use Rattle.std.proofs.Common.{◌≡◌, ℕ, zero, suc, Bool, true, false, List, [], ◌∷◌, Option, Some, None, codes, refl, sym, subst}
+use Rattle.std.specs.Str.{is_utf8, chars}
 use Rattle.serde_json.proofs.OnLiterals.{serde_json_on_literals}
 use Rattle.plan_desk.specs.declared.kinds.Kind.TheVariants.{Crew, Machine}
 use Rattle.plan_desk.specs.declared.kinds.PlanKind.{PlanKind}
@@ -7,7 +8,8 @@ use Rattle.plan_desk.specs.declared.kinds.PlanKind.TheVariants.{Project, Shop}
 use Rattle.plan_desk.specs.World.{Text, Published, Desk, Plan, Bind, Lag, World, empty_world}
 use Rattle.plan_desk.specs.Views.{View, view}
 use Rattle.plan_desk.specs.Names.{is_name, is_key, is_from_to}
-use Rattle.plan_desk.specs.Plans.{plan_number}
+use Rattle.plan_desk.specs.Plans.{plan_number, is_place}
+use Rattle.plan_desk.specs.Bodies.{publish_body, desk_body, desk_named, bind_body, calendar_body, lag_body}
 use Rattle.plan_desk.specs.Changes.{Change, Keep, Publish, OpenDesk, SetKey, AddPlan, RemovePlan, BindPlace, SetCalendar, SetLag, apply}
 
 -- a name has small letters, digits and `-`
@@ -186,3 +188,94 @@ calendar_set : (apply north2 (SetCalendar 1 (codes "2026-11-23") (codes "1111100
     ∷ record { desk = north2; n = 1; kind = Shop; name = []; body = []; start = codes "2026-11-23"; days = codes "1111100" }
     ∷ plan north 1 Project ∷ plan north 2 Project ∷ []
 calendar_set = refl
+
+-- a body that publishes
+abbrev publishing : Text
+publishing = codes "{\"code\": \"crew-a\", \"kind\": \"crew\", \"capacity\": 2}"
+
+publishing_read : publish_body publishing ≡ Some (record { code = crew_a; kind = Crew; capacity = 2 })
+unfolding publish_body is_utf8 chars serde_json_on_literals
+publishing_read = refl
+
+-- of two members of one name the last counts
+last_counts : publish_body (codes "{\"code\":\"crew-a\",\"kind\":\"crew\",\"capacity\":2,\"capacity\":3}")
+    ≡ Some (record { code = crew_a; kind = Crew; capacity = 3 })
+unfolding publish_body is_utf8 chars serde_json_on_literals
+last_counts = refl
+
+-- other members don't matter, nor does their order
+others_are_read : publish_body (codes "{\"capacity\":10000,\"note\":[1.5,null],\"kind\":\"machine\",\"code\":\"m-1\"}")
+    ≡ Some (record { code = codes "m-1"; kind = Machine; capacity = 10000 })
+unfolding publish_body is_utf8 chars serde_json_on_literals
+others_are_read = refl
+
+-- a capacity of 10,001 is too much
+capacity_too_great : publish_body (codes "{\"code\":\"crew-a\",\"kind\":\"crew\",\"capacity\":10001}") ≡ None
+unfolding publish_body is_utf8 chars serde_json_on_literals
+capacity_too_great = refl
+
+-- a kind has small letters
+kind_unknown : publish_body (codes "{\"code\":\"crew-a\",\"kind\":\"Crew\",\"capacity\":2}") ≡ None
+unfolding publish_body is_utf8 chars serde_json_on_literals
+kind_unknown = refl
+
+-- an empty body is no JSON
+empty_body : publish_body [] ≡ None
+unfolding publish_body is_utf8 chars serde_json_on_literals
+empty_body = refl
+
+-- a desk and its key
+desk_read : desk_body (codes "{\"desk\":\"north\",\"key\":\"Secret12\"}")
+    ≡ Some (record { desk = north; key = codes "Secret12" })
+unfolding desk_body is_utf8 chars serde_json_on_literals
+desk_read = refl
+
+-- a key that is too short makes no such body, which still names its desk
+desk_of_short_key : desk_body (codes "{\"desk\":\"north\",\"key\":\"Secret1\"}") ≡ None
+unfolding desk_body is_utf8 chars serde_json_on_literals
+desk_of_short_key = refl
+
+desk_is_named : desk_named (codes "{\"desk\":\"north\",\"key\":\"Secret1\"}") ≡ Some north
+unfolding desk_named is_utf8 chars serde_json_on_literals
+desk_is_named = refl
+
+-- place 1 of a project with two resources
+bind_read : bind_body (is_place Project 2) (codes "{\"code\":\"crew-a\",\"place\":1}")
+    ≡ Some (record { code = crew_a; place = 1 })
+unfolding bind_body is_utf8 chars serde_json_on_literals
+bind_read = refl
+
+-- 1.0 is no whole number
+place_with_a_point : bind_body (is_place Project 2) (codes "{\"code\":\"crew-a\",\"place\":1.0}") ≡ None
+unfolding bind_body is_utf8 chars serde_json_on_literals
+place_with_a_point = refl
+
+-- the places of a project begin at 1, and those of a shop at 0
+place_0_of_project : bind_body (is_place Project 2) (codes "{\"code\":\"crew-a\",\"place\":0}") ≡ None
+unfolding bind_body is_utf8 chars serde_json_on_literals
+place_0_of_project = refl
+
+place_0_of_shop : bind_body (is_place Shop 2) (codes "{\"code\":\"m-1\",\"place\":0}")
+    ≡ Some (record { code = codes "m-1"; place = 0 })
+unfolding bind_body is_utf8 chars serde_json_on_literals
+place_0_of_shop = refl
+
+place_2_of_shop : bind_body (is_place Shop 2) (codes "{\"code\":\"m-1\",\"place\":2}") ≡ None
+unfolding bind_body is_utf8 chars serde_json_on_literals
+place_2_of_shop = refl
+
+-- what the texts of a calendar say is judged later
+calendar_read : calendar_body (codes "{\"start\":\"never\",\"days\":\"\"}")
+    ≡ Some (record { start = codes "never"; days = [] })
+unfolding calendar_body is_utf8 chars serde_json_on_literals
+calendar_read = refl
+
+-- a lag of 4 from activity 2 to activity 3
+lag_read : lag_body (codes "{\"from\":2,\"to\":3,\"lag\":4}") ≡ Some (record { source = 2; target = 3; lag = 4 })
+unfolding lag_body is_utf8 chars serde_json_on_literals
+lag_read = refl
+
+-- and none below 0
+lag_below_0 : lag_body (codes "{\"from\":2,\"to\":3,\"lag\":-1}") ≡ None
+unfolding lag_body is_utf8 chars serde_json_on_literals
+lag_below_0 = refl
