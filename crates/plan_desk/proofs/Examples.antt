@@ -1,10 +1,19 @@
 -- Worked examples of an office, computed from the definitions: names, bodies, changes, decisions.
-use Rattle.std.proofs.Common.{◌≡◌, ℕ, zero, suc, Bool, true, false, List, [], ◌∷◌, ◌++◌, Option, Some, None, codes, refl, sym, subst}
+use Rattle.std.proofs.Common.{◌≡◌, ℕ, zero, suc, Bool, true, false, List, [], ◌∷◌, ◌++◌, Option, Some, None, codes, inr, refl, sym, subst}
 use Rattle.std.specs.Fmt.{digits}
 use Rattle.std.specs.Str.{is_utf8, chars}
 use Rattle.sha2.specs.Sha256.{sha256}
 use Rattle.serde_json.proofs.OnLiterals.{serde_json_on_literals}
+use Rattle.plan_psplib.specs.Document.{plain}
+use Rattle.plan_psplib.specs.Reading.{number_at, limited, limited_at}
+use Rattle.plan_psplib.specs.Requests.{duration_at}
+use Rattle.plan_orlib.specs.Instances.{bare_stream}
+use Rattle.plan_orlib.specs.Reading.{machine_at, step_at, steps_at, jobs_at, shop_at}
+use Rattle.plan_orlib.specs.Shop as docs
+use Rattle.plan_orlib.specs.Says.{Says, BeginsWith, shop_numbers}
+use Rattle.plan_orlib.proofs.ShopLemmas.{shop_spelled}
 use Rattle.plan_desk.specs.declared.kinds.Kind.TheVariants.{Crew, Machine}
+use Rattle.plan_desk.specs.declared.kinds.Kind.{Kind}
 use Rattle.plan_desk.specs.declared.kinds.PlanKind.{PlanKind}
 use Rattle.plan_desk.specs.declared.kinds.ReplyKind.{ReplyKind}
 use Rattle.plan_desk.specs.declared.kinds.ReplyKind.TheVariants.{Plain, Json}
@@ -18,9 +27,9 @@ use Rattle.plan_desk.specs.Changes.{Change, Keep, Publish, OpenDesk, SetKey, Add
 use Rattle.plan_desk.specs.Calls.{Call, Request, Reply, admits}
 use Rattle.plan_desk.specs.Calls as call
 use Rattle.plan_desk.specs.Stories.{decided}
-use Rattle.plan_desk.specs.Outcomes.{refuses, tells, makes, unless, given}
+use Rattle.plan_desk.specs.Outcomes.{refuses, tells, makes, unless, given, some, why_or}
 use Rattle.plan_desk.specs.OfficeRoutes.{Publishes, Opens, SetsKey}
-use Rattle.plan_desk.specs.PlanRoutes.{of_plan, by_kind, Imports, ImportsProject, ImportsShop, Removes, Calendars, SetsLag}
+use Rattle.plan_desk.specs.PlanRoutes.{of_plan, by_kind, Imports, ImportsProject, ImportsShop, Removes, Binds, Calendars, SetsLag}
 use Rattle.plan_desk.specs.PageRoutes.{Dates}
 use Rattle.plan_desk.specs.Decisions.{Answers, IsDecision}
 
@@ -485,3 +494,71 @@ short_key_unset : (key : Option Text) → admits (view north office) (asks key (
     → IsDecision (view north office) (asks key (call.set_key north (codes "{\"key\":\"Secret1\"}"))) body_refused Keep
 unfolding SetsKey unless given refuses key_body is_utf8 chars serde_json_on_literals
 short_key_unset key open_ = admitted _ key _ _ _ open_ (refl, refl)
+
+-- a shop of one job with one step, which takes machine 0 for 2 units
+abbrev tiny : Text
+tiny = codes "1 1\n0 2\n"
+
+abbrev tiny_shop : docs.Shop
+tiny_shop = record { machines = 1; jobs = (record { machine = 0; time = 2 } ∷ []) ∷ [] }
+
+tiny_says : Says (codes "-") tiny tiny_shop
+unfolding plain shop_at limited_at limited number_at jobs_at steps_at step_at machine_at duration_at
+tiny_says =
+    let spelled : BeginsWith (bare_stream tiny).words (shop_numbers tiny_shop) × docs.IsShop tiny_shop =
+    shop_spelled (bare_stream tiny) tiny_shop refl in
+    record { readable = refl; stream = (bare_stream tiny, refl, spelled.0); limits = spelled.1 }
+
+-- a shop is imported with the desk's next number
+shop_imported : (key : Option Text) → admits (view north office) (asks key (call.import_shop north (codes "-") tiny)) ≡ true
+    → IsDecision (view north office) (asks key (call.import_shop north (codes "-") tiny))
+    (said 201 Json (codes "{\"kind\":\"shop\",\"n\":5}\n")) (AddPlan Shop (codes "-") tiny)
+unfolding ImportsShop Imports given unless why_or some makes digits
+shop_imported key open_ = admitted _ key _ _ _ open_ (inr (tiny_shop, tiny_says, (refl, refl)))
+
+abbrev published : Text → Kind → ℕ → Published
+published code kind capacity = record { code = code; kind = kind; capacity = capacity }
+
+abbrev tiny_plan : Plan
+tiny_plan = record { desk = north; n = 1; kind = Shop; name = codes "-"; body = tiny; start = []; days = [] }
+
+-- a desk with this shop, whose machine is bound to a code of capacity 0
+abbrev tiny_desk : View
+tiny_desk = record {
+  office = [];
+  published = published crew_a Crew 2 ∷ published (codes "m-1") Machine 0 ∷ published (codes "m-2") Machine 1 ∷ [];
+  desk = Some (desk_row north 2);
+  plans = tiny_plan ∷ [];
+  binds = bound north 1 0 (codes "m-1") ∷ [];
+  lags = [];
+}
+
+abbrev bind_call : Text → Call
+bind_call body = call.bind north (codes "1") body
+
+-- machine 0 is bound to another code
+machine_bound : (key : Option Text) → admits tiny_desk (asks key (bind_call (codes "{\"code\":\"m-2\",\"place\":0}"))) ≡ true
+    → IsDecision tiny_desk (asks key (bind_call (codes "{\"code\":\"m-2\",\"place\":0}")))
+    (said 200 Json (codes "{\"code\":\"m-2\",\"place\":0}\n")) (BindPlace 1 0 (codes "m-2"))
+unfolding Binds of_plan given some unless makes digits bind_body is_utf8 chars serde_json_on_literals
+machine_bound key open_ = admitted _ key _ _ _ open_ (1, (tiny_shop, tiny_says, refl), (refl, refl))
+
+-- the shop has no machine 1
+no_machine_1 : (key : Option Text) → admits tiny_desk (asks key (bind_call (codes "{\"code\":\"m-2\",\"place\":1}"))) ≡ true
+    → IsDecision tiny_desk (asks key (bind_call (codes "{\"code\":\"m-2\",\"place\":1}"))) body_refused Keep
+unfolding Binds of_plan given some refuses bind_body is_utf8 chars serde_json_on_literals
+no_machine_1 key open_ = admitted _ key _ _ _ open_ (1, (tiny_shop, tiny_says, refl), (refl, refl))
+
+-- a code that isn't published
+code_unknown : (key : Option Text) → admits tiny_desk (asks key (bind_call (codes "{\"code\":\"m-3\",\"place\":0}"))) ≡ true
+    → IsDecision tiny_desk (asks key (bind_call (codes "{\"code\":\"m-3\",\"place\":0}")))
+    (said 404 Plain (codes "E05 code not published\n")) Keep
+unfolding Binds of_plan given some unless refuses bind_body is_utf8 chars serde_json_on_literals
+code_unknown key open_ = admitted _ key _ _ _ open_ (1, (tiny_shop, tiny_says, refl), (refl, refl))
+
+-- a crew is no machine
+crew_on_machine : (key : Option Text) → admits tiny_desk (asks key (bind_call (codes "{\"code\":\"crew-a\",\"place\":0}"))) ≡ true
+    → IsDecision tiny_desk (asks key (bind_call (codes "{\"code\":\"crew-a\",\"place\":0}")))
+    (said 409 Plain (codes "E06 kind differs\n")) Keep
+unfolding Binds of_plan given some unless refuses bind_body is_utf8 chars serde_json_on_literals
+crew_on_machine key open_ = admitted _ key _ _ _ open_ (1, (tiny_shop, tiny_says, refl), (refl, refl))
