@@ -1,11 +1,11 @@
 -- An office that has the rows of one desk alone keeps the rules of rows.
-use Rattle.std.proofs.Common.{◌≡◌, ℕ, ◌≤◌, ◌<◌, Bool, true, false, List, [], ◌∷◌, filter, length, Option, Some, None, refl, sym, ap, ◌∙◌, subst, arith}
+use Rattle.std.proofs.Common.{◌≡◌, ℕ, ◌≤◌, ◌<◌, Bool, true, List, [], ◌∷◌, filter, length, Option, Some, None, refl, sym, subst, arith}
 use Rattle.std.specs.Prelude.{find, option_to_list, ◌==◌}
 use Rattle.std.specs.List.{AllByRecursion}
 use Rattle.std.proofs.lemmas.Bool.{and_parts}
-use Rattle.plan_desk.specs.World.{Text, Desk, Plan, Bind, Lag, World, same_text, is_desk, is_plan_of, is_bind_by, is_lag_by, is_plan, is_bind, is_lag, desk_in, plan_in}
+use Rattle.plan_desk.specs.World.{Text, Desk, Plan, World, same_text, is_desk, is_plan_of, is_bind_by, is_lag_by, is_plan, is_bind, is_lag, desk_in, plan_in}
 use Rattle.plan_desk.specs.Views.{view, alone}
-use Rattle.plan_desk.specs.Rules.{AllDiffer, IsThereAnd, is_desk_row, IsPlanRow, IsBindRow, IsLagRow, IsOwned, IsWorld}
+use Rattle.plan_desk.specs.Rules.{AllDiffer, IsThereAnd, is_desk_row, IsPlanRow, IsBindRow, IsLagRow, IsOwned}
 use Rattle.plan_desk.specs.Laws.{AloneKeepsRules}
 use Rattle.plan_desk.proofs.RowLemmas.{find_again}
 use Rattle.plan_desk.proofs.OwnerLemmas.{text_from_same}

@@ -1,5 +1,5 @@
 -- Worked examples of an office, computed from the definitions: names, bodies, changes, decisions.
-use Rattle.std.proofs.Common.{◌≡◌, ℕ, zero, suc, Bool, true, false, List, [], ◌∷◌, ◌++◌, Option, Some, None, codes, inr, refl, sym, subst}
+use Rattle.std.proofs.Common.{◌≡◌, ℕ, zero, suc, true, false, List, [], ◌∷◌, ◌++◌, Option, Some, None, codes, inr, refl, sym, subst}
 use Rattle.std.specs.Fmt.{digits}
 use Rattle.std.specs.Str.{is_utf8, chars}
 use Rattle.sha2.specs.Sha256.{sha256}
@@ -18,9 +18,9 @@ use Rattle.plan_desk.specs.declared.kinds.PlanKind.{PlanKind}
 use Rattle.plan_desk.specs.declared.kinds.ReplyKind.{ReplyKind}
 use Rattle.plan_desk.specs.declared.kinds.ReplyKind.TheVariants.{Plain, Json}
 use Rattle.plan_desk.specs.declared.kinds.PlanKind.TheVariants.{Project, Shop}
-use Rattle.plan_desk.specs.World.{Text, Published, Desk, Plan, Bind, Lag, World, empty_world}
+use Rattle.plan_desk.specs.World.{Text, Published, Desk, Plan, Bind, Lag, World}
 use Rattle.plan_desk.specs.Views.{View, view}
-use Rattle.plan_desk.specs.Names.{is_name, is_key, is_from_to}
+use Rattle.plan_desk.specs.Names.{is_name, is_key}
 use Rattle.plan_desk.specs.Plans.{plan_number, is_place}
 use Rattle.plan_desk.specs.Bodies.{publish_body, desk_body, desk_named, key_body, bind_body, calendar_body, lag_body}
 use Rattle.plan_desk.specs.Changes.{Change, Keep, Publish, OpenDesk, SetKey, AddPlan, RemovePlan, BindPlace, SetCalendar, SetLag, apply}

@@ -1,27 +1,23 @@
 -- What a request makes fits: each answer's change keeps the rules of rows.
-use Rattle.std.proofs.Common.{◌≡◌, ℕ, zero, suc, ◌+◌, ◌*◌, ◌/◌, ◌^◌, ◌≤◌, ◌<◌, ◌⊎◌, inl, inr, Bool, true, false, cond, ◌&&◌, ◌||◌, not, List, [], ◌∷◌, ◌++◌, filter, length, Option, Some, None, refl, sym, ap, ◌∙◌, subst, arith}
-use Rattle.std.specs.Prelude.{find, option_map, option_and_then, unwrap_or, is_some, if◌then◌else◌, ◌==◌, nat_le, nat_lt, codes, slice_index}
+use Rattle.std.proofs.Common.{◌≡◌, ℕ, zero, suc, ◌/◌, ◌^◌, ◌≤◌, ◌<◌, ◌⊎◌, inl, inr, Bool, true, false, not, List, [], ◌∷◌, filter, length, Option, Some, None, refl, sym, ap, ◌∙◌, subst, arith}
+use Rattle.std.specs.Prelude.{find, option_map, option_and_then, unwrap_or, is_some, ◌==◌, nat_le, nat_lt, codes, slice_index}
 use Rattle.std.specs.Int.{w32, to_be_bytes, bytes_high_first, byte_at}
-use Rattle.std.specs.List.{list_any, list_all, AllByRecursion}
-use Rattle.std.proofs.lemmas.Bool.{cases_Bool, cond-true, cond-false, both_ways, and_parts, and_from, leb-false, lt-ltb, eqb-true, eq-eqb, not-true, not-false, not_from_false}
+use Rattle.std.specs.List.{list_all, AllByRecursion}
+use Rattle.std.proofs.lemmas.Bool.{cases_Bool, cond-true, cond-false, both_ways, and_from, leb-false, lt-ltb, eqb-true, eq-eqb, not-false}
 use Rattle.std.proofs.lemmas.List.Folds.{list_all-append}
 use Rattle.std.proofs.lemmas.Nat.{mod_below}
 use Rattle.sha2.specs.Sha256.{sha256, digest_bytes, final_hash, initial_hash_256}
 use Rattle.sha2.proofs.Facts256.{length-sha256}
 use Rattle.serde_json.specs.Data.{Data}
 use Rattle.plan_gantt.specs.WorkingDay.{Workdays}
-use Rattle.plan_gantt.specs.CalendarText.{IsCalendar}
 use Rattle.plan_psplib.specs.Project.{Project, SaysProject}
-use Rattle.plan_orlib.specs.Shop as docs
-use Rattle.plan_orlib.specs.Says.{Says}
 use Rattle.plan_desk.specs.declared.kinds.Kind.{Kind}
-use Rattle.plan_desk.specs.declared.kinds.Kind.TheVariants.{Crew, Machine}
 use Rattle.plan_desk.specs.declared.kinds.PlanKind.{PlanKind}
 use Rattle.plan_desk.specs.declared.kinds.PlanKind.TheVariants as kinds
-use Rattle.plan_desk.specs.World.{Text, Digest, Published, Desk, Plan, World, same_text, same_kind, takes, is_plan_of, is_plan, code_in, desk_in, plan_in}
+use Rattle.plan_desk.specs.World.{Text, Published, Desk, Plan, World, same_kind, takes, is_plan_of, is_plan, code_in, desk_in, plan_in}
 use Rattle.plan_desk.specs.Names.{is_name, is_key, is_digest, is_from_to}
 use Rattle.plan_desk.specs.Bodies.{json, passing, text_in, number_in, any_text, kind_named, PublishBody, publish_members, publish_body, DeskBody, desk_members, desk_body, desk_named, BindBody, bind_members, bind_body, LagBody, lag_members, lag_body}
-use Rattle.plan_desk.specs.Changes.{Change, Keep, Publish, OpenDesk, SetKey, AddPlan, RemovePlan, BindPlace, SetCalendar, SetLag, new_bind, apply}
+use Rattle.plan_desk.specs.Changes.{Change, Keep, apply}
 use Rattle.plan_desk.specs.Views.{View, view}
 use Rattle.plan_desk.specs.Calls.{Call, publish, open_desk, set_key, capacities, plans, import_project, import_shop, remove, bind, set_calendar, set_lag, dates, schedule, chart, days, best, Request, Reply, subject, admits}
 use Rattle.plan_desk.specs.Stories.{decided}
@@ -36,7 +32,7 @@ use Rattle.plan_desk.specs.Rules.{IsThereAnd, HasName, IsWorld}
 use Rattle.plan_desk.specs.Laws.{StepsKeepRules}
 use Rattle.plan_desk.proofs.RuleLemmas.{found_has}
 use Rattle.plan_desk.proofs.StoryLemmas.{decided_rest, decided_keeps}
-use Rattle.plan_desk.proofs.KeepLemmas.{Fits, HasLagArc, fits_keeps}
+use Rattle.plan_desk.proofs.KeepLemmas.{Fits, fits_keeps}
 
 -- ---- a digest is one
 

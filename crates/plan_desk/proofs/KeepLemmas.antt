@@ -1,8 +1,8 @@
 -- A change that fits keeps the rules of rows.
-use Rattle.std.proofs.Common.{◌≡◌, ℕ, ◌+◌, ◌≤◌, ◌<◌, ◌⊎◌, inl, inr, Bool, true, false, cond, ◌&&◌, not, List, [], ◌∷◌, ◌++◌, map, filter, length, Option, Some, None, refl, sym, ap, ◌∙◌, subst, arith}
-use Rattle.std.specs.Prelude.{find, option_map, if◌then◌else◌, ◌==◌, nat_le}
-use Rattle.std.specs.List.{list_any, AllByRecursion}
-use Rattle.std.proofs.lemmas.Bool.{cases_Bool, cond-true, cond-false, both_ways, and_parts, and_from, and_left, leb-true, le-leb, eqb-true, eq-eqb, not-true, cases_order}
+use Rattle.std.proofs.Common.{◌≡◌, ℕ, ◌+◌, ◌≤◌, ◌<◌, ◌⊎◌, inl, inr, Bool, true, false, ◌&&◌, not, [], ◌∷◌, ◌++◌, filter, length, Some, None, refl, sym, ap, ◌∙◌, subst, arith}
+use Rattle.std.specs.Prelude.{option_map, ◌==◌, nat_le}
+use Rattle.std.specs.List.{AllByRecursion}
+use Rattle.std.proofs.lemmas.Bool.{cases_Bool, cond-true, cond-false, both_ways, and_parts, and_from, leb-true, le-leb, eqb-true, eq-eqb, not-true, cases_order}
 use Rattle.std.proofs.lemmas.List.{length-map, length-append}
 use Rattle.std.proofs.lemmas.List.Elements.{filter-append}
 use Rattle.std.proofs.lemmas.Slice.Eq.{bytes_eq-Decides}
@@ -12,15 +12,14 @@ use Rattle.plan_psplib.specs.Project.{Project, SaysProject}
 use Rattle.plan_desk.specs.declared.kinds.Kind.{Kind}
 use Rattle.plan_desk.specs.declared.kinds.PlanKind.{PlanKind}
 use Rattle.plan_desk.specs.declared.kinds.PlanKind.TheVariants as kinds
-use Rattle.plan_desk.specs.World.{Text, Digest, Published, Desk, Plan, Bind, Lag, World, same_text, same_kind, takes, is_code, is_desk, is_plan_of, is_plan, is_bind_by, is_bind_of, is_bind, is_lag_by, is_lag_of, is_lag, code_in, desk_in, plan_in}
+use Rattle.plan_desk.specs.World.{Text, Digest, Published, Desk, Plan, Bind, Lag, World, same_text, same_kind, takes, is_code, is_desk, is_plan_of, is_plan, is_bind_by, is_bind_of, is_bind, is_lag_of, is_lag, code_in, desk_in, plan_in}
 use Rattle.plan_desk.specs.Names.{is_name, is_digest, is_from_to}
 use Rattle.plan_desk.specs.Changes.{Change, Keep, Publish, OpenDesk, SetKey, AddPlan, RemovePlan, BindPlace, SetCalendar, SetLag, changed, put, without, apply, new_code, with_capacity, new_desk, with_digest, risen, next_of, new_plan, with_calendar, new_bind, with_code, new_lag, with_lag, lags_after}
-use Rattle.plan_desk.specs.OfficeRoutes.{is_other_kind}
 use Rattle.plan_desk.specs.Plans.{HasPlaces, is_place}
 use Rattle.plan_desk.specs.PlanRoutes.{has_arc}
-use Rattle.plan_desk.specs.Rules.{AllDiffer, IsThereAnd, is_published_row, is_desk_row, HasName, HasCalendar, IsPlanRow, IsBindRow, IsLagRow, IsOwned, IsWorld}
+use Rattle.plan_desk.specs.Rules.{AllDiffer, IsThereAnd, is_published_row, is_desk_row, HasName, IsPlanRow, IsBindRow, IsLagRow, IsOwned, IsWorld}
 use Rattle.plan_desk.proofs.RowLemmas.{filter_none, change_of, filter-changed, find-changed, all_weaker}
-use Rattle.plan_desk.proofs.OwnerLemmas.{text_from_same, same_text_refl}
+use Rattle.plan_desk.proofs.OwnerLemmas.{text_from_same}
 use Rattle.plan_desk.proofs.RuleLemmas.{all_append, all_filter, all_changed, all_put, differ_changed, differ_append, differ_filter, differ_put, found_has, there_append, there_changed, there_put, there_map, find_kept, find_none, all_found, all_both, length_fewer}
 
 -- the plan of a lag is a project, there and with the arc

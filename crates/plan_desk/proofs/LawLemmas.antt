@@ -1,11 +1,6 @@
 -- The laws of stories, for all routes.
-use Rattle.std.proofs.Common.{◌≡◌, ◌⊎◌, false, List}
-use Rattle.plan_desk.specs.World.{Text, World}
-use Rattle.plan_desk.specs.Changes.{Change}
-use Rattle.plan_desk.specs.Views.{View, view}
-use Rattle.plan_desk.specs.Calls.{Request, Reply, subject, admits}
-use Rattle.plan_desk.specs.Stories.{belongs}
-use Rattle.plan_desk.specs.Decisions.{Answers, IsDecision, IsStep, IsRealStep, IsRun, AreTold, IsStoryOf, IsWanting}
+use Rattle.plan_desk.specs.Calls.{admits}
+use Rattle.plan_desk.specs.Decisions.{Answers, IsDecision, IsRealStep, IsRun, AreTold, IsStoryOf, IsWanting}
 use Rattle.plan_desk.specs.Laws.{OneDecision, OutsideIsUnseen, DesksAreApart, ToldIsStory, StoriesAreToldAlike}
 use Rattle.plan_desk.proofs.StoryLemmas.{KeepsApart, decided_once, step_hidden, told, story_or_want, told_alike}
 use Rattle.plan_desk.proofs.QuietLemmas.{quiet, frugal, nameless}

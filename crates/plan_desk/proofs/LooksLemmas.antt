@@ -1,19 +1,18 @@
 -- What decisions look at is the same in two views that have the same rows.
-use Rattle.std.proofs.Common.{◌≡◌, ℕ, zero, suc, ◌+◌, ◌<◌, ◌≤◌, ◌⊎◌, inl, inr, Bool, true, false, cond, ◌&&◌, ◌||◌, List, [], ◌∷◌, ◌++◌, map, filter, length, Option, Some, None, refl, sym, ap, ◌∙◌, subst, arith}
-use Rattle.std.specs.Prelude.{find, option_map, option_and_then, option_to_list, ◌==◌, nat_lt, IsPermutation, slice_index_or, Contains, codes}
+use Rattle.std.proofs.Common.{◌≡◌, ℕ, zero, suc, ◌<◌, ◌≤◌, ◌⊎◌, inl, inr, Bool, true, false, ◌&&◌, List, [], ◌∷◌, ◌++◌, map, filter, length, Option, Some, None, refl, sym, ap, ◌∙◌, subst, arith}
+use Rattle.std.specs.Prelude.{find, option_and_then, option_to_list, ◌==◌, nat_lt, IsPermutation, Contains, codes}
 use Rattle.std.specs.List.{AllByRecursion}
 use Rattle.std.specs.Ordering.{nat_cmp, is_lt, ordering_reverse}
 use Rattle.std.specs.declared.cmp.Ordering.{Ordering}
 use Rattle.std.specs.declared.cmp.Ordering.TheVariants.{Less, Equal, Greater}
-use Rattle.std.specs.Cmp.{IsTotalOrder}
 use Rattle.std.specs.Cmp.Lexicographic.{slice_cmp, nat_list_cmp_total}
 use Rattle.std.proofs.lemmas.Map.Text.{is_eq-slice_cmp}
 use Rattle.std.specs.Ordering.{is_eq}
-use Rattle.std.proofs.lemmas.Bool.{cases_Bool, both_ways, and_parts, and_from, eqb-true, eq-eqb, ltb-true, lt-ltb, le-ltb, cases_order, false_from_ne_true, or_cases, or_left, or_right, or_from, and_left}
+use Rattle.std.proofs.lemmas.Bool.{cases_Bool, both_ways, and_parts, and_from, eqb-true, eq-eqb, ltb-true, lt-ltb, le-ltb, cases_order, false_from_ne_true, or_cases, or_left, or_right}
 use Rattle.std.proofs.lemmas.List.Sorted.{Contains-permutation, IsPermutation-sym}
-use Rattle.plan_desk.specs.World.{Text, Published, Desk, Plan, Bind, Lag, same_text, is_code, is_desk, is_plan, is_bind, is_lag, code_in, desk_in, plan_in}
+use Rattle.plan_desk.specs.World.{Text, Published, Desk, Plan, Bind, Lag, same_text, is_code, is_desk, is_plan, is_bind, is_lag, code_in, plan_in}
 use Rattle.plan_desk.specs.Views.{View, Agree, alone}
-use Rattle.plan_desk.specs.Plans.{in_order, has_number, plan_number, plan_seen, lag_before, arc_of, lags_of, is_bound_at, code_at}
+use Rattle.plan_desk.specs.Plans.{has_number, plan_number, plan_seen, lag_before, arc_of, lags_of, is_bound_at, code_at}
 use Rattle.plan_desk.specs.JsonTexts.{code_text, code_before, codes_text, plan_text, plan_before, plans_text, separated}
 use Rattle.plan_desk.specs.Rules.{AllDiffer, IsThereAnd, IsOwned, IsBindRow, IsLagRow, IsWorld}
 use Rattle.plan_desk.proofs.OwnerLemmas.{text_from_same, same_text_refl}

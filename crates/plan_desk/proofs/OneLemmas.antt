@@ -1,48 +1,37 @@
 -- One decision: a view and a request have one reply and one change at most.
-use Rattle.std.proofs.Common.{◌≡◌, ℕ, ◌⊎◌, inl, inr, Bool, true, false, List, Option, Some, None, length, refl, sym, ap, ◌∙◌, subst}
-use Rattle.plan_psplib.specs.Project.{Project}
-use Rattle.plan_psplib.specs.Project as files
+use Rattle.std.proofs.Common.{◌≡◌, ℕ, inl, inr, Bool, List, length, sym, ap, ◌∙◌, subst}
 use Rattle.plan_psplib.proofs.OnceLemmas as psplib
-use Rattle.plan_orlib.specs.Shop as docs
-use Rattle.plan_orlib.specs.Says.{Says}
 use Rattle.plan_orlib.proofs.OnceLemmas as orlib
-use Rattle.plan_sgs.specs.Problem.{NeedsFit}
-use Rattle.plan_sgs.specs.Instances.{Planned, problem_of, RefusesInstance}
+use Rattle.plan_sgs.specs.Instances.{Planned, problem_of}
 use Rattle.plan_sgs.proofs.OnceLemmas as sgs
 use Rattle.plan_shop.specs.Shop.{JobShop}
 use Rattle.plan_shop.specs.Docs.{shop_of, NoneIsClosed}
 use Rattle.plan_shop.specs.declared.fault.ShopFault.TheVariants as shop_fault
 use Rattle.plan_shop.proofs.OnceLemmas as shops
-use Rattle.plan_gantt.specs.FirstFaults.{TellsFirstFailing, TellsFirstShopFault}
 use Rattle.plan_gantt.specs.WorkingDay.{Workdays}
-use Rattle.plan_gantt.specs.CalendarText.{IsCalendar}
-use Rattle.plan_gantt.specs.CalendarTable.{IsCalendarTable, HasActivityBeyond}
-use Rattle.plan_gantt.specs.ShopCharts.{IsShopCalendarTable, HasStepBeyond}
 use Rattle.plan_gantt.specs.CalendarFaultText.{calendar_fault_text_of}
-use Rattle.plan_gantt.specs.DateTable.{IsDateText}
 use Rattle.plan_gantt.specs.ScheduleText.{IsSchedule, TellsRefusal}
 use Rattle.plan_shop.specs.Names as shop_names
 use Rattle.plan_shop.specs.declared.rule.ShopRule.{ShopRule}
 use Rattle.plan_gantt.proofs.ProjectOnceLemmas as projects
 use Rattle.plan_gantt.specs.ShopText.{rule_starts, TellsNoRule}
 use Rattle.plan_gantt.specs.ShopFaultText.{shop_fault_text_of}
-use Rattle.plan_gantt.specs.ShopBestText.{IsBestTextOf, TellsBestRefusal}
+use Rattle.plan_gantt.specs.ShopBestText.{IsBestTextOf}
 use Rattle.plan_gantt.proofs.OnceLemmas as once
 use Rattle.plan_gantt.proofs.CalendarOnceLemmas as calendars
 use Rattle.plan_desk.specs.declared.kinds.PlanKind.{PlanKind}
 use Rattle.plan_desk.specs.declared.kinds.PlanKind.TheVariants as kinds
 use Rattle.plan_desk.specs.World.{Text, Published, Plan}
-use Rattle.plan_desk.specs.Changes.{Change, AddPlan}
 use Rattle.plan_desk.specs.Views.{View}
-use Rattle.plan_desk.specs.Calls.{Call, publish, open_desk, set_key, capacities, plans, import_project, import_shop, remove, bind, set_calendar, set_lag, dates, schedule, chart, days, best, Reply}
-use Rattle.plan_desk.specs.Outcomes.{Outcome, refuses, tells, shows, makes, unless, given, some, why_or}
+use Rattle.plan_desk.specs.Calls.{Call, publish, open_desk, set_key, capacities, plans, import_project, import_shop, remove, bind, set_calendar, set_lag, dates, schedule, chart, days, best}
+use Rattle.plan_desk.specs.Outcomes.{Outcome}
 use Rattle.plan_desk.specs.Plans.{lagged_by, lags_of, IsProjectOf, IsShopOf, bound_project, open_machines, HasPlaces}
 use Rattle.plan_desk.specs.OfficeRoutes.{Publishes, Opens, SetsKey}
 use Rattle.plan_desk.specs.PlanRoutes.{of_plan, by_kind, Imports, ImportsProject, ImportsShop, Removes, Binds, TellsTexts, Calendars, SetsLag}
 use Rattle.plan_desk.specs.PageRoutes.{Dates, IsScheduleBy, OfSchedule, TellsClosed, TellsShopRefusal, IsShopScheduleBy, OfShopSchedule, Schedules, Charts, TellsBeyond, ShowsDays, OfCalendar, Days}
 use Rattle.plan_desk.specs.BestRoutes.{OfProjectBest, TellsNoShopBest, OfShopBest, Best}
 use Rattle.plan_desk.specs.Decisions.{Answers}
-use Rattle.plan_desk.proofs.OutcomeLemmas.{IsOne, AreOne, IsUnique, one_refuses, one_tells, one_shows, one_makes, one_unless, one_given, one_some, one_unique, one_why_or, one_known}
+use Rattle.plan_desk.proofs.OutcomeLemmas.{IsOne, IsUnique, one_refuses, one_tells, one_shows, one_makes, one_unless, one_given, one_some, one_unique, one_why_or, one_known}
 
 -- ---- what a plan is worked out from
 

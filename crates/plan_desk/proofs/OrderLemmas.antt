@@ -1,11 +1,10 @@
 -- The order in which rows were written makes no difference: to a decision, to a step, and to a story.
-use Rattle.std.proofs.Common.{◌≡◌, ℕ, ◌⊎◌, inl, inr, Bool, true, false, cond, List, [], ◌∷◌, ◌++◌, Option, Some, None, refl, sym, ap, ◌∙◌, subst}
+use Rattle.std.proofs.Common.{◌≡◌, ℕ, ◌⊎◌, inl, inr, Bool, true, false, List, [], ◌∷◌, ◌++◌, sym, ap, ◌∙◌, subst}
 use Rattle.std.specs.Prelude.{find, option_to_list, if◌then◌else◌, ◌==◌}
 use Rattle.std.proofs.lemmas.Bool.{cases_Bool, cond-true, cond-false}
-use Rattle.plan_desk.specs.World.{Text, Digest, Published, Desk, Plan, Bind, Lag, World, is_code, is_desk, is_plan_of, is_bind_by, is_lag_by, is_plan, is_bind_of, is_bind, is_lag_of, is_lag, desk_in}
+use Rattle.plan_desk.specs.World.{Text, Lag, World, is_code, is_desk, is_plan_of, is_bind_by, is_lag_by, is_plan, is_bind, is_lag, desk_in}
 use Rattle.plan_desk.specs.Changes.{Change, Keep, Publish, OpenDesk, SetKey, AddPlan, RemovePlan, BindPlace, SetCalendar, SetLag, changed, put, without, apply, new_code, with_capacity, new_desk, with_digest, risen, next_of, new_plan, with_calendar, new_bind, with_code, new_lag, with_lag, lags_after}
-use Rattle.plan_desk.specs.declared.kinds.PlanKind.{PlanKind}
-use Rattle.plan_desk.specs.Views.{View, view, alone, Agree}
+use Rattle.plan_desk.specs.Views.{View, view, alone}
 use Rattle.plan_desk.specs.Names.{has_key, unlocks}
 use Rattle.plan_desk.specs.Calls.{Request, Reply, subject, is_of_office, admits}
 use Rattle.plan_desk.specs.Stories.{decided}

@@ -1,13 +1,12 @@
 -- Rows that have owners: what an owner sees of a change of the rows of one owner.
-use Rattle.std.proofs.Common.{◌≡◌, ℕ, ◌⊎◌, inl, inr, Bool, true, false, cond, not, List, [], ◌∷◌, ◌++◌, filter, refl, sym, ap, ◌∙◌, subst, append-nil, arith}
-use Rattle.std.specs.Prelude.{if◌then◌else◌}
+use Rattle.std.proofs.Common.{◌≡◌, ◌⊎◌, inl, inr, Bool, true, false, not, List, [], ◌∷◌, ◌++◌, filter, refl, sym, ap, ◌∙◌, subst, append-nil}
 use Rattle.std.specs.List.{list_any, AllByRecursion}
 use Rattle.std.proofs.lemmas.Bool.{cases_Bool, cond-true, cond-false, both_ways, false_from_ne_true}
 use Rattle.std.proofs.lemmas.List.Elements.{filter-append}
 use Rattle.std.proofs.lemmas.Slice.Eq.{bytes_eq-Decides}
 use Rattle.plan_desk.specs.World.{Text, same_text}
 use Rattle.plan_desk.specs.Changes.{changed, put, without}
-use Rattle.plan_desk.proofs.RowLemmas.{filter_again, filter_swap, filter_all, filter-changed, changed_none, all_filtered, all_weaker, list_any_none, list_any-filter}
+use Rattle.plan_desk.proofs.RowLemmas.{filter_again, filter_swap, filter_all, filter-changed, changed_none, all_filtered, all_weaker, list_any-filter}
 
 -- equal texts are one
 pub text_from_same : (a b : Text) → same_text a b ≡ true → a ≡ b

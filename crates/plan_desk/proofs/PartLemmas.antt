@@ -1,17 +1,17 @@
 -- Views that look alike are answered alike.
-use Rattle.std.proofs.Common.{◌≡◌, ℕ, zero, suc, ◌+◌, ◌⊎◌, inl, inr, Bool, true, false, not, List, [], ◌∷◌, ◌++◌, length, Option, Some, None, refl, sym, ap, ◌∙◌, subst}
+use Rattle.std.proofs.Common.{◌≡◌, ℕ, zero, suc, ◌+◌, Bool, true, false, not, List, [], ◌∷◌, ◌++◌, Option, Some, None, refl, ap, ◌∙◌, subst}
 use Rattle.std.specs.Prelude.{option_map, unwrap_or, is_some, nat_le}
 use Rattle.plan_psplib.specs.Project.{Project}
 use Rattle.plan_sgs.specs.Instances.{Planned, planned}
 use Rattle.plan_shop.specs.Shop.{JobShop}
 use Rattle.plan_desk.specs.declared.kinds.PlanKind.{PlanKind}
 use Rattle.plan_desk.specs.declared.kinds.PlanKind.TheVariants as kinds
-use Rattle.plan_desk.specs.World.{Text, Plan, takes, code_in}
+use Rattle.plan_desk.specs.World.{Text, Plan, takes}
 use Rattle.plan_desk.specs.Changes.{Change}
 use Rattle.plan_desk.specs.Views.{View}
 use Rattle.plan_desk.specs.Calls.{Call, publish, open_desk, set_key, capacities, plans, import_project, import_shop, remove, bind, set_calendar, set_lag, dates, schedule, chart, days, best, Reply}
-use Rattle.plan_desk.specs.Outcomes.{Outcome, refuses, tells, shows, makes, unless, given, some, why_or}
-use Rattle.plan_desk.specs.Plans.{plan_seen, code_at, lags_of, lagged_by, IsProjectOf, capacities_from, bound_project, is_open, open_machines, IsShopOf}
+use Rattle.plan_desk.specs.Outcomes.{Outcome, tells, shows, makes, unless, given, some, why_or}
+use Rattle.plan_desk.specs.Plans.{code_at, lagged_by, IsProjectOf, capacities_from, bound_project, is_open, open_machines}
 use Rattle.plan_desk.specs.OfficeRoutes.{is_other_kind, Publishes, Opens, SetsKey}
 use Rattle.plan_desk.specs.PlanRoutes.{of_plan, by_kind, Imports, ImportsProject, ImportsShop, Removes, Binds, Calendars, SetsLag}
 use Rattle.plan_gantt.specs.ScheduleText.{TellsRefusal}

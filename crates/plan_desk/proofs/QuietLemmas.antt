@@ -1,23 +1,21 @@
 -- No call but that of the publishing route publishes, publishing looks at the codes alone, and a
 -- body that names no desk opens none.
-use Rattle.std.proofs.Common.{◌≡◌, ℕ, ◌⊎◌, inl, inr, Bool, true, false, List, Option, Some, None, refl, sym, ap, ◌∙◌, subst, arith}
+use Rattle.std.proofs.Common.{◌≡◌, ℕ, Bool, true, false, List, Option, Some, None, refl, subst, arith}
 use Rattle.std.proofs.lemmas.Bool.{both_ways}
-use Rattle.std.specs.Prelude.{option_map, option_and_then, codes}
+use Rattle.std.specs.Prelude.{option_and_then, codes}
 use Rattle.serde_json.specs.Data.{Data}
-use Rattle.plan_desk.specs.World.{Text, Published, Plan}
+use Rattle.plan_desk.specs.World.{Text, Plan}
 use Rattle.plan_desk.specs.Changes.{Change, Keep, is_publishing}
 use Rattle.plan_desk.specs.Views.{View}
-use Rattle.plan_desk.specs.Names.{is_name, is_key}
-use Rattle.plan_desk.specs.Bodies.{json, passing, text_in, any_text, desk_members, desk_body, desk_named}
+use Rattle.plan_desk.specs.Names.{is_name}
+use Rattle.plan_desk.specs.Bodies.{json, text_in, any_text, desk_members, desk_body, desk_named}
 use Rattle.plan_desk.specs.Calls.{Call, publish, open_desk, set_key, capacities, plans, import_project, import_shop, remove, bind, set_calendar, set_lag, dates, schedule, chart, days, best, Reply, is_publish}
 use Rattle.plan_desk.specs.declared.kinds.PlanKind.{PlanKind}
 use Rattle.plan_desk.specs.declared.kinds.PlanKind.TheVariants as kinds
 use Rattle.plan_sgs.specs.Instances.{Planned}
 use Rattle.plan_shop.specs.Shop.{JobShop}
 use Rattle.plan_desk.specs.Plans.{bound_project}
-use Rattle.plan_desk.specs.Refusals.{bad_body}
-use Rattle.plan_desk.specs.Bodies.{DeskBody}
-use Rattle.plan_desk.specs.Outcomes.{Outcome, refuses, tells, shows, makes, unless, given, some, why_or}
+use Rattle.plan_desk.specs.Outcomes.{Outcome, refuses, given}
 use Rattle.plan_desk.specs.OfficeRoutes.{Publishes, Opens, SetsKey}
 use Rattle.plan_desk.specs.PlanRoutes.{of_plan, by_kind, Imports, ImportsProject, ImportsShop, Removes, Binds, Calendars, SetsLag}
 use Rattle.plan_desk.specs.PageRoutes.{Dates, OfSchedule, OfShopSchedule, Schedules, Charts, OfCalendar, Days}

@@ -1,9 +1,9 @@
 -- Lists of rows: what a filter and a search see of a changed list.
-use Rattle.std.proofs.Common.{◌≡◌, ℕ, ◌⊎◌, inl, inr, Bool, true, false, cond, ◌&&◌, ◌||◌, not, List, [], ◌∷◌, ◌++◌, map, filter, Option, Some, None, refl, sym, ap, ◌∙◌, append-nil, arith}
+use Rattle.std.proofs.Common.{◌≡◌, ◌⊎◌, inl, inr, Bool, true, false, List, [], ◌∷◌, ◌++◌, filter, Some, None, refl, arith}
 use Rattle.std.specs.Prelude.{find, option_map, option_to_list, if◌then◌else◌}
 use Rattle.std.specs.List.{list_any, AllByRecursion}
-use Rattle.std.proofs.lemmas.Bool.{cases_Bool, cond-true, cond-false, both_ways}
-use Rattle.plan_desk.specs.Changes.{changed, put, without}
+use Rattle.std.proofs.lemmas.Bool.{cases_Bool, cond-true, cond-false}
+use Rattle.plan_desk.specs.Changes.{changed}
 
 module _ {A : Type 0} where
   -- what a filter keeps, it keeps again

@@ -1,9 +1,9 @@
 -- Rules over lists of rows: what holds of each row, and that keys are there once, after rows were changed, added or dropped.
-use Rattle.std.proofs.Common.{◌≡◌, ℕ, ◌⊎◌, inl, inr, Bool, true, false, cond, ◌&&◌, ◌||◌, not, List, [], ◌∷◌, ◌++◌, map, filter, length, Option, Some, None, refl, sym, ap, ◌∙◌, subst, arith}
-use Rattle.std.specs.Prelude.{find, option_map, if◌then◌else◌, ◌≤◌}
+use Rattle.std.proofs.Common.{◌≡◌, ◌⊎◌, inl, inr, Bool, true, false, List, [], ◌∷◌, ◌++◌, filter, length, Option, Some, None, refl, sym, ◌∙◌, subst, arith}
+use Rattle.std.specs.Prelude.{find, option_map, ◌≤◌}
 use Rattle.std.specs.List.{list_any, AllByRecursion}
 use Rattle.std.proofs.lemmas.Bool.{cases_Bool, cond-true, cond-false, both_ways, or_parts}
-use Rattle.plan_desk.specs.Changes.{changed, put, without}
+use Rattle.plan_desk.specs.Changes.{changed, put}
 use Rattle.plan_desk.specs.Rules.{AllDiffer, IsThereAnd}
 use Rattle.plan_desk.proofs.RowLemmas.{change_of, find-changed}
 

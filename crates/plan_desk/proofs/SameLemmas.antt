@@ -1,12 +1,11 @@
 -- Lists of the same rows, in whatever order: what is found, sorted and counted in them is the same where keys are there once.
-use Rattle.std.proofs.Common.{◌≡◌, ℕ, ◌⊎◌, inl, inr, Bool, true, false, cond, ◌&&◌, ◌||◌, not, List, [], ◌∷◌, ◌++◌, map, filter, length, Option, Some, None, refl, sym, ap, ◌∙◌, subst, arith}
-use Rattle.std.specs.Prelude.{find, option_map, if◌then◌else◌, suc}
+use Rattle.std.proofs.Common.{◌≡◌, ◌⊎◌, inl, inr, Bool, true, false, List, [], ◌∷◌, ◌++◌, map, filter, Option, Some, None, refl, sym, ap, ◌∙◌, subst, arith}
+use Rattle.std.specs.Prelude.{find}
 use Rattle.std.specs.List.{list_any, AllByRecursion}
 use Rattle.std.proofs.lemmas.Bool.{cases_Bool, cond-true, cond-false, both_ways}
-use Rattle.plan_desk.specs.Changes.{changed, put, without}
-use Rattle.plan_desk.specs.Plans.{put_in_order, in_order}
+use Rattle.plan_desk.specs.Changes.{changed, put}
 use Rattle.plan_desk.specs.Rules.{AllDiffer}
-use Rattle.plan_desk.proofs.RowLemmas.{change_of, head_of_cons}
+use Rattle.plan_desk.proofs.RowLemmas.{change_of}
 use Rattle.plan_desk.proofs.RuleLemmas.{find_none}
 
 module _ {A : Type 0} where

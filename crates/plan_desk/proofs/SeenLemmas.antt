@@ -1,10 +1,10 @@
 -- What a desk sees of a change: the same, whether it is made in the whole office or in one that has
 -- the rows of the desk alone; and nothing, where it is made for another desk and no code is
 -- published.
-use Rattle.std.proofs.Common.{◌≡◌, ℕ, ◌⊎◌, inl, inr, Bool, true, false, cond, ◌&&◌, List, [], ◌∷◌, ◌++◌, filter, Option, Some, None, refl, sym, ap, ◌∙◌, subst, arith}
-use Rattle.std.specs.Prelude.{find, option_map, option_to_list, if◌then◌else◌, ◌==◌}
+use Rattle.std.proofs.Common.{◌≡◌, ℕ, ◌⊎◌, inl, inr, Bool, true, false, ◌&&◌, List, [], ◌∷◌, ◌++◌, filter, refl, sym, ap, ◌∙◌, subst}
+use Rattle.std.specs.Prelude.{find, option_map, option_to_list, ◌==◌}
 use Rattle.std.proofs.lemmas.Bool.{cases_Bool, cond-true, cond-false, both_ways, and_parts}
-use Rattle.plan_desk.specs.World.{Text, Digest, Published, Desk, Plan, Bind, Lag, World, same_text, is_desk, is_plan_of, is_bind_by, is_lag_by, is_plan, is_bind_of, is_bind, is_lag_of, is_lag, desk_in}
+use Rattle.plan_desk.specs.World.{Text, Desk, Plan, Bind, Lag, World, same_text, is_desk, is_plan_of, is_bind_by, is_lag_by, is_plan, is_bind_of, is_bind, is_lag_of, is_lag, desk_in}
 use Rattle.plan_desk.specs.Changes.{Change, Keep, Publish, OpenDesk, SetKey, AddPlan, RemovePlan, BindPlace, SetCalendar, SetLag, changed, put, without, apply, lags_after, is_publishing, next_of, new_desk, with_digest, risen, new_plan, with_calendar, new_bind, with_code, new_lag, with_lag}
 use Rattle.plan_desk.specs.Views.{View, view, alone}
 use Rattle.std.specs.Option.{option_or}

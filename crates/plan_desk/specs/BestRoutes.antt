@@ -1,7 +1,7 @@
 -- What is answered to a desk's questions for a best schedule (docs/DEFINITIONS.md, "Desks"): the
 -- answer that the definition of the search fixes, an active schedule, and one of least makespan
 -- among all feasible ones where it is called optimal.
-use Rattle.std.specs.Prelude.{◌≡◌, ◌⊎◌, ℕ, Bool, List}
+use Rattle.std.specs.Prelude.{◌≡◌, ◌⊎◌, Bool, List}
 use Rattle.plan_shop.specs.Shop.{JobShop}
 use Rattle.plan_shop.specs.Docs.{NoneIsClosed}
 use Rattle.plan_gantt.specs.ShopBestText.{IsBestTextOf, TellsBestRefusal}

@@ -1,5 +1,5 @@
 -- Bodies as code keeps them once they are judged.
-use Rattle.std.specs.Prelude.{ℕ, string_bytes}
+use Rattle.std.specs.Prelude.{string_bytes}
 use Rattle.plan_desk.specs.Bodies as bodies
 use Rattle.plan_desk.specs.declared.bodies.PublishBody.{PublishBody}
 use Rattle.plan_desk.specs.declared.bodies.DeskBody.{DeskBody}

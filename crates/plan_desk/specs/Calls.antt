@@ -1,8 +1,8 @@
 -- Requests and replies (docs/DEFINITIONS.md, "Desks").
-use Rattle.std.specs.Prelude.{ℕ, Bool, true, false, ◌&&◌, ◌||◌, if◌then◌else◌, List, [], ◌∷◌, ◌++◌, nat_lt, Option, Some, None, unwrap_or, codes}
+use Rattle.std.specs.Prelude.{ℕ, Bool, true, false, ◌&&◌, if◌then◌else◌, [], ◌∷◌, ◌++◌, nat_lt, Option, Some, None, unwrap_or, codes}
 use Rattle.plan_desk.specs.declared.kinds.ReplyKind.{ReplyKind}
 use Rattle.plan_desk.specs.declared.kinds.ReplyKind.TheVariants.{Plain, Json}
-use Rattle.plan_desk.specs.World.{Text, same_text}
+use Rattle.plan_desk.specs.World.{Text}
 use Rattle.plan_desk.specs.Names.{has_key, unlocks}
 use Rattle.plan_desk.specs.Bodies.{desk_named}
 use Rattle.plan_desk.specs.Views.{View}

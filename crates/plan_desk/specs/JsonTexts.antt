@@ -1,6 +1,6 @@
 -- The answers in JSON: objects without blanks, their members in the order of their names
 -- (docs/DEFINITIONS.md, "Desks"; RFC 8259). Names and kinds need no escape.
-use Rattle.std.specs.Prelude.{ℕ, Bool, ◌&&◌, nat_lt, List, [], ◌∷◌, ◌++◌, map, codes, decimal}
+use Rattle.std.specs.Prelude.{ℕ, Bool, nat_lt, List, [], ◌∷◌, ◌++◌, map, codes, decimal}
 use Rattle.std.specs.Cmp.Lexicographic.{slice_cmp}
 use Rattle.std.specs.Ordering.{nat_cmp, is_lt}
 use Rattle.plan_desk.specs.declared.kinds.Kind.{Kind}

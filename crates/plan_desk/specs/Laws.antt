@@ -3,7 +3,7 @@ use Rattle.std.specs.Prelude.{◌≡◌, ◌⊎◌, false, List}
 use Rattle.plan_desk.specs.World.{Text, World}
 use Rattle.plan_desk.specs.Changes.{Change}
 use Rattle.plan_desk.specs.Views.{View, view, alone, Agree}
-use Rattle.plan_desk.specs.Calls.{Request, Reply, subject}
+use Rattle.plan_desk.specs.Calls.{Request, Reply}
 use Rattle.plan_desk.specs.Stories.{belongs}
 use Rattle.plan_desk.specs.Decisions.{IsDecision, IsStep, IsRealStep, IsRun, AreTold, IsStoryOf, IsWanting}
 use Rattle.plan_desk.specs.Rules.{IsWorld}

@@ -2,14 +2,11 @@
 -- best schedules (docs/DEFINITIONS.md, "Desks"). Each is for a request with the desk's key. A
 -- project is planned with the lags of the desk and against the published capacities that are bound
 -- to its resources; a shop with the machines that are open.
-use Rattle.std.specs.Prelude.{◌≡◌, ◌⊎◌, ℕ, ◌<◌, Bool, true, List, [], length, nat_eq}
-use Rattle.plan_psplib.specs.Project.{Project}
+use Rattle.std.specs.Prelude.{◌≡◌, ◌⊎◌, ℕ, Bool, List, length, nat_eq}
 use Rattle.plan_sgs.specs.Problem.{makespan}
 use Rattle.plan_sgs.specs.Instances.{Planned, problem_of}
-use Rattle.plan_sgs.specs.Instances as instances
 use Rattle.plan_sgs.specs.Keys.{word_of}
 use Rattle.plan_sgs.specs.declared.rule.Rule.{Rule}
-use Rattle.plan_sgs.specs.declared.fault.SgsFault.{SgsFault}
 use Rattle.plan_shop.specs.Shop.{JobShop}
 use Rattle.plan_shop.specs.Shop as shops
 use Rattle.plan_shop.specs.Docs.{NoneIsClosed, IsFirstClosed}
@@ -17,7 +14,7 @@ use Rattle.plan_shop.specs.Names as shop_names
 use Rattle.plan_shop.specs.declared.rule.ShopRule.{ShopRule}
 use Rattle.plan_shop.specs.declared.fault.ShopFault.TheVariants as shop_fault
 use Rattle.plan_gantt.specs.DateTable.{IsDateText}
-use Rattle.plan_gantt.specs.ScheduleText.{IsSchedule, RefusesSchedule, TellsRefusal}
+use Rattle.plan_gantt.specs.ScheduleText.{IsSchedule, TellsRefusal}
 use Rattle.plan_gantt.specs.ScheduleTable.{schedule_table_text}
 use Rattle.plan_gantt.specs.ShopTable.{shop_table_text}
 use Rattle.plan_gantt.specs.ShopText.{rule_starts, TellsNoRule}

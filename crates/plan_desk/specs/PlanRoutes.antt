@@ -1,23 +1,20 @@
 -- What a desk's commands on its plans are answered (docs/DEFINITIONS.md, "Desks"). Each is for a
 -- request with the desk's key.
-use Rattle.std.specs.Prelude.{◌≡◌, ◌⊎◌, ℕ, Bool, not, nat_le, is_some, List, [], length, Option}
+use Rattle.std.specs.Prelude.{◌≡◌, ℕ, Bool, not, nat_le, is_some, [], length}
 use Rattle.std.specs.List.{list_any}
-use Rattle.jiff_core.specs.declared.civil.date.Date.{Date}
 use Rattle.plan_net.specs.Network.{Net, joins}
 use Rattle.plan_psplib.specs.Project.{Project}
 use Rattle.plan_psplib.specs.Project as files
-use Rattle.plan_orlib.specs.Shop as docs
 use Rattle.plan_orlib.specs.Says.{Says}
 use Rattle.plan_gantt.specs.FirstFaults.{TellsFirstFailing, TellsFirstShopFault}
-use Rattle.plan_gantt.specs.WorkingDay.{Workdays}
 use Rattle.plan_gantt.specs.CalendarText.{IsCalendar, RefusesTexts}
 use Rattle.plan_gantt.specs.CalendarFaultText.{calendar_fault_text_of}
 use Rattle.plan_gantt.specs.declared.calendar.CalendarFault.{CalendarFault}
 use Rattle.plan_desk.specs.declared.kinds.PlanKind.{PlanKind}
 use Rattle.plan_desk.specs.declared.kinds.PlanKind.TheVariants as kinds
-use Rattle.plan_desk.specs.World.{Text, Published, Desk, Plan, takes, code_in}
+use Rattle.plan_desk.specs.World.{Text, Plan, takes, code_in}
 use Rattle.plan_desk.specs.Changes.{AddPlan, RemovePlan, BindPlace, SetCalendar, SetLag}
-use Rattle.plan_desk.specs.Bodies.{LagBody, bind_body, calendar_body, lag_body}
+use Rattle.plan_desk.specs.Bodies.{bind_body, calendar_body, lag_body}
 use Rattle.plan_desk.specs.Views.{View}
 use Rattle.plan_desk.specs.Outcomes.{Outcome, refuses, makes, unless, given, some, why_or}
 use Rattle.plan_desk.specs.Plans.{plan_seen, HasPlaces, is_place}

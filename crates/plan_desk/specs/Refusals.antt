@@ -1,5 +1,5 @@
 -- The refusals of the office (docs/DEFINITIONS.md, "Desks"; docs/FAULTS.md).
-use Rattle.std.specs.Prelude.{ℕ, ◌++◌, codes}
+use Rattle.std.specs.Prelude.{◌++◌, codes}
 use Rattle.plan_desk.specs.World.{Text}
 use Rattle.plan_desk.specs.Calls.{Reply, refusal}
 

@@ -1,7 +1,7 @@
 -- Steps of the office, runs of them, and what of a run belongs to one desk (docs/DEFINITIONS.md,
 -- "Desks"). What is answered to an admitted call, and which change that makes, is told by what the
 -- call's desk sees: it is a parameter here, and all routes are in Decisions.
-use Rattle.std.specs.Prelude.{◌≡◌, ◌⊎◌, ℕ, Bool, true, false, ◌&&◌, ◌||◌, List, [], ◌∷◌, Option, Some, None, codes}
+use Rattle.std.specs.Prelude.{◌≡◌, ◌⊎◌, Bool, true, false, ◌&&◌, ◌||◌, List, [], ◌∷◌, Option, Some, None, codes}
 use Rattle.plan_desk.specs.World.{Text, World, same_text}
 use Rattle.plan_desk.specs.Changes.{Change, Keep, apply}
 use Rattle.plan_desk.specs.Views.{View, view, alone}
