@@ -29,9 +29,9 @@ use Rattle.plan_desk.specs.declared.kinds.PlanKind.{PlanKind}
 use Rattle.plan_desk.specs.declared.kinds.ReplyKind.{ReplyKind}
 use Rattle.plan_desk.specs.declared.kinds.ReplyKind.TheVariants.{Plain, Json}
 use Rattle.plan_desk.specs.declared.kinds.PlanKind.TheVariants.{Project, Shop}
-use Rattle.plan_desk.specs.World.{Text, Published, Desk, Plan, Bind, Lag, World, empty_world}
+use Rattle.plan_desk.specs.World.{Text, Published, Desk, Plan, Bind, Lag, World}
 use Rattle.plan_desk.specs.Views.{View, view}
-use Rattle.plan_desk.specs.Names.{is_name, is_key, is_from_to}
+use Rattle.plan_desk.specs.Names.{is_name, is_key}
 use Rattle.plan_desk.specs.Plans.{plan_number, is_place, open_machines}
 use Rattle.plan_desk.specs.Bodies.{publish_body, desk_body, desk_named, key_body, bind_body, calendar_body, lag_body}
 use Rattle.plan_desk.specs.Changes.{Change, Keep, Publish, OpenDesk, SetKey, AddPlan, RemovePlan, BindPlace, SetCalendar, SetLag, apply}
@@ -586,7 +586,11 @@ closed_schedule : (key : Option Text) → admits tiny_desk (asks key (call.sched
     → IsDecision tiny_desk (asks key (call.schedule north (codes "1") (codes "spt")))
     (said 422 Plain (codes "E11 S4 machine 0 closed\n")) Keep
 unfolding Schedules of_plan given by_kind OfShopSchedule some why_or refuses digits
-closed_schedule key open_ = admitted _ key _ _ _ open_ (shop_of tiny_shop, (tiny_shop, tiny_says, refl), inl (codes "S4 machine 0 closed", inr ((rule.ShortestTime, refl), (0, tiny_is_closed, refl)), (refl, refl)))
+closed_schedule key open_ = admitted _ key _ _ _ open_ (
+  shop_of tiny_shop,
+  (tiny_shop, tiny_says, refl),
+  inl (codes "S4 machine 0 closed", inr ((rule.ShortestTime, refl), (0, tiny_is_closed, refl)), (refl, refl)),
+)
 
 -- no rule has this name
 no_such_rule : (r : ShopRule) → codes "lpt" ≡ word_of r → ⊥
@@ -599,7 +603,11 @@ unknown_rule : (key : Option Text) → admits tiny_desk (asks key (call.chart no
     → IsDecision tiny_desk (asks key (call.chart north (codes "1") (codes "lpt")))
     (said 422 Plain (codes "E11 S3 unknown rule\n")) Keep
 unfolding Charts of_plan given by_kind OfShopSchedule some why_or refuses
-unknown_rule key open_ = admitted _ key _ _ _ open_ (shop_of tiny_shop, (tiny_shop, tiny_says, refl), inl (codes "S3 unknown rule", inl (shop_fault.UnknownRule, (refl, no_such_rule), refl), (refl, refl)))
+unknown_rule key open_ = admitted _ key _ _ _ open_ (
+  shop_of tiny_shop,
+  (tiny_shop, tiny_says, refl),
+  inl (codes "S3 unknown rule", inl (shop_fault.UnknownRule, (refl, no_such_rule), refl), (refl, refl)),
+)
 
 -- the same desk with no bind, so that the machine is open
 abbrev open_desk : View
