@@ -1,5 +1,6 @@
 -- Worked examples of an office, computed from the definitions: names, bodies, changes, decisions.
-use Rattle.std.proofs.Common.{◌≡◌, ℕ, zero, suc, true, false, List, [], ◌∷◌, ◌++◌, Option, Some, None, codes, inr, refl, sym, subst}
+use Rattle.std.proofs.Common.{◌≡◌, ℕ, zero, suc, Bool, true, false, List, [], ◌∷◌, ◌++◌, ◌<◌, All, Option, Some, None, codes, inl, inr, refl, sym, subst, arith}
+use Rattle.std.proofs.lemmas.Bool.{both_ways}
 use Rattle.std.specs.Fmt.{digits}
 use Rattle.std.specs.Str.{is_utf8, chars}
 use Rattle.sha2.specs.Sha256.{sha256}
@@ -12,6 +13,16 @@ use Rattle.plan_orlib.specs.Reading.{machine_at, step_at, steps_at, jobs_at, sho
 use Rattle.plan_orlib.specs.Shop as docs
 use Rattle.plan_orlib.specs.Says.{Says, BeginsWith, shop_numbers}
 use Rattle.plan_orlib.proofs.ShopLemmas.{shop_spelled}
+use Rattle.plan_shop.specs.declared.rule.ShopRule.{ShopRule}
+use Rattle.plan_shop.specs.declared.rule.ShopRule.TheVariants as rule
+use Rattle.plan_shop.specs.declared.fault.ShopFault.TheVariants as shop_fault
+use Rattle.plan_shop.specs.Names.{word_of}
+use Rattle.plan_shop.specs.Shop.{IsShop}
+use Rattle.plan_shop.specs.Rules.{spt}
+use Rattle.plan_shop.specs.Laws.{RuleIsActive}
+use Rattle.plan_shop.proofs.WordCount.{rule_is_active, spt_chooses}
+use Rattle.plan_gantt.specs.ShopText.{rule_starts}
+use Rattle.plan_shop.specs.Docs.{shop_of, IsFirstClosed, NoneIsClosed}
 use Rattle.plan_desk.specs.declared.kinds.Kind.TheVariants.{Crew, Machine}
 use Rattle.plan_desk.specs.declared.kinds.Kind.{Kind}
 use Rattle.plan_desk.specs.declared.kinds.PlanKind.{PlanKind}
@@ -21,7 +32,7 @@ use Rattle.plan_desk.specs.declared.kinds.PlanKind.TheVariants.{Project, Shop}
 use Rattle.plan_desk.specs.World.{Text, Published, Desk, Plan, Bind, Lag, World}
 use Rattle.plan_desk.specs.Views.{View, view}
 use Rattle.plan_desk.specs.Names.{is_name, is_key}
-use Rattle.plan_desk.specs.Plans.{plan_number, is_place}
+use Rattle.plan_desk.specs.Plans.{plan_number, is_place, open_machines}
 use Rattle.plan_desk.specs.Bodies.{publish_body, desk_body, desk_named, key_body, bind_body, calendar_body, lag_body}
 use Rattle.plan_desk.specs.Changes.{Change, Keep, Publish, OpenDesk, SetKey, AddPlan, RemovePlan, BindPlace, SetCalendar, SetLag, apply}
 use Rattle.plan_desk.specs.Calls.{Call, Request, Reply, admits}
@@ -30,7 +41,7 @@ use Rattle.plan_desk.specs.Stories.{decided}
 use Rattle.plan_desk.specs.Outcomes.{refuses, tells, makes, unless, given, some, why_or}
 use Rattle.plan_desk.specs.OfficeRoutes.{Publishes, Opens, SetsKey}
 use Rattle.plan_desk.specs.PlanRoutes.{of_plan, by_kind, Imports, ImportsProject, ImportsShop, Removes, Binds, Calendars, SetsLag}
-use Rattle.plan_desk.specs.PageRoutes.{Dates}
+use Rattle.plan_desk.specs.PageRoutes.{Dates, IsShopScheduleBy, OfShopSchedule, Schedules, Charts, OfCalendar, Days}
 use Rattle.plan_desk.specs.Decisions.{Answers, IsDecision}
 
 -- a name has small letters, digits and `-`
@@ -562,3 +573,75 @@ crew_on_machine : (key : Option Text) → admits tiny_desk (asks key (bind_call 
     (said 409 Plain (codes "E06 kind differs\n")) Keep
 unfolding Binds of_plan given some unless refuses bind_body is_utf8 chars serde_json_on_literals
 crew_on_machine key open_ = admitted _ key _ _ _ open_ (1, (tiny_shop, tiny_says, refl), (refl, refl))
+
+-- its machine is in use and closed
+tiny_is_closed : IsFirstClosed (shop_of tiny_shop).steps (open_machines tiny_desk 1 1) 0
+tiny_is_closed = (
+  (omega arith, refl, (record { machine = 0; time = 2 }, (0, omega arith, refl), refl, omega arith)),
+  (λ h less closed. omega (arith, less)),
+)
+
+-- so there is no schedule
+closed_schedule : (key : Option Text) → admits tiny_desk (asks key (call.schedule north (codes "1") (codes "spt"))) ≡ true
+    → IsDecision tiny_desk (asks key (call.schedule north (codes "1") (codes "spt")))
+    (said 422 Plain (codes "E11 S4 machine 0 closed\n")) Keep
+unfolding Schedules of_plan given by_kind OfShopSchedule some why_or refuses digits
+closed_schedule key open_ = admitted _ key _ _ _ open_ (
+  shop_of tiny_shop,
+  (tiny_shop, tiny_says, refl),
+  inl (codes "S4 machine 0 closed", inr ((rule.ShortestTime, refl), (0, tiny_is_closed, refl)), (refl, refl)),
+)
+
+-- no rule has this name
+no_such_rule : (r : ShopRule) → codes "lpt" ≡ word_of r → ⊥
+no_such_rule rule.ShortestTime e = grind (arith, e)
+no_such_rule rule.MostWorkRemaining e = grind (arith, e)
+no_such_rule rule.FirstCome e = grind (arith, e)
+
+-- which is told before a closed machine is
+unknown_rule : (key : Option Text) → admits tiny_desk (asks key (call.chart north (codes "1") (codes "lpt"))) ≡ true
+    → IsDecision tiny_desk (asks key (call.chart north (codes "1") (codes "lpt")))
+    (said 422 Plain (codes "E11 S3 unknown rule\n")) Keep
+unfolding Charts of_plan given by_kind OfShopSchedule some why_or refuses
+unknown_rule key open_ = admitted _ key _ _ _ open_ (
+  shop_of tiny_shop,
+  (tiny_shop, tiny_says, refl),
+  inl (codes "S3 unknown rule", inl (shop_fault.UnknownRule, (refl, no_such_rule), refl), (refl, refl)),
+)
+
+-- the same desk with no bind, so that the machine is open
+abbrev open_desk : View
+open_desk = record tiny_desk { binds = [] }
+
+tiny_is_open : NoneIsClosed (shop_of tiny_shop).steps (open_machines open_desk 1 1)
+tiny_is_open zero closed = absurd (both_ways true closed.1 refl)
+tiny_is_open (suc m) closed = absurd (omega (arith, closed.0))
+
+tiny_on_machines : All (λ w. w.machine < 1) (shop_of tiny_shop).steps
+tiny_on_machines zero d less = omega arith
+tiny_on_machines (suc k) d less = absurd (omega (arith, less))
+
+tiny_is_shop : IsShop (shop_of tiny_shop)
+tiny_is_shop = record {
+  some_machine = omega arith;
+  all_steps = refl;
+  on_machines = tiny_on_machines;
+}
+
+-- the schedule by the least time
+tiny_schedule : IsShopScheduleBy (shop_of tiny_shop) (open_machines open_desk 1 1) (codes "spt") (rule_starts rule.ShortestTime (shop_of tiny_shop))
+unfolding RuleIsActive
+tiny_schedule = record {
+  rule = rule.ShortestTime;
+  named = refl;
+  opened = tiny_is_open;
+  starts_are = refl;
+  active = rule_is_active (shop_of tiny_shop) tiny_is_shop (spt (shop_of tiny_shop)) (spt_chooses (shop_of tiny_shop));
+}
+
+-- a plan without a calendar has no days
+no_calendar : (key : Option Text) → admits open_desk (asks key (call.days north (codes "1") (codes "spt"))) ≡ true
+    → IsDecision open_desk (asks key (call.days north (codes "1") (codes "spt")))
+    (said 422 Plain (codes "E12 G4 no calendar\n")) Keep
+unfolding Days of_plan given by_kind OfShopSchedule OfCalendar some why_or unless refuses
+no_calendar key open_ = admitted _ key _ _ _ open_ (shop_of tiny_shop, (tiny_shop, tiny_says, refl), inr (rule_starts rule.ShortestTime (shop_of tiny_shop), tiny_schedule, (refl, refl)))

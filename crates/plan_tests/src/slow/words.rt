@@ -46,19 +46,28 @@ impl Small {
         after
     }
 
-    // The work on a resource, shared evenly among all that there is of it; 0 where there is none.
-    fn busy(&self, k: usize) -> u64
+    // The durations times the needs of a resource, added up.
+    fn work(&self, k: usize) -> u64
         requires { k < 3 }
     {
         let mut work = 0u64;
         for i in 0..12usize {
             work = work.saturating_add(self.durations[i].saturating_mul(self.needs[i][k]));
         }
-        let mut busy = 0u64;
-        while busy.saturating_mul(self.caps[k]) < work && self.caps[k] > 0 && busy < 1000 {
-            busy += 1;
+        work
+    }
+
+    // The work on a resource, shared evenly among all that there is of it; 0 where there is none.
+    fn busy(&self, k: usize) -> u64
+        requires { k < 3 }
+    {
+        let work = self.work(k);
+        for instants in 0..1000u64 {
+            if self.caps[k] == 0 || instants.saturating_mul(self.caps[k]) >= work {
+                return instants;
+            }
         }
-        busy
+        1000
     }
 
     // The bound of what is placed.
