@@ -1,10 +1,10 @@
 -- The changes that steps keep are exactly those of the usage.
-use Rattle.std.proofs.Common.{◌≡◌, ◌≢◌, ℕ, zero, suc, ◌-◌, ◌≤◌, ◌<◌, List, [], ◌∷◌, length, get_or, replicate, refl, sym, ◌∙◌, ap, inl, inr, arith}
+use Rattle.std.proofs.Common.{◌≡◌, ◌≢◌, ℕ, zero, suc, ◌-◌, ◌*◌, ◌≤◌, ◌<◌, List, [], ◌∷◌, length, get_or, take, drop, replicate, refl, sym, ◌∙◌, ap, inl, inr, arith}
 use Rattle.std.specs.Prelude.{Contains}
-use Rattle.std.proofs.lemmas.List.{get_or_past, get_or-replicate, length-replicate}
+use Rattle.std.proofs.lemmas.List.{get_or_past, get_or-replicate, length-replicate, take_all}
 use Rattle.std.proofs.lemmas.Bool.{cases_lt, cases_eq}
 use Rattle.plan_profile.specs.Usage.{IsChange, used_before}
-use Rattle.plan_profile.specs.Steps.{changes_until, amount_at, amount, IsSteps, AreChanges, IsEndedBy}
+use Rattle.plan_profile.specs.Steps.{changes_until, lists, amount_at, amount, IsSteps, AreChanges, IsEndedBy}
 use Rattle.plan_profile.proofs.SegmentLemmas.{within, until_within, until_mono, until_above, there_at}
 use Rattle.plan_profile.proofs.StepLemmas.{amount_is, amount_row}
 
@@ -106,6 +106,13 @@ zero_steps width = record {
   rising = λ i j less inside. absurd (omega arith);
   none_first = zero_row-get_or width;
 }
+
+-- rows of which there is one
+pub zero_lists : (width : ℕ) → lists width [] (zero_row width) ≡ zero_row width ∷ []
+unfolding lists
+zero_lists width =
+    let none : 0 * width ≡ 0 = omega arith in
+    ap (λ (n : ℕ). take width (drop n (zero_row width)) ∷ []) none ∙ ap (λ (r : List ℕ). r ∷ []) (take_all width (zero_row width) (let size : length (zero_row width) ≡ width = length-replicate width 0 in omega arith))
 
 pub none_change : (changes : List ℕ) (used : ℕ → ℕ → ℕ) → changes ≡ [] → AreChanges changes used
 none_change changes used none c there = let inside = there.1 in let size = ap length none in absurd (omega arith)

@@ -1,5 +1,6 @@
 pub mod SegmentLemmas
 pub mod EditLemmas
+pub mod FlatLemmas
 pub mod StepLemmas
 pub mod CutLemmas
 pub mod RowLemmas

@@ -1,6 +1,6 @@
 -- How steps change while an interval is placed: an instant is cut in, needs are added to rows, and a change that turns out to be
 -- none goes away. No public clause speaks of these words.
-use Rattle.std.specs.Prelude.{◌≡◌, ◌≢◌, ℕ, ◌+◌, ◌^◌, ◌≤◌, ◌<◌, ◌&&◌, ◌⊎◌, if◌then◌else◌, nat_le, nat_lt, List, [], length, slice_index, slice_index_or, Contains}
+use Rattle.std.specs.Prelude.{◌≡◌, ◌≢◌, ℕ, ◌+◌, ◌*◌, ◌^◌, ◌≤◌, ◌<◌, ◌&&◌, ◌⊎◌, if◌then◌else◌, nat_le, nat_lt, List, [], length, slice_index, slice_index_or, Contains}
 use Rattle.plan_profile.specs.Usage.{used_before}
 use Rattle.plan_profile.specs.Steps.{amount_at, amount, IsSteps, AreChanges}
 
@@ -39,6 +39,18 @@ pub record IsRaised (rows : List (List ℕ)) (from to : ℕ) (needs : List ℕ) 
   pub size : length rows2 ≡ length rows
   pub even : (i : ℕ) → length (slice_index_or rows2 i []) ≡ length (slice_index_or rows i [])
   pub each : (i k : ℕ) → amount_at rows2 i k ≡ amount_at rows i k + (if nat_le from i && nat_lt i to then slice_index needs k else 0)
+
+-- amounts of rows as wide as there are needs, with the needs added from one row to before another
+pub record AreRaised (amounts : List ℕ) (from to : ℕ) (needs amounts2 : List ℕ) : Type 0 where
+  pub size : length amounts2 ≡ length amounts
+  pub each : (i k : ℕ) → k < length needs → slice_index amounts2 (i * length needs + k)
+      ≡ slice_index amounts (i * length needs + k) + (if nat_le from i && nat_lt i to then slice_index needs k else 0)
+
+-- needs fit into the machine's numbers beside the amounts, from one row to before another
+abbrev pub HaveSums : List ℕ → ℕ → ℕ → List ℕ → Type 0
+HaveSums amounts from to needs =
+    (i k : ℕ) → from ≤ i → i < to → k < length needs
+    → slice_index amounts (i * length needs + k) + slice_index needs k < 2 ^ 64
 
 -- needs fit into the machine's numbers beside the amounts of the rows from one place to before another
 abbrev pub HasSums : List (List ℕ) → ℕ → ℕ → List ℕ → Type 0

@@ -1,5 +1,5 @@
 -- What a profile shows: its capacities, and the amounts in use. See "Schedules" in docs/DEFINITIONS.md.
-use Rattle.std.specs.Prelude.{ℕ, List}
+use Rattle.std.specs.Prelude.{ℕ, List, length}
 use Rattle.plan_profile.specs.Steps.{lists, amount}
 use Rattle.plan_profile.specs.declared.profile.Profile.{Profile}
 
@@ -9,4 +9,5 @@ capacities p = p.caps.items
 
 -- the amount of the resource at place k that is in use at instant t
 unfoldable pub in_use : Profile → ℕ → ℕ → ℕ
-in_use p t k = amount p.changes.items (lists p.rows.items) t k
+in_use p t k =
+    amount p.changes.items (lists (length p.caps.items) p.changes.items p.rows.items) t k

@@ -1,17 +1,25 @@
 -- How a profile keeps usage: the instants at which it changes, and a row of amounts for the time before the first of them and
--- from each of them on. No public clause speaks of these words. See "Schedules" in docs/DEFINITIONS.md.
-use Rattle.std.specs.Prelude.{◌≡◌, ℕ, ◌+◌, ◌≤◌, ◌<◌, nat_le, List, [], length, map, count_by, slice_index, slice_index_or, Contains}
-use Rattle.std.specs.Global.{Global}
-use Rattle.std.specs.declared.vec.Vec.{Vec}
+-- from each of them on. The rows stand one behind another in one list. No public clause speaks of these words. See "Schedules"
+-- in docs/DEFINITIONS.md.
+use Rattle.std.specs.Prelude.{◌≡◌, ℕ, ◌+◌, ◌*◌, ◌≤◌, ◌<◌, nat_le, List, [], length, map, count_by, take, drop, slice_index, slice_index_or, Contains}
+use Rattle.std.specs.List.{range_with_len}
 use Rattle.plan_profile.specs.Usage.{IsRising, used_before}
 
 -- how many changes come no later than t
 abbrev pub changes_until : List ℕ → ℕ → ℕ
 changes_until changes t = count_by (λ c. nat_le c t) changes
 
--- the rows as lists of amounts
-abbrev pub lists : List (Vec ℕ Global) → List (List ℕ)
-lists rows = map (λ row. row.items) rows
+-- row i of a list of amounts, each row of one width
+abbrev pub row_at : ℕ → List ℕ → ℕ → List ℕ
+row_at width amounts i = take width (drop (i * width) amounts)
+
+-- the rows of a list of amounts, one more than there are changes
+unfoldable pub lists : ℕ → List ℕ → List ℕ → List (List ℕ)
+lists width changes amounts = map (row_at width amounts) (range_with_len 0 (length changes + 1))
+
+-- the amounts are these rows and nothing else
+abbrev pub AreRows : ℕ → List ℕ → List ℕ → Type 0
+AreRows width changes amounts = length amounts ≡ (length changes + 1) * width
 
 -- the amount of resource k in row i
 abbrev pub amount_at : List (List ℕ) → ℕ → ℕ → ℕ

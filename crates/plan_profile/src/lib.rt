@@ -3,6 +3,7 @@
 
 mod profile;
 mod row;
+mod rows;
 mod steps;
 
 pub use profile::{END, Profile};

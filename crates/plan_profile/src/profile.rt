@@ -1,12 +1,13 @@
 //! Capacity in time.
 #![tactic(auto, unfolding(crate::specs::InUse::in_use, crate::specs::InUse::capacities))]
 
-ghost use Rattle.std.specs.Prelude.{◌≡◌, ℕ, ◌^◌, ◌<◌, length, slice_index, slice_index_or, []};
-ghost use Rattle.plan_profile.specs.Steps.{lists, amount, IsSteps, AreChanges, IsEndedBy};
+ghost use Rattle.std.specs.Prelude.{◌≡◌, ℕ, ◌^◌, ◌<◌, length, slice_index};
+ghost use Rattle.plan_profile.specs.Steps.{lists, amount, AreRows, IsSteps, AreChanges, IsEndedBy};
 ghost use Rattle.plan_profile.specs.declared.profile.TheConstants.{END};
 
 use crate::row::{has_room, row_is_within, zeros};
-use crate::steps::{copy_rows, place_between, segment};
+use crate::rows::{copy_with_room, row};
+use crate::steps::{place_between, segment};
 use std::alloc::{AllocError, Global};
 
 /// The end of time: what is placed ends by this instant, in whole time units.
@@ -19,11 +20,12 @@ pub const END: u64 = 10_000_000;
 pub struct Profile {
     caps: Vec<u64>,
     changes: Vec<u64>,
-    rows: Vec<Vec<u64>>,
-    ghost steps: { IsSteps changes.items (lists rows.items) },
-    ghost wide: { length (slice_index_or (lists rows.items) 0 []) ≡ length caps.items },
-    ghost true_changes: { AreChanges changes.items (amount changes.items (lists rows.items)) },
-    ghost ended: { IsEndedBy END changes.items (lists rows.items) },
+    rows: Vec<u64>,
+    ghost wide: { AreRows (length caps.items) changes.items rows.items },
+    ghost steps: { IsSteps changes.items (lists (length caps.items) changes.items rows.items) },
+    ghost true_changes: { AreChanges changes.items
+        (amount changes.items (lists (length caps.items) changes.items rows.items)) },
+    ghost ended: { IsEndedBy END changes.items (lists (length caps.items) changes.items rows.items) },
     ghost small: { (k : ℕ) → slice_index caps.items k < 2 ^ 64 },
 }
 
@@ -38,8 +40,7 @@ impl Profile {
         ensures caps { IfOk result (λ p. capacities p ≡ caps.items) }
         ensures none { IfOk result (λ p. (t k : ℕ) → in_use p t k ≡ 0) }
     {
-        let mut rows = Vec::new(alloc);
-        rows.push(zeros(alloc, &caps)?)?;
+        let rows = zeros(alloc, &caps)?;
         Ok(Profile {
             caps,
             changes: Vec::new(alloc),
@@ -56,11 +57,12 @@ impl Profile {
 
     // Whether needs keep the capacities beside the amounts of a row.
     fn row_has_room(&self, i: usize, needs: &[u64]) -> bool
-        requires row { i < vec_len self.now.rows }
+        requires row { i ≤ vec_len self.now.changes }
         requires needs { length needs.now ≡ length (capacities self.now) }
-        ensures { IsTrue result ↔ HasRoomAt (capacities self.now) (lists self.now.rows.items) needs.now i }
+        ensures { IsTrue result ↔ HasRoomAt (capacities self.now)
+            (lists (length self.now.caps.items) self.now.changes.items self.now.rows.items) needs.now i }
     {
-        has_room(&self.caps, &self.rows[i], needs)
+        has_room(&self.caps, row(&self.rows, self.caps.len(), i), needs)
     }
 
     /// The amount of resource `k`, numbered from 1, that is in use at instant `t`.
@@ -71,7 +73,7 @@ impl Profile {
         ensures ended { 10000000 ≤ t → result ≡ 0 }
     {
         let i = self.row_in_force(t);
-        self.rows[i][k as usize - 1]
+        row(&self.rows, self.caps.len(), i)[k as usize - 1]
     }
 
     /// The instants at which the usage of some resource differs from that of the instant before, where nothing is in use
@@ -101,7 +103,7 @@ impl Profile {
             return true;
         }
         let first = self.row_in_force(start);
-        for i in first..self.rows.len() {
+        for i in first..self.changes.len() + 1 {
             if first < i && self.changes[i - 1] - start >= d {
                 return true;
             }
@@ -125,7 +127,7 @@ impl Profile {
         }
         let first = self.row_in_force(from);
         let mut at = from;
-        for i in first..self.rows.len() {
+        for i in first..self.changes.len() + 1 {
             if first < i && self.changes[i - 1] - at >= d {
                 return at;
             }
@@ -148,15 +150,7 @@ impl Profile {
         if d == 0 {
             return Ok(());
         }
-        let alloc = *self.caps.allocator();
-        place_between(
-            alloc,
-            &mut self.changes,
-            &mut self.rows,
-            start,
-            start + d,
-            needs,
-        )
+        place_between(&mut self.changes, &mut self.rows, start, start + d, needs)
     }
 
     /// A profile of the same capacities with the same amounts in use.
@@ -166,8 +160,8 @@ impl Profile {
     {
         let alloc = *self.caps.allocator();
         let caps = Vec::from_slice(alloc, &self.caps)?;
-        let changes = Vec::from_slice(alloc, &self.changes)?;
-        let rows = copy_rows(alloc, &self.rows)?;
+        let changes = copy_with_room(alloc, &self.changes, 2)?;
+        let rows = copy_with_room(alloc, &self.rows, 2 * self.caps.len())?;
         Ok(Profile {
             caps,
             changes,

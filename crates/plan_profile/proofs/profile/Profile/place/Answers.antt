@@ -1,5 +1,5 @@
 -- What fits keeps the capacities, which fit into the machine's numbers.
-use Rattle.std.proofs.Common.{arith}
+use Rattle.std.proofs.Common.{length, arith}
 use Rattle.plan_profile.specs.InUse.{in_use, capacities}
 use Rattle.plan_profile.specs.Steps.{lists, amount}
 use Rattle.plan_profile.proofs.SeekLemmas.{fits_at}
@@ -7,8 +7,8 @@ use Rattle.plan_profile.proofs.profile.Profile.place.Goals as goal
 
 pub place_between-requires-clause-sums : goal.place_between-requires-clause-sums
 unfolding in_use capacities
-place_between-requires-clause-sums c = λ t k since before inside.
-    let within = fits_at c.args.self.now.caps.items (amount c.args.self.now.changes.items (lists c.args.self.now.rows.items)) c.args.start c.args.d c.args.needs.now t k c.requires.fits since before
-    (let e = c.requires.needs in omega arith) in
+place_between-requires-clause-sums c = rw c.requires.needs (λ t k since before inside.
+    let within = fits_at c.args.self.now.caps.items (amount c.args.self.now.changes.items (lists (length c.args.self.now.caps.items) c.args.self.now.changes.items c.args.self.now.rows.items)) c.args.start c.args.d c.args.needs.now t k c.requires.fits since before
+    (omega arith) in
     let small = c.args.self.now.small k in
-    omega arith
+    omega arith)

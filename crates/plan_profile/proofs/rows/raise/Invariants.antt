@@ -1,0 +1,6 @@
+-- The rows in front of the index are raised.
+use Rattle.plan_profile.specs.Changing.{AreRaised}
+use Rattle.plan_profile.proofs.rows.raise.Given as goal
+
+abbrev pub invariant-loop-i : goal.invariant-loop-i
+invariant-loop-i l = AreRaised l.fn.rows l.from l.i l.needs l.rows

@@ -1,0 +1,69 @@
+//! Rows of amounts that stand one behind another in one list, each as wide as there are resources.
+ghost use Rattle.std.specs.Prelude.{◌≡◌, ℕ, ◌+◌, ◌*◌, ◌^◌, ◌≤◌, ◌<◌, ◌++◌, length, take, drop, vec_len, vec_capacity, IfOk};
+ghost use Rattle.plan_profile.specs.Steps.{row_at};
+ghost use Rattle.plan_profile.specs.Changing.{AreRaised, HaveSums};
+
+use crate::row::add_needs;
+use std::alloc::{AllocError, Global};
+
+// The row at a place.
+pub(crate) fn row(rows: &[u64], width: usize, i: usize) -> &[u64]
+    requires { i * width + width ≤ length rows.now }
+    ensures { result.now ≡ row_at width rows.now i }
+{
+    let at = i * width;
+    &rows[at..at + width]
+}
+
+// The same amounts in memory of their own, with room for more, so that these need no memory.
+pub(crate) fn copy_with_room(
+    alloc: Global,
+    items: &[u64],
+    more: usize,
+) -> Result<Vec<u64>, AllocError>
+    requires { length items.now + more < 2 ^ 64 }
+    ensures { IfOk result (λ copy. copy.items ≡ items.now) }
+{
+    let mut copy = Vec::with_capacity(alloc, items.len() + more)?;
+    copy.extend_from_slice(items)?;
+    Ok(copy)
+}
+
+// Puts a row in behind a row that has the same amounts, where there is spare capacity.
+pub(crate) fn repeat_row(rows: &mut Vec<u64>, width: usize, i: usize)
+    requires within { i * width + width ≤ vec_len rows.old }
+    requires room { vec_len rows.old + width ≤ vec_capacity rows.old }
+    ensures items { rows.new.items ≡ take (i * width + width) rows.old.items ++ drop (i * width) rows.old.items }
+    ensures len { vec_len rows.new ≡ vec_len rows.old + width }
+    ensures capacity { vec_capacity rows.old ≤ vec_capacity rows.new }
+{
+    let len = rows.len();
+    let at = i * width;
+    let _ = rows.resize(len + width, 0);
+    rows.copy_within(at..len, at + width);
+}
+
+// Takes a row out.
+pub(crate) fn remove_row(rows: &mut Vec<u64>, width: usize, i: usize)
+    requires { i * width + width ≤ vec_len rows.old }
+    ensures { rows.new.items ≡ take (i * width) rows.old.items ++ drop (i * width + width) rows.old.items }
+{
+    let len = rows.len();
+    let at = i * width;
+    rows.copy_within(at + width..len, at);
+    rows.truncate(len - width);
+}
+
+// Adds needs to the rows from one place to before another.
+pub(crate) fn raise(rows: &mut [u64], from: usize, to: usize, needs: &[u64])
+    requires order { from ≤ to }
+    requires within { to * length needs.now ≤ length rows.old }
+    requires sums { HaveSums rows.old from to needs.now }
+    ensures { AreRaised rows.old from to needs.now rows.new }
+{
+    let width = needs.len();
+    for i in from..to {
+        let at = i * width;
+        add_needs(&mut rows[at..at + width], needs);
+    }
+}
