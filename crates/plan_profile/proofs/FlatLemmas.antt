@@ -1,13 +1,11 @@
 -- Rows that stand one behind another in one list: where they are, and the rows after an edit of the list.
-use Rattle.std.proofs.Common.{◌≡◌, ℕ, zero, suc, ◌+◌, ◌-◌, ◌*◌, ◌≤◌, ◌<◌, List, [], ◌∷◌, ◌++◌, length, get_or, take, drop, replicate, refl, sym, ◌∙◌, ap, inl, inr, arith}
+use Rattle.std.proofs.Common.{◌≡◌, ℕ, zero, suc, ◌+◌, ◌-◌, ◌*◌, ◌≤◌, ◌<◌, List, [], ◌++◌, length, get_or, take, drop, sym, ◌∙◌, ap, inl, inr, arith}
 use Rattle.std.specs.Prelude.{insert, remove}
-use Rattle.std.proofs.lemmas.List.{ext_get_or, get_or-take, get_or-drop, get_or_append_left, get_or-append_right, get_or_past, length-take-le, length-drop, length-append, length-replicate, take_all}
+use Rattle.std.proofs.lemmas.List.{ext_get_or, get_or-take, get_or-drop, get_or_append_left, get_or-append_right, get_or_past, length-take-le, length-drop, length-append}
 use Rattle.std.proofs.lemmas.List.FromFn.{length-map-range_with_len, get_or-map-range_with_len}
 use Rattle.std.proofs.lemmas.List.Edits.{length-insert, length-remove}
-use Rattle.std.proofs.lemmas.Bool.{cases_lt}
 use Rattle.std.proofs.lemmas.Nat.{mul-le, row_fits}
 use Rattle.plan_profile.specs.Steps.{row_at, lists, amount_at, AreRows}
-use Rattle.plan_profile.specs.Changing.{AreRaised, IsRaised}
 use Rattle.plan_profile.proofs.EditLemmas.{insert_cases, remove_cases}
 
 pub length_lists : (width : ℕ) (changes amounts : List ℕ) → length (lists width changes amounts) ≡ length changes + 1

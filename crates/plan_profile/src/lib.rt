@@ -1,4 +1,5 @@
-//! What is in use of resources of constant capacity over time, and where an interval fits beside it.
+//! What is in use of resources of constant capacity over time, and where an interval fits beside
+//! it.
 #![tactic(auto)]
 
 mod profile;

@@ -13,9 +13,10 @@ use std::alloc::{AllocError, Global};
 /// The end of time: what is placed ends by this instant, in whole time units.
 pub const END: u64 = 10_000_000;
 
-/// How much of each resource is in use at each instant, beside the constant capacities of the resources. Resources are
-/// numbered from 1, instants are whole time units from 0 on. Each call goes from change to change of the usage, so that long
-/// intervals cost no more than short ones. Only `new`, `place` and `copy` take memory, and want of it is their one error.
+/// How much of each resource is in use at each instant, beside the constant capacities of the
+/// resources. Resources are numbered from 1, instants are whole time units from 0 on. Each call
+/// goes from change to change of the usage, so that long intervals cost no more than short ones.
+/// Only `new`, `place` and `copy` take memory, and want of it is their one error.
 #[derive(Debug, Drop)]
 pub struct Profile {
     caps: Vec<u64>,
@@ -25,13 +26,16 @@ pub struct Profile {
     ghost steps: { IsSteps changes.items (lists (length caps.items) changes.items rows.items) },
     ghost true_changes: { AreChanges changes.items
         (amount changes.items (lists (length caps.items) changes.items rows.items)) },
-    ghost ended: { IsEndedBy END changes.items (lists (length caps.items) changes.items rows.items) },
+    ghost ended: { IsEndedBy END changes.items
+        (lists (length caps.items) changes.items rows.items) },
     ghost small: { (k : ℕ) → slice_index caps.items k < 2 ^ 64 },
 }
 
 impl Profile {
-    ghost use Rattle.std.specs.Prelude.{◌≡◌, ℕ, ◌+◌, ◌-◌, ◌≤◌, ◌<◌, ◌↔◌, length, vec_len, All, Contains, IsTrue, IfOk, OnOk, OnErr};
-    ghost use Rattle.plan_profile.specs.Usage.{Fits, FitsEmpty, IsInTime, IsEarliest, IsChange, IsRising, used_with};
+    ghost use Rattle.std.specs.Prelude.{◌≡◌, ℕ, ◌+◌, ◌-◌, ◌≤◌, ◌<◌, ◌↔◌, length, vec_len, All};
+    ghost use Rattle.std.specs.Prelude.{Contains, IsTrue, IfOk, OnOk, OnErr};
+    ghost use Rattle.plan_profile.specs.Usage.{Fits, FitsEmpty, IsInTime, IsEarliest, IsChange};
+    ghost use Rattle.plan_profile.specs.Usage.{IsRising, used_with};
     ghost use Rattle.plan_profile.specs.Steps.{changes_until, lists, HasRoomAt};
     ghost use Rattle.plan_profile.specs.InUse.{capacities, in_use};
 
@@ -60,7 +64,8 @@ impl Profile {
         requires row { i ≤ vec_len self.now.changes }
         requires needs { length needs.now ≡ length (capacities self.now) }
         ensures { IsTrue result ↔ HasRoomAt (capacities self.now)
-            (lists (length self.now.caps.items) self.now.changes.items self.now.rows.items) needs.now i }
+            (lists (length self.now.caps.items) self.now.changes.items self.now.rows.items)
+            needs.now i }
     {
         has_room(&self.caps, row(&self.rows, self.caps.len(), i), needs)
     }
@@ -76,11 +81,12 @@ impl Profile {
         row(&self.rows, self.caps.len(), i)[k as usize - 1]
     }
 
-    /// The instants at which the usage of some resource differs from that of the instant before, where nothing is in use
-    /// before instant 0.
+    /// The instants at which the usage of some resource differs from that of the instant before,
+    /// where nothing is in use before instant 0.
     pub fn changes(&self) -> &[u64]
         ensures rising { IsRising result.now }
-        ensures exact { (t : ℕ) → Contains result.now t ↔ IsChange (length (capacities self.now)) (in_use self.now) t }
+        ensures exact { (t : ℕ) → Contains result.now t
+            ↔ IsChange (length (capacities self.now)) (in_use self.now) t }
         ensures in_time { All IsInTime result.now }
     {
         &self.changes
@@ -94,7 +100,8 @@ impl Profile {
         row_is_within(&self.caps, needs)
     }
 
-    /// Whether the needs of an interval of `d` instants from `start` on keep the capacities at each of its instants.
+    /// Whether the needs of an interval of `d` instants from `start` on keep the capacities at each
+    /// of its instants.
     pub fn fits(&self, start: u64, d: u64, needs: &[u64]) -> bool
         requires { length needs.now ≡ length (capacities self.now) }
         ensures { IsTrue result ↔ Fits (capacities self.now) (in_use self.now) start d needs.now }
@@ -144,7 +151,8 @@ impl Profile {
         requires needs { length needs.now ≡ length (capacities self.old) }
         requires fits { Fits (capacities self.old) (in_use self.old) start d needs.now }
         ensures caps { capacities self.new ≡ capacities self.old }
-        ensures ok { OnOk result ((t k : ℕ) → in_use self.new t k ≡ used_with (in_use self.old) start d needs.now t k) }
+        ensures ok { OnOk result ((t k : ℕ) → in_use self.new t k
+            ≡ used_with (in_use self.old) start d needs.now t k) }
         ensures err { OnErr result (in_use self.new ≡ in_use self.old) }
     {
         if d == 0 {

@@ -1,5 +1,6 @@
 //! One row of amounts, a number for each resource.
-ghost use Rattle.std.specs.Prelude.{◌≡◌, ℕ, ◌+◌, ◌^◌, ◌≤◌, ◌<◌, ◌↔◌, length, slice_index, EachIndex, IsTrue, IfOk, replicate};
+ghost use Rattle.std.specs.Prelude.{◌≡◌, ℕ, ◌+◌, ◌^◌, ◌≤◌, ◌<◌, ◌↔◌, length, slice_index};
+ghost use Rattle.std.specs.Prelude.{EachIndex, IsTrue, IfOk, replicate};
 ghost use Rattle.plan_profile.specs.Usage.{FitsEmpty};
 ghost use Rattle.plan_profile.specs.Changing.{IsRowWith};
 
@@ -35,7 +36,8 @@ pub(crate) fn has_room(caps: &[u64], row: &[u64], needs: &[u64]) -> bool
 // Adds needs to the amounts of a row.
 pub(crate) fn add_needs(row: &mut [u64], needs: &[u64])
     requires wide { length row.old ≡ length needs.now }
-    requires sums { EachIndex needs.now (λ k. slice_index row.old k + slice_index needs.now k < 2 ^ 64) }
+    requires sums { EachIndex needs.now
+        (λ k. slice_index row.old k + slice_index needs.now k < 2 ^ 64) }
     ensures { IsRowWith row.old needs.now row.new }
 {
     for (k, amount) in row.iter_mut().enumerate() {

@@ -1,5 +1,6 @@
 //! Rows of amounts that stand one behind another in one list, each as wide as there are resources.
-ghost use Rattle.std.specs.Prelude.{◌≡◌, ℕ, ◌+◌, ◌*◌, ◌^◌, ◌≤◌, ◌<◌, ◌++◌, length, take, drop, vec_len, vec_capacity, IfOk};
+ghost use Rattle.std.specs.Prelude.{◌≡◌, ℕ, ◌+◌, ◌*◌, ◌^◌, ◌≤◌, ◌<◌, ◌++◌, length, take, drop};
+ghost use Rattle.std.specs.Prelude.{vec_len, vec_capacity, IfOk};
 ghost use Rattle.plan_profile.specs.Steps.{row_at};
 ghost use Rattle.plan_profile.specs.Changing.{AreRaised, HaveSums};
 
@@ -15,7 +16,7 @@ pub(crate) fn row(rows: &[u64], width: usize, i: usize) -> &[u64]
     &rows[at..at + width]
 }
 
-// The same amounts in memory of their own, with room for more, so that these need no memory.
+// A copy with room for more numbers behind it, which then need no memory.
 pub(crate) fn copy_with_room(
     alloc: Global,
     items: &[u64],
@@ -29,11 +30,12 @@ pub(crate) fn copy_with_room(
     Ok(copy)
 }
 
-// Puts a row in behind a row that has the same amounts, where there is spare capacity.
+// Puts a row in once more behind itself, where there is spare capacity.
 pub(crate) fn repeat_row(rows: &mut Vec<u64>, width: usize, i: usize)
     requires within { i * width + width ≤ vec_len rows.old }
     requires room { vec_len rows.old + width ≤ vec_capacity rows.old }
-    ensures items { rows.new.items ≡ take (i * width + width) rows.old.items ++ drop (i * width) rows.old.items }
+    ensures items { rows.new.items
+        ≡ take (i * width + width) rows.old.items ++ drop (i * width) rows.old.items }
     ensures len { vec_len rows.new ≡ vec_len rows.old + width }
     ensures capacity { vec_capacity rows.old ≤ vec_capacity rows.new }
 {
@@ -46,7 +48,8 @@ pub(crate) fn repeat_row(rows: &mut Vec<u64>, width: usize, i: usize)
 // Takes a row out.
 pub(crate) fn remove_row(rows: &mut Vec<u64>, width: usize, i: usize)
     requires { i * width + width ≤ vec_len rows.old }
-    ensures { rows.new.items ≡ take (i * width) rows.old.items ++ drop (i * width + width) rows.old.items }
+    ensures { rows.new.items
+        ≡ take (i * width) rows.old.items ++ drop (i * width + width) rows.old.items }
 {
     let len = rows.len();
     let at = i * width;

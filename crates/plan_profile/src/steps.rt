@@ -1,7 +1,9 @@
-//! The steps of a profile: the instants at which usage changes, and the rows of amounts between them.
-ghost use Rattle.std.specs.Prelude.{◌≡◌, ℕ, ◌+◌, ◌<◌, ◌≤◌, length, insert, vec_len, vec_capacity, Contains, OnOk, OnErr};
+//! The steps of a profile: the instants at which usage changes, and the amounts between them.
+ghost use Rattle.std.specs.Prelude.{◌≡◌, ℕ, ◌+◌, ◌<◌, ◌≤◌, length, insert, vec_len, vec_capacity};
+ghost use Rattle.std.specs.Prelude.{Contains, OnOk, OnErr};
 ghost use Rattle.plan_profile.specs.Usage.{IsRising};
-ghost use Rattle.plan_profile.specs.Steps.{changes_until, lists, amount, AreRows, IsSteps, AreChanges};
+ghost use Rattle.plan_profile.specs.Steps.{changes_until, lists, amount};
+ghost use Rattle.plan_profile.specs.Steps.{AreRows, IsSteps, AreChanges};
 ghost use Rattle.plan_profile.specs.Changing.{IsCut, IsMerged, IsPlaced, HasSumsBetween};
 
 use crate::rows::{raise, remove_row, repeat_row, row};
@@ -64,7 +66,8 @@ fn merge(changes: &mut Vec<u64>, rows: &mut Vec<u64>, width: usize, at: u64)
     }
 }
 
-// Adds needs at the instants from start to before end. Where it finds no memory, it changes nothing.
+// Adds needs at the instants from start to before end. Where it finds no memory, it changes
+// nothing.
 pub(crate) fn place_between(
     changes: &mut Vec<u64>,
     rows: &mut Vec<u64>,
@@ -73,7 +76,8 @@ pub(crate) fn place_between(
     needs: &[u64],
 ) -> Result<(), AllocError>
     requires whole { AreRows (length needs.now) changes.old.items rows.old.items }
-    requires steps { IsSteps changes.old.items (lists (length needs.now) changes.old.items rows.old.items) }
+    requires steps { IsSteps changes.old.items
+        (lists (length needs.now) changes.old.items rows.old.items) }
     requires true_changes { AreChanges changes.old.items
         (amount changes.old.items (lists (length needs.now) changes.old.items rows.old.items)) }
     requires order { start < end }

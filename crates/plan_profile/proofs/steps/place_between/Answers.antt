@@ -1,9 +1,8 @@
 -- The stages of the body are those of `IsStaged`.
-use Rattle.std.proofs.Common.{◌≡◌, ◌+◌, ◌*◌, ◌≤◌, length, sym, ◌∙◌, ap, arith}
+use Rattle.std.proofs.Common.{◌+◌, length, ◌∙◌, ap, arith}
 use Rattle.std.proofs.lemmas.List.{with_items_is}
 use Rattle.std.proofs.lemmas.Nat.{mul-le}
-use Rattle.plan_profile.specs.Steps.{changes_until, lists, AreRows}
-use Rattle.plan_profile.specs.Changing.{IsRaised, HasSums, HaveSums}
+use Rattle.plan_profile.specs.Steps.{changes_until, lists}
 use Rattle.plan_profile.proofs.SegmentLemmas.{until_mono, until_there, until_within}
 use Rattle.plan_profile.proofs.RowLemmas.{sums_flat, raised_rows}
 use Rattle.plan_profile.proofs.PlacingLemmas.{sums_same, sums_of_rows, raised_steps, placed}

@@ -1,9 +1,9 @@
 -- The one row is zeros.
-use Rattle.std.proofs.Common.{◌≡◌, [], ◌∷◌, length, replicate, ap, ◌∙◌, arith}
+use Rattle.std.proofs.Common.{◌≡◌, length, replicate, ap, ◌∙◌, arith}
 use Rattle.std.proofs.lemmas.List.{length-replicate}
 use Rattle.plan_profile.specs.InUse.{in_use, capacities}
 use Rattle.plan_profile.specs.Steps.{lists, amount}
-use Rattle.plan_profile.proofs.ChangeLemmas.{zero_row, zero_lists, zero_amounts, zero_steps, none_change}
+use Rattle.plan_profile.proofs.ChangeLemmas.{zero_lists, zero_amounts, zero_steps, none_change}
 use Rattle.plan_profile.proofs.profile.Profile.new.Goals as goal
 
 pub invariant_of-result-clause-wide : goal.invariant_of-result-clause-wide

@@ -1,5 +1,5 @@
 -- The row is as long as the capacities.
-use Rattle.std.proofs.Common.{◌≡◌, ◌≤◌, length, sym, ap, ◌∙◌, arith}
+use Rattle.std.proofs.Common.{◌≡◌, length, sym, ap, ◌∙◌, arith}
 use Rattle.plan_profile.specs.InUse.{in_use, capacities}
 use Rattle.plan_profile.proofs.FlatLemmas.{list_at, row_within, length-row_at}
 use Rattle.plan_profile.proofs.profile.Profile.row_has_room.Goals as goal

@@ -1,7 +1,7 @@
 -- The row in force has the amount.
-use Rattle.std.proofs.Common.{◌≡◌, ◌-◌, ◌≤◌, length, get_or, sym, ap, ◌∙◌, arith}
+use Rattle.std.proofs.Common.{◌≡◌, ◌-◌, length, get_or, sym, ap, ◌∙◌, arith}
 use Rattle.plan_profile.specs.InUse.{in_use, capacities}
-use Rattle.plan_profile.specs.Steps.{row_at, lists, amount_at}
+use Rattle.plan_profile.specs.Steps.{lists}
 use Rattle.plan_profile.proofs.FlatLemmas.{amount_there, get_or-row_at, row_within}
 use Rattle.plan_profile.proofs.SegmentLemmas.{until_within}
 use Rattle.plan_profile.proofs.StepLemmas.{amount_is}
