@@ -13,6 +13,8 @@ use Rattle.plan_profile.proofs.steps.merge.Goals as goal
 
 pub returns-then-eq-clause-merged : goal.returns-then-eq-clause-merged
 returns-then-eq-clause-merged c =
+    let old = lists c.args.width c.args.changes.now.items c.args.rows.now.items in
+    let fewer_changes = remove c.args.changes.now.items (c.segment-i.result - 1) in
     let is = rw c.deref.ensures.value at c.segment-i.ensures in
     let most = until_within c.args.changes.now.items c.args.at in
     let some = until_there c.args.changes.now.items c.args.at c.requires.steps.rising c.requires.there in
@@ -23,21 +25,23 @@ returns-then-eq-clause-merged c =
     let row_before = rw c.deref-2.ensures.value at c.row.ensures in
     let row_here = rw c.deref-3.ensures.value at c.row-2.ensures in
     let alike = (slice_eq-Decides Decides-eqb _ _ _ c.eq.ensures).0 c.if-eq.true in
-    let rows = lists_removed c.args.width c.args.changes.now.items (remove c.args.changes.now.items (c.segment-i.result - 1)) c.args.rows.now.items c.segment-i.result c.requires.whole inside fewer in
-    rw (c.remove.ensures.items, c.remove_row.ensures, rows) (merge_away c.args.changes.now.items (lists c.args.width c.args.changes.now.items c.args.rows.now.items) c.args.at c.segment-i.result c.requires.steps c.requires.there is (before ∙ sym row_before ∙ alike ∙ row_here ∙ sym here))
+    let rows = lists_removed c.args.width c.args.changes.now.items fewer_changes c.args.rows.now.items c.segment-i.result c.requires.whole inside fewer in
+    rw (c.remove.ensures.items, c.remove_row.ensures, rows) (merge_away c.args.changes.now.items old c.args.at c.segment-i.result c.requires.steps c.requires.there is (before ∙ sym row_before ∙ alike ∙ row_here ∙ sym here))
 
 pub returns-then-eq-clause-whole : goal.returns-then-eq-clause-whole
 returns-then-eq-clause-whole c =
+    let fewer_changes = remove c.args.changes.now.items (c.segment-i.result - 1) in
     let is = rw c.deref.ensures.value at c.segment-i.ensures in
     let most = until_within c.args.changes.now.items c.args.at in
     let some = until_there c.args.changes.now.items c.args.at c.requires.steps.rising c.requires.there in
     let inside : c.segment-i.result ≤ length c.args.changes.now.items = omega arith in
     let fewer = length-remove c.args.changes.now.items (c.segment-i.result - 1) (omega arith) in
     rw (c.remove.ensures.items, c.remove_row.ensures)
-    (whole_removed c.args.width c.args.changes.now.items (remove c.args.changes.now.items (c.segment-i.result - 1)) c.args.rows.now.items c.segment-i.result c.requires.whole inside fewer)
+    (whole_removed c.args.width c.args.changes.now.items fewer_changes c.args.rows.now.items c.segment-i.result c.requires.whole inside fewer)
 
 pub returns-else-eq-clause-merged : goal.returns-else-eq-clause-merged
 returns-else-eq-clause-merged c =
+    let old = lists c.args.width c.args.changes.now.items c.args.rows.now.items in
     let is = rw c.deref.ensures.value at c.segment-i.ensures in
     let most = until_within c.args.changes.now.items c.args.at in
     let some = until_there c.args.changes.now.items c.args.at c.requires.steps.rising c.requires.there in
@@ -46,5 +50,5 @@ returns-else-eq-clause-merged c =
     let here = list_at c.args.width c.args.changes.now.items c.args.rows.now.items c.segment-i.result inside in
     let row_before = rw c.deref-2.ensures.value at c.row.ensures in
     let row_here = rw c.deref-3.ensures.value at c.row-2.ensures in
-    merge_stay c.args.changes.now.items (lists c.args.width c.args.changes.now.items c.args.rows.now.items) c.args.at c.segment-i.result c.requires.steps c.requires.there is
+    merge_stay c.args.changes.now.items old c.args.at c.segment-i.result c.requires.steps c.requires.there is
     (λ alike. both_ways c.eq.result c.if-eq.false ((slice_eq-Decides Decides-eqb _ _ _ c.eq.ensures).1 (row_before ∙ sym before ∙ alike ∙ here ∙ sym row_here)))

@@ -28,14 +28,17 @@ raise-requires-clause-within c =
 pub raise-requires-clause-sums : goal.raise-requires-clause-sums
 raise-requires-clause-sums c =
     let w = length c.args.needs.now in
+    let rows0 = lists w c.args.changes.now.items c.args.rows.now.items in
+    let rows1 = lists w c.cut.new.changes.items c.cut.new.rows.items in
+    let rows2 = lists w c.cut-2.new.changes.items c.cut-2.new.rows.items in
     let from = rw c.deref.ensures.value at c.segment-from.ensures in
     let to = rw c.deref-2.ensures.value at c.segment-to.ensures in
     let most = until_within c.cut-2.new.changes.items c.args.end in
     let opened = rw (c.in_ok-reserve.ensures.items, c.in_ok-reserve-2.ensures.items) at c.cut.ensures.cut in
     let closed = c.cut-2.ensures.cut in
-    let sums1 = sums_same c.args.changes.now.items (lists w c.args.changes.now.items c.args.rows.now.items) c.cut.new.changes.items (lists w c.cut.new.changes.items c.cut.new.rows.items) c.args.start c.args.end c.args.needs.now opened.usage c.requires.sums in
-    let sums2 = sums_same c.cut.new.changes.items (lists w c.cut.new.changes.items c.cut.new.rows.items) c.cut-2.new.changes.items (lists w c.cut-2.new.changes.items c.cut-2.new.rows.items) c.args.start c.args.end c.args.needs.now closed.usage sums1 in
-    let rows = sums_of_rows c.cut-2.new.changes.items (lists w c.cut-2.new.changes.items c.cut-2.new.rows.items) c.args.start c.args.end c.args.needs.now closed.usage.steps (closed.kept c.args.start opened.there) closed.there sums2 in
+    let sums1 = sums_same c.args.changes.now.items rows0 c.cut.new.changes.items rows1 c.args.start c.args.end c.args.needs.now opened.usage c.requires.sums in
+    let sums2 = sums_same c.cut.new.changes.items rows1 c.cut-2.new.changes.items rows2 c.args.start c.args.end c.args.needs.now closed.usage sums1 in
+    let rows = sums_of_rows c.cut-2.new.changes.items rows2 c.args.start c.args.end c.args.needs.now closed.usage.steps (closed.kept c.args.start opened.there) closed.there sums2 in
     rw (c.deref_mut.ensures.value, from, to) (sums_flat c.cut-2.new.changes.items c.cut-2.new.rows.items (changes_until c.cut-2.new.changes.items c.args.start) (changes_until c.cut-2.new.changes.items c.args.end) c.args.needs.now (omega arith) rows)
 
 pub merge-requires-clause-whole : goal.merge-requires-clause-whole
@@ -48,6 +51,7 @@ merge-requires-clause-whole c =
 pub merge-requires-clause-steps : goal.merge-requires-clause-steps
 merge-requires-clause-steps c =
     let w = length c.args.needs.now in
+    let rows2 = lists w c.cut-2.new.changes.items c.cut-2.new.rows.items in
     let from = rw c.deref.ensures.value at c.segment-from.ensures in
     let to = rw c.deref-2.ensures.value at c.segment-to.ensures in
     let most = until_within c.cut-2.new.changes.items c.args.end in
@@ -56,7 +60,7 @@ merge-requires-clause-steps c =
     let some = until_there c.cut-2.new.changes.items c.args.start closed.usage.steps.rising (closed.kept c.args.start opened.there) in
     let items = with_items_is c.cut-2.new.rows c.raise.new.rows (c.raise.ensures.size ∙ c.deref_mut.ensures.len) in
     let raised = raised_rows c.cut-2.new.changes.items c.cut-2.new.rows.items c.segment-from.result c.segment-to.result c.args.needs.now c.raise.new.rows c.cut-2.ensures.whole (omega arith) (rw c.deref_mut.ensures.value at c.raise.ensures) in
-    rw items (raised_steps c.cut-2.new.changes.items (lists w c.cut-2.new.changes.items c.cut-2.new.rows.items) c.segment-from.result c.segment-to.result c.args.needs.now (lists w c.cut-2.new.changes.items c.raise.new.rows) closed.usage.steps (omega arith) raised)
+    rw items (raised_steps c.cut-2.new.changes.items rows2 c.segment-from.result c.segment-to.result c.args.needs.now (lists w c.cut-2.new.changes.items c.raise.new.rows) closed.usage.steps (omega arith) raised)
 
 pub merge-requires-2-clause-there : goal.merge-requires-2-clause-there
 merge-requires-2-clause-there c =
@@ -66,14 +70,17 @@ merge-requires-2-clause-there c =
 pub returns-clause-ok : goal.returns-clause-ok
 returns-clause-ok c =
     let w = length c.args.needs.now in
+    let rows0 = lists w c.args.changes.now.items c.args.rows.now.items in
+    let rows1 = lists w c.cut.new.changes.items c.cut.new.rows.items in
+    let rows2 = lists w c.cut-2.new.changes.items c.cut-2.new.rows.items in
     let from = rw c.deref.ensures.value at c.segment-from.ensures in
     let to = rw c.deref-2.ensures.value at c.segment-to.ensures in
     let most = until_within c.cut-2.new.changes.items c.args.end in
     let opened = rw (c.in_ok-reserve.ensures.items, c.in_ok-reserve-2.ensures.items) at c.cut.ensures.cut in
     let items = with_items_is c.cut-2.new.rows c.raise.new.rows (c.raise.ensures.size ∙ c.deref_mut.ensures.len) in
     let raised = raised_rows c.cut-2.new.changes.items c.cut-2.new.rows.items c.segment-from.result c.segment-to.result c.args.needs.now c.raise.new.rows c.cut-2.ensures.whole (omega arith) (rw c.deref_mut.ensures.value at c.raise.ensures) in
-    placed c.args.changes.now.items (lists w c.args.changes.now.items c.args.rows.now.items) c.args.start c.args.end c.args.needs.now
-    c.cut.new.changes.items (lists w c.cut.new.changes.items c.cut.new.rows.items) c.cut-2.new.changes.items (lists w c.cut-2.new.changes.items c.cut-2.new.rows.items)
+    placed c.args.changes.now.items rows0 c.args.start c.args.end c.args.needs.now
+    c.cut.new.changes.items rows1 c.cut-2.new.changes.items rows2
     (lists w c.cut-2.new.changes.items c.raise.new.rows)
     c.merge.new.changes.items (lists w c.merge.new.changes.items c.merge.new.rows.items) c.merge-2.new.changes.items (lists w c.merge-2.new.changes.items c.merge-2.new.rows.items)
     c.requires.true_changes

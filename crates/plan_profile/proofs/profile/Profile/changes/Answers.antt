@@ -11,14 +11,16 @@ use Rattle.plan_profile.proofs.profile.Profile.changes.Goals as goal
 pub returns-clause-exact : goal.returns-clause-exact
 unfolding in_use capacities
 returns-clause-exact c =
+    let rows = lists (length c.args.self.now.caps.items) c.args.self.now.changes.items c.args.self.now.rows.items in
     rw c.deref.ensures.value (λ t. (
-      λ there. change_from_there c.args.self.now.changes.items (lists (length c.args.self.now.caps.items) c.args.self.now.changes.items c.args.self.now.rows.items) (length c.args.self.now.caps.items) t c.args.self.now.steps (first_wide (length c.args.self.now.caps.items) c.args.self.now.changes.items c.args.self.now.rows.items c.args.self.now.wide) c.args.self.now.true_changes there,
-      λ change. there_from_change c.args.self.now.changes.items (lists (length c.args.self.now.caps.items) c.args.self.now.changes.items c.args.self.now.rows.items) (length c.args.self.now.caps.items) t c.args.self.now.steps change,
+      λ there. change_from_there c.args.self.now.changes.items rows (length c.args.self.now.caps.items) t c.args.self.now.steps (first_wide (length c.args.self.now.caps.items) c.args.self.now.changes.items c.args.self.now.rows.items c.args.self.now.wide) c.args.self.now.true_changes there,
+      λ change. there_from_change c.args.self.now.changes.items rows (length c.args.self.now.caps.items) t c.args.self.now.steps change,
     ))
 
 pub returns-clause-in_time : goal.returns-clause-in_time
 unfolding in_use capacities
 returns-clause-in_time c =
+    let rows = lists (length c.args.self.now.caps.items) c.args.self.now.changes.items c.args.self.now.rows.items in
     rw c.deref.ensures.value (λ k d inside.
-    changes_end END c.args.self.now.changes.items (lists (length c.args.self.now.caps.items) c.args.self.now.changes.items c.args.self.now.rows.items) c.args.self.now.steps c.args.self.now.true_changes c.args.self.now.ended
+    changes_end END c.args.self.now.changes.items rows c.args.self.now.steps c.args.self.now.true_changes c.args.self.now.ended
     (get_or c.args.self.now.changes.items k d) (Contains-get_or c.args.self.now.changes.items k d inside))

@@ -11,7 +11,9 @@ use Rattle.plan_profile.proofs.profile.Profile.fits.Goals.{else-first-i-via-then
 
 pub loop-i-init : goal.loop-i-init
 unfolding in_use capacities
-loop-i-init c = rw c.row_in_force-first.ensures (room_none c.args.self.now.caps.items c.args.self.now.changes.items (lists (length c.args.self.now.caps.items) c.args.self.now.changes.items c.args.self.now.rows.items) c.args.needs.now c.args.start c.args.self.now.steps.rising)
+loop-i-init c =
+    let rows = lists (length c.args.self.now.caps.items) c.args.self.now.changes.items c.args.self.now.rows.items in
+    rw c.row_in_force-first.ensures (room_none c.args.self.now.caps.items c.args.self.now.changes.items rows c.args.needs.now c.args.start c.args.self.now.steps.rising)
 
 pub overflow_sub-index : goal.overflow_sub-index
 unfolding in_use capacities
@@ -26,18 +28,20 @@ overflow_sub-index c =
 pub returns-then-index-start : goal.returns-then-index-start
 unfolding in_use capacities
 returns-then-index-start c =
+    let rows = lists (length c.args.self.now.caps.items) c.args.self.now.changes.items c.args.self.now.rows.items in
     let rows_len = c.len-i-end.ensures in
     let first = c.row_in_force-first.ensures in
     let read = get_or_default c.args.self.now.changes.items (c.loop-i.i - 1) c.index.result.now 0 (omega arith) in
     let later = beyond c.args.self.now.changes.items c.args.start (c.loop-i.i - 1) c.args.self.now.steps.rising (omega arith) (omega arith) in
     let is = c.index.ensures in (
-      λ _. fits_before c.args.self.now.caps.items c.args.self.now.changes.items (lists (length c.args.self.now.caps.items) c.args.self.now.changes.items c.args.self.now.rows.items) c.args.needs.now c.args.start c.args.d c.loop-i.i c.args.self.now.steps.rising c.loop-i.invariant (omega arith) (omega arith) (omega arith),
+      λ _. fits_before c.args.self.now.caps.items c.args.self.now.changes.items rows c.args.needs.now c.args.start c.args.d c.loop-i.i c.args.self.now.steps.rising c.loop-i.invariant (omega arith) (omega arith) (omega arith),
       λ _. refl,
     )
 
 pub returns-then-not-row_has_room : goal.returns-then-not-row_has_room
 unfolding in_use capacities
 returns-then-not-row_has_room c =
+    let rows = lists (length c.args.self.now.caps.items) c.args.self.now.changes.items c.args.self.now.rows.items in
     let rows_len = c.len-i-end.ensures in
     let first = c.row_in_force-first.ensures in
     let reaches : c.row_in_force-first.result < c.loop-i.i → get_or c.args.self.now.changes.items (c.loop-i.i - 1) 0 < c.args.start + c.args.d =
@@ -49,7 +53,7 @@ returns-then-not-row_has_room c =
       | else-first-i-via-else-first-i w ↦ absurd (omega arith)
     ] in (
       λ e. absurd (false≢true e),
-      λ fits. absurd (stuck c.args.self.now.caps.items c.args.self.now.changes.items (lists (length c.args.self.now.caps.items) c.args.self.now.changes.items c.args.self.now.rows.items) c.args.needs.now c.args.start c.args.d c.args.start c.loop-i.i
+      λ fits. absurd (stuck c.args.self.now.caps.items c.args.self.now.changes.items rows c.args.needs.now c.args.start c.args.d c.args.start c.loop-i.i
           c.args.self.now.steps.rising (omega arith) (omega arith) (omega arith) (omega arith)
           (λ inside. beyond c.args.self.now.changes.items c.args.start c.loop-i.i c.args.self.now.steps.rising (omega arith) inside)
           (λ gone. reaches (omega arith))
@@ -58,4 +62,6 @@ returns-then-not-row_has_room c =
 
 pub loop-i-preserved : goal.loop-i-preserved
 unfolding in_use capacities
-loop-i-preserved c = room_more c.args.self.now.caps.items c.args.self.now.changes.items (lists (length c.args.self.now.caps.items) c.args.self.now.changes.items c.args.self.now.rows.items) c.args.needs.now c.args.start c.loop-i.i c.loop-i.invariant (c.row_has_room.ensures.0 c.if-not-row_has_room.false)
+loop-i-preserved c =
+    let rows = lists (length c.args.self.now.caps.items) c.args.self.now.changes.items c.args.self.now.rows.items in
+    room_more c.args.self.now.caps.items c.args.self.now.changes.items rows c.args.needs.now c.args.start c.loop-i.i c.loop-i.invariant (c.row_has_room.ensures.0 c.if-not-row_has_room.false)
