@@ -1,6 +1,6 @@
 -- What a request makes fits: each answer's change keeps the rules of rows.
 use Rattle.std.proofs.Common.{◌≡◌, ℕ, zero, suc, ◌/◌, ◌^◌, ◌≤◌, ◌<◌, ◌⊎◌, inl, inr, Bool, true, false, not, List, [], ◌∷◌, filter, length, Option, Some, None, refl, sym, ap, ◌∙◌, subst, arith}
-use Rattle.std.specs.Prelude.{find, option_map, option_and_then, unwrap_or, is_some, ◌==◌, nat_le, nat_lt, codes, slice_index}
+use Rattle.std.specs.Prelude.{find, option_map, option_and_then, unwrap_or, is_some, ◌==◌, nat_le, nat_lt, codes, slice_index, IsSome, IfSome}
 use Rattle.std.specs.Int.{w32, to_be_bytes, bytes_high_first, byte_at}
 use Rattle.std.specs.List.{list_all, AllByRecursion}
 use Rattle.std.proofs.lemmas.Bool.{cases_Bool, cond-true, cond-false, both_ways, and_from, leb-false, lt-ltb, eqb-true, eq-eqb, not-false}
@@ -16,7 +16,7 @@ use Rattle.plan_desk.specs.declared.kinds.PlanKind.{PlanKind}
 use Rattle.plan_desk.specs.declared.kinds.PlanKind.TheVariants as kinds
 use Rattle.plan_desk.specs.World.{Text, Published, Desk, Plan, World, same_kind, takes, is_plan_of, is_plan, code_in, desk_in, plan_in}
 use Rattle.plan_desk.specs.Names.{is_name, is_key, is_digest, is_from_to}
-use Rattle.plan_desk.specs.Bodies.{json, passing, text_in, number_in, any_text, kind_named, PublishBody, publish_members, publish_body, DeskBody, desk_members, desk_body, desk_named, BindBody, bind_members, bind_body, LagBody, lag_members, lag_body}
+use Rattle.plan_desk.specs.Bodies.{json, passing, text_in, number_in, any_text, kind_named, PublishBody, publish_members, publish_body, DeskBody, desk_members, desk_body, desk_named, BindBody, bind_members, bind_body, LagBody, lag_members, lag_body, key_body}
 use Rattle.plan_desk.specs.Changes.{Change, Keep, apply}
 use Rattle.plan_desk.specs.Views.{View, view}
 use Rattle.plan_desk.specs.Calls.{Call, publish, open_desk, set_key, capacities, plans, import_project, import_shop, remove, bind, set_calendar, set_lag, dates, schedule, chart, days, best, Request, Reply, subject, admits}
@@ -27,7 +27,9 @@ use Rattle.plan_desk.specs.OfficeRoutes.{is_other_kind, Publishes, Opens, SetsKe
 use Rattle.plan_desk.specs.PlanRoutes.{of_plan, by_kind, has_arc, Imports, ImportsProject, ImportsShop, Removes, Binds, Calendars, SetsLag}
 use Rattle.plan_desk.specs.PageRoutes.{Dates, OfSchedule, OfShopSchedule, Schedules, Charts, OfCalendar, Days}
 use Rattle.plan_desk.specs.BestRoutes.{OfProjectBest, OfShopBest, Best}
-use Rattle.plan_desk.specs.Decisions.{Answers, IsStep}
+use Rattle.plan_desk.specs.declared.kinds.Kind.TheVariants as codes_of
+use Rattle.plan_desk.specs.Deciding.{HasRows, Allows}
+use Rattle.plan_desk.specs.Decisions.{Answers, IsDecision, IsStep}
 use Rattle.plan_desk.specs.Rules.{IsThereAnd, HasName, IsWorld}
 use Rattle.plan_desk.specs.Laws.{StepsKeepRules}
 use Rattle.plan_desk.proofs.RuleLemmas.{found_has}
@@ -113,7 +115,7 @@ publish_says body b e =
       subst (λ r. nat_le r.capacity 10000 ≡ true) capacity.2 (number_passes (λ n. nat_le n 10000) (codes "capacity") value.0 capacity.0 capacity.1),
     )
 
-desk_says : (body : Text) (b : DeskBody) → desk_body body ≡ Some b → (is_name b.desk ≡ true) × (desk_named body ≡ Some b.desk)
+pub desk_says : (body : Text) (b : DeskBody) → desk_body body ≡ Some b → (is_name b.desk ≡ true) × (desk_named body ≡ Some b.desk)
 unfolding desk_body desk_named
 desk_says body b e =
     let value = and_then_some desk_members (json body) b e in
@@ -122,6 +124,21 @@ desk_says body b e =
       subst (λ r. is_name r.desk ≡ true) key.2 (text_passes is_name (codes "desk") value.0 desk.0 desk.1),
       ap (option_and_then (text_in any_text (codes "desk"))) value.1 ∙ any_named is_name (codes "desk") value.0 desk.0 desk.1 ∙ ap (λ r. Some r.desk) key.2,
     )
+
+-- the key of an opened desk is one
+pub desk_key_says : (body : Text) (b : DeskBody) → desk_body body ≡ Some b → is_key b.key ≡ true
+unfolding desk_body
+desk_key_says body b e =
+    let value = and_then_some desk_members (json body) b e in
+    let desk = and_then_some _ (text_in is_name (codes "desk") value.0) b value.2 in
+    let key = map_some _ (text_in is_key (codes "key") value.0) b desk.2 in
+    subst (λ r. is_key r.key ≡ true) key.2 (text_passes is_key (codes "key") value.0 key.0 key.1)
+
+pub key_says : (body key : Text) → key_body body ≡ Some key → is_key key ≡ true
+unfolding key_body
+key_says body key e =
+    let value = and_then_some (text_in is_key (codes "key")) (json body) key e in
+    text_passes is_key (codes "key") value.0 key value.2
 
 bind_says : (p : ℕ → Bool) (body : Text) (b : BindBody) → bind_body p body ≡ Some b → p b.place ≡ true
 unfolding bind_body
@@ -142,11 +159,32 @@ lag_says body b e =
 
 -- ---- outcomes whose changes fit
 
-abbrev IsFit : Text → World → Outcome → Type 0
-IsFit s w O = (reply : Reply) (c : Change) → O reply c → Fits s w c
+-- a change keeps the rules, and has the rows that it needs
+abbrev pub FitsIn : Text → World → Change → Type 0
+FitsIn s w c = Fits s w c × HasRows s w c
 
-fit_keep : (s : Text) (w : World) (c : Change) → c ≡ Keep → Fits s w c
-fit_keep s w c e = subst (Fits s w) (sym e) tt
+abbrev IsFit : Text → World → Outcome → Type 0
+IsFit s w O = (reply : Reply) (c : Change) → O reply c → FitsIn s w c
+
+fit_keep : (s : Text) (w : World) (c : Change) → c ≡ Keep → FitsIn s w c
+fit_keep s w c e = subst (FitsIn s w) (sym e) (tt, tt)
+
+is_there : {A : Type 0} (o : Option A) → not (is_some o) ≡ false → IsSome o
+is_there o e = not-false (is_some o) e
+
+some_there : {A : Type 0} (o : Option A) (x : A) → o ≡ Some x → IsSome o
+some_there o x e = ap is_some e
+
+kind_is : (a b : Kind) → not (same_kind a b) ≡ false → a ≡ b
+kind_is codes_of.Crew codes_of.Crew e = refl
+kind_is codes_of.Machine codes_of.Machine e = refl
+kind_is codes_of.Crew codes_of.Machine e = absurd (both_ways true e refl)
+kind_is codes_of.Machine codes_of.Crew e = absurd (both_ways true e refl)
+
+-- a code that is published is of the kind
+kind_there : (kind : Kind) (o : Option Published) → is_other_kind kind o ≡ false → IfSome o (λ row. row.kind ≡ kind)
+kind_there kind None e = tt
+kind_there kind (Some row) e = kind_is row.kind kind e
 
 fit_refuses : (s : Text) (w : World) (r : Reply) → IsFit s w (refuses r)
 unfolding refuses
@@ -160,9 +198,9 @@ fit_shows : (s : Text) (w : World) (P : Text → Type 0) → IsFit s w (shows P)
 unfolding shows
 fit_shows s w P reply c (text, p, e, f) = fit_keep s w c f
 
-fit_makes : (s : Text) (w : World) (status : ℕ) (text : Text) (made : Change) → Fits s w made → IsFit s w (makes status text made)
+fit_makes : (s : Text) (w : World) (status : ℕ) (text : Text) (made : Change) → FitsIn s w made → IsFit s w (makes status text made)
 unfolding makes
-fit_makes s w status text made fits reply c h = subst (Fits s w) (sym h.1) fits
+fit_makes s w status text made fits reply c h = subst (FitsIn s w) (sym h.1) fits
 
 fit_unless : (s : Text) (w : World) (b : Bool) (r : Reply) (Rest : Outcome) → (b ≡ false → IsFit s w Rest) → IsFit s w (unless b r Rest)
 unfolding unless
@@ -200,7 +238,7 @@ find_seen s m [] = refl
 find_seen s m (x ∷ xs) = grind (arith, cases_Bool (is_plan_of s x), cases_Bool (x.n == m), find_seen s m xs)
 
 -- the plan of a desk that a text names is in the tables by its number
-seen_there : (s : Text) (w : World) (text : Text) (plan : Plan) → plan_seen (view s w) text ≡ Some plan → plan_in w s plan.n ≡ Some plan
+pub seen_there : (s : Text) (w : World) (text : Text) (plan : Plan) → plan_seen (view s w) text ≡ Some plan → plan_in w s plan.n ≡ Some plan
 seen_there s w text plan e =
     let found = and_then_some (λ m. find (has_number m) (view s w).plans) (plan_number text) plan e in
     let there : plan_in w s found.0 ≡ Some plan = sym (find_seen s found.0 w.plans) ∙ found.2 in
@@ -218,16 +256,12 @@ seen_there s w text plan e =
 
 fit_publishes : (w : World) (body : Text) → IsFit [] w (Publishes w.published body)
 unfolding Publishes
-fit_publishes w body = fit_given [] w _ _ _ (λ b e. fit_unless [] w _ _ _ (λ same. fit_makes [] w _ _ _ (publish_says body b e)))
+fit_publishes w body = fit_given [] w _ _ _ (λ b e. fit_unless [] w _ _ _ (λ same. fit_makes [] w _ _ _ (publish_says body b e, kind_there b.kind (code_in w.published b.code) same)))
 
 fit_opens : (s : Text) (w : World) (body : Text) → s ≡ unwrap_or (desk_named body) [] → IsFit s w (Opens (view s w) body)
 unfolding Opens
 fit_opens s w body named =
-    fit_given s w _ _ _ (λ b e. fit_unless s w _ _ _ (λ absent. fit_makes s w _ _ _ (
-      subst (λ t. is_name t ≡ true) (sym (named ∙ ap (λ o. unwrap_or o []) (desk_says body b e).1)) (desk_says body b e).0,
-      sha256_is_digest b.key,
-      no_row (desk_in w s) absent,
-    )))
+    fit_given s w _ _ _ (λ b e. fit_unless s w _ _ _ (λ absent. fit_makes s w _ _ _ ((subst (λ t. is_name t ≡ true) (sym (named ∙ ap (λ o. unwrap_or o []) (desk_says body b e).1)) (desk_says body b e).0, sha256_is_digest b.key, no_row (desk_in w s) absent), no_row (desk_in w s) absent)))
   where
     no_row : (o : Option Desk) → is_some o ≡ false → o ≡ None
     no_row None e = refl
@@ -235,20 +269,13 @@ fit_opens s w body named =
 
 fit_sets_key : (s : Text) (w : World) (body : Text) → IsFit s w (SetsKey (view s w) s body)
 unfolding SetsKey
-fit_sets_key s w body = fit_unless s w _ _ _ (λ there. fit_given s w _ _ _ (λ key e. fit_makes s w _ _ _ (sha256_is_digest key)))
+fit_sets_key s w body = fit_unless s w _ _ _ (λ there. fit_given s w _ _ _ (λ key e. fit_makes s w _ _ _ (sha256_is_digest key, is_there (desk_in w s) there)))
 
 fit_imports : {A : Type 0} (s : Text) (w : World) (kind : PlanKind) (name body : Text) (Tells : Text → Type 0) (Reads : A → Type 0)
     → HasName kind name → ((x : A) → Reads x → (count : ℕ) × HasPlaces kind name body count) → IsFit s w (Imports (view s w) kind name body Tells Reads)
 unfolding Imports
 fit_imports s w kind name body Tells Reads named reads =
-    fit_given s w _ _ _ (λ row found. fit_unless s w _ _ _ (λ room. fit_unless s w _ _ _ (λ next. fit_why_or s w _ _ _ _ (λ x is. fit_makes s w _ _ _ (
-      row,
-      found,
-      leb-false 100 (length (view s w).plans) room,
-      below (leb-false 1000001 row.next next),
-      named,
-      reads x is,
-    )))))
+    fit_given s w _ _ _ (λ row found. fit_unless s w _ _ _ (λ room. fit_unless s w _ _ _ (λ next. fit_why_or s w _ _ _ _ (λ x is. fit_makes s w _ _ _ ((row, found, leb-false 100 (length (view s w).plans) room, below (leb-false 1000001 row.next next), named, reads x is), some_there (desk_in w s) row found)))))
   where
     below : {n : ℕ} → n < 1000001 → n ≤ 1000000
     below h = omega (arith, h)
@@ -263,7 +290,8 @@ fit_imports_shop s w name body = fit_imports s w _ _ _ _ _ tt (λ doc says. (doc
 
 fit_removes : (s : Text) (w : World) (n : Text) → IsFit s w (Removes (view s w) n)
 unfolding Removes
-fit_removes s w n = fit_of_plan s w _ _ _ (λ plan seen. fit_makes s w _ _ _ tt)
+fit_removes s w n =
+    fit_of_plan s w _ _ _ (λ plan seen. fit_makes s w _ _ _ (tt, some_there (plan_in w s plan.n) plan (seen_there s w n plan seen)))
 
 -- the code is there, of the kind that is taken
 right_kind : (kind : Kind) (o : Option Published) → not (is_some o) ≡ false → is_other_kind kind o ≡ false → IsThereAnd o (λ code. same_kind code.kind kind ≡ true)
@@ -274,27 +302,24 @@ fit_binds : (s : Text) (w : World) (n body : Text) → IsFit s w (Binds (view s 
 unfolding Binds
 fit_binds s w n body =
     fit_of_plan s w _ _ _ (λ plan seen. fit_some s w _ _ (λ count has. fit_given s w _ _ _ (λ b e.
-    fit_unless s w _ _ _ (λ there. fit_unless s w _ _ _ (λ right. fit_makes s w _ _ _
-    (subst (λ o. IsThereAnd o (λ found.
+    fit_unless s w _ _ _ (λ there. fit_unless s w _ _ _ (λ right.
+    let bound = subst (λ o. IsThereAnd o (λ found.
     ((count : ℕ) × HasPlaces found.kind found.name found.body count × (is_place found.kind count b.place ≡ true))
     × IsThereAnd (code_in w.published b.code) (λ code. same_kind code.kind (takes found.kind) ≡ true)))
     (sym (seen_there s w n plan seen))
-    ((count, has, bind_says (is_place plan.kind count) body b e), right_kind (takes plan.kind) (code_in w.published b.code) there right)))))))
+    ((count, has, bind_says (is_place plan.kind count) body b e), right_kind (takes plan.kind) (code_in w.published b.code) there right) in
+    fit_makes s w _ _ _ (bound, (some_there (plan_in w s plan.n) plan (seen_there s w n plan seen), is_there (code_in w.published b.code) there)))))))
 
 fit_calendars : (s : Text) (w : World) (n body : Text) → IsFit s w (Calendars (view s w) n body)
 unfolding Calendars
 fit_calendars s w n body =
-    fit_of_plan s w _ _ _ (λ plan seen. fit_given s w _ _ _ (λ b e. fit_why_or s w _ _ _ _ (λ c is. fit_makes s w _ _ _ (c, is))))
+    fit_of_plan s w _ _ _ (λ plan seen. fit_given s w _ _ _ (λ b e. fit_why_or s w _ _ _ _ (λ c is. fit_makes s w _ _ _ ((c, is), some_there (plan_in w s plan.n) plan (seen_there s w n plan seen)))))
 
 fit_sets_lag : (s : Text) (w : World) (n body : Text) → IsFit s w (SetsLag (view s w) n body)
 unfolding SetsLag
 fit_sets_lag s w n body =
     fit_of_plan s w _ _ _ (λ plan seen. fit_given s w _ _ _ (λ b e. fit_by_kind s w _ _ _
-    (λ kind. fit_some s w _ _ (λ p says. fit_unless s w _ _ _ (λ arc. fit_makes s w _ _ _ (
-      subst (λ o. IsThereAnd o (λ found. (found.kind ≡ kinds.Project) × ((q : Project) × SaysProject found.body q × (has_arc q.network b.source b.target ≡ true))))
-          (sym (seen_there s w n plan seen)) (kind, (p, says, not-false (has_arc p.network b.source b.target) arc)),
-      lag_says body b e,
-    ))))
+    (λ kind. fit_some s w _ _ (λ p says. fit_unless s w _ _ _ (λ arc. fit_makes s w _ _ _ ((subst (λ o. IsThereAnd o (λ found. (found.kind ≡ kinds.Project) × ((q : Project) × SaysProject found.body q × (has_arc q.network b.source b.target ≡ true)))) (sym (seen_there s w n plan seen)) (kind, (p, says, not-false (has_arc p.network b.source b.target) arc)), lag_says body b e), some_there (plan_in w s plan.n) plan (seen_there s w n plan seen)))))
     (λ kind. fit_refuses s w _)))
 
 fit_dates : (s : Text) (w : World) (n : Text) → IsFit s w (Dates (view s w) n)
@@ -355,6 +380,14 @@ answers_fit w r = by_call r.key r.call
     by_call key (days desk n rule) = fit_days desk w n rule
     by_call key (best desk n budget) = fit_best desk w n budget
 
+-- what is decided of a request fits
+pub decided_fits : (w : World) (r : Request) (reply : Reply) (c : Change) → decided (admits (view (subject r) w) r) (Answers (view (subject r) w) r.call) reply c → FitsIn (subject r) w c
+decided_fits w r reply c h = by_key (cases_Bool (admits (view (subject r) w) r))
+  where
+    by_key : (admits (view (subject r) w) r ≡ true) ⊎ (admits (view (subject r) w) r ≡ false) → FitsIn (subject r) w c
+    by_key (inl open_) = answers_fit w r reply c (decided_rest (admits (view (subject r) w) r) (Answers (view (subject r) w) r.call) reply c open_ h)
+    by_key (inr locked) = fit_keep (subject r) w c (decided_keeps (admits (view (subject r) w) r) (Answers (view (subject r) w) r.call) reply c locked h)
+
 -- a step keeps the rules of rows
 pub steps_keep_rules : StepsKeepRules
 unfolding StepsKeepRules IsStep
@@ -362,8 +395,9 @@ steps_keep_rules = λ w r reply after k step. kept w r reply after k step
   where
     kept : (w : World) (r : Request) (reply : Reply) (after : World) → IsWorld w
         → ((c : Change) × decided (admits (view (subject r) w) r) (Answers (view (subject r) w) r.call) reply c × (after ≡ apply (subject r) c w)) → IsWorld after
-    kept w r reply after k (c, h, e) = subst IsWorld (sym e) (fits_keeps (subject r) c w k (by_key (cases_Bool (admits (view (subject r) w) r))))
-      where
-        by_key : (admits (view (subject r) w) r ≡ true) ⊎ (admits (view (subject r) w) r ≡ false) → Fits (subject r) w c
-        by_key (inl open_) = answers_fit w r reply c (decided_rest (admits (view (subject r) w) r) (Answers (view (subject r) w) r.call) reply c open_ h)
-        by_key (inr locked) = fit_keep (subject r) w c (decided_keeps (admits (view (subject r) w) r) (Answers (view (subject r) w) r.call) reply c locked h)
+    kept w r reply after k (c, h, e) = subst IsWorld (sym e) (fits_keeps (subject r) c w k (decided_fits w r reply c h).0)
+
+-- a decision has the rows that it needs, and the tables keep their rules after it
+pub decision_allows : (w : World) (r : Request) (reply : Reply) (c : Change) → IsWorld w → IsDecision (view (subject r) w) r reply c → Allows (subject r) w c
+unfolding IsDecision
+decision_allows w r reply c k h = let fits = decided_fits w r reply c h in (fits.1, fits_keeps (subject r) c w k fits.0)

@@ -27,7 +27,7 @@ has_at [] x (k, below, is) = absurd (omega (arith, below))
 has_at (y ∷ ys) x (zero, below, is) = inl is
 has_at (y ∷ ys) x (suc k, below, is) = inr (has_at ys x (k, omega (arith, below), is))
 
-at_has : {A : Type 0} (xs : List A) (x : A) → Has xs x → Contains xs x
+pub at_has : {A : Type 0} (xs : List A) (x : A) → Has xs x → Contains xs x
 at_has [] x h = absurd h
 at_has (y ∷ ys) x (inl is) = (0, omega arith, is)
 at_has (y ∷ ys) x (inr h) = let rest = at_has ys x h in (suc rest.0, omega (arith, rest.1), rest.2)
@@ -95,7 +95,7 @@ module _ {A : Type 0} where
       each [] go none = tt
       each (y ∷ ys) go none = (go y (inl refl) none.0, each ys (λ z h. go z (inr h)) none.1)
 
-abbrev same_number : Plan → Plan → Bool
+abbrev pub same_number : Plan → Plan → Bool
 same_number a b = b.n == a.n
 
 abbrev same_place : Bind → Bind → Bool
@@ -105,7 +105,7 @@ abbrev same_arc : Lag → Lag → Bool
 same_arc a b = (b.source == a.source) && (b.target == a.target)
 
 -- the rows of a view differ by less than their whole keys
-numbers_differ : (v : View) → IsWorld (alone v) → AllDiffer same_number v.plans
+pub numbers_differ : (v : View) → IsWorld (alone v) → AllDiffer same_number v.plans
 numbers_differ v k = differ_weaker (λ a b. is_plan a.desk a.n b) same_number v.plans weaker k.plans_differ
   where
     weaker : (x y : Plan) → Has v.plans x → Has v.plans y → is_plan x.desk x.n y ≡ false → same_number x y ≡ false

@@ -19,25 +19,25 @@ use Rattle.plan_desk.specs.PlanRoutes.{of_plan, by_kind, has_arc, Imports, Binds
 use Rattle.plan_desk.specs.Refusals.{not_found, bad_body, unpublished, kind_differs, other_kind, many_plans, numbers_spent, bad_file}
 use Rattle.plan_desk.specs.RouteRefusals.{TellsFileFault, IsFileRefusal, IsImportRefusal, bind_refusal_of, lag_refusal_of}
 
-same_reply : (a b : Reply) → Some a ≡ Some b → a ≡ b
+pub same_reply : (a b : Reply) → Some a ≡ Some b → a ≡ b
 same_reply a b e = ap (λ (o : Option Reply). unwrap_or o a) e
 
-not_none : (r : Reply) → Some r ≡ None → ⊥
+pub not_none : (r : Reply) → Some r ≡ None → ⊥
 not_none r e = both_ways true (ap (λ (o : Option Reply). is_some o) e) refl
 
 -- the test of a refusal holds
-refused_by : (b : Bool) (r : Reply) (Rest : Outcome) (reply : Reply) → b ≡ true → reply ≡ r → unless b r Rest reply Keep
+pub refused_by : (b : Bool) (r : Reply) (Rest : Outcome) (reply : Reply) → b ≡ true → reply ≡ r → unless b r Rest reply Keep
 unfolding unless refuses
 refused_by true r Rest reply holds e = (e, refl)
 refused_by false r Rest reply holds e = absurd (both_ways false refl holds)
 
 -- the test of a refusal doesn't hold
-passed_by : (b : Bool) (r : Reply) (Rest : Outcome) (reply : Reply) (c : Change) → b ≡ false → Rest reply c → unless b r Rest reply c
+pub passed_by : (b : Bool) (r : Reply) (Rest : Outcome) (reply : Reply) (c : Change) → b ≡ false → Rest reply c → unless b r Rest reply c
 unfolding unless
 passed_by true r Rest reply c fails rest = absurd (both_ways true fails refl)
 passed_by false r Rest reply c fails rest = rest
 
-given_there : {A : Type 0} (o : Option A) (x : A) (r : Reply) (Rest : A → Outcome) (reply : Reply) (c : Change) → o ≡ Some x → Rest x reply c → given o r Rest reply c
+pub given_there : {A : Type 0} (o : Option A) (x : A) (r : Reply) (Rest : A → Outcome) (reply : Reply) (c : Change) → o ≡ Some x → Rest x reply c → given o r Rest reply c
 unfolding given
 given_there o x r Rest reply c there rest = subst (λ (found : Option _). given found r Rest reply c) (sym there) rest
 
@@ -127,7 +127,7 @@ abbrev pub IsProjectIn : Plan → Option Project → Type 0
 IsProjectIn plan None = plan.kind ≡ kinds.Shop
 IsProjectIn plan (Some p) = (plan.kind ≡ kinds.Project) × SaysProject plan.body p
 
-of_kind : (kind other : PlanKind) (OfProject OfShop : Outcome) (reply : Reply) (c : Change) → other ≡ kind → by_kind kind OfProject OfShop reply c
+pub of_kind : (kind other : PlanKind) (OfProject OfShop : Outcome) (reply : Reply) (c : Change) → other ≡ kind → by_kind kind OfProject OfShop reply c
     → by_kind other OfProject OfShop reply c
 of_kind kind other OfProject OfShop reply c is h = subst (λ (k : PlanKind). by_kind k OfProject OfShop reply c) (sym is) h
 

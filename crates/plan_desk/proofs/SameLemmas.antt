@@ -106,7 +106,7 @@ module _ {A : Type 0} where
       moved olds bs go x (inl old) = has_left bs (new ∷ []) x (go x old)
       moved olds bs go x (inr last) = has_right bs (new ∷ []) x last
 
-  any_has : (p : A → Bool) (xs : List A) → list_any p xs ≡ true → (x : A) × Has xs x × (p x ≡ true)
+  pub any_has : (p : A → Bool) (xs : List A) → list_any p xs ≡ true → (x : A) × Has xs x × (p x ≡ true)
   any_has p [] e = absurd (both_ways false refl e)
   any_has p (x ∷ xs) e = by_test (cases_Bool (p x)) (λ rest. any_has p xs rest)
     where
@@ -149,7 +149,7 @@ module _ {A : Type 0} where
       by_test (inl in_) later = let is : y ≡ x = grind (arith, e, in_) in (inl is, subst (λ z. p z ≡ true) is in_)
       by_test (inr out_) later = let rest = later (grind (arith, e, out_)) in (inr rest.0, rest.1)
 
-  found_one : (alike : A → A → Bool) (p : A → Bool) → ((x y : A) → p x ≡ true → p y ≡ true → alike x y ≡ true) → (xs : List A) (x : A)
+  pub found_one : (alike : A → A → Bool) (p : A → Bool) → ((x y : A) → p x ≡ true → p y ≡ true → alike x y ≡ true) → (xs : List A) (x : A)
       → AllDiffer alike xs → Has xs x → p x ≡ true → find p xs ≡ Some x
   found_one alike p pass [] x apart h e = absurd h
   found_one alike p pass (y ∷ ys) x apart (inl is) e = cond-true (p y) (Some y) (find p ys) (subst (λ z. p z ≡ true) (sym is) e) ∙ ap Some is

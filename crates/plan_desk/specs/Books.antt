@@ -23,8 +23,8 @@ pub record Shelf (B : Type 0) : Type 1 where
   pub stands : B → Type 0
   -- the disk has returned what was written
   pub honest : B → Type 0
-  -- it may refuse at all
-  pub can_refuse : B → Type 0
+  -- a book of the type may refuse at all
+  pub can_refuse : Type 0
   -- what a crash may leave as the last call ended: an office, or tables that are none
   pub may_leave : B → Option World → Type 0
   -- how many writing calls were made, and how many were refused
@@ -40,7 +40,7 @@ module _ {B : Type 0} (shelf : Shelf B) (old new : B) where
     pub same : shelf.honest new → shelf.stands new → shelf.world new ≡ shelf.world old
     pub answer : IfOk result (λ x. shelf.honest new → shelf.stands new × Is x)
     pub crash : shelf.honest new → (w : Option World) → shelf.may_leave new w → shelf.may_leave old w
-    pub store : IfErr result (λ fault. fault ≡ Store → shelf.can_refuse old)
+    pub store : IfErr result (λ fault. fault ≡ Store → shelf.can_refuse)
     pub made : shelf.made new ≡ shelf.made old
     pub refused : shelf.refused new ≡ shelf.refused old
 
@@ -54,7 +54,7 @@ module _ {B : Type 0} (shelf : Shelf B) (old new : B) where
     pub durable : OnOk result (shelf.honest new → (w : Option World) → shelf.may_leave new w → w ≡ Some (shelf.world new))
     pub crash : OnErr result (shelf.honest new → (w : Option World) → shelf.may_leave new w
         → shelf.may_leave old w ⊎ (shelf.stands old × (w ≡ Some (change (shelf.world old)))))
-    pub store : IfErr result (λ fault. fault ≡ Store → shelf.can_refuse old)
+    pub store : IfErr result (λ fault. fault ≡ Store → shelf.can_refuse)
     pub counted : OnOk result ((shelf.made new ≡ shelf.made old + 1) × (shelf.refused new ≡ shelf.refused old))
     pub refusal : OnErr result ((shelf.made new ≡ shelf.made old) × (shelf.refused new ≡ shelf.refused old + 1))
 

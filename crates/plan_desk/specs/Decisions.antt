@@ -59,7 +59,3 @@ IsStoryOf = story.IsStoryOf Answers
 -- a request of the story was answered for want
 unfoldable pub IsWanting : Text → View → List Request → List Reply → Type 0
 IsWanting = story.IsWanting Answers
-
--- what a crash may leave after a request, by what it might leave before
-unfoldable pub LeavesAfter : (Option World → Type 0) → World → Request → Reply → Option World → Type 0
-LeavesAfter = story.LeavesAfter Answers

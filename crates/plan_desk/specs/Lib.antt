@@ -20,3 +20,17 @@ pub mod Books
 pub mod BodyViews
 pub mod Replies
 pub mod RouteRefusals
+pub mod Pages
+pub mod Deciding
+pub mod Requests
+pub mod Answers
+pub mod Finding
+pub mod Tables
+pub mod Recovering
+pub mod Whole
+pub mod MemBooks
+pub mod RowTests
+pub mod PlanValues
+pub mod Scheduled
+pub mod BestOf
+pub mod FoundFiles

@@ -39,6 +39,11 @@ abbrev pub has_key : Option Text → Digest → Bool
 has_key None digest = false
 has_key (Some key) digest = is_key key && same_text (sha256 key) digest
 
+-- there is a digest, and the key is its own
+abbrev pub unlocks_by : Option Text → Option Digest → Bool
+unlocks_by key None = false
+unlocks_by key (Some digest) = has_key key digest
+
 -- the desk is there, and the key is its own
 abbrev pub unlocks : Option Text → Option Desk → Bool
 unlocks key None = false

@@ -5,7 +5,6 @@ use Rattle.plan_psplib.specs.Project.{Project, SaysProject}
 use Rattle.plan_orlib.specs.Shop as docs
 use Rattle.plan_orlib.specs.Says.{Says}
 use Rattle.plan_gantt.specs.FirstFaults.{TellsFirstFailing, TellsFirstShopFault}
-use Rattle.plan_gantt.specs.CalendarFaultText.{missing_calendar_text}
 use Rattle.plan_desk.specs.declared.kinds.Kind.{Kind}
 use Rattle.plan_desk.specs.declared.kinds.PlanKind.{PlanKind}
 use Rattle.plan_desk.specs.declared.kinds.PlanKind.TheVariants as kinds
@@ -13,7 +12,7 @@ use Rattle.plan_desk.specs.World.{Text, same_kind}
 use Rattle.plan_desk.specs.Calls.{Reply}
 use Rattle.plan_desk.specs.Bodies.{BindBody, LagBody}
 use Rattle.plan_desk.specs.PlanRoutes.{has_arc}
-use Rattle.plan_desk.specs.Refusals.{bad_body, unpublished, kind_differs, other_kind, many_plans, numbers_spent, bad_file, bad_schedule, bad_calendar}
+use Rattle.plan_desk.specs.Refusals.{bad_body, unpublished, kind_differs, other_kind, many_plans, numbers_spent, bad_file}
 
 -- a file says a project, or a shop by the name of an instance
 abbrev pub IsRead : PlanKind → Text → Text → Type 0
@@ -53,9 +52,3 @@ lag_refusal_of None project = Some bad_body
 lag_refusal_of (Some b) None = Some other_kind
 lag_refusal_of (Some b) (Some p) =
     if has_arc p.network b.source b.target then None else Some bad_body
-
--- working days, by why there is no schedule, and whether a calendar is set
-abbrev pub days_refusal_of : Option Text → Bool → Option Reply
-days_refusal_of (Some line) is_set = Some (bad_schedule line)
-days_refusal_of None true = None
-days_refusal_of None false = Some (bad_calendar missing_calendar_text)

@@ -5,7 +5,7 @@ use Rattle.std.specs.Prelude.{◌≡◌, ◌⊎◌, Bool, true, false, ◌&&◌,
 use Rattle.plan_desk.specs.World.{Text, World, same_text}
 use Rattle.plan_desk.specs.Changes.{Change, Keep, apply}
 use Rattle.plan_desk.specs.Views.{View, view, alone}
-use Rattle.plan_desk.specs.Calls.{Call, Request, Reply, refusal, no_key, desk_of, subject, is_publish, writes, is_accepted, admits}
+use Rattle.plan_desk.specs.Calls.{Call, Request, Reply, refusal, no_key, desk_of, subject, is_publish, admits}
 
 abbrev pub names : Text → Option Text → Bool
 names desk None = false
@@ -81,14 +81,3 @@ module _ (Answers : View → Call → Reply → Change → Type 0) where
       ⊎ ((belongs desk v r ≡ true) × (IsWant reply ⊎ ((after : World)
       × IsStep (alone v) r reply after × IsWanting desk (view desk after) requests replies)))
   IsWanting desk v requests replies = ⊥
-
-  -- What a crash may leave after a request: after an accepted command the world after it alone;
-  -- else what it might leave before, and, where a writing call was refused for want, the world that
-  -- the command would have made.
-  abbrev pub LeavesAfter : (Option World → Type 0) → World → Request → Reply → Option World → Type 0
-  LeavesAfter might w r reply left =
-      ((is_accepted r reply ≡ true)
-      × ((after : World) × IsStep w r reply after × (left ≡ Some after)))
-      ⊎ ((is_accepted r reply ≡ false)
-      × (might left ⊎ (IsWant reply × (writes r.call ≡ true) × ((other : Reply)
-      × (after : World) × IsStep w r other after × (left ≡ Some after)))))

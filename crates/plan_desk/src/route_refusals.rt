@@ -11,10 +11,9 @@ ghost use Rattle.plan_desk.specs.RouteRefusals as spec;
 use crate::bodies::{BindBody, LagBody};
 use crate::kinds::{Kind, PlanKind};
 use crate::reply::{
-    Reply, bad_body, bad_calendar, bad_file, bad_schedule, kind_differs, many_plans, numbers_spent,
-    other_kind, unpublished,
+    Reply, bad_body, bad_file, kind_differs, many_plans, numbers_spent, other_kind, unpublished,
 };
-use plan_gantt::{file_fault_text, missing_calendar};
+use plan_gantt::file_fault_text;
 use plan_net::Network;
 use plan_orlib::read_shop;
 use plan_psplib::{FileCode, FileFault, ProjectDoc, read_sm};
@@ -125,21 +124,4 @@ pub(crate) fn lag_refusal(body: Option<LagBody>, project: Option<&ProjectDoc>) -
     } else {
         Some(bad_body())
     }
-}
-
-// What is refused of working days, by why there is no schedule, and whether a calendar is set.
-pub(crate) fn days_refusal(
-    alloc: Global,
-    unscheduled: Option<&str>,
-    has_calendar: bool,
-) -> Result<Option<Reply>, AllocError>
-    ensures { IfOk result (λ refusal. option_map reply_of refusal ≡ spec.days_refusal_of (option_map (λ text. text.now) unscheduled.entry) has_calendar) }
-{
-    if let Some(text) = unscheduled {
-        return Ok(Some(bad_schedule(alloc, text)?));
-    }
-    if has_calendar {
-        return Ok(None);
-    }
-    Ok(Some(bad_calendar(alloc, missing_calendar())?))
 }

@@ -1,0 +1,8 @@
+use Rattle.std.proofs.Common.{◌≡◌, ◌++◌, take}
+use Rattle.std.specs.String.{string_bytes}
+use Rattle.plan_desk.specs.Answers.{texts_of_codes, texts_of_entries}
+use Rattle.plan_desk.proofs.answers.push_plans.Given as goal
+
+-- the texts of the rows so far stand behind the text
+abbrev pub invariant-all : goal.invariant-all
+invariant-all l = string_bytes l.text ≡ string_bytes l.initial.text ++ texts_of_entries (take l.i l.rows)

@@ -1,0 +1,27 @@
+use Rattle.std.proofs.Common.{sym, subst, []}
+use Rattle.std.specs.Prelude.{string_bytes}
+use Rattle.plan_desk.specs.Views.{view}
+use Rattle.plan_desk.specs.Outcomes.{tells}
+use Rattle.plan_desk.specs.JsonTexts.{codes_text}
+use Rattle.plan_desk.specs.Decisions.{Answers}
+use Rattle.plan_desk.specs.OfficeRoutes.{Publishes}
+use Rattle.plan_desk.specs.Deciding.{Finds, IsDecided}
+use Rattle.plan_desk.specs.Requests.{call_in, path_of, subject_of}
+use Rattle.plan_desk.proofs.judging.decide.Goals as goal
+
+pub returns-in-Publish : goal.returns-in-Publish
+returns-in-Publish g c =
+    subst (λ call. Finds g.B.Book.shelf c.args.book.now c.publishing.new.book
+    (λ w. IsDecided (path_of (call_in call)) (subject_of (call_in call)) (λ v. Answers v (call_in call)) (view (subject_of (call_in call)) w)) c.publishing.result)
+    (sym c.in-Publish.is)
+    (subst (λ body. Finds g.B.Book.shelf c.args.book.now c.publishing.new.book (λ w. IsDecided [] [] (λ v. Publishes v.published body) (view [] w)) c.publishing.result)
+    c.deref.ensures.value c.publishing.ensures)
+
+pub returns-in-Capacities : goal.returns-in-Capacities
+returns-in-Capacities g c =
+    subst (λ call. Finds g.B.Book.shelf c.args.book.now c.code_listing.new.book
+    (λ w. IsDecided (path_of (call_in call)) (subject_of (call_in call)) (λ v. Answers v (call_in call)) (view (subject_of (call_in call)) w)) c.code_listing.result)
+    (sym c.in-Capacities.is)
+    (subst (λ desk. Finds g.B.Book.shelf c.args.book.now c.code_listing.new.book
+    (λ w. IsDecided desk desk (λ v. tells (codes_text v.published)) (view desk w)) c.code_listing.result)
+    c.as_str-in-Capacities.ensures.value c.code_listing.ensures)

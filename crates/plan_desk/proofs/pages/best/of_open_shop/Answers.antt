@@ -1,0 +1,13 @@
+use Rattle.std.proofs.Common.{◌∙◌}
+use Rattle.std.specs.Prelude.{string_bytes}
+use Rattle.plan_shop.proofs.ShopBasics.{count_is}
+use Rattle.plan_desk.proofs.BestLemmas.{shop_best}
+use Rattle.plan_desk.proofs.pages.best.of_open_shop.Goals as goal
+
+pub best_text-requires-clause-starts : goal.best_text-requires-clause-starts
+best_text-requires-clause-starts c = c.in-Ok.ensures.active.feasible.each_started ∙ count_is c.args.shop.now
+
+pub returns-in_ok-best_text-in-Ok : goal.returns-in_ok-best_text-in-Ok
+returns-in_ok-best_text-in-Ok c =
+    shop_best c.args.word.now c.budget_of.result c.args.shop.now c.in-Ok.solved (string_bytes c.in_ok-best_text-in-Ok.field-0) c.budget_of.ensures
+    c.in-Ok.ensures.solution c.in-Ok.ensures.shortest c.in-Ok.ensures.active c.in-Ok.ensures.makespan c.in_ok-best_text-in-Ok.ensures.text

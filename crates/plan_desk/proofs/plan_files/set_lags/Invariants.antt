@@ -1,0 +1,11 @@
+use Rattle.std.proofs.Common.{◌≡◌, map, drop}
+use Rattle.plan_desk.specs.Plans.{lagged_by}
+use Rattle.plan_desk.specs.Books.{lag_in}
+use Rattle.plan_desk.proofs.plan_files.set_lags.Given as goal
+
+-- the lags that are left make of the project what all make of the first one, and the arcs stay
+abbrev pub invariant-loop-row : goal.invariant-loop-row
+invariant-loop-row l = record {
+  rest : lagged_by (map lag_in (drop l.row-index l.lags)) l.project ≡ lagged_by (map lag_in l.lags) l.fn.project;
+  arcs : l.project.network.arcs ≡ l.fn.project.network.arcs;
+}

@@ -1,0 +1,17 @@
+use Rattle.std.proofs.Common.{◌≡◌, ◌∙◌, sym, true, map}
+use Rattle.plan_desk.specs.World.{is_code, code_in, same_kind, takes}
+use Rattle.plan_desk.specs.Books.{published_in}
+use Rattle.plan_desk.proofs.TableLemmas.{find_at_place, find_none_at}
+use Rattle.plan_desk.proofs.TestedLemmas.{tells_of, tells_there, there_none}
+use Rattle.plan_desk.proofs.row_tests.tested.has_code.Goals as goal
+
+pub returns-in-Some : goal.returns-in-Some
+returns-in-Some c =
+    tells_there (λ row. same_kind row.kind (takes c.args.kind) ≡ true) c.is_taken.result
+    (find_at_place published_in (is_code c.args.code.now) c.args.rows.now c.in-Some.at c.index-rows-at.result (sym c.code_at.ensures ∙ c.in-Some.is))
+    (tells_of c.is_taken.result _ c.is_taken.ensures)
+
+pub returns-in-None : goal.returns-in-None
+returns-in-None c =
+    there_none (code_in (map published_in c.args.rows.now) c.args.code.now) (λ row. same_kind row.kind (takes c.args.kind) ≡ true)
+    (find_none_at published_in (is_code c.args.code.now) c.args.rows.now (sym c.code_at.ensures ∙ c.in-None.is))

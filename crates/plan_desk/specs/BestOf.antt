@@ -1,0 +1,37 @@
+-- Best schedules of plans as a book answers them, for private clauses alone (docs/DEFINITIONS.md,
+-- "Books").
+use Rattle.std.specs.Prelude.{◌≡◌, ◌⊎◌, Bool, List}
+use Rattle.plan_psplib.specs.Project.{Project}
+use Rattle.plan_shop.specs.Shop.{JobShop}
+use Rattle.plan_shop.specs.Docs.{NoneIsClosed}
+use Rattle.plan_gantt.specs.ShopBestText.{IsBestTextOf}
+use Rattle.plan_gantt.specs.ProjectBestText.{IsBestProjectTextOf, TellsBestProjectRefusal}
+use Rattle.plan_desk.specs.declared.kinds.PlanKind.TheVariants as kinds
+use Rattle.plan_desk.specs.declared.bound.BoundPlan.{BoundPlan}
+use Rattle.plan_desk.specs.World.{Text}
+use Rattle.plan_desk.specs.Plans.{IsShopOf}
+use Rattle.plan_desk.specs.BestRoutes.{TellsNoShopBest}
+use Rattle.plan_desk.specs.PlanValues.{IsProjectIn, row_in, planned_in, open_in}
+
+-- a text tells the best schedule of a shop of which all machines in use are open
+abbrev pub IsOpenBest : Text → JobShop → List Bool → Text → Type 0
+IsOpenBest word s usable text = NoneIsClosed s.steps usable × IsBestTextOf word s text
+
+-- a text tells the best schedule of a plan within the budget that a word spells
+abbrev pub IsBestOf : BoundPlan → Text → Text → Type 0
+IsBestOf bound word text =
+    ((bound.plan.kind ≡ kinds.Project)
+    × ((p : Project) × IsProjectIn bound.plan p
+    × IsBestProjectTextOf word (planned_in bound p) text))
+    ⊎ ((bound.plan.kind ≡ kinds.Shop)
+    × ((s : JobShop) × IsShopOf (row_in bound.plan) s × IsOpenBest word s (open_in bound s) text))
+
+-- a line tells why a plan has none
+abbrev pub TellsNoBest : BoundPlan → Text → Text → Type 0
+TellsNoBest bound word line =
+    ((bound.plan.kind ≡ kinds.Project)
+    × ((p : Project) × IsProjectIn bound.plan p
+    × TellsBestProjectRefusal word (planned_in bound p) line))
+    ⊎ ((bound.plan.kind ≡ kinds.Shop)
+    × ((s : JobShop) × IsShopOf (row_in bound.plan) s
+    × TellsNoShopBest word s (open_in bound s) line))

@@ -1,0 +1,29 @@
+-- What is read again of the file of a plan (docs/DEFINITIONS.md, "Books").
+use Rattle.std.specs.Prelude.{◌≡◌, ℕ, Option, Some, None, string_bytes}
+use Rattle.plan_psplib.specs.Project.{Project, SaysProject}
+use Rattle.plan_orlib.specs.Says.{Says}
+use Rattle.plan_gantt.specs.FirstFaults.{TellsFirstFailing, TellsFirstShopFault}
+use Rattle.plan_desk.specs.declared.kinds.PlanKind.{PlanKind}
+use Rattle.plan_desk.specs.declared.kinds.PlanKind.TheVariants as kinds
+use Rattle.plan_desk.specs.declared.rows.PlanRow.{PlanRow}
+use Rattle.plan_desk.specs.World.{Text}
+use Rattle.plan_desk.specs.Views.{View}
+use Rattle.plan_desk.specs.Outcomes.{Outcome}
+use Rattle.plan_desk.specs.Plans.{HasPlaces}
+use Rattle.plan_desk.specs.PlanRoutes.{Imports}
+
+-- the plan of a row has so many places
+abbrev pub RowHasPlaces : PlanRow → ℕ → Type 0
+RowHasPlaces row count = HasPlaces row.kind (string_bytes row.name) row.body.items count
+
+-- the project that a row's file says: a shop has none
+abbrev pub IsProjectOfRow : PlanRow → Option Project → Type 0
+IsProjectOfRow row None = row.kind ≡ kinds.Shop
+IsProjectOfRow row (Some p) = (row.kind ≡ kinds.Project) × SaysProject row.body.items p
+
+-- a file is kept by its kind: as a project, or as the shop of an instance
+abbrev pub ImportsFile : PlanKind → View → Text → Text → Outcome
+ImportsFile kinds.Project v name body =
+    Imports v kinds.Project name body (TellsFirstFailing body) (SaysProject body)
+ImportsFile kinds.Shop v name body =
+    Imports v kinds.Shop name body (TellsFirstShopFault name body) (Says name body)

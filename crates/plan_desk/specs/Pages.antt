@@ -1,0 +1,46 @@
+-- What is made of a plan that a desk sees, as a book answers it (docs/DEFINITIONS.md, "Books").
+use Rattle.std.specs.Prelude.{◌≡◌, ℕ, List, Option, Some, Result, IfOk, IfErr, map, option_map}
+use Rattle.plan_desk.specs.declared.fault.BookFault.{BookFault}
+use Rattle.plan_desk.specs.declared.fault.BookFault.TheVariants.{Store}
+use Rattle.plan_desk.specs.declared.rows.PlanRow.{PlanRow}
+use Rattle.plan_desk.specs.declared.bound.BoundPlace.{BoundPlace}
+use Rattle.plan_desk.specs.declared.bound.BoundPlan.{BoundPlan}
+use Rattle.plan_desk.specs.declared.reply.Reply as made
+use Rattle.plan_desk.specs.World.{Text, Published, Plan, code_in}
+use Rattle.plan_desk.specs.Changes.{Keep}
+use Rattle.plan_desk.specs.Views.{View, alone}
+use Rattle.plan_desk.specs.Outcomes.{Outcome}
+use Rattle.plan_desk.specs.Plans.{plan_seen, places_of}
+use Rattle.plan_desk.specs.Rules.{IsWorld}
+use Rattle.plan_desk.specs.Books.{IsPlanAnswer}
+use Rattle.plan_desk.specs.Replies.{reply_of}
+
+-- the capacity of a code, where it is published
+abbrev pub capacity_of : List Published → Text → Option ℕ
+capacity_of rows code = option_map (λ row. row.capacity) (code_in rows code)
+
+-- the bound places of a plan, rising, with the capacities of their codes
+abbrev pub capacities_at : View → ℕ → List (ℕ × Option ℕ)
+capacities_at v n = map (λ bound. (bound.0, capacity_of v.published bound.1)) (places_of v n)
+
+abbrev pub bound_in : BoundPlace → ℕ × Option ℕ
+bound_in b = (b.place, b.capacity)
+
+-- a desk sees a plan under the number that a text spells
+pub record IsFound (v : View) (n : Text) (plan : PlanRow) : Type 0 where
+  pub row : Plan
+  pub seen : plan_seen v n ≡ Some row
+  pub answer : IsPlanAnswer v row plan
+
+-- and with it the capacities of its bound places
+pub record IsBound (v : View) (n : Text) (bound : BoundPlan) : Type 0 where
+  pub row : Plan
+  pub seen : plan_seen v n ≡ Some row
+  pub answer : IsPlanAnswer v row bound.plan
+  pub places : map bound_in bound.places.items ≡ capacities_at v row.n
+
+-- The reply that is made of a plan is one that its route gives to whoever sees the plan so, and
+-- nothing changes. The store is blamed only for a plan that no office has whose rows keep their rules.
+pub record MakesPage (IsSeen : View → Text → Type 0) (Route : View → Text → Outcome) (result : Result made.Reply BookFault) : Type 0 where
+  pub shown : IfOk result (λ reply. (v : View) (n : Text) → IsSeen v n → Route v n (reply_of reply) Keep)
+  pub blamed : IfErr result (λ fault. fault ≡ Store → (v : View) (n : Text) → IsSeen v n → IsWorld (alone v) → ⊥)

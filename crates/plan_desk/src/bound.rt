@@ -1,0 +1,17 @@
+//! Plans with the capacities of their bound places.
+
+use crate::rows::PlanRow;
+
+// A bound place, and the capacity of its code where that is published.
+#[derive(Clone, Copy, Drop)]
+pub(crate) struct BoundPlace {
+    pub place: u64,
+    pub capacity: Option<u64>,
+}
+
+// A plan with its bound places, rising.
+#[derive(Drop)]
+pub(crate) struct BoundPlan {
+    pub plan: PlanRow,
+    pub places: Vec<BoundPlace>,
+}

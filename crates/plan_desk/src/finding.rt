@@ -1,0 +1,96 @@
+//! What is read of a book before a request is decided.
+
+ghost use Rattle.std.specs.Prelude.{◌≡◌, option_map};
+ghost use Rattle.plan_desk.specs.Views.{view};
+ghost use Rattle.plan_desk.specs.Deciding.{Finds};
+ghost use Rattle.plan_desk.specs.Finding.{FindsPlan, FindsBound, HasCapacities, with_capacity_of};
+ghost use Rattle.plan_desk.specs.Books.{bind_in};
+ghost use Rattle.plan_desk.specs.Pages.{bound_in};
+
+use crate::book::Book;
+use crate::bound::{BoundPlace, BoundPlan};
+use crate::fault::BookFault;
+use crate::kinds::Kind;
+use crate::names::plan_number;
+use crate::rows::{BindEntry, PlanRow};
+use std::alloc::Global;
+
+// A plan of a desk and its number.
+#[derive(Drop)]
+pub(crate) struct FoundPlan {
+    pub n: u64,
+    pub plan: PlanRow,
+}
+
+// The plan of a desk whose number a text spells.
+pub(crate) fn find_plan<B: Book>(
+    book: &mut B,
+    desk: &str,
+    number: &str,
+) -> Result<Option<FoundPlan>, BookFault>
+    ensures { Finds B.shelf book.old book.new (λ w. FindsPlan (view desk.now w) number.now) result }
+{
+    let Some(n) = plan_number(number.as_bytes()) else {
+        return Ok(None);
+    };
+    match book.plan(desk, n)? {
+        Some(plan) => Ok(Some(FoundPlan { n, plan })),
+        None => Ok(None),
+    }
+}
+
+// What is known of a code, as its capacity alone.
+fn capacity_alone(row: Option<(Kind, u64)>) -> Option<u64>
+    ensures { result ≡ option_map (λ row. row.1) row }
+{
+    match row {
+        Some((_, capacity)) => Some(capacity),
+        None => None,
+    }
+}
+
+// The capacity of a bound place.
+fn find_capacity<B: Book>(book: &mut B, bind: &BindEntry) -> Result<BoundPlace, BookFault>
+    ensures { Finds B.shelf book.old book.new (λ w place. bound_in place ≡ with_capacity_of w.published (bind_in bind.now)) result }
+{
+    let row = book.capacity(bind.code.as_str())?;
+    Ok(BoundPlace {
+        place: bind.place,
+        capacity: capacity_alone(row),
+    })
+}
+
+// The capacities of bound places.
+fn find_capacities<B: Book>(
+    book: &mut B,
+    alloc: Global,
+    binds: &[BindEntry],
+) -> Result<Vec<BoundPlace>, BookFault>
+    ensures { Finds B.shelf book.old book.new (λ w places. HasCapacities w.published binds.now places.items) result }
+{
+    let mut places = Vec::with_capacity(alloc, binds.len())?;
+    'all: for bind in binds {
+        let place = find_capacity(book, bind)?;
+        places.push(place)?;
+    }
+    Ok(places)
+}
+
+// The plan of a desk whose number a text spells, with the capacities of its bound places.
+pub(crate) fn find_bound<B: Book>(
+    book: &mut B,
+    alloc: Global,
+    desk: &str,
+    number: &str,
+) -> Result<Option<BoundPlan>, BookFault>
+    ensures { Finds B.shelf book.old book.new (λ w. FindsBound (view desk.now w) number.now) result }
+{
+    let Some(found) = find_plan(book, desk, number)? else {
+        return Ok(None);
+    };
+    let places = find_capacities(book, alloc, &found.plan.binds)?;
+    Ok(Some(BoundPlan {
+        plan: found.plan,
+        places,
+    }))
+}

@@ -1,0 +1,135 @@
+//! Judging requests: who may make a call, and what is decided of it. Nothing is written here.
+
+ghost use Rattle.std.specs.Prelude.{◌≡◌, IfOk, option_map};
+ghost use Rattle.plan_desk.specs.Views.{view};
+ghost use Rattle.plan_desk.specs.Calls as calls;
+ghost use Rattle.plan_desk.specs.Decisions.{Answers, IsDecision};
+ghost use Rattle.plan_desk.specs.Deciding.{Finds, IsDecided};
+ghost use Rattle.plan_desk.specs.Requests.{call_in, request_in, path_of, subject_of};
+ghost use Rattle.plan_desk.specs.Names as names;
+ghost use Rattle.plan_desk.specs.World.{desk_in};
+
+use crate::book::Book;
+use crate::change::{Decision, kept};
+use crate::fault::BookFault;
+use crate::names::has_key;
+use crate::reply::no_key;
+use crate::request::{Call, Request};
+use crate::routes::{binds, imports, lists, office, pages, plans};
+use crate::rows::DeskRow;
+use plan_exact::Memo;
+use std::alloc::Global;
+
+// Whether a key is the office's.
+fn opens_office<B: Book>(book: &mut B, key: Option<&[u8]>) -> Result<bool, BookFault>
+    ensures found { Finds B.shelf book.old book.new (λ w opens. opens ≡ names.has_key (option_map (λ k. k.now) key.entry) w.office) result }
+    ensures stands { IfOk result (λ _. B.shelf.honest book.new → B.shelf.stands book.new) }
+{
+    let digest = book.office()?;
+    Ok(has_key(key, &digest))
+}
+
+// Whether a key is that of a desk that is there.
+fn unlocks(key: Option<&[u8]>, row: Option<&DeskRow>) -> bool
+    ensures { result ≡ names.unlocks_by (option_map (λ k. k.now) key.entry) (option_map (λ r. r.now.digest) row.entry) }
+{
+    match row {
+        Some(row) => has_key(key, &row.digest),
+        None => false,
+    }
+}
+
+fn opens_desk<B: Book>(book: &mut B, key: Option<&[u8]>, desk: &str) -> Result<bool, BookFault>
+    ensures found { Finds B.shelf book.old book.new (λ w opens. opens ≡ names.unlocks (option_map (λ k. k.now) key.entry) (desk_in w desk.now)) result }
+    ensures stands { IfOk result (λ _. B.shelf.honest book.new → B.shelf.stands book.new) }
+{
+    let row = book.desk(desk)?;
+    Ok(unlocks(key, row.as_ref()))
+}
+
+// Whether a request has the key that its call takes: the office's, or that of the desk on its path.
+fn admits<B: Book>(book: &mut B, request: &Request) -> Result<bool, BookFault>
+    ensures found { Finds B.shelf book.old book.new (λ w opens. opens ≡ calls.admits (view (subject_of (call_in request.now.call)) w) (request_in request.now)) result }
+    ensures stands { IfOk result (λ _. B.shelf.honest book.new → B.shelf.stands book.new) }
+{
+    let key = request.key.as_deref();
+    match &request.call {
+        Call::Publish { .. } | Call::OpenDesk { .. } | Call::SetKey { .. } => {
+            opens_office(book, key)
+        }
+        call => opens_desk(book, key, call.path()),
+    }
+}
+
+// What is decided of a call with the right key.
+fn decide<'r, B: Book>(
+    book: &mut B,
+    alloc: Global,
+    memo: &mut Memo,
+    call: &'r Call,
+) -> Result<Decision<'r>, BookFault>
+    ensures { Finds B.shelf book.old book.new
+        (λ w. IsDecided (path_of (call_in call.now)) (subject_of (call_in call.now)) (λ v. Answers v (call_in call.now)) (view (subject_of (call_in call.now)) w)) result }
+{
+    match call {
+        Call::Publish { body } => office::publishing(book, alloc, body),
+        Call::OpenDesk { body } => office::opening(book, alloc, body),
+        Call::SetKey { desk, body } => office::key_setting(book, alloc, desk.as_str(), body),
+        Call::Capacities { desk } => lists::code_listing(book, alloc, desk.as_str()),
+        Call::Plans { desk } => lists::plan_listing(book, alloc, desk.as_str()),
+        Call::ImportProject { desk, body } => {
+            imports::importing_project(book, alloc, desk.as_str(), body)
+        }
+        Call::ImportShop {
+            desk,
+            instance,
+            body,
+        } => imports::importing_shop(book, alloc, desk.as_str(), instance.as_str(), body),
+        Call::Remove { desk, n } => plans::removing(book, alloc, desk.as_str(), n.as_str()),
+        Call::Bind { desk, n, body } => {
+            binds::binding(book, alloc, desk.as_str(), n.as_str(), body)
+        }
+        Call::SetCalendar { desk, n, body } => {
+            binds::calendar_setting(book, alloc, desk.as_str(), n.as_str(), body)
+        }
+        Call::SetLag { desk, n, body } => {
+            binds::lag_setting(book, alloc, desk.as_str(), n.as_str(), body)
+        }
+        Call::Dates { desk, n } => pages::dating(book, alloc, desk.as_str(), n.as_str()),
+        Call::Schedule { desk, n, rule } => {
+            pages::scheduling(book, alloc, desk.as_str(), n.as_str(), rule.as_str())
+        }
+        Call::Chart { desk, n, rule } => {
+            pages::charting(book, alloc, desk.as_str(), n.as_str(), rule.as_str())
+        }
+        Call::Days { desk, n, rule } => {
+            pages::listing_days(book, alloc, desk.as_str(), n.as_str(), rule.as_str())
+        }
+        Call::Best { desk, n, budget } => pages::searching(
+            book,
+            alloc,
+            memo,
+            desk.as_str(),
+            n.as_str(),
+            budget.as_str(),
+        ),
+    }
+}
+
+// What is decided of a request.
+pub(crate) fn judge<'r, B: Book>(
+    book: &mut B,
+    alloc: Global,
+    memo: &mut Memo,
+    request: &'r Request,
+) -> Result<Decision<'r>, BookFault>
+    ensures found { Finds B.shelf book.old book.new
+        (λ w. IsDecided (path_of (call_in request.now.call)) (subject_of (call_in request.now.call)) (λ v. IsDecision v (request_in request.now)) (view (subject_of (call_in request.now.call)) w)) result }
+    ensures stands { IfOk result (λ _. B.shelf.honest book.new → B.shelf.stands book.new) }
+{
+    if admits(book, request)? {
+        decide(book, alloc, memo, &request.call)
+    } else {
+        Ok(kept(no_key()))
+    }
+}

@@ -1,0 +1,137 @@
+//! A book in memory.
+
+ghost use Rattle.plan_desk.specs.Rules.{IsWorld};
+ghost use Rattle.plan_desk.specs.Tables.{world_kept};
+
+mod calls;
+
+use crate::book::Book;
+use crate::fault::BookFault;
+use crate::kinds::{Kind, PlanKind};
+use crate::mem_book::calls::Calls;
+use crate::rows::{CodeRow, DeskRow, PlanEntry, PlanRow};
+use crate::tables::Tables;
+use crate::tables::digests::known_digest;
+use std::alloc::Global;
+
+/// The tables of an office in memory. It refuses only for want of memory, and keeps the rules of
+/// rows.
+#[derive(Drop)]
+pub struct MemBook {
+    alloc: Global,
+    tables: Tables,
+    calls: Calls,
+    ghost whole: { ∥ IsWorld (world_kept tables) ∥₁ },
+}
+
+impl MemBook {
+    ghost use Rattle.std.specs.Prelude.{◌≡◌};
+    ghost use Rattle.plan_desk.specs.World.{empty_world};
+    ghost use Rattle.plan_desk.specs.MemBooks.{memory_world};
+
+    /// A book without a row, of an office with the digest of its key.
+    pub fn new(alloc: Global, digest: [u8; 32]) -> MemBook
+        ensures { memory_world result ≡ empty_world digest }
+    {
+        known_digest(&digest);
+        MemBook {
+            alloc,
+            tables: Tables::new(alloc, digest),
+            calls: Calls::new(),
+        }
+    }
+}
+
+impl Book for MemBook {
+    ghost use Rattle.std.specs.Prelude.{refl};
+    ghost use Rattle.plan_desk.specs.MemBooks.{memory_shelf, memory_whole};
+
+    ghost shelf = { memory_shelf };
+
+    ghost whole = { λ book _. memory_whole book };
+
+    ghost now_may = { λ book _. refl };
+
+    fn office(&mut self) -> Result<[u8; 32], BookFault> {
+        Ok(self.tables.office)
+    }
+
+    fn desk(&mut self, name: &str) -> Result<Option<DeskRow>, BookFault> {
+        Ok(self.tables.desk(name))
+    }
+
+    fn open_desk(&mut self, name: &str, digest: &[u8; 32]) -> Result<(), BookFault> {
+        let answer = self.tables.open_desk(self.alloc, name, digest);
+        self.calls.count(answer)
+    }
+
+    fn set_key(&mut self, name: &str, digest: &[u8; 32]) -> Result<(), BookFault> {
+        self.tables.set_key(name, digest);
+        self.calls.count(Ok(()))
+    }
+
+    fn publish(&mut self, code: &str, kind: Kind, capacity: u64) -> Result<(), BookFault> {
+        let answer = self.tables.publish(self.alloc, code, kind, capacity);
+        self.calls.count(answer)
+    }
+
+    fn capacity(&mut self, code: &str) -> Result<Option<(Kind, u64)>, BookFault> {
+        Ok(self.tables.capacity(code))
+    }
+
+    fn capacities(&mut self) -> Result<Vec<CodeRow>, BookFault> {
+        Ok(self.tables.capacities(self.alloc)?)
+    }
+
+    fn plans(&mut self, desk: &str) -> Result<Vec<PlanEntry>, BookFault> {
+        Ok(self.tables.plans(self.alloc, desk)?)
+    }
+
+    fn plan(&mut self, desk: &str, n: u64) -> Result<Option<PlanRow>, BookFault> {
+        Ok(self.tables.plan(self.alloc, desk, n)?)
+    }
+
+    fn add_plan(
+        &mut self,
+        desk: &str,
+        kind: PlanKind,
+        name: &str,
+        body: &[u8],
+    ) -> Result<(), BookFault> {
+        let answer = self.tables.add_plan(self.alloc, desk, kind, name, body);
+        self.calls.count(answer)
+    }
+
+    fn remove_plan(&mut self, desk: &str, n: u64) -> Result<(), BookFault> {
+        self.tables.remove_plan(desk, n);
+        self.calls.count(Ok(()))
+    }
+
+    fn bind(&mut self, desk: &str, n: u64, place: u64, code: &str) -> Result<(), BookFault> {
+        let answer = self.tables.bind(self.alloc, desk, n, place, code);
+        self.calls.count(answer)
+    }
+
+    fn set_calendar(
+        &mut self,
+        desk: &str,
+        n: u64,
+        start: &str,
+        days: &str,
+    ) -> Result<(), BookFault> {
+        let answer = self.tables.set_calendar(self.alloc, desk, n, start, days);
+        self.calls.count(answer)
+    }
+
+    fn set_lag(
+        &mut self,
+        desk: &str,
+        n: u64,
+        from: u32,
+        to: u32,
+        lag: u64,
+    ) -> Result<(), BookFault> {
+        let answer = self.tables.set_lag(self.alloc, desk, n, from, to, lag);
+        self.calls.count(answer)
+    }
+}

@@ -1,0 +1,79 @@
+//! The office: from each request to its reply.
+
+ghost use Rattle.std.specs.Prelude.{◌≡◌, MatchResult};
+ghost use Rattle.plan_desk.specs.Deciding.{Handled, want_of};
+ghost use Rattle.plan_desk.specs.Replies.{reply_of};
+ghost use Rattle.plan_desk.specs.Requests.{request_in};
+
+use crate::book::Book;
+use crate::carrying::carry_out;
+use crate::fault::BookFault;
+use crate::judging::judge;
+use crate::reply::{Reply, no_memory, store_refused};
+use crate::request::Request;
+use plan_exact::Memo;
+use std::alloc::Global;
+use std::marker::Model;
+
+/// An office over a book: it answers the requests of all desks. Contracts see its book. Best schedules
+/// that were found are kept, of all desks together, by what was asked: no reply depends on what is kept.
+#[derive(Drop)]
+pub struct Office<B: Book> {
+    alloc: Global,
+    book: B,
+    memo: Memo,
+}
+
+impl<B: Book> Model for Office<B> {
+    ghost Value = { B };
+
+    ghost view = { λ office. office.book };
+}
+
+// What a request is answered, or why a book could not do what was asked.
+fn answer<B: Book>(
+    book: &mut B,
+    alloc: Global,
+    memo: &mut Memo,
+    request: &Request,
+) -> Result<Reply, BookFault>
+    ensures { MatchResult result
+        (λ reply. Handled B.shelf book.old book.new (request_in request.now) (reply_of reply))
+        (λ fault. Handled B.shelf book.old book.new (request_in request.now) (want_of fault)) }
+{
+    let decision = judge(book, alloc, memo, request)?;
+    carry_out(book, request.call.path(), decision.change)?;
+    Ok(decision.reply)
+}
+
+impl<B: Book> Office<B> {
+    /// An office over a book. The book comes back where there is no memory.
+    pub fn new(alloc: Global, book: B) -> Result<Office<B>, B>
+        ensures { MatchResult result (λ office. office ≡ book) (λ back. back ≡ book) }
+    {
+        match Memo::new(alloc) {
+            Ok(memo) => Ok(Office { alloc, book, memo }),
+            Err(_) => Err(book),
+        }
+    }
+
+    /// The book of the office.
+    pub fn into_book(self) -> B
+        ensures { result ≡ self }
+    {
+        self.book
+    }
+
+    /// Handles a request. Its reply is whole before anything is written; where a command was accepted it
+    /// is written, and what is refused for want of memory (`E90 memory`) or by the store (`E91 store`)
+    /// leaves the tables as they were.
+    pub fn handle(&mut self, request: &Request) -> Reply
+        ensures { Handled B.shelf self.old self.new (request_in request.now) (reply_of result) }
+    {
+        match answer(&mut self.book, self.alloc, &mut self.memo, request) {
+            Ok(reply) => reply,
+            Err(BookFault::NoMemory) => no_memory(),
+            Err(BookFault::Store) => store_refused(),
+        }
+    }
+}

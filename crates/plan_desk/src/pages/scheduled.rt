@@ -1,0 +1,130 @@
+//! Schedules of plans by the rule of a name, which pages show.
+
+ghost use Rattle.std.specs.Prelude.{◌≡◌, ◌⊎◌, length, IfOk, IfErr, MatchResult, string_bytes};
+ghost use Rattle.plan_sgs.specs.Instances.{planned};
+ghost use Rattle.plan_shop.specs.Docs.{shop_of};
+ghost use Rattle.plan_gantt.specs.ScheduleText.{RefusesSchedule};
+ghost use Rattle.plan_gantt.specs.ShopFaultText.{shop_fault_text_of};
+ghost use Rattle.plan_desk.specs.declared.fault.BookFault.TheVariants.{Store};
+ghost use Rattle.plan_desk.specs.PageRoutes.{TellsShopRefusal};
+ghost use Rattle.plan_desk.specs.PlanValues.{HasProject, HasShop, IsSoundPlan};
+ghost use Rattle.plan_desk.specs.Scheduled as spec;
+
+use crate::bound::BoundPlan;
+use crate::fault::BookFault;
+use crate::kinds::PlanKind;
+use crate::pages::capacities::{capacities, open_machines};
+use crate::plan_files::{project_of, said_shop};
+use plan_gantt::{schedule_fault_text, shop_fault_text};
+use plan_orlib::ShopDoc;
+use plan_psplib::ProjectDoc;
+use plan_sgs::{Instance, Rule, Schedule, SgsFault, serial};
+use plan_shop::{Shop, ShopFault, ShopRule, giffler};
+use std::alloc::{AllocError, Global};
+
+/// A schedule, and the project or the shop that it is of.
+#[derive(Drop)]
+pub(crate) enum Scheduled {
+    Project(ProjectDoc, Schedule),
+    Shop(Shop, Schedule),
+}
+
+// The schedule of a project against capacities.
+fn made(alloc: Global, project: &ProjectDoc, caps: &[u64], rule: &str) -> Result<Schedule, SgsFault>
+    requires { length caps.now ≡ length project.now.available }
+    ensures ok { IfOk result (spec.IsMade (planned project.now caps.now) rule.now) }
+    ensures refused { IfErr result (λ fault. (fault ≡ SgsFault.NoMemory)
+        ⊎ RefusesSchedule rule.now (planned project.now caps.now) fault) }
+{
+    let instance = Instance::of_project(project, caps)?;
+    let rule = Rule::parse(rule)?;
+    serial(alloc, &instance, rule)
+}
+
+// The schedule of a shop of which some machines may be used.
+fn made_of_shop(
+    alloc: Global,
+    doc: &ShopDoc,
+    usable: &[bool],
+    rule: &str,
+) -> Result<(Shop, Schedule), ShopFault>
+    requires { length usable.now ≡ doc.now.machines }
+    ensures shop { IfOk result (λ made. made.0 ≡ shop_of doc.now) }
+    ensures ok { IfOk result (λ made.
+        spec.IsMadeOfShop (shop_of doc.now) usable.now rule.now made.1) }
+    ensures refused { IfErr result (λ fault. (fault ≡ ShopFault.NoMemory)
+        ⊎ TellsShopRefusal rule.now (shop_of doc.now) usable.now (shop_fault_text_of fault)) }
+{
+    let rule = ShopRule::parse(rule)?;
+    let shop = Shop::of_doc(alloc, doc, usable)?;
+    // the shop's facts, on which the proof rests
+    let _machines = shop.machines();
+    let schedule = giffler(alloc, &shop, rule)?;
+    Ok((shop, schedule))
+}
+
+// The schedule of a project's plan, or the line that tells why there is none.
+fn of_project(
+    alloc: Global,
+    bound: &BoundPlan,
+    rule: &str,
+) -> Result<Result<Scheduled, String>, BookFault>
+    requires { bound.now.plan.kind ≡ PlanKind.Project }
+    ensures made { IfOk result (λ r. MatchResult r (spec.IsScheduled bound.now rule.now)
+        (λ line. spec.TellsUnscheduled bound.now rule.now (string_bytes line))) }
+    ensures blamed { IfErr result (λ fault. fault ≡ Store → HasProject bound.now.plan → ⊥) }
+{
+    let project = project_of(alloc, &bound.plan)?;
+    let caps = capacities(alloc, &bound.places, project.avail())?;
+    match made(alloc, &project, &caps, rule) {
+        Ok(schedule) => Ok(Ok(Scheduled::Project(project, schedule))),
+        Err(SgsFault::NoMemory) => Err(BookFault::NoMemory),
+        Err(fault) => Ok(Err(schedule_fault_text(alloc, &fault)?)),
+    }
+}
+
+/// The line of what a shop is refused for.
+pub(crate) fn told_of_shop(alloc: Global, fault: &ShopFault) -> Result<String, AllocError>
+    ensures refused { IfOk result (λ _. fault.now ≡ ShopFault.NoMemory → ⊥) }
+    ensures line { IfOk result (λ line. string_bytes line ≡ shop_fault_text_of fault.now) }
+{
+    if matches!(fault, ShopFault::NoMemory) {
+        return Err(AllocError);
+    }
+    shop_fault_text(alloc, fault)
+}
+
+// The schedule of a shop's plan, or the line that tells why there is none.
+fn of_shop(
+    alloc: Global,
+    bound: &BoundPlan,
+    rule: &str,
+) -> Result<Result<Scheduled, String>, BookFault>
+    requires { bound.now.plan.kind ≡ PlanKind.Shop }
+    ensures made { IfOk result (λ r. MatchResult r (spec.IsScheduled bound.now rule.now)
+        (λ line. spec.TellsUnscheduled bound.now rule.now (string_bytes line))) }
+    ensures blamed { IfErr result (λ fault. fault ≡ Store → HasShop bound.now.plan → ⊥) }
+{
+    let doc = said_shop(alloc, bound.plan.name.as_str(), &bound.plan.body)?;
+    let usable = open_machines(alloc, &bound.places, doc.machines())?;
+    match made_of_shop(alloc, &doc, &usable, rule) {
+        Ok((shop, schedule)) => Ok(Ok(Scheduled::Shop(shop, schedule))),
+        Err(fault) => Ok(Err(told_of_shop(alloc, &fault)?)),
+    }
+}
+
+/// The schedule of a plan by the rule of a name, or the line that tells why there is none.
+pub(crate) fn schedule_of(
+    alloc: Global,
+    bound: &BoundPlan,
+    rule: &str,
+) -> Result<Result<Scheduled, String>, BookFault>
+    ensures made { IfOk result (λ r. MatchResult r (spec.IsScheduled bound.now rule.now)
+        (λ line. spec.TellsUnscheduled bound.now rule.now (string_bytes line))) }
+    ensures blamed { IfErr result (λ fault. fault ≡ Store → IsSoundPlan bound.now.plan → ⊥) }
+{
+    match bound.plan.kind {
+        PlanKind::Project => of_project(alloc, bound, rule),
+        PlanKind::Shop => of_shop(alloc, bound, rule),
+    }
+}

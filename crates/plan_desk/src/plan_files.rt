@@ -1,0 +1,77 @@
+//! The files of plans, read again.
+
+ghost use Rattle.std.specs.Prelude.{◌≡◌, IfOk, IfErr, OnOk, map};
+ghost use Rattle.plan_psplib.specs.Faults.{IsWantOfMemory};
+ghost use Rattle.plan_psplib.specs.Project as files;
+ghost use Rattle.plan_orlib.specs.Shop as docs;
+ghost use Rattle.plan_orlib.specs.Says.{Says};
+ghost use Rattle.plan_desk.specs.Plans.{lagged_by};
+ghost use Rattle.plan_desk.specs.Books.{lag_in};
+ghost use Rattle.plan_desk.specs.PlanValues.{IsProjectIn, HasProject, TakesLags};
+ghost use Rattle.plan_desk.specs.declared.fault.BookFault.TheVariants.{Store};
+
+use crate::fault::BookFault;
+use crate::rows::{LagEntry, PlanRow};
+use plan_orlib::{ShopDoc, read_shop};
+use plan_psplib::{FileCode, FileFault, ProjectDoc, read_sm};
+use std::alloc::Global;
+
+// Want of memory, or a body that no plan of a sound store has.
+fn unread(fault: FileFault) -> BookFault
+    ensures { result ≡ Store → IsWantOfMemory fault → ⊥ }
+{
+    if fault.code == FileCode::Memory {
+        BookFault::NoMemory
+    } else {
+        BookFault::Store
+    }
+}
+
+// The project that the body of a plan says.
+pub(crate) fn said_project(alloc: Global, body: &[u8]) -> Result<ProjectDoc, BookFault>
+    ensures said { IfOk result (files.SaysProject body.now) }
+    ensures blamed { IfErr result (λ fault. fault ≡ Store →
+        (p : files.Project) → files.SaysProject body.now p → ⊥) }
+{
+    match read_sm(alloc, body) {
+        Ok(project) => Ok(project),
+        Err(fault) => Err(unread(fault)),
+    }
+}
+
+// The shop that the body of a plan says by the name of its instance.
+#[tactic(auto, using(plan_orlib::proofs::OnceLemmas::said_fails_none))]
+pub(crate) fn said_shop(alloc: Global, name: &str, body: &[u8]) -> Result<ShopDoc, BookFault>
+    ensures said { IfOk result (Says name.now body.now) }
+    ensures blamed { IfErr result (λ fault. fault ≡ Store →
+        (shop : docs.Shop) → Says name.now body.now shop → ⊥) }
+{
+    match read_shop(alloc, body, name.as_bytes()) {
+        Ok(shop) => Ok(shop),
+        Err(fault) => Err(unread(fault)),
+    }
+}
+
+// Gives the arcs of a project their lags.
+fn set_lags(project: &mut ProjectDoc, lags: &[LagEntry]) -> Result<(), BookFault>
+    ensures ok { OnOk result (project.new ≡ lagged_by (map lag_in lags.now) project.old) }
+    ensures blamed { IfErr result (λ fault. fault ≡ Store →
+        TakesLags project.old (map lag_in lags.now) → ⊥) }
+{
+    for row in lags {
+        let Ok(()) = project.set_lag(row.from, row.to, row.lag) else {
+            return Err(BookFault::Store);
+        };
+    }
+    Ok(())
+}
+
+// The project of a plan, with its lags.
+pub(crate) fn project_of(alloc: Global, plan: &PlanRow) -> Result<ProjectDoc, BookFault>
+    ensures ok { IfOk result (IsProjectIn plan.now) }
+    ensures blamed { IfErr result (λ fault. fault ≡ Store → HasProject plan.now → ⊥) }
+{
+    let mut project = said_project(alloc, plan.body.as_slice())?;
+    set_lags(&mut project, plan.lags.as_slice())?;
+    Ok(project)
+}

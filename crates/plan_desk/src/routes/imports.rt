@@ -1,0 +1,67 @@
+//! The imports: a file is kept as a plan of a desk.
+
+ghost use Rattle.plan_desk.specs.Views.{view};
+ghost use Rattle.plan_desk.specs.FoundFiles.{ImportsFile};
+ghost use Rattle.plan_desk.specs.PlanRoutes as routes;
+ghost use Rattle.plan_desk.specs.Deciding.{Finds, IsDecided};
+
+use crate::answers::plan_answer;
+use crate::book::Book;
+use crate::change::{Change, Decision, kept};
+use crate::fault::BookFault;
+use crate::kinds::PlanKind;
+use crate::reply::not_found;
+use crate::route_refusals::import_refusal;
+use std::alloc::Global;
+
+// A file is kept as a plan of its kind, with the desk's next number.
+fn importing<'a, B: Book>(
+    book: &mut B,
+    alloc: Global,
+    desk: &str,
+    kind: PlanKind,
+    name: &'a str,
+    body: &'a [u8],
+) -> Result<Decision<'a>, BookFault>
+    ensures { Finds B.shelf book.old book.new (λ w. IsDecided desk.now desk.now (λ v. ImportsFile kind v name.now body.now) (view desk.now w)) result }
+{
+    let Some(row) = book.desk(desk)? else {
+        return Ok(kept(not_found()));
+    };
+    let plans = book.plans(desk)?;
+    let held = plans.as_slice().len();
+    if let Some(refusal) = import_refusal(alloc, held, row.next, kind, name, body)? {
+        return Ok(kept(refusal));
+    }
+    Ok(Decision {
+        reply: plan_answer(alloc, row.next, kind)?,
+        change: Change::AddPlan { kind, name, body },
+    })
+}
+
+// The project of a PSPLIB text is kept.
+#[tactic(auto, unfolding(crate::specs::PlanRoutes::ImportsProject))]
+pub(crate) fn importing_project<'a, B: Book>(
+    book: &mut B,
+    alloc: Global,
+    desk: &str,
+    body: &'a [u8],
+) -> Result<Decision<'a>, BookFault>
+    ensures { Finds B.shelf book.old book.new (λ w. IsDecided desk.now desk.now (λ v. routes.ImportsProject v body.now) (view desk.now w)) result }
+{
+    importing(book, alloc, desk, PlanKind::Project, "", body)
+}
+
+// The shop of an instance in an OR-Library text is kept.
+#[tactic(auto, unfolding(crate::specs::PlanRoutes::ImportsShop))]
+pub(crate) fn importing_shop<'a, B: Book>(
+    book: &mut B,
+    alloc: Global,
+    desk: &str,
+    name: &'a str,
+    body: &'a [u8],
+) -> Result<Decision<'a>, BookFault>
+    ensures { Finds B.shelf book.old book.new (λ w. IsDecided desk.now desk.now (λ v. routes.ImportsShop v name.now body.now) (view desk.now w)) result }
+{
+    importing(book, alloc, desk, PlanKind::Shop, name, body)
+}

@@ -1,0 +1,10 @@
+//! Tests of the rules of rows, for tables that someone else wrote.
+
+mod files;
+mod keyed;
+mod rows;
+mod tested;
+mod whole;
+
+pub use rows::{is_desk_row, is_plan_row, is_published_row};
+pub use whole::is_world;

@@ -1,0 +1,165 @@
+//! Rows that are tested beside the other tables.
+
+ghost use Rattle.std.specs.Prelude.{◌≡◌, true, find, filter, length, map};
+ghost use Rattle.std.specs.List.{AllByRecursion, list_any};
+ghost use Rattle.plan_desk.specs.World as spec;
+ghost use Rattle.plan_desk.specs.Plans as plans;
+ghost use Rattle.plan_desk.specs.PlanRoutes as routes;
+ghost use Rattle.plan_desk.specs.Names.{is_from_to};
+ghost use Rattle.plan_desk.specs.Rules as rules;
+ghost use Rattle.plan_desk.specs.Books.{published_in};
+ghost use Rattle.plan_desk.specs.Tables.{world_kept, desk_kept, plan_kept, bind_kept, lag_kept};
+ghost use Rattle.plan_desk.specs.RowTests.{Tells, AreFiles, IsDeskOf};
+
+use crate::kinds::{Kind, PlanKind};
+use crate::row_tests::files::PlanFile;
+use crate::row_tests::rows::{is_desk_row, is_published_row};
+use crate::rows::CodeRow;
+use crate::tables::codes::code_at;
+use crate::tables::desks::desk_at;
+use crate::tables::plans::plan_at;
+use crate::tables::{BindRecord, DeskRecord, LagRecord, PlanRecord, Tables};
+use plan_net::Network;
+
+// The most plans of a desk.
+const MOST_PLANS: usize = 100;
+
+// The greatest lag of an arc.
+const GREATEST_LAG: u64 = 10_000;
+
+/// A row that is tested beside the other tables, and beside what the files of the plans give.
+pub trait Tested {
+    /// It keeps its rules.
+    ghost keeps: { spec.World → Self → Type 0 };
+
+    /// Whether it keeps its rules.
+    fn is_good(&self, tables: &Tables, files: &[PlanFile]) -> bool
+        requires { AreFiles (world_kept tables.now).plans files.now }
+        ensures { Tells result (keeps (world_kept tables.now) self.now) };
+}
+
+impl Tested for CodeRow {
+    ghost keeps = { λ w row. rules.is_published_row (published_in row) ≡ true };
+
+    fn is_good(&self, _tables: &Tables, _files: &[PlanFile]) -> bool {
+        is_published_row(self)
+    }
+}
+
+// How many plans a desk has.
+fn count_plans(rows: &[PlanRecord], desk: &str) -> usize
+    ensures { result ≡ length (filter (λ row. spec.is_plan_of desk.now (plan_kept row)) rows.now) }
+{
+    rows.iter().filter(|row| row.desk.as_str() == desk).count()
+}
+
+impl Tested for DeskRecord {
+    ghost keeps = { λ w row. IsDeskOf w (desk_kept row) };
+
+    fn is_good(&self, tables: &Tables, _files: &[PlanFile]) -> bool {
+        if !is_desk_row(self) {
+            return false;
+        }
+        count_plans(&tables.plans, self.desk.as_str()) <= MOST_PLANS
+    }
+}
+
+impl Tested for PlanRecord {
+    ghost keeps = { λ w row. rules.IsOwned w (plan_kept row) };
+
+    fn is_good(&self, tables: &Tables, _files: &[PlanFile]) -> bool {
+        match desk_at(&tables.desks, self.desk.as_str()) {
+            Some(at) => self.n < tables.desks[at].next,
+            None => false,
+        }
+    }
+}
+
+fn is_place(kind: PlanKind, count: u64, place: u64) -> bool
+    ensures { result ≡ plans.is_place kind count place }
+{
+    match kind {
+        PlanKind::Project => 1 <= place && place <= count,
+        PlanKind::Shop => place < count,
+    }
+}
+
+fn is_taken(kind: PlanKind, code: Kind) -> bool
+    ensures { result ≡ spec.same_kind code (spec.takes kind) }
+{
+    match kind {
+        PlanKind::Project => matches!(code, Kind::Crew),
+        PlanKind::Shop => matches!(code, Kind::Machine),
+    }
+}
+
+// Whether a code is published, and of the kind that a plan takes.
+fn has_code(rows: &[CodeRow], kind: PlanKind, code: &str) -> bool
+    ensures { Tells result (rules.IsThereAnd (spec.code_in (map published_in rows.now) code.now)
+        (λ row. spec.same_kind row.kind (spec.takes kind) ≡ true)) }
+{
+    match code_at(rows, code) {
+        Some(at) => is_taken(kind, rows[at].kind),
+        None => false,
+    }
+}
+
+impl Tested for BindRecord {
+    ghost keeps = { λ w row. rules.IsBindRow w (bind_kept row) };
+
+    fn is_good(&self, tables: &Tables, files: &[PlanFile]) -> bool {
+        let Some(at) = plan_at(&tables.plans, self.desk.as_str(), self.n) else {
+            return false;
+        };
+        let kind = tables.plans[at].kind;
+        if !is_place(kind, files[at].places, self.place) {
+            return false;
+        }
+        has_code(&tables.published, kind, self.code.as_str())
+    }
+}
+
+fn has_arc(network: &Network, from: u32, to: u32) -> bool
+    ensures { result ≡ routes.has_arc network.now from to }
+{
+    network
+        .arcs()
+        .iter()
+        .any(|arc| arc.0 == from && arc.1 == to)
+}
+
+fn is_lag(lag: u64) -> bool
+    ensures { result ≡ is_from_to 1 10000 lag }
+{
+    1 <= lag && lag <= GREATEST_LAG
+}
+
+impl Tested for LagRecord {
+    ghost keeps = { λ w row. rules.IsLagRow w (lag_kept row) };
+
+    fn is_good(&self, tables: &Tables, files: &[PlanFile]) -> bool {
+        let Some(at) = plan_at(&tables.plans, self.desk.as_str(), self.n) else {
+            return false;
+        };
+        let Some(network) = &files[at].network else {
+            return false;
+        };
+        if !has_arc(network, self.from, self.to) {
+            return false;
+        }
+        is_lag(self.lag)
+    }
+}
+
+/// Whether all rows of a table keep their rules.
+pub fn all_good<T: Tested>(rows: &[T], tables: &Tables, files: &[PlanFile]) -> bool
+    requires { AreFiles (world_kept tables.now).plans files.now }
+    ensures { Tells result (AllByRecursion (T.keeps (world_kept tables.now)) rows.now) }
+{
+    for row in rows {
+        if !row.is_good(tables, files) {
+            return false;
+        }
+    }
+    true
+}

@@ -1,0 +1,63 @@
+//! All tables together.
+
+ghost use Rattle.std.specs.Prelude.{IfOk, map, option_map};
+ghost use Rattle.plan_desk.specs.Rules.{IsWorld};
+ghost use Rattle.plan_desk.specs.Tables.{world_kept, plan_kept};
+ghost use Rattle.plan_desk.specs.RowTests.{Tells, AreFiles, FilesTold, RowsAreGood};
+
+use crate::row_tests::files::PlanFile;
+use crate::row_tests::keyed::keys_differ;
+use crate::row_tests::rows::read_row;
+use crate::row_tests::tested::all_good;
+use crate::tables::digests::known_digest;
+use crate::tables::{PlanRecord, Tables};
+use std::alloc::{AllocError, Global};
+
+// What the files of all plans give, each of which is read once.
+fn read_files(alloc: Global, rows: &[PlanRecord]) -> Result<Option<Vec<PlanFile>>, AllocError>
+    ensures { IfOk result
+        (λ files. FilesTold (map plan_kept rows.now) (option_map (λ v. v.items) files)) }
+{
+    let mut files = Vec::new(alloc);
+    for row in rows {
+        match read_row(alloc, row)? {
+            Some(file) => files.push(file)?,
+            None => return Ok(None),
+        }
+    }
+    Ok(Some(files))
+}
+
+fn rows_are_good(tables: &Tables, files: &[PlanFile]) -> bool
+    requires { AreFiles (world_kept tables.now).plans files.now }
+    ensures { Tells result (RowsAreGood (world_kept tables.now)) }
+{
+    if !all_good(&tables.published, tables, files) {
+        return false;
+    }
+    if !all_good(&tables.desks, tables, files) {
+        return false;
+    }
+    if !all_good(&tables.plans, tables, files) {
+        return false;
+    }
+    if !all_good(&tables.binds, tables, files) {
+        return false;
+    }
+    all_good(&tables.lags, tables, files)
+}
+
+/// Whether tables keep the rules of rows. Each file is read once; rows are compared and looked up in
+/// turn, which takes the square of their number.
+pub fn is_world(alloc: Global, tables: &Tables) -> Result<bool, AllocError>
+    ensures { IfOk result (λ good. Tells good (IsWorld (world_kept tables.now))) }
+{
+    known_digest(&tables.office);
+    if !keys_differ(tables) {
+        return Ok(false);
+    }
+    let Some(files) = read_files(alloc, &tables.plans)? else {
+        return Ok(false);
+    };
+    Ok(rows_are_good(tables, &files))
+}

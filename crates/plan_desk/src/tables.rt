@@ -1,0 +1,26 @@
+//! The tables of an office in memory.
+
+mod binds;
+pub mod codes;
+pub mod desks;
+pub mod digests;
+mod lags;
+mod ordered;
+pub mod plans;
+mod reading;
+mod records;
+mod writing;
+
+use crate::rows::CodeRow;
+pub use records::{BindRecord, DeskRecord, LagRecord, PlanRecord};
+
+/// The rows of an office, each table in the order in which its rows were written.
+#[derive(Debug, Drop)]
+pub struct Tables {
+    pub office: [u8; 32],
+    pub published: Vec<CodeRow>,
+    pub desks: Vec<DeskRecord>,
+    pub plans: Vec<PlanRecord>,
+    pub binds: Vec<BindRecord>,
+    pub lags: Vec<LagRecord>,
+}
