@@ -152,7 +152,7 @@ impl Tested for LagRecord {
 }
 
 /// Whether all rows of a table keep their rules.
-pub fn all_good<T: Tested>(rows: &[T], tables: &Tables, files: &[PlanFile]) -> bool
+pub(crate) fn all_good<T: Tested>(rows: &[T], tables: &Tables, files: &[PlanFile]) -> bool
     requires { AreFiles (world_kept tables.now).plans files.now }
     ensures { Tells result (AllByRecursion (T.keeps (world_kept tables.now)) rows.now) }
 {

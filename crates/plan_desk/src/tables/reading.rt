@@ -46,7 +46,7 @@ fn copy_plan(
 
 impl Tables {
     /// A desk by its whole name.
-    pub fn desk(&self, name: &str) -> Option<DeskRow>
+    pub(crate) fn desk(&self, name: &str) -> Option<DeskRow>
         ensures { Matches IsDeskAnswer (desk_in (world_kept self.now) name.now) result }
     {
         let Some(at) = desk_at(&self.desks, name) else {
@@ -60,7 +60,7 @@ impl Tables {
     }
 
     /// The kind and the capacity of a published code.
-    pub fn capacity(&self, code: &str) -> Option<(Kind, u64)>
+    pub(crate) fn capacity(&self, code: &str) -> Option<(Kind, u64)>
         ensures { Matches IsCapacityAnswer
             (code_in (world_kept self.now).published code.now) result }
     {
@@ -72,14 +72,14 @@ impl Tables {
     }
 
     /// All published codes, rising by code.
-    pub fn capacities(&self, alloc: Global) -> Result<Vec<CodeRow>, AllocError>
+    pub(crate) fn capacities(&self, alloc: Global) -> Result<Vec<CodeRow>, AllocError>
         ensures { IfOk result (λ rows. ListsCodes (world_kept self.now).published rows.items) }
     {
         list_codes(alloc, &self.published)
     }
 
     /// The plans of a desk, rising by number.
-    pub fn plans(&self, alloc: Global, desk: &str) -> Result<Vec<PlanEntry>, AllocError>
+    pub(crate) fn plans(&self, alloc: Global, desk: &str) -> Result<Vec<PlanEntry>, AllocError>
         ensures { IfOk result
             (λ rows. ListsPlans (view desk.now (world_kept self.now)).plans rows.items) }
     {
@@ -87,7 +87,12 @@ impl Tables {
     }
 
     /// A plan of a desk, with its bound places and its lags.
-    pub fn plan(&self, alloc: Global, desk: &str, n: u64) -> Result<Option<PlanRow>, AllocError>
+    pub(crate) fn plan(
+        &self,
+        alloc: Global,
+        desk: &str,
+        n: u64,
+    ) -> Result<Option<PlanRow>, AllocError>
         ensures { IfOk result
             (Matches (IsPlanAnswer (view desk.now (world_kept self.now)))
             (find (has_number n) (view desk.now (world_kept self.now)).plans)) }

@@ -31,7 +31,7 @@ impl Tables {
     }
 
     /// Publishes a code, or sets the capacity of a published one.
-    pub fn publish(
+    pub(crate) fn publish(
         &mut self,
         alloc: Global,
         code: &str,
@@ -47,7 +47,7 @@ impl Tables {
     }
 
     /// Opens a desk, whose plans are numbered from 1.
-    pub fn open_desk(
+    pub(crate) fn open_desk(
         &mut self,
         alloc: Global,
         desk: &str,
@@ -61,7 +61,7 @@ impl Tables {
     }
 
     /// Gives a desk another key.
-    pub fn set_key(&mut self, desk: &str, digest: &[u8; 32])
+    pub(crate) fn set_key(&mut self, desk: &str, digest: &[u8; 32])
         requires { IsWorld (world_kept self.old) }
         ensures { world_kept self.new ≡ apply desk.now (SetKey digest.now) (world_kept self.old) }
     {
@@ -69,7 +69,7 @@ impl Tables {
     }
 
     /// Keeps a plan with the desk's next number, which rises by 1.
-    pub fn add_plan(
+    pub(crate) fn add_plan(
         &mut self,
         alloc: Global,
         desk: &str,
@@ -89,7 +89,7 @@ impl Tables {
     }
 
     /// Removes a plan with its binds and lags.
-    pub fn remove_plan(&mut self, desk: &str, n: u64)
+    pub(crate) fn remove_plan(&mut self, desk: &str, n: u64)
         ensures { world_kept self.new ≡ apply desk.now (RemovePlan n) (world_kept self.old) }
     {
         take_plan(&mut self.plans, desk, n);
@@ -98,7 +98,7 @@ impl Tables {
     }
 
     /// Binds a code to a place of a plan, in the place of the one that is bound there.
-    pub fn bind(
+    pub(crate) fn bind(
         &mut self,
         alloc: Global,
         desk: &str,
@@ -115,7 +115,7 @@ impl Tables {
     }
 
     /// Gives a plan a calendar.
-    pub fn set_calendar(
+    pub(crate) fn set_calendar(
         &mut self,
         alloc: Global,
         desk: &str,
@@ -132,7 +132,7 @@ impl Tables {
     }
 
     /// Gives an arc of a project a lag, where 0 is none.
-    pub fn set_lag(
+    pub(crate) fn set_lag(
         &mut self,
         alloc: Global,
         desk: &str,
