@@ -106,32 +106,32 @@ plan_x : plan_number (codes "x") ≡ None
 plan_x = refl
 
 -- rows of plans, binds and lags
-abbrev plan : Text → ℕ → PlanKind → Plan
+abbrev pub plan : Text → ℕ → PlanKind → Plan
 plan desk n kind =
     record { desk = desk; n = n; kind = kind; name = []; body = []; start = []; days = [] }
 
-abbrev bound : Text → ℕ → ℕ → Text → Bind
+abbrev pub bound : Text → ℕ → ℕ → Text → Bind
 bound desk n place code = record { desk = desk; n = n; place = place; code = code }
 
-abbrev lagged : Text → ℕ → ℕ → ℕ → ℕ → Lag
+abbrev pub lagged : Text → ℕ → ℕ → ℕ → ℕ → Lag
 lagged desk n source target lag =
     record { desk = desk; n = n; source = source; target = target; lag = lag }
 
-abbrev desk_row : Text → ℕ → Desk
+abbrev pub desk_row : Text → ℕ → Desk
 desk_row desk next = record { desk = desk; digest = []; next = next }
 
-abbrev north : Text
+abbrev pub north : Text
 north = codes "north"
 
 abbrev north2 : Text
 north2 = codes "north-2"
 
-abbrev crew_a : Text
+abbrev pub crew_a : Text
 crew_a = codes "crew-a"
 
 -- A code, and two desks: the name of one begins with that of the other. Plan 1 of both has binds and
 -- lags, and the rows stand in no order.
-abbrev office : World
+abbrev pub office : World
 office = record {
   office = [];
   published = record { code = crew_a; kind = Crew; capacity = 2 } ∷ [];
@@ -312,17 +312,17 @@ lag_below_0 : lag_body (codes "{\"from\":2,\"to\":3,\"lag\":-1}") ≡ None
 unfolding lag_body is_utf8 chars serde_json_on_literals
 lag_below_0 = refl
 
-abbrev asks : Option Text → Call → Request
+abbrev pub asks : Option Text → Call → Request
 asks key call = record { key = key; call = call }
 
-abbrev said : ℕ → ReplyKind → Text → Reply
+abbrev pub said : ℕ → ReplyKind → Text → Reply
 said status kind body = record { status = status; kind = kind; body = body }
 
 abbrev key_refused : Reply
 key_refused = said 403 Plain (codes "E01 key\n")
 
 -- what an admitted call is answered is its decision
-admitted : (v : View) (key : Option Text) (c : Call) (reply : Reply) (change : Change)
+pub admitted : (v : View) (key : Option Text) (c : Call) (reply : Reply) (change : Change)
     → admits v (asks key c) ≡ true → Answers v c reply change → IsDecision v (asks key c) reply change
 unfolding IsDecision
 admitted v key c reply change open_ told = subst (λ b. decided b (Answers v c) reply change) (sym open_) told
@@ -367,13 +367,13 @@ capacities_listed : (key : Option Text) → admits (view north office) (asks key
 unfolding tells digits
 capacities_listed key open_ = admitted _ key _ _ _ open_ (refl, refl)
 
-abbrev not_there : Reply
+abbrev pub not_there : Reply
 not_there = said 404 Plain (codes "E02 not found\n")
 
-abbrev body_refused : Reply
+abbrev pub body_refused : Reply
 body_refused = said 400 Plain (codes "E03 body\n")
 
-abbrev kind_refused : Reply
+abbrev pub kind_refused : Reply
 kind_refused = said 409 Plain (codes "E07 other kind of plan\n")
 
 -- a plan goes
@@ -527,7 +527,7 @@ shop_imported : (key : Option Text) → admits (view north office) (asks key (ca
 unfolding ImportsShop Imports given unless why_or some makes digits
 shop_imported key open_ = admitted _ key _ _ _ open_ (inr (tiny_shop, tiny_says, (refl, refl)))
 
-abbrev published : Text → Kind → ℕ → Published
+abbrev pub published : Text → Kind → ℕ → Published
 published code kind capacity = record { code = code; kind = kind; capacity = capacity }
 
 abbrev tiny_plan : Plan

@@ -17,6 +17,7 @@ pub mod PartLemmas
 pub mod OrderLemmas
 pub mod RouteRefusalLemmas
 pub mod Examples
+pub mod ProjectExamples
 pub mod RefusedLemmas
 pub mod FileLemmas
 pub mod DecidingLemmas
@@ -35,6 +36,7 @@ pub mod ReadLemmas
 pub mod RowTestLemmas
 pub mod TestedLemmas
 pub mod PlaceLemmas
+pub mod PromiseLemmas
 pub mod MadeLemmas
 pub mod SeenPlanLemmas
 pub mod BoundLemmas

@@ -1,5 +1,6 @@
 //! Laws of the office, for proofs above to cite: functions that do nothing.
 
+ghost use Rattle.plan_desk.specs.Promises.{PagesArePromised};
 ghost use Rattle.plan_desk.specs.Laws.{OneDecision, OrderIsUnseen, AgreeingViewsAreToldAlike, StepsKeepRules, AloneKeepsRules, OutsideIsUnseen, DesksAreApart, ToldIsStory, StoriesAreToldAlike};
 
 /// A view and a request have one reply and one change at most.
@@ -32,4 +33,12 @@ pub fn steps_keep_rules()
 pub fn order_is_unseen()
     ensures decisions { OrderIsUnseen }
     ensures stories { AgreeingViewsAreToldAlike }
+{}
+
+/// Each page shows what it promises: dates by the greatest lengths of paths, schedules that are
+/// feasible and active, and where one is called optimal one of least makespan among all feasible ones.
+/// They are those of the plan's file with the lags of the desk and the capacities that are bound and
+/// published at that moment.
+pub fn pages_are_promised()
+    ensures { PagesArePromised }
 {}

@@ -30,7 +30,8 @@ pub use book::Book;
 pub use fault::BookFault;
 pub use kinds::{Kind, PlanKind, ReplyKind};
 pub use laws::{
-    desks_are_apart, one_decision, order_is_unseen, outside_is_unseen, steps_keep_rules,
+    desks_are_apart, one_decision, order_is_unseen, outside_is_unseen, pages_are_promised,
+    steps_keep_rules,
 };
 pub use mem_book::MemBook;
 pub use names::{is_key, is_name, key_digest, plan_number};

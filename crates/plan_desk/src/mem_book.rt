@@ -9,10 +9,11 @@ use crate::book::Book;
 use crate::fault::BookFault;
 use crate::kinds::{Kind, PlanKind};
 use crate::mem_book::calls::Calls;
+use crate::row_tests::is_world;
 use crate::rows::{CodeRow, DeskRow, PlanEntry, PlanRow};
 use crate::tables::Tables;
 use crate::tables::digests::known_digest;
-use std::alloc::Global;
+use std::alloc::{AllocError, Global};
 
 /// The tables of an office in memory. It refuses only for want of memory, and keeps the rules of
 /// rows.
@@ -25,8 +26,10 @@ pub struct MemBook {
 }
 
 impl MemBook {
-    ghost use Rattle.std.specs.Prelude.{◌≡◌};
+    ghost use Rattle.std.specs.Prelude.{◌≡◌, IfOk, MatchOption};
     ghost use Rattle.plan_desk.specs.World.{empty_world};
+    ghost use Rattle.plan_desk.specs.Rules.{IsWorld};
+    ghost use Rattle.plan_desk.specs.Tables.{world_kept};
     ghost use Rattle.plan_desk.specs.MemBooks.{memory_world};
 
     /// A book without a row, of an office with the digest of its key.
@@ -39,6 +42,21 @@ impl MemBook {
             tables: Tables::new(alloc, digest),
             calls: Calls::new(),
         }
+    }
+
+    /// A book of tables that keep the rules of rows, or none where one of the rules is broken.
+    pub fn of_tables(alloc: Global, tables: Tables) -> Result<Option<MemBook>, AllocError>
+        ensures { IfOk result (λ book. MatchOption book (IsWorld (world_kept tables) → ⊥)
+            (λ book. IsWorld (world_kept tables) × (memory_world book ≡ world_kept tables))) }
+    {
+        if !is_world(alloc, &tables)? {
+            return Ok(None);
+        }
+        Ok(Some(MemBook {
+            alloc,
+            tables,
+            calls: Calls::new(),
+        }))
     }
 }
 
