@@ -15,22 +15,22 @@ pub const NORTH_KEY: &str = "north-key-1";
 pub const OTHER_KEY: &str = "north-2-key";
 
 /// An office of no rows.
-pub fn new_office(alloc: Global) -> Result<Office<MemBook>, Fail> {
+pub fn new_office(alloc: Global) -> Result<Office<MemBook>, AllocError> {
     let digest = key_digest(OFFICE_KEY.as_bytes()).unwrap_or([0; 32]);
     match Office::new(alloc, MemBook::new(alloc, digest)) {
         Ok(office) => Ok(office),
-        Err(_) => Err(Fail::from(AllocError)),
+        Err(_) => Err(AllocError),
     }
 }
 
 /// A text of one's own.
-pub fn text(alloc: Global, from: &str) -> Result<String, Fail> {
-    Ok(String::from_str(alloc, from)?)
+pub fn text(alloc: Global, from: &str) -> Result<String, AllocError> {
+    String::from_str(alloc, from)
 }
 
 /// Bytes of one's own.
-pub fn bytes(alloc: Global, from: &str) -> Result<Vec<u8>, Fail> {
-    Ok(Vec::from_slice(alloc, from.as_bytes())?)
+pub fn bytes(alloc: Global, from: &str) -> Result<Vec<u8>, AllocError> {
+    Vec::from_slice(alloc, from.as_bytes())
 }
 
 /// The reply to a call with a key.
@@ -72,45 +72,50 @@ pub fn expect(
 }
 
 /// The calls, by texts that are lent.
-pub fn publish(alloc: Global, body: &str) -> Result<Call, Fail> {
+pub fn publish(alloc: Global, body: &str) -> Result<Call, AllocError> {
     Ok(Call::Publish {
         body: bytes(alloc, body)?,
     })
 }
 
-pub fn open_desk(alloc: Global, body: &str) -> Result<Call, Fail> {
+pub fn open_desk(alloc: Global, body: &str) -> Result<Call, AllocError> {
     Ok(Call::OpenDesk {
         body: bytes(alloc, body)?,
     })
 }
 
-pub fn set_key(alloc: Global, desk: &str, body: &str) -> Result<Call, Fail> {
+pub fn set_key(alloc: Global, desk: &str, body: &str) -> Result<Call, AllocError> {
     Ok(Call::SetKey {
         desk: text(alloc, desk)?,
         body: bytes(alloc, body)?,
     })
 }
 
-pub fn list_codes(alloc: Global, desk: &str) -> Result<Call, Fail> {
+pub fn list_codes(alloc: Global, desk: &str) -> Result<Call, AllocError> {
     Ok(Call::Capacities {
         desk: text(alloc, desk)?,
     })
 }
 
-pub fn list_plans(alloc: Global, desk: &str) -> Result<Call, Fail> {
+pub fn list_plans(alloc: Global, desk: &str) -> Result<Call, AllocError> {
     Ok(Call::Plans {
         desk: text(alloc, desk)?,
     })
 }
 
-pub fn import_project(alloc: Global, desk: &str, body: &str) -> Result<Call, Fail> {
+pub fn import_project(alloc: Global, desk: &str, body: &str) -> Result<Call, AllocError> {
     Ok(Call::ImportProject {
         desk: text(alloc, desk)?,
         body: bytes(alloc, body)?,
     })
 }
 
-pub fn import_shop(alloc: Global, desk: &str, instance: &str, body: &str) -> Result<Call, Fail> {
+pub fn import_shop(
+    alloc: Global,
+    desk: &str,
+    instance: &str,
+    body: &str,
+) -> Result<Call, AllocError> {
     Ok(Call::ImportShop {
         desk: text(alloc, desk)?,
         instance: text(alloc, instance)?,
@@ -118,14 +123,14 @@ pub fn import_shop(alloc: Global, desk: &str, instance: &str, body: &str) -> Res
     })
 }
 
-pub fn remove(alloc: Global, desk: &str, n: &str) -> Result<Call, Fail> {
+pub fn remove(alloc: Global, desk: &str, n: &str) -> Result<Call, AllocError> {
     Ok(Call::Remove {
         desk: text(alloc, desk)?,
         n: text(alloc, n)?,
     })
 }
 
-pub fn bind(alloc: Global, desk: &str, n: &str, body: &str) -> Result<Call, Fail> {
+pub fn bind(alloc: Global, desk: &str, n: &str, body: &str) -> Result<Call, AllocError> {
     Ok(Call::Bind {
         desk: text(alloc, desk)?,
         n: text(alloc, n)?,
@@ -133,7 +138,7 @@ pub fn bind(alloc: Global, desk: &str, n: &str, body: &str) -> Result<Call, Fail
     })
 }
 
-pub fn set_calendar(alloc: Global, desk: &str, n: &str, body: &str) -> Result<Call, Fail> {
+pub fn set_calendar(alloc: Global, desk: &str, n: &str, body: &str) -> Result<Call, AllocError> {
     Ok(Call::SetCalendar {
         desk: text(alloc, desk)?,
         n: text(alloc, n)?,
@@ -141,7 +146,7 @@ pub fn set_calendar(alloc: Global, desk: &str, n: &str, body: &str) -> Result<Ca
     })
 }
 
-pub fn set_lag(alloc: Global, desk: &str, n: &str, body: &str) -> Result<Call, Fail> {
+pub fn set_lag(alloc: Global, desk: &str, n: &str, body: &str) -> Result<Call, AllocError> {
     Ok(Call::SetLag {
         desk: text(alloc, desk)?,
         n: text(alloc, n)?,
@@ -149,14 +154,14 @@ pub fn set_lag(alloc: Global, desk: &str, n: &str, body: &str) -> Result<Call, F
     })
 }
 
-pub fn dates(alloc: Global, desk: &str, n: &str) -> Result<Call, Fail> {
+pub fn dates(alloc: Global, desk: &str, n: &str) -> Result<Call, AllocError> {
     Ok(Call::Dates {
         desk: text(alloc, desk)?,
         n: text(alloc, n)?,
     })
 }
 
-pub fn schedule(alloc: Global, desk: &str, n: &str, rule: &str) -> Result<Call, Fail> {
+pub fn schedule(alloc: Global, desk: &str, n: &str, rule: &str) -> Result<Call, AllocError> {
     Ok(Call::Schedule {
         desk: text(alloc, desk)?,
         n: text(alloc, n)?,
@@ -164,7 +169,7 @@ pub fn schedule(alloc: Global, desk: &str, n: &str, rule: &str) -> Result<Call, 
     })
 }
 
-pub fn chart(alloc: Global, desk: &str, n: &str, rule: &str) -> Result<Call, Fail> {
+pub fn chart(alloc: Global, desk: &str, n: &str, rule: &str) -> Result<Call, AllocError> {
     Ok(Call::Chart {
         desk: text(alloc, desk)?,
         n: text(alloc, n)?,
@@ -172,7 +177,7 @@ pub fn chart(alloc: Global, desk: &str, n: &str, rule: &str) -> Result<Call, Fai
     })
 }
 
-pub fn days(alloc: Global, desk: &str, n: &str, rule: &str) -> Result<Call, Fail> {
+pub fn days(alloc: Global, desk: &str, n: &str, rule: &str) -> Result<Call, AllocError> {
     Ok(Call::Days {
         desk: text(alloc, desk)?,
         n: text(alloc, n)?,
@@ -180,7 +185,7 @@ pub fn days(alloc: Global, desk: &str, n: &str, rule: &str) -> Result<Call, Fail
     })
 }
 
-pub fn best(alloc: Global, desk: &str, n: &str, budget: &str) -> Result<Call, Fail> {
+pub fn best(alloc: Global, desk: &str, n: &str, budget: &str) -> Result<Call, AllocError> {
     Ok(Call::Best {
         desk: text(alloc, desk)?,
         n: text(alloc, n)?,

@@ -2,6 +2,9 @@
 
 use crate::asking::{NORTH_KEY, days, expect, import_project, set_calendar, with_north};
 use crate::files::LONGER;
+use plan_desk::{MemBook, Office};
+use std::alloc::Global;
+use std::process::Abort;
 use std::test::Fail;
 
 // From a Friday on: the weekend is passed over.
@@ -14,13 +17,14 @@ const DAYS: &str = " act       first        last
    6           -           -
 ";
 
-#[test]
-fn a_refused_calendar_leaves_the_earlier_one(rt: HostRuntime) -> Result<(), Fail> {
-    let alloc = rt.alloc();
-    let mut office = with_north(&rt, alloc)?;
+fn a_refused_calendar_leaves_the_earlier_one_in(
+    rt: &impl Abort,
+    alloc: Global,
+    office: &mut Office<MemBook>,
+) -> Result<(), Fail> {
     let call = import_project(alloc, "north", LONGER)?;
     let answer = "{\"kind\":\"project\",\"n\":1}\n";
-    expect(&rt, alloc, &mut office, NORTH_KEY, call, 201, answer)?;
+    expect(rt, alloc, office, NORTH_KEY, call, 201, answer)?;
     for (body, status, answer) in [
         (
             "{\"start\":\"2024-03-01\",\"days\":\"1111100\"}",
@@ -45,9 +49,16 @@ fn a_refused_calendar_leaves_the_earlier_one(rt: HostRuntime) -> Result<(), Fail
         ("{\"start\":\"2024-03-01\"}", 400, "E03 body\n"),
     ] {
         let call = set_calendar(alloc, "north", "1", body)?;
-        expect(&rt, alloc, &mut office, NORTH_KEY, call, status, answer)?;
+        expect(rt, alloc, office, NORTH_KEY, call, status, answer)?;
         let call = days(alloc, "north", "1", "lft")?;
-        expect(&rt, alloc, &mut office, NORTH_KEY, call, 200, DAYS)?;
+        expect(rt, alloc, office, NORTH_KEY, call, 200, DAYS)?;
     }
     Ok(())
+}
+
+#[test]
+fn a_refused_calendar_leaves_the_earlier_one(rt: HostRuntime) -> Result<(), Fail> {
+    let alloc = rt.alloc();
+    let mut office = with_north(&rt, alloc)?;
+    a_refused_calendar_leaves_the_earlier_one_in(&rt, alloc, &mut office)
 }

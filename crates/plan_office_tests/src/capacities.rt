@@ -52,10 +52,11 @@ fn with_plan(rt: &impl Abort, alloc: Global, shop: bool) -> Result<Office<MemBoo
     Ok(office)
 }
 
-#[test]
-fn a_bound_code_is_the_capacity(rt: HostRuntime) -> Result<(), Fail> {
-    let alloc = rt.alloc();
-    let mut office = with_plan(&rt, alloc, false)?;
+fn a_bound_code_is_the_capacity_in(
+    rt: &impl Abort,
+    alloc: Global,
+    office: &mut Office<MemBook>,
+) -> Result<(), Fail> {
     for (published, bound, status, table) in [
         (CREW_2, "{\"code\":\"crew-a\",\"place\":1}", 200, BY_TWO),
         (CREW_B_1, "{\"code\":\"crew-b\",\"place\":1}", 200, BY_ONE),
@@ -67,19 +68,27 @@ fn a_bound_code_is_the_capacity(rt: HostRuntime) -> Result<(), Fail> {
         ),
     ] {
         let call = publish(alloc, published)?;
-        ask(alloc, &mut office, OFFICE_KEY, call)?;
+        ask(alloc, office, OFFICE_KEY, call)?;
         let call = bind(alloc, "north", "1", bound)?;
-        ask(alloc, &mut office, NORTH_KEY, call)?;
+        ask(alloc, office, NORTH_KEY, call)?;
         let call = schedule(alloc, "north", "1", "lft")?;
-        expect(&rt, alloc, &mut office, NORTH_KEY, call, status, table)?;
+        expect(rt, alloc, office, NORTH_KEY, call, status, table)?;
     }
     Ok(())
 }
 
 #[test]
-fn codes_are_published_with_one_kind(rt: HostRuntime) -> Result<(), Fail> {
+fn a_bound_code_is_the_capacity(rt: HostRuntime) -> Result<(), Fail> {
     let alloc = rt.alloc();
-    let mut office = with_north(&rt, alloc)?;
+    let mut office = with_plan(&rt, alloc, false)?;
+    a_bound_code_is_the_capacity_in(&rt, alloc, &mut office)
+}
+
+fn codes_are_published_with_one_kind_in(
+    rt: &impl Abort,
+    alloc: Global,
+    office: &mut Office<MemBook>,
+) -> Result<(), Fail> {
     for (key, body, status, answer) in [
         (NORTH_KEY, CREW_2, 403, "E01 key\n"),
         (
@@ -97,22 +106,30 @@ fn codes_are_published_with_one_kind(rt: HostRuntime) -> Result<(), Fail> {
         ),
     ] {
         let call = publish(alloc, body)?;
-        expect(&rt, alloc, &mut office, key, call, status, answer)?;
+        expect(rt, alloc, office, key, call, status, answer)?;
     }
     let call = list_codes(alloc, "north")?;
     let answer = "{\"capacities\":[{\"capacity\":2,\"code\":\"crew-a\",\"kind\":\"crew\"}]}\n";
-    expect(&rt, alloc, &mut office, NORTH_KEY, call, 200, answer)
+    expect(rt, alloc, office, NORTH_KEY, call, 200, answer)
 }
 
 #[test]
-fn a_bind_is_judged_in_order(rt: HostRuntime) -> Result<(), Fail> {
+fn codes_are_published_with_one_kind(rt: HostRuntime) -> Result<(), Fail> {
     let alloc = rt.alloc();
-    let mut office = with_plan(&rt, alloc, false)?;
+    let mut office = with_north(&rt, alloc)?;
+    codes_are_published_with_one_kind_in(&rt, alloc, &mut office)
+}
+
+fn a_bind_is_judged_in_order_in(
+    rt: &impl Abort,
+    alloc: Global,
+    office: &mut Office<MemBook>,
+) -> Result<(), Fail> {
     let call = publish(
         alloc,
         "{\"code\":\"lathe\",\"kind\":\"machine\",\"capacity\":1}",
     )?;
-    ask(alloc, &mut office, OFFICE_KEY, call)?;
+    ask(alloc, office, OFFICE_KEY, call)?;
     for (n, body, status, line) in [
         ("2", "", 404, "E02 not found\n"),
         (
@@ -131,32 +148,32 @@ fn a_bind_is_judged_in_order(rt: HostRuntime) -> Result<(), Fail> {
         ("1", "{\"code\":\"lathe\",\"place\":0}", 400, "E03 body\n"),
     ] {
         let call = bind(alloc, "north", n, body)?;
-        expect(&rt, alloc, &mut office, NORTH_KEY, call, status, line)?;
+        expect(rt, alloc, office, NORTH_KEY, call, status, line)?;
     }
     Ok(())
 }
 
 #[test]
-fn a_number_that_no_plan_has_is_not_found(rt: HostRuntime) -> Result<(), Fail> {
+fn a_bind_is_judged_in_order(rt: HostRuntime) -> Result<(), Fail> {
     let alloc = rt.alloc();
-    let mut office = with_plan(&rt, alloc, true)?;
+    let mut office = with_plan(&rt, alloc, false)?;
+    a_bind_is_judged_in_order_in(&rt, alloc, &mut office)
+}
+
+fn a_number_that_no_plan_has_is_not_found_in(
+    rt: &impl Abort,
+    alloc: Global,
+    office: &mut Office<MemBook>,
+) -> Result<(), Fail> {
     for n in ["007", "0", "2", "1000000", "12345678", "x", ""] {
         let call = dates(alloc, "north", n)?;
-        expect(
-            &rt,
-            alloc,
-            &mut office,
-            NORTH_KEY,
-            call,
-            404,
-            "E02 not found\n",
-        )?;
+        expect(rt, alloc, office, NORTH_KEY, call, 404, "E02 not found\n")?;
     }
     let call = dates(alloc, "north", "1")?;
     expect(
-        &rt,
+        rt,
         alloc,
-        &mut office,
+        office,
         NORTH_KEY,
         call,
         409,
@@ -165,49 +182,57 @@ fn a_number_that_no_plan_has_is_not_found(rt: HostRuntime) -> Result<(), Fail> {
 }
 
 #[test]
-fn a_rule_is_judged_before_the_calendar(rt: HostRuntime) -> Result<(), Fail> {
+fn a_number_that_no_plan_has_is_not_found(rt: HostRuntime) -> Result<(), Fail> {
     let alloc = rt.alloc();
-    let mut office = with_plan(&rt, alloc, false)?;
+    let mut office = with_plan(&rt, alloc, true)?;
+    a_number_that_no_plan_has_is_not_found_in(&rt, alloc, &mut office)
+}
+
+fn a_rule_is_judged_before_the_calendar_in(
+    rt: &impl Abort,
+    alloc: Global,
+    office: &mut Office<MemBook>,
+) -> Result<(), Fail> {
     for (rule, line) in [
         ("lft", "E12 G4 no calendar\n"),
         ("zzz", "E11 S3 unknown rule\n"),
     ] {
         let call = days(alloc, "north", "1", rule)?;
-        expect(&rt, alloc, &mut office, NORTH_KEY, call, 422, line)?;
+        expect(rt, alloc, office, NORTH_KEY, call, 422, line)?;
     }
     Ok(())
+}
+
+#[test]
+fn a_rule_is_judged_before_the_calendar(rt: HostRuntime) -> Result<(), Fail> {
+    let alloc = rt.alloc();
+    let mut office = with_plan(&rt, alloc, false)?;
+    a_rule_is_judged_before_the_calendar_in(&rt, alloc, &mut office)
+}
+
+fn a_file_fault_is_told_in(
+    rt: &impl Abort,
+    alloc: Global,
+    office: &mut Office<MemBook>,
+) -> Result<(), Fail> {
+    let call = import_project(alloc, "north", "")?;
+    expect(rt, alloc, office, NORTH_KEY, call, 422, "E10 F3 line 0\n")?;
+    let call = import_shop(alloc, "north", "la01", TWO_BY_TWO)?;
+    expect(rt, alloc, office, NORTH_KEY, call, 422, "E10 F13 line 3\n")
 }
 
 #[test]
 fn a_file_fault_is_told(rt: HostRuntime) -> Result<(), Fail> {
     let alloc = rt.alloc();
     let mut office = with_north(&rt, alloc)?;
-    let call = import_project(alloc, "north", "")?;
-    expect(
-        &rt,
-        alloc,
-        &mut office,
-        NORTH_KEY,
-        call,
-        422,
-        "E10 F3 line 0\n",
-    )?;
-    let call = import_shop(alloc, "north", "la01", TWO_BY_TWO)?;
-    expect(
-        &rt,
-        alloc,
-        &mut office,
-        NORTH_KEY,
-        call,
-        422,
-        "E10 F13 line 3\n",
-    )
+    a_file_fault_is_told_in(&rt, alloc, &mut office)
 }
 
-#[test]
-fn a_machine_is_closed_at_capacity_0(rt: HostRuntime) -> Result<(), Fail> {
-    let alloc = rt.alloc();
-    let mut office = with_plan(&rt, alloc, true)?;
+fn a_machine_is_closed_at_capacity_0_in(
+    rt: &impl Abort,
+    alloc: Global,
+    office: &mut Office<MemBook>,
+) -> Result<(), Fail> {
     for (published, status, end) in [
         (
             "{\"code\":\"lathe\",\"kind\":\"machine\",\"capacity\":1}",
@@ -221,13 +246,20 @@ fn a_machine_is_closed_at_capacity_0(rt: HostRuntime) -> Result<(), Fail> {
         ),
     ] {
         let call = publish(alloc, published)?;
-        ask(alloc, &mut office, OFFICE_KEY, call)?;
+        ask(alloc, office, OFFICE_KEY, call)?;
         let call = bind(alloc, "north", "1", "{\"code\":\"lathe\",\"place\":1}")?;
-        ask(alloc, &mut office, NORTH_KEY, call)?;
+        ask(alloc, office, NORTH_KEY, call)?;
         let call = schedule(alloc, "north", "1", "mwkr")?;
-        let reply = ask(alloc, &mut office, NORTH_KEY, call)?;
-        assert_eq!(&rt; reply.status, status);
-        assert!(&rt; body_of(&reply).ends_with(end));
+        let reply = ask(alloc, office, NORTH_KEY, call)?;
+        assert_eq!(rt; reply.status, status);
+        assert!(rt; body_of(&reply).ends_with(end));
     }
     Ok(())
+}
+
+#[test]
+fn a_machine_is_closed_at_capacity_0(rt: HostRuntime) -> Result<(), Fail> {
+    let alloc = rt.alloc();
+    let mut office = with_plan(&rt, alloc, true)?;
+    a_machine_is_closed_at_capacity_0_in(&rt, alloc, &mut office)
 }

@@ -5,45 +5,57 @@ use crate::asking::{
     remove, set_key, with_north, with_two,
 };
 use crate::files::SIX;
+use plan_desk::{MemBook, Office};
+use std::alloc::Global;
+use std::process::Abort;
 use std::test::Fail;
 
 const TWO_PLANS: &str =
     "{\"plans\":[{\"kind\":\"project\",\"n\":1},{\"kind\":\"project\",\"n\":2}]}\n";
 
-#[test]
-fn each_desk_numbers_its_own_plans(rt: HostRuntime) -> Result<(), Fail> {
-    let alloc = rt.alloc();
-    let mut office = with_two(&rt, alloc)?;
+fn each_desk_numbers_its_own_plans_in(
+    rt: &impl Abort,
+    alloc: Global,
+    office: &mut Office<MemBook>,
+) -> Result<(), Fail> {
     for answer in [
         "{\"kind\":\"project\",\"n\":1}\n",
         "{\"kind\":\"project\",\"n\":2}\n",
     ] {
         for (desk, key) in [("north", NORTH_KEY), ("north-2", OTHER_KEY)] {
             let call = import_project(alloc, desk, SIX)?;
-            expect(&rt, alloc, &mut office, key, call, 201, answer)?;
+            expect(rt, alloc, office, key, call, 201, answer)?;
         }
     }
     for (desk, key) in [("north", NORTH_KEY), ("north-2", OTHER_KEY)] {
         let call = list_plans(alloc, desk)?;
-        expect(&rt, alloc, &mut office, key, call, 200, TWO_PLANS)?;
+        expect(rt, alloc, office, key, call, 200, TWO_PLANS)?;
     }
     Ok(())
 }
 
 #[test]
-fn the_number_of_a_removed_plan_is_not_used_again(rt: HostRuntime) -> Result<(), Fail> {
+fn each_desk_numbers_its_own_plans(rt: HostRuntime) -> Result<(), Fail> {
     let alloc = rt.alloc();
-    let mut office = with_north(&rt, alloc)?;
+    let mut office = with_two(&rt, alloc)?;
+    each_desk_numbers_its_own_plans_in(&rt, alloc, &mut office)
+}
+
+fn the_number_of_a_removed_plan_is_not_used_again_in(
+    rt: &impl Abort,
+    alloc: Global,
+    office: &mut Office<MemBook>,
+) -> Result<(), Fail> {
     for (removed, status) in [("1", 404), ("1", 200), ("2", 200)] {
         let call = remove(alloc, "north", removed)?;
-        let reply = ask(alloc, &mut office, NORTH_KEY, call)?;
-        assert_eq!(&rt; reply.status, status);
+        let reply = ask(alloc, office, NORTH_KEY, call)?;
+        assert_eq!(rt; reply.status, status);
         let call = import_project(alloc, "north", SIX)?;
-        ask(alloc, &mut office, NORTH_KEY, call)?;
+        ask(alloc, office, NORTH_KEY, call)?;
     }
     let call = list_plans(alloc, "north")?;
-    let reply = ask(alloc, &mut office, NORTH_KEY, call)?;
-    assert_eq!(&rt;
+    let reply = ask(alloc, office, NORTH_KEY, call)?;
+    assert_eq!(rt;
         body_of(&reply),
         "{\"plans\":[{\"kind\":\"project\",\"n\":3}]}\n"
     );
@@ -51,9 +63,17 @@ fn the_number_of_a_removed_plan_is_not_used_again(rt: HostRuntime) -> Result<(),
 }
 
 #[test]
-fn a_key_that_is_not_the_desks_own_opens_nothing(rt: HostRuntime) -> Result<(), Fail> {
+fn the_number_of_a_removed_plan_is_not_used_again(rt: HostRuntime) -> Result<(), Fail> {
     let alloc = rt.alloc();
-    let mut office = with_two(&rt, alloc)?;
+    let mut office = with_north(&rt, alloc)?;
+    the_number_of_a_removed_plan_is_not_used_again_in(&rt, alloc, &mut office)
+}
+
+fn a_key_that_is_not_the_desks_own_opens_nothing_in(
+    rt: &impl Abort,
+    alloc: Global,
+    office: &mut Office<MemBook>,
+) -> Result<(), Fail> {
     for (key, desk) in [
         (NORTH_KEY, "north-2"),
         (NORTH_KEY, "nowhere"),
@@ -62,19 +82,27 @@ fn a_key_that_is_not_the_desks_own_opens_nothing(rt: HostRuntime) -> Result<(), 
         ("", "north"),
     ] {
         let call = import_project(alloc, desk, SIX)?;
-        expect(&rt, alloc, &mut office, key, call, 403, "E01 key\n")?;
+        expect(rt, alloc, office, key, call, 403, "E01 key\n")?;
     }
     for (desk, key) in [("north", NORTH_KEY), ("north-2", OTHER_KEY)] {
         let call = list_plans(alloc, desk)?;
-        expect(&rt, alloc, &mut office, key, call, 200, "{\"plans\":[]}\n")?;
+        expect(rt, alloc, office, key, call, 200, "{\"plans\":[]}\n")?;
     }
     Ok(())
 }
 
 #[test]
-fn a_key_is_set_by_the_office_alone(rt: HostRuntime) -> Result<(), Fail> {
+fn a_key_that_is_not_the_desks_own_opens_nothing(rt: HostRuntime) -> Result<(), Fail> {
     let alloc = rt.alloc();
-    let mut office = with_north(&rt, alloc)?;
+    let mut office = with_two(&rt, alloc)?;
+    a_key_that_is_not_the_desks_own_opens_nothing_in(&rt, alloc, &mut office)
+}
+
+fn a_key_is_set_by_the_office_alone_in(
+    rt: &impl Abort,
+    alloc: Global,
+    office: &mut Office<MemBook>,
+) -> Result<(), Fail> {
     for (key, desk, body, status, answer) in [
         (
             NORTH_KEY,
@@ -108,22 +136,30 @@ fn a_key_is_set_by_the_office_alone(rt: HostRuntime) -> Result<(), Fail> {
         ),
     ] {
         let call = set_key(alloc, desk, body)?;
-        expect(&rt, alloc, &mut office, key, call, status, answer)?;
+        expect(rt, alloc, office, key, call, status, answer)?;
     }
     for (key, status, answer) in [
         (NORTH_KEY, 403, "E01 key\n"),
         ("password", 200, "{\"plans\":[]}\n"),
     ] {
         let call = list_plans(alloc, "north")?;
-        expect(&rt, alloc, &mut office, key, call, status, answer)?;
+        expect(rt, alloc, office, key, call, status, answer)?;
     }
     Ok(())
 }
 
 #[test]
-fn a_desk_is_opened_once(rt: HostRuntime) -> Result<(), Fail> {
+fn a_key_is_set_by_the_office_alone(rt: HostRuntime) -> Result<(), Fail> {
     let alloc = rt.alloc();
     let mut office = with_north(&rt, alloc)?;
+    a_key_is_set_by_the_office_alone_in(&rt, alloc, &mut office)
+}
+
+fn a_desk_is_opened_once_in(
+    rt: &impl Abort,
+    alloc: Global,
+    office: &mut Office<MemBook>,
+) -> Result<(), Fail> {
     for (key, body, status, line) in [
         (
             OFFICE_KEY,
@@ -145,8 +181,35 @@ fn a_desk_is_opened_once(rt: HostRuntime) -> Result<(), Fail> {
         ),
     ] {
         let call = open_desk(alloc, body)?;
-        expect(&rt, alloc, &mut office, key, call, status, line)?;
+        expect(rt, alloc, office, key, call, status, line)?;
     }
+    Ok(())
+}
+
+#[test]
+fn a_desk_is_opened_once(rt: HostRuntime) -> Result<(), Fail> {
+    let alloc = rt.alloc();
+    let mut office = with_north(&rt, alloc)?;
+    a_desk_is_opened_once_in(&rt, alloc, &mut office)
+}
+
+fn a_desk_holds_100_plans_in(
+    rt: &impl Abort,
+    alloc: Global,
+    office: &mut Office<MemBook>,
+) -> Result<(), Fail> {
+    for _done in 0..100 {
+        let call = import_project(alloc, "north", SIX)?;
+        let reply = ask(alloc, office, NORTH_KEY, call)?;
+        assert_eq!(rt; reply.status, 201);
+    }
+    for body in [SIX, ""] {
+        let call = import_project(alloc, "north", body)?;
+        expect(rt, alloc, office, NORTH_KEY, call, 409, "E08 100 plans\n")?;
+    }
+    let call = list_plans(alloc, "north")?;
+    let reply = ask(alloc, office, NORTH_KEY, call)?;
+    assert!(rt; body_of(&reply).ends_with(",{\"kind\":\"project\",\"n\":100}]}\n"));
     Ok(())
 }
 
@@ -154,25 +217,5 @@ fn a_desk_is_opened_once(rt: HostRuntime) -> Result<(), Fail> {
 fn a_desk_holds_100_plans(rt: HostRuntime) -> Result<(), Fail> {
     let alloc = rt.alloc();
     let mut office = with_north(&rt, alloc)?;
-    for _done in 0..100 {
-        let call = import_project(alloc, "north", SIX)?;
-        let reply = ask(alloc, &mut office, NORTH_KEY, call)?;
-        assert_eq!(&rt; reply.status, 201);
-    }
-    for body in [SIX, ""] {
-        let call = import_project(alloc, "north", body)?;
-        expect(
-            &rt,
-            alloc,
-            &mut office,
-            NORTH_KEY,
-            call,
-            409,
-            "E08 100 plans\n",
-        )?;
-    }
-    let call = list_plans(alloc, "north")?;
-    let reply = ask(alloc, &mut office, NORTH_KEY, call)?;
-    assert!(&rt; body_of(&reply).ends_with(",{\"kind\":\"project\",\"n\":100}]}\n"));
-    Ok(())
+    a_desk_holds_100_plans_in(&rt, alloc, &mut office)
 }

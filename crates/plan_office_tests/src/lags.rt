@@ -4,6 +4,9 @@ use crate::asking::{
     NORTH_KEY, OTHER_KEY, dates, expect, import_project, import_shop, set_lag, with_two,
 };
 use crate::files::{SIX, TWO_BY_TWO};
+use plan_desk::{MemBook, Office};
+use std::alloc::Global;
+use std::process::Abort;
 use std::test::Fail;
 
 const WITHOUT: &str = " act       d      ES      EF      LS      LF      TF      FF
@@ -26,14 +29,15 @@ const WITH_2: &str = " act       d      ES      EF      LS      LF      TF      
 T 9
 ";
 
-#[test]
-fn a_lag_moves_the_dates_of_its_own_desk(rt: HostRuntime) -> Result<(), Fail> {
-    let alloc = rt.alloc();
-    let mut office = with_two(&rt, alloc)?;
+fn a_lag_moves_the_dates_of_its_own_desk_in(
+    rt: &impl Abort,
+    alloc: Global,
+    office: &mut Office<MemBook>,
+) -> Result<(), Fail> {
     for (desk, key) in [("north", NORTH_KEY), ("north-2", OTHER_KEY)] {
         let call = import_project(alloc, desk, SIX)?;
         let answer = "{\"kind\":\"project\",\"n\":1}\n";
-        expect(&rt, alloc, &mut office, key, call, 201, answer)?;
+        expect(rt, alloc, office, key, call, 201, answer)?;
     }
     for (body, answer, table) in [
         (
@@ -48,27 +52,35 @@ fn a_lag_moves_the_dates_of_its_own_desk(rt: HostRuntime) -> Result<(), Fail> {
         ),
     ] {
         let call = set_lag(alloc, "north", "1", body)?;
-        expect(&rt, alloc, &mut office, NORTH_KEY, call, 200, answer)?;
+        expect(rt, alloc, office, NORTH_KEY, call, 200, answer)?;
         let call = dates(alloc, "north", "1")?;
-        expect(&rt, alloc, &mut office, NORTH_KEY, call, 200, table)?;
+        expect(rt, alloc, office, NORTH_KEY, call, 200, table)?;
         let call = dates(alloc, "north-2", "1")?;
-        expect(&rt, alloc, &mut office, OTHER_KEY, call, 200, WITHOUT)?;
+        expect(rt, alloc, office, OTHER_KEY, call, 200, WITHOUT)?;
     }
     Ok(())
 }
 
 #[test]
-fn a_lag_is_judged_by_its_members_first(rt: HostRuntime) -> Result<(), Fail> {
+fn a_lag_moves_the_dates_of_its_own_desk(rt: HostRuntime) -> Result<(), Fail> {
     let alloc = rt.alloc();
     let mut office = with_two(&rt, alloc)?;
+    a_lag_moves_the_dates_of_its_own_desk_in(&rt, alloc, &mut office)
+}
+
+fn a_lag_is_judged_by_its_members_first_in(
+    rt: &impl Abort,
+    alloc: Global,
+    office: &mut Office<MemBook>,
+) -> Result<(), Fail> {
     let call = import_project(alloc, "north", SIX)?;
     let answer = "{\"kind\":\"project\",\"n\":1}\n";
-    expect(&rt, alloc, &mut office, NORTH_KEY, call, 201, answer)?;
+    expect(rt, alloc, office, NORTH_KEY, call, 201, answer)?;
     let call = import_shop(alloc, "north", "-", TWO_BY_TWO)?;
     expect(
-        &rt,
+        rt,
         alloc,
-        &mut office,
+        office,
         NORTH_KEY,
         call,
         201,
@@ -93,7 +105,14 @@ fn a_lag_is_judged_by_its_members_first(rt: HostRuntime) -> Result<(), Fail> {
         ("3", "{\"from\":2,\"to\":4}", 404, "E02 not found\n"),
     ] {
         let call = set_lag(alloc, "north", n, body)?;
-        expect(&rt, alloc, &mut office, NORTH_KEY, call, status, line)?;
+        expect(rt, alloc, office, NORTH_KEY, call, status, line)?;
     }
     Ok(())
+}
+
+#[test]
+fn a_lag_is_judged_by_its_members_first(rt: HostRuntime) -> Result<(), Fail> {
+    let alloc = rt.alloc();
+    let mut office = with_two(&rt, alloc)?;
+    a_lag_is_judged_by_its_members_first_in(&rt, alloc, &mut office)
 }

@@ -14,4 +14,10 @@ mod files;
 #[cfg(test)]
 mod lags;
 #[cfg(test)]
+mod numbers;
+#[cfg(test)]
+mod refusals;
+#[cfg(test)]
+mod rounds;
+#[cfg(test)]
 mod searches;

@@ -6,16 +6,16 @@ use std::alloc::Global;
 use std::process::Abort;
 use std::test::Fail;
 
-/// The shop of a text in the bare form.
-pub fn doc_of(rt: &impl Abort, alloc: Global, text: &str) -> ShopDoc {
+// The shop of a text in the bare form.
+fn doc_of(rt: &impl Abort, alloc: Global, text: &str) -> ShopDoc {
     match read_shop(alloc, text.as_bytes(), b"-") {
         Ok(doc) => doc,
         Err(_) => panic!(rt; "not read: {text}"),
     }
 }
 
-/// The rule of a name.
-pub fn rule_of(rt: &impl Abort, word: &str) -> ShopRule {
+// The rule of a name.
+fn rule_of(rt: &impl Abort, word: &str) -> ShopRule {
     match ShopRule::parse(word) {
         Ok(rule) => rule,
         Err(_) => panic!(rt; "{word} is no rule"),

@@ -3,16 +3,32 @@
 ghost use Rattle.std.specs.Prelude.{All, ◌≤◌};
 
 use crate::drawn::{drawn_gap, drawn_shop, first_of, shop_text};
-use crate::job_shops::{doc_of, rule_of};
 use crate::seen::{Seen, verdict_of};
 use crate::slow::shops::SmallShop;
+use plan_orlib::{ShopDoc, read_shop};
 use plan_profile::END;
-use plan_shop::{Shop, ShopFault, check, giffler};
+use plan_shop::{Shop, ShopFault, ShopRule, check, giffler};
 use rand::rngs::StdRng;
 use rand::{RngExt, SeedableRng};
 use std::alloc::Global;
 use std::process::Abort;
 use std::test::Fail;
+
+// The shop of a text in the bare form.
+fn doc_of(rt: &impl Abort, alloc: Global, text: &str) -> ShopDoc {
+    match read_shop(alloc, text.as_bytes(), b"-") {
+        Ok(doc) => doc,
+        Err(_) => panic!(rt; "not read: {text}"),
+    }
+}
+
+// The rule of a name.
+fn rule_of(rt: &impl Abort, word: &str) -> ShopRule {
+    match ShopRule::parse(word) {
+        Ok(rule) => rule,
+        Err(_) => panic!(rt; "{word} is no rule"),
+    }
+}
 
 // The verdict on a list of starts is that of the slow program.
 fn compare_verdicts(

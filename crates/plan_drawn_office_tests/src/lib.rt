@@ -1,0 +1,19 @@
+//! Random requests of three desks, answered by the office and by a plain slow program of its rules.
+#![tactic(auto)]
+
+#[cfg(test)]
+mod asks;
+#[cfg(test)]
+mod drawing;
+#[cfg(test)]
+mod files;
+#[cfg(test)]
+mod office;
+#[cfg(test)]
+mod pages;
+#[cfg(test)]
+mod plain;
+#[cfg(test)]
+mod random;
+#[cfg(test)]
+mod rules;
