@@ -1,1 +1,5 @@
 pub mod RunLemmas
+pub mod ScheduledLemmas
+pub mod StartLemmas
+pub mod DaysLemmas
+pub mod CheckLemmas

@@ -16,6 +16,10 @@ use Rattle.plan_orlib.specs.Shop as docs
 use Rattle.plan_orlib.specs.Says.{Says as ShopSays}
 use Rattle.plan_orlib.specs.Reading as reading
 use Rattle.plan_gantt.specs.FirstFaults.{TellsFirstFailing, TellsFirstShopFault}
+use Rattle.plan_cli.specs.ChartRun.{IsChartOf, IsShopChartOf}
+use Rattle.plan_cli.specs.DaysRun.{IsDaysOf, IsShopDaysOf, TellsWhyNoDays, TellsWhyNoShopDays}
+use Rattle.plan_cli.specs.NamesRun.{AreNamesOf, TellsNotPlain}
+use Rattle.plan_cli.specs.CheckRun.{IsVerdictOf, TellsWhyNoVerdict}
 use Rattle.plan_cli.specs.ShopRun.{IsShopTableOf, TellsWhyNoShop}
 use Rattle.plan_cli.specs.BestRun.{IsBestTableOf, TellsWhyNoBest}
 use Rattle.plan_cli.specs.BestProjectRun.{IsBestProjectTableOf, TellsWhyNoBestProject}
@@ -215,10 +219,72 @@ pub told_no_shop : (instance file : List ℕ) (first : FileFault) (e : CliFault)
 told_no_shop instance file first e (inl memory) t = refuses_as (Tells first) (TellsFirstShopFault instance file) e (λ line tells. absurd (tells.0 memory.0)) t
 told_no_shop instance file first e (inr failing) t = refuses_as (Tells first) (TellsFirstShopFault instance file) e (λ line tells. (first, failing, tells.1)) t
 
+-- the names in the front of a file are those in the file, which is no longer
+names_front : HoldsByFront AreNamesOf
+names_front file text (readable, is) = by_length (cases_lt longest_text (length file))
+  where
+    by_length : (longest_text < length file) ⊎ (length file ≤ longest_text) → AreNamesOf file text
+    by_length (inr short) = subst (λ front. AreNamesOf front text) (take_all (longest_text + 1) file (omega (arith, short))) (readable, is)
+    by_length (inl long) =
+        let m = length-take (longest_text + 1) file in
+        let few = plain_short (take (longest_text + 1) file) readable in
+        absurd (omega (arith, m, few, long))
+
+-- the front of a file is fit to be read where the file is
+plain_front : (file : List ℕ) → plain (take (longest_text + 1) file) ≡ plain file
+plain_front file = by_length (cases_lt longest_text (length file))
+  where
+    by_length : (longest_text < length file) ⊎ (length file ≤ longest_text) → plain (take (longest_text + 1) file) ≡ plain file
+    by_length (inr short) = ap plain (take_all (longest_text + 1) file (omega (arith, short)))
+    by_length (inl long) =
+        let m = length-take (longest_text + 1) file in
+        long_plain (take (longest_text + 1) file) (omega (arith, m, long)) ∙ sym (long_plain file long)
+
+not_plain_front : HoldsByFront TellsNotPlain
+not_plain_front file line (first, (failing, none), e) = (first, (sym (plain_front file) ∙ failing, none), e)
+
+-- the fault of a file that isn't fit to be read is told
+pub told_not_plain : (file : List ℕ) (first : FileFault) (e : CliFault) → IsWantOfMemory first ⊎ reading.FailsWith (plain file) first → Refuses (Tells first) e → Refuses (TellsNotPlain file) e
+told_not_plain file first e (inl memory) t = refuses_as (Tells first) (TellsNotPlain file) e (λ line tells. absurd (tells.0 memory.0)) t
+told_not_plain file first e (inr failing) t = refuses_as (Tells first) (TellsNotPlain file) e (λ line tells. (first, failing, tells.1)) t
+
+chart_front : (name : List ℕ) → HoldsByFront (IsChartOf name)
+chart_front name file text (p, says, shown) = (p, project_front file p says, shown)
+
+shop_chart_front : (name instance : List ℕ) → HoldsByFront (IsShopChartOf name instance)
+shop_chart_front name instance file text (doc, says, shown) = (doc, says_shop_front instance file doc says, shown)
+
+days_front : (name start marks : List ℕ) → HoldsByFront (IsDaysOf name start marks)
+days_front name start marks file text (p, says, shown) = (p, project_front file p says, shown)
+
+no_days_front : (name start marks : List ℕ) → HoldsByFront (TellsWhyNoDays name start marks)
+no_days_front name start marks file line (inl first) = inl (line_front file line first)
+no_days_front name start marks file line (inr (p, says, tells)) = inr (p, project_front file p says, tells)
+
+shop_days_front : (name start marks instance : List ℕ) → HoldsByFront (IsShopDaysOf name start marks instance)
+shop_days_front name start marks instance file text (doc, says, shown) = (doc, says_shop_front instance file doc says, shown)
+
+no_shop_days_front : (name start marks instance : List ℕ) → HoldsByFront (TellsWhyNoShopDays name start marks instance)
+no_shop_days_front name start marks instance file line (inl first) = inl (first_front instance file line first)
+no_shop_days_front name start marks instance file line (inr (doc, says, tells)) = inr (doc, says_shop_front instance file doc says, tells)
+
+verdict_front : (listed : List ℕ) → HoldsByFront (IsVerdictOf listed)
+verdict_front listed file text (p, says, told) = (p, project_front file p says, told)
+
+no_verdict_front : (listed : List ℕ) → HoldsByFront (TellsWhyNoVerdict listed)
+no_verdict_front listed file line (inl first) = inl (line_front file line first)
+no_verdict_front listed file line (inr (p, says, tells)) = inr (p, project_front file p says, tells)
+
 -- what a task makes of the front of a file it makes of the file
 pub task_front : (task : Task) → HoldsByFront (IsTextOf task)
 task_front task.Dates = table_front
 task_front (task.Schedule rule) = schedule_front rule.now
+task_front (task.Chart rule) = chart_front rule.now
+task_front (task.ShopChart rule instance) = shop_chart_front rule.now instance.now
+task_front (task.Days rule start marks) = days_front rule.now start.now marks.now
+task_front (task.ShopDays rule start marks instance) = shop_days_front rule.now start.now marks.now instance.now
+task_front task.Names = names_front
+task_front (task.Check starts) = verdict_front starts.now
 task_front (task.Shop rule instance) = shop_front rule.now instance.now
 task_front (task.Best budget instance) = best_front budget.now instance.now
 task_front (task.BestProject budget) = best_project_front budget.now
@@ -226,6 +292,12 @@ task_front (task.BestProject budget) = best_project_front budget.now
 pub task_line_front : (task : Task) → HoldsByFront (IsLineOf task)
 task_line_front task.Dates = line_front
 task_line_front (task.Schedule rule) = why_front rule.now
+task_line_front (task.Chart rule) = why_front rule.now
+task_line_front (task.ShopChart rule instance) = no_shop_front rule.now instance.now
+task_line_front (task.Days rule start marks) = no_days_front rule.now start.now marks.now
+task_line_front (task.ShopDays rule start marks instance) = no_shop_days_front rule.now start.now marks.now instance.now
+task_line_front task.Names = not_plain_front
+task_line_front (task.Check starts) = no_verdict_front starts.now
 task_line_front (task.Shop rule instance) = no_shop_front rule.now instance.now
 task_line_front (task.Best budget instance) = no_best_front budget.now instance.now
 task_line_front (task.BestProject budget) = no_best_project_front budget.now

@@ -18,3 +18,10 @@ pub use Rattle.plan_gantt.specs.ShopBestText
 pub use Rattle.plan_gantt.specs.ProjectBestText
 pub mod BestRun
 pub mod BestProjectRun
+pub mod Scheduled
+pub mod ChartRun
+pub mod DaysRun
+pub mod NamesRun
+pub mod Starts
+pub mod VerdictText
+pub mod CheckRun

@@ -3,6 +3,10 @@ use Rattle.std.specs.Prelude.{ℕ, List, Option, None, Result}
 use Rattle.plan_gantt.specs.FirstFaults.{TellsFirstFailing}
 use Rattle.plan_cli.specs.Run.{IsDateTableOf, ReadsFront}
 use Rattle.plan_cli.specs.ScheduleRun.{IsScheduleTableOf, TellsWhyNoSchedule}
+use Rattle.plan_cli.specs.ChartRun.{IsChartOf, IsShopChartOf}
+use Rattle.plan_cli.specs.DaysRun.{IsDaysOf, IsShopDaysOf, TellsWhyNoDays, TellsWhyNoShopDays}
+use Rattle.plan_cli.specs.NamesRun.{AreNamesOf, TellsNotPlain}
+use Rattle.plan_cli.specs.CheckRun.{IsVerdictOf, TellsWhyNoVerdict}
 use Rattle.plan_cli.specs.ShopRun.{IsShopTableOf, TellsWhyNoShop}
 use Rattle.plan_cli.specs.BestRun.{IsBestTableOf, TellsWhyNoBest}
 use Rattle.plan_cli.specs.BestProjectRun.{IsBestProjectTableOf, TellsWhyNoBestProject}
@@ -14,6 +18,12 @@ use Rattle.plan_cli.specs.declared.fault.CliFault.{CliFault}
 abbrev pub IsTextOf : Task → List ℕ → List ℕ → Type 0
 IsTextOf task.Dates = IsDateTableOf
 IsTextOf (task.Schedule rule) = IsScheduleTableOf rule.now
+IsTextOf (task.Chart rule) = IsChartOf rule.now
+IsTextOf (task.ShopChart rule instance) = IsShopChartOf rule.now instance.now
+IsTextOf (task.Days rule start marks) = IsDaysOf rule.now start.now marks.now
+IsTextOf (task.ShopDays rule start marks instance) = IsShopDaysOf rule.now start.now marks.now instance.now
+IsTextOf task.Names = AreNamesOf
+IsTextOf (task.Check starts) = IsVerdictOf starts.now
 IsTextOf (task.Shop rule instance) = IsShopTableOf rule.now instance.now
 IsTextOf (task.Best budget instance) = IsBestTableOf budget.now instance.now
 IsTextOf (task.BestProject budget) = IsBestProjectTableOf budget.now
@@ -22,6 +32,12 @@ IsTextOf (task.BestProject budget) = IsBestProjectTableOf budget.now
 abbrev pub IsLineOf : Task → List ℕ → List ℕ → Type 0
 IsLineOf task.Dates = TellsFirstFailing
 IsLineOf (task.Schedule rule) = TellsWhyNoSchedule rule.now
+IsLineOf (task.Chart rule) = TellsWhyNoSchedule rule.now
+IsLineOf (task.ShopChart rule instance) = TellsWhyNoShop rule.now instance.now
+IsLineOf (task.Days rule start marks) = TellsWhyNoDays rule.now start.now marks.now
+IsLineOf (task.ShopDays rule start marks instance) = TellsWhyNoShopDays rule.now start.now marks.now instance.now
+IsLineOf task.Names = TellsNotPlain
+IsLineOf (task.Check starts) = TellsWhyNoVerdict starts.now
 IsLineOf (task.Shop rule instance) = TellsWhyNoShop rule.now instance.now
 IsLineOf (task.Best budget instance) = TellsWhyNoBest budget.now instance.now
 IsLineOf (task.BestProject budget) = TellsWhyNoBestProject budget.now

@@ -11,7 +11,7 @@ use crate::best::told;
 use crate::fault::CliFault;
 use crate::reading::read_project;
 use crate::running::run_task;
-use crate::schedule::told as told_schedule;
+use crate::scheduled::told as told_schedule;
 use crate::tasks::Task;
 use plan_exact::{parse_budget, solve_project};
 use plan_gantt::best_project_text;

@@ -3,22 +3,32 @@
 
 mod best;
 mod best_project;
+mod chart;
+mod check;
 mod cpm;
+mod days;
 mod fault;
 mod files;
+mod names;
 mod opening;
 mod output;
 mod reading;
 mod running;
 mod schedule;
+mod scheduled;
 mod shop;
+mod starts;
 mod tasks;
 
 pub use best::best_run;
 pub use best_project::best_project_run;
+pub use chart::{chart_run, shop_chart_run};
+pub use check::check_run;
 pub use cpm::cpm_run;
+pub use days::{days_run, shop_days_run};
 pub use fault::CliFault;
 pub use files::run_on_file;
+pub use names::names_run;
 pub use schedule::schedule_run;
 pub use shop::shop_run;
 pub use tasks::Task;

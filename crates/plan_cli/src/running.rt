@@ -36,7 +36,7 @@ pub(crate) fn run_task<R: Source, W: Sink>(
         Err(fault) => return Err(fault),
     };
     match text_of(alloc, task, &file) {
-        Ok(text) => write_text(writer, text.as_bytes()),
+        Ok(text) => write_text(writer, &text),
         Err(fault) => Err(fault),
     }
 }

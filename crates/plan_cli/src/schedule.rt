@@ -3,57 +3,27 @@
 ghost use Rattle.std.specs.Prelude.{◌≡◌, ◌⊎◌, ◌+◌, ◌≤◌, IfOk, OnOk, IfErr, IfSome, IsErrOf, string_bytes};
 ghost use Rattle.plan_psplib.specs.Devices.{most_calls, HasFailed};
 ghost use Rattle.plan_cli.specs.Run.{ReadsFront, Refuses, Writes};
-ghost use Rattle.plan_gantt.specs.ScheduleText.{IsTableOf, IsScheduleTextOf, TellsRefusal};
-ghost use Rattle.plan_cli.specs.ScheduleRun.{as_available, IsScheduleTableOf, TellsWhyNoSchedule, TellsSchedule};
+ghost use Rattle.plan_gantt.specs.ScheduleText.{IsScheduleTextOf, TellsRefusal};
+ghost use Rattle.plan_cli.specs.ScheduleRun.{as_available, IsScheduleTableOf, TellsWhyNoSchedule};
 
-use crate::fault::{CliFault, refusal_by};
+use crate::fault::CliFault;
 use crate::reading::read_project;
 use crate::running::run_task;
+use crate::scheduled::schedule_by;
 use crate::tasks::Task;
-use plan_gantt::{schedule_fault_text, schedule_table};
+use plan_gantt::schedule_table;
 use plan_psplib::{ProjectDoc, Sink, Source};
-use plan_sgs::{Instance, Rule, SgsFault, serial};
 use std::alloc::Global;
-
-// What a fault of a schedule says for people.
-pub(crate) fn told(alloc: Global, fault: &SgsFault) -> CliFault
-    ensures { Refuses (TellsSchedule fault.now) result }
-{
-    refusal_by(schedule_fault_text(alloc, fault))
-}
-
-// The schedule table of an instance.
-fn instance_text(alloc: Global, instance: &Instance, rule: Rule) -> Result<String, CliFault>
-    ensures made { IfOk result (λ text. IsTableOf instance.now rule (string_bytes text)) }
-    ensures refused { IfErr result (λ e. e ≡ CliFault.Memory) }
-{
-    let Ok(schedule) = serial(alloc, instance, rule) else {
-        return Err(CliFault::Memory);
-    };
-    match schedule_table(
-        alloc,
-        instance.network(),
-        &schedule.starts,
-        schedule.makespan,
-    ) {
-        Ok(text) => Ok(text),
-        Err(_) => Err(CliFault::Memory),
-    }
-}
 
 // The schedule table of a project.
 fn project_text(alloc: Global, name: &str, project: &ProjectDoc) -> Result<String, CliFault>
     ensures made { IfOk result (λ text. IsScheduleTextOf name.now (as_available project.now) (string_bytes text)) }
     ensures refused { IfErr result (Refuses (TellsRefusal name.now (as_available project.now))) }
 {
-    let instance = match Instance::of_project(project, project.avail()) {
-        Ok(instance) => instance,
-        Err(fault) => return Err(told(alloc, &fault)),
-    };
-    match Rule::parse(name) {
-        Ok(rule) => instance_text(alloc, &instance, rule),
-        Err(fault) => Err(told(alloc, &fault)),
-    }
+    let schedule = schedule_by(alloc, name, project)?;
+    let network = project.network();
+    let text = schedule_table(alloc, network, &schedule.starts, schedule.makespan)?;
+    Ok(text)
 }
 
 // The schedule table of a file.

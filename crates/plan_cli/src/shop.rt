@@ -4,52 +4,27 @@ ghost use Rattle.std.specs.Prelude.{◌≡◌, ◌⊎◌, ◌+◌, ◌≤◌, If
 ghost use Rattle.plan_psplib.specs.Devices.{most_calls, HasFailed};
 ghost use Rattle.plan_cli.specs.Run.{ReadsFront, Refuses, Writes};
 ghost use Rattle.plan_shop.specs.Docs.{shop_of};
-ghost use Rattle.plan_gantt.specs.ShopText.{IsTableBy, IsShopTextOf, TellsNoRule};
+ghost use Rattle.plan_gantt.specs.ShopText.{IsShopTextOf, TellsNoRule};
 ghost use Rattle.plan_cli.specs.ShopRun as spec;
 
-use crate::fault::{CliFault, refusal_by};
-use crate::opening::{open_shop, read_instance};
+use crate::fault::CliFault;
+use crate::opening::read_instance;
 use crate::running::run_task;
+use crate::scheduled::shop_schedule_by;
 use crate::tasks::Task;
-use plan_gantt::{shop_fault_text, shop_table};
+use plan_gantt::shop_table;
 use plan_orlib::ShopDoc;
 use plan_psplib::{Sink, Source};
-use plan_shop::{Shop, ShopFault, ShopRule, giffler};
 use std::alloc::Global;
-
-// What a fault of a shop says for people.
-fn told(alloc: Global, fault: &ShopFault) -> CliFault
-    ensures { Refuses (spec.TellsShop fault.now) result }
-{
-    if matches!(fault, ShopFault::NoMemory) {
-        return CliFault::Memory;
-    }
-    refusal_by(shop_fault_text(alloc, fault))
-}
-
-// The table of a shop.
-fn table_by(alloc: Global, rule: ShopRule, shop: &Shop) -> Result<String, CliFault>
-    ensures made { IfOk result (λ text. IsTableBy rule shop.now (string_bytes text)) }
-    ensures refused { IfErr result (λ e. e ≡ CliFault.Memory) }
-{
-    let Ok(schedule) = giffler(alloc, shop, rule) else {
-        return Err(CliFault::Memory);
-    };
-    match shop_table(alloc, shop, &schedule.starts, schedule.makespan) {
-        Ok(text) => Ok(text),
-        Err(_) => Err(CliFault::Memory),
-    }
-}
 
 // The table of a file's shop.
 fn doc_text(alloc: Global, name: &str, doc: &ShopDoc) -> Result<String, CliFault>
     ensures made { IfOk result (λ text. IsShopTextOf name.now (shop_of doc.now) (string_bytes text)) }
     ensures refused { IfErr result (Refuses (TellsNoRule name.now)) }
 {
-    match ShopRule::parse(name) {
-        Ok(rule) => table_by(alloc, rule, &open_shop(alloc, doc)?),
-        Err(fault) => Err(told(alloc, &fault)),
-    }
+    let (shop, schedule) = shop_schedule_by(alloc, name, doc)?;
+    let text = shop_table(alloc, &shop, &schedule.starts, schedule.makespan)?;
+    Ok(text)
 }
 
 // The table of an instance of a file.

@@ -7,8 +7,8 @@ pub returns-in-Ok-text_of-clause-text : goal.returns-in-Ok-text_of-clause-text
 returns-in-Ok-text_of-clause-text g c =
     let file = c.deref.result.now in
     let task = c.args.task in
-    let made = subst (λ (bytes : List ℕ). IsTextOf task file bytes) (sym c.as_bytes.ensures.value) c.in-Ok-text_of.ensures.made in
-    let written = sent_writes (IsTextOf task file) (IsLineOf task file) c.as_bytes.result.now (g.W.Sink.taken c.args.writer.now) (g.W.Sink.taken c.write_text.new.writer) c.write_text.result made c.write_text.ensures.sent in
+    let made = subst (λ (bytes : List ℕ). IsTextOf task file bytes) (sym c.deref-in-Ok-text_of.ensures.value) c.in-Ok-text_of.ensures.made in
+    let written = sent_writes (IsTextOf task file) (IsLineOf task file) c.deref-in-Ok-text_of.result.now (g.W.Sink.taken c.args.writer.now) (g.W.Sink.taken c.write_text.new.writer) c.write_text.result made c.write_text.ensures.sent in
     writes_known (IsTextOf task) (IsLineOf task) (g.R.Source.remaining c.args.reader.now) c.in-Ok.file.items file (g.W.Sink.taken c.args.writer.now) (g.W.Sink.taken c.write_text.new.writer) c.write_text.result
     (task_front task) (task_line_front task) c.deref.ensures.value c.in-Ok.ensures.bytes written
 
@@ -16,8 +16,8 @@ pub returns-in-Ok-text_of-clause-front : goal.returns-in-Ok-text_of-clause-front
 returns-in-Ok-text_of-clause-front g c =
     let file = c.deref.result.now in
     let task = c.args.task in
-    let made = subst (λ (bytes : List ℕ). IsTextOf task file bytes) (sym c.as_bytes.ensures.value) c.in-Ok-text_of.ensures.made in
-    let written = sent_writes (IsTextOf task file) (IsLineOf task file) c.as_bytes.result.now (g.W.Sink.taken c.args.writer.now) (g.W.Sink.taken c.write_text.new.writer) c.write_text.result made c.write_text.ensures.sent in
+    let made = subst (λ (bytes : List ℕ). IsTextOf task file bytes) (sym c.deref-in-Ok-text_of.ensures.value) c.in-Ok-text_of.ensures.made in
+    let written = sent_writes (IsTextOf task file) (IsLineOf task file) c.deref-in-Ok-text_of.result.now (g.W.Sink.taken c.args.writer.now) (g.W.Sink.taken c.write_text.new.writer) c.write_text.result made c.write_text.ensures.sent in
     reads_front (IsTextOf task) (IsLineOf task) (g.R.Source.remaining c.args.reader.now) (g.R.Source.remaining c.read_file.new.reader) c.in-Ok.file.items file (g.W.Sink.taken c.args.writer.now) (g.W.Sink.taken c.write_text.new.writer) c.write_text.result
     c.deref.ensures.value c.in-Ok.ensures.short c.in-Ok.ensures.bytes c.in-Ok.ensures.consumed written
 

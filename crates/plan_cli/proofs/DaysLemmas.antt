@@ -1,0 +1,70 @@
+-- Working days of schedules that are made, and why they aren't shown.
+use Rattle.std.proofs.Common.{◌≡◌, inl, inr, ℕ, List, subst}
+use Rattle.plan_net.specs.Network.{Net}
+use Rattle.plan_sgs.specs.Instances.{Planned}
+use Rattle.plan_sgs.specs.declared.schedule.Schedule.{Schedule}
+use Rattle.plan_shop.specs.Shop.{JobShop}
+use Rattle.plan_gantt.specs.WorkingDay.{Workdays}
+use Rattle.plan_gantt.specs.CalendarText.{IsCalendar}
+use Rattle.plan_gantt.specs.CalendarTable.{IsCalendarTable, HasActivityBeyond}
+use Rattle.plan_gantt.specs.ShopCharts.{IsShopCalendarTable, HasStepBeyond}
+use Rattle.plan_cli.specs.declared.fault.CliFault.{CliFault}
+use Rattle.plan_cli.specs.Run.{Refuses}
+use Rattle.plan_cli.specs.Scheduled.{IsScheduleBy, IsShopScheduleBy, IsMade, IsMadeOfShop}
+use Rattle.plan_cli.specs.DaysRun.{TellsNoCalendar, TellsBeyond, IsDaysBy, IsShopDaysBy, TellsNoProjectDays, TellsNoShopDays}
+use Rattle.plan_cli.proofs.RunLemmas.{refuses_as}
+
+-- the starts of a schedule that is made
+made_starts : (name : List ℕ) (i : Planned) (m : Schedule) → IsMade name i m → IsScheduleBy name i m.starts.items
+made_starts name i m (rule, named, by) = record { rule = rule; named = named; schedule = by.by }
+
+pub days_shown : (name start marks : List ℕ) (i : Planned) (m : Schedule) (c : Workdays) (net : Net) (text : List ℕ) → IsMade name i m → IsCalendar start marks c
+    → net ≡ i.project.network → IsCalendarTable c net m.starts.items text → IsDaysBy name start marks i text
+days_shown name start marks i m c net text made is same shown = record {
+  starts = m.starts.items;
+  schedule = made_starts name i m made;
+  shown = (c, is, subst (λ (n : Net). IsCalendarTable c n m.starts.items text) same shown);
+}
+
+pub no_calendar : (name start marks : List ℕ) (i : Planned) (m : Schedule) (e : CliFault) → IsMade name i m
+    → Refuses (TellsNoCalendar start marks) e → Refuses (TellsNoProjectDays name start marks i) e
+no_calendar name start marks i m e made t =
+    refuses_as (TellsNoCalendar start marks) (TellsNoProjectDays name start marks i) e
+    (λ line tells. inr (record { starts = m.starts.items; schedule = made_starts name i m made; hidden = inl tells })) t
+
+pub days_beyond : (name start marks : List ℕ) (i : Planned) (m : Schedule) (c : Workdays) (net : Net) (e : CliFault) → IsMade name i m → IsCalendar start marks c
+    → net ≡ i.project.network → Refuses (TellsBeyond (HasActivityBeyond c net m.starts.items)) e → Refuses (TellsNoProjectDays name start marks i) e
+days_beyond name start marks i m c net e made is same t =
+    refuses_as (TellsBeyond (HasActivityBeyond c net m.starts.items)) (TellsNoProjectDays name start marks i) e
+    (λ line tells. inr (record {
+      starts = m.starts.items;
+      schedule = made_starts name i m made;
+      hidden = inr (c, is, (subst (λ (n : Net). HasActivityBeyond c n m.starts.items) same tells.0, tells.1));
+    })) t
+
+made_shop_starts : (name : List ℕ) (s : JobShop) (m : Schedule) → IsMadeOfShop name s m → IsShopScheduleBy name s m.starts.items
+made_shop_starts name s m (rule, named, by) = record { rule = rule; named = named; starts_are = by.starts_are; active = by.active }
+
+pub shop_days_shown : (name start marks : List ℕ) (s shop : JobShop) (m : Schedule) (c : Workdays) (text : List ℕ) → IsMadeOfShop name s m → IsCalendar start marks c
+    → shop ≡ s → IsShopCalendarTable c shop m.starts.items text → IsShopDaysBy name start marks s text
+shop_days_shown name start marks s shop m c text made is same shown = record {
+  starts = m.starts.items;
+  schedule = made_shop_starts name s m made;
+  shown = (c, is, subst (λ (t : JobShop). IsShopCalendarTable c t m.starts.items text) same shown);
+}
+
+pub no_shop_calendar : (name start marks : List ℕ) (s : JobShop) (m : Schedule) (e : CliFault) → IsMadeOfShop name s m
+    → Refuses (TellsNoCalendar start marks) e → Refuses (TellsNoShopDays name start marks s) e
+no_shop_calendar name start marks s m e made t =
+    refuses_as (TellsNoCalendar start marks) (TellsNoShopDays name start marks s) e
+    (λ line tells. inr (record { starts = m.starts.items; schedule = made_shop_starts name s m made; hidden = inl tells })) t
+
+pub shop_days_beyond : (name start marks : List ℕ) (s shop : JobShop) (m : Schedule) (c : Workdays) (e : CliFault) → IsMadeOfShop name s m → IsCalendar start marks c
+    → shop ≡ s → Refuses (TellsBeyond (HasStepBeyond c shop m.starts.items)) e → Refuses (TellsNoShopDays name start marks s) e
+shop_days_beyond name start marks s shop m c e made is same t =
+    refuses_as (TellsBeyond (HasStepBeyond c shop m.starts.items)) (TellsNoShopDays name start marks s) e
+    (λ line tells. inr (record {
+      starts = m.starts.items;
+      schedule = made_shop_starts name s m made;
+      hidden = inr (c, is, (subst (λ (t : JobShop). HasStepBeyond c t m.starts.items) same tells.0, tells.1));
+    })) t

@@ -1,0 +1,98 @@
+-- The words of a text of starts, and the loop over them.
+use Rattle.std.proofs.Common.{◌≡◌, ℕ, zero, suc, ◌-◌, ◌+◌, ◌≤◌, ◌<◌, true, false, List, [], ◌∷◌, ◌++◌, Result, Ok, Err, length, refl, sym, ap, ◌∙◌, subst, append_assoc, append-nil}
+use Rattle.std.specs.Prelude.{All}
+use Rattle.std.specs.List.{AllByRecursion}
+use Rattle.std.proofs.lemmas.List.Elements.{All-nil, All-cons}
+use Rattle.plan_psplib.specs.declared.fault.Fault.{Fault}
+use Rattle.plan_psplib.specs.declared.fault.FileFault.{FileFault}
+use Rattle.plan_psplib.specs.declared.fault.ReadError.{ReadError}
+use Rattle.plan_psplib.specs.declared.fault.ReadError.TheVariants as errors
+use Rattle.plan_psplib.specs.Document.{plain}
+use Rattle.plan_psplib.specs.Faults.{TellsError}
+use Rattle.plan_psplib.specs.Lines.{NumberedLine}
+use Rattle.plan_psplib.specs.Streams.{Stream, rows}
+use Rattle.plan_psplib.specs.Reading.{◌>>=◌, Fails, within_at, end_at}
+use Rattle.plan_psplib.proofs.GoesLemmas.{Goes, goes_append, goes_spells, then_ok, same_ok, within_goes, end_none}
+use Rattle.plan_psplib.proofs.LoopLemmas.{goes_on, fails, is_done}
+use Rattle.plan_orlib.proofs.BlockLemmas as blocks
+use Rattle.plan_gantt.specs.Limits.{latest_start}
+use Rattle.plan_cli.specs.declared.fault.CliFault.{CliFault}
+use Rattle.plan_cli.specs.Run.{Refuses}
+use Rattle.plan_cli.specs.Starts.{SaysStarts, all_words, starts_at, starts_in, TellsStarts, TellsNoStarts}
+use Rattle.plan_cli.proofs.RunLemmas.{refuses_as}
+
+-- where all lines count and none is an end, all are rows
+pub all_rows : (all : List NumberedLine) → rows (λ _. true) (λ _. false) all ≡ all
+all_rows all = blocks.all_rows all
+
+-- the state of the loop: the starts so far, and what is left to read
+abbrev Starts : Type 0
+Starts = List ℕ × Stream
+
+abbrev others : ℕ → Starts → Result (List ℕ × Stream) Fault
+others k s = starts_at k s.0 s.1
+
+abbrev one : Starts → Result (ℕ × Stream) Fault
+one s = within_at latest_start s.1
+
+abbrev behind : Starts → (ℕ × Stream) → Starts
+behind s v = (s.0 ++ v.0 ∷ [], v.1)
+
+starts-suc : (k : ℕ) (s : Starts) → others (suc k) s ≡ (one s >>= λ v. others k (behind s v))
+unfolding starts_at
+starts-suc k s = refl
+
+pub starts_go_on : (count i : ℕ) (before : List ℕ) (s : Stream) (start : ℕ) (after : Stream) (total : Result (List ℕ × Stream) Fault) → i < count → within_at latest_start s ≡ Ok (start, after) → starts_at (count - i) before s ≡ total → starts_at (count - (i + 1)) (before ++ start ∷ []) after ≡ total
+starts_go_on count i before s start after total = goes_on others one behind starts-suc count i (before, s) (start, after) total
+
+pub starts_fail : (e : ReadError) (count i : ℕ) (before : List ℕ) (s : Stream) (total : Result (List ℕ × Stream) Fault) → i < count → Fails e (within_at latest_start s) → starts_at (count - i) before s ≡ total → Fails e total
+starts_fail e count i before s total = fails others one behind starts-suc e count i (before, s) total
+
+pub starts_done : (count i : ℕ) (before : List ℕ) (s : Stream) (total : Result (List ℕ × Stream) Fault) → count ≤ i → starts_at (count - i) before s ≡ total → total ≡ Ok (before, s)
+unfolding starts_at
+starts_done count i before s total past whole = sym (is_done others one behind starts-suc count i (before, s) total past whole)
+
+-- the starts are in time, each of them
+abbrev AreEarly : List ℕ → Type 0
+AreEarly ns = AllByRecursion (λ n. n ≤ latest_start) ns
+
+-- what is read are so many numbers, one a word
+starts_goes : (more : ℕ) (before : List ℕ) (s : Stream) (x : List ℕ × Stream) → starts_at more before s ≡ Ok x → (new : List ℕ) × (x.0 ≡ before ++ new) × (length new ≡ more) × Goes s new x.1 × AreEarly new
+unfolding starts_at
+starts_goes zero before s x e =
+    let P : List ℕ × Stream → Type 0 = λ z. (new : List ℕ) × (z.0 ≡ before ++ new) × (length new ≡ 0) × Goes s new z.1 × AreEarly new in
+    subst P (same_ok (before, s) x e) ([], sym (append-nil before), refl, refl, tt)
+starts_goes (suc more) before s x e =
+    then_ok (within_at latest_start s) _ x e (λ y read e.
+    let one = within_goes latest_start y.0 s y.1 read in
+    let rest = starts_goes more (before ++ y.0 ∷ []) y.1 x e in
+    (y.0 ∷ rest.0, rest.1 ∙ append_assoc before (y.0 ∷ []) rest.0, ap suc rest.2, goes_append s y.1 x.1 (y.0 ∷ []) rest.0 one.0 rest.3, (one.1, rest.4)))
+
+-- starts that are early are early at each place
+early_all : (ns : List ℕ) → AreEarly ns → All (λ t. t ≤ latest_start) ns
+early_all [] early = All-nil (λ t. t ≤ latest_start)
+early_all (n ∷ ns) early = All-cons (λ t. t ≤ latest_start) n ns early.0 (early_all ns early.1)
+
+-- what is read of a text it says
+pub starts_said : (count : ℕ) (text starts : List ℕ) → starts_in count text ≡ Ok starts → SaysStarts count text starts
+unfolding starts_in
+starts_said count text starts e =
+    then_ok (plain text) _ starts e (λ u good e.
+    then_ok (starts_at count [] (all_words text)) _ starts e (λ x read e.
+    then_ok (end_at x.1) _ starts e (λ v nothing_left e.
+    let all = starts_goes count [] (all_words text) x read in
+    let same : all.0 ≡ starts = sym all.1 ∙ same_ok x.0 starts e in
+    let whole : SaysStarts count text all.0 = record {
+      readable = good;
+      spelled = goes_spells (all_words text) x.1 all.0 all.3 (end_none x.1 v nothing_left);
+      whole = all.2;
+      in_time = early_all all.0 all.4;
+    } in
+    subst (SaysStarts count text) same whole)))
+
+-- the line of a text of starts is that of the first check that it fails
+pub told_no_starts : (count : ℕ) (text : List ℕ) (error : ReadError) (first : FileFault) (e : CliFault) → Fails error (starts_in count text) → TellsError error first → Refuses (TellsStarts first) e → Refuses (TellsNoStarts count text) e
+told_no_starts count text errors.Memory first e failing is t = refuses_as (TellsStarts first) (TellsNoStarts count text) e (λ line tells. absurd (tells.0 is.0)) t
+told_no_starts count text (errors.Fault f) first e failing is t =
+    let here : Path Fault f (record { code = first.code; line = first.line }) = rw (is.0, is.1) refl in
+    refuses_as (TellsStarts first) (TellsNoStarts count text) e (λ line tells. (first, (failing ∙ ap Err here, is.2), tells.1)) t

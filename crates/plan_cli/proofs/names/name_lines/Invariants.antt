@@ -1,0 +1,7 @@
+use Rattle.std.proofs.Common.{◌≡◌, map, take}
+use Rattle.plan_cli.specs.NamesRun.{name_lines}
+use Rattle.plan_cli.proofs.names.name_lines.Given as goal
+
+-- the lines of the names so far
+abbrev pub invariant-all : goal.invariant-all
+invariant-all l = l.text.items ≡ name_lines (map (λ name. name.items) (take l.name-index l.names))

@@ -1,0 +1,103 @@
+-- What `plan days` writes for the bytes that it reads (docs/DEFINITIONS.md, "Runs").
+use Rattle.std.specs.Prelude.{◌≡◌, ◌⊎◌, ℕ, List}
+use Rattle.plan_psplib.specs.Project.{Project, SaysProject}
+use Rattle.plan_orlib.specs.Shop as docs
+use Rattle.plan_orlib.specs.Says.{Says}
+use Rattle.plan_sgs.specs.Instances.{Planned}
+use Rattle.plan_shop.specs.Shop.{JobShop}
+use Rattle.plan_shop.specs.Docs.{shop_of}
+use Rattle.plan_gantt.specs.WorkingDay.{Workdays}
+use Rattle.plan_gantt.specs.CalendarText.{IsCalendar, RefusesTexts}
+use Rattle.plan_gantt.specs.CalendarTable.{IsCalendarTable, HasActivityBeyond}
+use Rattle.plan_gantt.specs.ShopCharts.{IsShopCalendarTable, HasStepBeyond}
+use Rattle.plan_gantt.specs.CalendarFaultText.{calendar_fault_text_of}
+use Rattle.plan_gantt.specs.declared.calendar.CalendarFault.{CalendarFault}
+use Rattle.plan_gantt.specs.declared.calendar.CalendarFault.TheVariants as fault
+use Rattle.plan_gantt.specs.declared.days.DaysFault.{DaysFault}
+use Rattle.plan_gantt.specs.declared.days.DaysFault.TheVariants as days
+use Rattle.plan_gantt.specs.FirstFaults.{TellsFirstFailing, TellsFirstShopFault}
+use Rattle.plan_gantt.specs.ScheduleText.{TellsRefusal}
+use Rattle.plan_gantt.specs.ShopText.{TellsNoRule}
+use Rattle.plan_cli.specs.ScheduleRun.{as_available}
+use Rattle.plan_cli.specs.Scheduled.{IsScheduleBy, IsShopScheduleBy}
+
+-- a text shows the days of the calendar that two texts spell: its first date, and its marks
+abbrev pub ShowsDays : List ℕ → List ℕ → (Workdays → List ℕ → Type 0) → List ℕ → Type 0
+ShowsDays start marks IsTable text = (c : Workdays) × IsCalendar start marks c × IsTable c text
+
+-- a line tells why two texts spell no calendar
+abbrev pub TellsNoCalendar : List ℕ → List ℕ → List ℕ → Type 0
+TellsNoCalendar start marks line =
+    (first : CalendarFault) × RefusesTexts start marks first × (line ≡ calendar_fault_text_of first)
+
+-- a line tells that a day which is to be shown is beyond the calendar
+abbrev pub TellsBeyond : Type 0 → List ℕ → Type 0
+TellsBeyond HasBeyond line = HasBeyond × (line ≡ calendar_fault_text_of fault.BeyondCalendar)
+
+-- a line tells why no days are shown: the texts spell no calendar, or else a day is beyond it
+abbrev pub TellsNoDays : List ℕ → List ℕ → (Workdays → Type 0) → List ℕ → Type 0
+TellsNoDays start marks HasBeyond line =
+    TellsNoCalendar start marks line
+    ⊎ ((c : Workdays) × IsCalendar start marks c × TellsBeyond (HasBeyond c) line)
+
+-- a line tells a fault of a calendar
+abbrev pub TellsCalendarFault : CalendarFault → List ℕ → Type 0
+TellsCalendarFault first line = line ≡ calendar_fault_text_of first
+
+-- a line tells why there is no table of days, which isn't want of memory
+abbrev pub TellsDaysFault : DaysFault → List ℕ → Type 0
+TellsDaysFault first line =
+    (first ≡ days.BeyondCalendar) × (line ≡ calendar_fault_text_of fault.BeyondCalendar)
+
+-- a text is the table of working days of an instance's schedule by the rule of a name
+pub record IsDaysBy (name start marks : List ℕ) (i : Planned) (text : List ℕ) : Type 0 where
+  pub starts : List ℕ
+  pub schedule : IsScheduleBy name i starts
+  pub shown : ShowsDays start marks (λ c. IsCalendarTable c i.project.network starts) text
+
+-- a text is that of the project that a file says, against the file's availabilities
+abbrev pub IsDaysOf : List ℕ → List ℕ → List ℕ → List ℕ → List ℕ → Type 0
+IsDaysOf name start marks file text =
+    (p : Project) × SaysProject file p × IsDaysBy name start marks (as_available p) text
+
+-- a line tells why the days of an instance's schedule aren't shown, by its schedule
+pub record HidesDays (name start marks : List ℕ) (i : Planned) (line : List ℕ) : Type 0 where
+  pub starts : List ℕ
+  pub schedule : IsScheduleBy name i starts
+  pub hidden : TellsNoDays start marks (λ c. HasActivityBeyond c i.project.network starts) line
+
+-- a line tells what an instance is refused for, or else why the days of its schedule aren't shown
+abbrev pub TellsNoProjectDays : List ℕ → List ℕ → List ℕ → Planned → List ℕ → Type 0
+TellsNoProjectDays name start marks i line =
+    TellsRefusal name i line ⊎ HidesDays name start marks i line
+
+-- a line tells the first check that a file fails, or else why there are no days of its project
+abbrev pub TellsWhyNoDays : List ℕ → List ℕ → List ℕ → List ℕ → List ℕ → Type 0
+TellsWhyNoDays name start marks file line = TellsFirstFailing file line
+    ⊎ ((p : Project) × SaysProject file p × TellsNoProjectDays name start marks (as_available p) line)
+
+-- a text is the table of working days of a shop's schedule by the rule of a name
+pub record IsShopDaysBy (name start marks : List ℕ) (s : JobShop) (text : List ℕ) : Type 0 where
+  pub starts : List ℕ
+  pub schedule : IsShopScheduleBy name s starts
+  pub shown : ShowsDays start marks (λ c. IsShopCalendarTable c s starts) text
+
+-- a text is that of the shop of an instance in a file
+abbrev pub IsShopDaysOf : List ℕ → List ℕ → List ℕ → List ℕ → List ℕ → List ℕ → Type 0
+IsShopDaysOf name start marks instance file text =
+    (doc : docs.Shop) × Says instance file doc × IsShopDaysBy name start marks (shop_of doc) text
+
+-- a line tells why the days of a shop's schedule aren't shown, by its schedule
+pub record HidesShopDays (name start marks : List ℕ) (s : JobShop) (line : List ℕ) : Type 0 where
+  pub starts : List ℕ
+  pub schedule : IsShopScheduleBy name s starts
+  pub hidden : TellsNoDays start marks (λ c. HasStepBeyond c s starts) line
+
+-- a line tells that no rule has the name, or else why the days of a shop's schedule aren't shown
+abbrev pub TellsNoShopDays : List ℕ → List ℕ → List ℕ → JobShop → List ℕ → Type 0
+TellsNoShopDays name start marks s line = TellsNoRule name line ⊎ HidesShopDays name start marks s line
+
+-- a line tells the first check that a file fails, or else why there are no days of its shop
+abbrev pub TellsWhyNoShopDays : List ℕ → List ℕ → List ℕ → List ℕ → List ℕ → List ℕ → Type 0
+TellsWhyNoShopDays name start marks instance file line = TellsFirstShopFault instance file line
+    ⊎ ((doc : docs.Shop) × Says instance file doc × TellsNoShopDays name start marks (shop_of doc) line)

@@ -1,0 +1,21 @@
+-- What `plan names` writes for the bytes that it reads (docs/DEFINITIONS.md, "Runs").
+use Rattle.std.specs.Prelude.{◌≡◌, ℕ, List, ◌++◌, Ok, codes}
+use Rattle.std.specs.List.{flat_map}
+use Rattle.plan_psplib.specs.Document.{plain}
+use Rattle.plan_psplib.specs.declared.fault.FileFault.{FileFault}
+use Rattle.plan_orlib.specs.Instances.{names_of}
+use Rattle.plan_orlib.specs.Reading.{FailsWith}
+use Rattle.plan_gantt.specs.FaultText.{file_fault_text_of}
+
+-- names as text: a line for each
+abbrev pub name_lines : List (List ℕ) → List ℕ
+name_lines names = flat_map (λ name. name ++ codes "\n") names
+
+-- a text has the names of all instances of a file, which is fit to be read
+abbrev pub AreNamesOf : List ℕ → List ℕ → Type 0
+AreNamesOf file text = (plain file ≡ Ok tt) × (text ≡ name_lines (names_of file))
+
+-- a line tells why a file isn't fit to be read
+abbrev pub TellsNotPlain : List ℕ → List ℕ → Type 0
+TellsNotPlain file line =
+    (first : FileFault) × FailsWith (plain file) first × (line ≡ file_fault_text_of first)

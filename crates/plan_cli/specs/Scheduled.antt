@@ -1,0 +1,57 @@
+-- Schedules by the rule of a name that texts can show (docs/DEFINITIONS.md, "Runs").
+use Rattle.std.specs.Prelude.{◌≡◌, ℕ, ◌≤◌, List, length, EachIndex, slice_index}
+use Rattle.plan_net.specs.Network.{count_of}
+use Rattle.plan_sgs.specs.Problem.{IsActive, makespan}
+use Rattle.plan_sgs.specs.Instances.{Planned, problem_of}
+use Rattle.plan_sgs.specs.Keys.{word_of}
+use Rattle.plan_sgs.specs.declared.rule.Rule.{Rule}
+use Rattle.plan_sgs.specs.declared.schedule.Schedule.{Schedule}
+use Rattle.plan_shop.specs.Shop.{JobShop, count_steps}
+use Rattle.plan_shop.specs.Shop as shops
+use Rattle.plan_shop.specs.Names as shop_names
+use Rattle.plan_shop.specs.declared.rule.ShopRule.{ShopRule}
+use Rattle.plan_gantt.specs.Limits.{latest_start, latest_end}
+use Rattle.plan_gantt.specs.ScheduleText.{IsSchedule}
+use Rattle.plan_gantt.specs.ShopText.{rule_starts}
+
+-- the starts are those of the active schedule of an instance by the rule of a name
+pub record IsScheduleBy (name : List ℕ) (i : Planned) (starts : List ℕ) : Type 0 where
+  pub rule : Rule
+  pub named : name ≡ word_of rule
+  pub schedule : IsSchedule i rule starts
+
+-- the starts are those of the active schedule of a shop by the rule of a name, all machines open
+pub record IsShopScheduleBy (name : List ℕ) (s : JobShop) (starts : List ℕ) : Type 0 where
+  pub rule : ShopRule
+  pub named : name ≡ shop_names.word_of rule
+  pub starts_are : starts ≡ rule_starts rule s
+  pub active : IsActive (shops.problem_of s) starts
+
+-- a schedule of so many activities or steps, which texts can show
+pub record CanBeShown (count : ℕ) (schedule : Schedule) : Type 0 where
+  pub each_started : length schedule.starts.items ≡ count
+  pub in_time : EachIndex schedule.starts.items (λ k.
+      slice_index schedule.starts.items k ≤ latest_start)
+  pub ends : schedule.makespan ≤ latest_end
+
+-- the schedule of an instance by a rule, as code keeps it
+pub record IsMadeBy (rule : Rule) (i : Planned) (schedule : Schedule) : Type 0 where
+  pub by : IsSchedule i rule schedule.starts.items
+  pub makespan : schedule.makespan ≡ makespan (problem_of i) schedule.starts.items
+  pub fits : CanBeShown (count_of i.project.network) schedule
+
+-- the same, by the rule of a name
+abbrev pub IsMade : List ℕ → Planned → Schedule → Type 0
+IsMade name i schedule = (rule : Rule) × (name ≡ word_of rule) × IsMadeBy rule i schedule
+
+-- the schedule of a shop by a rule, as code keeps it
+pub record IsMadeOfShopBy (rule : ShopRule) (s : JobShop) (schedule : Schedule) : Type 0 where
+  pub starts_are : schedule.starts.items ≡ rule_starts rule s
+  pub active : IsActive (shops.problem_of s) schedule.starts.items
+  pub makespan : schedule.makespan ≡ makespan (shops.problem_of s) schedule.starts.items
+  pub fits : CanBeShown (count_steps s) schedule
+
+-- the same, by the rule of a name
+abbrev pub IsMadeOfShop : List ℕ → JobShop → Schedule → Type 0
+IsMadeOfShop name s schedule =
+    (rule : ShopRule) × (name ≡ shop_names.word_of rule) × IsMadeOfShopBy rule s schedule

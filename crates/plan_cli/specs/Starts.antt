@@ -1,0 +1,52 @@
+-- A text of starts: one number a word, a start for each activity (docs/DEFINITIONS.md, "Runs").
+use Rattle.std.specs.Prelude.{◌≡◌, ℕ, zero, suc, ◌≤◌, List, [], ◌∷◌, ◌++◌, Result, Ok, All, length, codes}
+use Rattle.plan_psplib.specs.declared.fault.Fault.{Fault}
+use Rattle.plan_psplib.specs.declared.fault.FileCode.TheVariants as code
+use Rattle.plan_psplib.specs.declared.fault.FileFault.{FileFault}
+use Rattle.plan_psplib.specs.Document.{plain}
+use Rattle.plan_psplib.specs.Lines.{lines}
+use Rattle.plan_psplib.specs.Streams.{Stream, words_of}
+use Rattle.plan_psplib.specs.Says.{Spells}
+use Rattle.plan_psplib.specs.Reading.{◌>>=◌, within_at, end_at}
+use Rattle.plan_orlib.specs.Reading.{FailsWith}
+use Rattle.plan_gantt.specs.Limits.{latest_start}
+use Rattle.plan_gantt.specs.FaultText.{file_fault_text_of}
+
+-- a text says so many starts: its words are these numbers, none of them after the latest start
+pub record SaysStarts (count : ℕ) (text starts : List ℕ) : Type 0 where
+  pub readable : plain text ≡ Ok tt
+  pub spelled : Spells (words_of (lines text)) starts
+  pub whole : length starts ≡ count
+  pub in_time : All (λ t. t ≤ latest_start) starts
+
+-- all words of a text
+abbrev pub all_words : List ℕ → Stream
+all_words text = record { last = 0; words = words_of (lines text) }
+
+-- so many starts more, behind those before
+unfoldable pub starts_at : ℕ → List ℕ → Stream → Result (List ℕ × Stream) Fault
+starts_at zero before s = Ok (before, s)
+starts_at (suc more) before s = do
+  start ← within_at latest_start s
+  starts_at more (before ++ start.0 ∷ []) start.1
+
+-- the starts of a text, so many, or the first check that it fails
+unfoldable pub starts_in : ℕ → List ℕ → Result (List ℕ) Fault
+starts_in count text = do
+  text_good ← plain text
+  starts ← starts_at count [] (all_words text)
+  nothing_left ← end_at starts.1
+  Ok starts.0
+
+-- the line of the first check that a text of starts fails
+abbrev pub starts_fault_text_of : FileFault → List ℕ
+starts_fault_text_of first = file_fault_text_of first ++ codes " of the starts"
+
+-- a line tells a fault of a text of starts, which isn't want of memory
+abbrev pub TellsStarts : FileFault → List ℕ → Type 0
+TellsStarts first line = (first.code ≡ code.Memory → ⊥) × (line ≡ starts_fault_text_of first)
+
+-- a line tells the first check that a text of so many starts fails
+abbrev pub TellsNoStarts : ℕ → List ℕ → List ℕ → Type 0
+TellsNoStarts count text line =
+    (first : FileFault) × FailsWith (starts_in count text) first × (line ≡ starts_fault_text_of first)

@@ -1,0 +1,100 @@
+//! A text of starts: one number a word, a start for each activity.
+
+ghost use Rattle.std.specs.Prelude.{◌≡◌, [], true, false, IfOk, IfErr, string_bytes};
+ghost use Rattle.plan_psplib.specs.Reading.{Gives};
+ghost use Rattle.plan_cli.specs.Run.{Refuses};
+ghost use Rattle.plan_cli.specs.Starts as spec;
+
+use crate::fault::{CliFault, refusal_by};
+use plan_gantt::file_fault_text;
+use plan_psplib::{
+    FileCode, FileFault, Layout, Lines, ReadError, StreamWords, check_text, end, within,
+};
+use std::alloc::{AllocError, Global};
+
+/// The latest start, in whole time units.
+const LATEST_START: u64 = 10_000_000;
+
+/// All lines of a text.
+#[derive(Drop)]
+struct AllLines;
+
+impl Layout for AllLines {
+    ghost takes = { λ _. true };
+
+    ghost ends = { λ _. false };
+
+    fn is_taken(_line: &[u8]) -> bool {
+        true
+    }
+
+    fn is_end(_line: &[u8]) -> bool {
+        false
+    }
+}
+
+// All words of a text.
+#[tactic(auto, using(crate::proofs::StartLemmas::all_rows))]
+fn all_words(text: &[u8]) -> StreamWords<'_, AllLines>
+    ensures { result ≡ spec.all_words text.now }
+{
+    StreamWords::new(0, Lines::new(text))
+}
+
+// The next starts, so many.
+fn next_starts(
+    alloc: Global,
+    words: &mut StreamWords<'_, AllLines>,
+    count: usize,
+) -> Result<Vec<u64>, ReadError>
+    ensures { Gives (λ v. (v.items, words.new)) result (spec.starts_at count [] words.old) }
+{
+    let mut starts = Vec::new(alloc);
+    for _ in 0..count {
+        let start = within(words, LATEST_START)?;
+        starts.push(start)?;
+    }
+    Ok(starts)
+}
+
+// The starts of a text, or the first check that fails.
+#[tactic(auto, unfolding(crate::specs::Starts::starts_in))]
+fn read_all(alloc: Global, count: usize, text: &[u8]) -> Result<Vec<u64>, ReadError>
+    ensures { Gives (λ v. v.items) result (spec.starts_in count text.now) }
+{
+    check_text(text)?;
+    let mut words = all_words(text);
+    let starts = next_starts(alloc, &mut words, count)?;
+    end(&mut words)?;
+    Ok(starts)
+}
+
+// What a fault of a text of starts says for people.
+fn told(alloc: Global, fault: &FileFault) -> CliFault
+    ensures { Refuses (spec.TellsStarts fault.now) result }
+{
+    if fault.code == FileCode::Memory {
+        return CliFault::Memory;
+    }
+    refusal_by(starts_fault_text(alloc, fault))
+}
+
+// The line of a fault of a text of starts.
+fn starts_fault_text(alloc: Global, fault: &FileFault) -> Result<String, AllocError>
+    ensures { IfOk result (λ text. string_bytes text ≡ spec.starts_fault_text_of fault.now) }
+{
+    let mut text = file_fault_text(alloc, fault)?;
+    text.push_str(" of the starts")?;
+    Ok(text)
+}
+
+/// The starts that a text says, one for each of so many activities.
+pub(crate) fn read_starts(alloc: Global, count: usize, text: &[u8]) -> Result<Vec<u64>, CliFault>
+    ensures said { IfOk result (λ starts. spec.SaysStarts count text.now starts.items) }
+    ensures refused { IfErr result (Refuses (spec.TellsNoStarts count text.now)) }
+{
+    match read_all(alloc, count, text) {
+        Ok(starts) => Ok(starts),
+        Err(error) => Err(told(alloc, &FileFault::of(alloc, error))),
+    }
+}
