@@ -25,3 +25,5 @@ pub mod NamesRun
 pub mod Starts
 pub mod VerdictText
 pub mod CheckRun
+pub mod Codes
+pub mod ExplainRun

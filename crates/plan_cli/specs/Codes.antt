@@ -1,0 +1,61 @@
+-- The codes with which lines of faults begin, and what `plan explain` prints of each (docs/FAULTS.md,
+-- from which docs/entries writes this).
+use Rattle.std.specs.Prelude.{ℕ, List, codes}
+use Rattle.plan_cli.specs.declared.codes.Code.{Code}
+use Rattle.plan_cli.specs.declared.codes.Code.TheVariants as code
+
+-- the name of a code
+abbrev pub name_of : Code → List ℕ
+name_of code.TooLong = codes "F1"
+name_of code.NotText = codes "F2"
+name_of code.MissingHead = codes "F3"
+name_of code.Unsupported = codes "F4"
+name_of code.MissingSection = codes "F5"
+name_of code.BadNumber = codes "F6"
+name_of code.JobOrder = codes "F7"
+name_of code.Modes = codes "F8"
+name_of code.Count = codes "F9"
+name_of code.Limit = codes "F10"
+name_of code.Double = codes "F11"
+name_of code.Cycle = codes "F12"
+name_of code.NoInstance = codes "F13"
+name_of code.BadMachine = codes "F14"
+name_of code.NeedsTooMuch = codes "S1"
+name_of code.UnknownRule = codes "S3"
+name_of code.TooLarge = codes "S5"
+name_of code.BadBudget = codes "S6"
+name_of code.BadDate = codes "G1"
+name_of code.BadDays = codes "G2"
+name_of code.BeyondCalendar = codes "G3"
+name_of code.UnknownCode = codes "C1"
+name_of code.NoMemory = codes "E90"
+name_of code.Input = codes "I1"
+name_of code.Output = codes "I3"
+
+-- what it means, and what to do
+abbrev pub entry_of : Code → List ℕ
+entry_of code.TooLong = codes "F1 line 0\nThe file has more than 1,048,576 bytes.\nCut comments and blank lines, or split the project.\n"
+entry_of code.NotText = codes "F2 line N\nLine N has a zero byte, so the file is no text.\nSave it as plain text (UTF-8 or ASCII, not UTF-16).\n"
+entry_of code.MissingHead = codes "F3 line N\nA key of the head is missing: projects, jobs, - renewable, - nonrenewable or - doubly constrained. N is the last line.\nAdd the line before the first section title, as jobs : 6.\n"
+entry_of code.Unsupported = codes "F4 line N\nLine N asks for a kind of project that isn't read: a number of projects other than 1, or nonrenewable or doubly constrained resources.\nGive one project, and 0 of both kinds of resources.\n"
+entry_of code.MissingSection = codes "F5 line N\nA section title is missing: PRECEDENCE RELATIONS, REQUESTS/DURATIONS or RESOURCEAVAILABILITIES. N is the last line.\nAdd the section, title in capitals at the start of its line.\n"
+entry_of code.BadNumber = codes "F6 line N\nA number is due in line N, and what stands there is none (one to nine digits, no sign); or a key of the head has no colon, or no word behind it.\nCorrect the word.\n"
+entry_of code.JobOrder = codes "F7 line N\nA job number in line N isn't the one that is due, or no job has it.\nList the jobs as 1, 2, 3 and so on; name as successors only jobs of the file.\n"
+entry_of code.Modes = codes "F8 line N\nThe number of modes, or the mode, in line N isn't 1.\nGive each job one mode.\n"
+entry_of code.Count = codes "F9 line N\nThere is a word too few or too many. N is the line of the last word where one is missing (of the title or the instance line if there is none), else of the first word too many.\nCompare the counts in the file with what stands in its rows.\n"
+entry_of code.Limit = codes "F10 line N\nA number in line N is beyond its limit. Projects: 2 to 502 jobs, 1 to 16 resources. Shops: 1 to 50 jobs, 1 to 20 machines. Durations and amounts: up to 10,000, all durations together up to 1,000,000. Starts: up to 10,000,000.\nChoose a coarser unit, or split the project.\n"
+entry_of code.Double = codes "F11 line N\nA row names a successor twice. N is the line where it stands the second time.\nStrike one, and lower the count of successors.\n"
+entry_of code.Cycle = codes "F12 line N cycle A B ..\nThe activities A, B, .. follow each other in a circle, so none of them can start. N is the line of the title PRECEDENCE RELATIONS.\nStrike one of the arcs of the circle.\n"
+entry_of code.NoInstance = codes "F13 line N\nNo instance of the file has this name. N is the last line.\nList the names with plan names; a file that begins with its two numbers has one instance, with the name -.\n"
+entry_of code.BadMachine = codes "F14 line N\nA machine in line N isn't below the number of machines; machines are counted from 0.\nCorrect the number.\n"
+entry_of code.NeedsTooMuch = codes "S1 activity A resource R\nActivity A lasts some time and needs more of resource R than the file says there is, so it could never start. It is the first such activity, with its first such resource.\nRaise the availability, or lower the need.\n"
+entry_of code.UnknownRule = codes "S3 unknown rule\nNo rule has this name.\nTake lft, slk, spt, mts or num for a project, spt, mwkr or fcfs for a job shop, in small letters.\n"
+entry_of code.TooLarge = codes "S5 too large\nA best schedule is asked for, and the project has more than 40 activities, or the shop more than 100 steps.\nLeave some out, or take plan schedule or plan shop.\n"
+entry_of code.BadBudget = codes "S6 budget\nThe budget isn't a number from 1 to 200000 in digits, without zeros or a sign in front.\nGive one: 200000 is the most.\n"
+entry_of code.BadDate = codes "G1 date\nThe first date isn't a date from 1900-01-01 to 2199-12-31, written like 2024-03-01.\nCorrect it.\n"
+entry_of code.BadDays = codes "G2 days\nThe marks of the weekdays aren't seven of 0 and 1, Monday first, or none of them is 1.\nGive them like 1111100, which is Monday to Friday.\n"
+entry_of code.BeyondCalendar = codes "G3 beyond calendar\nA day that is to be shown would come after 9999-12-31.\nMark more weekdays, or choose a coarser unit.\n"
+entry_of code.UnknownCode = codes "C1 unknown code\nplan explain knows no such code.\nTake the first word of the line, in capitals, as F7.\n"
+entry_of code.NoMemory = codes "E90 memory\nMemory ran out. The file may be in order.\nFree memory and try again.\n"
+entry_of code.Input = codes "I1 file\nThe file or standard input can't be read: it isn't there, is a folder, or may not be read.\nCheck the name, relative to the folder that you stand in, and the permissions.\n"
+entry_of code.Output = codes "I3 output\nThe output can't be written whole: the disk is full, or the reader of the pipe has gone.\nMake room or keep the pipe open, and run the command again; throw the part away.\n"

@@ -1,0 +1,156 @@
+//! The codes with which lines of faults begin, and what `plan explain` prints of each. Written by
+//! docs/entries from docs/FAULTS.md.
+
+ghost use Rattle.std.specs.Prelude.{◌≡◌, IfSome, IfNone};
+ghost use Rattle.plan_cli.specs.Codes.{name_of, entry_of};
+ghost use Rattle.plan_cli.specs.declared.codes.Code.{Code};
+
+/// The code of a fault.
+#[derive(Clone, Copy, Debug, PartialEq, Eq)]
+pub(crate) enum Code {
+    TooLong,
+    NotText,
+    MissingHead,
+    Unsupported,
+    MissingSection,
+    BadNumber,
+    JobOrder,
+    Modes,
+    Count,
+    Limit,
+    Double,
+    Cycle,
+    NoInstance,
+    BadMachine,
+    NeedsTooMuch,
+    UnknownRule,
+    TooLarge,
+    BadBudget,
+    BadDate,
+    BadDays,
+    BeyondCalendar,
+    UnknownCode,
+    NoMemory,
+    Input,
+    Output,
+}
+
+impl Code {
+    /// The code with this name.
+    pub(crate) fn parse(name: &str) -> Option<Code>
+        ensures some { IfSome result (λ code. name.now ≡ name_of code) }
+        ensures none { IfNone result ((code : Code) → name.now ≡ name_of code → ⊥) }
+    {
+        match name {
+            "F1" => Some(Code::TooLong),
+            "F2" => Some(Code::NotText),
+            "F3" => Some(Code::MissingHead),
+            "F4" => Some(Code::Unsupported),
+            "F5" => Some(Code::MissingSection),
+            "F6" => Some(Code::BadNumber),
+            "F7" => Some(Code::JobOrder),
+            "F8" => Some(Code::Modes),
+            "F9" => Some(Code::Count),
+            "F10" => Some(Code::Limit),
+            "F11" => Some(Code::Double),
+            "F12" => Some(Code::Cycle),
+            "F13" => Some(Code::NoInstance),
+            "F14" => Some(Code::BadMachine),
+            "S1" => Some(Code::NeedsTooMuch),
+            "S3" => Some(Code::UnknownRule),
+            "S5" => Some(Code::TooLarge),
+            "S6" => Some(Code::BadBudget),
+            "G1" => Some(Code::BadDate),
+            "G2" => Some(Code::BadDays),
+            "G3" => Some(Code::BeyondCalendar),
+            "C1" => Some(Code::UnknownCode),
+            "E90" => Some(Code::NoMemory),
+            "I1" => Some(Code::Input),
+            "I3" => Some(Code::Output),
+            _ => None,
+        }
+    }
+
+    /// What it means, and what to do.
+    pub(crate) fn entry(self) -> &'static str
+        ensures { result.now ≡ entry_of self }
+    {
+        match self {
+            Code::TooLong => {
+                "F1 line 0\nThe file has more than 1,048,576 bytes.\nCut comments and blank lines, or split the project.\n"
+            }
+            Code::NotText => {
+                "F2 line N\nLine N has a zero byte, so the file is no text.\nSave it as plain text (UTF-8 or ASCII, not UTF-16).\n"
+            }
+            Code::MissingHead => {
+                "F3 line N\nA key of the head is missing: projects, jobs, - renewable, - nonrenewable or - doubly constrained. N is the last line.\nAdd the line before the first section title, as jobs : 6.\n"
+            }
+            Code::Unsupported => {
+                "F4 line N\nLine N asks for a kind of project that isn't read: a number of projects other than 1, or nonrenewable or doubly constrained resources.\nGive one project, and 0 of both kinds of resources.\n"
+            }
+            Code::MissingSection => {
+                "F5 line N\nA section title is missing: PRECEDENCE RELATIONS, REQUESTS/DURATIONS or RESOURCEAVAILABILITIES. N is the last line.\nAdd the section, title in capitals at the start of its line.\n"
+            }
+            Code::BadNumber => {
+                "F6 line N\nA number is due in line N, and what stands there is none (one to nine digits, no sign); or a key of the head has no colon, or no word behind it.\nCorrect the word.\n"
+            }
+            Code::JobOrder => {
+                "F7 line N\nA job number in line N isn't the one that is due, or no job has it.\nList the jobs as 1, 2, 3 and so on; name as successors only jobs of the file.\n"
+            }
+            Code::Modes => {
+                "F8 line N\nThe number of modes, or the mode, in line N isn't 1.\nGive each job one mode.\n"
+            }
+            Code::Count => {
+                "F9 line N\nThere is a word too few or too many. N is the line of the last word where one is missing (of the title or the instance line if there is none), else of the first word too many.\nCompare the counts in the file with what stands in its rows.\n"
+            }
+            Code::Limit => {
+                "F10 line N\nA number in line N is beyond its limit. Projects: 2 to 502 jobs, 1 to 16 resources. Shops: 1 to 50 jobs, 1 to 20 machines. Durations and amounts: up to 10,000, all durations together up to 1,000,000. Starts: up to 10,000,000.\nChoose a coarser unit, or split the project.\n"
+            }
+            Code::Double => {
+                "F11 line N\nA row names a successor twice. N is the line where it stands the second time.\nStrike one, and lower the count of successors.\n"
+            }
+            Code::Cycle => {
+                "F12 line N cycle A B ..\nThe activities A, B, .. follow each other in a circle, so none of them can start. N is the line of the title PRECEDENCE RELATIONS.\nStrike one of the arcs of the circle.\n"
+            }
+            Code::NoInstance => {
+                "F13 line N\nNo instance of the file has this name. N is the last line.\nList the names with plan names; a file that begins with its two numbers has one instance, with the name -.\n"
+            }
+            Code::BadMachine => {
+                "F14 line N\nA machine in line N isn't below the number of machines; machines are counted from 0.\nCorrect the number.\n"
+            }
+            Code::NeedsTooMuch => {
+                "S1 activity A resource R\nActivity A lasts some time and needs more of resource R than the file says there is, so it could never start. It is the first such activity, with its first such resource.\nRaise the availability, or lower the need.\n"
+            }
+            Code::UnknownRule => {
+                "S3 unknown rule\nNo rule has this name.\nTake lft, slk, spt, mts or num for a project, spt, mwkr or fcfs for a job shop, in small letters.\n"
+            }
+            Code::TooLarge => {
+                "S5 too large\nA best schedule is asked for, and the project has more than 40 activities, or the shop more than 100 steps.\nLeave some out, or take plan schedule or plan shop.\n"
+            }
+            Code::BadBudget => {
+                "S6 budget\nThe budget isn't a number from 1 to 200000 in digits, without zeros or a sign in front.\nGive one: 200000 is the most.\n"
+            }
+            Code::BadDate => {
+                "G1 date\nThe first date isn't a date from 1900-01-01 to 2199-12-31, written like 2024-03-01.\nCorrect it.\n"
+            }
+            Code::BadDays => {
+                "G2 days\nThe marks of the weekdays aren't seven of 0 and 1, Monday first, or none of them is 1.\nGive them like 1111100, which is Monday to Friday.\n"
+            }
+            Code::BeyondCalendar => {
+                "G3 beyond calendar\nA day that is to be shown would come after 9999-12-31.\nMark more weekdays, or choose a coarser unit.\n"
+            }
+            Code::UnknownCode => {
+                "C1 unknown code\nplan explain knows no such code.\nTake the first word of the line, in capitals, as F7.\n"
+            }
+            Code::NoMemory => {
+                "E90 memory\nMemory ran out. The file may be in order.\nFree memory and try again.\n"
+            }
+            Code::Input => {
+                "I1 file\nThe file or standard input can't be read: it isn't there, is a folder, or may not be read.\nCheck the name, relative to the folder that you stand in, and the permissions.\n"
+            }
+            Code::Output => {
+                "I3 output\nThe output can't be written whole: the disk is full, or the reader of the pipe has gone.\nMake room or keep the pipe open, and run the command again; throw the part away.\n"
+            }
+        }
+    }
+}
