@@ -1,5 +1,5 @@
 -- What is made of a file that is given by its name (docs/DEFINITIONS.md, "Runs").
-use Rattle.std.specs.Prelude.{ℕ, List, Option, None, Result}
+use Rattle.std.specs.Prelude.{ℕ, ◌+◌, ◌≤◌, List, Option, None, Result, Err, length}
 use Rattle.plan_gantt.specs.FirstFaults.{TellsFirstFailing}
 use Rattle.plan_cli.specs.Run.{IsDateTableOf, ReadsFront}
 use Rattle.plan_cli.specs.ScheduleRun.{IsScheduleTableOf, TellsWhyNoSchedule}
@@ -12,7 +12,9 @@ use Rattle.plan_cli.specs.BestRun.{IsBestTableOf, TellsWhyNoBest}
 use Rattle.plan_cli.specs.BestProjectRun.{IsBestProjectTableOf, TellsWhyNoBestProject}
 use Rattle.plan_cli.specs.declared.tasks.Task.{Task}
 use Rattle.plan_cli.specs.declared.tasks.Task.TheVariants as task
+use Rattle.plan_psplib.specs.Document.{longest_text}
 use Rattle.plan_cli.specs.declared.fault.CliFault.{CliFault}
+use Rattle.plan_cli.specs.declared.fault.CliFault.TheVariants as fault
 
 -- the texts that a task writes for a file
 abbrev pub IsTextOf : Task → List ℕ → List ℕ → Type 0
@@ -45,3 +47,11 @@ IsLineOf (task.BestProject budget) = TellsWhyNoBestProject budget.now
 -- a task judges some bytes that were read, unless the input failed or memory ran out
 abbrev pub DoesTask : Task → Option (List ℕ) → Option (List ℕ) → Result (Unit {0}) CliFault → Type 0
 DoesTask task taken after result = ReadsFront (IsTextOf task) (IsLineOf task) None None taken after result
+
+-- some bytes of starts were read, at most one more than the longest text has, and some bytes of a
+-- project are judged for them, unless the input failed or memory ran out
+abbrev pub DoesCheck : Option (List ℕ) → Option (List ℕ) → Result (Unit {0}) CliFault → Type 0
+DoesCheck taken after (Err fault.Memory) = Unit {0}
+DoesCheck taken after (Err fault.Input) = Unit {0}
+DoesCheck taken after result = (listed : List ℕ) × (length listed ≤ longest_text + 1)
+    × ReadsFront (IsVerdictOf listed) (TellsWhyNoVerdict listed) None None taken after result

@@ -1,0 +1,55 @@
+//! The run of each command.
+
+ghost use Rattle.std.specs.Prelude.{◌≡◌, ◌⊎◌, ◌+◌, ◌≤◌, IfErr, IsErrOf, OnOk};
+ghost use Rattle.plan_psplib.specs.Devices.{most_calls, HasFailed};
+ghost use Rattle.plan_cli.specs.Run.{ReadsFront};
+ghost use Rattle.plan_cli.specs.Tasks.{IsTextOf, IsLineOf};
+
+use crate::best::best_run;
+use crate::best_project::best_project_run;
+use crate::chart::{chart_run, shop_chart_run};
+use crate::check::check_run;
+use crate::cpm::cpm_run;
+use crate::days::{days_run, shop_days_run};
+use crate::fault::CliFault;
+use crate::names::names_run;
+use crate::schedule::schedule_run;
+use crate::shop::shop_run;
+use crate::tasks::Task;
+use plan_psplib::{Sink, Source};
+use std::alloc::Global;
+
+/// Does a task, by the run of its command.
+pub(crate) fn run_command<R: Source, W: Sink>(
+    alloc: Global,
+    task: Task<'_>,
+    reader: &mut R,
+    writer: &mut W,
+) -> Result<(), CliFault>
+    ensures writes { W.calls writer.new ≤ W.calls writer.old + most_calls }
+    ensures front { ReadsFront (IsTextOf task.entry) (IsLineOf task.entry) (R.remaining reader.old) (R.remaining reader.new) (W.taken writer.old) (W.taken writer.new) result }
+    ensures quiet { IfErr result (λ e. (e ≡ CliFault.Output) ⊎ (writer.new ≡ writer.old)) }
+    ensures fine { OnOk result ((R.faults reader.new ≡ R.faults reader.old) × (W.faults writer.new ≡ W.faults writer.old)) }
+    ensures input { IsErrOf result CliFault.Input → R.faults reader.new ≡ R.faults reader.old + 1 }
+    ensures output { IsErrOf result CliFault.Output →
+        HasFailed (W.calls writer.old) (W.calls writer.new) (W.faults writer.old) (W.faults writer.new) }
+{
+    match task {
+        Task::Dates => cpm_run(alloc, reader, writer),
+        Task::Schedule { rule } => schedule_run(alloc, rule, reader, writer),
+        Task::Chart { rule } => chart_run(alloc, rule, reader, writer),
+        Task::Days { rule, start, marks } => days_run(alloc, rule, start, marks, reader, writer),
+        Task::BestProject { budget } => best_project_run(alloc, budget, reader, writer),
+        Task::Check { starts } => check_run(alloc, starts, reader, writer),
+        Task::Shop { rule, instance } => shop_run(alloc, rule, instance, reader, writer),
+        Task::ShopChart { rule, instance } => shop_chart_run(alloc, rule, instance, reader, writer),
+        Task::ShopDays {
+            rule,
+            start,
+            marks,
+            instance,
+        } => shop_days_run(alloc, rule, start, marks, instance, reader, writer),
+        Task::Best { budget, instance } => best_run(alloc, budget, instance, reader, writer),
+        Task::Names => names_run(alloc, reader, writer),
+    }
+}
