@@ -11,6 +11,8 @@ mod calendars;
 #[cfg(test)]
 mod charts;
 #[cfg(test)]
+mod commands;
+#[cfg(test)]
 mod devices;
 #[cfg(test)]
 mod fault_lines;

@@ -1,0 +1,21 @@
+# Completion of plan for fish.
+function __plan_at
+    set -l words (commandline -opc)
+    test (count $words) -eq $argv[1]; and contains -- $words[2] $argv[2..]
+end
+function __plan_names
+    set -l words (commandline -opc)
+    plan names $words[$argv[1]] 2>/dev/null
+end
+complete -c plan -n 'test (count (commandline -opc)) -eq 1' -f -a 'cpm schedule chart days best-project check shop best names explain help'
+complete -c plan -n '__plan_at 2 schedule' -f -a 'lft slk spt mts num'
+complete -c plan -n '__plan_at 2 chart days' -f -a 'lft slk spt mts num mwkr fcfs'
+complete -c plan -n '__plan_at 2 shop' -f -a 'spt mwkr fcfs'
+complete -c plan -n '__plan_at 2 best best-project' -f -a 200000
+complete -c plan -n '__plan_at 3 days' -f
+complete -c plan -n '__plan_at 4 days' -f -a '1111100 1111110 1111111'
+complete -c plan -n '__plan_at 4 chart shop best' -f -a '(__plan_names 4)'
+complete -c plan -n '__plan_at 6 days' -f -a '(__plan_names 6)'
+complete -c plan -n '__plan_at 2 explain' -f -a 'F1 F2 F3 F4 F5 F6 F7 F8 F9 F10 F11 F12 F13 F14 S1 S3 S5 S6 G1 G2 G3 C1 E90 I1 I3'
+complete -c plan -s h -l help -d 'Print help'
+complete -c plan -s V -l version -d 'Print version'
