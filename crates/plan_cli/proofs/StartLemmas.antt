@@ -2,8 +2,9 @@
 use Rattle.std.proofs.Common.{◌≡◌, ℕ, zero, suc, ◌-◌, ◌+◌, ◌≤◌, ◌<◌, true, false, List, [], ◌∷◌, ◌++◌, Result, Ok, Err, length, refl, sym, ap, ◌∙◌, subst, append_assoc, append-nil}
 use Rattle.std.specs.Prelude.{All}
 use Rattle.std.specs.List.{AllByRecursion}
-use Rattle.std.proofs.lemmas.List.Elements.{All-nil, All-cons}
+use Rattle.std.proofs.lemmas.List.Elements.{All-from_recursion, recursion_from_All}
 use Rattle.plan_psplib.specs.declared.fault.Fault.{Fault}
+use Rattle.plan_psplib.specs.declared.fault.FileCode.TheVariants as code
 use Rattle.plan_psplib.specs.declared.fault.FileFault.{FileFault}
 use Rattle.plan_psplib.specs.declared.fault.ReadError.{ReadError}
 use Rattle.plan_psplib.specs.declared.fault.ReadError.TheVariants as errors
@@ -12,11 +13,12 @@ use Rattle.plan_psplib.specs.Faults.{TellsError}
 use Rattle.plan_psplib.specs.Lines.{NumberedLine}
 use Rattle.plan_psplib.specs.Streams.{Stream, rows}
 use Rattle.plan_psplib.specs.Reading.{◌>>=◌, Fails, within_at, end_at}
-use Rattle.plan_psplib.proofs.GoesLemmas.{Goes, goes_append, goes_spells, then_ok, same_ok, within_goes, end_none}
+use Rattle.plan_psplib.proofs.GoesLemmas.{Goes, goes_append, goes_spells, spells_goes, then_ok, ok_bind, same_ok, within_goes, goes_within, end_none, none_end}
 use Rattle.plan_psplib.proofs.LoopLemmas.{goes_on, fails, is_done}
 use Rattle.plan_orlib.proofs.BlockLemmas as blocks
 use Rattle.plan_gantt.specs.Limits.{latest_start}
 use Rattle.plan_cli.specs.declared.fault.CliFault.{CliFault}
+use Rattle.plan_cli.specs.declared.fault.CliFault.TheVariants as cli
 use Rattle.plan_cli.specs.Run.{Refuses}
 use Rattle.plan_cli.specs.Starts.{SaysStarts, all_words, starts_at, starts_in, TellsStarts, TellsNoStarts}
 use Rattle.plan_cli.proofs.RunLemmas.{refuses_as}
@@ -68,11 +70,6 @@ starts_goes (suc more) before s x e =
     let rest = starts_goes more (before ++ y.0 ∷ []) y.1 x e in
     (y.0 ∷ rest.0, rest.1 ∙ append_assoc before (y.0 ∷ []) rest.0, ap suc rest.2, goes_append s y.1 x.1 (y.0 ∷ []) rest.0 one.0 rest.3, (one.1, rest.4)))
 
--- starts that are early are early at each place
-early_all : (ns : List ℕ) → AreEarly ns → All (λ t. t ≤ latest_start) ns
-early_all [] early = All-nil (λ t. t ≤ latest_start)
-early_all (n ∷ ns) early = All-cons (λ t. t ≤ latest_start) n ns early.0 (early_all ns early.1)
-
 -- what is read of a text it says
 pub starts_said : (count : ℕ) (text starts : List ℕ) → starts_in count text ≡ Ok starts → SaysStarts count text starts
 unfolding starts_in
@@ -86,9 +83,57 @@ starts_said count text starts e =
       readable = good;
       spelled = goes_spells (all_words text) x.1 all.0 all.3 (end_none x.1 v nothing_left);
       whole = all.2;
-      in_time = early_all all.0 all.4;
+      in_time = All-from_recursion (λ t. t ≤ latest_start) all.0 all.4;
     } in
     subst (SaysStarts count text) same whole)))
+
+-- numbers that are early are read as starts
+goes_starts : (before new : List ℕ) (s t : Stream) → Goes s new t → AreEarly new → starts_at (length new) before s ≡ Ok (before ++ new, t)
+unfolding starts_at
+goes_starts before [] s t p are = ap (λ (u : Stream). Ok (before, u)) (sym p) ∙ ap (λ (xs : List ℕ). Ok (xs, t)) (sym (append-nil before))
+goes_starts before (n ∷ ns) s t p are =
+    let mid : Stream = record { last = p.0.line; words = p.1 } in
+    ok_bind (within_at latest_start s) _ (n, mid) (before ++ n ∷ ns, t) (goes_within latest_start n s mid (p.0, p.1, p.2, p.3, refl) are.0)
+    (goes_starts (before ++ n ∷ []) ns mid t p.4 are.1 ∙ ap (λ (xs : List ℕ). Ok (xs, t)) (append_assoc before (n ∷ []) ns))
+
+-- what a text says is read
+pub starts_read : (count : ℕ) (text starts : List ℕ) → SaysStarts count text starts → starts_in count text ≡ Ok starts
+unfolding starts_in
+starts_read count text starts says =
+    let s = all_words text in
+    let a = spells_goes s starts says.spelled in
+    let read : starts_at count [] s ≡ Ok (starts, a.0) =
+    ap (λ (n : ℕ). starts_at n [] s) (sym says.whole) ∙ goes_starts [] starts s a.0 a.1 (recursion_from_All (λ t. t ≤ latest_start) starts says.in_time) in
+    ok_bind (plain text) _ tt starts says.readable
+    (ok_bind (starts_at count [] s) _ (starts, a.0) starts read
+    (ok_bind (end_at a.0) _ tt starts (none_end a.0 a.2) refl))
+
+-- a text says starts in one way
+pub starts_once : (count : ℕ) (text a b : List ℕ) → SaysStarts count text a → SaysStarts count text b → a ≡ b
+starts_once count text a b says also = same_ok a b (sym (starts_read count text a says) ∙ starts_read count text b also)
+
+-- a text that says starts fails no check
+pub starts_apart : (count : ℕ) (text starts line : List ℕ) → SaysStarts count text starts → TellsNoStarts count text line → ⊥
+starts_apart count text starts line says (first, (failing, none), is) = not_both starts _ (sym (starts_read count text starts says) ∙ failing)
+  where
+    not_both : (xs : List ℕ) (f : Fault) → Path (Result (List ℕ) Fault) (Ok xs) (Err f) → ⊥
+    not_both xs f e = absurd (cc)
+
+-- where memory ran out that is what is told
+only_memory : (first : FileFault) (e : CliFault) → first.code ≡ code.Memory → Refuses (TellsStarts first) e → e ≡ cli.Memory
+only_memory first (cli.Refused line) is t = absurd (t.0 is)
+only_memory first cli.Memory is t = refl
+only_memory first cli.Input is t = absurd t
+only_memory first cli.Output is t = absurd t
+
+-- starts that a text says aren't read only where memory ran out
+pub unread_starts : (count : ℕ) (text starts : List ℕ) (error : ReadError) (first : FileFault) (e : CliFault) → SaysStarts count text starts → Fails error (starts_in count text)
+    → TellsError error first → Refuses (TellsStarts first) e → e ≡ cli.Memory
+unread_starts count text starts errors.Memory first e says failing is t = only_memory first e is.0 t
+unread_starts count text starts (errors.Fault f) first e says failing is t = absurd (not_both starts f (sym (starts_read count text starts says) ∙ failing))
+  where
+    not_both : (xs : List ℕ) (f : Fault) → Path (Result (List ℕ) Fault) (Ok xs) (Err f) → ⊥
+    not_both xs f e = absurd (cc)
 
 -- the line of a text of starts is that of the first check that it fails
 pub told_no_starts : (count : ℕ) (text : List ℕ) (error : ReadError) (first : FileFault) (e : CliFault) → Fails error (starts_in count text) → TellsError error first → Refuses (TellsStarts first) e → Refuses (TellsNoStarts count text) e

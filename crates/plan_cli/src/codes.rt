@@ -101,7 +101,7 @@ impl Code {
                 "F8 line N\nThe number of modes, or the mode, in line N isn't 1.\nGive each job one mode.\n"
             }
             Code::Count => {
-                "F9 line N\nThere is a word too few or too many. N is the line of the last word where one is missing (of the title or the instance line if there is none), else of the first word too many.\nCompare the counts in the file with what stands in its rows.\n"
+                "F9 line N\nThere is a word too few or too many. N is the line of the last word if one is missing (of the title or the instance line if there is none), else of the first word too many.\nCompare the counts in the file with what stands in its rows.\n"
             }
             Code::Limit => {
                 "F10 line N\nA number in line N is beyond its limit. Projects: 2 to 502 jobs, 1 to 16 resources. Shops: 1 to 50 jobs, 1 to 20 machines. Durations and amounts: up to 10,000, all durations together up to 1,000,000. Starts: up to 10,000,000.\nChoose a coarser unit, or split the project.\n"

@@ -26,8 +26,8 @@ fn open_fault(error: &io::Error) -> CliFault
     CliFault::Input
 }
 
-/// Does a task, by the run of its command, on the file of this name, or on standard input if the name is `-`. A file that can't be opened or read is
-/// [`CliFault::Input`].
+/// Does a task, by the run of its command, on the file of this name, or on standard input if the name
+/// is `-`. A file that can't be opened or read is [`CliFault::Input`].
 pub fn run_on_file<R: Files + Input + AllocGlobal, W: Sink>(
     rt: &R,
     task: Task<'_>,
@@ -56,7 +56,8 @@ pub fn run_on_file<R: Files + Input + AllocGlobal, W: Sink>(
     }
 }
 
-// The bytes of the file of this name, up to one more than the longest text has, or of standard input if the name is `-`.
+// The bytes of the file of this name, up to one more than the longest text has, or of standard input
+// if the name is `-`.
 fn read_named<R: Files + Input + AllocGlobal>(rt: &R, path: &str) -> Result<Vec<u8>, CliFault>
     ensures short { IfOk result (λ bytes. length bytes.items ≤ longest_text + 1) }
     ensures refused { IfErr result (λ e. (e ≡ CliFault.Memory) ⊎ (e ≡ CliFault.Input)) }
@@ -71,8 +72,8 @@ fn read_named<R: Files + Input + AllocGlobal>(rt: &R, path: &str) -> Result<Vec<
     read_file(rt.alloc(), &mut StdSource::new(file))
 }
 
-/// Does `plan check` on the files of these names; one of them may be `-`, which is standard input. The file of the starts is read
-/// first. A file that can't be opened or read is [`CliFault::Input`].
+/// Does `plan check` on the files of these names; one of them may be `-`, which is standard input. The
+/// file of the starts is read first. A file that can't be opened or read is [`CliFault::Input`].
 pub fn check_on_files<R: Files + Input + AllocGlobal, W: Sink>(
     rt: &R,
     path: &str,

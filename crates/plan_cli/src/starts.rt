@@ -1,9 +1,10 @@
 //! A text of starts: one number a word, a start for each activity.
 
-ghost use Rattle.std.specs.Prelude.{◌≡◌, [], true, false, IfOk, IfErr, string_bytes};
+ghost use Rattle.std.specs.Prelude.{◌≡◌, ℕ, List, [], true, false, IfOk, IfErr, MatchResult, string_bytes};
 ghost use Rattle.plan_psplib.specs.Reading.{Gives};
 ghost use Rattle.plan_cli.specs.Run.{Refuses};
 ghost use Rattle.plan_cli.specs.Starts as spec;
+ghost use Rattle.plan_cli.specs.declared.fault.CliFault.TheVariants.{Memory};
 
 use crate::fault::{CliFault, refusal_by};
 use plan_gantt::file_fault_text;
@@ -91,6 +92,8 @@ fn starts_fault_text(alloc: Global, fault: &FileFault) -> Result<String, AllocEr
 /// The starts that a text says, one for each of so many activities.
 pub(crate) fn read_starts(alloc: Global, count: usize, text: &[u8]) -> Result<Vec<u64>, CliFault>
     ensures said { IfOk result (λ starts. spec.SaysStarts count text.now starts.items) }
+    // What the text says is read, unless memory runs out.
+    ensures only { (starts : List ℕ) → spec.SaysStarts count text.now starts → MatchResult result (λ read. read.items ≡ starts) (λ e. e ≡ Memory) }
     ensures refused { IfErr result (Refuses (spec.TellsNoStarts count text.now)) }
 {
     match read_all(alloc, count, text) {
