@@ -1,0 +1,5 @@
+pub mod ReadingLemmas
+pub mod FieldLemmas
+pub mod DigitLemmas
+pub mod LengthLemmas
+pub mod BodyLemmas
