@@ -3,3 +3,5 @@ pub mod FieldLemmas
 pub mod DigitLemmas
 pub mod LengthLemmas
 pub mod BodyLemmas
+pub mod RouteLemmas
+pub mod JudgingLemmas

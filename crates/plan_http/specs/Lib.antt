@@ -4,3 +4,8 @@ pub mod Fields
 pub mod Checks
 pub mod Lengths
 pub mod BodyPieces
+pub mod Routes
+pub mod RouteRows
+pub mod Targets
+pub mod Judges
+pub mod Asked

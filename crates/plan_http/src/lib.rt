@@ -1,8 +1,15 @@
 //! From the bytes of a connection to a request of the desks, and from a reply to bytes.
 #![tactic(auto)]
 
+mod asking;
 mod body;
+mod calls;
 mod checks;
 mod fields;
 mod head;
 mod lengths;
+mod routes;
+
+pub use asking::Asked;
+pub use checks::Check;
+pub use routes::{Route, Routes};

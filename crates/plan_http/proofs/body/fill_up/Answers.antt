@@ -1,4 +1,4 @@
-use Rattle.std.proofs.Common.{◌≡◌, ◌<◌, length, arith}
+use Rattle.std.proofs.Common.{◌<◌, length, arith}
 use Rattle.plan_http.proofs.BodyLemmas.{ended}
 use Rattle.plan_http.proofs.body.fill_up.Goals as goal
 

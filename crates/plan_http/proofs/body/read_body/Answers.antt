@@ -1,4 +1,4 @@
-use Rattle.std.proofs.Common.{◌≡◌, ◌<◌, ◌≤◌, length, take, drop, ◌++◌, List, ℕ, Option, sym, ap, ◌∙◌, arith, subst, false}
+use Rattle.std.proofs.Common.{◌≡◌, ◌<◌, length, take, sym, ap, ◌∙◌, subst, false}
 use Rattle.plan_http.specs.Pieces.{IsSplit}
 use Rattle.plan_http.specs.BodyPieces.{RestOutcome}
 use Rattle.plan_http.proofs.BodyLemmas.{full, written_over}

@@ -1,4 +1,4 @@
-use Rattle.std.proofs.Common.{◌≡◌, ◌-◌, ◌≤◌, ◌<◌, ◌∙◌, ap, length, arith}
+use Rattle.std.proofs.Common.{◌≡◌, ◌-◌, ◌<◌, ◌∙◌, ap, length, arith}
 use Rattle.std.proofs.lemmas.List.{take_rest, length-drop}
 use Rattle.plan_http.proofs.ReadingLemmas.{fills}
 use Rattle.plan_http.proofs.head.fill.Goals as goal

@@ -1,4 +1,4 @@
-use Rattle.std.proofs.Common.{◌≡◌, ◌≤◌, length, inl, inr, arith, sym}
+use Rattle.std.proofs.Common.{◌≡◌, ◌≤◌, length, inl, inr, arith}
 use Rattle.plan_http.proofs.ReadingLemmas.{missing_by_end, missing_by_error, has_head}
 use Rattle.plan_http.proofs.head.judge.Goals as goal
 

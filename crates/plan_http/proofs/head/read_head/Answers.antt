@@ -1,4 +1,4 @@
-use Rattle.std.proofs.Common.{◌≡◌, ◌+◌, Bool, take, nat_eq, refl}
+use Rattle.std.proofs.Common.{◌+◌, take, nat_eq, refl}
 use Rattle.plan_http.proofs.ReadingLemmas.{nothing_more}
 use Rattle.plan_http.proofs.head.read_head.Goals as goal
 

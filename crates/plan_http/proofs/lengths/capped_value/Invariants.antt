@@ -1,5 +1,4 @@
-use Rattle.std.proofs.Common.{◌≡◌, ◌≤◌, ℕ, drop, min}
-use Rattle.std.specs.List.{list_all}
+use Rattle.std.proofs.Common.{◌≡◌, ℕ, drop, min}
 use Rattle.std.specs.Str.Parse.{digits_value, digits_value_after}
 use Rattle.plan_http.proofs.lengths.capped_value.Given as goal
 

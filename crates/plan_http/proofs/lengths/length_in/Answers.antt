@@ -1,4 +1,4 @@
-use Rattle.std.proofs.Common.{◌≡◌, map, not, sym, ap, ◌∙◌, min}
+use Rattle.std.proofs.Common.{map, not, sym, ap, ◌∙◌, min}
 use Rattle.httparse.specs.Spans.{header_bytes}
 use Rattle.plan_http.specs.Fields.{values_of}
 use Rattle.plan_http.proofs.LengthLemmas.{wrong_at, first_length}
