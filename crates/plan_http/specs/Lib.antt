@@ -5,7 +5,6 @@ pub mod Checks
 pub mod Lengths
 pub mod BodyPieces
 pub mod Routes
-pub mod RouteRows
 pub mod Targets
 pub mod Judges
 pub mod Asked

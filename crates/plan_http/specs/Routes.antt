@@ -11,26 +11,30 @@ use Rattle.matchit.specs.declared.error.InsertError.{InsertError}
 use Rattle.plan_http.specs.declared.routes.Route.{Route}
 use Rattle.plan_http.specs.declared.routes.Route.TheVariants.{Publish, OpenDesk, SetKey, Capacities, Plans, ImportProject, ImportShop, Remove, Bind, SetCalendar, SetLag, Dates, Schedule, Chart, Days, Best}
 
--- the routes and their texts
-abbrev pub route_texts : List (List ℕ × Route)
-route_texts =
-    (codes "/office/capacities", Publish)
-    ∷ (codes "/office/desks", OpenDesk)
-    ∷ (codes "/office/desks/{desk}/key", SetKey)
-    ∷ (codes "/desks/{desk}/capacities", Capacities)
-    ∷ (codes "/desks/{desk}/plans", Plans)
-    ∷ (codes "/desks/{desk}/projects", ImportProject)
-    ∷ (codes "/desks/{desk}/shops/{instance}", ImportShop)
-    ∷ (codes "/desks/{desk}/plans/{n}", Remove)
-    ∷ (codes "/desks/{desk}/plans/{n}/bind", Bind)
-    ∷ (codes "/desks/{desk}/plans/{n}/calendar", SetCalendar)
-    ∷ (codes "/desks/{desk}/plans/{n}/lag", SetLag)
-    ∷ (codes "/desks/{desk}/plans/{n}/dates", Dates)
-    ∷ (codes "/desks/{desk}/plans/{n}/schedule/{rule}", Schedule)
-    ∷ (codes "/desks/{desk}/plans/{n}/chart/{rule}", Chart)
-    ∷ (codes "/desks/{desk}/plans/{n}/days/{rule}", Days)
-    ∷ (codes "/desks/{desk}/plans/{n}/best/{budget}", Best)
-    ∷ []
+-- all routes
+abbrev pub all_routes : List Route
+all_routes =
+    Publish ∷ OpenDesk ∷ SetKey ∷ Capacities ∷ Plans ∷ ImportProject ∷ ImportShop ∷ Remove ∷
+    Bind ∷ SetCalendar ∷ SetLag ∷ Dates ∷ Schedule ∷ Chart ∷ Days ∷ Best ∷ []
+
+-- the text of a route: what stands in braces takes one segment of a target
+abbrev pub text_of : Route → List ℕ
+text_of Publish = codes "/office/capacities"
+text_of OpenDesk = codes "/office/desks"
+text_of SetKey = codes "/office/desks/{desk}/key"
+text_of Capacities = codes "/desks/{desk}/capacities"
+text_of Plans = codes "/desks/{desk}/plans"
+text_of ImportProject = codes "/desks/{desk}/projects"
+text_of ImportShop = codes "/desks/{desk}/shops/{instance}"
+text_of Remove = codes "/desks/{desk}/plans/{n}"
+text_of Bind = codes "/desks/{desk}/plans/{n}/bind"
+text_of SetCalendar = codes "/desks/{desk}/plans/{n}/calendar"
+text_of SetLag = codes "/desks/{desk}/plans/{n}/lag"
+text_of Dates = codes "/desks/{desk}/plans/{n}/dates"
+text_of Schedule = codes "/desks/{desk}/plans/{n}/schedule/{rule}"
+text_of Chart = codes "/desks/{desk}/plans/{n}/chart/{rule}"
+text_of Days = codes "/desks/{desk}/plans/{n}/days/{rule}"
+text_of Best = codes "/desks/{desk}/plans/{n}/best/{budget}"
 
 -- a table of routes, as `matchit` keeps them
 abbrev pub Table : Type 0
@@ -41,17 +45,17 @@ abbrev pub with_read : Result Scan InsertError → Route → Table → Table
 with_read (Ok scan) route table = placed (scan.pattern, route_from scan route) table
 with_read (Err e) route table = table
 
-unfoldable pub with_route : List ℕ → Route → Table → Table
-with_route text route table = with_read (parse_route text) route table
+unfoldable pub with_route : Route → Table → Table
+with_route route table = with_read (parse_route (text_of route)) route table
 
 -- a table with these routes more, the first of them first
-abbrev pub with_routes : List (List ℕ × Route) → Table → Table
+abbrev pub with_routes : List Route → Table → Table
 with_routes [] table = table
-with_routes ((text, route) ∷ more) table = with_routes more (with_route text route table)
+with_routes (route ∷ more) table = with_routes more (with_route route table)
 
 -- the table of all routes
 unfoldable pub route_table : Table
-route_table = with_routes route_texts []
+route_table = with_routes all_routes []
 
 -- a query, an escape, a fragment
 abbrev pub is_mark : ℕ → Bool

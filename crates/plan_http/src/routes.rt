@@ -1,10 +1,9 @@
 //! The routes of the service.
 
-ghost use Rattle.std.specs.Prelude.{◌≡◌, IfOk, OnOk, IsUtf8, map, codes, option_map};
+ghost use Rattle.std.specs.Prelude.{◌≡◌, OnOk, option_map};
 ghost use Rattle.std.specs.List.{list_any};
 ghost use Rattle.matchit.specs.Seek.{first};
 ghost use Rattle.plan_http.specs.Routes as spec;
-ghost use Rattle.plan_http.specs.RouteRows.{route_row};
 
 use matchit::{InsertError, Router};
 use std::alloc::{AllocError, Global};
@@ -31,7 +30,50 @@ pub enum Route {
     Best,
 }
 
+const ALL: [Route; 16] = [
+    Route::Publish,
+    Route::OpenDesk,
+    Route::SetKey,
+    Route::Capacities,
+    Route::Plans,
+    Route::ImportProject,
+    Route::ImportShop,
+    Route::Remove,
+    Route::Bind,
+    Route::SetCalendar,
+    Route::SetLag,
+    Route::Dates,
+    Route::Schedule,
+    Route::Chart,
+    Route::Days,
+    Route::Best,
+];
+
 impl Route {
+    // Its text, where what stands in braces takes one segment.
+    fn text(self) -> &'static str
+        ensures { result.now ≡ spec.text_of self }
+    {
+        match self {
+            Route::Publish => "/office/capacities",
+            Route::OpenDesk => "/office/desks",
+            Route::SetKey => "/office/desks/{desk}/key",
+            Route::Capacities => "/desks/{desk}/capacities",
+            Route::Plans => "/desks/{desk}/plans",
+            Route::ImportProject => "/desks/{desk}/projects",
+            Route::ImportShop => "/desks/{desk}/shops/{instance}",
+            Route::Remove => "/desks/{desk}/plans/{n}",
+            Route::Bind => "/desks/{desk}/plans/{n}/bind",
+            Route::SetCalendar => "/desks/{desk}/plans/{n}/calendar",
+            Route::SetLag => "/desks/{desk}/plans/{n}/lag",
+            Route::Dates => "/desks/{desk}/plans/{n}/dates",
+            Route::Schedule => "/desks/{desk}/plans/{n}/schedule/{rule}",
+            Route::Chart => "/desks/{desk}/plans/{n}/chart/{rule}",
+            Route::Days => "/desks/{desk}/plans/{n}/days/{rule}",
+            Route::Best => "/desks/{desk}/plans/{n}/best/{budget}",
+        }
+    }
+
     /// The one method that it has.
     pub fn method(self) -> &'static str
         ensures { result.now ≡ spec.method_of self }
@@ -57,13 +99,6 @@ impl Route {
     }
 }
 
-// A route and its text.
-#[derive(Clone, Copy, Drop)]
-struct RouteText {
-    text: &'static str,
-    route: Route,
-}
-
 /// All routes, ready to be looked up.
 #[derive(Drop)]
 pub struct Routes {
@@ -78,20 +113,20 @@ impl Model for Routes {
     ghost invariant = { λ routes. routes.router ≡ spec.route_table };
 }
 
-fn add_route(router: &mut Router<Route>, text: &str, route: Route) -> Result<(), AllocError>
-    ensures { OnOk result (router.new ≡ spec.with_route text.now route router.old) }
+fn add_route(router: &mut Router<Route>, route: Route) -> Result<(), AllocError>
+    ensures { OnOk result (router.new ≡ spec.with_route route router.old) }
 {
-    match router.insert(text, route) {
+    match router.insert(route.text(), route) {
         Ok(()) => Ok(()),
         Err(_) => Err(AllocError),
     }
 }
 
-fn add_routes(router: &mut Router<Route>, rows: &[RouteText]) -> Result<(), AllocError>
-    ensures { OnOk result (router.new ≡ spec.with_routes (map route_row rows.now) router.old) }
+fn add_routes(router: &mut Router<Route>, routes: &[Route]) -> Result<(), AllocError>
+    ensures { OnOk result (router.new ≡ spec.with_routes routes.now router.old) }
 {
-    for row in rows {
-        add_route(router, row.text, row.route)?;
+    for route in routes {
+        add_route(router, *route)?;
     }
     Ok(())
 }
@@ -99,75 +134,7 @@ fn add_routes(router: &mut Router<Route>, rows: &[RouteText]) -> Result<(), Allo
 impl Routes {
     pub fn new(alloc: Global) -> Result<Routes, AllocError> {
         let mut router = Router::new(alloc);
-        add_routes(
-            &mut router,
-            &[
-                RouteText {
-                    text: "/office/capacities",
-                    route: Route::Publish,
-                },
-                RouteText {
-                    text: "/office/desks",
-                    route: Route::OpenDesk,
-                },
-                RouteText {
-                    text: "/office/desks/{desk}/key",
-                    route: Route::SetKey,
-                },
-                RouteText {
-                    text: "/desks/{desk}/capacities",
-                    route: Route::Capacities,
-                },
-                RouteText {
-                    text: "/desks/{desk}/plans",
-                    route: Route::Plans,
-                },
-                RouteText {
-                    text: "/desks/{desk}/projects",
-                    route: Route::ImportProject,
-                },
-                RouteText {
-                    text: "/desks/{desk}/shops/{instance}",
-                    route: Route::ImportShop,
-                },
-                RouteText {
-                    text: "/desks/{desk}/plans/{n}",
-                    route: Route::Remove,
-                },
-                RouteText {
-                    text: "/desks/{desk}/plans/{n}/bind",
-                    route: Route::Bind,
-                },
-                RouteText {
-                    text: "/desks/{desk}/plans/{n}/calendar",
-                    route: Route::SetCalendar,
-                },
-                RouteText {
-                    text: "/desks/{desk}/plans/{n}/lag",
-                    route: Route::SetLag,
-                },
-                RouteText {
-                    text: "/desks/{desk}/plans/{n}/dates",
-                    route: Route::Dates,
-                },
-                RouteText {
-                    text: "/desks/{desk}/plans/{n}/schedule/{rule}",
-                    route: Route::Schedule,
-                },
-                RouteText {
-                    text: "/desks/{desk}/plans/{n}/chart/{rule}",
-                    route: Route::Chart,
-                },
-                RouteText {
-                    text: "/desks/{desk}/plans/{n}/days/{rule}",
-                    route: Route::Days,
-                },
-                RouteText {
-                    text: "/desks/{desk}/plans/{n}/best/{budget}",
-                    route: Route::Best,
-                },
-            ],
-        )?;
+        add_routes(&mut router, &ALL)?;
         Ok(Routes { router })
     }
 
