@@ -5,3 +5,6 @@ pub mod LengthLemmas
 pub mod BodyLemmas
 pub mod RouteLemmas
 pub mod JudgingLemmas
+pub mod PhraseLemmas
+pub mod ResponseLemmas
+pub mod SendingLemmas

@@ -8,3 +8,4 @@ pub mod Routes
 pub mod Targets
 pub mod Judges
 pub mod Asked
+pub mod Responses

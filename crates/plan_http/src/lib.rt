@@ -8,8 +8,12 @@ mod checks;
 mod fields;
 mod head;
 mod lengths;
+mod line;
+mod response;
 mod routes;
+mod sending;
 
 pub use asking::Asked;
 pub use checks::Check;
+pub use response::{respond, response_bytes};
 pub use routes::{Route, Routes};
