@@ -8,3 +8,4 @@ pub mod JudgingLemmas
 pub mod PhraseLemmas
 pub mod ResponseLemmas
 pub mod SendingLemmas
+pub mod LawLemmas

@@ -9,3 +9,4 @@ pub mod Targets
 pub mod Judges
 pub mod Asked
 pub mod Responses
+pub mod Laws

@@ -7,6 +7,7 @@ mod calls;
 mod checks;
 mod fields;
 mod head;
+mod laws;
 mod lengths;
 mod line;
 mod response;
@@ -15,5 +16,6 @@ mod sending;
 
 pub use asking::Asked;
 pub use checks::Check;
+pub use laws::{one_verdict, some_verdict};
 pub use response::{respond, response_bytes};
 pub use routes::{Route, Routes};
