@@ -14,7 +14,7 @@ mod response;
 mod routes;
 mod sending;
 
-pub use asking::Asked;
+pub use asking::{Asked, read_request};
 pub use checks::Check;
 pub use laws::{one_verdict, some_verdict};
 pub use response::{respond, response_bytes};
