@@ -9,3 +9,4 @@ pub mod PhraseLemmas
 pub mod ResponseLemmas
 pub mod SendingLemmas
 pub mod LawLemmas
+pub mod ServingLemmas
