@@ -10,3 +10,4 @@ pub mod ResponseLemmas
 pub mod SendingLemmas
 pub mod LawLemmas
 pub mod ServingLemmas
+pub mod RunLemmas

@@ -1,11 +1,11 @@
 -- How a connection that was answered has ended.
-use Rattle.std.proofs.Common.{◌≡◌, List, ℕ, Option, None, Some, IfSome, refl, subst}
+use Rattle.std.proofs.Common.{◌≡◌, Option, None, Some, IfSome, refl, subst}
 use Rattle.plan_desk.specs.World.{Text}
 use Rattle.plan_desk.specs.Books.{Shelf}
 use Rattle.plan_http.specs.declared.serving.ConnEnd.{ConnEnd}
 use Rattle.plan_http.specs.declared.serving.ConnEnd.TheVariants.{Replied, ReadFailed, WriteFailed}
 use Rattle.plan_http.specs.Answers.{Answer, Decision, answer_of, IsOn}
-use Rattle.plan_http.specs.Serving.{Responds, Moves, Serves, Ends}
+use Rattle.plan_http.specs.Serving.{Responds, Moves, Ends}
 
 -- what holds of the bytes, whatever they are, holds of them where they are known
 pub known : (bytes : Option Text) (P : Text → Type 0) → ((all : Text) → bytes ≡ Some all → P all) → IfSome bytes P

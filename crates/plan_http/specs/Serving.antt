@@ -1,5 +1,5 @@
 -- Connections that are served by an office, one and many (docs/DEFINITIONS.md, "Connections").
-use Rattle.std.specs.Prelude.{◌≡◌, ℕ, ◌+◌, ◌<◌, ◌≤◌, ◌⊎◌, List, [], ◌∷◌, length, take, map, get_or, Option, IfSome}
+use Rattle.std.specs.Prelude.{◌≡◌, ℕ, ◌+◌, ◌<◌, ◌≤◌, ◌⊎◌, List, [], ◌∷◌, length, take, get_or, Option, IfSome}
 use Rattle.std.specs.Io.KnownBytes.{Appends}
 use Rattle.plan_psplib.specs.Devices.{HasFailed}
 use Rattle.plan_desk.specs.World.{Text}

@@ -12,6 +12,7 @@ mod lengths;
 mod line;
 mod response;
 mod routes;
+mod runs;
 mod sending;
 mod serving;
 
@@ -20,4 +21,5 @@ pub use checks::Check;
 pub use laws::{one_verdict, some_verdict};
 pub use response::{respond, response_bytes};
 pub use routes::{Route, Routes};
+pub use runs::{RunFault, serve_run};
 pub use serving::{ConnEnd, serve_conn};

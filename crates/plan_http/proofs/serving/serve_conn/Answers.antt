@@ -3,7 +3,7 @@ use Rattle.std.specs.Option.{option_map}
 use Rattle.plan_desk.specs.Requests.{request_in}
 use Rattle.plan_desk.specs.Replies.{reply_of}
 use Rattle.plan_http.specs.Routes.{method_of}
-use Rattle.plan_http.specs.Answers.{Answer, handled, failed, starved}
+use Rattle.plan_http.specs.Answers.{handled, failed, starved}
 use Rattle.plan_http.proofs.ServingLemmas.{ends}
 use Rattle.plan_http.proofs.serving.serve_conn.Goals as goal
 
