@@ -11,3 +11,4 @@ pub mod SendingLemmas
 pub mod LawLemmas
 pub mod ServingLemmas
 pub mod RunLemmas
+pub mod ServedLemmas

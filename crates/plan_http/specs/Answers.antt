@@ -1,5 +1,5 @@
 -- How connections are answered (docs/DEFINITIONS.md, "Connections").
-use Rattle.std.specs.Prelude.{Bool, false, Option, None, codes}
+use Rattle.std.specs.Prelude.{Bool, false, List, [], ◌∷◌, Option, None, codes}
 use Rattle.plan_desk.specs.World.{Text}
 use Rattle.plan_desk.specs.Calls.{Request, Reply, refusal}
 use Rattle.plan_http.specs.declared.checks.Check.{Check}
@@ -47,3 +47,16 @@ abbrev pub IsOn : Text → Decision → Type 0
 IsOn bytes (handled request reply) = Judges bytes (asks request)
 IsOn bytes (failed check allow is_head) = Judges bytes (fails check allow is_head)
 IsOn bytes (starved is_head) = HasHeadMethod bytes is_head
+
+-- the requests that were handled, and their replies
+abbrev pub requests_of : List Decision → List Request
+requests_of [] = []
+requests_of (handled request reply ∷ decisions) = request ∷ requests_of decisions
+requests_of (failed check allow is_head ∷ decisions) = requests_of decisions
+requests_of (starved is_head ∷ decisions) = requests_of decisions
+
+abbrev pub replies_of : List Decision → List Reply
+replies_of [] = []
+replies_of (handled request reply ∷ decisions) = reply ∷ replies_of decisions
+replies_of (failed check allow is_head ∷ decisions) = replies_of decisions
+replies_of (starved is_head ∷ decisions) = replies_of decisions

@@ -1,6 +1,11 @@
 -- Laws of what connections spell (docs/DEFINITIONS.md, "Connections").
-use Rattle.std.specs.Prelude.{◌≡◌, Bool}
-use Rattle.plan_desk.specs.World.{Text}
+use Rattle.std.specs.Prelude.{◌≡◌, Bool, List}
+use Rattle.plan_desk.specs.World.{Text, World}
+use Rattle.plan_desk.specs.Views.{view}
+use Rattle.plan_desk.specs.Books.{Shelf}
+use Rattle.plan_desk.specs.Decisions.{IsRun, AreTold}
+use Rattle.plan_http.specs.Answers.{Decision, requests_of, replies_of}
+use Rattle.plan_http.specs.Serving.{Serving}
 use Rattle.plan_http.specs.Judges.{Verdict, Judges, HasHeadMethod}
 
 -- bytes spell one thing at most
@@ -14,3 +19,16 @@ OneEnd = (bytes : Text) (x y : Bool) → HasHeadMethod bytes x → HasHeadMethod
 -- the bytes spell something
 abbrev pub SpellsSomething : Text → Type 0
 SpellsSomething bytes = (verdict : Verdict) × Judges bytes verdict
+
+module _ {B : Type 0} (shelf : Shelf B) where
+  -- the requests that were handled on connections are a run of the office, as far as it can be seen
+  unfoldable pub ServingIsRun : Type 0
+  ServingIsRun = (old new : B) (conns : List Text) (decisions : List Decision) → Serving shelf old conns decisions new
+      → shelf.honest new → shelf.stands new
+      → (worlds : List World) × IsRun (shelf.world old) (requests_of decisions) (replies_of decisions) worlds
+
+  -- so each desk is told on them what it would be told in an office that has its rows and no others
+  unfoldable pub ServedDesksAreApart : Type 0
+  ServedDesksAreApart = (old new : B) (conns : List Text) (decisions : List Decision) → Serving shelf old conns decisions new
+      → shelf.honest new → shelf.stands new → (desk : Text)
+      → AreTold desk (view desk (shelf.world old)) (requests_of decisions) (replies_of decisions)

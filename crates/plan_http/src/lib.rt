@@ -18,7 +18,7 @@ mod serving;
 
 pub use asking::{Asked, read_request};
 pub use checks::Check;
-pub use laws::{one_verdict, some_verdict};
+pub use laws::{one_verdict, served_desks_are_apart, some_verdict};
 pub use response::{respond, response_bytes};
 pub use routes::{Route, Routes};
 pub use runs::{RunFault, serve_run};
