@@ -1,0 +1,14 @@
+pub mod ReadingLemmas
+pub mod FieldLemmas
+pub mod DigitLemmas
+pub mod LengthLemmas
+pub mod BodyLemmas
+pub mod RouteLemmas
+pub mod JudgingLemmas
+pub mod PhraseLemmas
+pub mod ResponseLemmas
+pub mod SendingLemmas
+pub mod LawLemmas
+pub mod ServingLemmas
+pub mod RunLemmas
+pub mod ServedLemmas

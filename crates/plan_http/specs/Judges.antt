@@ -1,0 +1,71 @@
+-- What the bytes of a connection spell: a request, or the first check that they fail
+-- (docs/DEFINITIONS.md, "Connections").
+use Rattle.std.specs.Prelude.{◌≡◌, ℕ, ◌⊎◌, Bool, false, if◌then◌else◌, nat_lt, bytes_eq, List, length, take, map, Option, Some, None, codes}
+use Rattle.httparse.specs.Grammar.{RequestHead}
+use Rattle.httparse.specs.Spans.{name_and_value}
+use Rattle.plan_desk.specs.World.{Text}
+use Rattle.plan_desk.specs.Calls.{Request}
+use Rattle.plan_http.specs.declared.checks.Check.{Check}
+use Rattle.plan_http.specs.declared.checks.Check.TheVariants.{Message, Route, Method}
+use Rattle.plan_http.specs.declared.routes.Route as declared
+use Rattle.plan_http.specs.Head.{BeginsWithHead, HasNoHead, after_head}
+use Rattle.plan_http.specs.Fields.{NamedValue, values_of, body_length, only_of}
+use Rattle.plan_http.specs.Checks.{first_failing, lengths_in, head_checks}
+use Rattle.plan_http.specs.Routes.{route_of, method_of}
+use Rattle.plan_http.specs.Targets.{call_at}
+
+-- What is spelled: a request; or the first check that fails, with the route's method where it is the
+-- check of the method, and whether the response ends after its head.
+pub data Verdict : Type 0 where
+  asks : Request → Verdict
+  fails : Check → Option Text → Bool → Verdict
+
+-- the fields of a head, with their values
+abbrev pub fields_of : RequestHead → List NamedValue
+fields_of h = map name_and_value h.fields
+
+-- the length of the body
+abbrev pub length_of : RequestHead → ℕ
+length_of h = body_length (lengths_in (fields_of h))
+
+-- the key that was sent along: the value of the one field `Desk-Key`
+abbrev pub key_of : RequestHead → Option Text
+key_of h = only_of (values_of (codes "desk-key") (fields_of h))
+
+-- the method is HEAD
+abbrev pub is_head_method : RequestHead → Bool
+is_head_method h = bytes_eq h.method (codes "HEAD")
+
+-- the checks of the route and its method, and then the request
+abbrev pub asked_at : RequestHead → Text → Option declared.Route → Verdict
+asked_at h body None = fails Route None (is_head_method h)
+asked_at h body (Some route) =
+    if bytes_eq h.method (method_of route)
+    then asks (record { key = key_of h; call = call_at route h.target body })
+    else fails Method (Some (method_of route)) (is_head_method h)
+
+-- the check of the body, and then those of the route; what stands behind the body is ignored
+unfoldable pub asked : RequestHead → Text → Verdict
+asked h after =
+    if nat_lt (length after) (length_of h) then fails Message None (is_head_method h)
+    else asked_at h (take (length_of h) after) (route_of h.target)
+
+abbrev pub unless_failing : RequestHead → Text → Option Check → Verdict
+unless_failing h after (Some check) = fails check None (is_head_method h)
+unless_failing h after None = asked h after
+
+-- what a head and the bytes behind it say
+unfoldable pub judged : RequestHead → Text → Verdict
+judged h after = unless_failing h after (first_failing (head_checks h.minor (fields_of h)))
+
+-- the bytes of a connection spell this
+abbrev pub Judges : Text → Verdict → Type 0
+Judges bytes verdict =
+    ((h : RequestHead) × BeginsWithHead bytes h × (verdict ≡ judged h (after_head bytes h)))
+    ⊎ (HasNoHead bytes × (verdict ≡ fails Message None false))
+
+-- whether a response to the bytes ends after its head: they begin with a head, whose method is HEAD
+abbrev pub HasHeadMethod : Text → Bool → Type 0
+HasHeadMethod bytes is_head =
+    ((h : RequestHead) × BeginsWithHead bytes h × (is_head ≡ is_head_method h))
+    ⊎ (HasNoHead bytes × (is_head ≡ false))

@@ -1,0 +1,14 @@
+pub mod Head
+pub mod Pieces
+pub mod Fields
+pub mod Checks
+pub mod Lengths
+pub mod BodyPieces
+pub mod Routes
+pub mod Targets
+pub mod Judges
+pub mod Asked
+pub mod Responses
+pub mod Laws
+pub mod Answers
+pub mod Serving

@@ -1,0 +1,85 @@
+//! The body of a request, of which some may have come with the head.
+
+ghost use Rattle.std.specs.Prelude.{◌≡◌, ℕ, ◌+◌, ◌<◌, ◌≤◌, List, length, take, IfOk, MatchResult};
+ghost use Rattle.plan_http.specs.Pieces.{IsSplit};
+ghost use Rattle.plan_http.specs.BodyPieces.{RestOutcome, BodyOutcome, IfRead, BodyFaults};
+
+use crate::head::fill;
+use plan_psplib::{DeviceFault, Source};
+use std::alloc::{AllocError, Global};
+
+/// How the reading of a body ended.
+#[derive(Drop)]
+pub(crate) enum BodyEnd {
+    Read(Vec<u8>),
+    /// The bytes ended before.
+    Short,
+    NoMemory,
+    /// The reader failed.
+    Failed,
+}
+
+// The bytes that came, and room for the others.
+fn with_room(alloc: Global, got: &[u8], count: usize) -> Result<Vec<u8>, AllocError>
+    requires { length got.now ≤ count }
+    ensures { IfOk result (λ body. (take (length got.now) body.items ≡ got.now) × (length body.items ≡ count)) }
+{
+    let mut body = Vec::with_capacity(alloc, count)?;
+    body.extend_from_slice(got)?;
+    body.resize(count, 0)?;
+    Ok(body)
+}
+
+// Reads until a body is full. False where the bytes end before.
+fn fill_up<R: Source>(reader: &mut R, body: &mut [u8], from: usize) -> Result<bool, DeviceFault>
+    requires { from ≤ length body.old }
+    ensures calls { R.calls reader.new ≤ R.calls reader.old + length body.old }
+    ensures faults { MatchResult result (λ _. R.faults reader.new ≡ R.faults reader.old) (λ _. R.faults reader.new ≡ R.faults reader.old + 1) }
+    ensures bytes { IfOk result (λ is_full. (bytes : List ℕ) → IsSplit bytes (take from body.old) (R.remaining reader.old)
+        → RestOutcome bytes body.new (R.remaining reader.new) is_full) }
+{
+    let mut filled = from;
+    for _ in 0..body.len() {
+        if filled == body.len() {
+            return Ok(true);
+        }
+        let came = fill(reader, body, filled)?;
+        if came == 0 {
+            return Ok(false);
+        }
+        filled += came;
+    }
+    Ok(true)
+}
+
+// A body that had come whole.
+fn copied(alloc: Global, body: &[u8]) -> BodyEnd
+    ensures body { IfRead result body.now }
+    ensures faults { (faults : ℕ) → BodyFaults faults faults result }
+{
+    match Vec::from_slice(alloc, body) {
+        Ok(body) => BodyEnd::Read(body),
+        Err(_) => BodyEnd::NoMemory,
+    }
+}
+
+/// Reads a body of so many bytes behind those that came with the head.
+pub(crate) fn read_body<R: Source>(alloc: Global, reader: &mut R, got: &[u8], count: u32) -> BodyEnd
+    ensures body { (after : List ℕ) → IsSplit after got.now (R.remaining reader.old)
+        → BodyOutcome after got.now count (R.remaining reader.new) result }
+    ensures calls { R.calls reader.new ≤ R.calls reader.old + count }
+    ensures faults { BodyFaults (R.faults reader.old) (R.faults reader.new) result }
+{
+    let count = count as usize;
+    if count < got.len() {
+        return copied(alloc, &got[..count]);
+    }
+    let Ok(mut body) = with_room(alloc, got, count) else {
+        return BodyEnd::NoMemory;
+    };
+    match fill_up(reader, &mut body, got.len()) {
+        Ok(true) => BodyEnd::Read(body),
+        Ok(false) => BodyEnd::Short,
+        Err(_) => BodyEnd::Failed,
+    }
+}

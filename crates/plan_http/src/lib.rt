@@ -1,0 +1,25 @@
+//! From the bytes of a connection to a request of the desks, and from a reply to bytes.
+#![tactic(auto)]
+
+mod asking;
+mod body;
+mod calls;
+mod checks;
+mod fields;
+mod head;
+mod laws;
+mod lengths;
+mod line;
+mod response;
+mod routes;
+mod runs;
+mod sending;
+mod serving;
+
+pub use asking::{Asked, read_request};
+pub use checks::Check;
+pub use laws::{one_verdict, served_desks_are_apart, some_verdict};
+pub use response::{respond, response_bytes};
+pub use routes::{Route, Routes};
+pub use runs::{RunFault, serve_run};
+pub use serving::{ConnEnd, serve_conn};

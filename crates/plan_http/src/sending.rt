@@ -1,0 +1,48 @@
+//! Writing two texts, one behind the other.
+
+ghost use Rattle.std.specs.Prelude.{◌≡◌, ◌+◌, ◌-◌, ◌<◌, ◌≤◌, ◌++◌, ℕ, length, take, drop, IfErr, OnOk};
+ghost use Rattle.std.specs.Io.KnownBytes.{Appends};
+ghost use Rattle.plan_psplib.specs.Devices.{most_calls, HasFailed};
+
+use plan_psplib::{MOST_CALLS, OutputError, Sink};
+
+// A front of what is left of two texts, behind so many bytes.
+fn rest_of<'a>(first: &'a [u8], second: &'a [u8], sent: usize) -> &'a [u8]
+    requires { sent ≤ length first.now + length second.now }
+    ensures front { result.now ≡ take (length result.now) (drop sent (first.now ++ second.now)) }
+    ensures within { sent + length result.now ≤ length first.now + length second.now }
+{
+    if sent < first.len() {
+        return &first[sent..];
+    }
+    &second[sent - first.len()..]
+}
+
+/// Writes two texts, with no more calls than one text may take. A write that takes none is tried
+/// again, and one that failed isn't.
+pub(crate) fn send<W: Sink>(writer: &mut W, first: &[u8], second: &[u8]) -> Result<(), OutputError>
+    requires { length first.now ≤ 256 }
+    ensures calls { W.calls writer.new ≤ W.calls writer.old + most_calls }
+    ensures written { OnOk result (Appends (W.taken writer.old) (W.taken writer.new) (first.now ++ second.now)) }
+    ensures fine { OnOk result (W.faults writer.new ≡ W.faults writer.old) }
+    ensures part { IfErr result (λ e. (e.sent < length (first.now ++ second.now))
+        × Appends (W.taken writer.old) (W.taken writer.new) (take e.sent (first.now ++ second.now))) }
+    ensures failed { IfErr result (λ _.
+        HasFailed (W.calls writer.old) (W.calls writer.new) (W.faults writer.old) (W.faults writer.new)) }
+{
+    let total = first.len() + second.len();
+    let mut sent = 0;
+    for _ in 0..MOST_CALLS {
+        if sent == total {
+            return Ok(());
+        }
+        match writer.write(rest_of(first, second, sent)) {
+            Ok(n) => sent += n,
+            Err(_) => return Err(OutputError { sent }),
+        }
+    }
+    if sent == total {
+        return Ok(());
+    }
+    Err(OutputError { sent })
+}
