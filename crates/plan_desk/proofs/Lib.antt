@@ -35,6 +35,7 @@ pub mod ReadLemmas
 pub mod RowTestLemmas
 pub mod TestedLemmas
 pub mod PlaceLemmas
+pub mod PromiseLemmas
 pub mod MadeLemmas
 pub mod SeenPlanLemmas
 pub mod BoundLemmas

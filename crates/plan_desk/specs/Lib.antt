@@ -31,6 +31,7 @@ pub mod Whole
 pub mod MemBooks
 pub mod RowTests
 pub mod PlanValues
+pub mod Promises
 pub mod Scheduled
 pub mod BestOf
 pub mod FoundFiles

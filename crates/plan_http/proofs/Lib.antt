@@ -8,4 +8,5 @@ pub mod JudgingLemmas
 pub mod PhraseLemmas
 pub mod ResponseLemmas
 pub mod SendingLemmas
+pub mod StoryLemmas
 pub mod LawLemmas

@@ -5,6 +5,8 @@ pub mod Checks
 pub mod Lengths
 pub mod BodyPieces
 pub mod Routes
+pub mod Served
+pub mod Stories
 pub mod Targets
 pub mod Judges
 pub mod Asked
