@@ -1,12 +1,12 @@
 -- Bytes spell one thing.
-use Rattle.std.proofs.Common.{◌≡◌, ℕ, Bool, List, Option, None, Some, false, take, refl, sym, ◌∙◌, ap, inl, inr}
+use Rattle.std.proofs.Common.{◌≡◌, ℕ, Bool, List, Option, None, false, take, refl, sym, ◌∙◌, ap, inl, inr}
 use Rattle.httparse.specs.Grammar.{RequestHead}
 use Rattle.httparse.specs.declared.spans.HeaderSpan.{HeaderSpan}
 use Rattle.httparse.proofs.GrammarLemmas.{request_unique}
 use Rattle.plan_http.specs.declared.checks.Check.TheVariants.{Message}
 use Rattle.plan_http.specs.declared.head.HeadEnd.{HeadEnd}
 use Rattle.plan_http.specs.declared.head.HeadEnd.TheVariants.{Found, Missing, Failed}
-use Rattle.plan_http.specs.Head.{BeginsWithHead, HasNoHead, after_head}
+use Rattle.plan_http.specs.Head.{BeginsWithHead, after_head}
 use Rattle.plan_http.specs.Pieces.{HeadOutcome, HeadFaults}
 use Rattle.plan_http.specs.Judges.{Verdict, judged, fails, Judges, HasHeadMethod, is_head_method}
 use Rattle.plan_http.specs.Laws.{OneVerdict, OneEnd, SpellsSomething}

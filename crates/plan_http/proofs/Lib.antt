@@ -10,3 +10,5 @@ pub mod ResponseLemmas
 pub mod SendingLemmas
 pub mod StoryLemmas
 pub mod LawLemmas
+pub mod ServingLemmas
+pub mod RunLemmas

@@ -12,3 +12,5 @@ pub mod Judges
 pub mod Asked
 pub mod Responses
 pub mod Laws
+pub mod Answers
+pub mod Serving

@@ -12,10 +12,14 @@ mod lengths;
 mod line;
 mod response;
 mod routes;
+mod runs;
 mod sending;
+mod serving;
 
 pub use asking::{Asked, read_request};
 pub use checks::Check;
 pub use laws::{one_verdict, some_verdict};
 pub use response::{respond, response_bytes};
 pub use routes::{Route, Routes};
+pub use runs::{RunFault, serve_run};
+pub use serving::{ConnEnd, serve_conn};

@@ -1,0 +1,25 @@
+use Rattle.std.proofs.Common.{None, ap, refl}
+use Rattle.std.specs.Option.{option_map}
+use Rattle.plan_desk.specs.Requests.{request_in}
+use Rattle.plan_desk.specs.Replies.{reply_of}
+use Rattle.plan_http.specs.Routes.{method_of}
+use Rattle.plan_http.specs.Answers.{handled, failed, starved}
+use Rattle.plan_http.proofs.ServingLemmas.{ends}
+use Rattle.plan_http.proofs.serving.serve_conn.Goals as goal
+
+pub returns-in-Request-clause-ends : goal.returns-in-Request-clause-ends
+returns-in-Request-clause-ends g c =
+    ends g.B.Book.shelf c.args.office.now c.handle-reply.new.self (g.R.Source.remaining c.args.reader.now) (g.W.Sink.taken c.args.writer.now) (g.W.Sink.taken c.answer.new.writer) c.answer.result
+    (handled (request_in c.in-Request.request) (reply_of c.handle-reply.result)) _ c.in-Request.ensures.asked c.handle-reply.ensures refl c.answer.ensures.responds
+
+pub returns-in-Fails-clause-ends : goal.returns-in-Fails-clause-ends
+returns-in-Fails-clause-ends g c =
+    ends g.B.Book.shelf c.args.office.now c.args.office.now (g.R.Source.remaining c.args.reader.now) (g.W.Sink.taken c.args.writer.now) (g.W.Sink.taken c.answer-in-Fails.new.writer) c.answer-in-Fails.result
+    (failed c.in-Fails.check (option_map method_of c.in-Fails.route) c.in-Fails.is_head) _ c.in-Fails.ensures.asked refl
+    (ap (λ reply. record { reply = reply; allow = option_map method_of c.in-Fails.route; is_head = c.in-Fails.is_head }) c.check_reply.ensures) c.answer-in-Fails.ensures.responds
+
+pub returns-in-NoMemory-clause-ends : goal.returns-in-NoMemory-clause-ends
+returns-in-NoMemory-clause-ends g c =
+    ends g.B.Book.shelf c.args.office.now c.args.office.now (g.R.Source.remaining c.args.reader.now) (g.W.Sink.taken c.args.writer.now) (g.W.Sink.taken c.answer-in-NoMemory.new.writer) c.answer-in-NoMemory.result
+    (starved c.in-NoMemory.is_head) _ c.in-NoMemory.ensures.asked refl
+    (ap (λ reply. record { reply = reply; allow = None; is_head = c.in-NoMemory.is_head }) c.no_memory.ensures) c.answer-in-NoMemory.ensures.responds

@@ -1,0 +1,49 @@
+-- How connections are answered (docs/DEFINITIONS.md, "Connections").
+use Rattle.std.specs.Prelude.{Bool, false, Option, None, codes}
+use Rattle.plan_desk.specs.World.{Text}
+use Rattle.plan_desk.specs.Calls.{Request, Reply, refusal}
+use Rattle.plan_http.specs.declared.checks.Check.{Check}
+use Rattle.plan_http.specs.declared.checks.Check.TheVariants.{Message, TooLarge, Coding, Route, Method}
+use Rattle.plan_http.specs.Judges.{asks, fails, Judges, HasHeadMethod}
+use Rattle.plan_http.specs.Responses.{response_text}
+
+-- the reply to a connection that fails a check
+abbrev pub check_reply : Check → Reply
+check_reply Message = refusal 400 (codes "H1 message")
+check_reply TooLarge = refusal 413 (codes "H2 too large")
+check_reply Coding = refusal 501 (codes "H3 coding")
+check_reply Route = refusal 404 (codes "H4 route")
+check_reply Method = refusal 405 (codes "H5 method")
+
+-- the reply for want of memory
+abbrev pub no_memory : Reply
+no_memory = refusal 503 (codes "E90 memory")
+
+-- a reply as it goes out: with the route's method where the check of the method fails, and whether
+-- the response ends after its head
+pub record Answer : Type 0 where
+  pub reply : Reply
+  pub allow : Option Text
+  pub is_head : Bool
+
+-- its bytes
+unfoldable pub text_of : Answer → Text
+text_of a = response_text a.reply a.allow a.is_head
+
+-- What happened on a connection: a request was handled, a check failed, or memory ran out before
+-- anything was decided.
+pub data Decision : Type 0 where
+  handled : Request → Reply → Decision
+  failed : Check → Option Text → Bool → Decision
+  starved : Bool → Decision
+
+abbrev pub answer_of : Decision → Answer
+answer_of (handled request reply) = record { reply = reply; allow = None; is_head = false }
+answer_of (failed check allow is_head) = record { reply = check_reply check; allow = allow; is_head = is_head }
+answer_of (starved is_head) = record { reply = no_memory; allow = None; is_head = is_head }
+
+-- the decision is one on these bytes
+abbrev pub IsOn : Text → Decision → Type 0
+IsOn bytes (handled request reply) = Judges bytes (asks request)
+IsOn bytes (failed check allow is_head) = Judges bytes (fails check allow is_head)
+IsOn bytes (starved is_head) = HasHeadMethod bytes is_head

@@ -1,0 +1,93 @@
+//! Many connections, one after another.
+
+ghost use Rattle.std.specs.Prelude.{◌≡◌, ◌++◌, ◌∷◌, [], List, map, vec_items, MatchResult, IfOk, OnOk, OnErr};
+ghost use Rattle.plan_http.specs.Answers.{Decision, IsOn};
+ghost use Rattle.plan_http.specs.Serving.{Moves, Serving, Stops, response_of};
+
+use crate::routes::Routes;
+use crate::serving::{ConnEnd, serve_conn};
+use plan_desk::{Book, Office};
+use plan_psplib::{MemSink, MemSource};
+use std::alloc::Global;
+use thiserror::Error;
+
+/// Memory ran out in a run.
+#[derive(Debug, Clone, Copy, PartialEq, Eq, Error, Drop)]
+#[error("out of memory")]
+pub struct RunFault;
+
+// The response to one connection.
+fn response_to<B: Book>(
+    alloc: Global,
+    routes: &Routes,
+    office: &mut Office<B>,
+    conn: &[u8],
+) -> Result<Vec<u8>, RunFault>
+    ensures ok { IfOk result (λ response. (d : Decision) × IsOn conn.now d × Moves B.shelf office.old office.new d × (response.items ≡ response_of d)) }
+    ensures err { OnErr result ((d : Decision) × IsOn conn.now d × Moves B.shelf office.old office.new d) }
+{
+    let mut sink = MemSink::new(Vec::new(alloc));
+    match serve_conn(alloc, routes, office, &mut MemSource::new(conn), &mut sink) {
+        ConnEnd::Replied(_) => Ok(sink.into_bytes()),
+        ConnEnd::ReadFailed => Err(RunFault),
+        ConnEnd::WriteFailed { .. } => Err(RunFault),
+    }
+}
+
+// Adds a response.
+fn add(out: &mut Vec<Vec<u8>>, response: Vec<u8>) -> Result<(), RunFault>
+    ensures { MatchResult result
+        (λ _. map vec_items out.new.items ≡ map vec_items out.old.items ++ response.items ∷ [])
+        (λ _. map vec_items out.new.items ≡ map vec_items out.old.items) }
+{
+    match out.push(response) {
+        Ok(()) => Ok(()),
+        Err(_) => Err(RunFault),
+    }
+}
+
+// Serves one connection, and adds its response.
+fn serve_next<B: Book>(
+    alloc: Global,
+    routes: &Routes,
+    office: &mut Office<B>,
+    conn: &[u8],
+    out: &mut Vec<Vec<u8>>,
+) -> Result<(), RunFault>
+    ensures { MatchResult result
+        (λ _. (d : Decision) × IsOn conn.now d × Moves B.shelf office.old office.new d
+        × (map vec_items out.new.items ≡ map vec_items out.old.items ++ response_of d ∷ []))
+        (λ _. (d : Decision) × IsOn conn.now d × Moves B.shelf office.old office.new d
+        × (map vec_items out.new.items ≡ map vec_items out.old.items)) }
+{
+    match response_to(alloc, routes, office, conn) {
+        Ok(response) => add(out, response),
+        Err(fault) => Err(fault),
+    }
+}
+
+/// Serves connections one after another, and adds the response of each. Where memory runs out `out`
+/// has the responses of the first connections, and the office is as it was after these, or moved by
+/// one connection more.
+pub fn serve_run<B: Book>(
+    alloc: Global,
+    office: &mut Office<B>,
+    conns: &[Vec<u8>],
+    out: &mut Vec<Vec<u8>>,
+) -> Result<(), RunFault>
+    ensures ok { OnOk result ((decisions : List Decision) × Serving B.shelf office.old (map vec_items conns.now) decisions office.new
+        × (map vec_items out.new.items ≡ map vec_items out.old.items ++ map response_of decisions)) }
+    ensures err { OnErr result ((decisions : List Decision) × Stops B.shelf office.old office.new (map vec_items conns.now) decisions
+        × (map vec_items out.new.items ≡ map vec_items out.old.items ++ map response_of decisions)) }
+{
+    let Ok(routes) = Routes::new(alloc) else {
+        return Err(RunFault);
+    };
+    for conn in conns {
+        match serve_next(alloc, &routes, office, conn, out) {
+            Ok(()) => {}
+            Err(fault) => return Err(fault),
+        }
+    }
+    Ok(())
+}

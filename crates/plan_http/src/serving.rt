@@ -1,0 +1,107 @@
+//! One connection, from bytes to bytes.
+
+ghost use Rattle.std.specs.Prelude.{◌≡◌, ◌+◌, ◌≤◌, option_map};
+ghost use Rattle.plan_psplib.specs.Devices.{most_calls};
+ghost use Rattle.plan_desk.specs.declared.kinds.ReplyKind.TheVariants.{Plain};
+ghost use Rattle.plan_desk.specs.Replies.{reply_of};
+ghost use Rattle.plan_http.specs.Routes.{method_of};
+ghost use Rattle.plan_http.specs.Answers as spec;
+ghost use Rattle.plan_http.specs.Serving.{Responds, ReaderFaults, WriterFaults, Ends};
+
+use crate::asking::{Asked, read_request};
+use crate::checks::Check;
+use crate::response::respond;
+use crate::routes::{Route, Routes};
+use plan_desk::{Body, Book, Office, Reply, ReplyKind};
+use plan_psplib::{Sink, Source};
+use std::alloc::Global;
+
+/// How the serving of a connection ended.
+#[derive(Debug, Clone, Copy, PartialEq, Eq, Drop)]
+pub enum ConnEnd {
+    /// A response with this status was written whole.
+    Replied(u16),
+    /// The reader failed: nothing was decided, and nothing written.
+    ReadFailed,
+    /// The writer failed: what was decided stands, and it took the first bytes of the response.
+    WriteFailed {
+        /// How many bytes it took.
+        sent: usize,
+    },
+}
+
+fn refusal(status: u16, line: &'static str) -> Reply
+    ensures { reply_of result ≡ record { status = status; kind = Plain; body = line.now } }
+{
+    Reply {
+        status,
+        kind: ReplyKind::Plain,
+        body: Body::Fixed(line),
+    }
+}
+
+// The reply to a connection that fails a check.
+fn check_reply(check: Check) -> Reply
+    ensures { reply_of result ≡ spec.check_reply check }
+{
+    match check {
+        Check::Message => refusal(400, "H1 message\n"),
+        Check::TooLarge => refusal(413, "H2 too large\n"),
+        Check::Coding => refusal(501, "H3 coding\n"),
+        Check::Route => refusal(404, "H4 route\n"),
+        Check::Method => refusal(405, "H5 method\n"),
+    }
+}
+
+fn no_memory() -> Reply
+    ensures { reply_of result ≡ spec.no_memory }
+{
+    refusal(503, "E90 memory\n")
+}
+
+// Writes the response of a reply.
+#[tactic(auto, unfolding(crate::specs::Answers::text_of))]
+fn answer<W: Sink>(writer: &mut W, reply: &Reply, route: Option<Route>, is_head: bool) -> ConnEnd
+    ensures responds { Responds (W.taken writer.old) (W.taken writer.new) (record {
+      reply = reply_of reply.now;
+      allow = option_map method_of route;
+      is_head = is_head;
+    }) result }
+    ensures calls { W.calls writer.new ≤ W.calls writer.old + most_calls }
+    ensures faults { WriterFaults (W.calls writer.old) (W.calls writer.new) (W.faults writer.old) (W.faults writer.new) result }
+{
+    match respond(writer, reply, route, is_head) {
+        Ok(()) => ConnEnd::Replied(reply.status),
+        Err(e) => ConnEnd::WriteFailed { sent: e.sent },
+    }
+}
+
+/// Serves one connection: reads its request, handles it, and writes the response; or answers the
+/// first check that fails. Want of memory before anything is decided is answered too.
+pub fn serve_conn<R: Source, W: Sink, B: Book>(
+    alloc: Global,
+    routes: &Routes,
+    office: &mut Office<B>,
+    reader: &mut R,
+    writer: &mut W,
+) -> ConnEnd
+    ensures ends { Ends B.shelf office.old office.new (R.remaining reader.old) (W.taken writer.old) (W.taken writer.new) result }
+    ensures reads { R.calls reader.new ≤ R.calls reader.old + most_calls }
+    ensures writes { W.calls writer.new ≤ W.calls writer.old + most_calls }
+    ensures reader_faults { ReaderFaults (R.faults reader.old) (R.faults reader.new) result }
+    ensures writer_faults { WriterFaults (W.calls writer.old) (W.calls writer.new) (W.faults writer.old) (W.faults writer.new) result }
+{
+    match read_request(alloc, routes, reader) {
+        Asked::Request(request) => {
+            let reply = office.handle(&request);
+            answer(writer, &reply, None, false)
+        }
+        Asked::Fails {
+            check,
+            route,
+            is_head,
+        } => answer(writer, &check_reply(check), route, is_head),
+        Asked::NoMemory { is_head } => answer(writer, &no_memory(), None, is_head),
+        Asked::ReadFailed => ConnEnd::ReadFailed,
+    }
+}
