@@ -9,6 +9,7 @@ pub mod PhraseLemmas
 pub mod ResponseLemmas
 pub mod SendingLemmas
 pub mod StoryLemmas
+pub mod HeadlineLemmas
 pub mod LawLemmas
 pub mod ServingLemmas
 pub mod RunLemmas

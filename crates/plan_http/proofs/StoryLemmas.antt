@@ -1,8 +1,8 @@
 -- From connections to requests, and back.
-use Rattle.std.proofs.Common.{◌≡◌, ◌⊎◌, Bool, true, false, List, [], ◌∷◌, map, Option, None, Some, inl, inr, refl, sym, ap, ◌∙◌, subst, codes}
+use Rattle.std.proofs.Common.{◌≡◌, ◌⊎◌, Bool, true, false, List, [], ◌∷◌, map, Option, None, Some, inl, inr, refl, sym, ap, ◌∙◌, subst}
 use Rattle.plan_desk.specs.World.{Text, World}
 use Rattle.plan_desk.specs.Views.{View, view, alone, Agree}
-use Rattle.plan_desk.specs.Calls.{Request, Reply, refusal}
+use Rattle.plan_desk.specs.Calls.{Request, Reply}
 use Rattle.plan_desk.specs.Stories.{belongs, IsWant}
 use Rattle.plan_desk.specs.Decisions.{IsStep, IsRealStep, IsRun}
 use Rattle.plan_desk.specs.Decisions as desks
@@ -15,13 +15,15 @@ use Rattle.plan_http.specs.declared.checks.Check.TheVariants.{Message}
 use Rattle.plan_http.specs.Head.{after_head}
 use Rattle.plan_http.specs.Judges.{Verdict, asks, fails, judged, Judges, HasHeadMethod}
 use Rattle.plan_http.specs.Laws.{OneVerdict}
-use Rattle.plan_http.specs.Served.{answered, starved, IsHandled, IsFailed, IsStarved, IsServed, AreServed}
+use Rattle.plan_http.specs.Answers.{Decision, handled, failed, starved, IsOn, no_memory}
+use Rattle.plan_http.specs.Serving.{response_of}
+use Rattle.plan_http.specs.Served.{IsMove, AreServed}
 use Rattle.plan_http.specs.Stories.{belongs_to, IsWantText, IsOutside, IsInside, IsAnswered, AreTold, IsStoryOf, IsWanting}
 use Rattle.plan_http.proofs.LawLemmas.{one_verdict}
 
--- a response is that of a reply, or both are for want
-abbrev IsToldAs : Text → Reply → Type 0
-IsToldAs response reply = (response ≡ answered reply) ⊎ (IsWant reply × IsWantText response)
+-- a response is that of a reply to a request, or both are for want
+abbrev IsToldAs : Text → Request → Reply → Type 0
+IsToldAs response r reply = (response ≡ response_of (handled r reply)) ⊎ (IsWant reply × IsWantText response)
 
 -- connections spell these requests, in order, and the responses are those of the replies
 Spelled : List Text → List Text → List Request → List Reply → Type 0
@@ -29,7 +31,7 @@ Spelled [] [] requests replies = Unit {0}
 Spelled (bytes ∷ conns) (response ∷ responses) requests replies =
     ((check : Check) × (allow : Option Text) × (is_head : Bool) × Judges bytes (fails check allow is_head) × Spelled conns responses requests replies)
     ⊎ ((r : Request) × (reply : Reply) × (more : List Request) × (others : List Reply) × (requests ≡ r ∷ more) × (replies ≡ reply ∷ others)
-    × Judges bytes (asks r) × IsToldAs response reply × Spelled conns responses more others)
+    × Judges bytes (asks r) × IsToldAs response r reply × Spelled conns responses more others)
 Spelled conns responses requests replies = ⊥
 
 -- the run of requests in a run of connections
@@ -42,7 +44,7 @@ record HasRun (w : World) (conns responses : List Text) : Type 0 where
 
 -- one request more at the front
 with_request : (w mid : World) (bytes response : Text) (conns responses : List Text) (r : Request) (reply : Reply)
-    → Judges bytes (asks r) → IsRealStep w r reply mid → IsToldAs response reply → HasRun mid conns responses
+    → Judges bytes (asks r) → IsRealStep w r reply mid → IsToldAs response r reply → HasRun mid conns responses
     → HasRun w (bytes ∷ conns) (response ∷ responses)
 unfolding IsRun IsRealStep Spelled
 with_request w mid bytes response conns responses r reply spells step told rest = record {
@@ -66,52 +68,47 @@ with_failure w mid bytes response conns responses check allow is_head spells sam
       spelled = inl (check, allow, is_head, spells, rest.spelled);
     })
 
-no_memory : Reply
-no_memory = refusal 503 (codes "E90 memory")
-
 -- a connection on which memory ran out, whatever it spells
-with_starved : (w mid : World) (bytes response : Text) (conns responses : List Text) (verdict : Verdict) (is_head : Bool)
-    → Judges bytes verdict → response ≡ starved is_head → mid ≡ w → HasRun mid conns responses → HasRun w (bytes ∷ conns) (response ∷ responses)
-unfolding IsRealStep no_memory
-with_starved w mid bytes response conns responses (asks r) is_head spells told same rest =
-    with_request w mid bytes response conns responses r no_memory spells (inr (inl refl, same)) (inr (inl refl, inl (is_head, told))) rest
-with_starved w mid bytes response conns responses (fails check allow head) is_head spells told same rest =
-    with_failure w mid bytes response conns responses check allow head spells same rest
+with_starved : (w mid : World) (bytes : Text) (conns responses : List Text) (verdict : Verdict) (is_head : Bool)
+    → Judges bytes verdict → mid ≡ w → HasRun mid conns responses → HasRun w (bytes ∷ conns) (response_of (starved is_head) ∷ responses)
+unfolding IsRealStep
+with_starved w mid bytes conns responses (asks r) is_head spells same rest =
+    with_request w mid bytes (response_of (starved is_head)) conns responses r no_memory spells (inr (inl refl, same)) (inr (inl refl, inl (is_head, refl))) rest
+with_starved w mid bytes conns responses (fails check allow head) is_head spells same rest =
+    with_failure w mid bytes (response_of (starved is_head)) conns responses check allow head spells same rest
 
 -- each connection spells something
-spells : (bytes : Text) (is_head : Bool) → HasHeadMethod bytes is_head → (verdict : Verdict) × Judges bytes verdict
-spells bytes is_head (inl head) = (judged head.0 (after_head bytes head.0), inl (head.0, head.1, refl))
-spells bytes is_head (inr none) = (fails Message None false, inr (none.0, refl))
+spells_some : (bytes : Text) (is_head : Bool) → HasHeadMethod bytes is_head → (verdict : Verdict) × Judges bytes verdict
+spells_some bytes is_head (inl head) = (judged head.0 (after_head bytes head.0), inl (head.0, head.1, refl))
+spells_some bytes is_head (inr none) = (fails Message None false, inr (none.0, refl))
 
-one_more : (w mid : World) (bytes response : Text) (conns responses : List Text)
-    → IsServed w bytes response mid → HasRun mid conns responses → HasRun w (bytes ∷ conns) (response ∷ responses)
-one_more w mid bytes response conns responses (inl h) rest =
-    with_request w mid bytes response conns responses h.request h.reply h.spelled h.step (inl h.told) rest
-one_more w mid bytes response conns responses (inr (inl f)) rest =
-    with_failure w mid bytes response conns responses f.check f.allow f.is_head f.spelled f.same rest
-one_more w mid bytes response conns responses (inr (inr s)) rest =
-    let said = spells bytes s.is_head s.head in
-    with_starved w mid bytes response conns responses said.0 s.is_head said.1 s.told s.same rest
+one_more : (w mid : World) (bytes : Text) (conns responses : List Text) (d : Decision)
+    → IsOn bytes d → IsMove w d mid → HasRun mid conns responses → HasRun w (bytes ∷ conns) (response_of d ∷ responses)
+one_more w mid bytes conns responses (handled r reply) spells step rest =
+    with_request w mid bytes (response_of (handled r reply)) conns responses r reply spells step (inl refl) rest
+one_more w mid bytes conns responses (failed check allow is_head) spells same rest =
+    with_failure w mid bytes (response_of (failed check allow is_head)) conns responses check allow is_head spells same rest
+one_more w mid bytes conns responses (starved is_head) head same rest =
+    let said = spells_some bytes is_head head in with_starved w mid bytes conns responses said.0 is_head said.1 same rest
 
 -- a run of connections is one of requests
-has_run : (w : World) (conns responses : List Text) (after : World) → AreServed w conns responses after → HasRun w conns responses
+has_run : (w : World) (conns : List Text) (decisions : List Decision) (after : World) → AreServed w conns decisions after → HasRun w conns (map response_of decisions)
 unfolding IsRun Spelled
 has_run w [] [] after h = record { requests = []; replies = []; worlds = []; run = tt; spelled = tt }
-has_run w [] (response ∷ responses) after h = absurd h
+has_run w [] (d ∷ decisions) after h = absurd h
 has_run w (bytes ∷ conns) [] after h = absurd h
-has_run w (bytes ∷ conns) (response ∷ responses) after (mid, served, rest) =
-    one_more w mid bytes response conns responses served (has_run mid conns responses after rest)
+has_run w (bytes ∷ conns) (d ∷ decisions) after (mid, is_on, move, rest) =
+    one_more w mid bytes conns (map response_of decisions) d is_on move (has_run mid conns decisions after rest)
 
 -- a reply for want has the response for want
-want_text : (reply : Reply) (response : Text) → IsWant reply → IsToldAs response reply → IsWantText response
-want_text reply response (inl memory) (inl told) = inl (false, told ∙ ap answered memory)
-want_text reply response (inr store) (inl told) = inr (told ∙ ap answered store)
-want_text reply response want (inr (same, text)) = text
+want_text : (r : Request) (reply : Reply) (response : Text) → IsWant reply → IsToldAs response r reply → IsWantText response
+want_text r reply response want (inl told) = inr (r, reply, want, told)
+want_text r reply response want (inr (same, text)) = text
 
 -- what is told where a request is inside, by what is told behind it
 told_inside : (desk : Text) (v : View) (bytes response : Text) (conns responses : List Text) (r : Request) (reply : Reply) (after : World)
     → Judges bytes (asks r) → belongs desk v r ≡ true → IsStep (alone v) r reply after → AreTold desk (view desk after) conns responses
-    → IsToldAs response reply → AreTold desk v (bytes ∷ conns) (response ∷ responses)
+    → IsToldAs response r reply → AreTold desk v (bytes ∷ conns) (response ∷ responses)
 told_inside desk v bytes response conns responses r reply after spells inside step next (inl same) =
     inr (r, record { spelled = spells; inside = inside }, inr (after, record { reply = reply; step = step; told = same }, next))
 told_inside desk v bytes response conns responses r reply after spells inside step next (inr (want, text)) =
@@ -119,14 +116,14 @@ told_inside desk v bytes response conns responses r reply after spells inside st
 
 -- one connection that spells a request, by what is told behind it
 told_first : (desk : Text) (v : View) (bytes response : Text) (conns responses : List Text) (r : Request) (reply : Reply) (more : List Request) (others : List Reply)
-    → Judges bytes (asks r) → IsToldAs response reply
+    → Judges bytes (asks r) → IsToldAs response r reply
     → ((u : View) → desks.AreTold desk u more others → AreTold desk u conns responses)
     → desks.AreTold desk v (r ∷ more) (reply ∷ others) → AreTold desk v (bytes ∷ conns) (response ∷ responses)
 unfolding desks.AreTold IsStep
 told_first desk v bytes response conns responses r reply more others spells alike behind (inl (outside, next)) =
     inl (record { verdict = asks r; spelled = spells; outside = outside }, behind v next)
 told_first desk v bytes response conns responses r reply more others spells alike behind (inr (inside, inl want)) =
-    inr (r, record { spelled = spells; inside = inside }, inl (want_text reply response want alike))
+    inr (r, record { spelled = spells; inside = inside }, inl (want_text r reply response want alike))
 told_first desk v bytes response conns responses r reply more others spells alike behind (inr (inside, inr (after, step, next))) =
     told_inside desk v bytes response conns responses r reply after spells inside step (behind (view desk after) next) alike
 
@@ -144,12 +141,12 @@ lifted desk (bytes ∷ conns) (response ∷ responses) requests replies (inr (r,
       (subst (λ (list : List Reply). desks.AreTold desk v (r ∷ more) list) is_reply (subst (λ (list : List Request). desks.AreTold desk v list replies) is_r told))
 
 -- in every run of connections each desk is told what its story is told in an office of its own
-pub connections_are_apart : (desk : Text) (w : World) (conns responses : List Text) (after : World)
-    → AreServed w conns responses after → AreTold desk (view desk w) conns responses
+pub connections_are_apart : (desk : Text) (w : World) (conns : List Text) (decisions : List Decision) (after : World)
+    → AreServed w conns decisions after → AreTold desk (view desk w) conns (map response_of decisions)
 unfolding DesksAreApart
-connections_are_apart desk w conns responses after served =
-    let run = has_run w conns responses after served in
-    lifted desk conns responses run.requests run.replies run.spelled (view desk w)
+connections_are_apart desk w conns decisions after served =
+    let run = has_run w conns decisions after served in
+    lifted desk conns (map response_of decisions) run.requests run.replies run.spelled (view desk w)
       (desks_are_apart desk w run.requests run.replies run.worlds run.run)
 
 -- ---- two runs
@@ -160,29 +157,34 @@ Spells [] [] = Unit {0}
 Spells (bytes ∷ story) (r ∷ requests) = Judges bytes (asks r) × Spells story requests
 Spells story requests = ⊥
 
+-- the responses of replies to requests
+texts_of : List Request → List Reply → List Text
+texts_of (r ∷ requests) (reply ∷ replies) = response_of (handled r reply) ∷ texts_of requests replies
+texts_of requests replies = []
+
 -- the requests of a story, and the replies that it was told
 record HasRequests (desk : Text) (v : View) (story told : List Text) : Type 0 where
   requests : List Request
   replies : List Reply
   told_so : desks.IsStoryOf desk v requests replies requests replies
   spelled : Spells story requests
-  texts : told ≡ map answered replies
+  texts : told ≡ texts_of requests replies
 
 -- one connection more at the front of a story
 inside_first : (desk : Text) (v : View) (bytes response : Text) (more others : List Text) (r : Request) (after : World)
     → IsInside desk v bytes r → IsAnswered v r response after → HasRequests desk (view desk after) more others
     → HasRequests desk v (bytes ∷ more) (response ∷ others)
-unfolding desks.IsStoryOf IsStep Spells
+unfolding desks.IsStoryOf IsStep Spells texts_of
 inside_first desk v bytes response more others r after is answer rest = record {
   requests = r ∷ rest.requests;
   replies = answer.reply ∷ rest.replies;
   told_so = inr (is.inside, (rest.requests, rest.replies, refl, refl, (after, answer.step, rest.told_so)));
   spelled = (is.spelled, rest.spelled);
-  texts = ap (λ (t : Text). t ∷ others) answer.told ∙ ap (λ (list : List Text). answered answer.reply ∷ list) rest.texts;
+  texts = ap (λ (t : Text). t ∷ others) answer.told ∙ ap (λ (list : List Text). response_of (handled r answer.reply) ∷ list) rest.texts;
 }
 
 has_requests : (desk : Text) (v : View) (conns responses story told : List Text) → IsStoryOf desk v conns responses story told → HasRequests desk v story told
-unfolding desks.IsStoryOf Spells
+unfolding desks.IsStoryOf Spells texts_of
 has_requests desk v [] [] story told (none, nothing) =
     subst (λ (list : List Text). HasRequests desk v list told) (sym none) (subst (λ (list : List Text). HasRequests desk v [] list) (sym nothing) (record { requests = []; replies = []; told_so = (refl, refl); spelled = tt; texts = refl }))
 has_requests desk v [] (response ∷ responses) story told h = absurd h
@@ -224,7 +226,7 @@ connections_are_told_alike desk v u conns responses others answers story told gi
     let same : a.requests ≡ b.requests = spelled_once story a.requests b.requests a.spelled b.spelled in
     let first : desks.IsStoryOf desk v a.requests a.replies b.requests a.replies = subst (λ (list : List Request). desks.IsStoryOf desk v a.requests a.replies list a.replies) same a.told_so in
     let alike : a.replies ≡ b.replies = agreeing_views_are_told_alike desk v u a.requests a.replies b.requests b.replies b.requests a.replies b.replies good fine agree first b.told_so in
-    a.texts ∙ ap (map answered) alike ∙ sym b.texts
+    a.texts ∙ ap (λ (list : List Request). texts_of list a.replies) same ∙ ap (λ (list : List Reply). texts_of b.requests list) alike ∙ sym b.texts
 
 -- what a desk is told has a story, unless a connection of the story was answered for want
 pub story_or_want : (desk : Text) (v : View) (conns responses : List Text) → AreTold desk v conns responses

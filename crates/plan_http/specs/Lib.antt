@@ -7,6 +7,7 @@ pub mod BodyPieces
 pub mod Routes
 pub mod Served
 pub mod Stories
+pub mod Headline
 pub mod Targets
 pub mod Judges
 pub mod Asked

@@ -1,12 +1,13 @@
 -- What of a run of connections belongs to one desk (docs/DEFINITIONS.md, "Connections").
-use Rattle.std.specs.Prelude.{◌≡◌, ◌⊎◌, Bool, true, false, List, [], ◌∷◌, codes}
+use Rattle.std.specs.Prelude.{◌≡◌, ◌⊎◌, Bool, true, false, List, [], ◌∷◌}
 use Rattle.plan_desk.specs.World.{Text, World}
 use Rattle.plan_desk.specs.Views.{View, view, alone}
-use Rattle.plan_desk.specs.Calls.{Request, Reply, refusal}
-use Rattle.plan_desk.specs.Stories.{belongs}
+use Rattle.plan_desk.specs.Calls.{Request, Reply}
+use Rattle.plan_desk.specs.Stories.{belongs, IsWant}
 use Rattle.plan_desk.specs.Decisions.{IsStep}
 use Rattle.plan_http.specs.Judges.{Verdict, asks, fails, Judges}
-use Rattle.plan_http.specs.Served.{answered, starved}
+use Rattle.plan_http.specs.Answers.{Decision, handled, starved}
+use Rattle.plan_http.specs.Serving.{response_of}
 
 -- a connection belongs to the desk's story where it spells a request of it
 abbrev pub belongs_to : Text → View → Verdict → Bool
@@ -15,7 +16,8 @@ belongs_to desk v (fails check allow is_head) = false
 
 -- a response for want of memory, or by the store
 abbrev pub IsWantText : Text → Type 0
-IsWantText response = ((is_head : Bool) × (response ≡ starved is_head)) ⊎ (response ≡ answered (refusal 507 (codes "E91 store")))
+IsWantText response = ((is_head : Bool) × (response ≡ response_of (starved is_head)))
+    ⊎ ((r : Request) × (reply : Reply) × IsWant reply × (response ≡ response_of (handled r reply)))
 
 -- it spells nothing that belongs to the desk
 pub record IsOutside (desk : Text) (v : View) (bytes : Text) : Type 0 where
@@ -32,7 +34,7 @@ pub record IsInside (desk : Text) (v : View) (bytes : Text) (r : Request) : Type
 pub record IsAnswered (v : View) (r : Request) (response : Text) (after : World) : Type 0 where
   pub reply : Reply
   pub step : IsStep (alone v) r reply after
-  pub told : response ≡ answered reply
+  pub told : response ≡ response_of (handled r reply)
 
 -- A connection that doesn't belong to the desk is passed over. One that does is answered as in an
 -- office that has the rows of the view and no others, or for want, and then no more is said.
