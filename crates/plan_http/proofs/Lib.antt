@@ -8,6 +8,8 @@ pub mod JudgingLemmas
 pub mod PhraseLemmas
 pub mod ResponseLemmas
 pub mod SendingLemmas
+pub mod StoryLemmas
+pub mod HeadlineLemmas
 pub mod LawLemmas
 pub mod ServingLemmas
 pub mod RunLemmas

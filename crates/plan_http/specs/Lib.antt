@@ -5,6 +5,9 @@ pub mod Checks
 pub mod Lengths
 pub mod BodyPieces
 pub mod Routes
+pub mod Served
+pub mod Stories
+pub mod Headline
 pub mod Targets
 pub mod Judges
 pub mod Asked

@@ -7,6 +7,7 @@ mod calls;
 mod checks;
 mod fields;
 mod head;
+mod headline;
 mod laws;
 mod lengths;
 mod line;
@@ -18,6 +19,7 @@ mod serving;
 
 pub use asking::{Asked, read_request};
 pub use checks::Check;
+pub use headline::{TwoRuns, serve_two_worlds};
 pub use laws::{one_verdict, served_desks_are_apart, some_verdict};
 pub use response::{respond, response_bytes};
 pub use routes::{Route, Routes};

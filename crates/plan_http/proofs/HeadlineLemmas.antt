@@ -1,0 +1,216 @@
+-- From two runs of an office to what a desk is told in them.
+use Rattle.std.proofs.Common.{◌≡◌, ◌⊎◌, ℕ, zero, suc, ◌≤◌, List, [], ◌∷◌, ◌++◌, map, length, take, Result, Ok, Err, OnOk, OnErr, inl, inr, refl, sym, ap, ◌∙◌, subst, arith}
+use Rattle.plan_desk.specs.World.{Text, World}
+use Rattle.plan_desk.specs.Views.{View, view, alone, Agree}
+use Rattle.plan_desk.specs.Calls.{Request, Reply, subject}
+use Rattle.plan_desk.specs.Stories.{IsWant}
+use Rattle.plan_desk.specs.Decisions.{IsStep, IsRealStep, IsDecision}
+use Rattle.plan_desk.specs.Rules.{IsWorld}
+use Rattle.plan_desk.specs.Laws.{AloneKeepsRules}
+use Rattle.plan_desk.specs.Promises.{IsPromised, PagesArePromised}
+use Rattle.plan_desk.specs.Books.{Shelf}
+use Rattle.plan_desk.specs.Deciding.{Handled}
+use Rattle.plan_desk.proofs.AloneLemmas.{alone_keeps_rules}
+use Rattle.plan_desk.proofs.PromiseLemmas.{pages_are_promised}
+use Rattle.plan_http.specs.declared.runs.RunFault.{RunFault}
+use Rattle.plan_http.specs.Judges.{asks, Judges}
+use Rattle.plan_http.specs.Answers.{Decision, handled, failed, starved, IsOn}
+use Rattle.plan_http.specs.Serving.{Moves, Serving, Stops, response_of}
+use Rattle.plan_http.specs.Served.{IsMove, AreServed}
+use Rattle.plan_http.specs.Stories.{IsInside, IsAnswered, AreTold, IsStoryOf}
+use Rattle.plan_http.specs.Headline.{answered_of, ArePromised, HasStory, IsToldOrWanting, Alike}
+use Rattle.plan_http.proofs.StoryLemmas.{connections_are_apart, connections_are_told_alike, story_or_want}
+
+module _ {B : Type 0} (shelf : Shelf B) where
+  -- a disk that has returned what was written, returned it before
+  moved_honest : (old new : B) (d : Decision) → Moves shelf old new d → shelf.honest new → shelf.honest old
+  moved_honest old new (handled r reply) h honest = h.honesty honest
+  moved_honest old new (failed check allow is_head) h honest = subst shelf.honest h honest
+  moved_honest old new (starved is_head) h honest = subst shelf.honest h honest
+
+  served_honest : (old new : B) (conns : List Text) (decisions : List Decision) → Serving shelf old conns decisions new → shelf.honest new → shelf.honest old
+  served_honest old new [] [] h honest = subst shelf.honest h honest
+  served_honest old new [] (d ∷ decisions) h honest = absurd h
+  served_honest old new (bytes ∷ conns) [] h honest = absurd h
+  served_honest old new (bytes ∷ conns) (d ∷ decisions) (middle, is_on, moves, rest) honest =
+      moved_honest old middle d moves (served_honest middle new conns decisions rest honest)
+
+  -- rows that a book has where it can be seen
+  abbrev Follows : B → World → Type 0
+  Follows book w = shelf.stands book → shelf.world book ≡ w
+
+  -- the rows that follow a decision
+  record Follow (old new : B) (w : World) (d : Decision) : Type 0 where
+    after : World
+    move : IsMove w d after
+    follows : Follows new after
+
+  follow_handled : (old new : B) (w : World) (r : Request) (reply : Reply) → Follows old w → Handled shelf old new r reply → shelf.honest new
+      → (shelf.stands new × IsStep (shelf.world old) r reply (shelf.world new)) ⊎ (IsWant reply × (shelf.stands new → shelf.world new ≡ shelf.world old))
+      → Follow old new w (handled r reply)
+  unfolding IsRealStep IsStep
+  follow_handled old new w r reply follows h honest (inl (stands, step)) =
+      let same : shelf.world old ≡ w = follows (h.stood honest stands) in
+      record {
+        after = shelf.world new;
+        move = inl (subst (λ (u : World). IsStep u r reply (shelf.world new)) same step);
+        follows = λ s. refl;
+      }
+  follow_handled old new w r reply follows h honest (inr (want, still)) = record {
+    after = w;
+    move = inr (want, refl);
+    follows = λ stands. still stands ∙ follows (h.stood honest stands);
+  }
+
+  follow : (old new : B) (w : World) (d : Decision) → Follows old w → Moves shelf old new d → shelf.honest new → Follow old new w d
+  follow old new w (handled r reply) follows h honest = follow_handled old new w r reply follows h honest (h.step honest)
+  follow old new w (failed check allow is_head) follows same honest = record {
+    after = w;
+    move = refl;
+    follows = subst (λ (b : B). Follows b w) (sym same) follows;
+  }
+  follow old new w (starved is_head) follows same honest = record {
+    after = w;
+    move = refl;
+    follows = subst (λ (b : B). Follows b w) (sym same) follows;
+  }
+
+  -- a run over a book is one of rows
+  served_from : (old new : B) (w : World) (conns : List Text) (decisions : List Decision) → Follows old w → Serving shelf old conns decisions new
+      → shelf.honest new → (after : World) × AreServed w conns decisions after
+  served_from old new w [] [] follows h honest = (w, refl)
+  served_from old new w [] (d ∷ decisions) follows h honest = absurd h
+  served_from old new w (bytes ∷ conns) [] follows h honest = absurd h
+  served_from old new w (bytes ∷ conns) (d ∷ decisions) follows (middle, is_on, moves, rest) honest =
+      let next = follow old middle w d follows moves (served_honest middle new conns decisions rest honest) in
+      let behind = served_from middle new next.after conns decisions next.follows rest honest in
+      (behind.0, (next.after, is_on, next.move, behind.1))
+
+  -- what is known of a run when it ends, whole or not
+  pub record Ran (old new : B) (conns responses : List Text) : Type 0 where
+    pub count : ℕ
+    pub within : count ≤ length conns
+    pub decisions : List Decision
+    pub last : B
+    pub served : Serving shelf old (take count conns) decisions last
+    pub honesty : shelf.honest new → shelf.honest last
+    pub responses_are : responses ≡ map response_of decisions
+
+-- a list taken as far as it goes
+take_all : {A : Type 0} (xs : List A) → take (length xs) xs ≡ xs
+take_all [] = refl
+take_all (x ∷ xs) = ap (λ list. x ∷ list) (take_all xs)
+
+-- one decision for each connection
+one_each : {B : Type 0} (shelf : Shelf B) (old new : B) (conns : List Text) (decisions : List Decision) → Serving shelf old conns decisions new
+    → length (map response_of decisions) ≡ length conns
+one_each shelf old new [] [] h = refl
+one_each shelf old new [] (d ∷ decisions) h = absurd h
+one_each shelf old new (bytes ∷ conns) [] h = absurd h
+one_each shelf old new (bytes ∷ conns) (d ∷ decisions) (middle, is_on, moves, rest) = ap suc (one_each shelf middle new conns decisions rest)
+
+taken_length : {A : Type 0} (n : ℕ) (xs : List A) → n ≤ length xs → length (take n xs) ≡ n
+taken_length zero xs within = refl
+taken_length (suc n) [] within = absurd (omega (arith, within))
+taken_length (suc n) (x ∷ xs) within = ap suc (taken_length n xs (omega (arith, within)))
+
+-- a run that ended whole
+ran_whole : {B : Type 0} (shelf : Shelf B) (old new : B) (conns responses : List Text)
+    → ((decisions : List Decision) × Serving shelf old conns decisions new × (responses ≡ [] ++ map response_of decisions)) → Ran shelf old new conns responses
+ran_whole shelf old new conns responses (decisions, serving, are) = record {
+  count = length conns;
+  within = omega arith;
+  decisions = decisions;
+  last = new;
+  served = subst (λ (list : List Text). Serving shelf old list decisions new) (sym (take_all conns)) serving;
+  honesty = λ honest. honest;
+  responses_are = are;
+}
+
+stopped_honest : {B : Type 0} (shelf : Shelf B) (old new : B) (conns : List Text) (decisions : List Decision) (s : Stops shelf old new conns decisions)
+    → shelf.honest new → shelf.honest s.middle
+stopped_honest shelf old new conns decisions s honest = elim s.last [
+  | inl same ↦ subst shelf.honest same honest
+  | inr more ↦ moved_honest shelf s.middle new more.1.0 more.1.2 honest
+]
+
+-- a run that memory stopped
+ran_short : {B : Type 0} (shelf : Shelf B) (old new : B) (conns responses : List Text)
+    → ((decisions : List Decision) × Stops shelf old new conns decisions × (responses ≡ [] ++ map response_of decisions)) → Ran shelf old new conns responses
+ran_short shelf old new conns responses (decisions, stops, are) = record {
+  count = stops.answered;
+  within = stops.within;
+  decisions = decisions;
+  last = stops.middle;
+  served = stops.served;
+  honesty = stopped_honest shelf old new conns decisions stops;
+  responses_are = are;
+}
+
+-- a run, however it ended
+pub ran : {B : Type 0} (shelf : Shelf B) (old new : B) (conns out responses : List Text) (r : Result (Unit {0}) RunFault) → out ≡ []
+    → OnOk r ((decisions : List Decision) × Serving shelf old conns decisions new × (responses ≡ out ++ map response_of decisions))
+    → OnErr r ((decisions : List Decision) × Stops shelf old new conns decisions × (responses ≡ out ++ map response_of decisions))
+    → Ran shelf old new conns responses
+ran shelf old new conns out responses (Ok x) none ok err = ran_whole shelf old new conns responses
+    (subst (λ (list : List Text). (decisions : List Decision) × Serving shelf old conns decisions new × (responses ≡ list ++ map response_of decisions)) none ok)
+ran shelf old new conns out responses (Err e) none ok err = ran_short shelf old new conns responses
+    (subst (λ (list : List Text). (decisions : List Decision) × Stops shelf old new conns decisions × (responses ≡ list ++ map response_of decisions)) none err)
+
+-- what a desk is told in a run
+told_in_run : {B : Type 0} (shelf : Shelf B) (old new : B) (conns responses : List Text) (desk : Text) → Ran shelf old new conns responses → shelf.honest new
+    → AreTold desk (view desk (shelf.world old)) (answered_of conns responses) responses
+told_in_run shelf old new conns responses desk ran honest =
+    let served = served_from shelf old ran.last (shelf.world old) (take ran.count conns) ran.decisions (λ s. refl) ran.served (ran.honesty honest) in
+    let told : AreTold desk (view desk (shelf.world old)) (take ran.count conns) (map response_of ran.decisions) =
+    connections_are_apart desk (shelf.world old) (take ran.count conns) ran.decisions served.0 served.1 in
+    let long : length responses ≡ ran.count =
+    ap (λ (list : List Text). length list) ran.responses_are ∙ one_each shelf old ran.last (take ran.count conns) ran.decisions ran.served ∙ taken_length ran.count conns ran.within in
+    subst (λ (n : ℕ). AreTold desk (view desk (shelf.world old)) (take n conns) responses) (sym long)
+      (subst (λ (list : List Text). AreTold desk (view desk (shelf.world old)) (take ran.count conns) list) (sym ran.responses_are) told)
+
+-- each reply of a story is what it promises
+promised_step : (v : View) (r : Request) (reply : Reply) (after : World) → IsStep (alone v) r reply after → reply.status ≡ 200
+    → IsPromised (view (subject r) (alone v)) r.call reply.body
+unfolding IsStep IsDecision PagesArePromised
+promised_step v r reply after (change, decided, is) good = pages_are_promised (view (subject r) (alone v)) r reply change decided good
+
+promised_first : (desk : Text) (v : View) (bytes response : Text) (more others : List Text) (r : Request) (after : World)
+    → IsInside desk v bytes r → IsAnswered v r response after → ArePromised desk (view desk after) more others → ArePromised desk v (bytes ∷ more) (response ∷ others)
+promised_first desk v bytes response more others r after is answer rest =
+    (r, answer.reply, after, is.spelled, answer.step, answer.told, (λ good. promised_step v r answer.reply after answer.step good), rest)
+
+all_promised : (desk : Text) (v : View) (conns responses story told : List Text) → IsStoryOf desk v conns responses story told → ArePromised desk v story told
+all_promised desk v [] [] story told (none, nothing) =
+    subst (λ (list : List Text). ArePromised desk v list told) (sym none) (subst (λ (list : List Text). ArePromised desk v [] list) (sym nothing) tt)
+all_promised desk v [] (response ∷ responses) story told h = absurd h
+all_promised desk v (bytes ∷ conns) [] story told h = absurd h
+all_promised desk v (bytes ∷ conns) (response ∷ responses) story told (inl (outside, rest)) = all_promised desk v conns responses story told rest
+all_promised desk v (bytes ∷ conns) (response ∷ responses) story told (inr (r, is, (more, others, is_story, is_told, (after, answer, rest)))) =
+    subst (λ (list : List Text). ArePromised desk v list told) (sym is_story) (subst (λ (list : List Text). ArePromised desk v (bytes ∷ more) list) (sym is_told)
+      (promised_first desk v bytes response more others r after is answer (all_promised desk (view desk after) conns responses more others rest)))
+
+-- a story, or want
+told_or_wanting : (desk : Text) (v : View) (conns responses : List Text) → AreTold desk v conns responses → IsToldOrWanting desk v conns responses
+told_or_wanting desk v conns responses told = elim (story_or_want desk v conns responses told) [
+  | inl found ↦ inl (found.0, found.1, record { told_so = found.2; promised = all_promised desk v conns responses found.0 found.1 found.2 })
+  | inr want ↦ inr want
+]
+
+-- the view of a desk in an office whose rows keep their rules keeps them
+alone_good : (desk : Text) (w : World) → IsWorld w → IsWorld (alone (view desk w))
+unfolding AloneKeepsRules
+alone_good desk w good = alone_keeps_rules desk w good
+
+-- two runs
+pub told_alike : {A B : Type 0} (first : Shelf A) (second : Shelf B) (a left : A) (b right : B) (conns responses others answers : List Text)
+    → Ran first a left conns responses → Ran second b right others answers → first.honest left → second.honest right
+    → IsWorld (first.world a) → IsWorld (second.world b) → (desk : Text) → Agree (view desk (first.world a)) (view desk (second.world b))
+    → Alike first second a b conns responses others answers desk
+told_alike first second a left b right conns responses others answers ran also honest true_too good fine desk agree = record {
+  first_told = told_or_wanting desk (view desk (first.world a)) (answered_of conns responses) responses (told_in_run first a left conns responses desk ran honest);
+  second_told = told_or_wanting desk (view desk (second.world b)) (answered_of others answers) answers (told_in_run second b right others answers desk also true_too);
+  equal = λ story told given h k.
+    connections_are_told_alike desk (view desk (first.world a)) (view desk (second.world b)) (answered_of conns responses) responses (answered_of others answers) answers
+      story told given (alone_good desk (first.world a) good) (alone_good desk (second.world b) fine) agree h k;
+}
