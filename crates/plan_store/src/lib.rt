@@ -1,0 +1,4 @@
+//! The tables of an office in SQLite.
+#![tactic(auto)]
+
+mod running;
