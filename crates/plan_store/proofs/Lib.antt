@@ -4,3 +4,6 @@ pub mod WriteMeanings
 pub mod EditLemmas
 pub mod EffectLemmas
 pub mod TransactionLemmas
+pub mod KeepLemmas
+pub mod CodecLemmas
+pub mod TableLemmas

@@ -1,5 +1,6 @@
 -- How the rows of a table in SQL keep a list of rows (docs/DEFINITIONS.md, "Tables").
 use Rattle.std.specs.Prelude.{◌≡◌, ℤ, List, ◌∷◌, map}
+use Rattle.std.specs.List.{AllByRecursion}
 use Rattle.sqlite_value.specs.declared.value.Value.TheVariants.{Int}
 use Rattle.sqlite_value.specs.Order.{Row}
 use Rattle.sqlite_keyed.specs.Keyed.{IsKeyedBy}
@@ -13,4 +14,4 @@ pub record Keeps {A : Type 0} (written : A → Row) (read : Row → A) (rows : L
   pub entries : List (ℤ × A)
   pub are : rows ≡ map (row_at written) entries
   pub rise : IsKeyedBy (λ entry. entry.0) entries
-  pub back : map read rows ≡ map (λ entry. entry.1) entries
+  pub back : AllByRecursion (λ entry. read (row_at written entry) ≡ entry.1) entries

@@ -1,3 +1,6 @@
 pub mod Tables
 pub mod Kept
+pub mod Rows
+pub mod Stores
 pub mod Running
+pub mod Serving
