@@ -7,3 +7,5 @@ pub mod TransactionLemmas
 pub mod KeepLemmas
 pub mod CodecLemmas
 pub mod TableLemmas
+pub mod StepLemmas
+pub mod StatementLemmas
