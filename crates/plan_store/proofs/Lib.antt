@@ -9,3 +9,4 @@ pub mod CodecLemmas
 pub mod TableLemmas
 pub mod StepLemmas
 pub mod StatementLemmas
+pub mod ServingLemmas

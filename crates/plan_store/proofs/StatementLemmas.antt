@@ -75,7 +75,6 @@ lags_alike desk n source target a b p q =
 -- ---- the statements
 
 module _ (old new : State) (has : old.now.schema ≡ store_schema) (held : HoldRows old.now.trees) (count : ℕ) where
-
   pub publishes : (row : Published) → Executes publish_text (Text row.code ∷ Text (kind_text row.kind) ∷ number_value row.capacity ∷ []) old new (Ok count) → Steps old new (λ w. record w { published = w.published ++ row ∷ [] })
   publishes row h =
       let given = Text row.code ∷ Text (kind_text row.kind) ∷ number_value row.capacity ∷ [] in

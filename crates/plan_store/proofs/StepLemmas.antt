@@ -22,7 +22,6 @@ pub record Steps (old new : State) (change : World → World) : Type 0 where
   pub sound : IsDatabase new.now
 
 module _ (old new : State) (held : HoldRows old.now.trees) (was_open : IsTrue old.is_open) (sound : IsDatabase new.now) where
-
   pub code_inserted : (row : Published) → ((n : ℤ) → read_code (row_at written_code (n, row)) ≡ row)
       → Sets store_schema 1 (with_row written_code read_code held.published row) old.now.trees new.now → Steps old new (λ w. record w { published = w.published ++ row ∷ [] })
   code_inserted row good it = record {

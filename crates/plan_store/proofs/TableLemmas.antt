@@ -15,7 +15,6 @@ meta_kept : (a b : List Row) → b ≡ a → a ≡ meta_row (office_in a) ∷ []
 meta_kept a b e h = subst (λ l. l ≡ meta_row (office_in l) ∷ []) (sym e) h
 
 module _ {old : Trees} {after : Database} (rows : List Row) (held : HoldRows old) where
-
   module _ (it : Sets store_schema 1 rows old after) where
     pub code_rows : Keeps written_code read_code rows → HoldRows after.trees
     code_rows kept =

@@ -26,10 +26,10 @@ survives_on a b c = survives_then a b c (λ _. ⊥) (λ _. ⊥) (λ _. ⊥) (λ 
 
 module _ {S : Type 0} (g : Ghosts S) (statements : List (Bor (List ℕ) × Bor (List ValueRef))) (i : ℕ) where
   -- one statement more, and then those behind it
-  pub ran_more : (d : Bor (List ℕ) × Bor (List ValueRef)) → i < length statements → (now next last : Held S) (count : ℕ)
+  pub ran_more : (d : Bor (List ℕ) × Bor (List ValueRef)) → i < length statements → (now next last : Held S) (count : ℕ) → IsTrue (state g now).is_open
       → Executes (get_or statements i d).0.now (bound (get_or statements i d).1.now) (state g now) (state g next) (Ok count)
       → RanAll g (map said (drop (i + 1) statements)) next last → RanAll g (map said (drop i statements)) now last
-  ran_more d low now next last count ran more = subst (λ l. RanAll g (map said l) now last) (sym (drop_more statements i d low)) (next, count, ran, more)
+  ran_more d low now next last count live ran more = subst (λ l. RanAll g (map said l) now last) (sym (drop_more statements i d low)) (next, count, live, ran, more)
 
   pub none_left : length statements ≤ i → (now : Held S) → RanAll g (map said (drop i statements)) now now
   none_left past now = subst (λ l. RanAll g (map said l) now now) (sym (drop_all i statements past)) refl

@@ -1,5 +1,5 @@
 -- Statements that are run in one transaction (docs/DEFINITIONS.md, "Tables").
-use Rattle.std.specs.Prelude.{◌≡◌, ℕ, true, List, [], ◌∷◌, Ok}
+use Rattle.std.specs.Prelude.{◌≡◌, ℕ, true, List, [], ◌∷◌, Ok, IsTrue}
 use Rattle.std.specs.Borrow.{Bor}
 use Rattle.sqlite_value.specs.declared.value.ValueRef.{ValueRef}
 use Rattle.sqlite_value.specs.Order.{Row}
@@ -7,8 +7,10 @@ use Rattle.sqlite_trees.specs.declared.store.Store.{Ghosts}
 use Rattle.sqlite_trees.specs.Tree.{Trees}
 use Rattle.sqlite.specs.Values.{bound}
 use Rattle.sqlite.specs.Effect.{Database}
-use Rattle.sqlite.specs.State.{Executes}
+use Rattle.sqlite.specs.State.{Executes, HasCleanDisk}
 use Rattle.sqlite.specs.Held.{Held, state}
+use Rattle.plan_desk.specs.World.{World}
+use Rattle.plan_store.specs.Stores.{world_of, IsStore}
 
 -- a text, and the values of its parameters
 abbrev pub Statement : Type 0
@@ -17,12 +19,12 @@ Statement = List ℕ × Row
 abbrev pub said : Bor (List ℕ) × Bor (List ValueRef) → Statement
 said s = (s.0.now, bound s.1.now)
 
--- each statement ran, one after another
+-- each statement ran on an open connection, one after another
 abbrev pub RanAll : {S : Type 0} → Ghosts S → List Statement → Held S → Held S → Type 0
 RanAll g [] old new = new ≡ old
 RanAll {S} g (s ∷ more) old new =
-    (mid : Held S) × (count : ℕ) × Executes s.0 s.1 (state g old) (state g mid) (Ok count)
-    × RanAll g more mid new
+    (mid : Held S) × (count : ℕ) × IsTrue (state g old).is_open
+    × Executes s.0 s.1 (state g old) (state g mid) (Ok count) × RanAll g more mid new
 
 -- what a transaction of them leaves
 abbrev pub LeavesAll : {S : Type 0} → Ghosts S → List Statement → Held S → Database → Type 0
@@ -34,3 +36,10 @@ LeavesAll {S} g statements old db =
 abbrev pub MayMake : {S : Type 0} → Ghosts S → List Statement → Held S → Trees → Type 0
 MayMake g statements old trees =
     (db : Database) × LeavesAll g statements old db × (trees ≡ db.trees)
+
+-- A transaction of them makes this change of the office, on tables that hold one.
+abbrev pub Makes : {S : Type 0} → Ghosts S → List Statement → Held S → (World → World) → Type 0
+Makes g statements old change =
+    HasCleanDisk (state g old) → (db : Database) → LeavesAll g statements old db
+    → IsTrue (state g old).is_open × IsStore db
+    × (world_of db.trees ≡ change (world_of (state g old).now.trees))

@@ -1,4 +1,5 @@
 //! The tables of an office in SQLite.
 #![tactic(auto)]
 
+mod fault;
 mod running;

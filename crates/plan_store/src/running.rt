@@ -3,8 +3,12 @@
 ghost use Rattle.std.specs.Prelude.{◌≡◌, false, map, IsTrue, OnOk, OnErr};
 ghost use Rattle.sqlite.specs.State.{HasCleanDisk, KeepsCommit, Survives};
 ghost use Rattle.sqlite.specs.Held.{state};
-ghost use Rattle.plan_store.specs.Running.{said, RanAll, LeavesAll, MayMake};
+ghost use Rattle.plan_desk.specs.World.{World};
+ghost use Rattle.plan_store.specs.Running.{said, RanAll, LeavesAll, MayMake, Makes};
+ghost use Rattle.plan_store.specs.Serving.{IsReady, Changes};
 
+use crate::fault::fault_of;
+use plan_desk::BookFault;
 use sqlite::types::ValueRef;
 use sqlite::{Alter, Connection, Error, Transaction};
 
@@ -43,4 +47,18 @@ pub fn run_all<S: Alter>(
     let mut tx = conn.transaction();
     run_in_turn(&mut tx, statements)?;
     tx.commit()
+}
+
+/// Makes a change of the office by statements in one transaction, whatever change they make.
+pub fn transact<S: Alter>(
+    conn: &mut Connection<S>,
+    statements: &[(&str, &[ValueRef<'_>])],
+) -> Result<(), BookFault>
+    requires ready { IsReady (state S.Store conn.old) }
+    ensures { (change : World → World) → Makes S.Store (map said statements.now) conn.old change → Changes (state S.Store conn.old) (state S.Store conn.new) result change }
+{
+    match run_all(conn, statements) {
+        Ok(()) => Ok(()),
+        Err(error) => Err(fault_of(&error)),
+    }
 }
