@@ -10,3 +10,4 @@ pub mod TableLemmas
 pub mod StepLemmas
 pub mod StatementLemmas
 pub mod ServingLemmas
+pub mod AskingLemmas

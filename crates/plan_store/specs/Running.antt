@@ -9,6 +9,10 @@ use Rattle.sqlite.specs.Values.{bound}
 use Rattle.sqlite.specs.Effect.{Database}
 use Rattle.sqlite.specs.State.{Executes, HasCleanDisk}
 use Rattle.sqlite.specs.Held.{Held, state}
+use Rattle.sqlite_schema.specs.declared.command.Command.{Command}
+use Rattle.sqlite.proofs.Callers.{command_of}
+use Rattle.sqlite.specs.Listing.{understood}
+use Rattle.plan_store.specs.Tables.{store_schema}
 use Rattle.plan_desk.specs.World.{World}
 use Rattle.plan_store.specs.Stores.{world_of, IsStore}
 
@@ -43,3 +47,7 @@ Makes g statements old change =
     HasCleanDisk (state g old) → (db : Database) → LeavesAll g statements old db
     → IsTrue (state g old).is_open × IsStore db
     × (world_of db.trees ≡ change (world_of (state g old).now.trees))
+
+-- what a text means under the schema of a store
+abbrev pub meaning_of : List ℕ → Command
+meaning_of text = command_of (understood store_schema text)

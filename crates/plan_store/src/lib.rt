@@ -1,5 +1,6 @@
 //! The tables of an office in SQLite.
 #![tactic(auto)]
 
+mod asking;
 mod fault;
 mod running;
