@@ -11,3 +11,4 @@ pub mod StepLemmas
 pub mod StatementLemmas
 pub mod ServingLemmas
 pub mod AskingLemmas
+pub mod QueryLemmas

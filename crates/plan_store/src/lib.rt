@@ -2,5 +2,6 @@
 #![tactic(auto)]
 
 mod asking;
+mod cells;
 mod fault;
 mod running;
