@@ -154,3 +154,14 @@ pub read_from : (sql text : List ℕ) (params : Row) (old mid new : State) → s
 read_from sql text params old mid new is same has plain ours rows h =
     subst (λ (d : Database). Reads (command_of (understood store_schema text)) d params rows) same
     (reads_as text params mid new store_schema has (command_of (understood store_schema text)) refl plain ours rows (subst (λ t. Shown t params mid new rows) is h))
+
+-- what is known of an answer, said otherwise
+pub asks_map : (old new : State) → IsReady old → {X : Type 0} (r : Result X BookFault) (Is Other : X → Type 0) → ((x : X) → Stands old → Is x → Other x) → Asks old new r Is → Asks old new r Other
+asks_map old new ready r Is Other f it = asks_again old new r Is r Other it (if_ok r (λ x h clean.
+    let live = (it.same clean (h clean).0).0 in
+    ((h clean).0, f x (ready.stands (it.honesty clean) live) (h clean).1)) it.answer)
+
+-- what is made of the rows of an answer
+pub asks_made : (old new : State) {X Y : Type 0} (x : X) (Is : X → Type 0) (q : Result Y BookFault) (Other : Y → Type 0) (Made : Y → Type 0)
+    → ((y : Y) → Is x → Made y → Other y) → Asks old new (Ok x) Is → IfOk q Made → Asks old new q Other
+asks_made old new x Is q Other Made f it made = asks_again old new (Ok x) Is q Other it (if_ok q (λ y m clean. ((it.answer clean).0, f y (it.answer clean).1 m)) made)

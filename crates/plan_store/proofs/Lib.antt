@@ -12,3 +12,4 @@ pub mod StatementLemmas
 pub mod ServingLemmas
 pub mod AskingLemmas
 pub mod QueryLemmas
+pub mod ShownLemmas

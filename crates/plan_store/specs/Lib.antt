@@ -4,3 +4,4 @@ pub mod Rows
 pub mod Stores
 pub mod Running
 pub mod Serving
+pub mod Shown

@@ -90,3 +90,13 @@ pub fn digest_at(row: &Row, at: usize) -> Result<[u8; 32], BookFault>
         Err(_) => Err(BookFault::Store),
     }
 }
+
+/// The number of an activity.
+pub fn small_at(row: &Row, at: usize) -> Result<u32, BookFault>
+    ensures { IfOk result (λ n. column row.now at ≡ Int (pos n)) }
+{
+    match row.get(at) {
+        Ok(number) => Ok(number),
+        Err(error) => Err(fault_of(&error)),
+    }
+}

@@ -4,4 +4,6 @@
 mod asking;
 mod cells;
 mod fault;
+mod reading;
 mod running;
+mod shown;
