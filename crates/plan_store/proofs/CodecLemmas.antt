@@ -55,11 +55,11 @@ lag_casts row =
 
 -- ---- what is written is read back
 
-kind_back : (kind : Kind) → kind_in (Text (kind_text kind)) ≡ kind
+pub kind_back : (kind : Kind) → kind_in (Text (kind_text kind)) ≡ kind
 kind_back Crew = refl
 kind_back Machine = refl
 
-plan_kind_back : (kind : PlanKind) → plan_kind_in (Text (plan_kind_text kind)) ≡ kind
+pub plan_kind_back : (kind : PlanKind) → plan_kind_in (Text (plan_kind_text kind)) ≡ kind
 plan_kind_back Project = refl
 plan_kind_back Shop = refl
 

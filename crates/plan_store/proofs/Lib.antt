@@ -13,3 +13,4 @@ pub mod ServingLemmas
 pub mod AskingLemmas
 pub mod QueryLemmas
 pub mod ShownLemmas
+pub mod ReadLemmas

@@ -6,7 +6,7 @@ ghost use Rattle.sqlite.specs.Listing.{understood, reads_listing};
 ghost use Rattle.sqlite.specs.Values.{bound};
 ghost use Rattle.sqlite.specs.Held.{state};
 ghost use Rattle.std.specs.Prelude.{false};
-ghost use Rattle.plan_desk.specs.World.{code_in, desk_in, is_plan};
+ghost use Rattle.plan_desk.specs.World.{code_in, desk_in, plan_in};
 ghost use Rattle.plan_desk.specs.Views.{view};
 ghost use Rattle.plan_desk.specs.Plans.{places_of, lags_of};
 ghost use Rattle.plan_desk.specs.Books.{Matches, IsDeskAnswer, IsCapacityAnswer, ListsCodes, ListsPlans, bind_in, lag_in};
@@ -69,4 +69,135 @@ fn digest_in_first<S: Alter>(
 {
     let rows = rows_of(conn, text, params)?;
     office_shown(rows.as_slice())
+}
+
+/// The digest of the office's key.
+pub fn office_in<S: Alter>(conn: &mut Connection<S>) -> Result<[u8; 32], BookFault>
+    requires ready { IsReady (state S.Store conn.old) }
+    ensures { Asks (state S.Store conn.old) (state S.Store conn.new) result
+        (λ digest. digest ≡ (world_of (state S.Store conn.old).now.trees).office) }
+{
+    digest_in_first(conn, "SELECT office FROM meta ORDER BY rowid", &[])
+}
+
+/// A desk by its whole name.
+pub fn desk_found<S: Alter>(
+    conn: &mut Connection<S>,
+    name: &str,
+) -> Result<Option<DeskRow>, BookFault>
+    requires ready { IsReady (state S.Store conn.old) }
+    ensures { Asks (state S.Store conn.old) (state S.Store conn.new) result
+        (Matches IsDeskAnswer (desk_in (world_of (state S.Store conn.old).now.trees) name.now)) }
+{
+    first_in(
+        conn,
+        "SELECT digest, next FROM desks WHERE desk = ?1 ORDER BY rowid",
+        params![name],
+    )
+}
+
+/// The kind and the capacity of a published code.
+pub fn capacity_found<S: Alter>(
+    conn: &mut Connection<S>,
+    code: &str,
+) -> Result<Option<(Kind, u64)>, BookFault>
+    requires ready { IsReady (state S.Store conn.old) }
+    ensures { Asks (state S.Store conn.old) (state S.Store conn.new) result
+        (Matches IsCapacityAnswer (code_in (world_of (state S.Store conn.old).now.trees).published code.now)) }
+{
+    first_in(
+        conn,
+        "SELECT kind, capacity FROM published WHERE code = ?1 ORDER BY rowid",
+        params![code],
+    )
+}
+
+/// All published codes, rising.
+pub fn codes_in<S: Alter>(
+    alloc: Global,
+    conn: &mut Connection<S>,
+) -> Result<Vec<CodeRow>, BookFault>
+    requires ready { IsReady (state S.Store conn.old) }
+    ensures { Asks (state S.Store conn.old) (state S.Store conn.new) result
+        (λ rows. ListsCodes (world_of (state S.Store conn.old).now.trees).published rows.items) }
+{
+    list_in(
+        alloc,
+        conn,
+        "SELECT code, kind, capacity FROM published ORDER BY code, rowid",
+        &[],
+    )
+}
+
+/// The plans of a desk, rising by number.
+pub fn plans_in<S: Alter>(
+    alloc: Global,
+    conn: &mut Connection<S>,
+    desk: &str,
+) -> Result<Vec<PlanEntry>, BookFault>
+    requires ready { IsReady (state S.Store conn.old) }
+    ensures { Asks (state S.Store conn.old) (state S.Store conn.new) result
+        (λ rows. ListsPlans (view desk.now (world_of (state S.Store conn.old).now.trees)).plans rows.items) }
+{
+    list_in(
+        alloc,
+        conn,
+        "SELECT n, kind FROM plans WHERE desk = ?1 ORDER BY n, rowid",
+        params![desk],
+    )
+}
+
+// A plan of a desk, but for its binds and lags.
+fn part_found<S: Alter>(
+    conn: &mut Connection<S>,
+    desk: &str,
+    n: u32,
+) -> Result<Option<PlanPart>, BookFault>
+    requires ready { IsReady (state S.Store conn.old) }
+    ensures { Asks (state S.Store conn.old) (state S.Store conn.new) result
+        (Matches IsPlanPart (plan_in (world_of (state S.Store conn.old).now.trees) desk.now n)) }
+{
+    first_in(
+        conn,
+        "SELECT kind, name, body, start, days FROM plans WHERE desk = ?1 AND n = ?2 ORDER BY rowid",
+        params![desk, n],
+    )
+}
+
+// The bound places of a plan, rising.
+fn binds_in<S: Alter>(
+    alloc: Global,
+    conn: &mut Connection<S>,
+    desk: &str,
+    n: u32,
+) -> Result<Vec<BindEntry>, BookFault>
+    requires ready { IsReady (state S.Store conn.old) }
+    ensures { Asks (state S.Store conn.old) (state S.Store conn.new) result
+        (λ all. map bind_in all.items ≡ places_of (view desk.now (world_of (state S.Store conn.old).now.trees)) n) }
+{
+    list_in(
+        alloc,
+        conn,
+        "SELECT place, code FROM binds WHERE desk = ?1 AND n = ?2 ORDER BY place, rowid",
+        params![desk, n],
+    )
+}
+
+// The arcs of a plan that have lags, rising.
+fn lags_in<S: Alter>(
+    alloc: Global,
+    conn: &mut Connection<S>,
+    desk: &str,
+    n: u32,
+) -> Result<Vec<LagEntry>, BookFault>
+    requires ready { IsReady (state S.Store conn.old) }
+    ensures { Asks (state S.Store conn.old) (state S.Store conn.new) result
+        (λ all. map lag_in all.items ≡ lags_of (view desk.now (world_of (state S.Store conn.old).now.trees)) n) }
+{
+    list_in(
+        alloc,
+        conn,
+        "SELECT source, target, lag FROM lags WHERE desk = ?1 AND n = ?2 ORDER BY source, target, rowid",
+        params![desk, n],
+    )
 }
