@@ -1,11 +1,12 @@
 -- What each query answers of the office that the tables hold.
-use Rattle.std.proofs.Common.{◌≡◌, ◌<ℤ◌, ℕ, ℤ, pos, Bool, true, false, ◌&&◌, ◌||◌, ◌==◌, nat_lt, cond, List, [], ◌∷◌, map, filter, find, slice_get, Option, Some, None, IfSome, option_map, refl, sym, ap, ap₂, subst, ◌∙◌, codes, string_bytes, Ordering, Less, Equal, Greater, is_gt, is_lt, int_cmp, nat_cmp, arith}
-use Rattle.std.specs.List.{AllByRecursion, AllZip, list_all}
+use Rattle.std.proofs.Common.{◌≡◌, ◌<ℤ◌, ℕ, ℤ, pos, Bool, true, false, ◌&&◌, ◌||◌, ◌==◌, nat_lt, cond, List, [], ◌∷◌, length, map, filter, find, slice_get, Option, Some, None, IfSome, option_map, refl, sym, ap, ap₂, subst, ◌∙◌, codes, string_bytes, Ordering, Less, Equal, Greater, is_gt, is_lt, int_cmp, nat_cmp, arith}
+use Rattle.std.specs.List.{AllByRecursion, AllZip, list_all, list_any}
 use Rattle.std.specs.Ordering.{ordering_then, ordering_reverse}
 use Rattle.std.specs.Cmp.Lexicographic.{slice_cmp}
 use Rattle.std.proofs.lemmas.Cmp.{nat_list_cmp_total}
 use Rattle.std.proofs.lemmas.List.{map-id}
 use Rattle.std.proofs.lemmas.Int.{ints}
+use Rattle.std.proofs.lemmas.Bool.{and_parts}
 use Rattle.std.proofs.lemmas.Bool.Decides.{nat_tests}
 use Rattle.sqlite_value.specs.declared.value.Value.{Value}
 use Rattle.sqlite_value.specs.declared.value.Value.TheVariants.{Null, Int, Text, Blob}
@@ -30,22 +31,23 @@ use Rattle.plan_desk.specs.declared.rows.CodeRow.{CodeRow}
 use Rattle.plan_desk.specs.declared.rows.PlanEntry.{PlanEntry}
 use Rattle.plan_desk.specs.declared.rows.BindEntry.{BindEntry}
 use Rattle.plan_desk.specs.declared.rows.LagEntry.{LagEntry}
+use Rattle.plan_desk.specs.declared.rows.PlanRow.{PlanRow}
 use Rattle.plan_desk.specs.JsonTexts.{kind_text, plan_kind_text, code_before, plan_before}
-use Rattle.plan_desk.specs.World.{Digest, Published, Desk, Plan, Bind, Lag, World, same_text, is_code, is_desk, is_plan_of, is_plan, is_bind_by, is_bind_of, is_lag_by, is_lag_of, code_in, desk_in, plan_in}
+use Rattle.plan_desk.specs.World.{Digest, Published, Desk, Plan, Bind, Lag, World, same_text, is_code, is_desk, is_plan_of, is_plan, is_bind_by, is_bind_of, is_bind, is_lag_by, is_lag_of, is_lag, code_in, desk_in, plan_in}
 use Rattle.plan_desk.specs.Views.{view}
 use Rattle.plan_desk.specs.Plans.{in_order, bind_before, lag_before, place_of, arc_of, places_of, lags_of, has_number}
-use Rattle.plan_desk.specs.Books.{Matches, IsDeskAnswer, IsCapacityAnswer, ListsCodes, ListsPlans, published_in, entry_in, entry_of, bind_in, lag_in}
+use Rattle.plan_desk.specs.Books.{Matches, IsPlanAnswer, IsDeskAnswer, IsCapacityAnswer, ListsCodes, ListsPlans, published_in, entry_in, entry_of, bind_in, lag_in}
 use Rattle.plan_store.specs.declared.shown.PlanPart.{PlanPart}
 use Rattle.plan_store.specs.Kept.{row_at, Keeps}
 use Rattle.plan_store.specs.Rows.{kind_in, plan_kind_in, text_in, blob_in, number_in, digest_in, digest_value, number_value, written_code, read_code, written_desk, read_desk, written_plan, read_plan, written_bind, read_bind, written_lag, read_lag, office_in, meta_row}
 use Rattle.plan_store.specs.Stores.{world_of, HoldRows}
 use Rattle.plan_store.specs.Running.{meaning_of}
 use Rattle.plan_store.specs.Serving.{Stands}
-use Rattle.plan_store.specs.Shown.{ShowsOffice, ShowsDesk, ShowsCapacity, ShowsCode, ShowsEntry, ShowsBind, ShowsLag, ShowsPlan, IsPlanPart, ListsShown, FirstShown, OfficeShown}
+use Rattle.plan_store.specs.Shown.{ShowsOffice, ShowsDesk, ShowsCapacity, ShowsCode, ShowsEntry, ShowsBind, ShowsLag, ShowsPlan, IsPlanPart, ListsShown, FirstShown, OfficeShown, AnyShown}
 use Rattle.plan_store.proofs.QueryForms.{alone, by, is_given}
 use Rattle.plan_store.proofs.EditLemmas.{number_of}
 use Rattle.plan_store.proofs.KeepLemmas.{finds_entry, reads_entries}
-use Rattle.plan_store.proofs.CodecLemmas.{kind_back, plan_kind_back, texts_tested, numbers_tested, code_tested, desk_tested, plan_tested, owner_tested, bind_of_tested, lag_of_tested}
+use Rattle.plan_store.proofs.CodecLemmas.{kind_back, plan_kind_back, texts_tested, numbers_tested, code_tested, desk_tested, plan_tested, owner_tested, bind_of_tested, bind_tested, lag_of_tested, lag_tested}
 use Rattle.plan_store.proofs.QueryLemmas.{rows_by_number, rows_sorted, sorted_alike}
 use Rattle.plan_store.proofs.ReadMeanings as means
 
@@ -97,6 +99,21 @@ module _ {A X : Type 0} (written : A → Row) (read : Row → A) (rows : List Ro
   first_read answer is found h =
       subst (λ o. Matches Is o found) (finds_entry written read it p)
       (of_option (find (λ x. p x.1) it.entries) found (back_found it.entries it.back) (subst (λ o. Matches Shows o found) (ap (λ l. slice_get l 0) is ∙ first_get show (λ x. p x.1) it.entries) h))
+
+-- ---- whether there is a row
+
+any_among : {A : Type 0} (show : ℤ × A → Row) (p : A → Bool) (xs : List (ℤ × A)) → nat_lt 0 (length (map show (filter (λ x. p x.1) xs))) ≡ list_any p (map (λ x. x.1) xs)
+any_among show p [] = refl
+any_among show p (x ∷ xs) =
+    elim (p x.1) as (λ b. nat_lt 0 (length (map show (cond b (x ∷ filter (λ y. p y.1) xs) (filter (λ y. p y.1) xs)))) ≡ (b || list_any p (map (λ y. y.1) xs)))
+    [ true ↦ some (show x) (map show (filter (λ y. p y.1) xs)) | false ↦ any_among show p xs ]
+  where
+    some : (r : Row) (rs : List Row) → nat_lt 0 (length (r ∷ rs)) ≡ true
+    some r rs = grind (arith, nat_tests)
+
+module _ {A : Type 0} (written : A → Row) (read : Row → A) (rows : List Row) (it : Keeps written read rows) (p : A → Bool) (show : ℤ × A → Row) where
+  pub any_read : (answer : List Row) → answer ≡ map show (filter (λ x. p x.1) it.entries) → nat_lt 0 (length answer) ≡ list_any p (map read rows)
+  any_read answer is = ap (λ l. nat_lt 0 (length l)) is ∙ any_among show p it.entries ∙ ap (list_any p) (sym (reads_entries written read it))
 
 -- ---- all rows, rising
 
@@ -276,3 +293,62 @@ module _ (s : State) (stands : Stands s) where
       (λ x y shows. λ i. (same_numbers y.from x.1.source (sym shows.source) i, same_numbers y.to x.1.target (sym shows.target) i, same_numbers y.lag x.1.lag (sym shows.lag) i)) cmp lag_before
       (λ x y low. then_both (int_cmp (pos x.1.source) (pos y.1.source)) (int_cmp (pos x.1.target) (pos y.1.target)) x.0 y.0 low ∙ above_both x.1.source y.1.source x.1.target y.1.target) h.0 are all h.2
       ∙ ap (λ l. map arc_of (in_order lag_before l)) (sym (filter_both (is_lag_by desk) (λ row. row.n == n) (map read_lag (s.now.trees 9))))
+
+  pub bound_read : (desk : List ℕ) (n place : ℕ) (any : Bool) → AnyShown means.bound_text s.now (Text desk ∷ number_value n ∷ number_value place ∷ []) any
+      → any ≡ list_any (is_bind desk n place) (world_of s.now.trees).binds
+  bound_read desk n place any h =
+      let given = Text desk ∷ number_value n ∷ number_value place ∷ [] in
+      let show = λ (x : ℤ × Bind). Text x.1.code ∷ [] in
+      let kept = held.binds in
+      let are = rows_by_number written_bind 7 (is_given 1 0 ∷ is_given 2 1 ∷ is_given 3 2 ∷ []) means.bound_query.project given seen kept.entries kept.are kept.rise
+      (λ x. is_bind desk n place x.1) (bind_tested desk n place []) show (λ x. refl) h.0 (read_query means.bound_text means.bound_query _ means.bound_is s.now given h.0 h.1) in
+      h.2 ∙ any_read written_bind read_bind (s.now.trees 7) kept (is_bind desk n place) show h.0 are
+
+  pub lagged_read : (desk : List ℕ) (n source target : ℕ) (any : Bool) → AnyShown means.lagged_text s.now (Text desk ∷ number_value n ∷ number_value source ∷ number_value target ∷ []) any
+      → any ≡ list_any (is_lag desk n source target) (world_of s.now.trees).lags
+  lagged_read desk n source target any h =
+      let given = Text desk ∷ number_value n ∷ number_value source ∷ number_value target ∷ [] in
+      let show = λ (x : ℤ × Lag). number_value x.1.lag ∷ [] in
+      let kept = held.lags in
+      let are = rows_by_number written_lag 9 (is_given 1 0 ∷ is_given 2 1 ∷ is_given 3 2 ∷ is_given 4 3 ∷ []) means.lagged_query.project given seen kept.entries kept.are kept.rise
+      (λ x. is_lag desk n source target x.1) (lag_tested desk n source target []) show (λ x. refl) h.0 (read_query means.lagged_text means.lagged_query _ means.lagged_is s.now given h.0 h.1) in
+      h.2 ∙ any_read written_lag read_lag (s.now.trees 9) kept (is_lag desk n source target) show h.0 are
+
+found_passes : {A : Type 0} (p : A → Bool) (xs : List A) (y : A) → find p xs ≡ Some y → p y ≡ true
+found_passes p [] y e = cc
+found_passes p (x ∷ xs) y e = go (p x) refl e (found_passes p xs y)
+  where
+    go : (b : Bool) → p x ≡ b → cond b (Some x) (find p xs) ≡ Some y → (find p xs ≡ Some y → p y ≡ true) → p y ≡ true
+    go true is h more = let same : x ≡ y = cc in ap p (sym same) ∙ is
+    go false is h more = more h
+
+-- a plan with the binds and lags that are read beside it
+module _ (w : World) (desk : List ℕ) (n : ℕ) (row : PlanRow) (part : PlanPart) (same : row ≡ record { kind = part.kind; name = part.name; body = part.body; start = part.start; days = part.days; binds = row.binds; lags = row.lags })
+    (binds : map bind_in row.binds.items ≡ places_of (view desk w) n) (lags : map lag_in row.lags.items ≡ lags_of (view desk w) n) where
+  with_parts : (o : Option Plan) → plan_in w desk n ≡ o → Matches IsPlanPart o (Some part) → Matches (IsPlanAnswer (view desk w)) o (Some row)
+  with_parts None is h = h
+  with_parts (Some plan) is h =
+      let number = (and_parts (same_text plan.desk desk) (plan.n == n) (found_passes (is_plan desk n) w.plans plan is)).1 in
+      let at : plan.n ≡ n = grind (arith, nat_tests) in
+      record {
+        kind = ap (λ (r : PlanRow). r.kind) same ∙ h.kind;
+        name = ap (λ (r : PlanRow). string_bytes r.name) same ∙ h.name;
+        body = ap (λ (r : PlanRow). r.body.items) same ∙ h.body;
+        start = ap (λ (r : PlanRow). string_bytes r.start) same ∙ h.start;
+        days = ap (λ (r : PlanRow). string_bytes r.days) same ∙ h.days;
+        binds_are = binds ∙ ap (places_of (view desk w)) (sym at);
+        lags_are = lags ∙ ap (lags_of (view desk w)) (sym at);
+      }
+
+  pub whole_plan : Matches IsPlanPart (plan_in w desk n) (Some part) → Matches (IsPlanAnswer (view desk w)) (plan_in w desk n) (Some row)
+  whole_plan = with_parts (plan_in w desk n) refl
+
+-- a plan is found among those of its desk
+pub found_in_view : (w : World) (desk : List ℕ) (n : ℕ) → plan_in w desk n ≡ find (has_number n) (view desk w).plans
+found_in_view w desk n = go w.plans
+  where
+    go : (xs : List Plan) → find (is_plan desk n) xs ≡ find (has_number n) (filter (is_plan_of desk) xs)
+    go [] = refl
+    go (x ∷ xs) =
+        elim (is_plan_of desk x) as (λ b. cond (b && (x.n == n)) (Some x) (find (is_plan desk n) xs) ≡ find (has_number n) (cond b (x ∷ filter (is_plan_of desk) xs) (filter (is_plan_of desk) xs)))
+        [ true ↦ ap (λ o. cond (x.n == n) (Some x) o) (go xs) | false ↦ go xs ]

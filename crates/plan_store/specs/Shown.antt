@@ -1,5 +1,5 @@
 -- Rows as queries show them (docs/DEFINITIONS.md, "Tables").
-use Rattle.std.specs.Prelude.{◌≡◌, ℕ, pos, string_bytes, Option, Some, slice_get, List}
+use Rattle.std.specs.Prelude.{◌≡◌, ℕ, pos, Bool, nat_lt, length, string_bytes, Option, Some, slice_get, List}
 use Rattle.sqlite_value.specs.declared.value.Value.TheVariants.{Int, Text, Blob}
 use Rattle.sqlite_value.specs.Order.{Row, column}
 use Rattle.plan_desk.specs.declared.kinds.Kind.{Kind}
@@ -79,3 +79,7 @@ FirstShown shows text db params found =
 abbrev pub OfficeShown : List ℕ → Database → Row → Digest → Type 0
 OfficeShown text db params digest =
     (rows : List Row) × Reads (meaning_of text) db params rows × ShowsOffice rows digest
+
+abbrev pub AnyShown : List ℕ → Database → Row → Bool → Type 0
+AnyShown text db params any =
+    (rows : List Row) × Reads (meaning_of text) db params rows × (any ≡ nat_lt 0 (length rows))

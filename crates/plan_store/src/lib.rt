@@ -4,6 +4,7 @@
 mod asking;
 mod cells;
 mod fault;
+mod numbers;
 mod reading;
 mod running;
 mod shown;

@@ -6,18 +6,19 @@ ghost use Rattle.sqlite.specs.Listing.{understood, reads_listing};
 ghost use Rattle.sqlite.specs.Values.{bound};
 ghost use Rattle.sqlite.specs.Held.{state};
 ghost use Rattle.std.specs.Prelude.{false};
-ghost use Rattle.plan_desk.specs.World.{code_in, desk_in, plan_in};
+ghost use Rattle.plan_desk.specs.World.{code_in, desk_in, plan_in, is_bind, is_lag};
+ghost use Rattle.std.specs.List.{list_any};
 ghost use Rattle.plan_desk.specs.Views.{view};
 ghost use Rattle.plan_desk.specs.Plans.{places_of, lags_of};
-ghost use Rattle.plan_desk.specs.Books.{Matches, IsDeskAnswer, IsCapacityAnswer, ListsCodes, ListsPlans, bind_in, lag_in};
+ghost use Rattle.plan_desk.specs.Books.{Matches, IsDeskAnswer, IsCapacityAnswer, ListsCodes, ListsPlans, IsPlanAnswer, bind_in, lag_in};
 ghost use Rattle.plan_store.specs.Tables.{store_schema};
 ghost use Rattle.plan_store.specs.Stores.{world_of};
 ghost use Rattle.plan_store.specs.Serving.{IsReady, Asks};
-ghost use Rattle.plan_store.specs.Shown.{ListsShown, FirstShown, OfficeShown, IsPlanPart};
+ghost use Rattle.plan_store.specs.Shown.{ListsShown, FirstShown, OfficeShown, AnyShown, IsPlanPart};
 
 use crate::asking::rows_of;
 use crate::shown::{FromShown, PlanPart, all_shown, first_shown, office_shown};
-use plan_desk::{BindEntry, BookFault, CodeRow, DeskRow, Kind, LagEntry, PlanEntry};
+use plan_desk::{BindEntry, BookFault, CodeRow, DeskRow, Kind, LagEntry, PlanEntry, PlanRow};
 use sqlite::types::ValueRef;
 use sqlite::{Alter, Connection, params};
 use std::alloc::Global;
@@ -199,5 +200,85 @@ fn lags_in<S: Alter>(
         conn,
         "SELECT source, target, lag FROM lags WHERE desk = ?1 AND n = ?2 ORDER BY source, target, rowid",
         params![desk, n],
+    )
+}
+
+/// A plan of a desk, with its bound places and its lags.
+pub fn plan_found<S: Alter>(
+    alloc: Global,
+    conn: &mut Connection<S>,
+    desk: &str,
+    n: u32,
+) -> Result<Option<PlanRow>, BookFault>
+    requires ready { IsReady (state S.Store conn.old) }
+    ensures { Asks (state S.Store conn.old) (state S.Store conn.new) result
+        (Matches (IsPlanAnswer (view desk.now (world_of (state S.Store conn.old).now.trees))) (plan_in (world_of (state S.Store conn.old).now.trees) desk.now n)) }
+{
+    let Some(part) = part_found(conn, desk, n)? else {
+        return Ok(None);
+    };
+    let binds = binds_in(alloc, conn, desk, n)?;
+    let lags = lags_in(alloc, conn, desk, n)?;
+    Ok(Some(PlanRow {
+        kind: part.kind,
+        name: part.name,
+        body: part.body,
+        start: part.start,
+        days: part.days,
+        binds,
+        lags,
+    }))
+}
+
+// Whether an answer has a row.
+fn has_row<S: Alter>(
+    conn: &mut Connection<S>,
+    text: &str,
+    params: &[ValueRef<'_>],
+) -> Result<bool, BookFault>
+    requires ready { IsReady (state S.Store conn.old) }
+    requires plain { IsPlain (understood store_schema text.now) }
+    requires ours { reads_listing store_schema text.now ≡ false }
+    ensures { Asks (state S.Store conn.old) (state S.Store conn.new) result
+        (AnyShown text.now (state S.Store conn.old).now (bound params.now)) }
+{
+    let rows = rows_of(conn, text, params)?;
+    Ok(rows.len() > 0)
+}
+
+/// Whether a code is bound to a place of a plan.
+pub fn is_bound<S: Alter>(
+    conn: &mut Connection<S>,
+    desk: &str,
+    n: u32,
+    place: u32,
+) -> Result<bool, BookFault>
+    requires ready { IsReady (state S.Store conn.old) }
+    ensures { Asks (state S.Store conn.old) (state S.Store conn.new) result
+        (λ yes. yes ≡ list_any (is_bind desk.now n place) (world_of (state S.Store conn.old).now.trees).binds) }
+{
+    has_row(
+        conn,
+        "SELECT code FROM binds WHERE desk = ?1 AND n = ?2 AND place = ?3 ORDER BY rowid",
+        params![desk, n, place],
+    )
+}
+
+/// Whether an arc of a plan has a lag.
+pub fn is_lagged<S: Alter>(
+    conn: &mut Connection<S>,
+    desk: &str,
+    n: u32,
+    from: u32,
+    to: u32,
+) -> Result<bool, BookFault>
+    requires ready { IsReady (state S.Store conn.old) }
+    ensures { Asks (state S.Store conn.old) (state S.Store conn.new) result
+        (λ yes. yes ≡ list_any (is_lag desk.now n from to) (world_of (state S.Store conn.old).now.trees).lags) }
+{
+    has_row(
+        conn,
+        "SELECT lag FROM lags WHERE desk = ?1 AND n = ?2 AND source = ?3 AND target = ?4 ORDER BY rowid",
+        params![desk, n, from, to],
     )
 }
