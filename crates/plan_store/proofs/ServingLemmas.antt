@@ -12,7 +12,7 @@ use Rattle.plan_desk.specs.Rules.{IsWorld}
 use Rattle.plan_store.specs.Tables.{store_schema}
 use Rattle.plan_store.specs.Stores.{world_of, IsStore}
 use Rattle.plan_store.specs.Running.{Statement, LeavesAll, MayMake, Makes}
-use Rattle.plan_store.specs.Serving.{Stands, IsReady, IsStoreLeft, Asks, Changes}
+use Rattle.plan_store.specs.Serving.{Stands, IsReady, IsStoreLeft, IsKept, Asks, Changes}
 use Rattle.plan_store.proofs.StepLemmas.{Steps}
 
 pub store_left : (db : Database) → IsStore db → IsStoreLeft db.trees
@@ -41,47 +41,48 @@ steps_end a b db f is rules it = (
   ap (λ (d : Database). world_of d.trees) is ∙ it.world,
 )
 
-module _ {S : Type 0} (g : Ghosts S) (old : Held S) (ready : IsReady (state g old)) where
-  abbrev begun : Held S
-  begun = record old { in_transaction = true }
+-- a connection as a transaction on it begins
+abbrev pub begun : {S : Type 0} → Held S → Held S
+begun old = record old { in_transaction = true }
 
+module _ {S : Type 0} (g : Ghosts S) (old : Held S) (ready : IsReady (state g old)) where
   -- a change that one statement makes, then one that two make, and three
   pub one_makes : (s : Statement) (change : World → World)
-      → ((mid : Held S) (count : ℕ) → Stands (state g old) → Executes s.0 s.1 (state g begun) (state g mid) (Ok count) → Steps (state g begun) (state g mid) change)
-      → (Stands (state g old) → IsWorld (change (world_of (state g old).now.trees))) → Makes g (s ∷ []) old change
+      → ((mid : Held S) (count : ℕ) → Stands (state g old) → Executes s.0 s.1 (state g (begun old)) (state g mid) (Ok count) → Steps (state g (begun old)) (state g mid) change)
+      → IsKept (state g old) change → Makes g (s ∷ []) old change
   one_makes s change steps kept clean db leaves =
       let ran = leaves.1 in
       let stands = ready.stands clean ran.2 in
-      steps_end (state g begun) (state g ran.0) db change (leaves.2 ∙ ap (λ h. (state g h).now) ran.4) (kept stands) (steps ran.0 ran.1 stands ran.3)
+      steps_end (state g (begun old)) (state g ran.0) db change (leaves.2 ∙ ap (λ h. (state g h).now) ran.4) (kept clean ran.2) (steps ran.0 ran.1 stands ran.3)
 
   pub two_make : (s t : Statement) (f h : World → World)
-      → ((mid : Held S) (count : ℕ) → Stands (state g old) → Executes s.0 s.1 (state g begun) (state g mid) (Ok count) → Steps (state g begun) (state g mid) f)
-      → ((mid last : Held S) (count : ℕ) → Steps (state g begun) (state g mid) f → Executes t.0 t.1 (state g mid) (state g last) (Ok count) → Steps (state g mid) (state g last) h)
-      → (Stands (state g old) → IsWorld (h (f (world_of (state g old).now.trees)))) → Makes g (s ∷ t ∷ []) old (λ w. h (f w))
+      → ((mid : Held S) (count : ℕ) → Stands (state g old) → Executes s.0 s.1 (state g (begun old)) (state g mid) (Ok count) → Steps (state g (begun old)) (state g mid) f)
+      → ((mid last : Held S) (count : ℕ) → Steps (state g (begun old)) (state g mid) f → Executes t.0 t.1 (state g mid) (state g last) (Ok count) → Steps (state g mid) (state g last) h)
+      → IsKept (state g old) (λ w. h (f w)) → Makes g (s ∷ t ∷ []) old (λ w. h (f w))
   two_make s t f h first second kept clean db leaves =
       let ran = leaves.1 in
       let more = ran.4 in
       let stands = ready.stands clean ran.2 in
       let one = first ran.0 ran.1 stands ran.3 in
       let two = second ran.0 more.0 more.1 one more.3 in
-      steps_end (state g begun) (state g more.0) db (λ w. h (f w)) (leaves.2 ∙ ap (λ k. (state g k).now) more.4) (kept stands)
-      (steps_then (state g begun) (state g ran.0) (state g more.0) f h one two)
+      steps_end (state g (begun old)) (state g more.0) db (λ w. h (f w)) (leaves.2 ∙ ap (λ k. (state g k).now) more.4) (kept clean ran.2)
+      (steps_then (state g (begun old)) (state g ran.0) (state g more.0) f h one two)
 
   pub three_make : (s t u : Statement) (f h k : World → World)
-      → ((mid : Held S) (count : ℕ) → Stands (state g old) → Executes s.0 s.1 (state g begun) (state g mid) (Ok count) → Steps (state g begun) (state g mid) f)
-      → ((mid last : Held S) (count : ℕ) → Steps (state g begun) (state g mid) f → Executes t.0 t.1 (state g mid) (state g last) (Ok count) → Steps (state g mid) (state g last) h)
-      → ((mid last : Held S) (count : ℕ) → Steps (state g begun) (state g mid) (λ w. h (f w)) → Executes u.0 u.1 (state g mid) (state g last) (Ok count) → Steps (state g mid) (state g last) k)
-      → (Stands (state g old) → IsWorld (k (h (f (world_of (state g old).now.trees))))) → Makes g (s ∷ t ∷ u ∷ []) old (λ w. k (h (f w)))
+      → ((mid : Held S) (count : ℕ) → Stands (state g old) → Executes s.0 s.1 (state g (begun old)) (state g mid) (Ok count) → Steps (state g (begun old)) (state g mid) f)
+      → ((mid last : Held S) (count : ℕ) → Steps (state g (begun old)) (state g mid) f → Executes t.0 t.1 (state g mid) (state g last) (Ok count) → Steps (state g mid) (state g last) h)
+      → ((mid last : Held S) (count : ℕ) → Steps (state g (begun old)) (state g mid) (λ w. h (f w)) → Executes u.0 u.1 (state g mid) (state g last) (Ok count) → Steps (state g mid) (state g last) k)
+      → IsKept (state g old) (λ w. k (h (f w))) → Makes g (s ∷ t ∷ u ∷ []) old (λ w. k (h (f w)))
   three_make s t u f h k first second third kept clean db leaves =
       let ran = leaves.1 in
       let more = ran.4 in
       let rest = more.4 in
       let stands = ready.stands clean ran.2 in
       let one = first ran.0 ran.1 stands ran.3 in
-      let two = steps_then (state g begun) (state g ran.0) (state g more.0) f h one (second ran.0 more.0 more.1 one more.3) in
+      let two = steps_then (state g (begun old)) (state g ran.0) (state g more.0) f h one (second ran.0 more.0 more.1 one more.3) in
       let three = third more.0 rest.0 rest.1 two rest.3 in
-      steps_end (state g begun) (state g rest.0) db (λ w. k (h (f w))) (leaves.2 ∙ ap (λ n. (state g n).now) rest.4) (kept stands)
-      (steps_then (state g begun) (state g more.0) (state g rest.0) (λ w. h (f w)) k two three)
+      steps_end (state g (begun old)) (state g rest.0) db (λ w. k (h (f w))) (leaves.2 ∙ ap (λ n. (state g n).now) rest.4) (kept clean ran.2)
+      (steps_then (state g (begun old)) (state g more.0) (state g rest.0) (λ w. h (f w)) k two three)
 
   pub makes_as : (statements : List Statement) (f h : World → World) → (Stands (state g old) → f (world_of (state g old).now.trees) ≡ h (world_of (state g old).now.trees))
       → Makes g statements old f → Makes g statements old h
@@ -143,3 +144,25 @@ module _ {S : Type 0} (g : Ghosts S) (old : Held S) (ready : IsReady (state g ol
                 inr (it.0, subst IsStoreLeft (sym made.2) (store_left made.0 it.1), ap world_of made.2 ∙ it.2)
           ];
         })
+
+-- a change said otherwise
+module _ (old new : State) (f h : World → World) (same : HasCleanDisk old → IsTrue old.is_open → f (world_of old.now.trees) ≡ h (world_of old.now.trees)) where
+  pub changes_as : (r : Result (Unit {0}) BookFault) → Changes old new r f → Changes old new r h
+  changes_as (Ok done) it = record {
+    ready = it.ready;
+    honesty = it.honesty;
+    stood = it.stood;
+    changed = λ clean. let made = it.changed clean in (made.0, made.1 ∙ same (it.honesty clean) (it.stood clean made.0));
+    same = tt;
+    durable = it.durable;
+    crash = tt;
+  }
+  changes_as (Err fault) it = record {
+    ready = it.ready;
+    honesty = it.honesty;
+    stood = it.stood;
+    changed = tt;
+    same = it.same;
+    durable = tt;
+    crash = λ clean trees may. elim (it.crash clean trees may) [ inl before ↦ inl before | inr made ↦ inr (made.0, made.1, made.2 ∙ same (it.honesty clean) made.0) ];
+  }

@@ -3,6 +3,7 @@ use Rattle.std.proofs.Common.{◌≡◌, ◌≤◌, ◌+◌, ℕ, ℤ, pos, Bool
 use Rattle.std.proofs.lemmas.Bool.{and_parts, and_from}
 use Rattle.std.proofs.lemmas.Bool.Decides.{nat_tests}
 use Rattle.std.proofs.lemmas.Slice.Eq.{bytes_eq-Decides}
+use Rattle.sqlite_value.specs.declared.value.Value.{Value}
 use Rattle.sqlite_value.specs.declared.value.Value.TheVariants.{Null, Int, Text, Blob}
 use Rattle.sqlite_value.specs.Order.{Row}
 use Rattle.sqlite_schema.specs.declared.command.Command.{Command}
@@ -112,13 +113,13 @@ module _ (old new : State) (has : old.now.schema ≡ store_schema) (held : HoldR
   desk_back_at : (x : ℤ × Desk) (next : ℕ) → read_desk (row_at written_desk x) ≡ x.1 → read_desk (row_at written_desk (x.0, record x.1 { next = next })) ≡ record x.1 { next = next }
   desk_back_at x next back = ap (λ (row : Desk). record x.1 { digest = row.digest; next = next }) back
 
-  pub raises : (desk : List ℕ) (next : ℕ) → IsWorld (world_of old.now.trees) → Executes raise_text (Text desk ∷ number_value next ∷ []) old new (Ok count) → Steps old new (λ w. record w { desks = changed (is_desk desk) (λ row. record row { next = next }) w.desks })
-  raises desk next rules h =
-      let given = Text desk ∷ number_value next ∷ [] in
+  pub raises : (desk : List ℕ) (next : ℕ) (a b c d : Value) → IsWorld (world_of old.now.trees) → Executes raise_text (Text desk ∷ a ∷ b ∷ c ∷ d ∷ number_value next ∷ []) old new (Ok count) → Steps old new (λ w. record w { desks = changed (is_desk desk) (λ row. record row { next = next }) w.desks })
+  raises desk next a b c d rules h =
+      let given = Text desk ∷ a ∷ b ∷ c ∷ d ∷ number_value next ∷ [] in
       let w = runs_as raise_text given old new store_schema has (Update 2 (alone raise_query)) raise_is raise_plain count h in
       let done = subst (λ s. Does old.step_limit (mode_of old) given (record old.now { schema = s }) (statement_of raise_text (understood store_schema raise_text)) None (Update 2 (alone raise_query)) (Ok (w.tally, new.now))) has w.changed in
       desk_updated old new held w.shown.was_open w.sound (is_desk desk) (λ row. record row { next = next }) (λ x back. desk_back_at x next back)
-      (update_sets store_schema old.step_limit (mode_of old) (codes "desks") 3 (1 ∷ []) tables.desks.columns (λ _ _. refl) written_desk desk_casts old.now.trees held.desks.entries held.desks.are held.desks.rise given (is_given 1 0 ∷ []) (λ x. is_desk desk x.1) (desk_tested desk (number_value next ∷ [])) refl 2 raise_query.project (λ row. record row { next = next }) (λ x. refl)
+      (update_sets store_schema old.step_limit (mode_of old) (codes "desks") 3 (1 ∷ []) tables.desks.columns (λ _ _. refl) written_desk desk_casts old.now.trees held.desks.entries held.desks.are held.desks.rise given (is_given 1 0 ∷ []) (λ x. is_desk desk x.1) (desk_tested desk (a ∷ b ∷ c ∷ d ∷ number_value next ∷ [])) refl 2 raise_query.project (λ row. record row { next = next }) (λ x. refl)
       (few_pass written_desk read_desk held.desks (is_desk desk) _ (desks_alike desk) rules.desks_differ) (w.tally, new.now) done)
 
   pub adds_plan : (desk : List ℕ) (n : ℕ) (kind : PlanKind) (name body : List ℕ) → Executes add_plan_text (Text desk ∷ number_value n ∷ Text (plan_kind_text kind) ∷ Text name ∷ Blob body ∷ []) old new (Ok count) → Steps old new (λ w. record w { plans = w.plans ++ new_plan desk n kind name body ∷ [] })

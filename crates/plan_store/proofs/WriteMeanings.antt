@@ -68,10 +68,10 @@ unfolding understood everything
 set_key_plain = (refl, refl)
 
 abbrev pub raise_text : List ℕ
-raise_text = codes "UPDATE desks SET next = ?2 WHERE desk = ?1"
+raise_text = codes "UPDATE desks SET next = ?6 WHERE desk = ?1"
 
 abbrev pub raise_query : Query
-raise_query = of_table 3 (is_given 1 0 ∷ []) (col 1 0 ∷ col 1 0 ∷ col 1 1 ∷ col 1 2 ∷ col 0 1 ∷ []) []
+raise_query = of_table 3 (is_given 1 0 ∷ []) (col 1 0 ∷ col 1 0 ∷ col 1 1 ∷ col 1 2 ∷ col 0 5 ∷ []) []
 
 pub raise_is : command_of (understood store_schema raise_text) ≡ Update 2 (alone raise_query)
 unfolding understood everything

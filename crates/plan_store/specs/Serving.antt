@@ -1,10 +1,13 @@
 -- What a connection that serves a book keeps, and what a call does to it (docs/DEFINITIONS.md,
 -- "Tables").
-use Rattle.std.specs.Prelude.{◌≡◌, ◌⊎◌, false, IsTrue, Option, Some, None, Result, IfOk, OnOk, OnErr}
+use Rattle.std.specs.Prelude.{◌≡◌, ◌⊎◌, ℕ, ◌+◌, [], ◌∷◌, ◌++◌, false, IsTrue, Option, Some, None, Result, IfOk, OnOk, OnErr}
 use Rattle.sqlite_trees.specs.Tree.{Trees}
 use Rattle.sqlite.specs.State.{State, HasCleanDisk}
 use Rattle.plan_desk.specs.declared.fault.BookFault.{BookFault}
-use Rattle.plan_desk.specs.World.{World}
+use Rattle.plan_desk.specs.declared.kinds.PlanKind.{PlanKind}
+use Rattle.plan_desk.specs.Changes.{changed, new_plan}
+use Rattle.plan_desk.specs.World.{Text, World, is_desk}
+use Rattle.plan_desk.specs.Rules.{IsWorld}
 use Rattle.plan_store.specs.Tables.{store_schema}
 use Rattle.plan_store.specs.Stores.{world_of, IsStore}
 
@@ -51,3 +54,15 @@ module _ (old new : State) where
     pub crash : OnErr result (HasCleanDisk new → (trees : Trees) → new.may_leave trees
         → old.may_leave trees ⊎ (IsTrue old.is_open × IsStoreLeft trees
         × (world_of trees ≡ change (world_of old.now.trees))))
+
+-- Tables after a change keep the rules of rows, as far as they can be seen.
+abbrev pub IsKept : State → (World → World) → Type 0
+IsKept s change = HasCleanDisk s → IsTrue s.is_open → IsWorld (change (world_of s.now.trees))
+
+-- A plan with this number, and the number after it for the next.
+abbrev pub numbered_plan : Text → ℕ → PlanKind → Text → Text → World → World
+numbered_plan desk n kind name body w =
+    record w {
+      desks = changed (is_desk desk) (λ row. record row { next = n + 1 }) w.desks;
+      plans = w.plans ++ new_plan desk n kind name body ∷ [];
+    }

@@ -8,3 +8,4 @@ mod numbers;
 mod reading;
 mod running;
 mod shown;
+mod writing;

@@ -24,12 +24,19 @@ fn known_bytes(bytes: &[u8])
     let _bytes = bytes;
 }
 
+// Tells a proof that 32 bytes are a digest. It does nothing.
+fn known_digest(digest: &[u8; 32])
+    ensures { is_digest digest.now ≡ true }
+{
+    known_bytes(digest);
+}
+
 /// A digest in 64 hexadecimal digits.
 pub fn digits_of(digest: &[u8; 32]) -> Result<[u8; 64], BookFault>
     ensures digits { IfOk result (λ digits. digits ≡ encode_lower digest.now) }
     ensures known { is_digest digest.now ≡ true }
 {
-    known_bytes(digest);
+    known_digest(digest);
     let mut digits = [0; 64];
     match hex::encode_to_slice(digest.as_slice(), &mut digits) {
         Ok(()) => Ok(digits),
