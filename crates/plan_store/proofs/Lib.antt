@@ -14,3 +14,4 @@ pub mod AskingLemmas
 pub mod QueryLemmas
 pub mod ShownLemmas
 pub mod ReadLemmas
+pub mod NumberedLemmas

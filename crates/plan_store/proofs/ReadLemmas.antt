@@ -294,6 +294,14 @@ module _ (s : State) (stands : Stands s) where
       (λ x y low. then_both (int_cmp (pos x.1.source) (pos y.1.source)) (int_cmp (pos x.1.target) (pos y.1.target)) x.0 y.0 low ∙ above_both x.1.source y.1.source x.1.target y.1.target) h.0 are all h.2
       ∙ ap (λ l. map arc_of (in_order lag_before l)) (sym (filter_both (is_lag_by desk) (λ row. row.n == n) (map read_lag (s.now.trees 9))))
 
+  pub known_read : (code : List ℕ) (any : Bool) → AnyShown means.known_text s.now (Text code ∷ []) any → any ≡ list_any (is_code code) (world_of s.now.trees).published
+  known_read code any h =
+      let show = λ (x : ℤ × Published). Text x.1.code ∷ [] in
+      let kept = held.published in
+      let are = rows_by_number written_code 1 (is_given 1 0 ∷ []) means.known_query.project (Text code ∷ []) seen kept.entries kept.are kept.rise
+      (λ x. is_code code x.1) (code_tested code []) show (λ x. refl) h.0 (read_query means.known_text means.known_query _ means.known_is s.now (Text code ∷ []) h.0 h.1) in
+      h.2 ∙ any_read written_code read_code (s.now.trees 1) kept (is_code code) show h.0 are
+
   pub bound_read : (desk : List ℕ) (n place : ℕ) (any : Bool) → AnyShown means.bound_text s.now (Text desk ∷ number_value n ∷ number_value place ∷ []) any
       → any ≡ list_any (is_bind desk n place) (world_of s.now.trees).binds
   bound_read desk n place any h =

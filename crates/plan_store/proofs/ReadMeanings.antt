@@ -153,6 +153,24 @@ pub lags_listed : reads_listing store_schema lags_text ≡ false
 unfolding understood everything
 lags_listed = refl
 
+abbrev pub known_text : List ℕ
+known_text = codes "SELECT code FROM published WHERE code = ?1 ORDER BY rowid"
+
+abbrev pub known_query : Query
+known_query = of_table 1 (is_given 1 0 ∷ []) (col 1 1 ∷ []) (by 0 ∷ [])
+
+pub known_is : command_of (understood store_schema known_text) ≡ Select (alone known_query) (codes "code" ∷ [])
+unfolding understood everything
+known_is = refl
+
+pub known_plain : IsPlain (understood store_schema known_text)
+unfolding understood everything
+known_plain = (refl, refl)
+
+pub known_listed : reads_listing store_schema known_text ≡ false
+unfolding understood everything
+known_listed = refl
+
 abbrev pub bound_text : List ℕ
 bound_text = codes "SELECT code FROM binds WHERE desk = ?1 AND n = ?2 AND place = ?3 ORDER BY rowid"
 

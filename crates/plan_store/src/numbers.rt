@@ -1,6 +1,6 @@
 //! Numbers and digests as SQL takes them.
 
-ghost use Rattle.std.specs.Prelude.{◌≡◌, nat_lt, true, IfOk};
+ghost use Rattle.std.specs.Prelude.{◌≡◌, ◌+◌, nat_lt, true, IfOk};
 ghost use Rattle.std.specs.List.{list_all};
 ghost use Rattle.hex.specs.Hex.{encode_lower};
 ghost use Rattle.plan_desk.specs.Names.{is_digest};
@@ -14,6 +14,16 @@ pub fn sql_number(number: u64) -> Result<u32, BookFault>
     match u32::try_from(number) {
         Ok(number) => Ok(number),
         Err(_) => Err(BookFault::Store),
+    }
+}
+
+/// The number after this one.
+pub fn number_after(number: u32) -> Result<u32, BookFault>
+    ensures { IfOk result (λ n. n ≡ number + 1) }
+{
+    match number.checked_add(1) {
+        Some(next) => Ok(next),
+        None => Err(BookFault::Store),
     }
 }
 

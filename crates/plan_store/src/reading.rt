@@ -6,7 +6,7 @@ ghost use Rattle.sqlite.specs.Listing.{understood, reads_listing};
 ghost use Rattle.sqlite.specs.Values.{bound};
 ghost use Rattle.sqlite.specs.Held.{state};
 ghost use Rattle.std.specs.Prelude.{false};
-ghost use Rattle.plan_desk.specs.World.{code_in, desk_in, plan_in, is_bind, is_lag};
+ghost use Rattle.plan_desk.specs.World.{code_in, desk_in, plan_in, is_code, is_bind, is_lag};
 ghost use Rattle.std.specs.List.{list_any};
 ghost use Rattle.plan_desk.specs.Views.{view};
 ghost use Rattle.plan_desk.specs.Plans.{places_of, lags_of};
@@ -244,6 +244,19 @@ fn has_row<S: Alter>(
 {
     let rows = rows_of(conn, text, params)?;
     Ok(rows.len() > 0)
+}
+
+/// Whether a code is published.
+pub fn is_published<S: Alter>(conn: &mut Connection<S>, code: &str) -> Result<bool, BookFault>
+    requires ready { IsReady (state S.Store conn.old) }
+    ensures { Asks (state S.Store conn.old) (state S.Store conn.new) result
+        (λ yes. yes ≡ list_any (is_code code.now) (world_of (state S.Store conn.old).now.trees).published) }
+{
+    has_row(
+        conn,
+        "SELECT code FROM published WHERE code = ?1 ORDER BY rowid",
+        params![code],
+    )
 }
 
 /// Whether a code is bound to a place of a plan.

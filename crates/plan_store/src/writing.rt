@@ -8,8 +8,8 @@ ghost use Rattle.plan_desk.specs.Changes.{apply, changed, put, without, Publish,
 ghost use Rattle.plan_store.specs.Stores.{world_of};
 ghost use Rattle.plan_store.specs.Serving.{IsReady, Changes, IsKept, numbered_plan};
 
-use crate::numbers::{digits_of, sql_number};
-use crate::reading::{capacity_found, desk_found, is_bound, is_lagged};
+use crate::numbers::{digits_of, number_after, sql_number};
+use crate::reading::{desk_found, is_bound, is_lagged, is_published};
 use crate::running::transact;
 use plan_desk::{BookFault, Kind, PlanKind};
 use sqlite::types::ValueRef;
@@ -36,11 +36,7 @@ fn plan_kind_text(kind: PlanKind) -> &'static str
 }
 
 // Sets the capacity of a published code.
-fn republish<S: Alter>(
-    conn: &mut Connection<S>,
-    code: &str,
-    capacity: u32,
-) -> Result<(), BookFault>
+fn republish<S: Alter>(conn: &mut Connection<S>, code: &str, capacity: u32) -> Result<(), BookFault>
     requires ready { IsReady (state S.Store conn.old) }
     requires kept { IsKept (state S.Store conn.old) (λ w. record w { published = changed (is_code code.now) (with_capacity capacity) w.published }) }
     ensures { Changes (state S.Store conn.old) (state S.Store conn.new) result (λ w. record w { published = changed (is_code code.now) (with_capacity capacity) w.published }) }
@@ -79,16 +75,16 @@ pub fn publish_in<S: Alter>(
     conn: &mut Connection<S>,
     code: &str,
     kind: Kind,
-    capacity: u64,
+    capacity: u32,
 ) -> Result<(), BookFault>
     requires ready { IsReady (state S.Store conn.old) }
     requires kept { IsKept (state S.Store conn.old) (apply [] (Publish code.now kind capacity)) }
     ensures { Changes (state S.Store conn.old) (state S.Store conn.new) result (apply [] (Publish code.now kind capacity)) }
 {
-    let capacity = sql_number(capacity)?;
-    match capacity_found(conn, code)? {
-        Some(_) => republish(conn, code, capacity),
-        None => publish_new(conn, code, kind, capacity),
+    if is_published(conn, code)? {
+        republish(conn, code, capacity)
+    } else {
+        publish_new(conn, code, kind, capacity)
     }
 }
 
@@ -105,12 +101,13 @@ pub fn open_desk_in<S: Alter>(
     let digits = digits_of(digest)?;
     transact(
         conn,
-        &[
-            (
-                "INSERT INTO desks (desk, digest, next) VALUES (?1, ?2, 1)",
-                &[ValueRef::Text(name.as_bytes()), ValueRef::Text(digits.as_slice())],
-            ),
-        ],
+        &[(
+            "INSERT INTO desks (desk, digest, next) VALUES (?1, ?2, 1)",
+            &[
+                ValueRef::Text(name.as_bytes()),
+                ValueRef::Text(digits.as_slice()),
+            ],
+        )],
     )
 }
 
@@ -127,12 +124,13 @@ pub fn set_key_in<S: Alter>(
     let digits = digits_of(digest)?;
     transact(
         conn,
-        &[
-            (
-                "UPDATE desks SET digest = ?2 WHERE desk = ?1",
-                &[ValueRef::Text(name.as_bytes()), ValueRef::Text(digits.as_slice())],
-            ),
-        ],
+        &[(
+            "UPDATE desks SET digest = ?2 WHERE desk = ?1",
+            &[
+                ValueRef::Text(name.as_bytes()),
+                ValueRef::Text(digits.as_slice()),
+            ],
+        )],
     )
 }
 
@@ -149,9 +147,7 @@ fn add_numbered<'x, S: Alter>(
     requires kept { IsKept (state S.Store conn.old) (numbered_plan desk.now n kind name.now body.now) }
     ensures { Changes (state S.Store conn.old) (state S.Store conn.new) result (numbered_plan desk.now n kind name.now body.now) }
 {
-    let Some(next) = n.checked_add(1) else {
-        return Err(BookFault::Store);
-    };
+    let next = number_after(n)?;
     let given: &[ValueRef<'_>] = params![desk, n, plan_kind_text(kind), name, body, next];
     transact(
         conn,
@@ -219,12 +215,10 @@ pub fn set_calendar_in<S: Alter>(
 {
     transact(
         conn,
-        &[
-            (
-                "UPDATE plans SET start = ?3, days = ?4 WHERE desk = ?1 AND n = ?2",
-                params![desk, n, start, days],
-            ),
-        ],
+        &[(
+            "UPDATE plans SET start = ?3, days = ?4 WHERE desk = ?1 AND n = ?2",
+            params![desk, n, start, days],
+        )],
     )
 }
 
@@ -242,12 +236,10 @@ fn rebind<S: Alter>(
 {
     transact(
         conn,
-        &[
-            (
-                "UPDATE binds SET code = ?4 WHERE desk = ?1 AND n = ?2 AND place = ?3",
-                params![desk, n, place, code],
-            ),
-        ],
+        &[(
+            "UPDATE binds SET code = ?4 WHERE desk = ?1 AND n = ?2 AND place = ?3",
+            params![desk, n, place, code],
+        )],
     )
 }
 
@@ -265,12 +257,10 @@ fn bind_new<S: Alter>(
 {
     transact(
         conn,
-        &[
-            (
-                "INSERT INTO binds (desk, n, place, code) VALUES (?1, ?2, ?3, ?4)",
-                params![desk, n, place, code],
-            ),
-        ],
+        &[(
+            "INSERT INTO binds (desk, n, place, code) VALUES (?1, ?2, ?3, ?4)",
+            params![desk, n, place, code],
+        )],
     )
 }
 
@@ -307,12 +297,10 @@ fn drop_lag<S: Alter>(
 {
     transact(
         conn,
-        &[
-            (
-                "DELETE FROM lags WHERE desk = ?1 AND n = ?2 AND source = ?3 AND target = ?4",
-                params![desk, n, from, to],
-            ),
-        ],
+        &[(
+            "DELETE FROM lags WHERE desk = ?1 AND n = ?2 AND source = ?3 AND target = ?4",
+            params![desk, n, from, to],
+        )],
     )
 }
 
@@ -331,12 +319,10 @@ fn change_lag<S: Alter>(
 {
     transact(
         conn,
-        &[
-            (
-                "UPDATE lags SET lag = ?5 WHERE desk = ?1 AND n = ?2 AND source = ?3 AND target = ?4",
-                params![desk, n, from, to, lag],
-            ),
-        ],
+        &[(
+            "UPDATE lags SET lag = ?5 WHERE desk = ?1 AND n = ?2 AND source = ?3 AND target = ?4",
+            params![desk, n, from, to, lag],
+        )],
     )
 }
 
@@ -355,12 +341,10 @@ fn lag_new<S: Alter>(
 {
     transact(
         conn,
-        &[
-            (
-                "INSERT INTO lags (desk, n, source, target, lag) VALUES (?1, ?2, ?3, ?4, ?5)",
-                params![desk, n, from, to, lag],
-            ),
-        ],
+        &[(
+            "INSERT INTO lags (desk, n, source, target, lag) VALUES (?1, ?2, ?3, ?4, ?5)",
+            params![desk, n, from, to, lag],
+        )],
     )
 }
 

@@ -23,14 +23,16 @@ returns g c =
     let w = world_of s0.now.trees in
     asks_then s0 s1 s3 _ _ _ _ _ _ first (asks_then s1 s2 s3 _ _ _ _ (Ok c.in_ok-lags.lags) (λ _. Unit {0}) second third (λ clean. ((third.answer clean).0, tt)))
     (λ clean.
-      let last = third.answer clean in
-      let back2 = third.same clean last.0 in
-      let clean2 = third.honesty clean in
-      let mid = second.answer clean2 in
-      let back1 = second.same clean2 back2.0 in
-      let clean1 = second.honesty clean2 in
-      let back0 = first.same clean1 back1.0 in
-      let found : Matches IsPlanPart (plan_in w c.args.desk.now c.args.n) (Some part) = subst (Matches IsPlanPart (plan_in w c.args.desk.now c.args.n)) c.in-Some.is (first.answer clean1).1 in
-      (last.0, whole_plan w c.args.desk.now c.args.n _ part refl
-      (mid.1 ∙ ap (λ (d : Database). Rattle.plan_desk.specs.Plans.places_of (Rattle.plan_desk.specs.Views.view c.args.desk.now (world_of d.trees)) c.args.n) back0.1)
-      (last.1 ∙ ap (λ (d : Database). Rattle.plan_desk.specs.Plans.lags_of (Rattle.plan_desk.specs.Views.view c.args.desk.now (world_of d.trees)) c.args.n) (back1.1 ∙ back0.1)) found))
+    let last = third.answer clean in
+    let back2 = third.same clean last.0 in
+    let clean2 = third.honesty clean in
+    let mid = second.answer clean2 in
+    let back1 = second.same clean2 back2.0 in
+    let clean1 = second.honesty clean2 in
+    let back0 = first.same clean1 back1.0 in
+    let found : Matches IsPlanPart (plan_in w c.args.desk.now c.args.n) (Some part) = subst (Matches IsPlanPart (plan_in w c.args.desk.now c.args.n)) c.in-Some.is (first.answer clean1).1 in (
+      last.0,
+      whole_plan w c.args.desk.now c.args.n _ part refl
+          (mid.1 ∙ ap (λ (d : Database). Rattle.plan_desk.specs.Plans.places_of (Rattle.plan_desk.specs.Views.view c.args.desk.now (world_of d.trees)) c.args.n) back0.1)
+          (last.1 ∙ ap (λ (d : Database). Rattle.plan_desk.specs.Plans.lags_of (Rattle.plan_desk.specs.Views.view c.args.desk.now (world_of d.trees)) c.args.n) (back1.1 ∙ back0.1)) found,
+    ))
