@@ -5,3 +5,4 @@ pub mod Stores
 pub mod Running
 pub mod Serving
 pub mod Shown
+pub mod SqlBooks

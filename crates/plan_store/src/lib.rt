@@ -2,10 +2,14 @@
 #![tactic(auto)]
 
 mod asking;
+mod calls;
 mod cells;
 mod fault;
 mod numbers;
 mod reading;
 mod running;
 mod shown;
+mod sql_book;
 mod writing;
+
+pub use sql_book::SqlBook;

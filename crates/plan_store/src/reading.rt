@@ -9,7 +9,7 @@ ghost use Rattle.std.specs.Prelude.{false};
 ghost use Rattle.plan_desk.specs.World.{code_in, desk_in, plan_in, is_code, is_bind, is_lag};
 ghost use Rattle.std.specs.List.{list_any};
 ghost use Rattle.plan_desk.specs.Views.{view};
-ghost use Rattle.plan_desk.specs.Plans.{places_of, lags_of};
+ghost use Rattle.plan_desk.specs.Plans.{places_of, lags_of, has_number};
 ghost use Rattle.plan_desk.specs.Books.{Matches, IsDeskAnswer, IsCapacityAnswer, ListsCodes, ListsPlans, IsPlanAnswer, bind_in, lag_in};
 ghost use Rattle.plan_store.specs.Tables.{store_schema};
 ghost use Rattle.plan_store.specs.Stores.{world_of};
@@ -17,6 +17,7 @@ ghost use Rattle.plan_store.specs.Serving.{IsReady, Asks};
 ghost use Rattle.plan_store.specs.Shown.{ListsShown, FirstShown, OfficeShown, AnyShown, IsPlanPart};
 
 use crate::asking::rows_of;
+use crate::numbers::sql_number;
 use crate::shown::{FromShown, PlanPart, all_shown, first_shown, office_shown};
 use plan_desk::{BindEntry, BookFault, CodeRow, DeskRow, Kind, LagEntry, PlanEntry, PlanRow};
 use sqlite::types::ValueRef;
@@ -294,4 +295,19 @@ pub fn is_lagged<S: Alter>(
         "SELECT lag FROM lags WHERE desk = ?1 AND n = ?2 AND source = ?3 AND target = ?4 ORDER BY rowid",
         params![desk, n, from, to],
     )
+}
+
+/// The same, with a number of any size, and found among the plans of the desk.
+pub fn plan_any<S: Alter>(
+    alloc: Global,
+    conn: &mut Connection<S>,
+    desk: &str,
+    n: u64,
+) -> Result<Option<PlanRow>, BookFault>
+    requires ready { IsReady (state S.Store conn.old) }
+    ensures { Asks (state S.Store conn.old) (state S.Store conn.new) result
+        (Matches (IsPlanAnswer (view desk.now (world_of (state S.Store conn.old).now.trees))) (find (has_number n) (view desk.now (world_of (state S.Store conn.old).now.trees)).plans)) }
+{
+    let n = sql_number(n)?;
+    plan_found(alloc, conn, desk, n)
 }

@@ -387,3 +387,83 @@ pub fn set_lag_in<S: Alter>(
         put_lag(conn, desk, n, from, to, lag)
     }
 }
+
+/// The same, with numbers of any size.
+pub fn publish_any<S: Alter>(
+    conn: &mut Connection<S>,
+    code: &str,
+    kind: Kind,
+    capacity: u64,
+) -> Result<(), BookFault>
+    requires ready { IsReady (state S.Store conn.old) }
+    requires kept { IsKept (state S.Store conn.old) (apply [] (Publish code.now kind capacity)) }
+    ensures { Changes (state S.Store conn.old) (state S.Store conn.new) result (apply [] (Publish code.now kind capacity)) }
+{
+    let capacity = sql_number(capacity)?;
+    publish_in(conn, code, kind, capacity)
+}
+
+/// The same, with numbers of any size.
+pub fn remove_any<S: Alter>(
+    conn: &mut Connection<S>,
+    desk: &str,
+    n: u64,
+) -> Result<(), BookFault>
+    requires ready { IsReady (state S.Store conn.old) }
+    requires kept { IsKept (state S.Store conn.old) (apply desk.now (RemovePlan n)) }
+    ensures { Changes (state S.Store conn.old) (state S.Store conn.new) result (apply desk.now (RemovePlan n)) }
+{
+    let n = sql_number(n)?;
+    remove_plan_in(conn, desk, n)
+}
+
+/// The same, with numbers of any size.
+pub fn bind_any<S: Alter>(
+    conn: &mut Connection<S>,
+    desk: &str,
+    n: u64,
+    place: u64,
+    code: &str,
+) -> Result<(), BookFault>
+    requires ready { IsReady (state S.Store conn.old) }
+    requires kept { IsKept (state S.Store conn.old) (apply desk.now (BindPlace n place code.now)) }
+    ensures { Changes (state S.Store conn.old) (state S.Store conn.new) result (apply desk.now (BindPlace n place code.now)) }
+{
+    let n = sql_number(n)?;
+    let place = sql_number(place)?;
+    bind_place(conn, desk, n, place, code)
+}
+
+/// The same, with numbers of any size.
+pub fn set_calendar_any<S: Alter>(
+    conn: &mut Connection<S>,
+    desk: &str,
+    n: u64,
+    start: &str,
+    days: &str,
+) -> Result<(), BookFault>
+    requires ready { IsReady (state S.Store conn.old) }
+    requires kept { IsKept (state S.Store conn.old) (apply desk.now (SetCalendar n start.now days.now)) }
+    ensures { Changes (state S.Store conn.old) (state S.Store conn.new) result (apply desk.now (SetCalendar n start.now days.now)) }
+{
+    let n = sql_number(n)?;
+    set_calendar_in(conn, desk, n, start, days)
+}
+
+/// The same, with numbers of any size.
+pub fn set_lag_any<S: Alter>(
+    conn: &mut Connection<S>,
+    desk: &str,
+    n: u64,
+    from: u32,
+    to: u32,
+    lag: u64,
+) -> Result<(), BookFault>
+    requires ready { IsReady (state S.Store conn.old) }
+    requires kept { IsKept (state S.Store conn.old) (apply desk.now (SetLag n from to lag)) }
+    ensures { Changes (state S.Store conn.old) (state S.Store conn.new) result (apply desk.now (SetLag n from to lag)) }
+{
+    let n = sql_number(n)?;
+    let lag = sql_number(lag)?;
+    set_lag_in(conn, desk, n, from, to, lag)
+}
