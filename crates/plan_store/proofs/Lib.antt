@@ -15,3 +15,6 @@ pub mod QueryLemmas
 pub mod ShownLemmas
 pub mod ReadLemmas
 pub mod NumberedLemmas
+pub mod CreateMeanings
+pub mod CreateLemmas
+pub mod BookLemmas

@@ -6,3 +6,4 @@ pub mod Running
 pub mod Serving
 pub mod Shown
 pub mod SqlBooks
+pub mod Creating

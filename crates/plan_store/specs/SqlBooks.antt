@@ -4,7 +4,7 @@ use Rattle.std.proofs.Common.{sym, subst, ap, ◌∙◌}
 use Rattle.std.specs.Coded.{Coded, code_by, coded×, coded_ℕ}
 use Rattle.sqlite_trees.specs.declared.store.Store.{Ghosts}
 use Rattle.sqlite.specs.Effect.{Database}
-use Rattle.sqlite.specs.State.{HasCleanDisk}
+use Rattle.sqlite.specs.State.{State, HasCleanDisk}
 use Rattle.sqlite.specs.Held.{Held, held_code, state}
 use Rattle.plan_desk.specs.Books.{Shelf}
 use Rattle.plan_store.specs.Stores.{world_of, IsStore}
@@ -35,11 +35,8 @@ sql_shelf {S} g = record {
 }
 
 -- a crash may leave what the tables hold
-pub sql_now_may : {S : Type 0} (g : Ghosts S)
-    → ((store : S) → IsTrue (g.view store).is_open → g.recovers store (g.view store).committed)
-    → (book : Counted S) → Stands (state g book.conn)
-    → may_leave (state g book.conn) (Some (world_of (state g book.conn).now.trees))
-sql_now_may g stays book stands =
-    let s = state g book.conn in
+pub sql_now_may : (s : State) → Stands s → (IsTrue s.is_open → s.may_leave s.committed.trees)
+    → may_leave s (Some (world_of s.now.trees))
+sql_now_may s stands stays =
     let left = subst IsStore (λ i. record { schema = stands.store.schema i; trees = s.now.trees }) stands.store in
-    (s.now.trees, subst (s.may_leave) (sym (ap (λ (d : Database). d.trees) stands.settled)) (stays book.conn.store stands.is_open), left, refl)
+    (s.now.trees, subst s.may_leave (sym (ap (λ (d : Database). d.trees) stands.settled)) (stays stands.is_open), left, refl)

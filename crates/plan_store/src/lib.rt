@@ -4,6 +4,7 @@
 mod asking;
 mod calls;
 mod cells;
+mod creating;
 mod fault;
 mod numbers;
 mod reading;
@@ -12,4 +13,5 @@ mod shown;
 mod sql_book;
 mod writing;
 
+pub use fault::StoreFault;
 pub use sql_book::SqlBook;

@@ -44,7 +44,7 @@ impl<S: Alter> Book for SqlBook<S> {
 
     ghost whole = { λ book stands. stands.store.rules };
 
-    ghost now_may = { sql_now_may S.Store S.Store.stays };
+    ghost now_may = { λ book stands. sql_now_may _ stands (S.Store.stays book.conn.store) };
 
     fn office(&mut self) -> Result<[u8; 32], BookFault> {
         office_in(&mut self.conn)
