@@ -20,10 +20,7 @@ pub fn is_empty(schema: &Schema) -> bool
 }
 
 /// Makes the tables of a store without a row, or none. The table of lags comes last.
-pub fn make_tables<S: Alter>(
-    conn: &mut Connection<S>,
-    digest: &[u8; 32],
-) -> Result<(), StoreFault>
+pub fn make_tables<S: Alter>(conn: &mut Connection<S>, digest: &[u8; 32]) -> Result<(), StoreFault>
     requires outside { (state S.Store conn.old).in_transaction ≡ false }
     requires empty { (state S.Store conn.old).now.schema ≡ no_schema }
     ensures { Creates (state S.Store conn.old) (state S.Store conn.new) result digest.now }

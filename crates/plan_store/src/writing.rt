@@ -404,11 +404,7 @@ pub fn publish_any<S: Alter>(
 }
 
 /// The same, with numbers of any size.
-pub fn remove_any<S: Alter>(
-    conn: &mut Connection<S>,
-    desk: &str,
-    n: u64,
-) -> Result<(), BookFault>
+pub fn remove_any<S: Alter>(conn: &mut Connection<S>, desk: &str, n: u64) -> Result<(), BookFault>
     requires ready { IsReady (state S.Store conn.old) }
     requires kept { IsKept (state S.Store conn.old) (apply desk.now (RemovePlan n)) }
     ensures { Changes (state S.Store conn.old) (state S.Store conn.new) result (apply desk.now (RemovePlan n)) }
