@@ -1,4 +1,5 @@
 use Rattle.std.proofs.Common.{arith, Ok, Err, inl, []}
+use Rattle.sqlite.specs.State.{HasCleanDisk}
 use Rattle.sqlite.specs.Held.{state}
 use Rattle.plan_store.proofs.AskingLemmas.{asks, not_run_rests, nothing_new}
 use Rattle.plan_store.proofs.asking.prepared.Goals as goal

@@ -1,6 +1,7 @@
-use Rattle.std.proofs.Common.{Ok, subst, sym}
+use Rattle.std.proofs.Common.{◌≡◌, Ok, subst, sym}
 use Rattle.sqlite.specs.Values.{bound}
 use Rattle.sqlite.specs.Listing.{understood}
+use Rattle.sqlite.specs.State.{HasCleanDisk}
 use Rattle.sqlite.specs.Held.{state}
 use Rattle.sqlite.proofs.Callers.{IsPlain}
 use Rattle.plan_store.specs.Tables.{store_schema}

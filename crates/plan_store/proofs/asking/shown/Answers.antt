@@ -1,7 +1,9 @@
-use Rattle.std.proofs.Common.{arith, Ok, Err, inl, inr}
+use Rattle.std.proofs.Common.{arith, ◌≡◌, Ok, Err, inl, inr, []}
+use Rattle.sqlite_trees.specs.Tree.{Trees}
 use Rattle.sqlite.specs.Values.{bound}
 use Rattle.sqlite.specs.State.{HasCleanDisk}
 use Rattle.sqlite.specs.Held.{state}
+use Rattle.plan_store.specs.Tables.{store_schema}
 use Rattle.plan_store.proofs.AskingLemmas.{asks, query_failed, query_shown, query_commits_nothing}
 use Rattle.plan_store.proofs.asking.shown.Goals as goal
 

@@ -1,5 +1,6 @@
-use Rattle.std.proofs.Common.{refl, ap, subst, ◌∙◌, Ok, Some}
+use Rattle.std.proofs.Common.{◌≡◌, refl, sym, ap, subst, ◌∙◌, Ok, Some, map}
 use Rattle.sqlite.specs.Effect.{Database}
+use Rattle.sqlite.specs.State.{State}
 use Rattle.sqlite.specs.Held.{state}
 use Rattle.plan_desk.specs.Books.{Matches}
 use Rattle.plan_desk.specs.World.{plan_in}
