@@ -1,0 +1,52 @@
+-- A plan that is added with the number of its desk is the desk's next one.
+use Rattle.std.proofs.Common.{◌≡◌, ◌+◌, ℕ, Bool, true, false, cond, List, [], ◌∷◌, ◌++◌, map, find, Option, Some, None, refl, sym, ap, ap₂, subst, ◌∙◌}
+use Rattle.std.specs.List.{AllByRecursion}
+use Rattle.std.proofs.lemmas.Bool.{both_ways}
+use Rattle.std.proofs.lemmas.Slice.Eq.{bytes_eq-Decides}
+use Rattle.plan_desk.specs.declared.kinds.PlanKind.{PlanKind}
+use Rattle.plan_desk.specs.declared.rows.DeskRow.{DeskRow}
+use Rattle.plan_desk.specs.World.{Desk, World, same_text, is_desk, desk_in}
+use Rattle.plan_desk.specs.Changes.{apply, changed, risen, next_of, new_plan, AddPlan}
+use Rattle.plan_desk.specs.Rules.{AllDiffer}
+use Rattle.plan_desk.specs.Books.{Matches, IsDeskAnswer}
+use Rattle.plan_store.specs.Serving.{numbered_plan}
+
+module _ (desk : List ℕ) (n : ℕ) where
+  numbered : Desk → Desk
+  numbered row = record row { next = n + 1 }
+
+  -- no row behind the desk's own is the desk's
+  unchanged : (row : Desk) → is_desk desk row ≡ true → (xs : List Desk) → AllByRecursion (λ y. same_text row.desk y.desk ≡ false) xs → changed (is_desk desk) numbered xs ≡ changed (is_desk desk) risen xs
+  unchanged row own [] all = refl
+  unchanged row own (x ∷ xs) all = ap₂ ◌∷◌ (other (is_desk desk x) refl) (unchanged row own xs all.1)
+    where
+      other : (b : Bool) → is_desk desk x ≡ b → cond b (numbered x) x ≡ cond b (risen x) x
+      other false e = refl
+      other true e = absurd (both_ways (same_text row.desk x.desk) all.0 ((bytes_eq-Decides row.desk x.desk).1 ((bytes_eq-Decides row.desk desk).0 own ∙ sym ((bytes_eq-Decides x.desk desk).0 e))))
+
+  raised : (xs : List Desk) → AllDiffer (λ a b. same_text a.desk b.desk) xs → (row : Desk) → find (is_desk desk) xs ≡ Some row → row.next ≡ n → changed (is_desk desk) numbered xs ≡ changed (is_desk desk) risen xs
+  unfolding numbered
+  raised [] apart row found next = refl
+  raised (x ∷ xs) apart row found next = go (is_desk desk x) refl found (λ is. raised xs apart.1 row is next)
+    where
+      go : (b : Bool) → is_desk desk x ≡ b → cond b (Some x) (find (is_desk desk) xs) ≡ Some row → (find (is_desk desk) xs ≡ Some row → changed (is_desk desk) numbered xs ≡ changed (is_desk desk) risen xs) → cond b (numbered x) x ∷ changed (is_desk desk) numbered xs ≡ cond b (risen x) x ∷ changed (is_desk desk) risen xs
+      go true e is more =
+          let same : x ≡ row = cc in
+          let here : x.next ≡ n = ap (λ (d : Desk). d.next) same ∙ next in
+          ap₂ ◌∷◌ (ap (λ k. record x { next = k + 1 }) (sym here)) (unchanged x e xs apart.0)
+      go false e is more = ap (λ l. x ∷ l) (more is)
+
+  pub numbered_is_next : (w : World) → AllDiffer (λ a b. same_text a.desk b.desk) w.desks → (answer : DeskRow) → Matches IsDeskAnswer (desk_in w desk) (Some answer) → answer.next ≡ n
+      → (kind : PlanKind) (name body : List ℕ) → numbered_plan desk n kind name body w ≡ apply desk (AddPlan kind name body) w
+  unfolding numbered
+  numbered_is_next w apart answer told is kind name body = go (desk_in w desk) refl told
+    where
+      go : (o : Option Desk) → desk_in w desk ≡ o → Matches IsDeskAnswer o (Some answer) → numbered_plan desk n kind name body w ≡ apply desk (AddPlan kind name body) w
+      go None e h = absurd h
+      go (Some row) e h =
+          let next : row.next ≡ n = sym h.next ∙ is in
+          let number : next_of (desk_in w desk) ≡ n = ap next_of e ∙ next in
+          λ i. record w {
+            desks = raised w.desks apart row e next i;
+            plans = w.plans ++ new_plan desk (sym number i) kind name body ∷ [];
+          }

@@ -1,0 +1,15 @@
+use Rattle.std.proofs.Common.{subst}
+use Rattle.plan_desk.specs.Books.{Writes}
+use Rattle.plan_desk.specs.Changes.{apply, OpenDesk}
+use Rattle.plan_store.specs.SqlBooks.{Counted, sql_shelf}
+use Rattle.plan_store.proofs.BookLemmas.{writes_from}
+use Rattle.plan_store.proofs.sql_book.SqlBookBook.open_desk.Goals as goal
+
+pub returns : goal.returns
+returns g c =
+    let at = c.self.inside in
+    let change = apply c.args.name.now (OpenDesk c.args.digest.now) in
+    let was : Counted g.row.S.Denot = record { conn = at.conn; made = at.calls.made; refused = at.calls.refused } in
+    let now : Counted g.row.S.Denot = record { conn = c.open_desk_in-answer.new.conn; made = c.count.new.self.made; refused = c.count.new.self.refused } in
+    subst (λ old. Writes (sql_shelf g.S.Store) old now c.count.result change) c.self.view_is
+    (writes_from g.S.Store was now c.self.invariant change c.open_desk_in-answer.result c.count.result c.count.ensures.answer c.open_desk_in-answer.ensures c.count.ensures.made c.count.ensures.refused)

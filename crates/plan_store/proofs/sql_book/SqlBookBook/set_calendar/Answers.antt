@@ -1,0 +1,15 @@
+use Rattle.std.proofs.Common.{subst}
+use Rattle.plan_desk.specs.Books.{Writes}
+use Rattle.plan_desk.specs.Changes.{apply, SetCalendar}
+use Rattle.plan_store.specs.SqlBooks.{Counted, sql_shelf}
+use Rattle.plan_store.proofs.BookLemmas.{writes_from}
+use Rattle.plan_store.proofs.sql_book.SqlBookBook.set_calendar.Goals as goal
+
+pub returns : goal.returns
+returns g c =
+    let at = c.self.inside in
+    let change = apply c.args.desk.now (SetCalendar c.args.n c.args.start.now c.args.days.now) in
+    let was : Counted g.row.S.Denot = record { conn = at.conn; made = at.calls.made; refused = at.calls.refused } in
+    let now : Counted g.row.S.Denot = record { conn = c.set_calendar_any-answer.new.conn; made = c.count.new.self.made; refused = c.count.new.self.refused } in
+    subst (λ old. Writes (sql_shelf g.S.Store) old now c.count.result change) c.self.view_is
+    (writes_from g.S.Store was now c.self.invariant change c.set_calendar_any-answer.result c.count.result c.count.ensures.answer c.set_calendar_any-answer.ensures c.count.ensures.made c.count.ensures.refused)

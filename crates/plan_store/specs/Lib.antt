@@ -1,0 +1,9 @@
+pub mod Tables
+pub mod Kept
+pub mod Rows
+pub mod Stores
+pub mod Running
+pub mod Serving
+pub mod Shown
+pub mod SqlBooks
+pub mod Creating

@@ -1,0 +1,42 @@
+-- What contracts see of a book in SQL (docs/DEFINITIONS.md, "Tables").
+use Rattle.std.specs.Prelude.{◌≡◌, ℕ, IsTrue, Some, refl}
+use Rattle.std.proofs.Common.{sym, subst, ap, ◌∙◌}
+use Rattle.std.specs.Coded.{Coded, code_by, coded×, coded_ℕ}
+use Rattle.sqlite_trees.specs.declared.store.Store.{Ghosts}
+use Rattle.sqlite.specs.Effect.{Database}
+use Rattle.sqlite.specs.State.{State, HasCleanDisk}
+use Rattle.sqlite.specs.Held.{Held, held_code, state}
+use Rattle.plan_desk.specs.Books.{Shelf}
+use Rattle.plan_store.specs.Stores.{world_of, IsStore}
+use Rattle.plan_store.specs.Serving.{Stands, IsStoreLeft, may_leave}
+
+-- A book is seen as its connection, and how many writing calls were made and refused
+pub record Counted (S : Type 0) : Type 0 where
+  pub conn : Held S
+  pub made : ℕ
+  pub refused : ℕ
+
+abbrev pub book_code : {S : Type 0} → Coded S → Coded (Counted S)
+book_code {S} store =
+    code_by (Held S × (ℕ × ℕ)) (coded× (held_code store) (coded× coded_ℕ coded_ℕ))
+    (λ b. (b.conn, (b.made, b.refused)))
+    (λ p. record { conn = p.0; made = p.1.0; refused = p.1.1 }) (λ _. refl)
+
+-- It may refuse, and stands as long as its store is open.
+abbrev pub sql_shelf : {S : Type 0} → Ghosts S → Shelf (Counted S)
+sql_shelf {S} g = record {
+  world = λ book. world_of (state g book.conn).now.trees;
+  stands = λ book. Stands (state g book.conn);
+  honest = λ book. HasCleanDisk (state g book.conn);
+  can_refuse = Unit {0};
+  may_leave = λ book. may_leave (state g book.conn);
+  made = λ book. book.made;
+  refused = λ book. book.refused;
+}
+
+-- a crash may leave what the tables hold
+pub sql_now_may : (s : State) → Stands s → (IsTrue s.is_open → s.may_leave s.committed.trees)
+    → may_leave s (Some (world_of s.now.trees))
+sql_now_may s stands stays =
+    let left = subst IsStore (λ i. record { schema = stands.store.schema i; trees = s.now.trees }) stands.store in
+    (s.now.trees, subst s.may_leave (sym (ap (λ (d : Database). d.trees) stands.settled)) (stays stands.is_open), left, refl)

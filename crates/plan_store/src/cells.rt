@@ -1,0 +1,102 @@
+//! The values of a row that a query shows. A value of another kind is the store's fault.
+
+ghost use Rattle.std.specs.Prelude.{◌≡◌, pos, string_bytes, IfOk};
+ghost use Rattle.sqlite_value.specs.declared.value.Value.TheVariants.{Int, Text, Blob};
+ghost use Rattle.sqlite_value.specs.Order.{column};
+ghost use Rattle.plan_desk.specs.JsonTexts.{kind_text, plan_kind_text};
+ghost use Rattle.plan_store.specs.Rows.{digest_in};
+
+use crate::fault::fault_of;
+use plan_desk::{BookFault, Kind, PlanKind};
+use sqlite::Row;
+use sqlite::types::ValueRef;
+
+/// A number.
+pub fn number_at(row: &Row, at: usize) -> Result<u64, BookFault>
+    ensures { IfOk result (λ n. column row.now at ≡ Int (pos n)) }
+{
+    match row.get(at) {
+        Ok(number) => Ok(number),
+        Err(error) => Err(fault_of(&error)),
+    }
+}
+
+/// A text.
+pub fn text_at(row: &Row, at: usize) -> Result<String, BookFault>
+    ensures { IfOk result (λ text. column row.now at ≡ Text (string_bytes text)) }
+{
+    match row.get(at) {
+        Ok(text) => Ok(text),
+        Err(error) => Err(fault_of(&error)),
+    }
+}
+
+/// Bytes.
+pub fn bytes_at(row: &Row, at: usize) -> Result<Vec<u8>, BookFault>
+    ensures { IfOk result (λ bytes. column row.now at ≡ Blob bytes.items) }
+{
+    match row.get(at) {
+        Ok(bytes) => Ok(bytes),
+        Err(error) => Err(fault_of(&error)),
+    }
+}
+
+// A text, byte by byte.
+fn letters_at(row: &Row, at: usize) -> Result<&[u8], BookFault>
+    ensures { IfOk result (λ text. column row.now at ≡ Text text.now) }
+{
+    match row.get_ref(at) {
+        Ok(ValueRef::Text(text)) => Ok(text),
+        _ => Err(BookFault::Store),
+    }
+}
+
+/// What a published code stands for.
+pub fn kind_at(row: &Row, at: usize) -> Result<Kind, BookFault>
+    ensures { IfOk result (λ kind. column row.now at ≡ Text (kind_text kind)) }
+{
+    let text = letters_at(row, at)?;
+    if text == b"crew".as_slice() {
+        Ok(Kind::Crew)
+    } else if text == b"machine".as_slice() {
+        Ok(Kind::Machine)
+    } else {
+        Err(BookFault::Store)
+    }
+}
+
+/// What a plan is made of.
+pub fn plan_kind_at(row: &Row, at: usize) -> Result<PlanKind, BookFault>
+    ensures { IfOk result (λ kind. column row.now at ≡ Text (plan_kind_text kind)) }
+{
+    let text = letters_at(row, at)?;
+    if text == b"project".as_slice() {
+        Ok(PlanKind::Project)
+    } else if text == b"shop".as_slice() {
+        Ok(PlanKind::Shop)
+    } else {
+        Err(BookFault::Store)
+    }
+}
+
+/// A digest.
+pub fn digest_at(row: &Row, at: usize) -> Result<[u8; 32], BookFault>
+    ensures { IfOk result (λ digest. digest_in (column row.now at) ≡ digest) }
+{
+    let text = letters_at(row, at)?;
+    let mut digest = [0; 32];
+    match hex::decode_to_slice(text, &mut digest) {
+        Ok(()) => Ok(digest),
+        Err(_) => Err(BookFault::Store),
+    }
+}
+
+/// The number of an activity.
+pub fn small_at(row: &Row, at: usize) -> Result<u32, BookFault>
+    ensures { IfOk result (λ n. column row.now at ≡ Int (pos n)) }
+{
+    match row.get(at) {
+        Ok(number) => Ok(number),
+        Err(error) => Err(fault_of(&error)),
+    }
+}

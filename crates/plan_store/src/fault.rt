@@ -1,0 +1,40 @@
+//! Faults of a store, and faults of a connection as faults of a book.
+
+ghost use Rattle.std.specs.Prelude.{◌≢◌};
+ghost use Rattle.plan_store.specs.declared.fault.StoreFault.TheVariants.{NotOurs};
+
+use plan_desk::BookFault;
+use sqlite::{Error, ErrorCode};
+use thiserror::Error as Fault;
+
+/// Why there is no store.
+#[derive(Debug, Clone, Copy, PartialEq, Eq, Fault, Drop)]
+pub enum StoreFault {
+    /// The database has tables already.
+    #[error("the database has tables already")]
+    NotOurs,
+    /// Memory ran out.
+    #[error("no memory")]
+    NoMemory,
+    /// The store refused.
+    #[error("the store refused")]
+    Store,
+}
+
+// Want of memory is told as such, and all else is the store's.
+pub(crate) fn fault_of(error: &Error) -> BookFault {
+    match error {
+        Error::SqliteFailure(ErrorCode::OutOfMemory) => BookFault::NoMemory,
+        _ => BookFault::Store,
+    }
+}
+
+// A fault of a book that is being made.
+pub(crate) fn store_fault_of(error: &Error) -> StoreFault
+    ensures { result ≢ NotOurs }
+{
+    match error {
+        Error::SqliteFailure(ErrorCode::OutOfMemory) => StoreFault::NoMemory,
+        _ => StoreFault::Store,
+    }
+}

@@ -1,0 +1,210 @@
+//! A book in SQL.
+
+ghost use Rattle.std.specs.Prelude.{◌≡◌, ◌≢◌, ◌↔◌, false, IsTrue, IfOk, IfErr};
+ghost use Rattle.sqlite_trees.specs.Tree.{Trees};
+ghost use Rattle.sqlite.specs.State.{HasCleanDisk, Survives};
+ghost use Rattle.sqlite.specs.Held.{state};
+ghost use Rattle.sqlite.specs.Steps.{over_memory};
+ghost use Rattle.plan_desk.specs.World.{empty_world};
+ghost use Rattle.plan_store.specs.declared.fault.StoreFault.TheVariants.{NotOurs};
+ghost use Rattle.plan_store.specs.Tables.{no_schema};
+ghost use Rattle.plan_store.specs.Stores.{world_of};
+ghost use Rattle.plan_store.specs.Serving.{Stands};
+ghost use Rattle.plan_store.specs.Creating.{IsNewStore};
+
+use crate::calls::Calls;
+use crate::creating::{is_empty, make_tables};
+use crate::fault::StoreFault;
+use crate::reading::{capacity_found, codes_in, desk_found, office_in, plan_any, plans_in};
+use crate::writing::{
+    add_plan_in, bind_any, open_desk_in, publish_any, remove_any, set_calendar_any, set_key_in,
+    set_lag_any,
+};
+use plan_desk::{Book, BookFault, CodeRow, DeskRow, Kind, PlanEntry, PlanKind, PlanRow};
+use sqlite::{Alter, Connection, MemStore};
+use std::alloc::Global;
+use std::marker::Model;
+
+/// The tables of an office in SQL, over any store that the connection has. Each writing call is one
+/// transaction.
+#[derive(Drop)]
+pub struct SqlBook<S: Alter> {
+    alloc: Global,
+    conn: Connection<S>,
+    calls: Calls,
+}
+
+impl<S: Alter> Model for SqlBook<S> {
+    ghost use Rattle.plan_store.specs.SqlBooks.{Counted, book_code};
+    ghost use Rattle.sqlite.specs.Held.{state};
+    ghost use Rattle.plan_store.specs.Serving.{IsReady};
+
+    ghost Value = { Counted S };
+
+    ghost coded = { book_code S.code };
+
+    ghost view = { λ b. record { conn = b.conn; made = b.calls.made; refused = b.calls.refused } };
+
+    ghost invariant = { λ b. IsReady (state S.Store b.conn) };
+}
+
+impl<S: Alter> SqlBook<S> {
+    /// A book without a row, of an office with the digest of its key, in a database with no table,
+    /// index or view. An `Err` hands the connection back.
+    pub fn create_in(
+        alloc: Global,
+        conn: Connection<S>,
+        digest: &[u8; 32],
+    ) -> Result<SqlBook<S>, (StoreFault, Connection<S>)>
+        requires outside { (state S.Store conn).in_transaction ≡ false }
+        ensures made { IfOk result (λ b. HasCleanDisk (state S.Store b.conn)
+            → Stands (state S.Store b.conn) × (world_of (state S.Store b.conn).now.trees ≡ empty_world digest.now)) }
+        // Once it is made, a crash leaves it and nothing else.
+        ensures durable { IfOk result (λ b. HasCleanDisk (state S.Store b.conn)
+            → (trees : Trees) → (state S.Store b.conn).may_leave trees → trees ≡ (state S.Store b.conn).now.trees) }
+        ensures empty { IfOk result (λ _. (state S.Store conn).now.schema ≡ no_schema) }
+        ensures ours { IfErr result (λ e. (e.0 ≡ NotOurs) ↔ ((state S.Store conn).now.schema ≢ no_schema)) }
+        ensures untouched { IfErr result (λ e. e.0 ≡ NotOurs → e.1 ≡ conn) }
+        ensures outside { IfErr result (λ e. (state S.Store e.1).in_transaction ≡ false) }
+        ensures kept { IfErr result (λ e. HasCleanDisk (state S.Store e.1) → IsTrue (state S.Store e.1).is_open
+            → ((state S.Store e.1).now ≡ (state S.Store conn).now) × ((state S.Store e.1).committed ≡ (state S.Store conn).committed)) }
+        ensures crash { IfErr result (λ e. Survives (state S.Store conn) (state S.Store e.1) (IsNewStore digest.now)) }
+    {
+        let mut conn = conn;
+        if !is_empty(conn.schema()) {
+            return Err((StoreFault::NotOurs, conn));
+        }
+        match make_tables(&mut conn, digest) {
+            Ok(()) => Ok(SqlBook {
+                alloc,
+                conn,
+                calls: Calls::new(),
+            }),
+            Err(fault) => Err((fault, conn)),
+        }
+    }
+
+    /// The connection, outside a transaction, with the tables as they are.
+    pub fn into_connection(self) -> Connection<S>
+        ensures same { result ≡ self.conn }
+        ensures outside { (state S.Store result).in_transaction ≡ false }
+    {
+        let SqlBook {
+            alloc: _,
+            conn,
+            calls: _,
+        } = self;
+        conn
+    }
+}
+
+impl SqlBook<MemStore> {
+    /// A book without a row in a database in memory.
+    pub fn open_in_memory(alloc: Global, digest: &[u8; 32]) -> Result<SqlBook<MemStore>, StoreFault>
+        ensures made { IfOk result (λ b. Stands (state over_memory b.conn) × (world_of (state over_memory b.conn).now.trees ≡ empty_world digest.now)) }
+        ensures durable { IfOk result (λ b. (trees : Trees) → (state over_memory b.conn).may_leave trees → trees ≡ (state over_memory b.conn).now.trees) }
+        ensures ours { IfErr result (λ fault. fault ≢ NotOurs) }
+    {
+        let conn = match Connection::open_in_memory(alloc) {
+            Ok(conn) => conn,
+            Err(_) => return Err(StoreFault::NoMemory),
+        };
+        match SqlBook::create_in(alloc, conn, digest) {
+            Ok(book) => Ok(book),
+            Err((fault, _)) => Err(fault),
+        }
+    }
+}
+
+impl<S: Alter> Book for SqlBook<S> {
+    ghost use Rattle.plan_store.specs.SqlBooks.{sql_shelf, sql_now_may};
+
+    ghost shelf = { sql_shelf S.Store };
+
+    ghost whole = { λ book stands. stands.store.rules };
+
+    ghost now_may = { λ book stands. sql_now_may _ stands (S.Store.stays book.conn.store) };
+
+    fn office(&mut self) -> Result<[u8; 32], BookFault> {
+        office_in(&mut self.conn)
+    }
+
+    fn desk(&mut self, name: &str) -> Result<Option<DeskRow>, BookFault> {
+        desk_found(&mut self.conn, name)
+    }
+
+    fn open_desk(&mut self, name: &str, digest: &[u8; 32]) -> Result<(), BookFault> {
+        let answer = open_desk_in(&mut self.conn, name, digest);
+        self.calls.count(answer)
+    }
+
+    fn set_key(&mut self, name: &str, digest: &[u8; 32]) -> Result<(), BookFault> {
+        let answer = set_key_in(&mut self.conn, name, digest);
+        self.calls.count(answer)
+    }
+
+    fn publish(&mut self, code: &str, kind: Kind, capacity: u64) -> Result<(), BookFault> {
+        let answer = publish_any(&mut self.conn, code, kind, capacity);
+        self.calls.count(answer)
+    }
+
+    fn capacity(&mut self, code: &str) -> Result<Option<(Kind, u64)>, BookFault> {
+        capacity_found(&mut self.conn, code)
+    }
+
+    fn capacities(&mut self) -> Result<Vec<CodeRow>, BookFault> {
+        codes_in(self.alloc, &mut self.conn)
+    }
+
+    fn plans(&mut self, desk: &str) -> Result<Vec<PlanEntry>, BookFault> {
+        plans_in(self.alloc, &mut self.conn, desk)
+    }
+
+    fn plan(&mut self, desk: &str, n: u64) -> Result<Option<PlanRow>, BookFault> {
+        plan_any(self.alloc, &mut self.conn, desk, n)
+    }
+
+    fn add_plan(
+        &mut self,
+        desk: &str,
+        kind: PlanKind,
+        name: &str,
+        body: &[u8],
+    ) -> Result<(), BookFault> {
+        let answer = add_plan_in(&mut self.conn, desk, kind, name, body);
+        self.calls.count(answer)
+    }
+
+    fn remove_plan(&mut self, desk: &str, n: u64) -> Result<(), BookFault> {
+        let answer = remove_any(&mut self.conn, desk, n);
+        self.calls.count(answer)
+    }
+
+    fn bind(&mut self, desk: &str, n: u64, place: u64, code: &str) -> Result<(), BookFault> {
+        let answer = bind_any(&mut self.conn, desk, n, place, code);
+        self.calls.count(answer)
+    }
+
+    fn set_calendar(
+        &mut self,
+        desk: &str,
+        n: u64,
+        start: &str,
+        days: &str,
+    ) -> Result<(), BookFault> {
+        let answer = set_calendar_any(&mut self.conn, desk, n, start, days);
+        self.calls.count(answer)
+    }
+
+    fn set_lag(
+        &mut self,
+        desk: &str,
+        n: u64,
+        from: u32,
+        to: u32,
+        lag: u64,
+    ) -> Result<(), BookFault> {
+        let answer = set_lag_any(&mut self.conn, desk, n, from, to, lag);
+        self.calls.count(answer)
+    }
+}
