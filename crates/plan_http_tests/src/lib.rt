@@ -15,3 +15,5 @@ mod limits;
 mod pieces;
 #[cfg(test)]
 mod responses;
+#[cfg(test)]
+mod serving;
