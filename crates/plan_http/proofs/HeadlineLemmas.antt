@@ -167,7 +167,7 @@ told_in_run shelf old new conns responses desk ran honest =
     let long : length responses ≡ ran.count =
     ap (λ (list : List Text). length list) ran.responses_are ∙ one_each shelf old ran.last (take ran.count conns) ran.decisions ran.served ∙ taken_length ran.count conns ran.within in
     subst (λ (n : ℕ). AreTold desk (view desk (shelf.world old)) (take n conns) responses) (sym long)
-      (subst (λ (list : List Text). AreTold desk (view desk (shelf.world old)) (take ran.count conns) list) (sym ran.responses_are) told)
+    (subst (λ (list : List Text). AreTold desk (view desk (shelf.world old)) (take ran.count conns) list) (sym ran.responses_are) told)
 
 -- each reply of a story is what it promises
 promised_step : (v : View) (r : Request) (reply : Reply) (after : World) → IsStep (alone v) r reply after → reply.status ≡ 200
@@ -188,7 +188,7 @@ all_promised desk v (bytes ∷ conns) [] story told h = absurd h
 all_promised desk v (bytes ∷ conns) (response ∷ responses) story told (inl (outside, rest)) = all_promised desk v conns responses story told rest
 all_promised desk v (bytes ∷ conns) (response ∷ responses) story told (inr (r, is, (more, others, is_story, is_told, (after, answer, rest)))) =
     subst (λ (list : List Text). ArePromised desk v list told) (sym is_story) (subst (λ (list : List Text). ArePromised desk v (bytes ∷ more) list) (sym is_told)
-      (promised_first desk v bytes response more others r after is answer (all_promised desk (view desk after) conns responses more others rest)))
+    (promised_first desk v bytes response more others r after is answer (all_promised desk (view desk after) conns responses more others rest)))
 
 -- a story, or want
 told_or_wanting : (desk : Text) (v : View) (conns responses : List Text) → AreTold desk v conns responses → IsToldOrWanting desk v conns responses
@@ -211,6 +211,6 @@ told_alike first second a left b right conns responses others answers ran also h
   first_told = told_or_wanting desk (view desk (first.world a)) (answered_of conns responses) responses (told_in_run first a left conns responses desk ran honest);
   second_told = told_or_wanting desk (view desk (second.world b)) (answered_of others answers) answers (told_in_run second b right others answers desk also true_too);
   equal = λ story told given h k.
-    connections_are_told_alike desk (view desk (first.world a)) (view desk (second.world b)) (answered_of conns responses) responses (answered_of others answers) answers
+      connections_are_told_alike desk (view desk (first.world a)) (view desk (second.world b)) (answered_of conns responses) responses (answered_of others answers) answers
       story told given (alone_good desk (first.world a) good) (alone_good desk (second.world b) fine) agree h k;
 }

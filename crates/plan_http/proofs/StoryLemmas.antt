@@ -138,7 +138,7 @@ lifted desk (bytes ∷ conns) (response ∷ responses) requests replies (inl (ch
     inl (record { verdict = fails check allow is_head; spelled = spells; outside = refl }, lifted desk conns responses requests replies rest v told)
 lifted desk (bytes ∷ conns) (response ∷ responses) requests replies (inr (r, reply, more, others, is_r, is_reply, spells, alike, rest)) v told =
     told_first desk v bytes response conns responses r reply more others spells alike (λ u next. lifted desk conns responses more others rest u next)
-      (subst (λ (list : List Reply). desks.AreTold desk v (r ∷ more) list) is_reply (subst (λ (list : List Request). desks.AreTold desk v list replies) is_r told))
+    (subst (λ (list : List Reply). desks.AreTold desk v (r ∷ more) list) is_reply (subst (λ (list : List Request). desks.AreTold desk v list replies) is_r told))
 
 -- in every run of connections each desk is told what its story is told in an office of its own
 pub connections_are_apart : (desk : Text) (w : World) (conns : List Text) (decisions : List Decision) (after : World)
@@ -147,7 +147,7 @@ unfolding DesksAreApart
 connections_are_apart desk w conns decisions after served =
     let run = has_run w conns decisions after served in
     lifted desk conns (map response_of decisions) run.requests run.replies run.spelled (view desk w)
-      (desks_are_apart desk w run.requests run.replies run.worlds run.run)
+    (desks_are_apart desk w run.requests run.replies run.worlds run.run)
 
 -- ---- two runs
 

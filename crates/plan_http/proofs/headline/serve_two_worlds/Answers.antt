@@ -10,7 +10,7 @@ returns g c =
     (map vec_items c.serve_run-both.new.out.items) c.serve_run-both.result (ap (map vec_items) c.new-answers.ensures.items) c.serve_run-both.ensures.ok c.serve_run-both.ensures.err in
     record {
       headline = λ honest also stands standing desk agree.
-        told_alike g.A.Book.shelf g.B.Book.shelf c.args.first.now c.serve_run-whole.new.office c.args.second.now c.serve_run-both.new.office
+          told_alike g.A.Book.shelf g.B.Book.shelf c.args.first.now c.serve_run-whole.new.office c.args.second.now c.serve_run-both.new.office
           (map vec_items c.args.conns.now) (map vec_items c.serve_run-whole.new.out.items) (map vec_items c.args.others.now) (map vec_items c.serve_run-both.new.out.items)
           first second honest also (g.met.A.Book.whole c.args.first.now stands) (g.met.B.Book.whole c.args.second.now standing) desk agree;
     }
