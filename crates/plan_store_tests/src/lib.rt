@@ -5,3 +5,5 @@
 mod both;
 #[cfg(test)]
 mod requests;
+#[cfg(test)]
+mod worlds;
