@@ -132,6 +132,7 @@ fn add_routes(router: &mut Router<Route>, routes: &[Route]) -> Result<(), AllocE
 }
 
 impl Routes {
+    /// The table of all routes. The one fault is want of memory.
     pub fn new(alloc: Global) -> Result<Routes, AllocError> {
         let mut router = Router::new(alloc);
         add_routes(&mut router, &ALL)?;
