@@ -18,3 +18,4 @@ pub mod NumberedLemmas
 pub mod CreateMeanings
 pub mod CreateLemmas
 pub mod BookLemmas
+mod RereadLemmas

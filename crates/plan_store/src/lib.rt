@@ -6,12 +6,18 @@ mod calls;
 mod cells;
 mod creating;
 mod fault;
+mod layout;
+mod leftover;
 mod numbers;
+mod opening;
 mod reading;
+mod rereading;
 mod running;
 mod shown;
 mod sql_book;
+mod taking;
 mod writing;
 
 pub use fault::StoreFault;
+pub use leftover::Leftover;
 pub use sql_book::SqlBook;
