@@ -19,3 +19,4 @@ pub mod CreateMeanings
 pub mod CreateLemmas
 pub mod BookLemmas
 mod RereadLemmas
+pub mod OpeningLemmas

@@ -1,31 +1,20 @@
-//! Taking the tables of a store that is there.
+//! Testing the tables of a store that is there.
 
-ghost use Rattle.std.specs.Prelude.{◌≡◌, ◌≢◌, ℤ, IfOk, MatchOption};
+ghost use Rattle.std.specs.Prelude.{IfOk};
 ghost use Rattle.sqlite.specs.Held.{state};
-ghost use Rattle.sqlite.specs.State.{HasCleanDisk};
-ghost use Rattle.plan_store.specs.Layouts.{IsOfficeAt};
-ghost use Rattle.plan_store.specs.Opening.{IsReadable, Looks};
-ghost use Rattle.plan_store.specs.Rereading.{IsInOrder};
+ghost use Rattle.plan_store.specs.Opening.{IsReadable, Looks, IsJudged, SaysVersion};
 
-use crate::fault::StoreFault;
-use crate::layout::{Layout, layout_of};
+use crate::layout::Layout;
 use crate::taking::tables_in;
-use plan_desk::{BookFault, is_world};
+use plan_desk::{BookFault, Tables, is_world};
 use sqlite::{Alter, Connection};
-use std::alloc::Global;
+use std::alloc::{AllocError, Global};
 
-// The version that the tables of an office say, or none where they hold no office.
-fn version_in<S: Alter>(
-    alloc: Global,
-    conn: &mut Connection<S>,
-    layout: Layout,
-) -> Result<Option<i64>, BookFault>
-    requires { IsReadable layout (state S.Store conn.old) }
-    ensures { Looks layout (state S.Store conn.old) (state S.Store conn.new) result
-        (λ found. MatchOption found ((version : ℤ) → ¬ IsOfficeAt layout version (state S.Store conn.old).now)
-            (λ version. IsOfficeAt layout version (state S.Store conn.old).now)) }
+// The version that tables say, if their rows keep the rules of rows.
+fn version_of(alloc: Global, found: Option<(i64, Tables)>) -> Result<Option<i64>, AllocError>
+    ensures { IfOk result (IsJudged found) }
 {
-    let Some((version, tables)) = tables_in(alloc, conn, layout)? else {
+    let Some((version, tables)) = found else {
         return Ok(None);
     };
     if is_world(alloc, &tables)? {
@@ -33,4 +22,17 @@ fn version_in<S: Alter>(
     } else {
         Ok(None)
     }
+}
+
+/// The version that the tables of an office say, or none where they hold no office.
+pub fn version_in<S: Alter>(
+    alloc: Global,
+    conn: &mut Connection<S>,
+    layout: Layout,
+) -> Result<Option<i64>, BookFault>
+    requires { IsReadable layout (state S.Store conn.old) }
+    ensures { Looks layout (state S.Store conn.old) (state S.Store conn.new) result (SaysVersion layout (state S.Store conn.old).now) }
+{
+    let found = tables_in(alloc, conn, layout)?;
+    Ok(version_of(alloc, found)?)
 }
