@@ -20,3 +20,4 @@ pub mod CreateLemmas
 pub mod BookLemmas
 mod RereadLemmas
 pub mod OpeningLemmas
+pub mod MigrateLemmas

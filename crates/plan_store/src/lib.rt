@@ -8,6 +8,7 @@ mod creating;
 mod fault;
 mod layout;
 mod leftover;
+mod migrating;
 mod numbers;
 mod opening;
 mod reading;
