@@ -21,3 +21,4 @@ pub mod BookLemmas
 mod RereadLemmas
 pub mod OpeningLemmas
 pub mod MigrateLemmas
+pub mod AdoptLemmas

@@ -69,7 +69,7 @@ module _ {S : Type 0} (g : Ghosts S) (old : Held S) (store : S) (settled : IsTru
           outside = outside;
           settled = (opens h).0.clean;
           order = subst (λ t. AllByRecursion (λ table. AreNumbered (t table.tree)) (state g new).now.schema.tables) (sym (trees h))
-          (numbered_by (g.view store) (state g new).now.schema (listed (whole (clean h))) (ordered (whole (clean h))) (subst (IsSound (state g new).now.schema) (trees h) ((opens h).1 (opens h).0.is_open).0));
+              (numbered_by (g.view store) (state g new).now.schema (listed (whole (clean h))) (ordered (whole (clean h))) (subst (IsSound (state g new).now.schema) (trees h) ((opens h).1 (opens h).0.is_open).0));
           sound = ((opens h).1 (opens h).0.is_open).0;
         };
         same = λ h. (λ i. record { schema = schema h i; trees = same h i });

@@ -69,19 +69,36 @@ pub record Takes (old new : State) {X : Type 0} (result : Result X StoreFault) :
 
 -- ---- what is handed back
 
+-- tables that aren't an office's, or of no known version, come back with the connection
+abbrev pub IsWhole : {S : Type 0} → StoreFault → Leftover S → Type 0
+IsWhole NotOurs (left.Store store) = ⊥
+IsWhole Version (left.Store store) = ⊥
+IsWhole _ _ = Unit {0}
+
 module _ {S : Type 0} (g : Ghosts S) where
   -- so far the disk has returned what was written
   abbrev pub IsHonest : Leftover S → Type 0
   IsHonest (left.Connection conn) = HasCleanDisk (state g conn)
   IsHonest (left.Store store) = IsClean (g.view store)
 
-  -- the tables of what is open are these
-  abbrev pub ShowsTrees : Leftover S → Trees → Type 0
-  ShowsTrees (left.Connection conn) trees =
+  -- It is outside a transaction, and what is open has the tables of before.
+  abbrev pub HasTables : Leftover S → Database → Type 0
+  HasTables (left.Connection conn) db =
       ((state g conn).in_transaction ≡ false)
-      × (IsTrue (state g conn).is_open → (state g conn).now.trees ≡ trees)
-  ShowsTrees (left.Store store) trees = IsTrue (g.view store).is_open → (g.view store).trees ≡ trees
+      × (HasCleanDisk (state g conn) → IsTrue (state g conn).is_open → (state g conn).now ≡ db)
+  HasTables (left.Store store) db =
+      IsClean (g.view store) → IsTrue (g.view store).is_open → (g.view store).trees ≡ db.trees
 
+  -- what a crash may leave
   abbrev pub may_be_left : Leftover S → Trees → Type 0
   may_be_left (left.Connection conn) = (state g conn).may_leave
   may_be_left (left.Store store) = g.recovers store
+
+  -- Nothing was taken: why, what is handed back, and what a crash may leave.
+  pub record IsRefused (old : State) (fault : StoreFault) (leftover : Leftover S) : Type 0 where
+    pub honesty : IsHonest leftover → HasCleanDisk old
+    pub cause : IsHonest leftover → IsCause fault old.now
+    pub whole : IsWhole fault leftover
+    pub kept : HasTables leftover old.now
+    pub crash : IsHonest leftover → (trees : Trees) → may_be_left leftover trees
+        → old.may_leave trees ⊎ ((fault ≢ NotOurs) × (fault ≢ Version) × IsMigrated old.now trees)

@@ -1,6 +1,7 @@
 //! The tables of an office in SQLite.
 #![tactic(auto)]
 
+mod adopting;
 mod asking;
 mod calls;
 mod cells;
