@@ -11,3 +11,4 @@ pub mod Layouts
 pub mod Rereading
 pub mod Adopting
 pub mod Opening
+pub mod OnDisk

@@ -11,6 +11,7 @@ mod layout;
 mod leftover;
 mod migrating;
 mod numbers;
+mod on_disk;
 mod opening;
 mod reading;
 mod rereading;

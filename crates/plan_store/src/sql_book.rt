@@ -113,6 +113,7 @@ impl<S: Alter + Drop> SqlBook<S> {
         requires outside { (state S.Store conn).in_transaction ≡ false }
         ensures taken { IfOk result (λ b. HasCleanDisk (state S.Store b.conn)
             → Stands (state S.Store b.conn) × IsTaken (state S.Store conn).now (state S.Store b.conn).now) }
+        ensures honesty { IfOk result (λ b. HasCleanDisk (state S.Store b.conn) → HasCleanDisk (state S.Store conn)) }
         // Once they are taken, a crash leaves them and nothing else.
         ensures durable { IfOk result (λ b. HasCleanDisk (state S.Store b.conn)
             → (trees : Trees) → (state S.Store b.conn).may_leave trees → trees ≡ (state S.Store b.conn).now.trees) }
