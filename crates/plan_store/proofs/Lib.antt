@@ -18,3 +18,5 @@ pub mod NumberedLemmas
 pub mod CreateMeanings
 pub mod CreateLemmas
 pub mod BookLemmas
+pub mod LookingLemmas
+pub mod NumberedRowLemmas

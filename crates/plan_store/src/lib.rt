@@ -6,11 +6,13 @@ mod calls;
 mod cells;
 mod creating;
 mod fault;
+mod layout;
 mod numbers;
 mod reading;
 mod running;
 mod shown;
 mod sql_book;
+mod taken;
 mod writing;
 
 pub use fault::StoreFault;
