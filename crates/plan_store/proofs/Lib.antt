@@ -20,3 +20,6 @@ pub mod CreateLemmas
 pub mod BookLemmas
 pub mod LookingLemmas
 pub mod NumberedRowLemmas
+pub mod TakenLemmas
+pub mod TableMeanings
+pub mod TakingLemmas

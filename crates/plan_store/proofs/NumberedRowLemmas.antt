@@ -89,7 +89,7 @@ abbrev pub cells : Row → ℕ → ℕ → Row
 cells row from zero = []
 cells row from (suc count) = column row from ∷ cells row (from + 1) count
 
-cells_all : (front row : Row) (from : ℕ) → length front ≡ from → cells (front ++ row) from (length row) ≡ row
+pub cells_all : (front row : Row) (from : ℕ) → length front ≡ from → cells (front ++ row) from (length row) ≡ row
 cells_all front [] from size = refl
 cells_all front (v ∷ row) from size =
     let first : column (front ++ v ∷ row) from ≡ v = middle front from size in
