@@ -23,3 +23,4 @@ pub mod NumberedRowLemmas
 pub mod TakenLemmas
 pub mod TableMeanings
 pub mod TakingLemmas
+pub mod HoldsLemmas

@@ -27,16 +27,15 @@ use Rattle.plan_store.proofs.QueryLemmas.{rows_by_number}
 abbrev pub as_is : Row → Row
 as_is row = row
 
-whole_in : Value → ℤ
+abbrev pub whole_in : Value → ℤ
 whole_in (Int n) = n
 whole_in _ = pos 0
 
 -- the number of a row, and what stands behind it
-pub entry_of : Row → ℤ × Row
+abbrev pub entry_of : Row → ℤ × Row
 entry_of row = (whole_in (column row 0), drop 1 row)
 
 pub is_entry : (row : Row) → IsTrue (is_int (rowid row)) → row ≡ row_at as_is (entry_of row)
-unfolding whole_in entry_of
 is_entry [] h = cc
 is_entry (Null ∷ row) h = cc
 is_entry (Int n ∷ row) h = refl
@@ -101,3 +100,21 @@ cells_all front (v ∷ row) from size =
     middle [] (suc from) size = absurd (omega (arith, size))
     middle (w ∷ front) zero size = absurd (omega (arith, size))
     middle (w ∷ front) (suc from) size = middle front from (omega (arith, size))
+
+module _ (columns : List Column) (filled : AllByRecursion IsFilled columns) where
+  -- the row has a value of its type in each column, and is never NULL
+  abbrev pub IsFull : Row → Type 0
+  IsFull row = (are_typed None 0 columns (drop 1 row) ≡ true) × (are_present None 0 columns row ≡ true)
+
+  full_shown : (row : Row) → IsTrue (is_int (rowid row)) → IsFull row → cells (row_at as_is (entry_of row)) 1 (length columns) ≡ drop 1 row
+  full_shown row whole full =
+      let e = entry_of row in
+      let present = ap (are_present None 0 columns) (sym (is_entry row whole)) ∙ full.1 in
+      let wide : length e.1 ≡ length columns = width 0 columns (Int e.0 ∷ []) e.1 filled refl full.0 present in
+      ap (cells (row_at as_is e) 1) (sym wide) ∙ cells_all (Int e.0 ∷ []) e.1 1 refl
+
+  -- full rows are shown as they are, without their numbers
+  pub all_full : (rows : List Row) → AllByRecursion (λ row. IsTrue (is_int (rowid row))) rows → AllByRecursion IsFull rows
+      → map (λ e. cells (row_at as_is e) 1 (length columns)) (map entry_of rows) ≡ map (drop 1) rows
+  all_full [] whole full = refl
+  all_full (row ∷ rows) whole full = ap₂ ◌∷◌ (full_shown row whole.0 full.0) (all_full rows whole.1 full.1)

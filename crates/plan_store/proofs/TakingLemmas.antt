@@ -33,7 +33,6 @@ module _ {A X : Type 0} (written : A → Row) (read : Row → A) (Holds : A → 
   IsWhole row = Rattle.std.proofs.Common.IsTrue (Rattle.sqlite_trees.specs.View.is_int (column row 0))
 
   row_is : (row : Row) (x : X) → IsWhole row → Shows (drop 1 row) x → row ≡ row_at written ((entry_of row).0, kept x)
-  unfolding entry_of
   row_is row x whole shows = is_entry row whole ∙ ap (λ r. row_at (λ k. k) ((entry_of row).0, r)) shows.0
 
   are_entries : (rows : List Row) (xs : List X) → AllByRecursion IsWhole rows → AllZip Shows (map (drop 1) rows) xs → rows ≡ map (row_at written) (entries rows xs)
@@ -95,6 +94,6 @@ module _ {A X : Type 0} (written : A → Row) (read : Row → A) (Holds : A → 
 
     pub table_taken : (found : Option (List X)) → TakesAll takes (map (drop 1) rows) found → TakesTable written read Holds rows (option_map (map kept) found)
     table_taken (Some xs) zip = (keeps xs zip, sym (reads xs zip), all_hold (map (drop 1) rows) xs zip)
-    table_taken None (row, among, none) it all =
-        let shown = all_contains (λ r. (a : A) × Holds a × (r ≡ written a)) (map (drop 1) rows) row (shown_by it all) among in
-        none shown.0 shown.1 shown.2
+    table_taken None h = λ it all.
+        let shown = all_contains (λ r. (a : A) × Holds a × (r ≡ written a)) (map (drop 1) rows) h.0 (shown_by it all) h.1 in
+        h.2 shown.0 shown.1 shown.2
