@@ -75,15 +75,15 @@ calendar_texts start days (inr some) = (
 arc_low : (net : Net) (source target : ℕ) (arcs : List (ℕ × ℕ)) → count_of net ≤ 502 → AllByRecursion (IsGoodArc net) arcs → list_any (λ arc. joins arc source target) arcs ≡ true
     → (source < 2 ^ 32) × (target < 2 ^ 32)
 arc_low net source target [] few all h = cc
-arc_low net source target (arc ∷ arcs) few all h = go (joins arc source target) refl h
+arc_low net source target (arc ∷ arcs) few all h = go (joins arc source target) refl h (arc_low net source target arcs few all.1)
   where
-    go : (b : Bool) → joins arc source target ≡ b → (b || list_any (λ a. joins a source target) arcs) ≡ true → (source < 2 ^ 32) × (target < 2 ^ 32)
-    go true e h =
+    go : (b : Bool) → joins arc source target ≡ b → (b || list_any (λ a. joins a source target) arcs) ≡ true → (list_any (λ a. joins a source target) arcs ≡ true → (source < 2 ^ 32) × (target < 2 ^ 32)) → (source < 2 ^ 32) × (target < 2 ^ 32)
+    go true e h more =
         let p = and_parts (nat_eq arc.0 source) (nat_eq arc.1 target) e in
         let from : arc.0 ≡ source = let t = p.0 in grind (arith, nat_tests) in
         let to : arc.1 ≡ target = let t = p.1 in grind (arith, nat_tests) in
         (let m = all.0.0.1 in omega (arith, from, few, m), let m = all.0.1.1 in omega (arith, to, few, m))
-    go false e h = arc_low net source target arcs few all.1 h
+    go false e h more = more h
 
 arc_ends : (body : List ℕ) (p : Project) → SaysProject body p → (source target : ℕ) → has_arc p.network source target ≡ true → (source < 2 ^ 32) × (target < 2 ^ 32)
 arc_ends body p says source target h =
@@ -136,5 +136,6 @@ module _ (w : World) (rules : IsWorld w) (names : AllByRecursion (λ (row : Plan
   pub lags_hold : AllByRecursion HoldsLag w.lags
   lags_hold = all_weaker (IsLagRow w) HoldsLag (λ row h.
       let it = there (plan_in w row.desk row.n) _ h in
-      let says = it.3 in
-      (owner_text row.desk row.n it.0 it.1, arc_ends it.0.body says.0 says.1 row.source row.target says.2)) w.lags rules.lagged
+      let says = it.2.1 in
+      let ends = arc_ends it.0.body says.0 says.1 row.source row.target says.2 in
+      (owner_text row.desk row.n it.0 it.1, ends.0, ends.1)) w.lags rules.lagged

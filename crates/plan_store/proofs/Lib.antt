@@ -24,3 +24,4 @@ pub mod TakenLemmas
 pub mod TableMeanings
 pub mod TakingLemmas
 pub mod HoldsLemmas
+pub mod LaidLemmas

@@ -43,10 +43,17 @@ module _ (layout : Layout) where
     crash = it.crash;
   }
 
-  -- what is known of an answer, said otherwise
-  pub looks_map : (old new : State) → IsReadable layout old → {X Y : Type 0} (r : Result X BookFault) (Is : X → Type 0) (q : Result Y BookFault) (Other : Y → Type 0)
+  -- what is made of an answer
+  pub looks_again : (old new : State) {X Y : Type 0} (r : Result X BookFault) (Is : X → Type 0) (q : Result Y BookFault) (Other : Y → Type 0)
       → Looks layout old new r Is → IfOk q (λ y. HasCleanDisk new → IsTrue new.is_open × Other y) → Looks layout old new q Other
-  looks_map old new ready r Is q Other it answer = record { ready = it.ready; honesty = it.honesty; same = it.same; answer = answer; crash = it.crash }
+  looks_again old new r Is q Other it answer = record { ready = it.ready; honesty = it.honesty; same = it.same; answer = answer; crash = it.crash }
+
+  -- what is known of an answer, said otherwise
+  pub looks_map : (old new : State) → IsReadable layout old → {X : Type 0} (r : Result X BookFault) (Is Other : X → Type 0) → ((x : X) → IsLaid layout old → Is x → Other x)
+      → Looks layout old new r Is → Looks layout old new r Other
+  looks_map old new ready r Is Other f it = looks_again old new r Is r Other it (if_ok r (λ x h clean.
+      let live = (it.same clean (h clean).0).0 in
+      ((h clean).0, f x (ready.laid (it.honesty clean) live) (h clean).1)) it.answer)
 
   -- two calls that look, one after another
   pub looks_then : (a b c : State) {X Y Z : Type 0} (r : Result X BookFault) (Is : X → Type 0) (q : Result Y BookFault) (Other : Y → Type 0) (out : Result Z BookFault) (Last : Z → Type 0)

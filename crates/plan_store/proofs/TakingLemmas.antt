@@ -13,7 +13,7 @@ use Rattle.plan_store.specs.Taking.{TakesRow, TakesAll, TakesTable}
 use Rattle.plan_store.proofs.KeepLemmas.{reads_entries}
 use Rattle.plan_store.proofs.NumberedRowLemmas.{entry_of, is_entry, entries_rise}
 
-all_contains : {A : Type 0} (P : A → Type 0) (xs : List A) (x : A) → AllByRecursion P xs → Contains xs x → P x
+pub all_contains : {A : Type 0} (P : A → Type 0) (xs : List A) (x : A) → AllByRecursion P xs → Contains xs x → P x
 all_contains P xs x all (k, low, is) = subst P is (All-from_recursion P xs all k x low)
 
 module _ {A X : Type 0} (written : A → Row) (read : Row → A) (Holds : A → Type 0) (back : (a : A) → Holds a → (n : ℤ) → read (row_at written (n, a)) ≡ a) (kept : X → A) where

@@ -4,12 +4,14 @@ use Rattle.std.specs.List.{AllByRecursion, AllZip}
 use Rattle.std.specs.declared.alloc.Global.{Global}
 use Rattle.sqlite_value.specs.declared.value.Value.TheVariants.{Int}
 use Rattle.sqlite_value.specs.Order.{Row}
+use Rattle.sqlite_trees.specs.Tree.{Trees}
 use Rattle.sqlite.specs.Effect.{Database, Reads}
 use Rattle.plan_desk.specs.World.{Digest, Published, Desk, Plan, Bind, Lag}
 use Rattle.plan_desk.specs.Names.{is_digest}
 use Rattle.plan_store.specs.declared.layout.Layout.{Layout}
+use Rattle.plan_store.specs.declared.layout.Layout.TheVariants.{First, Second}
 use Rattle.plan_store.specs.Kept.{Keeps}
-use Rattle.plan_store.specs.Rows.{number_value, digest_value}
+use Rattle.plan_store.specs.Rows.{number_value, digest_value, written_lag, read_lag}
 use Rattle.plan_store.specs.Querying.{meaning_under}
 use Rattle.plan_store.specs.Layouts.{schema_of, meta_at}
 
@@ -72,3 +74,17 @@ TakesMeta rows None =
 abbrev pub TakesBoth : {X Y : Type 0} → (Option X → Type 0) → (Option Y → Type 0) → Option (X × Y) → Type 0
 TakesBoth P Q (Some both) = P (Some both.0) × Q (Some both.1)
 TakesBoth P Q None = P None ⊎ Q None
+
+-- the rows that code took, as those of an office
+abbrev pub taken_as : {X A : Type 0} → (X → A) → Option (Vec X Global) → Option (List A)
+taken_as kept found = option_map (map kept) (option_map (λ v. v.items) found)
+
+-- the one of a list, if there is one alone
+abbrev pub only_one : {X : Type 0} → List X → Option X
+only_one (x ∷ []) = Some x
+only_one _ = None
+
+-- tables of the first layout have no lags
+abbrev pub TakesLags : Layout → Trees → Option (List Lag) → Type 0
+TakesLags First trees found = found ≡ Some []
+TakesLags Second trees found = TakesTable written_lag read_lag HoldsLag (trees 9) found

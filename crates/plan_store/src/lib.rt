@@ -13,6 +13,7 @@ mod running;
 mod shown;
 mod sql_book;
 mod taken;
+mod taking;
 mod writing;
 
 pub use fault::StoreFault;
