@@ -25,3 +25,7 @@ pub mod TableMeanings
 pub mod TakingLemmas
 pub mod HoldsLemmas
 pub mod LaidLemmas
+mod RereadLemmas
+pub mod OpeningLemmas
+pub mod MigrateLemmas
+pub mod AdoptLemmas

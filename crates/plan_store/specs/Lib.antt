@@ -10,5 +10,7 @@ pub mod Creating
 pub mod Querying
 pub mod Layouts
 pub mod Rereading
+pub mod Adopting
 pub mod Opening
+pub mod OnDisk
 pub mod Taking

@@ -1,5 +1,5 @@
 -- A connection while its tables are tested (docs/DEFINITIONS.md, "Tables").
-use Rattle.std.specs.Prelude.{◌≡◌, ℤ, false, [], ◌∷◌, Option, IsTrue, Result, IfOk, MatchOption, IsUtf8}
+use Rattle.std.specs.Prelude.{◌≡◌, ◌⊎◌, ℤ, false, [], ◌∷◌, Option, Some, None, IsTrue, Result, IfOk, MatchOption, IsUtf8}
 use Rattle.std.specs.List.{AllByRecursion}
 use Rattle.sqlite_trees.specs.Tree.{Trees}
 use Rattle.sqlite.specs.Effect.{Database}
@@ -8,6 +8,7 @@ use Rattle.plan_desk.specs.declared.fault.BookFault.{BookFault}
 use Rattle.plan_desk.specs.declared.tables.Tables.{Tables}
 use Rattle.plan_desk.specs.Tables.{world_kept}
 use Rattle.plan_desk.specs.World.{Plan}
+use Rattle.plan_desk.specs.Rules.{IsWorld}
 use Rattle.plan_store.specs.declared.layout.Layout.{Layout}
 use Rattle.plan_store.specs.Kept.{Keeps}
 use Rattle.plan_store.specs.Rows.{read_code, written_code, read_desk, written_desk, read_plan, written_plan, read_bind, written_bind}
@@ -48,3 +49,14 @@ pub record HoldsRows (layout : Layout) (db : Database) (version : ℤ) (tables :
 abbrev pub TakesRows : Layout → Database → Option (ℤ × Tables) → Type 0
 TakesRows layout db found =
     MatchOption found ((version : ℤ) → ¬ IsOfficeAt layout version db) (λ it. HoldsRows layout db it.0 it.1)
+
+-- rows that keep the rules of rows say a version
+abbrev pub IsJudged : Option (ℤ × Tables) → Option ℤ → Type 0
+IsJudged None said = said ≡ None
+IsJudged (Some it) said =
+    ((said ≡ Some it.0) × IsWorld (world_kept it.1)) ⊎ ((said ≡ None) × ¬ IsWorld (world_kept it.1))
+
+-- the version that the tables of an office say, or none where they hold no office
+abbrev pub SaysVersion : Layout → Database → Option ℤ → Type 0
+SaysVersion layout db said =
+    MatchOption said ((version : ℤ) → ¬ IsOfficeAt layout version db) (λ version. IsOfficeAt layout version db)

@@ -1,14 +1,20 @@
 //! The tables of an office in SQLite.
 #![tactic(auto)]
 
+mod adopting;
 mod asking;
 mod calls;
 mod cells;
 mod creating;
 mod fault;
 mod layout;
+mod leftover;
+mod migrating;
 mod numbers;
+mod on_disk;
+mod opening;
 mod reading;
+mod rereading;
 mod running;
 mod shown;
 mod sql_book;
@@ -17,4 +23,5 @@ mod taking;
 mod writing;
 
 pub use fault::StoreFault;
+pub use leftover::Leftover;
 pub use sql_book::SqlBook;
