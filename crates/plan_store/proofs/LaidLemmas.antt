@@ -36,7 +36,7 @@ use Rattle.plan_store.specs.Rows.{number_value, digest_value, written_code, read
 use Rattle.plan_store.specs.Querying.{meaning_under}
 use Rattle.plan_store.specs.Layouts.{schema_of, AreNumbered, meta_at}
 use Rattle.plan_store.specs.Opening.{IsLaid}
-use Rattle.plan_store.specs.Taking.{Meta, shown_meta, HoldsMeta, TakesMeta, only_one, HoldsCode, HoldsDesk, HoldsPlan, HoldsBind, HoldsLag, TakesRow, TakesAll, TakesTable, ListsTaken, taken_as}
+use Rattle.plan_store.specs.Taking.{Meta, shown_meta, HoldsMeta, TakesMeta, only_one, HoldsCode, HoldsDesk, HoldsPlan, HoldsBind, HoldsLag, TakesRow, TakesAll, TakesTable, TakesLags, ListsTaken, taken_as}
 use Rattle.plan_store.proofs.CodecLemmas.{code_back, desk_back, plan_back, bind_back, lag_back}
 use Rattle.plan_store.proofs.QueryForms.{of_table, alone, by}
 use Rattle.plan_store.proofs.NumberedRowLemmas.{as_is, entry_of, cells, all_shown, all_full, IsFilled, IsFull, is_entry, width}
@@ -142,6 +142,11 @@ lags_read s laid =
     let table = lags_laid s laid in
     table_read Second s.now written_lag read_lag HoldsLag (λ a holds n. lag_back a n) lag_kept 9 tables.lags.columns (refl, (refl, (refl, (refl, (refl, tt))))) means.lags_query.project means.lags_text _ means.lags_is
     (λ x. refl) refl table.0 table.1
+
+pub lags_read_in : (layout : Layout) → layout ≡ Second → (s : State) → IsLaid layout s → (found : Option (Vec LagRecord Global)) → ListsTaken (λ row f. TakesRow written_lag HoldsLag row (option_map lag_kept f)) layout means.lags_text s.now found
+    → TakesLags layout s.now.trees found
+lags_read_in First is s laid found h = cc
+lags_read_in Second is s laid found h = lags_read s laid found h
 
 -- ---- the table of the version
 

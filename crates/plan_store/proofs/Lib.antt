@@ -29,3 +29,4 @@ mod RereadLemmas
 pub mod OpeningLemmas
 pub mod MigrateLemmas
 pub mod AdoptLemmas
+pub mod TakenTableLemmas

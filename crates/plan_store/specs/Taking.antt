@@ -6,12 +6,19 @@ use Rattle.sqlite_value.specs.declared.value.Value.TheVariants.{Int}
 use Rattle.sqlite_value.specs.Order.{Row}
 use Rattle.sqlite_trees.specs.Tree.{Trees}
 use Rattle.sqlite.specs.Effect.{Database, Reads}
+use Rattle.plan_desk.specs.declared.rows.CodeRow.{CodeRow}
+use Rattle.plan_desk.specs.declared.tables.records.DeskRecord.{DeskRecord}
+use Rattle.plan_desk.specs.declared.tables.records.PlanRecord.{PlanRecord}
+use Rattle.plan_desk.specs.declared.tables.records.BindRecord.{BindRecord}
+use Rattle.plan_desk.specs.declared.tables.records.LagRecord.{LagRecord}
+use Rattle.plan_desk.specs.Books.{published_in}
+use Rattle.plan_desk.specs.Tables.{desk_kept, plan_kept, bind_kept, lag_kept}
 use Rattle.plan_desk.specs.World.{Digest, Published, Desk, Plan, Bind, Lag}
 use Rattle.plan_desk.specs.Names.{is_digest}
 use Rattle.plan_store.specs.declared.layout.Layout.{Layout}
 use Rattle.plan_store.specs.declared.layout.Layout.TheVariants.{First, Second}
 use Rattle.plan_store.specs.Kept.{Keeps}
-use Rattle.plan_store.specs.Rows.{number_value, digest_value, written_lag, read_lag}
+use Rattle.plan_store.specs.Rows.{number_value, digest_value, written_code, read_code, written_desk, read_desk, written_plan, read_plan, written_bind, read_bind, written_lag, read_lag}
 use Rattle.plan_store.specs.Querying.{meaning_under}
 use Rattle.plan_store.specs.Layouts.{schema_of, meta_at}
 
@@ -84,7 +91,25 @@ abbrev pub only_one : {X : Type 0} → List X → Option X
 only_one (x ∷ []) = Some x
 only_one _ = None
 
+-- what is read of each table
+abbrev pub TakesCodes : Trees → Option (Vec CodeRow Global) → Type 0
+TakesCodes trees found =
+    TakesTable written_code read_code HoldsCode (trees 1) (taken_as published_in found)
+
+abbrev pub TakesDesks : Trees → Option (Vec DeskRecord Global) → Type 0
+TakesDesks trees found =
+    TakesTable written_desk read_desk HoldsDesk (trees 3) (taken_as desk_kept found)
+
+abbrev pub TakesPlans : Trees → Option (Vec PlanRecord Global) → Type 0
+TakesPlans trees found =
+    TakesTable written_plan read_plan HoldsPlan (trees 5) (taken_as plan_kept found)
+
+abbrev pub TakesBinds : Trees → Option (Vec BindRecord Global) → Type 0
+TakesBinds trees found =
+    TakesTable written_bind read_bind HoldsBind (trees 7) (taken_as bind_kept found)
+
 -- tables of the first layout have no lags
-abbrev pub TakesLags : Layout → Trees → Option (List Lag) → Type 0
-TakesLags First trees found = found ≡ Some []
-TakesLags Second trees found = TakesTable written_lag read_lag HoldsLag (trees 9) found
+abbrev pub TakesLags : Layout → Trees → Option (Vec LagRecord Global) → Type 0
+TakesLags First trees found = taken_as lag_kept found ≡ Some []
+TakesLags Second trees found =
+    TakesTable written_lag read_lag HoldsLag (trees 9) (taken_as lag_kept found)

@@ -1,15 +1,12 @@
 //! All rows of tables that someone else may have written.
 
-ghost use Rattle.std.specs.Prelude.{◌≡◌, Option, IsTrue};
+ghost use Rattle.std.specs.Prelude.{◌≡◌, IsTrue};
 ghost use Rattle.sqlite.specs.State.{HasCleanDisk};
 ghost use Rattle.sqlite.specs.Held.{state};
-ghost use Rattle.plan_desk.specs.Books.{published_in};
-ghost use Rattle.plan_desk.specs.Tables.{desk_kept, plan_kept, bind_kept, lag_kept};
-ghost use Rattle.plan_store.specs.Rows.{written_code, read_code, written_desk, read_desk, written_plan, read_plan, written_bind, read_bind};
 ghost use Rattle.plan_store.specs.Querying.{IsQueryUnder};
 ghost use Rattle.plan_store.specs.Layouts.{schema_of};
 ghost use Rattle.plan_store.specs.Opening.{IsReadable, Looks, TakesRows};
-ghost use Rattle.plan_store.specs.Taking.{HoldsCode, HoldsDesk, HoldsPlan, HoldsBind, ListsTaken, TakesMeta, TakesTable, TakesLags, TakesBoth, taken_as, only_one};
+ghost use Rattle.plan_store.specs.Taking.{ListsTaken, TakesMeta, TakesCodes, TakesDesks, TakesPlans, TakesBinds, TakesLags, TakesBoth, only_one};
 
 use crate::asking::rows_laid;
 use crate::layout::Layout;
@@ -65,7 +62,7 @@ fn codes_in<S: Alter>(
 ) -> Result<Option<Vec<CodeRow>>, BookFault>
     requires ready { IsReadable layout (state S.Store conn.old) }
     ensures { Looks layout (state S.Store conn.old) (state S.Store conn.new) result
-        (λ found. TakesTable written_code read_code HoldsCode ((state S.Store conn.old).now.trees 1) (taken_as published_in found)) }
+        (TakesCodes (state S.Store conn.old).now.trees) }
 {
     let text = "SELECT code, kind, capacity FROM published ORDER BY rowid";
     rows_taken(alloc, conn, layout, text)
@@ -78,7 +75,7 @@ fn desks_in<S: Alter>(
 ) -> Result<Option<Vec<DeskRecord>>, BookFault>
     requires ready { IsReadable layout (state S.Store conn.old) }
     ensures { Looks layout (state S.Store conn.old) (state S.Store conn.new) result
-        (λ found. TakesTable written_desk read_desk HoldsDesk ((state S.Store conn.old).now.trees 3) (taken_as desk_kept found)) }
+        (TakesDesks (state S.Store conn.old).now.trees) }
 {
     let text = "SELECT desk, digest, next FROM desks ORDER BY rowid";
     rows_taken(alloc, conn, layout, text)
@@ -91,7 +88,7 @@ fn plans_in<S: Alter>(
 ) -> Result<Option<Vec<PlanRecord>>, BookFault>
     requires ready { IsReadable layout (state S.Store conn.old) }
     ensures { Looks layout (state S.Store conn.old) (state S.Store conn.new) result
-        (λ found. TakesTable written_plan read_plan HoldsPlan ((state S.Store conn.old).now.trees 5) (taken_as plan_kept found)) }
+        (TakesPlans (state S.Store conn.old).now.trees) }
 {
     let text = "SELECT desk, n, kind, name, body, start, days FROM plans ORDER BY rowid";
     rows_taken(alloc, conn, layout, text)
@@ -104,7 +101,7 @@ fn binds_in<S: Alter>(
 ) -> Result<Option<Vec<BindRecord>>, BookFault>
     requires ready { IsReadable layout (state S.Store conn.old) }
     ensures { Looks layout (state S.Store conn.old) (state S.Store conn.new) result
-        (λ found. TakesTable written_bind read_bind HoldsBind ((state S.Store conn.old).now.trees 7) (taken_as bind_kept found)) }
+        (TakesBinds (state S.Store conn.old).now.trees) }
 {
     let text = "SELECT desk, n, place, code FROM binds ORDER BY rowid";
     rows_taken(alloc, conn, layout, text)
@@ -118,7 +115,7 @@ fn lags_in<S: Alter>(
     requires ready { IsReadable layout (state S.Store conn.old) }
     requires live { HasCleanDisk (state S.Store conn.old) → IsTrue (state S.Store conn.old).is_open }
     ensures { Looks layout (state S.Store conn.old) (state S.Store conn.new) result
-        (λ found. TakesLags layout (state S.Store conn.old).now.trees (taken_as lag_kept found)) }
+        (TakesLags layout (state S.Store conn.old).now.trees) }
 {
     match layout {
         Layout::First => Ok(Some(Vec::new(alloc))),
@@ -129,4 +126,76 @@ fn lags_in<S: Alter>(
             "SELECT desk, n, source, target, lag FROM lags ORDER BY rowid",
         ),
     }
+}
+
+// The published codes and the desks.
+fn codes_and_desks<S: Alter>(
+    alloc: Global,
+    conn: &mut Connection<S>,
+    layout: Layout,
+) -> Result<Option<(Vec<CodeRow>, Vec<DeskRecord>)>, BookFault>
+    requires ready { IsReadable layout (state S.Store conn.old) }
+    ensures { Looks layout (state S.Store conn.old) (state S.Store conn.new) result
+        (TakesBoth (TakesCodes (state S.Store conn.old).now.trees) (TakesDesks (state S.Store conn.old).now.trees)) }
+{
+    let Some(codes) = codes_in(alloc, conn, layout)? else {
+        return Ok(None);
+    };
+    let Some(desks) = desks_in(alloc, conn, layout)? else {
+        return Ok(None);
+    };
+    Ok(Some((codes, desks)))
+}
+
+// The binds and the lags.
+fn binds_and_lags<S: Alter>(
+    alloc: Global,
+    conn: &mut Connection<S>,
+    layout: Layout,
+) -> Result<Option<(Vec<BindRecord>, Vec<LagRecord>)>, BookFault>
+    requires ready { IsReadable layout (state S.Store conn.old) }
+    ensures { Looks layout (state S.Store conn.old) (state S.Store conn.new) result
+        (TakesBoth (TakesBinds (state S.Store conn.old).now.trees) (TakesLags layout (state S.Store conn.old).now.trees)) }
+{
+    let Some(binds) = binds_in(alloc, conn, layout)? else {
+        return Ok(None);
+    };
+    let Some(lags) = lags_in(alloc, conn, layout)? else {
+        return Ok(None);
+    };
+    Ok(Some((binds, lags)))
+}
+
+/// All rows of the tables of a layout, with the version that they say, or none where no office has
+/// such rows.
+pub fn tables_in<S: Alter>(
+    alloc: Global,
+    conn: &mut Connection<S>,
+    layout: Layout,
+) -> Result<Option<(i64, Tables)>, BookFault>
+    requires { IsReadable layout (state S.Store conn.old) }
+    ensures { Looks layout (state S.Store conn.old) (state S.Store conn.new) result (TakesRows layout (state S.Store conn.old).now) }
+{
+    let Some(meta) = meta_in(alloc, conn, layout)? else {
+        return Ok(None);
+    };
+    let Some((published, desks)) = codes_and_desks(alloc, conn, layout)? else {
+        return Ok(None);
+    };
+    let Some(plans) = plans_in(alloc, conn, layout)? else {
+        return Ok(None);
+    };
+    let Some((binds, lags)) = binds_and_lags(alloc, conn, layout)? else {
+        return Ok(None);
+    };
+    let (version, office) = meta;
+    let tables = Tables {
+        office,
+        published,
+        desks,
+        plans,
+        binds,
+        lags,
+    };
+    Ok(Some((version, tables)))
 }

@@ -1,23 +1,32 @@
-use Rattle.std.proofs.Common.{rules, ◌≡◌, Option, IsTrue, ℕ, ◌+◌, ◌-◌, ◌*◌, ◌<◌, ◌≤◌, length, ◌/◌, ◌%◌, Bool, true, false, nat_eq, nat_lt, List, [], ◌∷◌, ◌++◌, slice_index_or, slice_set, bit_and, bit_or, Fits, w8, w32, w64, Bor, MutBor}
-use Rattle.sqlite.specs.State.{HasCleanDisk}
+use Rattle.std.proofs.Common.{◌≡◌, Option, Ok, Some, None, Vec, Global, option_map, option_and_then, sym, ap, subst, ◌∙◌}
 use Rattle.sqlite.specs.Held.{state}
-use Rattle.plan_desk.specs.Books.{published_in}
-use Rattle.plan_desk.specs.Tables.{desk_kept, plan_kept, bind_kept, lag_kept}
-use Rattle.plan_store.specs.Rows.{written_code, read_code, written_desk, read_desk, written_plan, read_plan, written_bind, read_bind}
-use Rattle.plan_store.specs.Querying.{IsQueryUnder}
-use Rattle.plan_store.specs.Layouts.{schema_of}
-use Rattle.plan_store.specs.Opening.{IsReadable, Looks, TakesRows}
-use Rattle.plan_store.specs.Taking.{HoldsCode, HoldsDesk, HoldsPlan, HoldsBind, ListsTaken, TakesMeta, TakesTable, TakesLags, TakesBoth, taken_as, only_one}
+use Rattle.plan_store.specs.Taking.{Meta, TakesMeta, only_one}
+use Rattle.plan_store.proofs.LookingLemmas.{looks_map, looks_made}
+use Rattle.plan_store.proofs.TableMeanings.{meta_asks}
+use Rattle.plan_store.proofs.LaidLemmas.{meta_read}
 use Rattle.plan_store.proofs.taking.meta_in.Goals as goal
 
--- src/taking.rt:55:11
+abbrev one_of : Option (Vec Meta Global) → Option Meta
+one_of found = option_and_then only_one (option_map (λ v. v.items) found)
+
 pub rows_taken-requires-clause-query : goal.rows_taken-requires-clause-query
-rows_taken-requires-clause-query g c = ?
+rows_taken-requires-clause-query g c = meta_asks c.args.layout
 
--- src/taking.rt:45:1
 pub returns-in-Some : goal.returns-in-Some
-returns-in-Some g c = ?
+returns-in-Some g c =
+    let old = state g.S.Store c.args.conn.now in
+    let new = state g.S.Store c.rows_taken.new.conn in
+    let rows = old.now.trees 0 in
+    let it = looks_map c.args.layout old new c.requires.ready (Ok c.in_ok-all.field-0) _ (λ found. TakesMeta rows (one_of found))
+    (λ found laid h. meta_read c.args.layout old laid (option_map (λ v. v.items) found) h.0 h.1 h.2) c.in_ok-all.ensures in
+    let same : one_of c.in_ok-all.field-0 ≡ c.only_one.result = ap one_of c.in-Some.is ∙ sym (c.only_one.ensures ∙ ap only_one c.as_slice.ensures.value) in
+    looks_made c.args.layout old new c.in_ok-all.field-0 _ c.only_one.result (TakesMeta rows) (subst (TakesMeta rows) same) it
 
--- src/taking.rt:45:1
 pub returns-in-None : goal.returns-in-None
-returns-in-None g c = ?
+returns-in-None g c =
+    let old = state g.S.Store c.args.conn.now in
+    let new = state g.S.Store c.rows_taken.new.conn in
+    let rows = old.now.trees 0 in
+    let it = looks_map c.args.layout old new c.requires.ready (Ok c.in_ok-all.field-0) _ (λ found. TakesMeta rows (one_of found))
+    (λ found laid h. meta_read c.args.layout old laid (option_map (λ v. v.items) found) h.0 h.1 h.2) c.in_ok-all.ensures in
+    looks_made c.args.layout old new c.in_ok-all.field-0 _ None (TakesMeta rows) (subst (TakesMeta rows) (ap one_of c.in-None.is)) it
