@@ -23,12 +23,12 @@ use Rattle.plan_http.proofs.StoryLemmas.{connections_are_apart, connections_are_
 
 module _ {B : Type 0} (shelf : Shelf B) where
   -- a disk that has returned what was written, returned it before
-  moved_honest : (old new : B) (d : Decision) → Moves shelf old new d → shelf.honest new → shelf.honest old
+  pub moved_honest : (old new : B) (d : Decision) → Moves shelf old new d → shelf.honest new → shelf.honest old
   moved_honest old new (handled r reply) h honest = h.honesty honest
   moved_honest old new (failed check allow is_head) h honest = subst shelf.honest h honest
   moved_honest old new (starved is_head) h honest = subst shelf.honest h honest
 
-  served_honest : (old new : B) (conns : List Text) (decisions : List Decision) → Serving shelf old conns decisions new → shelf.honest new → shelf.honest old
+  pub served_honest : (old new : B) (conns : List Text) (decisions : List Decision) → Serving shelf old conns decisions new → shelf.honest new → shelf.honest old
   served_honest old new [] [] h honest = subst shelf.honest h honest
   served_honest old new [] (d ∷ decisions) h honest = absurd h
   served_honest old new (bytes ∷ conns) [] h honest = absurd h
@@ -97,25 +97,25 @@ module _ {B : Type 0} (shelf : Shelf B) where
     pub responses_are : responses ≡ map response_of decisions
 
 -- a list taken as far as it goes
-take_all : {A : Type 0} (xs : List A) → take (length xs) xs ≡ xs
+pub take_all : {A : Type 0} (xs : List A) → take (length xs) xs ≡ xs
 take_all [] = refl
 take_all (x ∷ xs) = ap (λ list. x ∷ list) (take_all xs)
 
 -- one decision for each connection
-one_each : {B : Type 0} (shelf : Shelf B) (old new : B) (conns : List Text) (decisions : List Decision) → Serving shelf old conns decisions new
+pub one_each : {B : Type 0} (shelf : Shelf B) (old new : B) (conns : List Text) (decisions : List Decision) → Serving shelf old conns decisions new
     → length (map response_of decisions) ≡ length conns
 one_each shelf old new [] [] h = refl
 one_each shelf old new [] (d ∷ decisions) h = absurd h
 one_each shelf old new (bytes ∷ conns) [] h = absurd h
 one_each shelf old new (bytes ∷ conns) (d ∷ decisions) (middle, is_on, moves, rest) = ap suc (one_each shelf middle new conns decisions rest)
 
-taken_length : {A : Type 0} (n : ℕ) (xs : List A) → n ≤ length xs → length (take n xs) ≡ n
+pub taken_length : {A : Type 0} (n : ℕ) (xs : List A) → n ≤ length xs → length (take n xs) ≡ n
 taken_length zero xs within = refl
 taken_length (suc n) [] within = absurd (omega (arith, within))
 taken_length (suc n) (x ∷ xs) within = ap suc (taken_length n xs (omega (arith, within)))
 
 -- a run that ended whole
-ran_whole : {B : Type 0} (shelf : Shelf B) (old new : B) (conns responses : List Text)
+pub ran_whole : {B : Type 0} (shelf : Shelf B) (old new : B) (conns responses : List Text)
     → ((decisions : List Decision) × Serving shelf old conns decisions new × (responses ≡ [] ++ map response_of decisions)) → Ran shelf old new conns responses
 ran_whole shelf old new conns responses (decisions, serving, are) = record {
   count = length conns;
@@ -135,7 +135,7 @@ stopped_honest shelf old new conns decisions s honest = elim s.last [
 ]
 
 -- a run that memory stopped
-ran_short : {B : Type 0} (shelf : Shelf B) (old new : B) (conns responses : List Text)
+pub ran_short : {B : Type 0} (shelf : Shelf B) (old new : B) (conns responses : List Text)
     → ((decisions : List Decision) × Stops shelf old new conns decisions × (responses ≡ [] ++ map response_of decisions)) → Ran shelf old new conns responses
 ran_short shelf old new conns responses (decisions, stops, are) = record {
   count = stops.answered;
@@ -158,7 +158,7 @@ ran shelf old new conns out responses (Err e) none ok err = ran_short shelf old 
     (subst (λ (list : List Text). (decisions : List Decision) × Stops shelf old new conns decisions × (responses ≡ list ++ map response_of decisions)) none err)
 
 -- what a desk is told in a run
-told_in_run : {B : Type 0} (shelf : Shelf B) (old new : B) (conns responses : List Text) (desk : Text) → Ran shelf old new conns responses → shelf.honest new
+pub told_in_run : {B : Type 0} (shelf : Shelf B) (old new : B) (conns responses : List Text) (desk : Text) → Ran shelf old new conns responses → shelf.honest new
     → AreTold desk (view desk (shelf.world old)) (answered_of conns responses) responses
 told_in_run shelf old new conns responses desk ran honest =
     let served = served_from shelf old ran.last (shelf.world old) (take ran.count conns) ran.decisions (λ s. refl) ran.served (ran.honesty honest) in

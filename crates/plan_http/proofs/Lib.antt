@@ -14,3 +14,6 @@ pub mod LawLemmas
 pub mod ServingLemmas
 pub mod RunLemmas
 pub mod ServedLemmas
+pub mod CrashLemmas
+pub mod ApartLemmas
+pub mod WholeRunLemmas

@@ -14,7 +14,7 @@ item_at f (y ∷ ys) (suc i) x below is = let more : i < length ys = omega (arit
 
 module _ {B : Type 0} (shelf : Shelf B) where
   -- one connection more
-  served_more : (old middle new : B) (conns : List Text) (decisions : List Decision) (bytes : Text) (d : Decision) → Serving shelf old conns decisions middle
+  pub served_more : (old middle new : B) (conns : List Text) (decisions : List Decision) (bytes : Text) (d : Decision) → Serving shelf old conns decisions middle
       → IsOn bytes d → Moves shelf middle new d → Serving shelf old (conns ++ bytes ∷ []) (decisions ++ d ∷ []) new
   served_more old middle new [] [] bytes d served on moves = (new, on, subst (λ o. Moves shelf o new d) served moves, refl)
   served_more old middle new [] (e ∷ ds) bytes d served on moves = absurd served

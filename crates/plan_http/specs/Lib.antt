@@ -15,3 +15,5 @@ pub mod Responses
 pub mod Laws
 pub mod Answers
 pub mod Serving
+pub mod Crashes
+pub mod Isolated

@@ -1,8 +1,11 @@
 //! Many connections, one after another.
 
-ghost use Rattle.std.specs.Prelude.{◌≡◌, ◌++◌, ◌∷◌, [], List, map, vec_items, MatchResult, IfOk, OnOk, OnErr};
+ghost use Rattle.std.specs.Prelude.{◌≡◌, ◌++◌, ◌∷◌, [], List, length, map, drop, vec_items, MatchResult, IfOk, OnOk, OnErr};
+ghost use Rattle.plan_desk.specs.World.{Text};
 ghost use Rattle.plan_http.specs.Answers.{Decision, IsOn};
 ghost use Rattle.plan_http.specs.Serving.{Moves, Serving, Stops, response_of};
+ghost use Rattle.plan_http.specs.Crashes.{Outlasts};
+ghost use Rattle.plan_http.specs.Isolated.{IsApart};
 
 use crate::routes::Routes;
 use crate::serving::{ConnEnd, serve_conn};
@@ -66,10 +69,8 @@ fn serve_next<B: Book>(
     }
 }
 
-/// Serves connections one after another, and adds the response of each. Where memory runs out `out`
-/// has the responses of the first connections, and the office is as it was after these, or moved by
-/// one connection more.
-pub fn serve_run<B: Book>(
+// Serves connections one after another, and adds the response of each.
+fn serve_each<B: Book>(
     alloc: Global,
     office: &mut Office<B>,
     conns: &[Vec<u8>],
@@ -90,4 +91,28 @@ pub fn serve_run<B: Book>(
         }
     }
     Ok(())
+}
+
+/// Serves connections one after another, and adds the response of each. Where memory runs out `out`
+/// has the responses of the first connections, and the office is as it was after these, or moved by
+/// one connection more.
+///
+/// After a crash no accepted command is lost: what is left are the rows after the last of them, or
+/// these with one writing call that was refused. And each desk is told what it would be told in an
+/// office that has its rows and no others.
+pub fn serve_run<B: Book>(
+    alloc: Global,
+    office: &mut Office<B>,
+    conns: &[Vec<u8>],
+    out: &mut Vec<Vec<u8>>,
+) -> Result<(), RunFault>
+    ensures ok { OnOk result ((decisions : List Decision) × Serving B.shelf office.old (map vec_items conns.now) decisions office.new
+        × (map vec_items out.new.items ≡ map vec_items out.old.items ++ map response_of decisions)) }
+    ensures err { OnErr result ((decisions : List Decision) × Stops B.shelf office.old office.new (map vec_items conns.now) decisions
+        × (map vec_items out.new.items ≡ map vec_items out.old.items ++ map response_of decisions)) }
+    ensures crash { Outlasts B.shelf office.old office.new (map vec_items conns.now) (drop (length out.old.items) (map vec_items out.new.items)) }
+    ensures apart { B.shelf.honest office.new → (desk : Text)
+        → IsApart B.shelf office.old office.new (map vec_items conns.now) (drop (length out.old.items) (map vec_items out.new.items)) desk }
+{
+    serve_each(alloc, office, conns, out)
 }

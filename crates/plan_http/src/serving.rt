@@ -1,12 +1,14 @@
 //! One connection, from bytes to bytes.
 
-ghost use Rattle.std.specs.Prelude.{◌≡◌, ◌+◌, ◌≤◌, option_map};
+ghost use Rattle.std.specs.Prelude.{◌≡◌, ◌+◌, ◌≤◌, Option, option_map};
+ghost use Rattle.plan_desk.specs.World.{World};
 ghost use Rattle.plan_psplib.specs.Devices.{most_calls};
 ghost use Rattle.plan_desk.specs.declared.kinds.ReplyKind.TheVariants.{Plain};
 ghost use Rattle.plan_desk.specs.Replies.{reply_of};
 ghost use Rattle.plan_http.specs.Routes.{method_of};
 ghost use Rattle.plan_http.specs.Answers as spec;
 ghost use Rattle.plan_http.specs.Serving.{Responds, ReaderFaults, WriterFaults, Ends};
+ghost use Rattle.plan_http.specs.Crashes.{LeavesOne};
 
 use crate::asking::{Asked, read_request};
 use crate::checks::Check;
@@ -86,6 +88,7 @@ pub fn serve_conn<R: Source, W: Sink, B: Book>(
     writer: &mut W,
 ) -> ConnEnd
     ensures ends { Ends B.shelf office.old office.new (R.remaining reader.old) (W.taken writer.old) (W.taken writer.new) result }
+    ensures crash { B.shelf.honest office.new → (left : Option World) → B.shelf.may_leave office.new left → LeavesOne B.shelf office.old office.new (R.remaining reader.old) left }
     ensures reads { R.calls reader.new ≤ R.calls reader.old + most_calls }
     ensures writes { W.calls writer.new ≤ W.calls writer.old + most_calls }
     ensures reader_faults { ReaderFaults (R.faults reader.old) (R.faults reader.new) result }

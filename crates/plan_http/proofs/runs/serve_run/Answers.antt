@@ -1,24 +1,16 @@
-use Rattle.std.proofs.Common.{◌≡◌, ◌<◌, [], length, map, get_or, sym, ◌∙◌, arith, vec_items}
+use Rattle.std.proofs.Common.{length, map, sym, vec_items}
 use Rattle.std.proofs.lemmas.List.{length-map}
-use Rattle.plan_http.proofs.RunLemmas.{item_at, more, stopped}
+use Rattle.plan_http.proofs.WholeRunLemmas.{outlasts, is_apart}
 use Rattle.plan_http.proofs.runs.serve_run.Goals as goal
 
-pub loop-conn-preserved : goal.loop-conn-preserved
-loop-conn-preserved g c =
-    let conns = map vec_items c.args.conns.now in
-    let size : length conns ≡ length c.args.conns.now = length-map c.args.conns.now vec_items in
-    let below : c.loop-conn.conn-index < length conns = omega (arith, c.loop-conn-test.true) in
-    let item : get_or conns c.loop-conn.conn-index [] ≡ c.deref.result.now =
-    item_at vec_items c.args.conns.now c.loop-conn.conn-index c.conn-item.result c.loop-conn-test.true c.conn-item.is ∙ sym c.deref.ensures.value in
-    more g.B.Book.shelf c.args.office.now c.loop-conn.office c.serve_next.new.office conns c.loop-conn.conn-index c.deref.result.now
-    (map vec_items c.loop-conn.out.items) (map vec_items c.serve_next.new.out.items) (map vec_items c.args.out.now.items) below item c.loop-conn.invariant c.in-Ok-serve_next.ensures
+pub returns-clause-crash : goal.returns-clause-crash
+returns-clause-crash g c =
+    outlasts g.B.Book.shelf c.args.office.now c.serve_each.new.office (map vec_items c.args.conns.now) (map vec_items c.args.out.now.items)
+    (map vec_items c.serve_each.new.out.items) (length c.args.out.now.items) c.serve_each.result (sym (length-map c.args.out.now.items vec_items))
+    c.serve_each.ensures.ok c.serve_each.ensures.err
 
-pub returns-in-Err-clause-err : goal.returns-in-Err-clause-err
-returns-in-Err-clause-err g c =
-    let conns = map vec_items c.args.conns.now in
-    let size : length conns ≡ length c.args.conns.now = length-map c.args.conns.now vec_items in
-    let below : c.loop-conn.conn-index < length conns = omega (arith, c.loop-conn-test.true) in
-    let item : get_or conns c.loop-conn.conn-index [] ≡ c.deref.result.now =
-    item_at vec_items c.args.conns.now c.loop-conn.conn-index c.conn-item.result c.loop-conn-test.true c.conn-item.is ∙ sym c.deref.ensures.value in
-    stopped g.B.Book.shelf c.args.office.now c.loop-conn.office c.serve_next.new.office conns c.loop-conn.conn-index c.deref.result.now
-    (map vec_items c.loop-conn.out.items) (map vec_items c.serve_next.new.out.items) (map vec_items c.args.out.now.items) below item c.loop-conn.invariant c.in-Err.ensures
+pub returns-clause-apart : goal.returns-clause-apart
+returns-clause-apart g c =
+    is_apart g.B.Book.shelf c.args.office.now c.serve_each.new.office (map vec_items c.args.conns.now) (map vec_items c.args.out.now.items)
+    (map vec_items c.serve_each.new.out.items) (length c.args.out.now.items) c.serve_each.result (sym (length-map c.args.out.now.items vec_items))
+    c.serve_each.ensures.ok c.serve_each.ensures.err

@@ -5,6 +5,7 @@ use Rattle.plan_desk.specs.Replies.{reply_of}
 use Rattle.plan_http.specs.Routes.{method_of}
 use Rattle.plan_http.specs.Answers.{handled, failed, starved}
 use Rattle.plan_http.proofs.ServingLemmas.{ends}
+use Rattle.plan_http.proofs.CrashLemmas.{one_left}
 use Rattle.plan_http.proofs.serving.serve_conn.Goals as goal
 
 pub returns-in-Request-clause-ends : goal.returns-in-Request-clause-ends
@@ -23,3 +24,8 @@ returns-in-NoMemory-clause-ends g c =
     ends g.B.Book.shelf c.args.office.now c.args.office.now (g.R.Source.remaining c.args.reader.now) (g.W.Sink.taken c.args.writer.now) (g.W.Sink.taken c.answer-in-NoMemory.new.writer) c.answer-in-NoMemory.result
     (starved c.in-NoMemory.is_head) _ c.in-NoMemory.ensures.asked refl
     (ap (λ reply. record { reply = reply; allow = None; is_head = c.in-NoMemory.is_head }) c.no_memory.ensures) c.answer-in-NoMemory.ensures.responds
+
+pub returns-in-Request-clause-crash : goal.returns-in-Request-clause-crash
+returns-in-Request-clause-crash g c honest left may =
+    one_left g.B.Book.shelf (g.R.Source.remaining c.args.reader.now) c.args.office.now c.handle-reply.new.self (handled (request_in c.in-Request.request) (reply_of c.handle-reply.result))
+    c.in-Request.ensures.asked c.handle-reply.ensures honest left may

@@ -1,0 +1,47 @@
+-- One desk in a run of connections (docs/DEFINITIONS.md, "Connections").
+use Rattle.std.specs.Prelude.{◌≡◌, ◌⊎◌, ◌+◌, ◌≤◌, List, [], ◌∷◌, length, take, map}
+use Rattle.plan_desk.specs.World.{Text, World}
+use Rattle.plan_desk.specs.Views.{View, view, alone}
+use Rattle.plan_desk.specs.Calls.{Request, Reply}
+use Rattle.plan_desk.specs.Decisions.{IsStep}
+use Rattle.plan_desk.specs.Books.{Shelf}
+use Rattle.plan_http.specs.Judges.{asks, Judges}
+use Rattle.plan_http.specs.Answers.{Decision, handled, IsOn}
+use Rattle.plan_http.specs.Serving.{Moves, response_of}
+use Rattle.plan_http.specs.Stories.{IsOutside, IsStoryOf, IsWanting}
+
+-- the responses that connections get in an office with these rows, each by a step, one after another
+abbrev pub AreReplies : World → List Text → List Text → Type 0
+AreReplies w [] [] = Unit {0}
+AreReplies w (bytes ∷ conns) (response ∷ responses) =
+    (r : Request) × (reply : Reply) × (after : World) × Judges bytes (asks r) × IsStep w r reply after
+    × (response ≡ response_of (handled r reply)) × AreReplies after conns responses
+AreReplies w conns responses = ⊥
+
+-- The story of a desk in a run, told what it is told in an office with the rows of the view and no
+-- others; or a connection of it was answered for want of memory or by the store.
+abbrev pub IsToldAlone : Text → View → List Text → List Text → Type 0
+IsToldAlone desk v conns responses =
+    ((story : List Text) × (told : List Text) × IsStoryOf desk v conns responses story told
+    × AreReplies (alone v) story told)
+    ⊎ IsWanting desk v conns responses
+
+module _ {B : Type 0} (shelf : Shelf B) where
+  -- connections are served one after another, and those that don't belong to the desk change nothing
+  -- that it sees
+  abbrev pub ServingUnseen : Text → B → List Text → List Decision → B → Type 0
+  ServingUnseen desk old [] [] new = new ≡ old
+  ServingUnseen desk old (bytes ∷ conns) (d ∷ decisions) new =
+      (middle : B) × IsOn bytes d × Moves shelf old middle d
+      × (shelf.stands middle → IsOutside desk (view desk (shelf.world old)) bytes
+      → view desk (shelf.world middle) ≡ view desk (shelf.world old))
+      × ServingUnseen desk middle conns decisions new
+  ServingUnseen desk old conns decisions new = ⊥
+
+  -- A desk in a run, whole or not. The responses are those of the decisions, or of all but the last.
+  pub record IsApart (old new : B) (conns responses : List Text) (desk : Text) : Type 0 where
+    pub told : IsToldAlone desk (view desk (shelf.world old)) (take (length responses) conns) responses
+    pub decisions : List Decision
+    pub unseen : ServingUnseen desk old (take (length decisions) conns) decisions new
+    pub written : responses ≡ map response_of (take (length responses) decisions)
+    pub last : length decisions ≤ length responses + 1
