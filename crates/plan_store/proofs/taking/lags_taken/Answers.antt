@@ -1,4 +1,4 @@
-use Rattle.std.proofs.Common.{◌≡◌, sym, subst}
+use Rattle.std.proofs.Common.{sym, subst}
 use Rattle.sqlite.specs.Held.{state}
 use Rattle.plan_store.specs.Querying.{IsQueryUnder}
 use Rattle.plan_store.specs.Layouts.{schema_of}

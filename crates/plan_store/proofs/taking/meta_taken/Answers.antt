@@ -1,4 +1,4 @@
-use Rattle.std.proofs.Common.{◌≡◌, Option, Ok, Some, None, Vec, Global, option_map, option_and_then, sym, ap, subst, ◌∙◌}
+use Rattle.std.proofs.Common.{◌≡◌, Option, Ok, None, Vec, Global, option_map, option_and_then, sym, ap, subst, ◌∙◌}
 use Rattle.sqlite.specs.Held.{state}
 use Rattle.plan_store.specs.Taking.{Meta, TakesMeta, only_one}
 use Rattle.plan_store.proofs.LookingLemmas.{looks_map, looks_made}

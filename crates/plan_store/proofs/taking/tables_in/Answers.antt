@@ -1,4 +1,4 @@
-use Rattle.std.proofs.Common.{rules, ◌≡◌, ℤ, Option, Ok, Some, None, w64, sym, subst, arith}
+use Rattle.std.proofs.Common.{rules, ◌≡◌, Some, None, w64, subst, arith}
 use Rattle.std.proofs.lemmas.Int.{ints}
 use mir.Val.{SFits, to_z, of_z}
 use Rattle.sqlite_trees.specs.Tree.{Trees}
