@@ -1,5 +1,5 @@
 -- Code can hold each row of an office: its texts are UTF-8, and its numbers fit.
-use Rattle.std.proofs.Common.{◌≡◌, ◌⊎◌, inl, inr, ◌<◌, ◌≤◌, ◌+◌, ◌/◌, ◌%◌, ◌^◌, ℕ, zero, suc, ℤ, pos, Bool, true, false, ◌&&◌, ◌||◌, ◌==◌, not, nat_eq, cond, List, [], ◌∷◌, ◌++◌, length, map, find, Option, Some, None, refl, sym, ap, subst, ◌∙◌, arith, slice_index, IsUtf8, IsAscii}
+use Rattle.std.proofs.Common.{◌≡◌, inl, inr, ◌<◌, ◌≤◌, ◌^◌, ℕ, zero, suc, pos, Bool, true, false, ◌&&◌, ◌||◌, ◌==◌, not, nat_eq, List, [], ◌∷◌, ◌++◌, length, map, Option, Some, None, refl, sym, ap, subst, ◌∙◌, arith, IsUtf8, IsAscii}
 use Rattle.std.specs.List.{AllByRecursion, list_all, list_any}
 use Rattle.std.proofs.lemmas.Bool.{and_parts}
 use Rattle.std.proofs.lemmas.Bool.Decides.{nat_tests}
@@ -13,11 +13,11 @@ use Rattle.jiff_core.proofs.SignedLemmas.{signed_arith}
 use Rattle.jiff_core.proofs.CalendarLemmas.{days_in_month_bounds}
 use Rattle.jiff_fmt.specs.Text.{year_text, pad2}
 use Rattle.plan_net.specs.Network.{Net, joins, count_of}
-use Rattle.plan_net.specs.Limits.{IsSound, IsGoodArc}
+use Rattle.plan_net.specs.Limits.{IsGoodArc}
 use Rattle.plan_psplib.specs.Project.{Project, SaysProject}
-use Rattle.plan_gantt.specs.CalendarText.{IsStartText, IsMarksText, IsCalendar, date_bytes, mark_digit}
+use Rattle.plan_gantt.specs.CalendarText.{IsStartText, date_bytes, mark_digit}
 use Rattle.plan_gantt.proofs.TextLemmas.{natural_year}
-use Rattle.plan_desk.specs.World.{Published, Desk, Plan, Bind, Lag, World, same_text, is_code, is_desk, is_plan, code_in, desk_in, plan_in}
+use Rattle.plan_desk.specs.World.{Published, Desk, Plan, World, same_text, is_code, is_desk, is_plan, code_in, desk_in, plan_in}
 use Rattle.plan_desk.specs.Names.{is_name, is_name_byte, is_digest, begins_with, is_from_to}
 use Rattle.plan_desk.specs.Rules.{IsWorld, IsThereAnd, IsOwned, IsBindRow, IsLagRow, IsPlanRow, HasCalendar, is_published_row, is_desk_row}
 use Rattle.plan_desk.specs.PlanRoutes.{has_arc}

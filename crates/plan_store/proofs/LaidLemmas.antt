@@ -1,6 +1,6 @@
 -- What is read of each table of a layout.
-use Rattle.std.proofs.Common.{◌≡◌, ◌+◌, ◌≤◌, ℕ, ℤ, pos, Bool, true, false, ◌&&◌, List, [], ◌∷◌, length, map, drop, Option, Some, None, option_map, refl, sym, ap, ap₂, subst, ◌∙◌, arith, Contains, IsTrue, Vec, Global, codes, option_and_then}
-use Rattle.std.specs.List.{AllByRecursion, AllZip, list_all}
+use Rattle.std.proofs.Common.{◌≡◌, ℕ, ℤ, true, ◌&&◌, List, [], ◌∷◌, length, map, drop, Option, Some, None, option_map, refl, sym, ap, subst, ◌∙◌, arith, Contains, IsTrue, Vec, Global, codes, option_and_then}
+use Rattle.std.specs.List.{AllByRecursion, AllZip}
 use Rattle.std.proofs.lemmas.Bool.{and_parts}
 use Rattle.sqlite_value.specs.declared.value.Value.TheVariants.{Null, Int, Real, Text, Blob}
 use Rattle.sqlite_value.specs.Order.{Row, column}
@@ -18,7 +18,7 @@ use Rattle.sqlite_schema.specs.declared.schema.Constraint.TheVariants.{Datatype,
 use Rattle.sqlite_schema.specs.declared.command.Command.TheVariants.{Select}
 use Rattle.sqlite_schema.specs.Rules.{are_typed, are_present, has_computed}
 use Rattle.sqlite_keyed.proofs.ListLemmas.{all_both}
-use Rattle.sqlite.specs.Effect.{Database, Reads, IsDatabase}
+use Rattle.sqlite.specs.Effect.{Database, Reads}
 use Rattle.sqlite.specs.State.{State}
 use Rattle.plan_desk.specs.declared.rows.CodeRow.{CodeRow}
 use Rattle.plan_desk.specs.declared.tables.records.DeskRecord.{DeskRecord}
@@ -27,11 +27,10 @@ use Rattle.plan_desk.specs.declared.tables.records.BindRecord.{BindRecord}
 use Rattle.plan_desk.specs.declared.tables.records.LagRecord.{LagRecord}
 use Rattle.plan_desk.specs.Books.{published_in}
 use Rattle.plan_desk.specs.Tables.{desk_kept, plan_kept, bind_kept, lag_kept}
-use Rattle.plan_desk.specs.World.{Published, Desk, Plan, Bind, Lag}
 use Rattle.plan_store.specs.declared.layout.Layout.{Layout}
 use Rattle.plan_store.specs.declared.layout.Layout.TheVariants.{First, Second}
 use Rattle.plan_store.specs.Tables as tables
-use Rattle.plan_store.specs.Kept.{row_at, Keeps}
+use Rattle.plan_store.specs.Kept.{row_at}
 use Rattle.plan_store.specs.Rows.{number_value, digest_value, written_code, read_code, written_desk, read_desk, written_plan, read_plan, written_bind, read_bind, written_lag, read_lag}
 use Rattle.plan_store.specs.Querying.{meaning_under}
 use Rattle.plan_store.specs.Layouts.{schema_of, AreNumbered, meta_at}

@@ -1,8 +1,8 @@
 -- Rows of a table whose numbers rise, whatever else they have.
-use Rattle.std.proofs.Common.{◌≡◌, ◌<ℤ◌, ◌+◌, ◌≤◌, ℕ, zero, suc, ℤ, pos, Bool, true, false, not, ◌&&◌, ◌||◌, List, [], ◌∷◌, ◌++◌, length, map, drop, filter, None, IsTrue, refl, sym, ap, ap₂, subst, ◌∙◌, arith, append_assoc, length-append, Less}
+use Rattle.std.proofs.Common.{◌≡◌, ◌+◌, ℕ, zero, suc, ℤ, pos, true, false, not, ◌||◌, List, [], ◌∷◌, ◌++◌, length, map, drop, None, IsTrue, refl, sym, ap, ap₂, subst, ◌∙◌, arith, append_assoc, length-append, Less}
 use Rattle.std.specs.List.{AllByRecursion}
 use Rattle.std.proofs.lemmas.Bool.{and_parts}
-use Rattle.std.proofs.lemmas.List.{get_or_past, get_or_push}
+use Rattle.std.proofs.lemmas.List.{get_or_past}
 use Rattle.sqlite_value.specs.declared.value.Value.{Value}
 use Rattle.sqlite_value.specs.declared.value.Value.TheVariants.{Null, Int, Real, Text, Blob}
 use Rattle.sqlite_value.specs.Order.{Row, column, value_cmp}
@@ -15,7 +15,7 @@ use Rattle.sqlite_sql.specs.Ops.{is_null}
 use Rattle.sqlite_schema.specs.Names.{is_key}
 use Rattle.sqlite_schema.specs.Rules.{are_typed, are_present, suits}
 use Rattle.sqlite_keyed.specs.Keyed.{IsKeyedBy}
-use Rattle.sqlite_keyed.proofs.ListLemmas.{map-map, map_same, filter_all, all_of, ascending-map, ascending_from_map, ascending_weaker}
+use Rattle.sqlite_keyed.proofs.ListLemmas.{filter_all, all_of, ascending_from_map, ascending_weaker}
 use Rattle.sqlite_keyed.proofs.KeyedLemmas.{lt_from_Less}
 use Rattle.sqlite_value.proofs.OrderLemmas.{value_cmp-Int}
 use Rattle.plan_store.specs.Kept.{row_at}

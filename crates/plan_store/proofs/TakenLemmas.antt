@@ -1,5 +1,5 @@
 -- From the cells of a row to the row, and from the rows of an answer to a table.
-use Rattle.std.proofs.Common.{◌≡◌, ◌+◌, ℕ, zero, true, List, [], ◌∷◌, length, Option, Some, None, MatchOption, Ok, Err, Result, refl, sym, ap, subst, ◌∙◌}
+use Rattle.std.proofs.Common.{◌≡◌, ℕ, true, List, [], length, Option, Some, MatchOption, Ok, Err, Result, refl, sym, ap, subst, ◌∙◌}
 use Rattle.std.specs.Result.{MatchResult}
 use Rattle.hex.specs.Hex.{encode_lower, decode_sized}
 use Rattle.hex.specs.declared.error.FromHexError.{FromHexError}

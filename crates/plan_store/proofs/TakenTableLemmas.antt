@@ -1,6 +1,5 @@
 -- From what is read of each table to the rows of all of them, or to no office.
-use Rattle.std.proofs.Common.{◌≡◌, ◌⊎◌, inl, inr, ℤ, true, List, [], ◌∷◌, map, Option, Some, None, Vec, Global, sym, ap, ◌∙◌, IsUtf8}
-use Rattle.std.specs.List.{AllByRecursion}
+use Rattle.std.proofs.Common.{◌≡◌, inl, inr, ℤ, [], map, Some, None, Vec, Global, sym, ap, ◌∙◌, IsUtf8}
 use Rattle.sqlite_keyed.proofs.ListLemmas.{all_weaker}
 use Rattle.sqlite.specs.Effect.{Database}
 use Rattle.plan_desk.specs.declared.rows.CodeRow.{CodeRow}
@@ -9,17 +8,15 @@ use Rattle.plan_desk.specs.declared.tables.records.DeskRecord.{DeskRecord}
 use Rattle.plan_desk.specs.declared.tables.records.PlanRecord.{PlanRecord}
 use Rattle.plan_desk.specs.declared.tables.records.BindRecord.{BindRecord}
 use Rattle.plan_desk.specs.declared.tables.records.LagRecord.{LagRecord}
-use Rattle.plan_desk.specs.Books.{published_in}
-use Rattle.plan_desk.specs.Tables.{world_kept, desk_kept, plan_kept, bind_kept, lag_kept}
-use Rattle.plan_desk.specs.World.{Digest, Plan}
-use Rattle.plan_desk.specs.Names.{is_digest}
+use Rattle.plan_desk.specs.Tables.{world_kept, plan_kept, lag_kept}
+use Rattle.plan_desk.specs.World.{Digest}
 use Rattle.plan_store.specs.declared.layout.Layout.{Layout}
 use Rattle.plan_store.specs.declared.layout.Layout.TheVariants.{First, Second}
-use Rattle.plan_store.specs.Rows.{read_code, read_desk, read_plan, read_bind, read_lag, office_in}
+use Rattle.plan_store.specs.Rows.{office_in}
 use Rattle.plan_store.specs.Stores.{world_of}
 use Rattle.plan_store.specs.Layouts.{world_in, KeepsLags, IsOfficeAt}
 use Rattle.plan_store.specs.Opening.{HoldsRows}
-use Rattle.plan_store.specs.Taking.{HoldsCode, HoldsDesk, HoldsPlan, HoldsBind, HoldsLag, TakesMeta, TakesCodes, TakesDesks, TakesPlans, TakesBinds, TakesLags, TakesBoth}
+use Rattle.plan_store.specs.Taking.{HoldsPlan, TakesMeta, TakesCodes, TakesDesks, TakesPlans, TakesBinds, TakesLags, TakesBoth}
 use Rattle.plan_store.proofs.CodecLemmas.{digest_back}
 use Rattle.plan_store.proofs.HoldsLemmas.{codes_hold, desks_hold, plans_hold, binds_hold, lags_hold}
 

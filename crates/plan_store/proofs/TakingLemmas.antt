@@ -2,11 +2,9 @@
 use Rattle.std.proofs.Common.{◌≡◌, ◌⊎◌, inl, inr, ◌<ℤ◌, ℕ, ℤ, true, List, [], ◌∷◌, length, map, drop, Option, Some, None, option_map, refl, sym, ap, ap₂, subst, ◌∙◌, arith, Contains, slice_index_or}
 use Rattle.std.specs.List.{AllByRecursion, AllZip}
 use Rattle.std.proofs.lemmas.List.Elements.{All-from_recursion}
-use Rattle.sqlite_value.specs.declared.value.Value.TheVariants.{Null}
 use Rattle.sqlite_value.specs.Order.{Row, column}
 use Rattle.sqlite_trees.specs.Tree.{IsAscending}
-use Rattle.sqlite_keyed.specs.Keyed.{IsKeyedBy}
-use Rattle.sqlite_keyed.proofs.ListLemmas.{map-map, all_unmap, all_map, ascending-map, ascending_from_map}
+use Rattle.sqlite_keyed.proofs.ListLemmas.{map-map, all_unmap, ascending-map, ascending_from_map}
 use Rattle.plan_store.specs.Kept.{row_at, Keeps}
 use Rattle.plan_store.specs.Layouts.{AreNumbered}
 use Rattle.plan_store.specs.Taking.{TakesRow, TakesAll, TakesTable}

@@ -1,5 +1,6 @@
--- Rows that are read from tables that someone else may have written (docs/DEFINITIONS.md, "Tables").
-use Rattle.std.specs.Prelude.{◌≡◌, ◌⊎◌, ℕ, ◌<◌, ◌^◌, ℤ, pos, true, List, [], ◌∷◌, map, option_map, Option, Some, None, IsUtf8, Contains, Vec}
+-- Rows that are read from tables that someone else may have written (docs/DEFINITIONS.md,
+-- "Tables").
+use Rattle.std.specs.Prelude.{◌≡◌, ◌⊎◌, ℕ, ◌<◌, ◌^◌, ℤ, true, List, [], ◌∷◌, map, option_map, Option, Some, None, IsUtf8, Contains, Vec}
 use Rattle.std.specs.List.{AllByRecursion, AllZip}
 use Rattle.std.specs.declared.alloc.Global.{Global}
 use Rattle.sqlite_value.specs.declared.value.Value.TheVariants.{Int}

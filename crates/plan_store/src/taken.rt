@@ -1,4 +1,4 @@
-//! Rows that someone else may have written, as code keeps them. A row that no office has gives none.
+//! Rows that someone else may have written, as code keeps them. A row that isn't so gives none.
 
 ghost use Rattle.std.specs.Prelude.{◌≡◌, ◌≢◌, ◌<◌, ◌^◌, ℕ, true, List, length, string_bytes, IsUtf8, Option, option_map, IfOk, MatchOption};
 ghost use Rattle.sqlite_value.specs.declared.value.Value.TheVariants.{Text, Blob};

@@ -39,7 +39,7 @@ fn only_one(all: &[(i64, [u8; 32])]) -> Option<(i64, [u8; 32])>
 }
 
 // The version of the tables, and the digest of the office's key.
-fn meta_in<S: Alter>(
+fn meta_taken<S: Alter>(
     alloc: Global,
     conn: &mut Connection<S>,
     layout: Layout,
@@ -55,7 +55,7 @@ fn meta_in<S: Alter>(
     }
 }
 
-fn codes_in<S: Alter>(
+fn codes_taken<S: Alter>(
     alloc: Global,
     conn: &mut Connection<S>,
     layout: Layout,
@@ -68,7 +68,7 @@ fn codes_in<S: Alter>(
     rows_taken(alloc, conn, layout, text)
 }
 
-fn desks_in<S: Alter>(
+fn desks_taken<S: Alter>(
     alloc: Global,
     conn: &mut Connection<S>,
     layout: Layout,
@@ -81,7 +81,7 @@ fn desks_in<S: Alter>(
     rows_taken(alloc, conn, layout, text)
 }
 
-fn plans_in<S: Alter>(
+fn plans_taken<S: Alter>(
     alloc: Global,
     conn: &mut Connection<S>,
     layout: Layout,
@@ -94,7 +94,7 @@ fn plans_in<S: Alter>(
     rows_taken(alloc, conn, layout, text)
 }
 
-fn binds_in<S: Alter>(
+fn binds_taken<S: Alter>(
     alloc: Global,
     conn: &mut Connection<S>,
     layout: Layout,
@@ -107,7 +107,7 @@ fn binds_in<S: Alter>(
     rows_taken(alloc, conn, layout, text)
 }
 
-fn lags_in<S: Alter>(
+fn lags_taken<S: Alter>(
     alloc: Global,
     conn: &mut Connection<S>,
     layout: Layout,
@@ -138,10 +138,10 @@ fn codes_and_desks<S: Alter>(
     ensures { Looks layout (state S.Store conn.old) (state S.Store conn.new) result
         (TakesBoth (TakesCodes (state S.Store conn.old).now.trees) (TakesDesks (state S.Store conn.old).now.trees)) }
 {
-    let Some(codes) = codes_in(alloc, conn, layout)? else {
+    let Some(codes) = codes_taken(alloc, conn, layout)? else {
         return Ok(None);
     };
-    let Some(desks) = desks_in(alloc, conn, layout)? else {
+    let Some(desks) = desks_taken(alloc, conn, layout)? else {
         return Ok(None);
     };
     Ok(Some((codes, desks)))
@@ -157,10 +157,10 @@ fn binds_and_lags<S: Alter>(
     ensures { Looks layout (state S.Store conn.old) (state S.Store conn.new) result
         (TakesBoth (TakesBinds (state S.Store conn.old).now.trees) (TakesLags layout (state S.Store conn.old).now.trees)) }
 {
-    let Some(binds) = binds_in(alloc, conn, layout)? else {
+    let Some(binds) = binds_taken(alloc, conn, layout)? else {
         return Ok(None);
     };
-    let Some(lags) = lags_in(alloc, conn, layout)? else {
+    let Some(lags) = lags_taken(alloc, conn, layout)? else {
         return Ok(None);
     };
     Ok(Some((binds, lags)))
@@ -176,13 +176,13 @@ pub fn tables_in<S: Alter>(
     requires { IsReadable layout (state S.Store conn.old) }
     ensures { Looks layout (state S.Store conn.old) (state S.Store conn.new) result (TakesRows layout (state S.Store conn.old).now) }
 {
-    let Some(meta) = meta_in(alloc, conn, layout)? else {
+    let Some(meta) = meta_taken(alloc, conn, layout)? else {
         return Ok(None);
     };
     let Some((published, desks)) = codes_and_desks(alloc, conn, layout)? else {
         return Ok(None);
     };
-    let Some(plans) = plans_in(alloc, conn, layout)? else {
+    let Some(plans) = plans_taken(alloc, conn, layout)? else {
         return Ok(None);
     };
     let Some((binds, lags)) = binds_and_lags(alloc, conn, layout)? else {

@@ -1,5 +1,4 @@
 use Rattle.std.proofs.Common.{arith, Ok, Err, inl, []}
-use Rattle.sqlite.specs.State.{HasCleanDisk}
 use Rattle.sqlite.specs.Held.{state}
 use Rattle.plan_store.proofs.AskingLemmas.{queries, not_run_rests, nothing_new}
 use Rattle.plan_store.proofs.asking.prepared.Goals as goal

@@ -1,8 +1,7 @@
-use Rattle.std.proofs.Common.{◌≡◌, Ok, subst, subst₂, sym, ap}
+use Rattle.std.proofs.Common.{Ok, subst₂, sym, ap}
 use Rattle.sqlite.specs.Values.{bound}
 use Rattle.sqlite.specs.Listing.{understood}
 use Rattle.sqlite.specs.Effect.{Database}
-use Rattle.sqlite.specs.State.{HasCleanDisk}
 use Rattle.sqlite.specs.Held.{state}
 use Rattle.sqlite.proofs.Callers.{IsPlain}
 use Rattle.plan_store.proofs.AskingLemmas.{queries_then, if_ok, read_from}

@@ -1,4 +1,4 @@
-use Rattle.std.proofs.Common.{rules, ◌≡◌, ℤ, Option, Ok, Some, None, w64, sym, subst, arith}
+use Rattle.std.proofs.Common.{rules, ◌≡◌, Some, None, w64, subst, arith}
 use Rattle.std.proofs.lemmas.Int.{ints}
 use mir.Val.{SFits, to_z, of_z}
 use Rattle.sqlite_trees.specs.Tree.{Trees}
@@ -14,14 +14,14 @@ pub returns-in_default : goal.returns-in_default
 returns-in_default g c =
     let l = c.args.layout in
     let s0 = state g.S.Store c.args.conn.now in
-    let s1 = state g.S.Store c.meta_in.new.conn in
+    let s1 = state g.S.Store c.meta_taken.new.conn in
     looks_made l s0 s1 c.in_ok-meta.field-0 _ None (TakesRows l s0.now) (λ h. no_meta l s0.now (subst (TakesMeta (s0.now.trees 0)) c.in_default.is h)) c.in_ok-meta.ensures
 
 pub returns-in_default-2 : goal.returns-in_default-2
 returns-in_default-2 g c =
     let l = c.args.layout in
     let s0 = state g.S.Store c.args.conn.now in
-    let s1 = state g.S.Store c.meta_in.new.conn in
+    let s1 = state g.S.Store c.meta_taken.new.conn in
     let s2 = state g.S.Store c.codes_and_desks.new.conn in
     let opened = λ (t : Trees). TakesBoth (TakesCodes t) (TakesDesks t) in
     let two = looks_both l s0 s1 s2 c.in_ok-meta.field-0 _ c.in_ok-published.field-0 opened c.in_ok-meta.ensures c.in_ok-published.ensures in
@@ -31,9 +31,9 @@ pub returns-in_default-3 : goal.returns-in_default-3
 returns-in_default-3 g c =
     let l = c.args.layout in
     let s0 = state g.S.Store c.args.conn.now in
-    let s1 = state g.S.Store c.meta_in.new.conn in
+    let s1 = state g.S.Store c.meta_taken.new.conn in
     let s2 = state g.S.Store c.codes_and_desks.new.conn in
-    let s3 = state g.S.Store c.plans_in.new.conn in
+    let s3 = state g.S.Store c.plans_taken.new.conn in
     let opened = λ (t : Trees). TakesBoth (TakesCodes t) (TakesDesks t) in
     let two = looks_both l s0 s1 s2 c.in_ok-meta.field-0 _ c.in_ok-published.field-0 opened c.in_ok-meta.ensures c.in_ok-published.ensures in
     let three = looks_both l s0 s2 s3 (c.in_ok-meta.field-0, c.in_ok-published.field-0) _ c.in_ok-plans.field-0 TakesPlans two c.in_ok-plans.ensures in
@@ -43,9 +43,9 @@ pub returns-in_default-4 : goal.returns-in_default-4
 returns-in_default-4 g c =
     let l = c.args.layout in
     let s0 = state g.S.Store c.args.conn.now in
-    let s1 = state g.S.Store c.meta_in.new.conn in
+    let s1 = state g.S.Store c.meta_taken.new.conn in
     let s2 = state g.S.Store c.codes_and_desks.new.conn in
-    let s3 = state g.S.Store c.plans_in.new.conn in
+    let s3 = state g.S.Store c.plans_taken.new.conn in
     let s4 = state g.S.Store c.binds_and_lags.new.conn in
     let opened = λ (t : Trees). TakesBoth (TakesCodes t) (TakesDesks t) in
     let placed = λ (t : Trees). TakesBoth (TakesBinds t) (TakesLags l t) in
@@ -59,9 +59,9 @@ pub returns : goal.returns
 returns g c =
     let l = c.args.layout in
     let s0 = state g.S.Store c.args.conn.now in
-    let s1 = state g.S.Store c.meta_in.new.conn in
+    let s1 = state g.S.Store c.meta_taken.new.conn in
     let s2 = state g.S.Store c.codes_and_desks.new.conn in
-    let s3 = state g.S.Store c.plans_in.new.conn in
+    let s3 = state g.S.Store c.plans_taken.new.conn in
     let s4 = state g.S.Store c.binds_and_lags.new.conn in
     let opened = λ (t : Trees). TakesBoth (TakesCodes t) (TakesDesks t) in
     let placed = λ (t : Trees). TakesBoth (TakesBinds t) (TakesLags l t) in
@@ -86,4 +86,4 @@ returns g c =
       lags = c.in-Some-4.lags;
     } in
     subst (λ v. HoldsRows l s0.now v tables) same
-        (all_rows s0.now version c.in-Some.meta.1 meta c.in-Some-2.published c.in-Some-2.desks c.in-Some-3.plans c.in-Some-4.binds c.in-Some-4.lags first.0 first.1 plans place.0 l place.1)) four
+    (all_rows s0.now version c.in-Some.meta.1 meta c.in-Some-2.published c.in-Some-2.desks c.in-Some-3.plans c.in-Some-4.binds c.in-Some-4.lags first.0 first.1 plans place.0 l place.1)) four

@@ -2,7 +2,7 @@ use Rattle.sqlite.specs.Held.{state}
 use Rattle.plan_store.proofs.LookingLemmas.{looks_map}
 use Rattle.plan_store.proofs.TableMeanings.{plans_asks}
 use Rattle.plan_store.proofs.LaidLemmas.{plans_read}
-use Rattle.plan_store.proofs.taking.plans_in.Goals as goal
+use Rattle.plan_store.proofs.taking.plans_taken.Goals as goal
 
 pub rows_taken-requires-clause-query : goal.rows_taken-requires-clause-query
 rows_taken-requires-clause-query g c = plans_asks c.args.layout

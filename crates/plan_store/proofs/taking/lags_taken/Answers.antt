@@ -1,11 +1,11 @@
-use Rattle.std.proofs.Common.{◌≡◌, sym, subst}
+use Rattle.std.proofs.Common.{sym, subst}
 use Rattle.sqlite.specs.Held.{state}
 use Rattle.plan_store.specs.Querying.{IsQueryUnder}
 use Rattle.plan_store.specs.Layouts.{schema_of}
 use Rattle.plan_store.proofs.LookingLemmas.{looks_map}
 use Rattle.plan_store.proofs.TableMeanings.{lags_text, lags_asks}
 use Rattle.plan_store.proofs.LaidLemmas.{lags_read_in}
-use Rattle.plan_store.proofs.taking.lags_in.Goals as goal
+use Rattle.plan_store.proofs.taking.lags_taken.Goals as goal
 
 pub rows_taken-requires-clause-query : goal.rows_taken-requires-clause-query
 rows_taken-requires-clause-query g c = subst (λ l. IsQueryUnder (schema_of l) lags_text) (sym c.in-Second.is) lags_asks

@@ -2,7 +2,7 @@ use Rattle.sqlite.specs.Held.{state}
 use Rattle.plan_store.proofs.LookingLemmas.{looks_map}
 use Rattle.plan_store.proofs.TableMeanings.{binds_asks}
 use Rattle.plan_store.proofs.LaidLemmas.{binds_read}
-use Rattle.plan_store.proofs.taking.binds_in.Goals as goal
+use Rattle.plan_store.proofs.taking.binds_taken.Goals as goal
 
 pub rows_taken-requires-clause-query : goal.rows_taken-requires-clause-query
 rows_taken-requires-clause-query g c = binds_asks c.args.layout

@@ -1,10 +1,10 @@
-use Rattle.std.proofs.Common.{◌≡◌, Option, Ok, Some, None, Vec, Global, option_map, option_and_then, sym, ap, subst, ◌∙◌}
+use Rattle.std.proofs.Common.{◌≡◌, Option, Ok, None, Vec, Global, option_map, option_and_then, sym, ap, subst, ◌∙◌}
 use Rattle.sqlite.specs.Held.{state}
 use Rattle.plan_store.specs.Taking.{Meta, TakesMeta, only_one}
 use Rattle.plan_store.proofs.LookingLemmas.{looks_map, looks_made}
 use Rattle.plan_store.proofs.TableMeanings.{meta_asks}
 use Rattle.plan_store.proofs.LaidLemmas.{meta_read}
-use Rattle.plan_store.proofs.taking.meta_in.Goals as goal
+use Rattle.plan_store.proofs.taking.meta_taken.Goals as goal
 
 abbrev one_of : Option (Vec Meta Global) → Option Meta
 one_of found = option_and_then only_one (option_map (λ v. v.items) found)

@@ -2,7 +2,7 @@ use Rattle.sqlite.specs.Held.{state}
 use Rattle.plan_store.proofs.LookingLemmas.{looks_map}
 use Rattle.plan_store.proofs.TableMeanings.{desks_asks}
 use Rattle.plan_store.proofs.LaidLemmas.{desks_read}
-use Rattle.plan_store.proofs.taking.desks_in.Goals as goal
+use Rattle.plan_store.proofs.taking.desks_taken.Goals as goal
 
 pub rows_taken-requires-clause-query : goal.rows_taken-requires-clause-query
 rows_taken-requires-clause-query g c = desks_asks c.args.layout
