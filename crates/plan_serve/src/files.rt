@@ -1,0 +1,174 @@
+//! The commands on files, and on a port.
+
+ghost use Rattle.std.specs.Prelude.{◌≡◌, ◌⊎◌, ◌+◌, ◌≤◌, IfErr, IsErrOf, OnOk};
+ghost use Rattle.sqlite.specs.Held.{IsNew};
+ghost use Rattle.plan_psplib.specs.Devices.{most_calls, HasFailed};
+ghost use Rattle.plan_store.specs.declared.fault.StoreFault.TheVariants.{NoMemory, Store};
+
+use crate::fault::{ServeFault, told};
+use crate::init::{Place, init_run};
+use crate::replay::replay_run;
+use crate::requests::read_connection;
+use crate::socket::serve_listener;
+use plan_desk::Office;
+use plan_psplib::{Sink, StdSource};
+use plan_store::{SqlBook, StoreFault};
+use sqlite::{Connection, Error, ErrorCode};
+use sqlite_std_file::File;
+use sqlite_store::FileStore;
+use std::alloc::Global;
+use std::fs;
+use std::io::{self, ErrorKind};
+use std::net::{Ipv4Addr, TcpListener};
+
+// The tables of an office in a file.
+type FileBook = SqlBook<FileStore<File>>;
+
+// A database in a file, by its name.
+#[derive(Drop)]
+struct InFile<'a> {
+    rt: &'a HostRuntime,
+    path: &'a str,
+}
+
+impl<'a> Place for InFile<'a> {
+    type Kept = FileStore<File>;
+
+    // Its connections are new ones.
+    ghost opens = { λ _ conn. IsNew conn };
+
+    ghost refuses = { λ _ fault. (fault ≡ NoMemory) ⊎ (fault ≡ Store) };
+
+    fn connect(self, _alloc: Global) -> Result<Connection<FileStore<File>>, StoreFault> {
+        match Connection::open(self.rt, self.path) {
+            Ok(conn) => Ok(conn),
+            Err(Error::SqliteFailure(ErrorCode::OutOfMemory)) => Err(StoreFault::NoMemory),
+            Err(_) => Err(StoreFault::Store),
+        }
+    }
+}
+
+// Closes the files of a book, with its log copied into the database. Where that fails the log stays
+// beside it, and nothing is lost.
+fn close(book: FileBook) {
+    let _ = book.into_connection().close();
+}
+
+// Why a file can't be opened.
+fn open_fault(error: &io::Error) -> ServeFault
+    ensures { (result ≡ ServeFault.Memory) ⊎ (result ≡ ServeFault.Input) }
+{
+    if error.kind() == ErrorKind::OutOfMemory {
+        return ServeFault::Memory;
+    }
+    ServeFault::Input
+}
+
+/// `plan init`: makes the tables of an office in the file of this name, by the key that is the first
+/// line of standard input.
+pub fn init_on_file(rt: &HostRuntime, path: &str) -> Result<(), ServeFault> {
+    let mut input = StdSource::new(rt.reader());
+    let book = init_run(rt.alloc(), &mut input, InFile { rt, path })?;
+    close(book);
+    Ok(())
+}
+
+// The office whose tables are in the file of this name.
+fn open_office(rt: &HostRuntime, path: &str) -> Result<Office<FileBook>, ServeFault>
+    ensures { IfErr result (λ e. (e ≡ ServeFault.Memory) ⊎ (e ≡ ServeFault.Store) ⊎ (e ≡ ServeFault.NotOurs) ⊎ (e ≡ ServeFault.Version)) }
+{
+    let book = match book_in_file(rt, path) {
+        Ok(book) => book,
+        Err(fault) => return Err(told(fault)),
+    };
+    match Office::new(rt.alloc(), book) {
+        Ok(office) => Ok(office),
+        Err(_) => Err(ServeFault::Memory),
+    }
+}
+
+// TODO: take the tables that are there, once plan_store opens stores.
+fn book_in_file(rt: &HostRuntime, path: &str) -> Result<FileBook, StoreFault> {
+    let conn = InFile { rt, path }.connect(rt.alloc())?;
+    match SqlBook::create_in(rt.alloc(), conn, &[0; 32]) {
+        Ok(book) => Ok(book),
+        Err((fault, _)) => Err(fault),
+    }
+}
+
+// The bytes of a connection, in the file of this name.
+fn read_named(rt: &HostRuntime, path: &str) -> Result<Vec<u8>, ServeFault>
+    ensures { IfErr result (λ e. (e ≡ ServeFault.Memory) ⊎ (e ≡ ServeFault.Input)) }
+{
+    match fs::open(rt, path) {
+        Ok(file) => read_connection(rt.alloc(), &mut StdSource::new(file)),
+        Err(error) => Err(open_fault(&error)),
+    }
+}
+
+// The bytes of connections, each in a file.
+fn read_all(rt: &HostRuntime, paths: &[&str]) -> Result<Vec<Vec<u8>>, ServeFault>
+    ensures { IfErr result (λ e. (e ≡ ServeFault.Memory) ⊎ (e ≡ ServeFault.Input)) }
+{
+    let mut conns = Vec::new(rt.alloc());
+    for path in paths {
+        let conn = read_named(rt, path)?;
+        if conns.push(conn).is_err() {
+            return Err(ServeFault::Memory);
+        }
+    }
+    Ok(conns)
+}
+
+/// `plan replay`: serves the connections whose bytes are in files, by the office in the file of this
+/// name, and writes the responses. All files are read before the office is opened.
+pub fn replay_on_files<W: Sink>(
+    rt: &HostRuntime,
+    path: &str,
+    requests: &[&str],
+    writer: &mut W,
+) -> Result<(), ServeFault>
+    ensures writes { W.calls writer.new ≤ W.calls writer.old + most_calls }
+    // Nothing is written with any other fault than that of the output.
+    ensures quiet { IfErr result (λ e. (e ≡ ServeFault.Output) ⊎ (writer.new ≡ writer.old)) }
+    ensures fine { OnOk result (W.faults writer.new ≡ W.faults writer.old) }
+    ensures output { IsErrOf result ServeFault.Output →
+        HasFailed (W.calls writer.old) (W.calls writer.new) (W.faults writer.old) (W.faults writer.new) }
+{
+    let conns = match read_all(rt, requests) {
+        Ok(conns) => conns,
+        Err(fault) => return Err(fault),
+    };
+    let mut office = match open_office(rt, path) {
+        Ok(office) => office,
+        Err(fault) => return Err(fault),
+    };
+    let done = replay_run(rt.alloc(), &mut office, &conns, writer);
+    close(office.into_book());
+    done
+}
+
+// Why nothing can be bound to a port.
+fn bind_fault(error: &io::Error) -> ServeFault {
+    if error.kind() == ErrorKind::OutOfMemory {
+        return ServeFault::Memory;
+    }
+    ServeFault::Socket
+}
+
+/// `plan serve`: serves so many connections on a port of this machine alone, by the office in the
+/// file of this name. The office is opened before the port.
+pub fn serve_on_port(
+    rt: &HostRuntime,
+    path: &str,
+    port: u16,
+    count: u32,
+) -> Result<(), ServeFault> {
+    let mut office = open_office(rt, path)?;
+    let done = match TcpListener::bind(rt, (Ipv4Addr::LOCALHOST, port)) {
+        Ok(listener) => serve_listener(rt.alloc(), &mut office, &listener, count),
+        Err(error) => Err(bind_fault(&error)),
+    };
+    close(office.into_book());
+    done
+}
