@@ -18,3 +18,7 @@ pub mod NumberedLemmas
 pub mod CreateMeanings
 pub mod CreateLemmas
 pub mod BookLemmas
+mod RereadLemmas
+pub mod OpeningLemmas
+pub mod MigrateLemmas
+pub mod AdoptLemmas

@@ -7,3 +7,8 @@ pub mod Serving
 pub mod Shown
 pub mod SqlBooks
 pub mod Creating
+pub mod Layouts
+pub mod Rereading
+pub mod Adopting
+pub mod Opening
+pub mod OnDisk

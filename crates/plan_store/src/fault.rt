@@ -1,7 +1,7 @@
 //! Faults of a store, and faults of a connection as faults of a book.
 
 ghost use Rattle.std.specs.Prelude.{◌≢◌};
-ghost use Rattle.plan_store.specs.declared.fault.StoreFault.TheVariants.{NotOurs};
+ghost use Rattle.plan_store.specs.declared.fault.StoreFault.TheVariants.{NotOurs, Version};
 
 use plan_desk::BookFault;
 use sqlite::{Error, ErrorCode};
@@ -10,9 +10,13 @@ use thiserror::Error as Fault;
 /// Why there is no store.
 #[derive(Debug, Clone, Copy, PartialEq, Eq, Fault, Drop)]
 pub enum StoreFault {
-    /// The database has tables already.
-    #[error("the database has tables already")]
+    /// The database has tables already, where a store is made; or they aren't those of an office,
+    /// where one is opened.
+    #[error("the tables are not those of an office")]
     NotOurs,
+    /// The version of the tables isn't known.
+    #[error("the version of the tables is not known")]
+    Version,
     /// Memory ran out.
     #[error("no memory")]
     NoMemory,
@@ -31,7 +35,8 @@ pub(crate) fn fault_of(error: &Error) -> BookFault {
 
 // A fault of a book that is being made.
 pub(crate) fn store_fault_of(error: &Error) -> StoreFault
-    ensures { result ≢ NotOurs }
+    ensures ours { result ≢ NotOurs }
+    ensures known { result ≢ Version }
 {
     match error {
         Error::SqliteFailure(ErrorCode::OutOfMemory) => StoreFault::NoMemory,

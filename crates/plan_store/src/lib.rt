@@ -1,17 +1,26 @@
 //! The tables of an office in SQLite.
 #![tactic(auto)]
 
+mod adopting;
 mod asking;
 mod calls;
 mod cells;
 mod creating;
 mod fault;
+mod layout;
+mod leftover;
+mod migrating;
 mod numbers;
+mod on_disk;
+mod opening;
 mod reading;
+mod rereading;
 mod running;
 mod shown;
 mod sql_book;
+mod taking;
 mod writing;
 
 pub use fault::StoreFault;
+pub use leftover::Leftover;
 pub use sql_book::SqlBook;

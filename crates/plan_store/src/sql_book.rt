@@ -11,11 +11,15 @@ ghost use Rattle.plan_store.specs.Tables.{no_schema};
 ghost use Rattle.plan_store.specs.Stores.{world_of};
 ghost use Rattle.plan_store.specs.Serving.{Stands};
 ghost use Rattle.plan_store.specs.Creating.{IsNewStore};
+ghost use Rattle.plan_store.specs.Adopting.{IsTaken, IsRefused};
 
+use crate::adopting::take_tables;
 use crate::calls::Calls;
 use crate::creating::{is_empty, make_tables};
 use crate::fault::StoreFault;
+use crate::leftover::Leftover;
 use crate::reading::{capacity_found, codes_in, desk_found, office_in, plan_any, plans_in};
+use crate::rereading::reread;
 use crate::writing::{
     add_plan_in, bind_any, open_desk_in, publish_any, remove_any, set_calendar_any, set_key_in,
     set_lag_any,
@@ -95,6 +99,38 @@ impl<S: Alter> SqlBook<S> {
             calls: _,
         } = self;
         conn
+    }
+}
+
+impl<S: Alter + Drop> SqlBook<S> {
+    /// The book that the tables of a connection hold. Tables of the second version are taken as they
+    /// are; those of the first are brought to the second in one transaction, with no lags. Any other
+    /// tables are refused, `NotOurs` or `Version`, and stay as they are.
+    pub fn adopt(
+        alloc: Global,
+        conn: Connection<S>,
+    ) -> Result<SqlBook<S>, (StoreFault, Leftover<S>)>
+        requires outside { (state S.Store conn).in_transaction ≡ false }
+        ensures taken { IfOk result (λ b. HasCleanDisk (state S.Store b.conn)
+            → Stands (state S.Store b.conn) × IsTaken (state S.Store conn).now (state S.Store b.conn).now) }
+        ensures honesty { IfOk result (λ b. HasCleanDisk (state S.Store b.conn) → HasCleanDisk (state S.Store conn)) }
+        // Once they are taken, a crash leaves them and nothing else.
+        ensures durable { IfOk result (λ b. HasCleanDisk (state S.Store b.conn)
+            → (trees : Trees) → (state S.Store b.conn).may_leave trees → trees ≡ (state S.Store b.conn).now.trees) }
+        ensures refused { IfErr result (λ e. IsRefused S.Store (state S.Store conn) e.0 e.1) }
+    {
+        let mut conn = match reread(alloc, conn) {
+            Ok(conn) => conn,
+            Err((fault, store)) => return Err((fault, Leftover::Store(store))),
+        };
+        match take_tables(alloc, &mut conn) {
+            Ok(()) => Ok(SqlBook {
+                alloc,
+                conn,
+                calls: Calls::new(),
+            }),
+            Err(fault) => Err((fault, Leftover::Connection(conn))),
+        }
     }
 }
 

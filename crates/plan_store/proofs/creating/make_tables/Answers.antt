@@ -20,4 +20,4 @@ returns-in-Err-made g c =
     let did = c.in-Err-made.ensures in
     let settled = c.is_autocommit-settled.ensures in
     created_none g.S.Store c.args.digest.now c.digits_of.ensures.known c.args.conn.now new c.requires.empty did.outside (rw (c.as_slice.ensures, c.in-Ok.ensures.digits) at did.survives)
-    (λ outside live. settled.settled (rw (settled.value, outside) refl) live) c.requires.outside (λ clean live. did.neither clean live) (Err c.store_fault_of.result) c.store_fault_of.result refl c.store_fault_of.ensures
+    (λ outside live. settled.settled (rw (settled.value, outside) refl) live) c.requires.outside (λ clean live. did.neither clean live) (Err c.store_fault_of.result) c.store_fault_of.result refl c.store_fault_of.ensures.ours
