@@ -6,7 +6,7 @@ use Rattle.plan_desk.specs.World.{Text, Digest}
 use Rattle.plan_store.specs.declared.fault.StoreFault.{StoreFault}
 use Rattle.plan_store.specs.declared.fault.StoreFault.TheVariants as store
 use Rattle.plan_store.specs.Tables.{no_schema}
-use Rattle.plan_serve.specs.Faults.{fault_of}
+use Rattle.plan_serve.specs.Faults.{new_fault_of}
 use Rattle.plan_serve.specs.Keys.{ReadsKey}
 use Rattle.plan_serve.specs.InitRun.{Inits}
 
@@ -14,15 +14,18 @@ module _ {S : Type 0} (g : Ghosts S) (Opens : Held S → Type 0) (Refuses : Stor
     (reads : ReadsKey remaining rest (Ok digest)) where
   -- no database was opened
   pub unopened : (fault : StoreFault) → Refuses fault → (fault ≡ store.NoMemory) ⊎ (fault ≡ store.Store)
-      → Inits g Opens Refuses remaining rest (Err (fault_of fault))
+      → Inits g Opens Refuses remaining rest (Err (new_fault_of fault))
   unopened store.NotOurs refuses (inl e) = absurd cc
   unopened store.NotOurs refuses (inr e) = absurd cc
+  unopened store.Version refuses (inl e) = absurd cc
+  unopened store.Version refuses (inr e) = absurd cc
   unopened store.NoMemory refuses which = tt
   unopened store.Store refuses which = (digest, reads, inl refuses)
 
   -- a database was opened, and no tables made
   pub unmade : (conn : Held S) (fault : StoreFault) → Opens conn → (fault ≡ store.NotOurs) ↔ ((state g conn).now.schema ≢ no_schema)
-      → Inits g Opens Refuses remaining rest (Err (fault_of fault))
+      → Inits g Opens Refuses remaining rest (Err (new_fault_of fault))
   unmade conn store.NotOurs opens ours = (digest, reads, (conn, opens, ours.0 refl))
+  unmade conn store.Version opens ours = (digest, reads, inr (conn, opens, λ used. let e = ours.1 used in absurd cc))
   unmade conn store.NoMemory opens ours = tt
   unmade conn store.Store opens ours = (digest, reads, inr (conn, opens, λ used. let e = ours.1 used in absurd cc))

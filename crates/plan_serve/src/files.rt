@@ -13,7 +13,7 @@ use crate::socket::serve_listener;
 use plan_desk::Office;
 use plan_psplib::{Sink, StdSource};
 use plan_store::{SqlBook, StoreFault};
-use sqlite::{Connection, Error, ErrorCode};
+use sqlite::{Connection, Error, ErrorCode, Unknown};
 use sqlite_std_file::File;
 use sqlite_store::FileStore;
 use std::alloc::Global;
@@ -77,22 +77,13 @@ pub fn init_on_file(rt: &HostRuntime, path: &str) -> Result<(), ServeFault> {
 fn open_office(rt: &HostRuntime, path: &str) -> Result<Office<FileBook>, ServeFault>
     ensures { IfErr result (λ e. (e ≡ ServeFault.Memory) ⊎ (e ≡ ServeFault.Store) ⊎ (e ≡ ServeFault.NotOurs) ⊎ (e ≡ ServeFault.Version)) }
 {
-    let book = match book_in_file(rt, path) {
+    let book = match SqlBook::open_from(rt, path, Unknown) {
         Ok(book) => book,
-        Err(fault) => return Err(told(fault)),
+        Err((fault, _)) => return Err(told(fault)),
     };
     match Office::new(rt.alloc(), book) {
         Ok(office) => Ok(office),
         Err(_) => Err(ServeFault::Memory),
-    }
-}
-
-// TODO: take the tables that are there, once plan_store opens stores.
-fn book_in_file(rt: &HostRuntime, path: &str) -> Result<FileBook, StoreFault> {
-    let conn = InFile { rt, path }.connect(rt.alloc())?;
-    match SqlBook::create_in(rt.alloc(), conn, &[0; 32]) {
-        Ok(book) => Ok(book),
-        Err((fault, _)) => Err(fault),
     }
 }
 
