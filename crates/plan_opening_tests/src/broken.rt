@@ -39,7 +39,7 @@ const ROWS: [&str; 24] = [
 const FILES: [&str; 8] = [
     "UPDATE plans SET body = x'' WHERE n = 3",
     "UPDATE plans SET body = x'00' WHERE n = 2",
-    "UPDATE plans SET body = CAST(substr(CAST(body AS TEXT), 1, 100) AS BLOB) WHERE n = 3",
+    "UPDATE plans SET body = x'70726f6a656374733a20310a6a6f62733a20320a2d2072656e657761626c653a20310a' WHERE n = 3",
     "UPDATE plans SET start = '2023-02-29', days = '1111100' WHERE n = 3",
     "UPDATE plans SET days = '1111100' WHERE n = 3",
     "UPDATE plans SET start = '2024-03-01' WHERE n = 3",

@@ -68,13 +68,15 @@ bytes_from [] all i = omega arith
 bytes_from (x ∷ xs) all zero = let it = (and_parts (nat_lt x 256) (list_all (λ b. nat_lt b 256) xs) all).0 in grind (arith, nat_tests)
 bytes_from (x ∷ xs) all (suc i) = bytes_from xs (and_parts (nat_lt x 256) (list_all (λ b. nat_lt b 256) xs) all).1 i
 
-pub digest_back : (digest : Digest) → is_digest digest ≡ true → digest_in (digest_value digest) ≡ digest
-digest_back digest good =
+pub digest_decoded : (digest : Digest) → is_digest digest ≡ true → decode_sized (encode_lower digest) 32 ≡ Ok digest
+digest_decoded digest good =
     let parts = and_parts (length digest == 32) (list_all (λ b. nat_lt b 256) digest) good in
     let size : length digest ≡ 32 = let it = parts.0 in grind (arith, nat_tests) in
     let wide : length (encode_lower digest) ≡ 64 = let e = length-encode_with lower_digits digest in omega (arith, e, size) in
-    let whole : decode_sized (encode_lower digest) 32 ≡ Ok digest = rw wide (decode_pairs-encode_with lower_digits IsDigits-lower_digits 0 digest (bytes_from digest parts.1)) in
-    ap decoded whole
+    rw wide (decode_pairs-encode_with lower_digits IsDigits-lower_digits 0 digest (bytes_from digest parts.1))
+
+pub digest_back : (digest : Digest) → is_digest digest ≡ true → digest_in (digest_value digest) ≡ digest
+digest_back digest good = ap decoded (digest_decoded digest good)
 
 pub code_back : (row : Published) (n : ℤ) → read_code (row_at written_code (n, row)) ≡ row
 code_back row n = ap (λ k. record row { kind = k }) (kind_back row.kind)

@@ -18,7 +18,15 @@ pub mod NumberedLemmas
 pub mod CreateMeanings
 pub mod CreateLemmas
 pub mod BookLemmas
+pub mod LookingLemmas
+pub mod NumberedRowLemmas
+pub mod TakenLemmas
+pub mod TableMeanings
+pub mod TakingLemmas
+pub mod HoldsLemmas
+pub mod LaidLemmas
 mod RereadLemmas
 pub mod OpeningLemmas
 pub mod MigrateLemmas
 pub mod AdoptLemmas
+pub mod TakenTableLemmas

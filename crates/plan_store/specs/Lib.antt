@@ -7,8 +7,10 @@ pub mod Serving
 pub mod Shown
 pub mod SqlBooks
 pub mod Creating
+pub mod Querying
 pub mod Layouts
 pub mod Rereading
 pub mod Adopting
 pub mod Opening
 pub mod OnDisk
+pub mod Taking

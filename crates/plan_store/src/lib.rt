@@ -18,6 +18,7 @@ mod rereading;
 mod running;
 mod shown;
 mod sql_book;
+mod taken;
 mod taking;
 mod writing;
 

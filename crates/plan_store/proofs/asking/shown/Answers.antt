@@ -3,8 +3,7 @@ use Rattle.sqlite_trees.specs.Tree.{Trees}
 use Rattle.sqlite.specs.Values.{bound}
 use Rattle.sqlite.specs.State.{HasCleanDisk}
 use Rattle.sqlite.specs.Held.{state}
-use Rattle.plan_store.specs.Tables.{store_schema}
-use Rattle.plan_store.proofs.AskingLemmas.{asks, query_failed, query_shown, query_commits_nothing}
+use Rattle.plan_store.proofs.AskingLemmas.{queries, query_failed, query_shown, query_commits_nothing}
 use Rattle.plan_store.proofs.asking.shown.Goals as goal
 
 pub returns-in-Ok : goal.returns-in-Ok
@@ -13,12 +12,11 @@ returns-in-Ok g c =
     let new = state g.S.Store c.query_all.new.conn in
     let did = c.in-Ok.ensures in
     let was = λ (clean : HasCleanDisk new). let early : HasCleanDisk old = omega (arith, did.survives.clean) in early in
-    let has = λ (clean : HasCleanDisk new). (c.requires.ready.stands (was clean) (c.requires.live (was clean))).store.schema in
-    let same = λ (clean : HasCleanDisk new). query_shown c.args.statement.now.text (bound c.args.params.now) old new (has clean) (c.requires.plain (was clean)) c.in-Ok.rows.items (did.ok clean) in
-    asks old new c.requires.ready was (λ clean. inl (same clean)) (Ok c.in-Ok.rows) _ (did.mode c.requires.ready.outside) (λ clean. ((same clean).0.is_open, did.ok clean))
+    let same = λ (clean : HasCleanDisk new). query_shown c.args.statement.now.text (bound c.args.params.now) old new (c.requires.plain (was clean)) c.in-Ok.rows.items (did.ok clean) in
+    queries old new c.requires.rest was (λ clean. inl (same clean)) (Ok c.in-Ok.rows) _ (did.mode c.requires.rest.outside) (λ clean. ((same clean).0.is_open, did.ok clean))
     (λ clean trees may. elim (did.survives.crash clean trees may) [
       | inl before ↦ before
-      | inr made ↦ absurd (query_commits_nothing c.args.statement.now.text (bound c.args.params.now) old new (has clean) (c.requires.plain (was clean)) trees made)
+      | inr made ↦ absurd (query_commits_nothing c.args.statement.now.text (bound c.args.params.now) old new (c.requires.plain (was clean)) trees made)
     ])
 
 pub returns-in-Err : goal.returns-in-Err
@@ -27,10 +25,9 @@ returns-in-Err g c =
     let new = state g.S.Store c.query_all.new.conn in
     let did = c.in-Err.ensures in
     let was = λ (clean : HasCleanDisk new). let early : HasCleanDisk old = omega (arith, did.survives.clean) in early in
-    let has = λ (clean : HasCleanDisk new). (c.requires.ready.stands (was clean) (c.requires.live (was clean))).store.schema in
-    asks old new c.requires.ready was (λ clean. query_failed c.args.statement.now.text (bound c.args.params.now) old new (has clean) (c.requires.plain (was clean)) c.in-Err.error (did.err clean)) (Err c.fault_of.result) _
-    (did.mode c.requires.ready.outside) tt
+    queries old new c.requires.rest was (λ clean. query_failed c.args.statement.now.text (bound c.args.params.now) old new (c.requires.plain (was clean)) c.in-Err.error (did.err clean)) (Err c.fault_of.result) _
+    (did.mode c.requires.rest.outside) tt
     (λ clean trees may. elim (did.survives.crash clean trees may) [
       | inl before ↦ before
-      | inr made ↦ absurd (query_commits_nothing c.args.statement.now.text (bound c.args.params.now) old new (has clean) (c.requires.plain (was clean)) trees made)
+      | inr made ↦ absurd (query_commits_nothing c.args.statement.now.text (bound c.args.params.now) old new (c.requires.plain (was clean)) trees made)
     ])

@@ -1,0 +1,14 @@
+use Rattle.sqlite.specs.Held.{state}
+use Rattle.plan_store.proofs.LookingLemmas.{looks_map}
+use Rattle.plan_store.proofs.TableMeanings.{codes_asks}
+use Rattle.plan_store.proofs.LaidLemmas.{codes_read}
+use Rattle.plan_store.proofs.taking.codes_in.Goals as goal
+
+pub rows_taken-requires-clause-query : goal.rows_taken-requires-clause-query
+rows_taken-requires-clause-query g c = codes_asks c.args.layout
+
+pub returns : goal.returns
+returns g c =
+    let old = state g.S.Store c.args.conn.now in
+    let new = state g.S.Store c.rows_taken.new.conn in
+    looks_map c.args.layout old new c.requires.ready c.rows_taken.result _ _ (λ found laid h. codes_read c.args.layout old laid found h) c.rows_taken.ensures

@@ -1,0 +1,326 @@
+//! Rows that someone else may have written, as code keeps them. A row that no office has gives none.
+
+ghost use Rattle.std.specs.Prelude.{◌≡◌, ◌≢◌, ◌<◌, ◌^◌, ℕ, true, List, length, string_bytes, IsUtf8, Option, option_map, IfOk, MatchOption};
+ghost use Rattle.sqlite_value.specs.declared.value.Value.TheVariants.{Text, Blob};
+ghost use Rattle.sqlite_value.specs.Order.{Row as Shown, column};
+ghost use Rattle.plan_desk.specs.World.{Digest};
+ghost use Rattle.plan_desk.specs.Names.{is_digest};
+ghost use Rattle.plan_desk.specs.JsonTexts.{kind_text, plan_kind_text};
+ghost use Rattle.plan_desk.specs.Books.{published_in};
+ghost use Rattle.plan_desk.specs.Tables.{desk_kept, plan_kept, bind_kept, lag_kept};
+ghost use Rattle.plan_store.specs.Rows.{number_value, digest_value, written_code, written_desk, written_plan, written_bind, written_lag};
+ghost use Rattle.plan_store.specs.Taking.{HoldsCode, HoldsDesk, HoldsPlan, HoldsBind, HoldsLag, HoldsMeta, shown_meta, TakesRow, TakesAll};
+
+use crate::numbers::digits_of;
+use plan_desk::{
+    BindRecord, BookFault, CodeRow, DeskRecord, Kind, LagRecord, PlanKind, PlanRecord,
+};
+use sqlite::types::{FromSql, ValueRef};
+use sqlite::{Error, ErrorCode, Row};
+use std::alloc::Global;
+
+// A value that can be read as one of this type.
+fn value_taken<T: FromSql>(row: &Row, at: usize) -> Result<Option<T>, BookFault>
+    requires { at < length row.now }
+    ensures { IfOk result (λ found. MatchOption found (T.is_readable (column row.now at) → ⊥) (T.reads_as (column row.now at))) }
+{
+    match row.get(at) {
+        Ok(value) => Ok(Some(value)),
+        Err(Error::SqliteFailure(ErrorCode::OutOfMemory)) => Err(BookFault::NoMemory),
+        Err(_) => Ok(None),
+    }
+}
+
+// The number of an activity.
+fn small_taken(row: &Row, at: usize) -> Option<u32>
+    requires { at < length row.now }
+    ensures { MatchOption result ((n : ℕ) → n < 2 ^ 32 → column row.now at ≢ number_value n) (λ n. (column row.now at ≡ number_value n) × (n < 2 ^ 32)) }
+{
+    match row.get_ref(at) {
+        Ok(ValueRef::Int(number)) => u32::try_from(number).ok(),
+        _ => None,
+    }
+}
+
+// A text, byte by byte.
+fn letters_taken(row: &Row, at: usize) -> Option<&[u8]>
+    requires { at < length row.now }
+    ensures { MatchOption result ((text : _) → column row.now at ≢ Text text) (λ text. column row.now at ≡ Text text.now) }
+{
+    match row.get_ref(at) {
+        Ok(ValueRef::Text(text)) => Some(text),
+        _ => None,
+    }
+}
+
+// What a published code stands for.
+fn kind_taken(row: &Row, at: usize) -> Option<Kind>
+    requires { at < length row.now }
+    ensures { MatchOption result ((kind : _) → column row.now at ≢ Text (kind_text kind)) (λ kind. column row.now at ≡ Text (kind_text kind)) }
+{
+    let text = letters_taken(row, at)?;
+    if text == b"crew".as_slice() {
+        Some(Kind::Crew)
+    } else if text == b"machine".as_slice() {
+        Some(Kind::Machine)
+    } else {
+        None
+    }
+}
+
+// What a plan is made of.
+fn plan_kind_taken(row: &Row, at: usize) -> Option<PlanKind>
+    requires { at < length row.now }
+    ensures { MatchOption result ((kind : _) → column row.now at ≢ Text (plan_kind_text kind)) (λ kind. column row.now at ≡ Text (plan_kind_text kind)) }
+{
+    let text = letters_taken(row, at)?;
+    if text == b"project".as_slice() {
+        Some(PlanKind::Project)
+    } else if text == b"shop".as_slice() {
+        Some(PlanKind::Shop)
+    } else {
+        None
+    }
+}
+
+// A digest, in 64 lower hexadecimal digits.
+fn digest_taken(row: &Row, at: usize) -> Result<Option<[u8; 32]>, BookFault>
+    requires { at < length row.now }
+    ensures { IfOk result (λ found. MatchOption found ((digest : Digest) → is_digest digest ≡ true → column row.now at ≢ digest_value digest)
+        (λ digest. (column row.now at ≡ digest_value digest) × (is_digest digest ≡ true))) }
+{
+    let Some(text) = letters_taken(row, at) else {
+        return Ok(None);
+    };
+    let mut digest = [0; 32];
+    if hex::decode_to_slice(text, &mut digest).is_err() {
+        return Ok(None);
+    }
+    let digits = digits_of(&digest)?;
+    if digits.as_slice() == text {
+        Ok(Some(digest))
+    } else {
+        Ok(None)
+    }
+}
+
+// The desk and the number of a plan, which come first in each row that belongs to one.
+fn owner_taken(row: &Row) -> Result<Option<(String, u64)>, BookFault>
+    requires { 1 < length row.now }
+    ensures { IfOk result (λ found. MatchOption found
+        ((desk : List ℕ) (n : ℕ) → IsUtf8 desk → column row.now 0 ≡ Text desk → column row.now 1 ≡ number_value n → ⊥)
+        (λ owner. (column row.now 0 ≡ Text (string_bytes owner.0)) × (column row.now 1 ≡ number_value owner.1))) }
+{
+    let Some(desk) = value_taken(row, 0)? else {
+        return Ok(None);
+    };
+    let Some(n) = value_taken(row, 1)? else {
+        return Ok(None);
+    };
+    Ok(Some((desk, n)))
+}
+
+// The name and the file of a plan.
+fn file_taken(row: &Row) -> Result<Option<(String, Vec<u8>)>, BookFault>
+    requires { 4 < length row.now }
+    ensures { IfOk result (λ found. MatchOption found
+        ((name body : List ℕ) → IsUtf8 name → column row.now 3 ≡ Text name → column row.now 4 ≡ Blob body → ⊥)
+        (λ file. (column row.now 3 ≡ Text (string_bytes file.0)) × (column row.now 4 ≡ Blob file.1.items))) }
+{
+    let Some(name) = value_taken(row, 3)? else {
+        return Ok(None);
+    };
+    let Some(body) = value_taken(row, 4)? else {
+        return Ok(None);
+    };
+    Ok(Some((name, body)))
+}
+
+// The two texts of a calendar.
+fn calendar_taken(row: &Row) -> Result<Option<(String, String)>, BookFault>
+    requires { 6 < length row.now }
+    ensures { IfOk result (λ found. MatchOption found
+        ((start days : List ℕ) → IsUtf8 start → IsUtf8 days → column row.now 5 ≡ Text start → column row.now 6 ≡ Text days → ⊥)
+        (λ texts. (column row.now 5 ≡ Text (string_bytes texts.0)) × (column row.now 6 ≡ Text (string_bytes texts.1)))) }
+{
+    let Some(start) = value_taken(row, 5)? else {
+        return Ok(None);
+    };
+    let Some(days) = value_taken(row, 6)? else {
+        return Ok(None);
+    };
+    Ok(Some((start, days)))
+}
+
+/// What a row that someone else may have written is read as.
+pub trait FromTaken: Drop {
+    /// What the row gives, or that it gives none.
+    ghost takes: { Shown → Option Self → Type 0 };
+
+    /// Reads a row.
+    fn from_taken(row: &Row) -> Result<Option<Self>, BookFault>
+        ensures { IfOk result (takes row.now) };
+}
+
+/// All rows of an answer, or none where one of them gives none.
+pub fn all_taken<T: FromTaken>(alloc: Global, rows: &[Row]) -> Result<Option<Vec<T>>, BookFault>
+    ensures { IfOk result (λ found. TakesAll T.takes rows.now (option_map (λ v. v.items) found)) }
+{
+    let mut all = Vec::new(alloc);
+    for row in rows {
+        match T::from_taken(row)? {
+            Some(taken) => all.push(taken)?,
+            None => return Ok(None),
+        }
+    }
+    Ok(Some(all))
+}
+
+impl FromTaken for (i64, [u8; 32]) {
+    ghost takes = { TakesRow shown_meta HoldsMeta };
+
+    fn from_taken(row: &Row) -> Result<Option<(i64, [u8; 32])>, BookFault> {
+        if row.column_count() != 3 {
+            return Ok(None);
+        }
+        if value_taken(row, 0)? != Some(1i64) {
+            return Ok(None);
+        }
+        let Some(version) = value_taken(row, 1)? else {
+            return Ok(None);
+        };
+        let Some(digest) = digest_taken(row, 2)? else {
+            return Ok(None);
+        };
+        Ok(Some((version, digest)))
+    }
+}
+
+impl FromTaken for CodeRow {
+    ghost takes = { λ row found. TakesRow written_code HoldsCode row (option_map published_in found) };
+
+    fn from_taken(row: &Row) -> Result<Option<CodeRow>, BookFault> {
+        if row.column_count() != 3 {
+            return Ok(None);
+        }
+        let Some(code) = value_taken(row, 0)? else {
+            return Ok(None);
+        };
+        let Some(kind) = kind_taken(row, 1) else {
+            return Ok(None);
+        };
+        let Some(capacity) = value_taken(row, 2)? else {
+            return Ok(None);
+        };
+        Ok(Some(CodeRow {
+            code,
+            kind,
+            capacity,
+        }))
+    }
+}
+
+impl FromTaken for DeskRecord {
+    ghost takes = { λ row found. TakesRow written_desk HoldsDesk row (option_map desk_kept found) };
+
+    fn from_taken(row: &Row) -> Result<Option<DeskRecord>, BookFault> {
+        if row.column_count() != 3 {
+            return Ok(None);
+        }
+        let Some(desk) = value_taken(row, 0)? else {
+            return Ok(None);
+        };
+        let Some(digest) = digest_taken(row, 1)? else {
+            return Ok(None);
+        };
+        let Some(next) = value_taken(row, 2)? else {
+            return Ok(None);
+        };
+        Ok(Some(DeskRecord { desk, digest, next }))
+    }
+}
+
+impl FromTaken for PlanRecord {
+    ghost takes = { λ row found. TakesRow written_plan HoldsPlan row (option_map plan_kept found) };
+
+    fn from_taken(row: &Row) -> Result<Option<PlanRecord>, BookFault> {
+        if row.column_count() != 7 {
+            return Ok(None);
+        }
+        let Some((desk, n)) = owner_taken(row)? else {
+            return Ok(None);
+        };
+        let Some(kind) = plan_kind_taken(row, 2) else {
+            return Ok(None);
+        };
+        let Some((name, body)) = file_taken(row)? else {
+            return Ok(None);
+        };
+        let Some((start, days)) = calendar_taken(row)? else {
+            return Ok(None);
+        };
+        Ok(Some(PlanRecord {
+            desk,
+            n,
+            kind,
+            name,
+            body,
+            start,
+            days,
+        }))
+    }
+}
+
+impl FromTaken for BindRecord {
+    ghost takes = { λ row found. TakesRow written_bind HoldsBind row (option_map bind_kept found) };
+
+    fn from_taken(row: &Row) -> Result<Option<BindRecord>, BookFault> {
+        if row.column_count() != 4 {
+            return Ok(None);
+        }
+        let Some((desk, n)) = owner_taken(row)? else {
+            return Ok(None);
+        };
+        let Some(place) = value_taken(row, 2)? else {
+            return Ok(None);
+        };
+        let Some(code) = value_taken(row, 3)? else {
+            return Ok(None);
+        };
+        Ok(Some(BindRecord {
+            desk,
+            n,
+            place,
+            code,
+        }))
+    }
+}
+
+impl FromTaken for LagRecord {
+    ghost takes = { λ row found. TakesRow written_lag HoldsLag row (option_map lag_kept found) };
+
+    fn from_taken(row: &Row) -> Result<Option<LagRecord>, BookFault> {
+        if row.column_count() != 5 {
+            return Ok(None);
+        }
+        let Some((desk, n)) = owner_taken(row)? else {
+            return Ok(None);
+        };
+        let Some(from) = small_taken(row, 2) else {
+            return Ok(None);
+        };
+        let Some(to) = small_taken(row, 3) else {
+            return Ok(None);
+        };
+        let Some(lag) = value_taken(row, 4)? else {
+            return Ok(None);
+        };
+        Ok(Some(LagRecord {
+            desk,
+            n,
+            from,
+            to,
+            lag,
+        }))
+    }
+}
