@@ -47,3 +47,12 @@ module _ {S : Type 0} (g : Ghosts S) (Opens : Held S → Type 0) (Refuses : Stor
   Inits remaining rest (Err fault.Memory) = Unit {0}
   Inits remaining rest (Err fault.Input) = Unit {0}
   Inits remaining rest (Err e) = ⊥
+
+-- why the tables of a new office aren't made
+abbrev pub IsInitFault : ServeFault → Type 0
+IsInitFault fault.Key = Unit {0}
+IsInitFault fault.Store = Unit {0}
+IsInitFault fault.NotOurs = Unit {0}
+IsInitFault fault.Memory = Unit {0}
+IsInitFault fault.Input = Unit {0}
+IsInitFault e = ⊥

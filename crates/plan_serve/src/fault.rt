@@ -73,8 +73,7 @@ pub(crate) fn told_of_new(fault: StoreFault) -> ServeFault
     ensures { result ≡ new_fault_of fault }
 {
     match fault {
-        StoreFault::NotOurs => ServeFault::NotOurs,
-        StoreFault::NoMemory => ServeFault::Memory,
-        StoreFault::Version | StoreFault::Store => ServeFault::Store,
+        StoreFault::Version => ServeFault::Store,
+        other => told(other),
     }
 }

@@ -1,9 +1,12 @@
 //! The commands on files, and on a port.
 
-ghost use Rattle.std.specs.Prelude.{◌≡◌, ◌⊎◌, ◌+◌, ◌≤◌, IfErr, IsErrOf, OnOk};
+ghost use Rattle.std.specs.Prelude.{◌≡◌, ◌⊎◌, ◌+◌, ◌≤◌, length, IfOk, IfErr, IsErrOf, OnOk};
 ghost use Rattle.sqlite.specs.Held.{IsNew};
 ghost use Rattle.plan_psplib.specs.Devices.{most_calls, HasFailed};
 ghost use Rattle.plan_store.specs.declared.fault.StoreFault.TheVariants.{NoMemory, Store};
+ghost use Rattle.plan_serve.specs.InitRun.{IsInitFault};
+ghost use Rattle.plan_serve.specs.ReplayRun.{Answers};
+ghost use Rattle.plan_serve.specs.Serve.{IsServeFault};
 
 use crate::fault::{ServeFault, told};
 use crate::init::{Place, init_run};
@@ -66,10 +69,14 @@ fn open_fault(error: &io::Error) -> ServeFault
 
 /// `plan init`: makes the tables of an office in the file of this name, by the key that is the first
 /// line of standard input.
-pub fn init_on_file(rt: &HostRuntime, path: &str) -> Result<(), ServeFault> {
+pub fn init_on_file(rt: &HostRuntime, path: &str) -> Result<(), ServeFault>
+    ensures { IfErr result IsInitFault }
+{
     let mut input = StdSource::new(rt.reader());
-    let book = init_run(rt.alloc(), &mut input, InFile { rt, path })?;
-    close(book);
+    match init_run(rt.alloc(), &mut input, InFile { rt, path }) {
+        Ok(book) => close(book),
+        Err(fault) => return Err(fault),
+    }
     Ok(())
 }
 
@@ -99,7 +106,8 @@ fn read_named(rt: &HostRuntime, path: &str) -> Result<Vec<u8>, ServeFault>
 
 // The bytes of connections, each in a file.
 fn read_all(rt: &HostRuntime, paths: &[&str]) -> Result<Vec<Vec<u8>>, ServeFault>
-    ensures { IfErr result (λ e. (e ≡ ServeFault.Memory) ⊎ (e ≡ ServeFault.Input)) }
+    ensures each { IfOk result (λ conns. length conns.items ≡ length paths.now) }
+    ensures refused { IfErr result (λ e. (e ≡ ServeFault.Memory) ⊎ (e ≡ ServeFault.Input)) }
 {
     let mut conns = Vec::new(rt.alloc());
     for path in paths {
@@ -119,6 +127,8 @@ pub fn replay_on_files<W: Sink>(
     requests: &[&str],
     writer: &mut W,
 ) -> Result<(), ServeFault>
+    // What is written is a response for each file, or a part of these, or nothing.
+    ensures answers { Answers (length requests.now) (W.taken writer.old) (W.taken writer.new) result }
     ensures writes { W.calls writer.new ≤ W.calls writer.old + most_calls }
     // Nothing is written with any other fault than that of the output.
     ensures quiet { IfErr result (λ e. (e ≡ ServeFault.Output) ⊎ (writer.new ≡ writer.old)) }
@@ -140,7 +150,9 @@ pub fn replay_on_files<W: Sink>(
 }
 
 // Why nothing can be bound to a port.
-fn bind_fault(error: &io::Error) -> ServeFault {
+fn bind_fault(error: &io::Error) -> ServeFault
+    ensures { (result ≡ ServeFault.Memory) ⊎ (result ≡ ServeFault.Socket) }
+{
     if error.kind() == ErrorKind::OutOfMemory {
         return ServeFault::Memory;
     }
@@ -154,8 +166,13 @@ pub fn serve_on_port(
     path: &str,
     port: u16,
     count: u32,
-) -> Result<(), ServeFault> {
-    let mut office = open_office(rt, path)?;
+) -> Result<(), ServeFault>
+    ensures { IfErr result IsServeFault }
+{
+    let mut office = match open_office(rt, path) {
+        Ok(office) => office,
+        Err(fault) => return Err(fault),
+    };
     let done = match TcpListener::bind(rt, (Ipv4Addr::LOCALHOST, port)) {
         Ok(listener) => serve_listener(rt.alloc(), &mut office, &listener, count),
         Err(error) => Err(bind_fault(&error)),
