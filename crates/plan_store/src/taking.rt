@@ -188,7 +188,8 @@ pub fn tables_in<S: Alter>(
     let Some((binds, lags)) = binds_and_lags(alloc, conn, layout)? else {
         return Ok(None);
     };
-    let (version, office) = meta;
+    let version = meta.0;
+    let office = meta.1;
     let tables = Tables {
         office,
         published,
