@@ -8,7 +8,9 @@ use Rattle.plan_store.specs.declared.fault.StoreFault.TheVariants as store
 use Rattle.plan_store.specs.Tables.{no_schema}
 use Rattle.plan_serve.specs.Faults.{new_fault_of}
 use Rattle.plan_serve.specs.Keys.{ReadsKey}
-use Rattle.plan_serve.specs.InitRun.{Inits}
+use Rattle.plan_serve.specs.declared.fault.ServeFault.{ServeFault}
+use Rattle.plan_serve.specs.declared.fault.ServeFault.TheVariants as fault
+use Rattle.plan_serve.specs.InitRun.{Inits, IsInitFault}
 
 module _ {S : Type 0} (g : Ghosts S) (Opens : Held S → Type 0) (Refuses : StoreFault → Type 0) (remaining rest : Option Text) (digest : Digest)
     (reads : ReadsKey remaining rest (Ok digest)) where
@@ -29,3 +31,15 @@ module _ {S : Type 0} (g : Ghosts S) (Opens : Held S → Type 0) (Refuses : Stor
   unmade conn store.Version opens ours = (digest, reads, inr (conn, opens, λ used. let e = ours.1 used in absurd cc))
   unmade conn store.NoMemory opens ours = tt
   unmade conn store.Store opens ours = (digest, reads, inr (conn, opens, λ used. let e = ours.1 used in absurd cc))
+
+-- why the tables of a new office aren't made
+pub init_faults : {S : Type 0} (g : Ghosts S) (Opens : Held S → Type 0) (Refuses : StoreFault → Type 0) (remaining rest : Option Text) (e : ServeFault)
+    → Inits g Opens Refuses remaining rest (Err e) → IsInitFault e
+init_faults g Opens Refuses remaining rest fault.Memory i = tt
+init_faults g Opens Refuses remaining rest fault.Store i = tt
+init_faults g Opens Refuses remaining rest fault.NotOurs i = tt
+init_faults g Opens Refuses remaining rest fault.Version i = absurd i
+init_faults g Opens Refuses remaining rest fault.Key i = tt
+init_faults g Opens Refuses remaining rest fault.Input i = tt
+init_faults g Opens Refuses remaining rest fault.Socket i = absurd i
+init_faults g Opens Refuses remaining rest fault.Output i = absurd i

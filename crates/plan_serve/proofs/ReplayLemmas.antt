@@ -1,5 +1,5 @@
 -- Responses, one behind another.
-use Rattle.std.proofs.Common.{◌≡◌, ℕ, List, [], ◌∷◌, ◌++◌, length, take, map, refl, sym, ap, ◌∙◌, inl, subst, arith, Result, Ok, Err, IfOk}
+use Rattle.std.proofs.Common.{◌≡◌, ℕ, suc, List, [], ◌∷◌, ◌++◌, length, take, map, refl, sym, ap, ◌∙◌, inl, subst, arith, Result, Ok, Err, IfOk}
 use Rattle.std.specs.Prelude.{OnErr}
 use Rattle.std.proofs.lemmas.List.{take_all}
 use Rattle.std.specs.List.{flat_map}
@@ -40,3 +40,10 @@ pub joined_none : {B Y E : Type 0} (shelf : Shelf B) (old new : B) (conns : List
     → Serving shelf old conns decisions new → OnErr r ((decisions : List Decision) × Stops shelf old new conns decisions)
 joined_none shelf old new conns decisions (Ok all) served = tt
 joined_none shelf old new conns decisions (Err e) served = (decisions, all_served shelf old new conns decisions served)
+
+-- each connection is served by one decision
+pub served_each : {B : Type 0} (shelf : Shelf B) (old new : B) (conns : List Text) (decisions : List Decision) → Serving shelf old conns decisions new → length decisions ≡ length conns
+served_each shelf old new [] [] served = refl
+served_each shelf old new [] (d ∷ decisions) served = absurd served
+served_each shelf old new (c ∷ conns) [] served = absurd served
+served_each shelf old new (c ∷ conns) (d ∷ decisions) served = ap suc (served_each shelf served.0 new conns decisions served.3)

@@ -1,5 +1,5 @@
 -- Offices that move by decisions, one after another.
-use Rattle.std.proofs.Common.{◌≡◌, ◌≤◌, ◌+◌, ℕ, List, [], ◌∷◌, ◌++◌, Option, length, refl, subst, sym, arith}
+use Rattle.std.proofs.Common.{◌≡◌, ◌≢◌, ◌≤◌, ◌+◌, ℕ, List, [], ◌∷◌, ◌++◌, Option, length, refl, subst, sym, arith}
 use Rattle.std.proofs.lemmas.List.{length-append}
 use Rattle.plan_desk.specs.World.{Text}
 use Rattle.plan_desk.specs.Books.{Shelf}
@@ -7,7 +7,11 @@ use Rattle.plan_http.specs.declared.serving.ConnEnd.{ConnEnd}
 use Rattle.plan_http.specs.declared.serving.ConnEnd.TheVariants as end
 use Rattle.plan_http.specs.Answers.{Decision}
 use Rattle.plan_http.specs.Serving.{Moves, Ends}
-use Rattle.plan_serve.specs.Serve.{MovedBy}
+use Rattle.plan_store.specs.declared.fault.StoreFault.{StoreFault}
+use Rattle.plan_store.specs.declared.fault.StoreFault.TheVariants as store
+use Rattle.plan_serve.specs.declared.fault.ServeFault.TheVariants as fault
+use Rattle.plan_serve.specs.Faults.{fault_of}
+use Rattle.plan_serve.specs.Serve.{MovedBy, IsServeFault}
 
 module _ {B : Type 0} (shelf : Shelf B) where
   -- an office that moved by decisions, and then by others
@@ -31,3 +35,16 @@ module _ {B : Type 0} (shelf : Shelf B) where
   one_more old middle new n a b =
       let len = length-append a.0 b.0 in
       (a.0 ++ b.0, omega (arith, len, a.1, b.1), moved_on old middle new a.0 b.0 a.2 b.2)
+
+-- with a fault of the store nothing is served, and it isn't the output's
+pub serves_not : (f : StoreFault) → IsServeFault (fault_of f)
+serves_not store.NotOurs = tt
+serves_not store.Version = tt
+serves_not store.NoMemory = tt
+serves_not store.Store = tt
+
+pub not_output : (f : StoreFault) → fault_of f ≢ fault.Output
+not_output store.NotOurs e = absurd cc
+not_output store.Version e = absurd cc
+not_output store.NoMemory e = absurd cc
+not_output store.Store e = absurd cc

@@ -29,14 +29,13 @@ Replays shelf old new conns taken after (Err fault.Output) =
     × (n < length (responses decisions)) × Appends taken after (take n (responses decisions))
 Replays shelf old new conns taken after (Err e) = ⊥
 
--- A sink has taken so many responses, one behind another; or a part from the front, where the output
--- failed; or none, where a file can't be read, the office not opened, or memory ran out.
-abbrev pub Answers : ℕ → Option Text → Option Text → Result (Unit {0}) ServeFault → Type 0
-Answers count taken after (Ok _) =
+-- a sink has taken so many responses, one behind another
+abbrev pub AreAnswered : ℕ → Option Text → Option Text → Type 0
+AreAnswered count taken after =
     (decisions : List Decision) × (length decisions ≡ count) × Appends taken after (responses decisions)
-Answers count taken after (Err fault.Output) =
+
+-- it has taken a part of them from the front
+abbrev pub AreAnsweredInPart : ℕ → Option Text → Option Text → Type 0
+AreAnsweredInPart count taken after =
     (decisions : List Decision) × (n : ℕ) × (length decisions ≡ count) × (n < length (responses decisions))
     × Appends taken after (take n (responses decisions))
-Answers count taken after (Err fault.Key) = ⊥
-Answers count taken after (Err fault.Socket) = ⊥
-Answers count taken after (Err e) = after ≡ taken

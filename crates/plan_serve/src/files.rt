@@ -1,11 +1,11 @@
 //! The commands on files, and on a port.
 
-ghost use Rattle.std.specs.Prelude.{◌≡◌, ◌⊎◌, ◌+◌, ◌≤◌, length, IfOk, IfErr, IsErrOf, OnOk};
+ghost use Rattle.std.specs.Prelude.{◌≡◌, ◌≢◌, ◌⊎◌, ◌+◌, ◌≤◌, length, IfOk, IfErr, IsErrOf, OnOk};
 ghost use Rattle.sqlite.specs.Held.{IsNew};
 ghost use Rattle.plan_psplib.specs.Devices.{most_calls, HasFailed};
 ghost use Rattle.plan_store.specs.declared.fault.StoreFault.TheVariants.{NoMemory, Store};
 ghost use Rattle.plan_serve.specs.InitRun.{IsInitFault};
-ghost use Rattle.plan_serve.specs.ReplayRun.{Answers};
+ghost use Rattle.plan_serve.specs.ReplayRun.{AreAnswered, AreAnsweredInPart};
 ghost use Rattle.plan_serve.specs.Serve.{IsServeFault};
 
 use crate::fault::{ServeFault, told};
@@ -69,6 +69,7 @@ fn open_fault(error: &io::Error) -> ServeFault
 
 /// `plan init`: makes the tables of an office in the file of this name, by the key that is the first
 /// line of standard input.
+#[tactic(auto, using(crate::proofs::InitLemmas::init_faults))]
 pub fn init_on_file(rt: &HostRuntime, path: &str) -> Result<(), ServeFault>
     ensures { IfErr result IsInitFault }
 {
@@ -81,8 +82,10 @@ pub fn init_on_file(rt: &HostRuntime, path: &str) -> Result<(), ServeFault>
 }
 
 // The office whose tables are in the file of this name.
+#[tactic(auto, using(crate::proofs::ServeLemmas::serves_not, crate::proofs::ServeLemmas::not_output))]
 fn open_office(rt: &HostRuntime, path: &str) -> Result<Office<FileBook>, ServeFault>
-    ensures { IfErr result (λ e. (e ≡ ServeFault.Memory) ⊎ (e ≡ ServeFault.Store) ⊎ (e ≡ ServeFault.NotOurs) ⊎ (e ≡ ServeFault.Version)) }
+    ensures which { IfErr result IsServeFault }
+    ensures silent { IfErr result (λ e. e ≢ ServeFault.Output) }
 {
     let book = match SqlBook::open_from(rt, path, Unknown) {
         Ok(book) => book,
@@ -104,6 +107,17 @@ fn read_named(rt: &HostRuntime, path: &str) -> Result<Vec<u8>, ServeFault>
     }
 }
 
+// Adds the bytes of a connection.
+fn add(conns: &mut Vec<Vec<u8>>, conn: Vec<u8>) -> Result<(), ServeFault>
+    ensures added { OnOk result (length conns.new.items ≡ length conns.old.items + 1) }
+    ensures memory { IfErr result (λ e. e ≡ ServeFault.Memory) }
+{
+    match conns.push(conn) {
+        Ok(()) => Ok(()),
+        Err(_) => Err(ServeFault::Memory),
+    }
+}
+
 // The bytes of connections, each in a file.
 fn read_all(rt: &HostRuntime, paths: &[&str]) -> Result<Vec<Vec<u8>>, ServeFault>
     ensures each { IfOk result (λ conns. length conns.items ≡ length paths.now) }
@@ -112,9 +126,7 @@ fn read_all(rt: &HostRuntime, paths: &[&str]) -> Result<Vec<Vec<u8>>, ServeFault
     let mut conns = Vec::new(rt.alloc());
     for path in paths {
         let conn = read_named(rt, path)?;
-        if conns.push(conn).is_err() {
-            return Err(ServeFault::Memory);
-        }
+        add(&mut conns, conn)?;
     }
     Ok(conns)
 }
@@ -128,7 +140,8 @@ pub fn replay_on_files<W: Sink>(
     writer: &mut W,
 ) -> Result<(), ServeFault>
     // What is written is a response for each file, or a part of these, or nothing.
-    ensures answers { Answers (length requests.now) (W.taken writer.old) (W.taken writer.new) result }
+    ensures ok { OnOk result (AreAnswered (length requests.now) (W.taken writer.old) (W.taken writer.new)) }
+    ensures part { IsErrOf result ServeFault.Output → AreAnsweredInPart (length requests.now) (W.taken writer.old) (W.taken writer.new) }
     ensures writes { W.calls writer.new ≤ W.calls writer.old + most_calls }
     // Nothing is written with any other fault than that of the output.
     ensures quiet { IfErr result (λ e. (e ≡ ServeFault.Output) ⊎ (writer.new ≡ writer.old)) }
@@ -151,7 +164,7 @@ pub fn replay_on_files<W: Sink>(
 
 // Why nothing can be bound to a port.
 fn bind_fault(error: &io::Error) -> ServeFault
-    ensures { (result ≡ ServeFault.Memory) ⊎ (result ≡ ServeFault.Socket) }
+    ensures { IsServeFault result }
 {
     if error.kind() == ErrorKind::OutOfMemory {
         return ServeFault::Memory;
@@ -159,24 +172,34 @@ fn bind_fault(error: &io::Error) -> ServeFault
     ServeFault::Socket
 }
 
-/// `plan serve`: serves so many connections on a port of this machine alone, by the office in the
-/// file of this name. The office is opened before the port.
-pub fn serve_on_port(
+// Serves so many connections on a port of this machine alone, by an office.
+fn serve_by(
     rt: &HostRuntime,
-    path: &str,
+    office: &mut Office<FileBook>,
     port: u16,
     count: u32,
 ) -> Result<(), ServeFault>
+    ensures { IfErr result IsServeFault }
+{
+    match TcpListener::bind(rt, (Ipv4Addr::LOCALHOST, port)) {
+        Ok(listener) => match serve_listener(rt.alloc(), office, &listener, count) {
+            Ok(()) => Ok(()),
+            Err(_) => Err(ServeFault::Memory),
+        },
+        Err(error) => Err(bind_fault(&error)),
+    }
+}
+
+/// `plan serve`: serves so many connections on a port of this machine alone, by the office in the
+/// file of this name. The office is opened before the port.
+pub fn serve_on_port(rt: &HostRuntime, path: &str, port: u16, count: u32) -> Result<(), ServeFault>
     ensures { IfErr result IsServeFault }
 {
     let mut office = match open_office(rt, path) {
         Ok(office) => office,
         Err(fault) => return Err(fault),
     };
-    let done = match TcpListener::bind(rt, (Ipv4Addr::LOCALHOST, port)) {
-        Ok(listener) => serve_listener(rt.alloc(), &mut office, &listener, count),
-        Err(error) => Err(bind_fault(&error)),
-    };
+    let done = serve_by(rt, &mut office, port, count);
     close(office.into_book());
     done
 }

@@ -1,6 +1,6 @@
 //! `plan replay`: the responses to connections whose bytes are in files.
 
-ghost use Rattle.std.specs.Prelude.{◌≡◌, ◌⊎◌, ◌+◌, ◌≤◌, List, map, vec_items, IfOk, IfErr, IsErrOf, OnOk, OnErr};
+ghost use Rattle.std.specs.Prelude.{◌≡◌, ◌⊎◌, ◌+◌, ◌≤◌, List, length, map, vec_items, IfOk, IfErr, IsErrOf, OnOk, OnErr};
 ghost use Rattle.std.specs.List.{flat_map};
 ghost use Rattle.plan_psplib.specs.Devices.{most_calls, HasFailed};
 ghost use Rattle.plan_http.specs.Answers.{Decision};
@@ -50,6 +50,9 @@ pub fn replay_run<B: Book, W: Sink>(
     writer: &mut W,
 ) -> Result<(), ServeFault>
     ensures replays { spec.Replays B.shelf office.old office.new (map vec_items conns.now) (W.taken writer.old) (W.taken writer.new) result }
+    // So what is written is a response to each, or a part of these.
+    ensures ok { OnOk result (spec.AreAnswered (length conns.now) (W.taken writer.old) (W.taken writer.new)) }
+    ensures part { IsErrOf result ServeFault.Output → spec.AreAnsweredInPart (length conns.now) (W.taken writer.old) (W.taken writer.new) }
     ensures writes { W.calls writer.new ≤ W.calls writer.old + most_calls }
     // Nothing is written with any other fault than that of the output.
     ensures quiet { IfErr result (λ e. (e ≡ ServeFault.Output) ⊎ (writer.new ≡ writer.old)) }

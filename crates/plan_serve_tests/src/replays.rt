@@ -2,14 +2,14 @@
 
 use crate::devices::Narrow;
 use plan_desk::{MemBook, Office, key_digest};
-use plan_psplib::MemSink;
+use plan_psplib::{MemSink, MemSource};
 use plan_serve::{ServeFault, read_connection, replay_run};
 use std::alloc::{AllocError, Global};
 use std::test::Fail;
 
 /// What opens the desk `north`.
 pub const OPENING: &str =
-    "POST /office/desks HTTP/1.0\r\nDesk-Key: office-key\r\nContent-Length: 38\r\n\r\n{\"desk\":\"north\", \"key\":\"north-key-1\"}\r\n";
+    "POST /office/desks HTTP/1.0\r\nDesk-Key: office-key\r\nContent-Length: 37\r\n\r\n{\"desk\":\"north\", \"key\":\"north-key-1\"}";
 
 /// What asks for the plans of `north`.
 pub const LISTING: &str = "GET /desks/north/plans HTTP/1.0\r\nDesk-Key: north-key-1\r\n\r\n";
@@ -79,7 +79,7 @@ fn a_file_is_read_as_far_as_a_request_may_go(rt: HostRuntime) -> Result<(), Fail
     let alloc = rt.alloc();
     for (len, wanted) in [(1_056_767, 1_056_767), (1_056_769, 1_056_768)] {
         let bytes = vec![in alloc; 32; len]?;
-        let read = read_connection(alloc, &mut plan_psplib::MemSource::new(&bytes));
+        let read = read_connection(alloc, &mut MemSource::new(&bytes));
         assert_eq!(&rt; read.map(|read| read.len()), Ok(wanted), "{len}");
     }
     Ok(())
