@@ -1,4 +1,4 @@
-//! The program `plan`: the commands of the crate `plan_cli` on the command line.
+//! The program `plan`: the commands of the crates `plan_cli` and `plan_serve` on the command line.
 #![tactic(auto)]
 
 mod words;
@@ -8,8 +8,8 @@ use clap::Error;
 use clap::error::ErrorKind;
 use plan_cli::{CliFault, check_on_files, explain_run, run_on_file};
 use plan_psplib::StdSink;
+use plan_serve::{ServeFault, init_on_file, replay_on_files, serve_on_port};
 use std::process::ExitCode;
-use std::rt::{Env, Files};
 use std::{env, io};
 
 // How the program ends.
@@ -17,22 +17,44 @@ use std::{env, io};
 enum End {
     Done,
     Fault(CliFault),
+    OfficeFault(ServeFault),
     Usage(Error),
     NoText,
     NoCommand,
 }
 
-// Does what the words ask for, and writes to standard output.
-fn do_order<R: Files + Input + Print + AllocGlobal>(rt: &R, order: Order<'_>) -> End {
-    let mut writer = StdSink::new(io::writer(rt));
-    let done = match order {
-        Order::Task(task, path) => run_on_file(rt, task, path, &mut writer),
-        Order::Check { file, starts } => check_on_files(rt, file, starts, &mut writer),
-        Order::Explain(code) => explain_run(rt.alloc(), code, &mut writer),
-    };
+// How a command ends that is done, or has a fault.
+fn end_of(done: Result<(), CliFault>) -> End {
     match done {
-        Err(fault) => End::Fault(fault),
         Ok(()) => End::Done,
+        Err(fault) => End::Fault(fault),
+    }
+}
+
+// The same of a command that keeps an office.
+fn office_end(done: Result<(), ServeFault>) -> End {
+    match done {
+        Ok(()) => End::Done,
+        Err(fault) => End::OfficeFault(fault),
+    }
+}
+
+// Does what the words ask for, and writes to standard output.
+fn do_order(rt: &HostRuntime, order: Order<'_>) -> End {
+    let mut writer = StdSink::new(io::writer(rt));
+    match order {
+        Order::Task(task, path) => end_of(run_on_file(rt, task, path, &mut writer)),
+        Order::Check { file, starts } => end_of(check_on_files(rt, file, starts, &mut writer)),
+        Order::Explain(code) => end_of(explain_run(rt.alloc(), code, &mut writer)),
+        Order::Init { database } => office_end(init_on_file(rt, database)),
+        Order::Replay { database, requests } => {
+            office_end(replay_on_files(rt, database, requests, &mut writer))
+        }
+        Order::Serve {
+            database,
+            port,
+            count,
+        } => office_end(serve_on_port(rt, database, port, count)),
     }
 }
 
@@ -46,7 +68,7 @@ fn no_words(error: &io::Error) -> End {
 }
 
 // Reads the command line and does what it asks for.
-fn run<R: Files + Input + Print + Env + AllocGlobal>(rt: &R) -> End {
+fn run(rt: &HostRuntime) -> End {
     let alloc = rt.alloc();
     let words: Vec<String> = match env::args(rt) {
         Err(error) => return no_words(&error),
@@ -69,15 +91,15 @@ fn run<R: Files + Input + Print + Env + AllocGlobal>(rt: &R) -> End {
 }
 
 // Prints one line on standard error, for which there is status 1.
-fn print_fault<R: Eprint>(rt: &R, fault: &CliFault) -> u8 {
-    let _ = eprintln!(rt; "{}", fault.line());
+fn print_fault<R: Eprint>(rt: &R, line: &str) -> u8 {
+    let _ = eprintln!(rt; "{line}");
     1
 }
 
 // Prints what clap says, help or usage, and gives its status: that of usage also where it can't be printed.
 fn print_usage<R: Print + Eprint>(rt: &R, error: &Error) -> u8 {
     if error.kind() == ErrorKind::OutOfMemory {
-        return print_fault(rt, &CliFault::Memory);
+        return print_fault(rt, CliFault::Memory.line());
     }
     let printed = error.print(rt);
     if error.use_stderr() {
@@ -85,7 +107,7 @@ fn print_usage<R: Print + Eprint>(rt: &R, error: &Error) -> u8 {
     }
     match printed {
         Ok(()) => 0,
-        Err(_) => print_fault(rt, &CliFault::Output),
+        Err(_) => print_fault(rt, CliFault::Output.line()),
     }
 }
 
@@ -98,7 +120,8 @@ fn print_misuse<R: Eprint>(rt: &R, what: &str) -> u8 {
 fn main(rt: HostRuntime) -> ExitCode {
     let status = match run(&rt) {
         End::Done => 0,
-        End::Fault(fault) => print_fault(&rt, &fault),
+        End::Fault(fault) => print_fault(&rt, fault.line()),
+        End::OfficeFault(fault) => print_fault(&rt, fault.line()),
         End::Usage(error) => print_usage(&rt, &error),
         End::NoText => print_misuse(&rt, "a word of the command line isn't UTF-8"),
         End::NoCommand => print_misuse(&rt, "no command"),

@@ -1,6 +1,6 @@
 //! The words of the command line.
 
-use clap::{Arg, ArgMatches, Command};
+use clap::{Arg, ArgMatches, Command, value_parser};
 use plan_cli::Task;
 use std::alloc::{AllocError, Global};
 
@@ -19,6 +19,19 @@ pub enum Order<'a> {
     Check { file: &'a str, starts: &'a str },
     /// What a code means.
     Explain(&'a str),
+    /// A new office in a file.
+    Init { database: &'a str },
+    /// The responses of the office in a file to connections, each in a file.
+    Replay {
+        database: &'a str,
+        requests: &'a [&'a str],
+    },
+    /// The office in a file serves so many connections on a port.
+    Serve {
+        database: &'a str,
+        port: u16,
+        count: u32,
+    },
 }
 
 // A word that has to be there. Where it may begin with a hyphen it is judged by the command.
@@ -172,6 +185,52 @@ fn explain<'a>(alloc: Global) -> Result<Command<'a>, AllocError> {
         .arg(word(alloc, "CODE", "the first word of the line of a fault"))
 }
 
+// The word for the file of an office.
+fn database<'a>(alloc: Global) -> Arg<'a> {
+    Arg::new(alloc, "DB")
+        .required(true)
+        .help("the file in which an office is kept, an SQLite database")
+}
+
+// `plan init`.
+fn init<'a>(alloc: Global) -> Result<Command<'a>, AllocError> {
+    Command::new(alloc, "init")
+        .about("Makes an office in a file; its key is the first line of standard input")
+        .after_help("Example:\n  plan init office.db < office.key")
+        .arg(database(alloc))
+}
+
+// `plan replay`.
+fn replay<'a>(alloc: Global) -> Result<Command<'a>, AllocError> {
+    let requests = Arg::new(alloc, "REQ")
+        .required(true)
+        .num_args(1..)
+        .help("a file with the bytes of one connection");
+    Command::new(alloc, "replay")
+        .about("Answers HTTP requests that are in files, one connection each, and prints the responses")
+        .after_help("Example:\n  plan replay office.db request-1 request-2")
+        .arg(database(alloc))?
+        .arg(requests)
+}
+
+// `plan serve`.
+fn serve<'a>(alloc: Global) -> Result<Command<'a>, AllocError> {
+    let port = Arg::new(alloc, "PORT")
+        .required(true)
+        .value_parser(value_parser!(u16).range(1..=65535))
+        .help("the port on 127.0.0.1, 1 to 65535");
+    let count = Arg::new(alloc, "COUNT")
+        .required(true)
+        .value_parser(value_parser!(u32).range(1..=1000000))
+        .help("how many connections to serve, 1 to 1000000");
+    Command::new(alloc, "serve")
+        .about("Answers HTTP requests on 127.0.0.1, one connection after another")
+        .after_help("Example:\n  plan serve office.db 8080 1000000")
+        .arg(database(alloc))?
+        .arg(port)?
+        .arg(count)
+}
+
 /// The command line.
 pub fn command<'a>(alloc: Global) -> Result<Command<'a>, AllocError> {
     Command::new(alloc, "plan")
@@ -188,7 +247,10 @@ pub fn command<'a>(alloc: Global) -> Result<Command<'a>, AllocError> {
         .subcommand(shop(alloc)?)?
         .subcommand(best(alloc)?)?
         .subcommand(names(alloc)?)?
-        .subcommand(explain(alloc)?)
+        .subcommand(explain(alloc)?)?
+        .subcommand(init(alloc)?)?
+        .subcommand(replay(alloc)?)?
+        .subcommand(serve(alloc)?)
 }
 
 // The chart of a project, or of a job shop where an instance is named.
@@ -241,11 +303,29 @@ fn task_of<'a>(name: &str, words: &'a ArgMatches<'_>) -> Option<Task<'a>> {
     }
 }
 
+// What a command that keeps an office asks for.
+fn office_order<'a>(name: &str, words: &'a ArgMatches<'_>) -> Option<Order<'a>> {
+    let database = words.get_str("DB")?;
+    match name {
+        "init" => Some(Order::Init { database }),
+        "replay" => Some(Order::Replay {
+            database,
+            requests: words.get_strs("REQ")?,
+        }),
+        _ => Some(Order::Serve {
+            database,
+            port: words.get_one("PORT")?,
+            count: words.get_one("COUNT")?,
+        }),
+    }
+}
+
 /// What the words ask for. The parse saw that a command stands there with what it requires.
 pub fn order_of<'a>(matches: &'a ArgMatches<'_>) -> Option<Order<'a>> {
     let (name, words) = matches.subcommand()?;
     match name {
         "explain" => Some(Order::Explain(words.get_str("CODE")?)),
+        "init" | "replay" | "serve" => office_order(name, words),
         "check" => Some(Order::Check {
             file: words.get_str("FILE")?,
             starts: words.get_str("STARTS")?,

@@ -24,14 +24,38 @@ pub(crate) enum Code {
     BadMachine,
     NeedsTooMuch,
     UnknownRule,
+    MachineClosed,
     TooLarge,
     BadBudget,
     BadDate,
     BadDays,
     BeyondCalendar,
+    NoCalendar,
     UnknownCode,
+    BadMessage,
+    LargeBody,
+    Coding,
+    NoRoute,
+    OtherMethod,
+    WrongKey,
+    NotFound,
+    BadBody,
+    DeskExists,
+    NotPublished,
+    KindDiffers,
+    OtherPlan,
+    ManyPlans,
+    NumbersSpent,
+    BadFile,
+    NoSchedule,
+    BadCalendar,
+    NotOurs,
+    Version,
+    NoKey,
     NoMemory,
+    StoreRefused,
     Input,
+    Socket,
     Output,
 }
 
@@ -58,14 +82,38 @@ impl Code {
             "F14" => Some(Code::BadMachine),
             "S1" => Some(Code::NeedsTooMuch),
             "S3" => Some(Code::UnknownRule),
+            "S4" => Some(Code::MachineClosed),
             "S5" => Some(Code::TooLarge),
             "S6" => Some(Code::BadBudget),
             "G1" => Some(Code::BadDate),
             "G2" => Some(Code::BadDays),
             "G3" => Some(Code::BeyondCalendar),
+            "G4" => Some(Code::NoCalendar),
             "C1" => Some(Code::UnknownCode),
+            "H1" => Some(Code::BadMessage),
+            "H2" => Some(Code::LargeBody),
+            "H3" => Some(Code::Coding),
+            "H4" => Some(Code::NoRoute),
+            "H5" => Some(Code::OtherMethod),
+            "E01" => Some(Code::WrongKey),
+            "E02" => Some(Code::NotFound),
+            "E03" => Some(Code::BadBody),
+            "E04" => Some(Code::DeskExists),
+            "E05" => Some(Code::NotPublished),
+            "E06" => Some(Code::KindDiffers),
+            "E07" => Some(Code::OtherPlan),
+            "E08" => Some(Code::ManyPlans),
+            "E09" => Some(Code::NumbersSpent),
+            "E10" => Some(Code::BadFile),
+            "E11" => Some(Code::NoSchedule),
+            "E12" => Some(Code::BadCalendar),
+            "K1" => Some(Code::NotOurs),
+            "K2" => Some(Code::Version),
+            "K3" => Some(Code::NoKey),
             "E90" => Some(Code::NoMemory),
+            "E91" => Some(Code::StoreRefused),
             "I1" => Some(Code::Input),
+            "I2" => Some(Code::Socket),
             "I3" => Some(Code::Output),
             _ => None,
         }
@@ -124,6 +172,9 @@ impl Code {
             Code::UnknownRule => {
                 "S3 unknown rule\nNo rule has this name.\nTake lft, slk, spt, mts or num for a project, spt, mwkr or fcfs for a job shop, in small letters.\n"
             }
+            Code::MachineClosed => {
+                "S4 machine M closed\nMachine M is bound to a code whose capacity is 0, and a step that takes time needs it. It is the first such machine, counted from 0.\nPublish a capacity of 1 or more for the code, or bind the machine to another one.\n"
+            }
             Code::TooLarge => {
                 "S5 too large\nA best schedule is asked for, and the project has more than 40 activities, or the shop more than 100 steps.\nLeave some out, or take plan schedule or plan shop.\n"
             }
@@ -139,14 +190,83 @@ impl Code {
             Code::BeyondCalendar => {
                 "G3 beyond calendar\nA day that is to be shown would come after 9999-12-31.\nMark more weekdays, or choose a coarser unit.\n"
             }
+            Code::NoCalendar => {
+                "G4 no calendar\nWorking days are asked of a plan that has no calendar.\nSet one: its first date, and the marks of the weekdays.\n"
+            }
             Code::UnknownCode => {
                 "C1 unknown code\nplan explain knows no such code.\nTake the first word of the line, in capitals, as F7.\n"
+            }
+            Code::BadMessage => {
+                "H1 message\nThe connection doesn't begin with the head of a request (at most 8,192 bytes and 64 fields), or an HTTP/1.1 request has no Host, or there are two, or Content-Length isn't a number, or two differ, or the body is shorter than it says.\nSend a whole request, by a usual client.\n"
+            }
+            Code::LargeBody => {
+                "H2 too large\nThe body has more than 1,048,576 bytes.\nSend a smaller file.\n"
+            }
+            Code::Coding => {
+                "H3 coding\nThere is a field Transfer-Encoding.\nSend the body as it is, with Content-Length.\n"
+            }
+            Code::NoRoute => {
+                "H4 route\nThe service has no such path.\nCompare the path with docs/SERVICE.md: no query, no percent sign, no slash at the end.\n"
+            }
+            Code::OtherMethod => {
+                "H5 method\nThe path has another method, which the field Allow tells.\nSend that method.\n"
+            }
+            Code::WrongKey => {
+                "E01 key\nThe field Desk-Key is missing, there are two, it isn't the key of the path's desk (or of the office), or there is no such desk.\nSend the right key: the office's on paths that begin with /office, the desk's on paths that begin with /desks.\n"
+            }
+            Code::NotFound => {
+                "E02 not found\nThe desk has no plan of this number; or, where a desk is to get another key, there is no such desk.\nAsk for the list of plans.\n"
+            }
+            Code::BadBody => {
+                "E03 body\nThe body isn't a JSON object with all members that are needed, each of its kind and within its limits; or a place isn't one of the plan, or an arc not one of the project.\nCompare the body with docs/SERVICE.md.\n"
+            }
+            Code::DeskExists => {
+                "E04 desk exists\nA desk of this name is there already.\nChoose another name, or give the desk another key.\n"
+            }
+            Code::NotPublished => {
+                "E05 code not published\nThe office has published no such code.\nAsk for the capacities, or publish the code.\n"
+            }
+            Code::KindDiffers => {
+                "E06 kind differs\nThe code is published as the other kind, or is bound to a plan of the other kind: a project takes crews, a job shop machines.\nChoose another code.\n"
+            }
+            Code::OtherPlan => {
+                "E07 other kind of plan\nThe plan is a job shop, and dates or a lag are asked for.\nAsk for its schedule.\n"
+            }
+            Code::ManyPlans => {
+                "E08 100 plans\nThe desk holds 100 plans, which is the most.\nDelete one.\n"
+            }
+            Code::NumbersSpent => {
+                "E09 numbers spent\nThe desk has given its last number, 1000000.\nOpen another desk.\n"
+            }
+            Code::BadFile => {
+                "E10 ..\nThe file is wrong: the code and the line of a file follow, as E10 F9 line 31.\nLook up the code that follows, as F9.\n"
+            }
+            Code::NoSchedule => {
+                "E11 ..\nThere is no such schedule: why follows, as E11 S1 activity 2 resource 1.\nLook up the code that follows, as S1.\n"
+            }
+            Code::BadCalendar => {
+                "E12 ..\nThe calendar is wrong, or none is set, or it ends before the last day: why follows, as E12 G1 date.\nLook up the code that follows, as G1.\n"
+            }
+            Code::NotOurs => {
+                "K1 not ours\nFor plan init, the database has tables already. Else its tables aren't those of an office, or a row isn't one that an office has, or the file is empty or wasn't there.\nCheck the name; take a backup if the file was changed by hand.\n"
+            }
+            Code::Version => {
+                "K2 version\nThe tables are of a version that this program doesn't know.\nTake the program that wrote them, or a newer one.\n"
+            }
+            Code::NoKey => {
+                "K3 key\nThe first line of standard input isn't a key: 8 to 64 of the characters from ! to ~, without a blank.\nGive another key.\n"
             }
             Code::NoMemory => {
                 "E90 memory\nMemory ran out. The file may be in order.\nFree memory and try again.\n"
             }
+            Code::StoreRefused => {
+                "E91 store\nThe file of an office can't be opened, read or written: it is no database, another server has it open, the folder isn't there, or the disk is full. A command that was refused so has changed nothing.\nCheck the name and the permissions, end the other server, or make room; then start again.\n"
+            }
             Code::Input => {
                 "I1 file\nThe file or standard input can't be read: it isn't there, is a folder, or may not be read.\nCheck the name, relative to the folder that you stand in, and the permissions.\n"
+            }
+            Code::Socket => {
+                "I2 socket\nThe server can't listen on the port: another program does, or the port is below 1024 and for the system's own.\nChoose another port, or end the other program.\n"
             }
             Code::Output => {
                 "I3 output\nThe output can't be written whole: the disk is full, or the reader of the pipe has gone.\nMake room or keep the pipe open, and run the command again; throw the part away.\n"

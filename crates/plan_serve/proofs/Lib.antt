@@ -1,0 +1,4 @@
+pub mod KeyLemmas
+pub mod ServeLemmas
+pub mod InitLemmas
+pub mod ReplayLemmas

@@ -1,0 +1,26 @@
+use Rattle.std.proofs.Common.{subst, sym, Err}
+use Rattle.plan_serve.specs.InitRun.{Inits}
+use Rattle.plan_serve.proofs.InitLemmas.{unopened, unmade}
+use Rattle.plan_serve.proofs.init.init_run.Goals as goal
+
+pub returns-in-Err-connect-clause-inits : goal.returns-in-Err-connect-clause-inits
+returns-in-Err-connect-clause-inits g c =
+    subst (λ e. Inits g.P.Kept.Store (g.P.Place.opens c.args.place) (g.P.Place.refuses c.args.place) (g.R.Source.remaining c.args.reader.now) (g.R.Source.remaining c.read_key.new.reader) (Err e)) (sym c.told_of_new.ensures)
+    (unopened g.P.Kept.Store (g.P.Place.opens c.args.place) (g.P.Place.refuses c.args.place) (g.R.Source.remaining c.args.reader.now) (g.R.Source.remaining c.read_key.new.reader) c.in-Ok.digest c.in-Ok.ensures.takes c.in-Err-connect.fault c.in-Err-connect.ensures.refused c.in-Err-connect.ensures.which)
+
+pub returns-in-Ok-create_in-clause-inits : goal.returns-in-Ok-create_in-clause-inits
+returns-in-Ok-create_in-clause-inits g c = (
+  c.in-Ok.digest,
+  c.in-Ok.ensures.takes,
+  (c.in-Ok-connect.conn, c.in-Ok-connect.ensures.opened, c.in-Ok-create_in.ensures.empty),
+  record {
+    stands = λ clean. (c.in-Ok-create_in.ensures.made clean).0;
+    world = λ clean. (c.in-Ok-create_in.ensures.made clean).1;
+    durable = c.in-Ok-create_in.ensures.durable;
+  },
+)
+
+pub returns-clause-inits : goal.returns-clause-inits
+returns-clause-inits g c =
+    subst (λ e. Inits g.P.Kept.Store (g.P.Place.opens c.args.place) (g.P.Place.refuses c.args.place) (g.R.Source.remaining c.args.reader.now) (g.R.Source.remaining c.read_key.new.reader) (Err e)) (sym c.told_of_new-in-Err-create_in.ensures)
+    (unmade g.P.Kept.Store (g.P.Place.opens c.args.place) (g.P.Place.refuses c.args.place) (g.R.Source.remaining c.args.reader.now) (g.R.Source.remaining c.read_key.new.reader) c.in-Ok.digest c.in-Ok.ensures.takes c.in-Ok-connect.conn c.in-Err-create_in.fault c.in-Ok-connect.ensures.opened c.in-Err-create_in.ensures.ours)

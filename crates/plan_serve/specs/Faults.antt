@@ -1,0 +1,31 @@
+-- The lines that tell why a command failed that keeps an office (docs/DEFINITIONS.md, "Runs").
+use Rattle.std.specs.Prelude.{ℕ, List, codes}
+use Rattle.plan_store.specs.declared.fault.StoreFault.{StoreFault}
+use Rattle.plan_store.specs.declared.fault.StoreFault.TheVariants as store
+use Rattle.plan_serve.specs.declared.fault.ServeFault.{ServeFault}
+use Rattle.plan_serve.specs.declared.fault.ServeFault.TheVariants as fault
+
+-- the line of a fault, without its end
+abbrev pub line_of : ServeFault → List ℕ
+line_of fault.Memory = codes "E90 memory"
+line_of fault.Store = codes "E91 store"
+line_of fault.NotOurs = codes "K1 not ours"
+line_of fault.Version = codes "K2 version"
+line_of fault.Key = codes "K3 key"
+line_of fault.Input = codes "I1 file"
+line_of fault.Socket = codes "I2 socket"
+line_of fault.Output = codes "I3 output"
+
+-- the fault of a command whose store has a fault
+abbrev pub fault_of : StoreFault → ServeFault
+fault_of store.NotOurs = fault.NotOurs
+fault_of store.Version = fault.Version
+fault_of store.NoMemory = fault.Memory
+fault_of store.Store = fault.Store
+
+-- the same where tables are made, and none is read for its version
+abbrev pub new_fault_of : StoreFault → ServeFault
+new_fault_of store.NotOurs = fault.NotOurs
+new_fault_of store.Version = fault.Store
+new_fault_of store.NoMemory = fault.Memory
+new_fault_of store.Store = fault.Store

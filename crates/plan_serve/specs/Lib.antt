@@ -1,0 +1,5 @@
+pub mod Faults
+pub mod Keys
+pub mod InitRun
+pub mod ReplayRun
+pub mod Serve

@@ -1,0 +1,79 @@
+//! Why a command that keeps an office failed.
+
+ghost use Rattle.std.specs.Prelude.{◌≡◌};
+ghost use Rattle.plan_serve.specs.Faults.{fault_of, new_fault_of};
+
+use plan_store::StoreFault;
+use thiserror::Error;
+
+/// Why a command that keeps an office failed: one line of text.
+#[derive(Clone, Copy, Debug, Drop, PartialEq, Eq, Error)]
+pub enum ServeFault {
+    /// Memory ran out.
+    #[error("E90 memory")]
+    Memory,
+    /// The store refused.
+    #[error("E91 store")]
+    Store,
+    /// The database has tables where none may be, or others than those of an office.
+    #[error("K1 not ours")]
+    NotOurs,
+    /// The tables are of a version that isn't known.
+    #[error("K2 version")]
+    Version,
+    /// The key of the office isn't one.
+    #[error("K3 key")]
+    Key,
+    /// A file or standard input can't be read.
+    #[error("I1 file")]
+    Input,
+    /// Nothing can be bound to the port.
+    #[error("I2 socket")]
+    Socket,
+    /// The output can't be written whole.
+    #[error("I3 output")]
+    Output,
+}
+
+impl ServeFault {
+    ghost use Rattle.std.specs.Prelude.{◌≡◌};
+    ghost use Rattle.plan_serve.specs.Faults.{line_of};
+
+    /// The line, without its end.
+    pub fn line(self) -> &'static str
+        ensures { result.now ≡ line_of self }
+    {
+        match self {
+            ServeFault::Memory => "E90 memory",
+            ServeFault::Store => "E91 store",
+            ServeFault::NotOurs => "K1 not ours",
+            ServeFault::Version => "K2 version",
+            ServeFault::Key => "K3 key",
+            ServeFault::Input => "I1 file",
+            ServeFault::Socket => "I2 socket",
+            ServeFault::Output => "I3 output",
+        }
+    }
+}
+
+/// The fault of a command whose store has a fault.
+pub(crate) fn told(fault: StoreFault) -> ServeFault
+    ensures { result ≡ fault_of fault }
+{
+    match fault {
+        StoreFault::NotOurs => ServeFault::NotOurs,
+        StoreFault::Version => ServeFault::Version,
+        StoreFault::NoMemory => ServeFault::Memory,
+        StoreFault::Store => ServeFault::Store,
+    }
+}
+
+/// The same where tables are made, and none is read for its version.
+pub(crate) fn told_of_new(fault: StoreFault) -> ServeFault
+    ensures { result ≡ new_fault_of fault }
+{
+    match fault {
+        StoreFault::Version => ServeFault::Store,
+        other => told(other),
+    }
+}

@@ -1,0 +1,21 @@
+//! The commands of the program `plan` that keep an office: its tables are made, connections in files
+//! are answered, and connections of a socket are.
+#![tactic(auto)]
+
+mod fault;
+mod files;
+mod init;
+mod key;
+mod replay;
+mod requests;
+mod socket;
+mod visitors;
+
+pub use fault::ServeFault;
+pub use files::{init_on_file, replay_on_files, serve_on_port};
+pub use init::{Place, init_run};
+pub use key::read_key;
+pub use replay::replay_run;
+pub use requests::read_connection;
+pub use socket::{Side, serve_listener};
+pub use visitors::{Visitors, serve_visitors};
