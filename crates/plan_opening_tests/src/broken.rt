@@ -1,7 +1,7 @@
 //! Stores that break one rule each.
 
-use crate::opening::expect_refused;
-use crate::rows::filled;
+use crate::opening::fault_of;
+use crate::rows::changed;
 use plan_store::StoreFault;
 use std::alloc::Global;
 use std::process::Abort;
@@ -85,10 +85,11 @@ const TABLES: [&str; 5] = [
     "DROP TABLE published; CREATE TABLE published (code TEXT NOT NULL, kind TEXT NOT NULL, capacity INTEGER, PRIMARY KEY (code)) STRICT",
 ];
 
-fn expect_broken(rt: &impl Abort, alloc: Global, change: &str) -> Result<(), Fail> {
-    let mut conn = filled(alloc)?;
-    conn.execute_batch(change)?;
-    expect_refused(rt, alloc, conn, StoreFault::NotOurs, change)
+fn expect_broken(rt: &impl Abort, alloc: Global, text: &str) -> Result<(), Fail> {
+    let conn = changed(alloc, text)?;
+    let fault = fault_of(alloc, conn);
+    assert_eq!(rt; fault, Some(StoreFault::NotOurs), "{text}");
+    Ok(())
 }
 
 #[test]

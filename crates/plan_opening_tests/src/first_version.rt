@@ -1,6 +1,6 @@
 //! Stores of the first version, which had no lags.
 
-use crate::opening::{bytes, expect, expect_refused, taken, text};
+use crate::opening::{bytes, expect, fault_of, taken, text};
 use crate::rows::fill;
 use plan_desk::{Call, Office};
 use plan_store::{SqlBook, StoreFault};
@@ -18,11 +18,19 @@ CREATE TABLE plans (desk TEXT NOT NULL, n INTEGER NOT NULL, kind TEXT NOT NULL, 
 CREATE TABLE binds (desk TEXT NOT NULL, n INTEGER NOT NULL, place INTEGER NOT NULL, code TEXT NOT NULL, PRIMARY KEY (desk, n, place)) STRICT;
 INSERT INTO meta (id, version, office) VALUES (1, 1, '5e884898da28047151d0e56f8dc6292773603d0d6aabbdd62a11ef721d1542d8')";
 
-fn filled_first(alloc: Global) -> Result<Connection<MemStore>, Fail> {
-    let mut conn = Connection::open_in_memory(alloc)?;
+fn make(conn: &mut Connection<MemStore>, text: &str) -> Result<(), Error> {
     conn.execute_batch(FIRST)?;
-    fill(&mut conn)?;
-    Ok(conn)
+    fill(conn)?;
+    conn.execute_batch(text)
+}
+
+// A store of the first version, that was then changed.
+fn first(alloc: Global, text: &str) -> Result<Connection<MemStore>, Fail> {
+    let mut conn = Connection::open_in_memory(alloc)?;
+    match make(&mut conn, text) {
+        Ok(()) => Ok(conn),
+        Err(error) => Err(Fail::from(error)),
+    }
 }
 
 // No arc has a lag.
@@ -74,46 +82,54 @@ fn expect_office(
     expect(rt, alloc, office, call, DAYS)
 }
 
-// The rows of a table, as a text.
 fn count(conn: &mut Connection<MemStore>, query: &str) -> Result<i64, Error> {
     conn.query_row(query, &[])?.get(0)
 }
 
-#[test]
-fn a_store_of_the_first_version_goes_on(rt: HostRuntime) -> Result<(), Fail> {
-    let alloc = rt.alloc();
-    let mut office = taken(alloc, filled_first(alloc)?)?;
-    expect_office(&rt, alloc, &mut office)?;
-    let mut conn = office.into_book().into_connection();
+fn expect_counts(rt: &impl Abort, conn: &mut Connection<MemStore>) -> Result<(), Fail> {
     for (query, wanted) in [
         ("SELECT version FROM meta", 2),
         ("SELECT count(*) FROM published", 3),
         ("SELECT count(*) FROM desks", 2),
         ("SELECT count(*) FROM plans", 3),
         ("SELECT count(*) FROM binds", 2),
-        ("SELECT count(*) FROM lags", 1),
+        ("SELECT count(*) FROM lags", 0),
     ] {
-        let found = count(&mut conn, query)?;
+        let found = count(conn, query)?;
         assert_eq!(rt; found, wanted, "{query}");
     }
     Ok(())
 }
 
-fn expect_first(
-    rt: &impl Abort,
-    alloc: Global,
-    change: &str,
-    wanted: StoreFault,
-) -> Result<(), Fail> {
-    let mut conn = filled_first(alloc)?;
-    conn.execute_batch(change)?;
-    expect_refused(rt, alloc, conn, wanted, change)
+fn expect_answers(rt: &impl Abort, alloc: Global, conn: Connection<MemStore>) -> Result<(), Fail> {
+    match taken(alloc, conn) {
+        Some(mut office) => expect_office(rt, alloc, &mut office),
+        None => panic!(rt; "not taken"),
+    }
+}
+
+#[test]
+fn a_store_of_the_first_version_goes_on(rt: HostRuntime) -> Result<(), Fail> {
+    let conn = first(rt.alloc(), "")?;
+    expect_answers(&rt, rt.alloc(), conn)
+}
+
+fn expect_tables(rt: &impl Abort, alloc: Global, conn: Connection<MemStore>) -> Result<(), Fail> {
+    match taken(alloc, conn) {
+        Some(office) => expect_counts(rt, &mut office.into_book().into_connection()),
+        None => panic!(rt; "not taken"),
+    }
+}
+
+#[test]
+fn its_tables_are_those_of_the_second(rt: HostRuntime) -> Result<(), Fail> {
+    let conn = first(rt.alloc(), "")?;
+    expect_tables(&rt, rt.alloc(), conn)
 }
 
 #[test]
 fn a_first_version_is_judged_by_its_own_rules(rt: HostRuntime) -> Result<(), Fail> {
-    let alloc = rt.alloc();
-    for (change, wanted) in [
+    for (text, wanted) in [
         ("UPDATE meta SET version = 2", StoreFault::NotOurs),
         ("UPDATE meta SET version = 9", StoreFault::Version),
         (
@@ -123,7 +139,9 @@ fn a_first_version_is_judged_by_its_own_rules(rt: HostRuntime) -> Result<(), Fai
         ("DROP TABLE binds", StoreFault::NotOurs),
         ("CREATE TABLE lags (a TEXT)", StoreFault::NotOurs),
     ] {
-        expect_first(&rt, alloc, change, wanted)?;
+        let conn = first(rt.alloc(), text)?;
+        let fault = fault_of(rt.alloc(), conn);
+        assert_eq!(rt; fault, Some(wanted), "{text}");
     }
     Ok(())
 }

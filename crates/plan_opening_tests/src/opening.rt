@@ -7,32 +7,25 @@ use std::alloc::{AllocError, Global};
 use std::process::Abort;
 use std::test::Fail;
 
-/// The tables are refused for this, and the connection comes back.
-pub fn expect_refused(
-    rt: &impl Abort,
-    alloc: Global,
-    conn: Connection<MemStore>,
-    wanted: StoreFault,
-    case: &str,
-) -> Result<(), Fail> {
-    match SqlBook::adopt(alloc, conn) {
-        Ok(_) => panic!(rt; "taken: {case}"),
-        Err((fault, Leftover::Connection(_))) => {
-            assert_eq!(rt; fault, wanted, "{case}");
-            Ok(())
-        }
-        Err((_, Leftover::Store(_))) => panic!(rt; "without its connection: {case}"),
+/// An office over the tables of a connection, if they are taken.
+pub fn taken(alloc: Global, conn: Connection<MemStore>) -> Option<Office<SqlBook<MemStore>>> {
+    if !conn.is_autocommit() {
+        return None;
     }
+    let Ok(book) = SqlBook::adopt(alloc, conn) else {
+        return None;
+    };
+    Office::new(alloc, book).ok()
 }
 
-/// The tables are taken, and an office is over them.
-pub fn taken(alloc: Global, conn: Connection<MemStore>) -> Result<Office<SqlBook<MemStore>>, Fail> {
-    let Ok(book) = SqlBook::adopt(alloc, conn) else {
-        return Err(Fail::from(AllocError));
-    };
-    match Office::new(alloc, book) {
-        Ok(office) => Ok(office),
-        Err(_) => Err(Fail::from(AllocError)),
+/// Why the tables aren't taken, where the connection comes back.
+pub fn fault_of(alloc: Global, conn: Connection<MemStore>) -> Option<StoreFault> {
+    if !conn.is_autocommit() {
+        return None;
+    }
+    match SqlBook::adopt(alloc, conn) {
+        Err((fault, Leftover::Connection(_))) => Some(fault),
+        _ => None,
     }
 }
 

@@ -71,15 +71,27 @@ pub fn fill(conn: &mut Connection<MemStore>) -> Result<(), Error> {
     add_plan(conn, 3, "project", "", project, "", "")
 }
 
-/// A store with these rows, and a lag of 2 on an arc of the first project.
-pub fn filled(alloc: Global) -> Result<Connection<MemStore>, Fail> {
-    let Ok(book) = SqlBook::open_in_memory(alloc, &DIGEST) else {
-        return Err(Fail::from(AllocError));
-    };
-    let mut conn = book.into_connection();
-    fill(&mut conn)?;
+// A connection to a store without a row.
+fn new_store(alloc: Global) -> Result<Connection<MemStore>, AllocError> {
+    match SqlBook::open_in_memory(alloc, &DIGEST) {
+        Ok(book) => Ok(book.into_connection()),
+        Err(_) => Err(AllocError),
+    }
+}
+
+fn change(conn: &mut Connection<MemStore>, text: &str) -> Result<(), Error> {
+    fill(conn)?;
     conn.execute_batch(
         "INSERT INTO lags (desk, n, source, target, lag) VALUES ('north', 1, 1, 2, 2)",
     )?;
-    Ok(conn)
+    conn.execute_batch(text)
+}
+
+/// A store with these rows, and a lag of 2 on an arc of the first project, that was then changed.
+pub fn changed(alloc: Global, text: &str) -> Result<Connection<MemStore>, Fail> {
+    let mut conn = new_store(alloc)?;
+    match change(&mut conn, text) {
+        Ok(()) => Ok(conn),
+        Err(error) => Err(Fail::from(error)),
+    }
 }

@@ -1,7 +1,7 @@
 //! Stores that are taken, and those that say another version.
 
-use crate::opening::{bytes, expect, expect_refused, taken, text};
-use crate::rows::{DIGEST, PROJECT, filled};
+use crate::opening::{bytes, expect, fault_of, taken, text};
+use crate::rows::{DIGEST, PROJECT, changed};
 use plan_desk::{Call, Office};
 use plan_store::{SqlBook, StoreFault};
 use sqlite::{Connection, MemStore};
@@ -45,43 +45,68 @@ fn expect_rows(
     expect(rt, alloc, office, call, DAYS)
 }
 
+// The rows are there, and there again where the tables are opened once more.
+fn expect_again(
+    rt: &impl Abort,
+    alloc: Global,
+    conn: Connection<MemStore>,
+) -> (Result<(), Fail>, Option<StoreFault>) {
+    let Some(mut office) = taken(alloc, conn) else {
+        panic!(rt; "not taken");
+    };
+    let done = expect_rows(rt, alloc, &mut office);
+    (done, made_over(alloc, office.into_book().into_connection()))
+}
+
+// Why no store is made over tables.
+fn made_over(alloc: Global, conn: Connection<MemStore>) -> Option<StoreFault> {
+    if !conn.is_autocommit() {
+        return None;
+    }
+    match SqlBook::create_in(alloc, conn, &DIGEST) {
+        Ok(_) => None,
+        Err((fault, _)) => Some(fault),
+    }
+}
+
+#[test]
+fn a_store_is_taken_and_none_is_made_over_it(rt: HostRuntime) -> Result<(), Fail> {
+    let conn = changed(rt.alloc(), "")?;
+    let (done, fault) = expect_again(&rt, rt.alloc(), conn);
+    assert_eq!(rt; fault, Some(StoreFault::NotOurs));
+    done
+}
+
+// A store that was taken is given back, and taken once more.
+fn taken_twice(alloc: Global, conn: Connection<MemStore>) -> Option<Office<SqlBook<MemStore>>> {
+    let office = taken(alloc, conn)?;
+    taken(alloc, office.into_book().into_connection())
+}
+
+fn expect_twice(rt: &impl Abort, alloc: Global, conn: Connection<MemStore>) -> Result<(), Fail> {
+    match taken_twice(alloc, conn) {
+        Some(mut office) => expect_rows(rt, alloc, &mut office),
+        None => panic!(rt; "not taken twice"),
+    }
+}
+
 #[test]
 fn a_store_is_taken_as_often_as_it_is_opened(rt: HostRuntime) -> Result<(), Fail> {
-    let alloc = rt.alloc();
-    let mut first = taken(alloc, filled(alloc)?)?;
-    expect_rows(&rt, alloc, &mut first)?;
-    let mut again = taken(alloc, first.into_book().into_connection())?;
-    expect_rows(&rt, alloc, &mut again)?;
-    let conn = again.into_book().into_connection();
-    match SqlBook::create_in(alloc, conn, &DIGEST) {
-        Ok(_) => panic!(rt; "made over tables"),
-        Err((fault, _)) => assert_eq!(rt; fault, StoreFault::NotOurs),
-    }
-    Ok(())
+    let conn = changed(rt.alloc(), "")?;
+    expect_twice(&rt, rt.alloc(), conn)
 }
 
 #[test]
 fn a_database_without_tables_is_not_ours(rt: HostRuntime) -> Result<(), Fail> {
-    let alloc = rt.alloc();
-    let conn = Connection::open_in_memory(alloc)?;
-    expect_refused(&rt, alloc, conn, StoreFault::NotOurs, "no tables")
-}
-
-fn expect_at_version(
-    rt: &impl Abort,
-    alloc: Global,
-    change: &str,
-    wanted: StoreFault,
-) -> Result<(), Fail> {
-    let mut conn = filled(alloc)?;
-    conn.execute_batch(change)?;
-    expect_refused(rt, alloc, conn, wanted, change)
+    let conn = Connection::open_in_memory(rt.alloc())?;
+    let fault = fault_of(rt.alloc(), conn);
+    assert_eq!(rt; fault, Some(StoreFault::NotOurs));
+    Ok(())
 }
 
 #[test]
 fn another_version_is_told_from_other_tables(rt: HostRuntime) -> Result<(), Fail> {
-    let alloc = rt.alloc();
-    for (change, wanted) in [
+    for (text, wanted) in [
         ("UPDATE meta SET version = 9", StoreFault::Version),
         ("UPDATE meta SET version = 0", StoreFault::Version),
         ("UPDATE meta SET version = -2", StoreFault::Version),
@@ -91,20 +116,35 @@ fn another_version_is_told_from_other_tables(rt: HostRuntime) -> Result<(), Fail
             StoreFault::NotOurs,
         ),
     ] {
-        expect_at_version(&rt, alloc, change, wanted)?;
+        let conn = changed(rt.alloc(), text)?;
+        let fault = fault_of(rt.alloc(), conn);
+        assert_eq!(rt; fault, Some(wanted), "{text}");
     }
     Ok(())
 }
 
-#[test]
-fn spent_numbers_stay_spent(rt: HostRuntime) -> Result<(), Fail> {
-    let alloc = rt.alloc();
-    let mut conn = filled(alloc)?;
-    conn.execute_batch("UPDATE desks SET next = 1000001 WHERE desk = 'north'")?;
-    let mut office = taken(alloc, conn)?;
+fn expect_spent(rt: &impl Abort, alloc: Global, conn: Connection<MemStore>) -> Result<(), Fail> {
+    match taken(alloc, conn) {
+        Some(mut office) => expect_no_number(rt, alloc, &mut office),
+        None => panic!(rt; "not taken"),
+    }
+}
+
+fn expect_no_number(
+    rt: &impl Abort,
+    alloc: Global,
+    office: &mut Office<SqlBook<MemStore>>,
+) -> Result<(), Fail> {
     let call = Call::ImportProject {
         desk: text(alloc, "north")?,
         body: bytes(alloc, PROJECT)?,
     };
-    expect(&rt, alloc, &mut office, call, "E09 numbers spent\n")
+    expect(rt, alloc, office, call, "E09 numbers spent\n")
+}
+
+#[test]
+fn spent_numbers_stay_spent(rt: HostRuntime) -> Result<(), Fail> {
+    let text = "UPDATE desks SET next = 1000001 WHERE desk = 'north'";
+    let conn = changed(rt.alloc(), text)?;
+    expect_spent(&rt, rt.alloc(), conn)
 }
