@@ -144,11 +144,6 @@ asks_then_fails old new r Is fault change it q is = subst (λ k. Changes old new
   crash = λ clean trees may. inl (it.crash clean trees may);
 })
 
--- nothing was done yet
-pub asks_nothing : (s : State) {X : Type 0} (r : Result X BookFault) (Is : X → Type 0) → IsReady s → IfOk r (λ x. HasCleanDisk s → IsTrue s.is_open × Is x) → Asks s s r Is
-asks_nothing s r Is ready answer =
-    record { ready = ready; honesty = λ clean. clean; same = λ clean live. (live, refl); answer = answer; crash = λ clean trees may. may }
-
 -- ---- a query
 
 module _ (sql : List ℕ) (params : Row) (old new : State) (plain : IsPlain (understood old.now.schema sql)) where
@@ -191,8 +186,3 @@ pub asks_map : (old new : State) → IsReady old → {X : Type 0} (r : Result X 
 asks_map old new ready r Is Other f it = asks_again old new r Is r Other it (if_ok r (λ x h clean.
     let live = (it.same clean (h clean).0).0 in
     ((h clean).0, f x (ready.stands (it.honesty clean) live) (h clean).1)) it.answer)
-
--- what is made of the rows of an answer
-pub asks_made : (old new : State) {X Y : Type 0} (x : X) (Is : X → Type 0) (q : Result Y BookFault) (Other : Y → Type 0) (Made : Y → Type 0)
-    → ((y : Y) → Is x → Made y → Other y) → Asks old new (Ok x) Is → IfOk q Made → Asks old new q Other
-asks_made old new x Is q Other Made f it made = asks_again old new (Ok x) Is q Other it (if_ok q (λ y m clean. ((it.answer clean).0, f y (it.answer clean).1 m)) made)

@@ -1,5 +1,5 @@
 -- What a call that looks at tables does to a connection, alone and after another.
-use Rattle.std.proofs.Common.{◌≡◌, Result, Ok, Err, IfOk, IsTrue, sym, subst, ◌∙◌}
+use Rattle.std.proofs.Common.{◌≡◌, Result, Ok, IfOk, IsTrue, sym, subst, ◌∙◌}
 use Rattle.sqlite_trees.specs.Tree.{Trees}
 use Rattle.sqlite.specs.Effect.{Database, IsDatabase}
 use Rattle.sqlite.specs.State.{State, HasCleanDisk}
@@ -82,8 +82,3 @@ module _ (layout : Layout) where
   -- what is made of an answer
   pub looks_made : (a b : State) {X Y : Type 0} (r : X) (Is : X → Type 0) (out : Y) (Last : Y → Type 0) → (Is r → Last out) → Looks layout a b (Ok r) Is → Looks layout a b (Ok out) Last
   looks_made a b r Is out Last f it = looks_again a b (Ok r) Is (Ok out) Last it (λ clean. ((it.answer clean).0, f (it.answer clean).1))
-
-  -- an answer that went no further
-  pub looks_fails : (a b c : State) {X Y Z : Type 0} (r : X) (Is : X → Type 0) (q : Result Y BookFault) (Other : Y → Type 0) (fault : BookFault) (Last : Z → Type 0)
-      → Looks layout a b (Ok r) Is → Looks layout b c q Other → Looks layout a c (Err fault) Last
-  looks_fails a b c r Is q Other fault Last one two = looks_then a b c (Ok r) Is q Other (Err fault) Last one two tt
