@@ -11,7 +11,8 @@ pub struct Number {
 }
 
 impl Number {
-    fn text(self, alloc: Global) -> Result<String, AllocError> {
+    /// Its text.
+    pub fn text(self, alloc: Global) -> Result<String, AllocError> {
         let n = self.n;
         if self.padded {
             format!(in alloc; "0{n}")
@@ -125,8 +126,8 @@ impl Asked {
         }
     }
 
-    // Its body.
-    fn body(&self, alloc: Global) -> Result<Vec<u8>, AllocError> {
+    /// Its body.
+    pub fn body(&self, alloc: Global) -> Result<Vec<u8>, AllocError> {
         if self.garbled {
             return bytes(alloc, "[1");
         }

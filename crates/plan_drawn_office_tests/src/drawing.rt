@@ -2,9 +2,20 @@
 
 use crate::asks::{Ask, Asked, Number, Shown};
 use crate::files::{BARE, CYCLE, FOUR, NAMED, SIX};
-use crate::plain::{OFFICE_KEY, Plain};
 use rand::RngExt;
 use rand::rngs::StdRng;
+
+/// The key of the office.
+pub const OFFICE_KEY: &str = "office-key";
+
+/// What is known of an office that is asked.
+pub trait Known {
+    /// The number of one of the plans of a desk, chosen by another number; 0 where it has none.
+    fn some_number(&self, desk: &str, chosen: u64) -> u64;
+
+    /// The key of a desk.
+    fn key_of(&self, desk: &str) -> Option<&'static str>;
+}
 
 const DESKS: [&str; 3] = ["north", "north-2", "south"];
 
@@ -68,12 +79,12 @@ fn one_of<T: Copy>(rng: &mut StdRng, values: &[T], other: T) -> T {
 }
 
 // The number of a plan: most are there, and some have a zero in front.
-fn drawn_number(rng: &mut StdRng, plain: &Plain, desk: &str) -> Number {
+fn drawn_number<K: Known>(rng: &mut StdRng, known: &K, desk: &str) -> Number {
     let chosen = rng.random_range(0u64..1_000);
     let n = if rng.random_range(0u32..6) == 0 {
         rng.random_range(0u64..40)
     } else {
-        plain.some_number(desk, chosen)
+        known.some_number(desk, chosen)
     };
     let padded = rng.random_range(0u32..30) == 0;
     Number { n, padded }
@@ -162,13 +173,8 @@ fn drawn_key(rng: &mut StdRng, right: Option<&'static str>) -> Option<&'static s
     }
 }
 
-/// A request to an office with these rows.
-pub fn drawn(rng: &mut StdRng, plain: &Plain) -> Asked {
-    let desk = if rng.random_range(0u32..20) == 0 {
-        one_of(rng, &ANY_DESKS, "")
-    } else {
-        one_of(rng, &DESKS, "")
-    };
+/// A request about a desk, or one of the office that names it.
+pub fn drawn_about<K: Known>(rng: &mut StdRng, known: &K, desk: &'static str) -> Asked {
     let garbled = rng.random_range(0u32..25) == 0;
     if rng.random_range(0u32..6) == 0 {
         let ask = drawn_of_office(rng);
@@ -180,13 +186,23 @@ pub fn drawn(rng: &mut StdRng, plain: &Plain) -> Asked {
             garbled,
         };
     }
-    let plan = drawn_number(rng, plain, desk);
+    let plan = drawn_number(rng, known, desk);
     let ask = drawn_of_desk(rng, plan);
-    let key = drawn_key(rng, plain.key_of(desk));
+    let key = drawn_key(rng, known.key_of(desk));
     Asked {
         key,
         desk,
         ask,
         garbled,
     }
+}
+
+/// A request to an office of which this is known.
+pub fn drawn<K: Known>(rng: &mut StdRng, known: &K) -> Asked {
+    let desk = if rng.random_range(0u32..20) == 0 {
+        one_of(rng, &ANY_DESKS, "")
+    } else {
+        one_of(rng, &DESKS, "")
+    };
+    drawn_about(rng, known, desk)
 }

@@ -1,12 +1,9 @@
 //! Random requests of three desks, answered by the office and by a plain slow program of its rules.
 #![tactic(auto)]
 
-#[cfg(test)]
-mod asks;
-#[cfg(test)]
-mod drawing;
-#[cfg(test)]
-mod files;
+pub mod asks;
+pub mod drawing;
+pub mod files;
 #[cfg(test)]
 mod office;
 #[cfg(test)]

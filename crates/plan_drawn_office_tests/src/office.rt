@@ -1,6 +1,6 @@
 //! The office that is asked.
 
-use crate::plain::OFFICE_KEY;
+use crate::drawing::OFFICE_KEY;
 use plan_desk::{Body, MemBook, Office, Reply, key_digest};
 use std::alloc::{AllocError, Global};
 

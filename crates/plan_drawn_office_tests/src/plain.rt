@@ -2,15 +2,13 @@
 //! keys as they were sent, and compares them so.
 
 use crate::asks::{Ask, Asked, Number};
+use crate::drawing::{Known, OFFICE_KEY};
 use crate::pages::{
     Kept, Lagged, best_page, date_page, fault_line, has_arc, places, schedule_page,
 };
 use crate::rules::{is_key, is_kind, is_name};
 use plan_gantt::{Calendar, calendar_fault_text};
 use std::alloc::{AllocError, Global};
-
-/// The key of the office.
-pub const OFFICE_KEY: &str = "office-key";
 
 /// A status, and a body with its end of line.
 #[derive(Debug, PartialEq, Eq, Drop)]
@@ -76,17 +74,8 @@ pub struct Plain {
     desks: Vec<Desk>,
 }
 
-impl Plain {
-    /// An office without rows.
-    pub fn new(alloc: Global) -> Plain {
-        Plain {
-            codes: Vec::new(alloc),
-            desks: Vec::new(alloc),
-        }
-    }
-
-    /// The number of one of the plans of a desk, chosen by another number; 0 where it has none.
-    pub fn some_number(&self, desk: &str, chosen: u64) -> u64 {
+impl Known for Plain {
+    fn some_number(&self, desk: &str, chosen: u64) -> u64 {
         let Some(desk) = self.desks.iter().find(|row| row.name == desk) else {
             return 0;
         };
@@ -98,10 +87,19 @@ impl Plain {
         }
     }
 
-    /// The key of a desk.
-    pub fn key_of(&self, desk: &str) -> Option<&'static str> {
+    fn key_of(&self, desk: &str) -> Option<&'static str> {
         let desk = self.desks.iter().find(|row| row.name == desk)?;
         Some(desk.key)
+    }
+}
+
+impl Plain {
+    /// An office without rows.
+    pub fn new(alloc: Global) -> Plain {
+        Plain {
+            codes: Vec::new(alloc),
+            desks: Vec::new(alloc),
+        }
     }
 
     fn code_at(&self, code: &str) -> Option<usize> {
