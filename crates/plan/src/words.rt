@@ -16,11 +16,16 @@ pub enum Order<'a> {
     /// A task on a file by its name.
     Task(Task<'a>, &'a str),
     /// The verdict on the starts in a file, of the project in another one.
-    Check { file: &'a str, starts: &'a str },
+    Check {
+        file: &'a str,
+        starts: &'a str,
+    },
     /// What a code means.
     Explain(&'a str),
     /// A new office in a file.
-    Init { database: &'a str },
+    Init {
+        database: &'a str,
+    },
     /// The responses of the office in a file to connections, each in a file.
     Replay {
         database: &'a str,
@@ -207,7 +212,9 @@ fn replay<'a>(alloc: Global) -> Result<Command<'a>, AllocError> {
         .num_args(1..)
         .help("a file with the bytes of one connection");
     Command::new(alloc, "replay")
-        .about("Answers HTTP requests that are in files, one connection each, and prints the responses")
+        .about(
+            "Answers HTTP requests that are in files, one connection each, and prints the responses",
+        )
         .after_help("Example:\n  plan replay office.db request-1 request-2")
         .arg(database(alloc))?
         .arg(requests)

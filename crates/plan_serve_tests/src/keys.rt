@@ -44,7 +44,15 @@ fn the_longest_key_may_have_a_line_end(rt: HostRuntime) -> Result<(), Fail> {
 
 #[test]
 fn what_is_no_key_is_told(rt: HostRuntime) {
-    for text in ["", "\n", "\npassword", "1234567\n", "two words", "pass\rword", "\r\n"] {
+    for text in [
+        "",
+        "\n",
+        "\npassword",
+        "1234567\n",
+        "two words",
+        "pass\rword",
+        "\r\n",
+    ] {
         let read = read_key(rt.alloc(), &mut Drip::new(text.as_bytes(), false));
         assert_eq!(&rt; read, Err(ServeFault::Key), "{text}");
     }
@@ -58,7 +66,11 @@ fn read_failing(alloc: Global, text: &str) -> Result<[u8; 32], ServeFault> {
 #[test]
 fn a_source_that_fails_within_the_line_is_told(rt: HostRuntime) {
     for text in ["", "pass", "password", "password\r"] {
-        assert_eq!(&rt; read_failing(rt.alloc(), text), Err(ServeFault::Input), "{text}");
+        assert_eq!(&rt;
+            read_failing(rt.alloc(), text),
+            Err(ServeFault::Input),
+            "{text}"
+        );
     }
     assert!(&rt; read_failing(rt.alloc(), "password\n").is_ok());
 }

@@ -53,7 +53,10 @@ fn responses_are_written_in_order(rt: HostRuntime) -> Result<(), Fail> {
     let both = format!(in alloc; "{OPENED}{LISTED}")?;
     assert_eq!(&rt; sink.into_bytes().as_slice(), both.as_bytes());
     let mut sink = MemSink::new(Vec::new(alloc));
-    assert_eq!(&rt; replay_run(alloc, &mut office, &conns[1..], &mut sink), Ok(()));
+    assert_eq!(&rt;
+        replay_run(alloc, &mut office, &conns[1..], &mut sink),
+        Ok(())
+    );
     assert_eq!(&rt; sink.into_bytes().as_slice(), LISTED.as_bytes());
     Ok(())
 }

@@ -33,7 +33,10 @@ fn sides(alloc: Global, turn: usize) -> Result<Sides, DeviceFault> {
         4 => (LISTING, false, 1000),
         _ => return Err(DeviceFault),
     };
-    Ok((Drip::new(text.as_bytes(), fails), Narrow::new(Vec::new(alloc), room)))
+    Ok((
+        Drip::new(text.as_bytes(), fails),
+        Narrow::new(Vec::new(alloc), room),
+    ))
 }
 
 impl Visitors for Queue {
