@@ -3,7 +3,7 @@
 
 mod words;
 
-use self::words::{Order, command, order_of};
+use self::words::{FileOrder, OfficeOrder, Order, command, order_of};
 use clap::Error;
 use clap::error::ErrorKind;
 use plan_cli::{CliFault, check_on_files, explain_run, run_on_file};
@@ -39,22 +39,37 @@ fn office_end(done: Result<(), ServeFault>) -> End {
     }
 }
 
-// Does what the words ask for, and writes to standard output.
-fn do_order(rt: &HostRuntime, order: Order<'_>) -> End {
-    let mut writer = StdSink::new(io::writer(rt));
+// Makes an office in a file, or serves it.
+fn do_office_order(rt: &HostRuntime, order: OfficeOrder<'_>) -> Result<(), ServeFault> {
     match order {
-        Order::Task(task, path) => end_of(run_on_file(rt, task, path, &mut writer)),
-        Order::Check { file, starts } => end_of(check_on_files(rt, file, starts, &mut writer)),
-        Order::Explain(code) => end_of(explain_run(rt.alloc(), code, &mut writer)),
-        Order::Init { database } => office_end(init_on_file(rt, database)),
-        Order::Replay { database, requests } => {
-            office_end(replay_on_files(rt, database, requests, &mut writer))
+        OfficeOrder::Init { database } => init_on_file(rt, database),
+        OfficeOrder::Replay { database, requests } => {
+            let mut writer = StdSink::new(io::writer(rt));
+            replay_on_files(rt, database, requests, &mut writer)
         }
-        Order::Serve {
+        OfficeOrder::Serve {
             database,
             port,
             count,
-        } => office_end(serve_on_port(rt, database, port, count)),
+        } => serve_on_port(rt, database, port, count),
+    }
+}
+
+// Does what the words ask for, and writes to standard output.
+fn do_file_order(rt: &HostRuntime, order: FileOrder<'_>) -> Result<(), CliFault> {
+    let mut writer = StdSink::new(io::writer(rt));
+    match order {
+        FileOrder::Task(task, path) => run_on_file(rt, task, path, &mut writer),
+        FileOrder::Check { file, starts } => check_on_files(rt, file, starts, &mut writer),
+        FileOrder::Explain(code) => explain_run(rt.alloc(), code, &mut writer),
+    }
+}
+
+// Does what the words ask for.
+fn do_order(rt: &HostRuntime, order: Order<'_>) -> End {
+    match order {
+        Order::File(order) => end_of(do_file_order(rt, order)),
+        Order::Office(order) => office_end(do_office_order(rt, order)),
     }
 }
 

@@ -11,32 +11,39 @@ const EXAMPLES: &str =
 // The rules of projects and of job shops.
 const RULES: &str = "lft, slk, spt, mts or num; of a job shop spt, mwkr or fcfs";
 
-/// What the words ask for.
-pub enum Order<'a> {
+/// What is asked of files.
+pub enum FileOrder<'a> {
     /// A task on a file by its name.
     Task(Task<'a>, &'a str),
     /// The verdict on the starts in a file, of the project in another one.
-    Check {
-        file: &'a str,
-        starts: &'a str,
-    },
+    Check { file: &'a str, starts: &'a str },
     /// What a code means.
     Explain(&'a str),
-    /// A new office in a file.
+}
+
+/// What is asked of an office in a file.
+pub enum OfficeOrder<'a> {
+    /// A new office.
     Init {
         database: &'a str,
     },
-    /// The responses of the office in a file to connections, each in a file.
+    /// Its responses to connections, each in a file.
     Replay {
         database: &'a str,
         requests: &'a [&'a str],
     },
-    /// The office in a file serves so many connections on a port.
+    /// It serves so many connections on a port.
     Serve {
         database: &'a str,
         port: u16,
         count: u32,
     },
+}
+
+/// What the words ask for.
+pub enum Order<'a> {
+    File(FileOrder<'a>),
+    Office(OfficeOrder<'a>),
 }
 
 // A word that has to be there. Where it may begin with a hyphen it is judged by the command.
@@ -311,15 +318,15 @@ fn task_of<'a>(name: &str, words: &'a ArgMatches<'_>) -> Option<Task<'a>> {
 }
 
 // What a command that keeps an office asks for.
-fn office_order<'a>(name: &str, words: &'a ArgMatches<'_>) -> Option<Order<'a>> {
+fn office_order<'a>(name: &str, words: &'a ArgMatches<'_>) -> Option<OfficeOrder<'a>> {
     let database = words.get_str("DB")?;
     match name {
-        "init" => Some(Order::Init { database }),
-        "replay" => Some(Order::Replay {
+        "init" => Some(OfficeOrder::Init { database }),
+        "replay" => Some(OfficeOrder::Replay {
             database,
             requests: words.get_strs("REQ")?,
         }),
-        _ => Some(Order::Serve {
+        _ => Some(OfficeOrder::Serve {
             database,
             port: words.get_one("PORT")?,
             count: words.get_one("COUNT")?,
@@ -327,16 +334,23 @@ fn office_order<'a>(name: &str, words: &'a ArgMatches<'_>) -> Option<Order<'a>> 
     }
 }
 
+// What any other command asks for.
+fn file_order<'a>(name: &str, words: &'a ArgMatches<'_>) -> Option<FileOrder<'a>> {
+    match name {
+        "explain" => Some(FileOrder::Explain(words.get_str("CODE")?)),
+        "check" => Some(FileOrder::Check {
+            file: words.get_str("FILE")?,
+            starts: words.get_str("STARTS")?,
+        }),
+        _ => Some(FileOrder::Task(task_of(name, words)?, words.get_str("FILE")?)),
+    }
+}
+
 /// What the words ask for. The parse saw that a command stands there with what it requires.
 pub fn order_of<'a>(matches: &'a ArgMatches<'_>) -> Option<Order<'a>> {
     let (name, words) = matches.subcommand()?;
     match name {
-        "explain" => Some(Order::Explain(words.get_str("CODE")?)),
-        "init" | "replay" | "serve" => office_order(name, words),
-        "check" => Some(Order::Check {
-            file: words.get_str("FILE")?,
-            starts: words.get_str("STARTS")?,
-        }),
-        _ => Some(Order::Task(task_of(name, words)?, words.get_str("FILE")?)),
+        "init" | "replay" | "serve" => Some(Order::Office(office_order(name, words)?)),
+        _ => Some(Order::File(file_order(name, words)?)),
     }
 }
