@@ -34,6 +34,7 @@ pub mod KeyLemmas
 pub mod OrderedLemmas
 pub mod ReadLemmas
 pub mod RowTestLemmas
+pub mod KeyedLemmas
 pub mod TestedLemmas
 pub mod PlaceLemmas
 pub mod PromiseLemmas

@@ -1,5 +1,5 @@
 -- What the tests of rows answer (docs/DEFINITIONS.md, "Books").
-use Rattle.std.specs.Prelude.{◌≡◌, ◌≤◌, Bool, true, List, [], ◌∷◌, length, filter, Option, Some, None}
+use Rattle.std.specs.Prelude.{◌≡◌, ◌≤◌, ◌&&◌, ◌==◌, ℕ, Bool, true, List, [], ◌∷◌, length, filter, Option, Some, None}
 use Rattle.std.specs.Bool.{MatchBool}
 use Rattle.std.specs.Option.{MatchOption}
 use Rattle.std.specs.List.{AllByRecursion}
@@ -33,6 +33,13 @@ GivesNone kinds.Shop name body = (doc : docs.Shop) → Says name body doc → �
 abbrev pub FileTold : PlanKind → Text → Text → Option PlanFile → Type 0
 FileTold kind name body file =
     MatchOption file (GivesNone kind name body) (GivesFile kind name body)
+
+-- a key of rows: a text, and three numbers, which are 0 where the key has fewer
+abbrev pub RowKey : Type 0
+RowKey = Text × ℕ × ℕ × ℕ
+
+abbrev pub same_key : RowKey → RowKey → Bool
+same_key a b = ((same_text a.0 b.0 && (a.1 == b.1)) && (a.2 == b.2)) && (a.3 == b.3)
 
 -- the rows of each table have their keys once
 pub record KeysDiffer (w : World) : Type 0 where

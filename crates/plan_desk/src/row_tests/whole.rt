@@ -47,13 +47,13 @@ fn rows_are_good(tables: &Tables, files: &[PlanFile]) -> bool
     all_good(&tables.lags, tables, files)
 }
 
-/// Whether tables keep the rules of rows. Each file is read once; rows are compared and looked up in
-/// turn, which takes the square of their number.
+/// Whether tables keep the rules of rows. Each file is read once; rows are looked up in turn, which
+/// takes the square of their number.
 pub fn is_world(alloc: Global, tables: &Tables) -> Result<bool, AllocError>
     ensures { IfOk result (λ good. Tells good (IsWorld (world_kept tables.now))) }
 {
     known_digest(&tables.office);
-    if !keys_differ(tables) {
+    if !keys_differ(alloc, tables)? {
         return Ok(false);
     }
     let Some(files) = read_files(alloc, &tables.plans)? else {
