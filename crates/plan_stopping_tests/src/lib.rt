@@ -8,6 +8,8 @@ mod first_version;
 #[cfg(test)]
 mod migrating;
 #[cfg(test)]
+mod requests;
+#[cfg(test)]
 mod running;
 #[cfg(test)]
 mod shown;
