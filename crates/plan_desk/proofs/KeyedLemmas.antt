@@ -1,20 +1,13 @@
 -- Keys of rows: a set of the keys of the later rows, and one row more.
-use Rattle.std.proofs.Common.{◌≡◌, ◌⊎◌, inl, inr, ℕ, zero, suc, ◌<◌, ◌≤◌, ◌-◌, Bool, true, false, ◌&&◌, ◌==◌, List, [], ◌∷◌, length, map, drop, get_or, refl, sym, ap, ◌∙◌, subst, arith, Bor, Result, Ok, Err}
+use Rattle.std.proofs.Common.{◌≡◌, ◌⊎◌, inl, inr, ℕ, zero, suc, ◌<◌, ◌≤◌, ◌-◌, Bool, true, false, ◌&&◌, ◌==◌, List, [], ◌∷◌, length, map, drop, get_or, refl, sym, ap, ◌∙◌, subst, arith, Result, Ok, Err}
 use Rattle.std.specs.Prelude.{not, cond, IfOk}
 use Rattle.std.specs.List.{list_any, AllByRecursion}
 use Rattle.std.proofs.lemmas.Bool.{cases_Bool, both_ways, or_parts, eqb-true, eq-eqb}
 use Rattle.std.proofs.lemmas.Slice.Eq.{bytes_eq-Decides}
 use Rattle.plan_desk.specs.World.{Text, same_text}
 use Rattle.plan_desk.specs.Rules.{AllDiffer}
-use Rattle.plan_desk.specs.RowTests.{Tells, RowKey, same_key}
+use Rattle.plan_desk.specs.RowTests.{Tells, RowKey, HeldKey, shown_key, same_key}
 use Rattle.plan_desk.proofs.RowTestLemmas.{tells_same, differ_seen, differ_under}
-
--- a key as code holds it
-abbrev pub HeldKey : Type 0
-HeldKey = Bor (List ℕ) × ℕ × ℕ × ℕ
-
-abbrev pub shown_key : HeldKey → RowKey
-shown_key k = (k.0.now, k.1, k.2, k.3)
 
 same_text_swap : (a b : Text) → same_text a b ≡ same_text b a
 same_text_swap a b = by_same (cases_Bool (same_text a b)) (cases_Bool (same_text b a))

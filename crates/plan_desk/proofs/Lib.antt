@@ -35,6 +35,7 @@ pub mod OrderedLemmas
 pub mod ReadLemmas
 pub mod RowTestLemmas
 pub mod KeyedLemmas
+pub mod LookupLemmas
 pub mod TestedLemmas
 pub mod PlaceLemmas
 pub mod PromiseLemmas
