@@ -34,6 +34,8 @@ pub mod KeyLemmas
 pub mod OrderedLemmas
 pub mod ReadLemmas
 pub mod RowTestLemmas
+pub mod KeyedLemmas
+pub mod LookupLemmas
 pub mod TestedLemmas
 pub mod PlaceLemmas
 pub mod PromiseLemmas

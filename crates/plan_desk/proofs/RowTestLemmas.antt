@@ -1,9 +1,8 @@
 -- Tests of rows: what a walk over rows says of all of them, and what the file of a plan decides.
-use Rattle.std.proofs.Common.{◌≡◌, ◌⊎◌, inl, inr, ℕ, zero, suc, ◌<◌, ◌≤◌, Bool, true, false, List, [], ◌∷◌, length, map, take, drop, get_or, length-drop, ◌-◌, Option, Some, None, Result, Ok, Err, refl, sym, ap, ◌∙◌, subst, arith}
+use Rattle.std.proofs.Common.{◌≡◌, ◌⊎◌, inl, inr, ℕ, zero, suc, ◌≤◌, Bool, true, false, List, [], ◌∷◌, length, map, take, Option, Some, None, Result, Ok, Err, refl, ap, subst, arith}
 use Rattle.std.specs.Option.{MatchOption}
 use Rattle.std.specs.Prelude.{is_ok, IfOk, IfErr}
-use Rattle.std.specs.List.{list_any, AllByRecursion}
-use Rattle.std.proofs.lemmas.Bool.{cases_Bool, both_ways, or_parts}
+use Rattle.std.specs.List.{AllByRecursion}
 use Rattle.plan_psplib.specs.declared.fault.FileFault.{FileFault}
 use Rattle.plan_psplib.specs.declared.fault.FileCode.TheVariants as code
 use Rattle.plan_psplib.specs.Faults.{IsWantOfMemory}
@@ -20,40 +19,6 @@ use Rattle.plan_desk.specs.World.{Text, Plan}
 use Rattle.plan_desk.specs.Plans.{HasPlaces}
 use Rattle.plan_desk.specs.Rules.{AllDiffer, HasCalendar}
 use Rattle.plan_desk.specs.RowTests.{Tells, GivesFile, GivesNone, HasHead, PlanTold}
-
-module _ {A : Type 0} where
-  -- a test that holds of one, and one that holds of none
-  pub any_at_index : (p : A → Bool) (xs : List A) (k : ℕ) (d : A) → k < length xs → p (get_or xs k d) ≡ true → list_any p xs ≡ true
-  any_at_index p [] k d low in_ = absurd (omega (arith, low))
-  any_at_index p (x ∷ xs) zero d low in_ = grind (arith, in_)
-  any_at_index p (x ∷ xs) (suc k) d low in_ = grind (arith, cases_Bool (p x), any_at_index p xs k d (omega (arith, low)) in_)
-
-  -- none passes where each fails
-  pub any_nowhere : (p : A → Bool) (xs : List A) → ((k : ℕ) (d : A) → k < length xs → p (get_or xs k d) ≡ false) → list_any p xs ≡ false
-  any_nowhere p [] out_ = refl
-  any_nowhere p (x ∷ xs) out_ = grind (arith, out_ 0 x (omega arith), any_nowhere p xs (λ k d low. out_ (suc k) d (omega (arith, low))))
-
-  none_alike : (alike : A → A → Bool) (x : A) (xs : List A) → list_any (alike x) xs ≡ false → AllByRecursion (λ y. alike x y ≡ false) xs
-  none_alike alike x [] none = tt
-  none_alike alike x (y ∷ ys) none = let parts = or_parts (alike x y) (list_any (alike x) ys) none in (parts.0, none_alike alike x ys parts.1)
-
-  alike_none : (alike : A → A → Bool) (x : A) (xs : List A) → AllByRecursion (λ y. alike x y ≡ false) xs → list_any (alike x) xs ≡ false
-  alike_none alike x [] none = refl
-  alike_none alike x (y ∷ ys) none = grind (arith, none.0, alike_none alike x ys none.1)
-
-  -- a row more that differs from all behind it
-  pub differ_more : (alike : A → A → Bool) (rows : List A) (i : ℕ) (d : A) → i < length rows → list_any (alike (get_or rows i d)) (drop (suc i) rows) ≡ false
-      → AllDiffer alike (drop (suc i) rows) → AllDiffer alike (drop i rows)
-  differ_more alike [] i d low none apart = absurd (omega (arith, low))
-  differ_more alike (row ∷ rows) zero d low none apart = (none_alike alike row rows none, apart)
-  differ_more alike (row ∷ rows) (suc i) d low none apart = differ_more alike rows i d (omega (arith, low)) none apart
-
-  -- and one that doesn't
-  pub not_differ : (alike : A → A → Bool) (rows : List A) (i : ℕ) (d : A) → i < length rows → list_any (alike (get_or rows i d)) (drop (suc i) rows) ≡ true
-      → AllDiffer alike rows → ⊥
-  not_differ alike [] i d low some apart = absurd (omega (arith, low))
-  not_differ alike (row ∷ rows) zero d low some apart = both_ways (list_any (alike row) rows) (alike_none alike row rows apart.0) some
-  not_differ alike (row ∷ rows) (suc i) d low some apart = not_differ alike rows i d (omega (arith, low)) some apart.1
 
 module _ {R A : Type 0} (g : R → A) (alike : A → A → Bool) where
   all_seen : (x : R) (rows : List R) → AllByRecursion (λ y. alike (g x) (g y) ≡ false) rows → AllByRecursion (λ y. alike (g x) y ≡ false) (map g rows)
@@ -133,42 +98,3 @@ module _ {A : Type 0} where
   take_all (suc k) [] low = refl
   take_all zero (x ∷ xs) low = absurd (omega (arith, low))
   take_all (suc k) (x ∷ xs) low = ap (λ l. x ∷ l) (take_all k xs (omega (arith, low)))
-
-  -- the rows behind a place
-  behind : (rows : List A) (m n : ℕ) → m ≡ length rows - n → take m (drop n rows) ≡ drop n rows
-  behind rows m n e = take_all m (drop n rows) (omega (arith, e, length-drop n rows))
-
-  -- a test that found a row of the same key
-  pub not_differ_at : (alike : A → A → Bool) (rows : List A) (i m n : ℕ) (row : A) {b : Bool} → 0 < i → i ≤ length rows → n ≡ i → m ≡ length rows - n
-      → row ≡ get_or rows (i - 1) row → b ≡ list_any (alike row) (take m (drop n rows)) → b ≡ true → AllDiffer alike rows → ⊥
-  not_differ_at alike rows zero m n row some low e f is answer in_ apart = absurd (omega (arith, some))
-  not_differ_at alike rows (suc i) m n row some low e f is answer in_ apart =
-      let back : suc i - 1 ≡ i = omega arith in
-      let here_is : row ≡ get_or rows i row = is ∙ ap (λ k. get_or rows k row) back in
-      not_differ alike rows i row (omega (arith, low))
-      (ap (λ r. list_any (alike r) (drop (suc i) rows)) (sym here_is) ∙ ap (λ k. list_any (alike row) (drop k rows)) (sym e)
-      ∙ ap (list_any (alike row)) (sym (behind rows m n f)) ∙ sym answer ∙ in_) apart
-
-  -- a test that found none
-  pub differ_more_at : (alike : A → A → Bool) (rows : List A) (i m n : ℕ) (row : A) {b : Bool} → 0 < i → i ≤ length rows → n ≡ i → m ≡ length rows - n
-      → row ≡ get_or rows (i - 1) row → b ≡ list_any (alike row) (take m (drop n rows)) → b ≡ false → AllDiffer alike (drop i rows) → AllDiffer alike (drop (i - 1) rows)
-  differ_more_at alike rows zero m n row some low e f is answer out_ apart = absurd (omega (arith, some))
-  differ_more_at alike rows (suc i) m n row some low e f is answer out_ apart =
-      let back : suc i - 1 ≡ i = omega arith in
-      let here_is : row ≡ get_or rows i row = is ∙ ap (λ k. get_or rows k row) back in
-      subst (λ k. AllDiffer alike (drop k rows)) (sym back)
-      (differ_more alike rows i row (omega (arith, low))
-      (ap (λ r. list_any (alike r) (drop (suc i) rows)) (sym here_is) ∙ ap (λ k. list_any (alike row) (drop k rows)) (sym e)
-      ∙ ap (list_any (alike row)) (sym (behind rows m n f)) ∙ sym answer ∙ out_) apart)
-
--- what a test of rows tells of what they stand for
-module _ {R A : Type 0} (g : R → A) (alike : A → A → Bool) where
-  -- rows that differ
-  pub differ_told : (rows : List R) {read : List R} {b : Bool} → read ≡ rows → Tells b (AllDiffer (λ x y. alike (g x) (g y)) read) → b ≡ true → AllDiffer alike (map g rows)
-  differ_told rows e t in_ =
-      differ_seen g alike rows (subst (AllDiffer (λ x y. alike (g x) (g y))) e (tells_true (AllDiffer (λ x y. alike (g x) (g y)) _) in_ t))
-
-  -- rows that don't
-  pub differ_untold : (rows : List R) {read : List R} {b : Bool} → read ≡ rows → Tells b (AllDiffer (λ x y. alike (g x) (g y)) read) → b ≡ false → AllDiffer alike (map g rows) → ⊥
-  differ_untold rows e t out_ apart =
-      tells_false (AllDiffer (λ x y. alike (g x) (g y)) _) out_ t (subst (AllDiffer (λ x y. alike (g x) (g y))) (sym e) (differ_under g alike rows apart))

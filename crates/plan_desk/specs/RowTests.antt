@@ -1,14 +1,21 @@
 -- What the tests of rows answer (docs/DEFINITIONS.md, "Books").
-use Rattle.std.specs.Prelude.{◌≡◌, ◌≤◌, Bool, true, List, [], ◌∷◌, length, filter, Option, Some, None}
+use Rattle.std.specs.Prelude.{◌≡◌, ◌≤◌, ◌&&◌, ◌==◌, ℕ, Bool, true, List, [], ◌∷◌, length, filter, unwrap_or, Option, Some, None}
 use Rattle.std.specs.Bool.{MatchBool}
 use Rattle.std.specs.Option.{MatchOption}
-use Rattle.std.specs.List.{AllByRecursion}
+use Rattle.std.specs.List.{AllByRecursion, position}
+use Rattle.std.specs.Borrow.{Bor}
+use Rattle.std.specs.HashMap.{HashMap, get_by}
 use Rattle.plan_psplib.specs.Project.{Project, SaysProject}
 use Rattle.plan_orlib.specs.Shop as docs
 use Rattle.plan_orlib.specs.Says.{Says}
 use Rattle.plan_desk.specs.declared.kinds.PlanKind.{PlanKind}
 use Rattle.plan_desk.specs.declared.kinds.PlanKind.TheVariants as kinds
 use Rattle.plan_desk.specs.declared.row_tests.files.PlanFile.{PlanFile}
+use Rattle.plan_desk.specs.declared.row_tests.places.Places.{Places}
+use Rattle.plan_desk.specs.declared.tables.Tables.{Tables}
+use Rattle.plan_desk.specs.declared.tables.records.PlanRecord.{PlanRecord}
+use Rattle.plan_desk.specs.Books.{published_in}
+use Rattle.plan_desk.specs.Tables.{desk_kept, plan_kept}
 use Rattle.plan_desk.specs.World.{Text, Desk, Plan, World, same_text, is_plan_of, is_plan, is_bind, is_lag}
 use Rattle.plan_desk.specs.Names.{is_from_to}
 use Rattle.plan_desk.specs.Rules.{AllDiffer, IsPlanRow, IsOwned, IsBindRow, IsLagRow, HasName, HasCalendar, is_desk_row, is_published_row}
@@ -33,6 +40,37 @@ GivesNone kinds.Shop name body = (doc : docs.Shop) → Says name body doc → �
 abbrev pub FileTold : PlanKind → Text → Text → Option PlanFile → Type 0
 FileTold kind name body file =
     MatchOption file (GivesNone kind name body) (GivesFile kind name body)
+
+-- a key of rows: a text, and three numbers, which are 0 where the key has fewer
+abbrev pub RowKey : Type 0
+RowKey = Text × ℕ × ℕ × ℕ
+
+abbrev pub same_key : RowKey → RowKey → Bool
+same_key a b = ((same_text a.0 b.0 && (a.1 == b.1)) && (a.2 == b.2)) && (a.3 == b.3)
+
+-- a key as code holds it
+abbrev pub HeldKey : Type 0
+HeldKey = Bor Text × ℕ × ℕ × ℕ
+
+abbrev pub shown_key : HeldKey → RowKey
+shown_key k = (k.0.now, k.1, k.2, k.3)
+
+-- a map of keys to the first places of the rows that have them
+abbrev pub AreFirst : {R S : Type 0} → (R → RowKey) → HashMap HeldKey ℕ S → List R → Type 0
+AreFirst key places rows = (q : HeldKey) →
+    get_by (λ k. same_key (shown_key q) (shown_key k)) places ≡ position (λ row. same_key (shown_key q) (key row)) rows
+
+-- a map of desks to how many plans they have
+abbrev pub AreCounts : {S : Type 0} → HashMap (Bor Text) ℕ S → List PlanRecord → Type 0
+AreCounts counts rows = (q : Bor Text) →
+    unwrap_or (get_by (λ k. same_text q.now k.now) counts) 0 ≡ length (filter (λ row. is_plan_of q.now (plan_kept row)) rows)
+
+-- where the rows of tables stand by their keys, and how many plans each desk has
+pub record ArePlaces (t : Tables) (p : Places) : Type 0 where
+  pub codes : AreFirst (λ row. ((published_in row).code, 0, 0, 0)) p.codes t.published.items
+  pub desks : AreFirst (λ row. ((desk_kept row).desk, 0, 0, 0)) p.desks t.desks.items
+  pub plans : AreFirst (λ row. ((plan_kept row).desk, (plan_kept row).n, 0, 0)) p.plans t.plans.items
+  pub counts : AreCounts p.counts t.plans.items
 
 -- the rows of each table have their keys once
 pub record KeysDiffer (w : World) : Type 0 where

@@ -2,6 +2,7 @@
 
 mod files;
 mod keyed;
+mod places;
 mod rows;
 mod tested;
 mod whole;

@@ -1,109 +1,101 @@
 //! Rows that have keys, each once.
 
-ghost use Rattle.std.specs.Prelude.{◌≡◌, Bool};
-ghost use Rattle.std.specs.List.{list_any};
-ghost use Rattle.plan_desk.specs.World.{same_text, is_plan, is_bind, is_lag};
+ghost use Rattle.std.specs.Prelude.{◌≡◌, IfOk};
 ghost use Rattle.plan_desk.specs.Rules.{AllDiffer};
 ghost use Rattle.plan_desk.specs.Books.{published_in};
 ghost use Rattle.plan_desk.specs.Tables.{world_kept, desk_kept, plan_kept, bind_kept, lag_kept};
-ghost use Rattle.plan_desk.specs.RowTests.{Tells, KeysDiffer};
+ghost use Rattle.plan_desk.specs.RowTests.{Tells, KeysDiffer, RowKey, same_key};
 
 use crate::rows::CodeRow;
 use crate::tables::{BindRecord, DeskRecord, LagRecord, PlanRecord, Tables};
+use std::alloc::{AllocError, Global};
+use std::collections::HashSet;
 
 /// A row that has a key.
 pub trait Keyed {
-    /// The two have one key.
-    ghost alike: { Self → Self → Bool };
+    /// Its key.
+    ghost key_of: { Self → RowKey };
 
-    /// Whether another has its key.
-    fn is_alike(&self, other: &Self) -> bool
-        ensures { result ≡ alike self.now other.now };
+    /// Its key: a text, and three numbers, which are 0 where the key has fewer.
+    fn key(&self) -> (&str, u64, u64, u64)
+        ensures { (result.0.now, result.1, result.2, result.3) ≡ key_of self.now };
 }
 
 impl Keyed for CodeRow {
-    ghost alike = { λ a b. same_text (published_in a).code (published_in b).code };
+    ghost key_of = { λ row. ((published_in row).code, 0, 0, 0) };
 
-    fn is_alike(&self, other: &Self) -> bool {
-        self.code.as_str() == other.code.as_str()
+    fn key(&self) -> (&str, u64, u64, u64) {
+        (self.code.as_str(), 0, 0, 0)
     }
 }
 
 impl Keyed for DeskRecord {
-    ghost alike = { λ a b. same_text (desk_kept a).desk (desk_kept b).desk };
+    ghost key_of = { λ row. ((desk_kept row).desk, 0, 0, 0) };
 
-    fn is_alike(&self, other: &Self) -> bool {
-        self.desk.as_str() == other.desk.as_str()
+    fn key(&self) -> (&str, u64, u64, u64) {
+        (self.desk.as_str(), 0, 0, 0)
     }
 }
 
 impl Keyed for PlanRecord {
-    ghost alike = { λ a b. is_plan (plan_kept a).desk (plan_kept a).n (plan_kept b) };
+    ghost key_of = { λ row. ((plan_kept row).desk, (plan_kept row).n, 0, 0) };
 
-    fn is_alike(&self, other: &Self) -> bool {
-        other.desk.as_str() == self.desk.as_str() && other.n == self.n
+    fn key(&self) -> (&str, u64, u64, u64) {
+        (self.desk.as_str(), self.n, 0, 0)
     }
 }
 
 impl Keyed for BindRecord {
-    ghost alike = { λ a b.
-        is_bind (bind_kept a).desk (bind_kept a).n (bind_kept a).place (bind_kept b) };
+    ghost key_of = { λ row. ((bind_kept row).desk, (bind_kept row).n, (bind_kept row).place, 0) };
 
-    fn is_alike(&self, other: &Self) -> bool {
-        other.desk.as_str() == self.desk.as_str() && other.n == self.n && other.place == self.place
+    fn key(&self) -> (&str, u64, u64, u64) {
+        (self.desk.as_str(), self.n, self.place, 0)
     }
 }
 
 impl Keyed for LagRecord {
-    ghost alike = { λ a b.
-        is_lag (lag_kept a).desk (lag_kept a).n (lag_kept a).source (lag_kept a).target (lag_kept b) };
+    ghost key_of = { λ row. ((lag_kept row).desk, (lag_kept row).n, (lag_kept row).source, (lag_kept row).target) };
 
-    fn is_alike(&self, other: &Self) -> bool {
-        other.desk.as_str() == self.desk.as_str()
-            && other.n == self.n
-            && (other.from == self.from && other.to == self.to)
+    fn key(&self) -> (&str, u64, u64, u64) {
+        (
+            self.desk.as_str(),
+            self.n,
+            u64::from(self.from),
+            u64::from(self.to),
+        )
     }
 }
 
-// Whether one of the others has the key of a row.
-fn has_alike<T: Keyed>(row: &T, others: &[T]) -> bool
-    ensures { result ≡ list_any (T.alike row.now) others.now }
+// Whether all rows have keys of their own. The keys are kept in a set, from the last row on.
+fn all_differ<T: Keyed>(alloc: Global, rows: &[T]) -> Result<bool, AllocError>
+    ensures { IfOk result
+        (λ good. Tells good (AllDiffer (λ a b. same_key (T.key_of a) (T.key_of b)) rows.now)) }
 {
-    for other in others {
-        if row.is_alike(other) {
-            return true;
-        }
-    }
-    false
-}
-
-// Whether all rows have keys of their own.
-fn all_differ<T: Keyed>(rows: &[T]) -> bool
-    ensures { Tells result (AllDiffer T.alike rows.now) }
-{
+    let mut seen = HashSet::new(alloc);
     for i in (0..rows.len()).rev() {
-        if has_alike(&rows[i], &rows[i + 1..]) {
-            return false;
+        let is_new = seen.insert(rows[i].key())?;
+        if !is_new {
+            return Ok(false);
         }
     }
-    true
+    Ok(true)
 }
 
-/// Whether the rows of each table have their keys once. It takes the square of their number.
-pub fn keys_differ(tables: &Tables) -> bool
-    ensures { Tells result (KeysDiffer (world_kept tables.now)) }
+/// Whether the rows of each table have their keys once.
+pub fn keys_differ(alloc: Global, tables: &Tables) -> Result<bool, AllocError>
+    ensures { IfOk result (λ good. Tells good (KeysDiffer (world_kept tables.now))) }
 {
-    if !all_differ(&tables.published) {
-        return false;
+    if !all_differ(alloc, &tables.published)? {
+        return Ok(false);
     }
-    if !all_differ(&tables.desks) {
-        return false;
+    if !all_differ(alloc, &tables.desks)? {
+        return Ok(false);
     }
-    if !all_differ(&tables.plans) {
-        return false;
+    if !all_differ(alloc, &tables.plans)? {
+        return Ok(false);
     }
-    if !all_differ(&tables.binds) {
-        return false;
+    if !all_differ(alloc, &tables.binds)? {
+        return Ok(false);
     }
-    all_differ(&tables.lags)
+    all_differ(alloc, &tables.lags)
 }

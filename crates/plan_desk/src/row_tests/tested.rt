@@ -1,7 +1,7 @@
 //! Rows that are tested beside the other tables.
 
-ghost use Rattle.std.specs.Prelude.{◌≡◌, true, find, filter, length, map};
-ghost use Rattle.std.specs.List.{AllByRecursion, list_any};
+ghost use Rattle.std.specs.Prelude.{◌≡◌, true};
+ghost use Rattle.std.specs.List.{AllByRecursion};
 ghost use Rattle.plan_desk.specs.World as spec;
 ghost use Rattle.plan_desk.specs.Plans as plans;
 ghost use Rattle.plan_desk.specs.PlanRoutes as routes;
@@ -9,15 +9,13 @@ ghost use Rattle.plan_desk.specs.Names.{is_from_to};
 ghost use Rattle.plan_desk.specs.Rules as rules;
 ghost use Rattle.plan_desk.specs.Books.{published_in};
 ghost use Rattle.plan_desk.specs.Tables.{world_kept, desk_kept, plan_kept, bind_kept, lag_kept};
-ghost use Rattle.plan_desk.specs.RowTests.{Tells, AreFiles, IsDeskOf};
+ghost use Rattle.plan_desk.specs.RowTests.{Tells, AreFiles, ArePlaces, IsDeskOf};
 
 use crate::kinds::{Kind, PlanKind};
 use crate::row_tests::files::PlanFile;
+use crate::row_tests::places::Places;
 use crate::row_tests::rows::{is_desk_row, is_published_row};
 use crate::rows::CodeRow;
-use crate::tables::codes::code_at;
-use crate::tables::desks::desk_at;
-use crate::tables::plans::plan_at;
 use crate::tables::{BindRecord, DeskRecord, LagRecord, PlanRecord, Tables};
 use plan_net::Network;
 
@@ -33,42 +31,36 @@ pub trait Tested {
     ghost keeps: { spec.World → Self → Type 0 };
 
     /// Whether it keeps its rules.
-    fn is_good(&self, tables: &Tables, files: &[PlanFile]) -> bool
-        requires { AreFiles (world_kept tables.now).plans files.now }
+    fn is_good(&self, tables: &Tables, places: &Places<'_>, files: &[PlanFile]) -> bool
+        requires files { AreFiles (world_kept tables.now).plans files.now }
+        requires places { ArePlaces tables.now places.now }
         ensures { Tells result (keeps (world_kept tables.now) self.now) };
 }
 
 impl Tested for CodeRow {
     ghost keeps = { λ w row. rules.is_published_row (published_in row) ≡ true };
 
-    fn is_good(&self, _tables: &Tables, _files: &[PlanFile]) -> bool {
+    fn is_good(&self, _tables: &Tables, _places: &Places<'_>, _files: &[PlanFile]) -> bool {
         is_published_row(self)
     }
-}
-
-// How many plans a desk has.
-fn count_plans(rows: &[PlanRecord], desk: &str) -> usize
-    ensures { result ≡ length (filter (λ row. spec.is_plan_of desk.now (plan_kept row)) rows.now) }
-{
-    rows.iter().filter(|row| row.desk.as_str() == desk).count()
 }
 
 impl Tested for DeskRecord {
     ghost keeps = { λ w row. IsDeskOf w (desk_kept row) };
 
-    fn is_good(&self, tables: &Tables, _files: &[PlanFile]) -> bool {
+    fn is_good(&self, _tables: &Tables, places: &Places<'_>, _files: &[PlanFile]) -> bool {
         if !is_desk_row(self) {
             return false;
         }
-        count_plans(&tables.plans, self.desk.as_str()) <= MOST_PLANS
+        places.count_plans(self.desk.as_str()) <= MOST_PLANS
     }
 }
 
 impl Tested for PlanRecord {
     ghost keeps = { λ w row. rules.IsOwned w (plan_kept row) };
 
-    fn is_good(&self, tables: &Tables, _files: &[PlanFile]) -> bool {
-        match desk_at(&tables.desks, self.desk.as_str()) {
+    fn is_good(&self, tables: &Tables, places: &Places<'_>, _files: &[PlanFile]) -> bool {
+        match places.desk_at(self.desk.as_str()) {
             Some(at) => self.n < tables.desks[at].next,
             None => false,
         }
@@ -94,12 +86,13 @@ fn is_taken(kind: PlanKind, code: Kind) -> bool
 }
 
 // Whether a code is published, and of the kind that a plan takes.
-fn has_code(rows: &[CodeRow], kind: PlanKind, code: &str) -> bool
-    ensures { Tells result (rules.IsThereAnd (spec.code_in (map published_in rows.now) code.now)
+fn has_code(tables: &Tables, places: &Places<'_>, kind: PlanKind, code: &str) -> bool
+    requires { ArePlaces tables.now places.now }
+    ensures { Tells result (rules.IsThereAnd (spec.code_in (world_kept tables.now).published code.now)
         (λ row. spec.same_kind row.kind (spec.takes kind) ≡ true)) }
 {
-    match code_at(rows, code) {
-        Some(at) => is_taken(kind, rows[at].kind),
+    match places.code_at(code) {
+        Some(at) => is_taken(kind, tables.published[at].kind),
         None => false,
     }
 }
@@ -107,15 +100,15 @@ fn has_code(rows: &[CodeRow], kind: PlanKind, code: &str) -> bool
 impl Tested for BindRecord {
     ghost keeps = { λ w row. rules.IsBindRow w (bind_kept row) };
 
-    fn is_good(&self, tables: &Tables, files: &[PlanFile]) -> bool {
-        let Some(at) = plan_at(&tables.plans, self.desk.as_str(), self.n) else {
+    fn is_good(&self, tables: &Tables, places: &Places<'_>, files: &[PlanFile]) -> bool {
+        let Some(at) = places.plan_at(self.desk.as_str(), self.n) else {
             return false;
         };
         let kind = tables.plans[at].kind;
         if !is_place(kind, files[at].places, self.place) {
             return false;
         }
-        has_code(&tables.published, kind, self.code.as_str())
+        has_code(tables, places, kind, self.code.as_str())
     }
 }
 
@@ -137,8 +130,8 @@ fn is_lag(lag: u64) -> bool
 impl Tested for LagRecord {
     ghost keeps = { λ w row. rules.IsLagRow w (lag_kept row) };
 
-    fn is_good(&self, tables: &Tables, files: &[PlanFile]) -> bool {
-        let Some(at) = plan_at(&tables.plans, self.desk.as_str(), self.n) else {
+    fn is_good(&self, tables: &Tables, places: &Places<'_>, files: &[PlanFile]) -> bool {
+        let Some(at) = places.plan_at(self.desk.as_str(), self.n) else {
             return false;
         };
         let Some(network) = &files[at].network else {
@@ -152,12 +145,18 @@ impl Tested for LagRecord {
 }
 
 /// Whether all rows of a table keep their rules.
-pub(crate) fn all_good<T: Tested>(rows: &[T], tables: &Tables, files: &[PlanFile]) -> bool
-    requires { AreFiles (world_kept tables.now).plans files.now }
+pub(crate) fn all_good<T: Tested>(
+    rows: &[T],
+    tables: &Tables,
+    places: &Places<'_>,
+    files: &[PlanFile],
+) -> bool
+    requires files { AreFiles (world_kept tables.now).plans files.now }
+    requires places { ArePlaces tables.now places.now }
     ensures { Tells result (AllByRecursion (T.keeps (world_kept tables.now)) rows.now) }
 {
     for row in rows {
-        if !row.is_good(tables, files) {
+        if !row.is_good(tables, places, files) {
             return false;
         }
     }

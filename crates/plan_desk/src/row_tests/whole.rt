@@ -3,10 +3,11 @@
 ghost use Rattle.std.specs.Prelude.{IfOk, map, option_map};
 ghost use Rattle.plan_desk.specs.Rules.{IsWorld};
 ghost use Rattle.plan_desk.specs.Tables.{world_kept, plan_kept};
-ghost use Rattle.plan_desk.specs.RowTests.{Tells, AreFiles, FilesTold, RowsAreGood};
+ghost use Rattle.plan_desk.specs.RowTests.{Tells, AreFiles, ArePlaces, FilesTold, RowsAreGood};
 
 use crate::row_tests::files::PlanFile;
 use crate::row_tests::keyed::keys_differ;
+use crate::row_tests::places::Places;
 use crate::row_tests::rows::read_row;
 use crate::row_tests::tested::all_good;
 use crate::tables::digests::known_digest;
@@ -28,36 +29,37 @@ fn read_files(alloc: Global, rows: &[PlanRecord]) -> Result<Option<Vec<PlanFile>
     Ok(Some(files))
 }
 
-fn rows_are_good(tables: &Tables, files: &[PlanFile]) -> bool
-    requires { AreFiles (world_kept tables.now).plans files.now }
+fn rows_are_good(tables: &Tables, places: &Places<'_>, files: &[PlanFile]) -> bool
+    requires files { AreFiles (world_kept tables.now).plans files.now }
+    requires places { ArePlaces tables.now places.now }
     ensures { Tells result (RowsAreGood (world_kept tables.now)) }
 {
-    if !all_good(&tables.published, tables, files) {
+    if !all_good(&tables.published, tables, places, files) {
         return false;
     }
-    if !all_good(&tables.desks, tables, files) {
+    if !all_good(&tables.desks, tables, places, files) {
         return false;
     }
-    if !all_good(&tables.plans, tables, files) {
+    if !all_good(&tables.plans, tables, places, files) {
         return false;
     }
-    if !all_good(&tables.binds, tables, files) {
+    if !all_good(&tables.binds, tables, places, files) {
         return false;
     }
-    all_good(&tables.lags, tables, files)
+    all_good(&tables.lags, tables, places, files)
 }
 
-/// Whether tables keep the rules of rows. Each file is read once; rows are compared and looked up in
-/// turn, which takes the square of their number.
+/// Whether tables keep the rules of rows. Each file is read once, and rows are found by their keys.
 pub fn is_world(alloc: Global, tables: &Tables) -> Result<bool, AllocError>
     ensures { IfOk result (λ good. Tells good (IsWorld (world_kept tables.now))) }
 {
     known_digest(&tables.office);
-    if !keys_differ(tables) {
+    if !keys_differ(alloc, tables)? {
         return Ok(false);
     }
     let Some(files) = read_files(alloc, &tables.plans)? else {
         return Ok(false);
     };
-    Ok(rows_are_good(tables, &files))
+    let places = Places::of(alloc, tables)?;
+    Ok(rows_are_good(tables, &places, &files))
 }

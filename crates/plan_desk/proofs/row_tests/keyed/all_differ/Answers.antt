@@ -1,13 +1,24 @@
-use Rattle.std.proofs.Common.{arith}
-use Rattle.plan_desk.proofs.RowTestLemmas.{differ_more_at, not_differ_at}
+use Rattle.std.proofs.Common.{◌≡◌, arith, drop}
+use Rattle.std.proofs.Common.{subst}
+use Rattle.plan_desk.specs.Rules.{AllDiffer}
+use Rattle.plan_desk.specs.RowTests.{same_key}
+use Rattle.plan_desk.proofs.KeyedLemmas.{seen_at, new_at, seen_more}
 use Rattle.plan_desk.proofs.row_tests.keyed.all_differ.Goals as goal
 
-pub returns-then-has_alike : goal.returns-then-has_alike
-returns-then-has_alike g c =
-    not_differ_at g.T.Keyed.alike c.args.rows.now c.loop-i.i _ _ c.index-rows-i.result (omega arith) (omega arith) (omega arith) (omega arith)
-    c.index-rows-i.is c.has_alike.ensures c.if-has_alike.true
+pub returns-then-not-is_new : goal.returns-then-not-is_new
+returns-then-not-is_new g c =
+    seen_at g.T.Keyed.key_of c.args.rows.now c.loop-i.i c.index-rows-i.result c.key.result c.loop-i.seen.keys (omega arith) (omega arith) c.index-rows-i.is c.key.ensures
+    c.loop-i.invariant.1 c.in_ok-is_new.ensures.added c.if-not-is_new.true
 
 pub loop-i-preserved : goal.loop-i-preserved
-loop-i-preserved g c =
-    differ_more_at g.T.Keyed.alike c.args.rows.now c.loop-i.i _ _ c.index-rows-i.result (omega arith) (omega arith) (omega arith) (omega arith)
-    c.index-rows-i.is c.has_alike.ensures c.if-has_alike.false c.loop-i.invariant
+loop-i-preserved g c = (
+  new_at g.T.Keyed.key_of c.args.rows.now c.loop-i.i c.index-rows-i.result c.key.result c.loop-i.seen.keys (omega arith) (omega arith) c.index-rows-i.is c.key.ensures
+      c.loop-i.invariant.1 c.in_ok-is_new.ensures.added c.if-not-is_new.false c.loop-i.invariant.0,
+  seen_more g.T.Keyed.key_of c.args.rows.now c.loop-i.i c.index-rows-i.result c.key.result c.loop-i.seen.keys c.insert.new.self.keys (omega arith) (omega arith) c.index-rows-i.is c.key.ensures
+      c.in_ok-is_new.ensures.updates.0 c.loop-i.invariant.1,
+)
+
+pub returns : goal.returns
+returns g c =
+    let none : c.loop-i.i ≡ 0 = omega arith in
+    subst (λ n. AllDiffer (λ a b. same_key (g.T.Keyed.key_of a) (g.T.Keyed.key_of b)) (drop n c.args.rows.now)) none c.loop-i.invariant.0

@@ -1,7 +1,10 @@
 use Rattle.std.proofs.Common.{drop}
 use Rattle.plan_desk.specs.Rules.{AllDiffer}
+use Rattle.plan_desk.specs.RowTests.{same_key}
+use Rattle.plan_desk.proofs.KeyedLemmas.{HasSeen}
 use Rattle.plan_desk.proofs.row_tests.keyed.all_differ.Given as goal
 
--- the rows from i on differ
+-- the rows from i on differ, and their keys were seen
 abbrev pub invariant-loop-i : goal.invariant-loop-i
-invariant-loop-i g l = AllDiffer g.T.Keyed.alike (drop l.i l.rows)
+invariant-loop-i g l = AllDiffer (λ a b. same_key (g.T.Keyed.key_of a) (g.T.Keyed.key_of b)) (drop l.i l.rows)
+    × HasSeen g.T.Keyed.key_of l.seen.keys (drop l.i l.rows)

@@ -8,7 +8,7 @@ use Rattle.plan_desk.proofs.row_tests.whole.is_world.Goals as goal
 
 pub returns : goal.returns
 returns c =
-    let keys : KeysDiffer (world_kept c.args.tables.now) = tells_true (KeysDiffer (world_kept c.args.tables.now)) c.if-not-keys_differ.false c.keys_differ.ensures in
+    let keys : KeysDiffer (world_kept c.args.tables.now) = tells_true (KeysDiffer (world_kept c.args.tables.now)) c.if-not-branch.false c.in_ok-keys_differ.ensures in
     let files : AreFiles (world_kept c.args.tables.now).plans c.in-Some.files.items =
     rw c.deref.ensures.value at (subst (λ o. FilesTold (map plan_kept c.deref.result.now) (option_map (λ v. v.items) o)) c.in-Some.is c.in_ok-files.ensures) in
     tells_same (world_of_parts (world_kept c.args.tables.now) c.in-Some.files.items c.known_digest.ensures keys files) (parts_of_world (world_kept c.args.tables.now))

@@ -10,7 +10,7 @@ pub returns-in-Some : goal.returns-in-Some
 returns-in-Some c =
     tells_there (λ desk. c.args.self.now.n < desk.next) (nat_lt c.args.self.now.n c.index.result.now.next)
     (find_at_place desk_kept (is_desk (string_bytes c.args.self.now.desk)) c.args.tables.now.desks.items c.in-Some.at c.index.result.now
-    (rw (c.deref.ensures.value, c.as_str.ensures.value) at (sym c.desk_at.ensures ∙ c.in-Some.is))
+    (rw c.as_str.ensures.value at (sym (c.desk_at.ensures c.args.tables.now c.requires.places) ∙ c.in-Some.is))
     ∙ ap (λ row. Some (desk_kept row)) (sym c.index.ensures))
     (tells_less c.args.self.now.n c.index.result.now.next)
 
@@ -18,4 +18,4 @@ pub returns-in-None : goal.returns-in-None
 returns-in-None c =
     there_none (desk_in (world_kept c.args.tables.now) (string_bytes c.args.self.now.desk)) (λ desk. c.args.self.now.n < desk.next)
     (find_none_at desk_kept (is_desk (string_bytes c.args.self.now.desk)) c.args.tables.now.desks.items
-    (rw (c.deref.ensures.value, c.as_str.ensures.value) at (sym c.desk_at.ensures ∙ c.in-None.is)))
+    (rw c.as_str.ensures.value at (sym (c.desk_at.ensures c.args.tables.now c.requires.places) ∙ c.in-None.is)))

@@ -1,0 +1,121 @@
+//! Files in memory, and what a stop leaves of them.
+
+ghost use Rattle.std.specs.Prelude.{IsTrue, IfOk};
+ghost use Rattle.sqlite_disk.specs.Memory.{memory_is_usable};
+ghost use Rattle.sqlite_disk.specs.Fuse.{inner_of, IsFresh};
+
+use crate::running::{Progress, options, run};
+use plan_desk::Request;
+use sqlite::{Connection, FileStore, Files};
+use sqlite_disk::{Crash, Disk, Fuse, Memory};
+use std::alloc::{AllocError, Global};
+use std::io;
+use std::test::Fail;
+
+/// The bytes of the files of a store.
+#[derive(PartialEq, Drop)]
+pub struct Image {
+    pub log: Vec<u8>,
+    pub db: Vec<u8>,
+}
+
+/// How many calls each file does before it stops.
+#[derive(Clone, Copy)]
+pub struct Limits {
+    pub log: u64,
+    pub db: u64,
+}
+
+/// A run that was stopped: how far it came, whether the log had calls left, and what the files hold,
+/// where what was not synced is kept and where it is lost.
+#[derive(PartialEq, Drop)]
+pub struct Stopped {
+    pub progress: Progress,
+    pub log_left: bool,
+    pub kept: Image,
+    pub lost: Image,
+}
+
+fn file_of(alloc: Global, bytes: &[u8]) -> Result<Memory, io::Error>
+    ensures { IfOk result (λ m. IsTrue (memory_is_usable m)) }
+{
+    let mut file = Memory::new(alloc);
+    file.write_at(0, bytes)?;
+    file.sync()?;
+    Ok(file)
+}
+
+/// A connection to these files.
+pub fn open(alloc: Global, image: &Image) -> Result<Connection<FileStore<Memory>>, Fail> {
+    let log = file_of(alloc, &image.log)?;
+    let db = file_of(alloc, &image.db)?;
+    match Connection::open_files(alloc, Files { log, db }, options()) {
+        Ok(conn) => Ok(conn),
+        Err((error, _)) => Err(Fail::from(error)),
+    }
+}
+
+fn image_of(alloc: Global, log: &Memory, db: &Memory) -> Result<Image, AllocError> {
+    Ok(Image {
+        log: Vec::from_slice(alloc, log.bytes())?,
+        db: Vec::from_slice(alloc, db.bytes())?,
+    })
+}
+
+/// What the files hold once a connection is closed.
+pub fn close(alloc: Global, conn: Connection<FileStore<Memory>>) -> Result<Image, Fail> {
+    match conn.close_files() {
+        Ok(Files { log, db }) => Ok(image_of(alloc, &log, &db)?),
+        Err((error, store)) => {
+            drop(store.close());
+            Err(Fail::from(error))
+        }
+    }
+}
+
+/// A run on these files, with no stop.
+pub fn whole_run(
+    alloc: Global,
+    image: &Image,
+    request: Option<&Request>,
+) -> Result<(Progress, Image), Fail> {
+    let log = file_of(alloc, &image.log)?;
+    let db = file_of(alloc, &image.db)?;
+    let (progress, Files { log, db }) = run(alloc, Files { log, db }, request);
+    Ok((progress, image_of(alloc, &log, &db)?))
+}
+
+fn fused(alloc: Global, bytes: &[u8], calls: u64) -> Result<Fuse<Memory>, io::Error>
+    ensures inner { IfOk result (λ f. IsTrue (memory_is_usable (inner_of f))) }
+    ensures fresh { IfOk result IsFresh }
+{
+    let file = file_of(alloc, bytes)?;
+    Ok(Fuse::new(file, calls))
+}
+
+fn has_calls_left(file: &mut Fuse<Memory>) -> bool {
+    file.may_be_used() && file.len().is_ok()
+}
+
+/// A run on these files, each of which stops after so many calls.
+pub fn stopped_run(
+    alloc: Global,
+    image: &Image,
+    limits: Limits,
+    request: Option<&Request>,
+) -> Result<Stopped, Fail> {
+    let log = fused(alloc, &image.log, limits.log)?;
+    let db = fused(alloc, &image.db, limits.db)?;
+    let (progress, Files { mut log, mut db }) = run(alloc, Files { log, db }, request);
+    let log_left = has_calls_left(&mut log);
+    let kept = image_of(alloc, log.inner(), db.inner())?;
+    log.crash();
+    db.crash();
+    let lost = image_of(alloc, log.inner(), db.inner())?;
+    Ok(Stopped {
+        progress,
+        log_left,
+        kept,
+        lost,
+    })
+}
