@@ -182,7 +182,7 @@ fn serve_by(
     ensures { IfErr result IsServeFault }
 {
     match TcpListener::bind(rt, (Ipv4Addr::LOCALHOST, port)) {
-        Ok(listener) => match serve_listener(rt.alloc(), office, &listener, count) {
+        Ok(listener) => match serve_listener(rt, office, &listener, count) {
             Ok(()) => Ok(()),
             Err(_) => Err(ServeFault::Memory),
         },
