@@ -76,7 +76,7 @@ pub fn init_on_file(rt: &HostRuntime, path: &str) -> Result<(), ServeFault>
     let mut input = StdSource::new(rt.reader());
     match init_run(rt.alloc(), &mut input, InFile { rt, path }) {
         Ok(book) => close(book),
-        Err(fault) => return Err(fault),
+        Err((fault, _)) => return Err(fault),
     }
     Ok(())
 }

@@ -90,6 +90,9 @@ impl Sink for Narrow {
     }
 }
 
+/// What an office that is there already keeps of its key.
+pub const TAKEN: [u8; 32] = [7; 32];
+
 /// A database in memory, which may have the tables of an office already.
 #[derive(Drop)]
 pub struct InMemory {
@@ -107,7 +110,7 @@ fn opened(alloc: Global, is_used: bool) -> Result<Connection<MemStore>, StoreFau
     if !is_used {
         return Ok(conn);
     }
-    match SqlBook::create_in(alloc, conn, &[7; 32]) {
+    match SqlBook::create_in(alloc, conn, &TAKEN) {
         Ok(book) => Ok(book.into_connection()),
         Err(_) => Err(StoreFault::Store),
     }
