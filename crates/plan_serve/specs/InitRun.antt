@@ -1,8 +1,8 @@
 -- What it is to make the tables of a new office (docs/DEFINITIONS.md, "Runs").
-use Rattle.std.specs.Prelude.{◌≡◌, ◌≢◌, ◌⊎◌, List, Option, Result, Ok, Err}
+use Rattle.std.specs.Prelude.{◌≡◌, ◌≢◌, ◌⊎◌, false, IsTrue, List, Option, Some, None, Result, Ok, Err}
 use Rattle.sqlite_trees.specs.Tree.{Trees}
 use Rattle.sqlite_trees.specs.declared.store.Store.{Ghosts}
-use Rattle.sqlite.specs.State.{State, HasCleanDisk}
+use Rattle.sqlite.specs.State.{State, HasCleanDisk, Survives}
 use Rattle.sqlite.specs.Held.{Held, state}
 use Rattle.plan_desk.specs.World.{Text, Digest, empty_world}
 use Rattle.plan_store.specs.declared.fault.StoreFault.{StoreFault}
@@ -11,6 +11,7 @@ use Rattle.plan_store.specs.Tables.{no_schema}
 use Rattle.plan_store.specs.Stores.{world_of}
 use Rattle.plan_store.specs.Serving.{Stands}
 use Rattle.plan_store.specs.SqlBooks.{Counted}
+use Rattle.plan_store.specs.Creating.{IsNewStore}
 use Rattle.plan_serve.specs.declared.fault.ServeFault.{ServeFault}
 use Rattle.plan_serve.specs.declared.fault.ServeFault.TheVariants as fault
 use Rattle.plan_serve.specs.Keys.{ReadsKey}
@@ -21,32 +22,47 @@ pub record IsNewOffice (s : State) (digest : Digest) : Type 0 where
   pub world : HasCleanDisk s → world_of s.now.trees ≡ empty_world digest
   pub durable : HasCleanDisk s → (trees : Trees) → s.may_leave trees → trees ≡ s.now.trees
 
+-- tables that weren't made: what is there stays, and a crash may leave the new ones whole
+pub record IsLeft (old new : State) (digest : Digest) : Type 0 where
+  pub outside : new.in_transaction ≡ false
+  pub kept : HasCleanDisk new → IsTrue new.is_open → (new.now ≡ old.now) × (new.committed ≡ old.committed)
+  pub crash : Survives old new (IsNewStore digest)
+
 module _ {S : Type 0} (g : Ghosts S) (Opens : Held S → Type 0) (Refuses : StoreFault → Type 0) where
   -- a database was opened that has no table
   abbrev pub IsEmptyThere : Type 0
   IsEmptyThere = (conn : Held S) × Opens conn × ((state g conn).now.schema ≡ no_schema)
 
-  -- a database was opened that has some
-  abbrev pub IsUsedThere : Type 0
-  IsUsedThere = (conn : Held S) × Opens conn × ((state g conn).now.schema ≢ no_schema)
+  -- a database was opened that has some, and its connection comes back untouched
+  abbrev pub IsUsedThere : Option (Held S) → Type 0
+  IsUsedThere back = (conn : Held S) × (back ≡ Some conn) × Opens conn × ((state g conn).now.schema ≢ no_schema)
 
-  -- a database was opened that hasn't
-  abbrev pub IsUnusedThere : Type 0
-  IsUnusedThere = (conn : Held S) × Opens conn × ¬ ((state g conn).now.schema ≢ no_schema)
+  -- a database was opened that has none, and stays as it is
+  abbrev pub IsLeftThere : Option (Held S) → Digest → Type 0
+  IsLeftThere back digest =
+      (conn left : Held S) × (back ≡ Some left) × Opens conn × ¬ ((state g conn).now.schema ≢ no_schema)
+      × IsLeft (state g conn) (state g left) digest
 
-  -- The tables of a new office are made, with the digest of the key that was read; or there is no
-  -- key; or the key is one, and the database can't be opened, has tables, or refuses.
-  abbrev pub Inits : Option Text → Option Text → Result (Counted S) ServeFault → Type 0
+  -- Why there is no new office, and the connection that comes back, if one was opened: there is no key,
+  -- and no database is opened; or the key is one, and the database can't be opened, has tables, or
+  -- refuses.
+  abbrev pub MakesNone : Option Text → Option Text → ServeFault → Option (Held S) → Type 0
+  MakesNone remaining rest fault.Key back = ReadsKey remaining rest (Err fault.Key) × (back ≡ None)
+  MakesNone remaining rest fault.Store back =
+      (digest : Digest) × ReadsKey remaining rest (Ok digest)
+      × ((Refuses store.Store × (back ≡ None)) ⊎ IsLeftThere back digest)
+  MakesNone remaining rest fault.NotOurs back =
+      (digest : Digest) × ReadsKey remaining rest (Ok digest) × IsUsedThere back
+  MakesNone remaining rest fault.Memory back =
+      (back ≡ None) ⊎ ((digest : Digest) × ReadsKey remaining rest (Ok digest) × IsLeftThere back digest)
+  MakesNone remaining rest fault.Input back = back ≡ None
+  MakesNone remaining rest e back = ⊥
+
+  -- the tables of a new office are made, with the digest of the key that was read, or none is
+  abbrev pub Inits : Option Text → Option Text → Result (Counted S) (ServeFault × Option (Held S)) → Type 0
   Inits remaining rest (Ok book) =
       (digest : Digest) × ReadsKey remaining rest (Ok digest) × IsEmptyThere × IsNewOffice (state g book.conn) digest
-  Inits remaining rest (Err fault.Key) = ReadsKey remaining rest (Err fault.Key)
-  Inits remaining rest (Err fault.Store) =
-      (digest : Digest) × ReadsKey remaining rest (Ok digest) × (Refuses store.Store ⊎ IsUnusedThere)
-  Inits remaining rest (Err fault.NotOurs) =
-      (digest : Digest) × ReadsKey remaining rest (Ok digest) × IsUsedThere
-  Inits remaining rest (Err fault.Memory) = Unit {0}
-  Inits remaining rest (Err fault.Input) = Unit {0}
-  Inits remaining rest (Err e) = ⊥
+  Inits remaining rest (Err e) = MakesNone remaining rest e.0 e.1
 
 -- why the tables of a new office aren't made
 abbrev pub IsInitFault : ServeFault → Type 0

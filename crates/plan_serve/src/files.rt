@@ -76,7 +76,7 @@ pub fn init_on_file(rt: &HostRuntime, path: &str) -> Result<(), ServeFault>
     let mut input = StdSource::new(rt.reader());
     match init_run(rt.alloc(), &mut input, InFile { rt, path }) {
         Ok(book) => close(book),
-        Err(fault) => return Err(fault),
+        Err((fault, _)) => return Err(fault),
     }
     Ok(())
 }
@@ -182,7 +182,7 @@ fn serve_by(
     ensures { IfErr result IsServeFault }
 {
     match TcpListener::bind(rt, (Ipv4Addr::LOCALHOST, port)) {
-        Ok(listener) => match serve_listener(rt.alloc(), office, &listener, count) {
+        Ok(listener) => match serve_listener(rt, office, &listener, count) {
             Ok(()) => Ok(()),
             Err(_) => Err(ServeFault::Memory),
         },

@@ -1,6 +1,6 @@
 //! `plan init`: the tables of a new office.
 
-ghost use Rattle.std.specs.Prelude.{◌≡◌, ◌⊎◌, ◌+◌, ◌≤◌, false, IfOk, IfErr, IsErrOf};
+ghost use Rattle.std.specs.Prelude.{◌≡◌, ◌⊎◌, ◌+◌, ◌≤◌, false, IfOk, IfErr};
 ghost use Rattle.sqlite.specs.Held.{Held, state};
 ghost use Rattle.plan_store.specs.declared.fault.StoreFault.{StoreFault};
 ghost use Rattle.plan_store.specs.declared.fault.StoreFault.TheVariants.{NoMemory, Store};
@@ -33,27 +33,28 @@ pub trait Place: Drop {
 }
 
 /// Reads the key of a new office from the first line of a text, and makes its tables in a database
-/// without tables. The database is opened once the key is read, and untouched unless it is one.
+/// without tables. The database is opened once the key is read, and untouched unless it is one. Where
+/// no tables are made the connection comes back, if one was opened.
 pub fn init_run<R: Source, P: Place>(
     alloc: Global,
     reader: &mut R,
     place: P,
-) -> Result<SqlBook<P::Kept>, ServeFault>
+) -> Result<SqlBook<P::Kept>, (ServeFault, Option<Connection<P::Kept>>)>
     ensures calls { R.calls reader.new ≤ R.calls reader.old + 66 }
     ensures inits { Inits P.Kept.Store (P.opens place) (P.refuses place) (R.remaining reader.old) (R.remaining reader.new) result }
-    ensures heard { IfErr result (λ e. (e ≡ ServeFault.Input) ⊎ (R.faults reader.new ≡ R.faults reader.old)) }
-    ensures input { IsErrOf result ServeFault.Input → R.faults reader.new ≡ R.faults reader.old + 1 }
+    ensures heard { IfErr result (λ e. (e.0 ≡ ServeFault.Input) ⊎ (R.faults reader.new ≡ R.faults reader.old)) }
+    ensures input { IfErr result (λ e. e.0 ≡ ServeFault.Input → R.faults reader.new ≡ R.faults reader.old + 1) }
 {
     let digest = match read_key(alloc, reader) {
         Ok(digest) => digest,
-        Err(fault) => return Err(fault),
+        Err(fault) => return Err((fault, None)),
     };
     let conn = match place.connect(alloc) {
         Ok(conn) => conn,
-        Err(fault) => return Err(told_of_new(fault)),
+        Err(fault) => return Err((told_of_new(fault), None)),
     };
     match SqlBook::create_in(alloc, conn, &digest) {
         Ok(book) => Ok(book),
-        Err((fault, _)) => Err(told_of_new(fault)),
+        Err((fault, conn)) => Err((told_of_new(fault), Some(conn))),
     }
 }

@@ -9,19 +9,20 @@ use crate::visitors::{Visitors, serve_visitors};
 use plan_desk::{Book, Office};
 use plan_http::ConnEnd;
 use plan_psplib::{DeviceFault, Sink, Source, Tally};
-use std::alloc::Global;
 use std::io::{self, Read, Write};
 use std::net::{Shutdown, TcpListener, TcpStream};
-use std::time::Duration;
+use std::time::{Duration, Instant};
 
 // How long a client may keep a connection waiting, in seconds, before it counts as failed.
 const PATIENCE: u64 = 30;
 
-// How long a client that was answered before it had sent all may keep silent, in seconds, and how
-// often it is heard, before the connection is cut.
-const LAST_PATIENCE: u64 = 1;
+// How long a client that was answered may keep silent before its connection is closed, and how long it
+// may go on sending, in seconds; and how often it is heard at most.
+const LAST_SILENCE: u64 = 1;
 
-const LAST_READS: u32 = 512;
+const LAST_PATIENCE: u64 = 5;
+
+const LAST_READS: u32 = 4096;
 
 /// One side of a connection: what a client sends, or what it is sent.
 #[derive(Drop)]
@@ -70,6 +71,7 @@ fn side_of(stream: TcpStream) -> Side {
 // The connections that come to a socket.
 #[derive(Drop)]
 struct Callers<'a> {
+    rt: &'a HostRuntime,
     listener: &'a TcpListener,
     tally: Tally,
 }
@@ -84,25 +86,21 @@ fn both_sides(listener: &TcpListener) -> io::Result<(Side, Side)> {
     Ok((side_of(stream), side_of(writer)))
 }
 
-// Reads what a client goes on sending, for a while: a connection that is closed with bytes unread
-// would take the response away from it.
-fn hear_out(reader: &mut Side) {
-    let patience = Some(Duration::from_secs(LAST_PATIENCE));
-    if reader.stream.set_read_timeout(patience).is_err() {
-        return;
-    }
+// Tells a client that nothing more comes, and reads what it goes on sending, for a while: a connection
+// that is closed with bytes unread would take the response away from it.
+fn hear_out(rt: &HostRuntime, stream: &TcpStream) -> io::Result<()> {
+    stream.shutdown(Shutdown::Write)?;
+    stream.set_read_timeout(Some(Duration::from_secs(LAST_SILENCE)))?;
+    let start = Instant::now(rt)?;
+    let end = Duration::from_secs(LAST_PATIENCE);
+    let mut reader = stream;
     let mut rest = [0; 8192];
     for _ in 0..LAST_READS {
-        match reader.read(&mut rest) {
-            Ok(0) | Err(_) => return,
-            Ok(_) => {}
+        if reader.read(&mut rest)? == 0 || start.elapsed(rt)? >= end {
+            return Ok(());
         }
     }
-}
-
-// Whether the response may have come before the client had sent all.
-fn is_early(end: ConnEnd) -> bool {
-    matches!(end, ConnEnd::Replied(400 | 413 | 501 | 503))
+    Ok(())
 }
 
 impl<'a> Visitors for Callers<'a> {
@@ -119,10 +117,9 @@ impl<'a> Visitors for Callers<'a> {
         self.tally.count(sides)
     }
 
-    fn dismiss(&mut self, reader: Side, writer: Side, end: ConnEnd) {
-        let mut reader = reader;
-        if is_early(end) && writer.stream.shutdown(Shutdown::Write).is_ok() {
-            hear_out(&mut reader);
+    fn dismiss(&mut self, reader: Side, _writer: Side, end: ConnEnd) {
+        if matches!(end, ConnEnd::Replied(_)) {
+            let _heard = hear_out(self.rt, &reader.stream);
         }
     }
 }
@@ -130,7 +127,7 @@ impl<'a> Visitors for Callers<'a> {
 /// Serves so many connections of a socket, one after another. One that can't be accepted, or fails,
 /// counts too, and ends alone.
 pub fn serve_listener<B: Book>(
-    alloc: Global,
+    rt: &HostRuntime,
     office: &mut Office<B>,
     listener: &TcpListener,
     count: u32,
@@ -141,8 +138,9 @@ pub fn serve_listener<B: Book>(
     ensures which { IfErr result (λ e. e ≡ ServeFault.Memory) }
 {
     let mut callers = Callers {
+        rt,
         listener,
         tally: Tally::new(),
     };
-    serve_visitors(alloc, office, &mut callers, count)
+    serve_visitors(rt.alloc(), office, &mut callers, count)
 }

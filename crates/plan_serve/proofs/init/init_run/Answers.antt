@@ -1,11 +1,15 @@
-use Rattle.std.proofs.Common.{subst, sym, Err}
-use Rattle.plan_serve.specs.InitRun.{Inits}
-use Rattle.plan_serve.proofs.InitLemmas.{unopened, unmade}
+use Rattle.std.proofs.Common.{subst, sym, Some, None}
+use Rattle.plan_serve.specs.InitRun.{MakesNone}
+use Rattle.plan_serve.proofs.InitLemmas.{unread, unopened, unmade}
 use Rattle.plan_serve.proofs.init.init_run.Goals as goal
+
+pub returns-in-Err-clause-inits : goal.returns-in-Err-clause-inits
+returns-in-Err-clause-inits g c =
+    unread g.P.Kept.Store (g.P.Place.opens c.args.place) (g.P.Place.refuses c.args.place) (g.R.Source.remaining c.args.reader.now) (g.R.Source.remaining c.read_key.new.reader) c.in-Err.fault c.in-Err.ensures.takes
 
 pub returns-in-Err-connect-clause-inits : goal.returns-in-Err-connect-clause-inits
 returns-in-Err-connect-clause-inits g c =
-    subst (λ e. Inits g.P.Kept.Store (g.P.Place.opens c.args.place) (g.P.Place.refuses c.args.place) (g.R.Source.remaining c.args.reader.now) (g.R.Source.remaining c.read_key.new.reader) (Err e)) (sym c.told_of_new.ensures)
+    subst (λ e. MakesNone g.P.Kept.Store (g.P.Place.opens c.args.place) (g.P.Place.refuses c.args.place) (g.R.Source.remaining c.args.reader.now) (g.R.Source.remaining c.read_key.new.reader) e None) (sym c.told_of_new.ensures)
     (unopened g.P.Kept.Store (g.P.Place.opens c.args.place) (g.P.Place.refuses c.args.place) (g.R.Source.remaining c.args.reader.now) (g.R.Source.remaining c.read_key.new.reader) c.in-Ok.digest c.in-Ok.ensures.takes c.in-Err-connect.fault c.in-Err-connect.ensures.refused c.in-Err-connect.ensures.which)
 
 pub returns-in-Ok-create_in-clause-inits : goal.returns-in-Ok-create_in-clause-inits
@@ -20,7 +24,8 @@ returns-in-Ok-create_in-clause-inits g c = (
   },
 )
 
-pub returns-clause-inits : goal.returns-clause-inits
-returns-clause-inits g c =
-    subst (λ e. Inits g.P.Kept.Store (g.P.Place.opens c.args.place) (g.P.Place.refuses c.args.place) (g.R.Source.remaining c.args.reader.now) (g.R.Source.remaining c.read_key.new.reader) (Err e)) (sym c.told_of_new-in-Err-create_in.ensures)
-    (unmade g.P.Kept.Store (g.P.Place.opens c.args.place) (g.P.Place.refuses c.args.place) (g.R.Source.remaining c.args.reader.now) (g.R.Source.remaining c.read_key.new.reader) c.in-Ok.digest c.in-Ok.ensures.takes c.in-Ok-connect.conn c.in-Err-create_in.fault c.in-Ok-connect.ensures.opened c.in-Err-create_in.ensures.ours)
+pub returns-in-Err-create_in-clause-inits : goal.returns-in-Err-create_in-clause-inits
+returns-in-Err-create_in-clause-inits g c =
+    subst (λ e. MakesNone g.P.Kept.Store (g.P.Place.opens c.args.place) (g.P.Place.refuses c.args.place) (g.R.Source.remaining c.args.reader.now) (g.R.Source.remaining c.read_key.new.reader) e (Some c.in-Err-create_in.conn)) (sym c.told_of_new-in-Err-create_in.ensures)
+    (unmade g.P.Kept.Store (g.P.Place.opens c.args.place) (g.P.Place.refuses c.args.place) (g.R.Source.remaining c.args.reader.now) (g.R.Source.remaining c.read_key.new.reader) c.in-Ok.digest c.in-Ok.ensures.takes c.in-Ok-connect.conn c.in-Err-create_in.conn c.in-Err-create_in.fault c.in-Ok-connect.ensures.opened c.in-Err-create_in.ensures.ours c.in-Err-create_in.ensures.untouched
+    (record { outside = c.in-Err-create_in.ensures.outside; kept = c.in-Err-create_in.ensures.kept; crash = c.in-Err-create_in.ensures.crash }))
