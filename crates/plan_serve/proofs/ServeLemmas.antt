@@ -1,12 +1,12 @@
 -- Offices that move by decisions, one after another.
-use Rattle.std.proofs.Common.{◌≡◌, ◌≢◌, ◌≤◌, ◌+◌, ℕ, List, [], ◌∷◌, ◌++◌, Option, length, refl, subst, sym, arith}
+use Rattle.std.proofs.Common.{◌≢◌, ◌≤◌, ◌+◌, ℕ, List, [], ◌∷◌, ◌++◌, Option, length, refl, subst, arith}
 use Rattle.std.proofs.lemmas.List.{length-append}
 use Rattle.plan_desk.specs.World.{Text}
 use Rattle.plan_desk.specs.Books.{Shelf}
 use Rattle.plan_http.specs.declared.serving.ConnEnd.{ConnEnd}
 use Rattle.plan_http.specs.declared.serving.ConnEnd.TheVariants as end
 use Rattle.plan_http.specs.Answers.{Decision}
-use Rattle.plan_http.specs.Serving.{Moves, Ends}
+use Rattle.plan_http.specs.Serving.{Ends}
 use Rattle.plan_store.specs.declared.fault.StoreFault.{StoreFault}
 use Rattle.plan_store.specs.declared.fault.StoreFault.TheVariants as store
 use Rattle.plan_serve.specs.declared.fault.ServeFault.TheVariants as fault

@@ -1,4 +1,4 @@
-use Rattle.std.proofs.Common.{◌≡◌, ◌∙◌, ap, length, subst, OnOk, IsErrOf}
+use Rattle.std.proofs.Common.{◌∙◌, ap, length, subst, OnOk, IsErrOf}
 use Rattle.plan_serve.specs.declared.fault.ServeFault.TheVariants.{Output}
 use Rattle.plan_serve.specs.ReplayRun.{AreAnswered, AreAnsweredInPart}
 use Rattle.plan_serve.proofs.files.replay_on_files.Goals as goal

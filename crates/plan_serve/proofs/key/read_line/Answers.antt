@@ -1,4 +1,4 @@
-use Rattle.std.proofs.Common.{◌≡◌, ◌+◌, ◌≤◌, ◌<◌, List, ℕ, length, arith, sym, subst, ◌∙◌, [], ◌∷◌}
+use Rattle.std.proofs.Common.{List, ℕ, arith, sym, subst, [], ◌∷◌}
 use Rattle.std.specs.Io.KnownBytes.{Consumes, IsAtEnd}
 use Rattle.plan_serve.specs.Keys.{IsFront}
 use Rattle.plan_serve.proofs.KeyLemmas.{at_end, with_feed, as_long, of_none, of_some}

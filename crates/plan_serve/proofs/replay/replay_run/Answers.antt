@@ -1,4 +1,4 @@
-use Rattle.std.proofs.Common.{◌≡◌, ◌∙◌, ◌<◌, List, ℕ, length, take, map, vec_items, subst, sym}
+use Rattle.std.proofs.Common.{◌∙◌, ◌<◌, List, ℕ, length, take, map, vec_items, subst}
 use Rattle.std.proofs.lemmas.List.{length-map}
 use Rattle.std.specs.Io.KnownBytes.{Appends}
 use Rattle.plan_serve.proofs.ReplayLemmas.{served_each}

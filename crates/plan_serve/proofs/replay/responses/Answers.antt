@@ -1,4 +1,4 @@
-use Rattle.std.proofs.Common.{◌≡◌, ◌∙◌, List, ℕ, sym, ap, subst, map, vec_items, ◌++◌, IfOk}
+use Rattle.std.proofs.Common.{◌≡◌, ◌∙◌, ap, subst, map, vec_items, ◌++◌, IfOk}
 use Rattle.std.specs.List.{flat_map}
 use Rattle.plan_http.specs.Serving.{response_of}
 use Rattle.plan_serve.proofs.ReplayLemmas.{joined_all, joined_none}

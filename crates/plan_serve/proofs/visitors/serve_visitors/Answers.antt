@@ -1,4 +1,4 @@
-use Rattle.std.proofs.Common.{◌∙◌, ap, ◌+◌, arith}
+use Rattle.std.proofs.Common.{arith}
 use Rattle.plan_serve.proofs.ServeLemmas.{one_more}
 use Rattle.plan_serve.proofs.visitors.serve_visitors.Goals as goal
 
