@@ -119,3 +119,36 @@ pub fn stopped_run(
         lost,
     })
 }
+
+// Where a write ended: behind the last byte that it changed.
+fn end_of(old: &[u8], new: &[u8]) -> usize {
+    if old.len() != new.len() {
+        return new.len();
+    }
+    let same = old
+        .iter()
+        .rev()
+        .zip(new.iter().rev())
+        .position(|(a, b)| *a != *b);
+    new.len().saturating_sub(same.unwrap_or(0))
+}
+
+// The first half of what was written, and behind it what was there.
+fn half(alloc: Global, old: &[u8], new: &[u8]) -> Result<Vec<u8>, AllocError> {
+    let start = old.iter().zip(new.iter()).position(|(a, b)| *a != *b);
+    let from = start.unwrap_or(old.len().min(new.len()));
+    let middle = from / 2 + end_of(old, new) / 2;
+    let mut bytes = Vec::new(alloc);
+    for byte in new.iter().take(middle).chain(old.iter().skip(middle)) {
+        bytes.push(*byte)?;
+    }
+    Ok(bytes)
+}
+
+/// What the files hold if only the first half of the last write was done.
+pub fn torn(alloc: Global, old: &Image, new: &Image) -> Result<Image, AllocError> {
+    Ok(Image {
+        log: half(alloc, &old.log, &new.log)?,
+        db: half(alloc, &old.db, &new.db)?,
+    })
+}

@@ -27,5 +27,6 @@ fn a_first_version_is_brought_to_the_second_whole_or_not_at_all(
     assert!(rt; stops.calls > 18, "{stops:?}");
     assert!(rt; stops.before > 0, "{stops:?}");
     assert!(rt; stops.after > 0, "{stops:?}");
+    assert!(rt; stops.torn > 4, "{stops:?}");
     Ok(())
 }

@@ -50,6 +50,7 @@ fn expect_request(rt: &impl Abort, alloc: Global, image: Image, call: Call) -> R
     assert!(rt; stops.calls > 18, "{stops:?}");
     assert!(rt; stops.before > 0, "{stops:?}");
     assert!(rt; stops.after > 0, "{stops:?}");
+    assert!(rt; stops.torn > 1, "{stops:?}");
     Ok(next)
 }
 

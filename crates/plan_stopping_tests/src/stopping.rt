@@ -1,6 +1,6 @@
 //! A run that is stopped after each of its calls.
 
-use crate::disks::{Image, Limits, Stopped, stopped_run, whole_run};
+use crate::disks::{Image, Limits, Stopped, stopped_run, torn, whole_run};
 use crate::running::Progress;
 use crate::shown::lines_in;
 use plan_desk::Request;
@@ -22,12 +22,24 @@ pub struct Run {
     pub taken: Vec<String>,
 }
 
-/// How many calls a run makes, and how many of its stops left the lines of before and those of after.
+/// How many calls a run makes, how often what a stop left was the lines of before and those of after,
+/// and how often a write was torn.
 #[derive(Debug, Clone, Copy)]
 pub struct Stops {
     pub calls: u32,
     pub before: u32,
     pub after: u32,
+    pub torn: u32,
+}
+
+impl Stops {
+    fn count(&mut self, is_after: bool) {
+        if is_after {
+            self.after = self.after.saturating_add(1);
+        } else {
+            self.before = self.before.saturating_add(1);
+        }
+    }
 }
 
 // Files that hold the lines of after, or of before where that may be. Taken again, they hold what they
@@ -78,12 +90,29 @@ fn expect_left(
         (&stopped.lost, &stopped.lost),
     ] {
         let image = mixed(alloc, log, db)?;
-        if expect_one(rt, alloc, run, &image, is_done)? {
-            stops.after = stops.after.saturating_add(1);
-        } else {
-            stops.before = stops.before.saturating_add(1);
-        }
+        let is_after = expect_one(rt, alloc, run, &image, is_done)?;
+        stops.count(is_after);
     }
+    Ok(())
+}
+
+// What a stop in the midst of a call leaves, of which only the first half was written.
+fn expect_torn(
+    rt: &impl Abort,
+    alloc: Global,
+    run: &Run,
+    last: &Stopped,
+    stopped: &Stopped,
+    stops: &mut Stops,
+) -> Result<(), Fail> {
+    if last.kept == stopped.kept {
+        return Ok(());
+    }
+    let is_done = last.progress != Progress::Failed;
+    let image = torn(alloc, &last.kept, &stopped.kept)?;
+    let is_after = expect_one(rt, alloc, run, &image, is_done)?;
+    stops.count(is_after);
+    stops.torn = stops.torn.saturating_add(1);
     Ok(())
 }
 
@@ -108,12 +137,16 @@ pub fn expect_stops(rt: &impl Abort, alloc: Global, run: &Run) -> Result<Stops, 
         calls: 0,
         before: 0,
         after: 0,
+        torn: 0,
     };
     let mut last: Option<Stopped> = None;
     for calls in 0..MOST_CALLS {
         let stopped = stopped_run(alloc, &run.image, limits, run.request.as_ref())?;
         if !is_seen(last.as_ref(), &stopped) {
             expect_left(rt, alloc, run, &stopped, &mut stops)?;
+        }
+        if let Some(last) = &last {
+            expect_torn(rt, alloc, run, last, &stopped, &mut stops)?;
         }
         if stopped.progress == Progress::Closed {
             stops.calls = calls;
