@@ -1,4 +1,5 @@
-//! Worked examples of connections: bytes, what they spell, and the bytes of responses.
+//! Worked examples of connections: bytes, what they spell, and the bytes of responses. The devices serve
+//! other tests too.
 #![tactic(auto)]
 
 #[cfg(test)]
@@ -7,13 +8,10 @@ mod asking;
 mod clients;
 #[cfg(test)]
 mod connections;
-#[cfg(test)]
-mod devices;
+pub mod devices;
 #[cfg(test)]
 mod limits;
 #[cfg(test)]
 mod pieces;
 #[cfg(test)]
 mod responses;
-#[cfg(test)]
-mod serving;

@@ -1,0 +1,22 @@
+//! Worked examples over bytes: connections and their responses, of an office over each kind of book: in
+//! memory, in tables of SQL in memory, and in tables on a disk in memory.
+#![tactic(auto)]
+
+#[cfg(test)]
+mod capacities;
+#[cfg(test)]
+mod desks;
+#[cfg(test)]
+mod examples;
+#[cfg(test)]
+mod lags;
+#[cfg(test)]
+mod lengths;
+#[cfg(test)]
+mod losses;
+#[cfg(test)]
+mod searches;
+#[cfg(test)]
+mod sending;
+#[cfg(test)]
+mod wire;
