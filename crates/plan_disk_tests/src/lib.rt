@@ -1,11 +1,15 @@
-//! Worked examples over bytes: connections and their responses, of an office over each kind of book: in
-//! memory, in tables of SQL in memory, and in tables on a disk in memory.
+//! The long list and worked examples over bytes, of an office over each kind of book: in memory, in tables
+//! of SQL in memory, and in tables on a disk in memory.
 #![tactic(auto)]
 
 #[cfg(test)]
 mod capacities;
 #[cfg(test)]
+mod cuts;
+#[cfg(test)]
 mod desks;
+#[cfg(test)]
+mod devices;
 #[cfg(test)]
 mod examples;
 #[cfg(test)]
@@ -13,7 +17,11 @@ mod lags;
 #[cfg(test)]
 mod lengths;
 #[cfg(test)]
+mod long;
+#[cfg(test)]
 mod losses;
+#[cfg(test)]
+mod offices;
 #[cfg(test)]
 mod searches;
 #[cfg(test)]

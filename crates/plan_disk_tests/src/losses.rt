@@ -1,9 +1,9 @@
 //! Responses that are lost on their way, and requests that break off.
 
+use crate::devices::{Broken, Lossy};
 use crate::sending::{DONE, Exchange, MADE, Run, expect_exchanges, expect_run, response, sent};
 use plan_desk::{Book, Office};
 use plan_http::{ConnEnd, Routes, serve_conn};
-use plan_http_tests::devices::{Drip, Narrow};
 use plan_office_tests::files::SIX;
 use plan_psplib::{MemSink, MemSource};
 use std::alloc::{AllocError, Global};
@@ -58,7 +58,7 @@ fn expect_broken_off<B: Book>(
     conn: &[u8],
 ) {
     for len in 0..conn.len() {
-        let mut reader = Drip::new(&conn[..len], true);
+        let mut reader = Broken::new(&conn[..len]);
         let mut writer = MemSink::new(Vec::new(alloc));
         let end = serve_conn(alloc, routes, office, &mut reader, &mut writer);
         assert_eq!(rt; end, ConnEnd::ReadFailed, "{len}");
@@ -77,10 +77,10 @@ fn expect_lost<B: Book>(
 ) {
     let (room, fails) = loss;
     let mut reader = MemSource::new(conn);
-    let mut writer = Narrow::new(Vec::new(alloc), room, fails);
+    let mut writer = Lossy::new(room, fails);
     let end = serve_conn(alloc, routes, office, &mut reader, &mut writer);
     assert_eq!(rt; end, ConnEnd::WriteFailed { sent: room });
-    assert_eq!(rt; writer.taken().len(), room);
+    assert_eq!(rt; writer.room(), 0);
 }
 
 // The plan of this number is listed alone, and removed.

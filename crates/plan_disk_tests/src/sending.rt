@@ -78,7 +78,8 @@ impl Run {
     /// One connection more.
     pub fn push(&mut self, conn: Vec<u8>, wanted: Vec<u8>) -> Result<(), AllocError> {
         self.conns.push(conn)?;
-        self.wanted.push(wanted)
+        self.wanted.push(wanted)?;
+        Ok(())
     }
 
     /// One exchange more.

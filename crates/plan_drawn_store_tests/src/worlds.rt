@@ -83,7 +83,8 @@ fn add_other(
         let asked = drawn_other(rng, known);
         if is_of_others(&asked, known) {
             learn(alloc, office, known, &asked)?;
-            return lists.among.push(sent(alloc, &asked)?);
+            lists.among.push(sent(alloc, &asked)?)?;
+            return Ok(());
         }
     }
     Ok(())

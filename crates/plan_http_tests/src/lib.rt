@@ -1,5 +1,4 @@
-//! Worked examples of connections: bytes, what they spell, and the bytes of responses. The devices serve
-//! other tests too.
+//! Worked examples of connections: bytes, what they spell, and the bytes of responses.
 #![tactic(auto)]
 
 #[cfg(test)]
@@ -8,7 +7,8 @@ mod asking;
 mod clients;
 #[cfg(test)]
 mod connections;
-pub mod devices;
+#[cfg(test)]
+mod devices;
 #[cfg(test)]
 mod limits;
 #[cfg(test)]

@@ -1,13 +1,14 @@
 //! Two offices that are asked the same.
 
-pub use crate::offices::OFFICE_KEY;
-use crate::offices::{body_of, in_memory, in_tables};
-use plan_desk::{Call, MemBook, Office, Request};
+use plan_desk::{Body, Call, MemBook, Office, Reply, Request, key_digest};
 use plan_store::SqlBook;
 use sqlite::MemStore;
 use std::alloc::{AllocError, Global};
 use std::process::Abort;
 use std::test::Fail;
+
+/// The key of the office.
+pub const OFFICE_KEY: &str = "office-key";
 
 /// An office over each kind of book.
 #[derive(Drop)]
@@ -18,9 +19,23 @@ pub struct Both {
 
 /// Two offices of no rows.
 pub fn new_both(alloc: Global) -> Result<Both, Fail> {
-    match (in_memory(alloc), in_tables(alloc)) {
-        (Some(memory), Some(tables)) => Ok(Both { memory, tables }),
-        _ => Err(Fail::from(AllocError)),
+    let digest = key_digest(OFFICE_KEY.as_bytes()).unwrap_or([0; 32]);
+    let Ok(memory) = Office::new(alloc, MemBook::new(alloc, digest)) else {
+        return Err(Fail::from(AllocError));
+    };
+    let Ok(book) = SqlBook::open_in_memory(alloc, &digest) else {
+        return Err(Fail::from(AllocError));
+    };
+    let Ok(tables) = Office::new(alloc, book) else {
+        return Err(Fail::from(AllocError));
+    };
+    Ok(Both { memory, tables })
+}
+
+fn body_of(reply: &Reply) -> &str {
+    match &reply.body {
+        Body::Fixed(text) => text,
+        Body::Owned(text) => text.as_str(),
     }
 }
 

@@ -22,9 +22,13 @@ fn expect_step<B: Book>(
     let told = memory.handle(&step.request);
     let reply = tables.handle(&step.request);
     assert_eq!(rt; body_of(&reply), step.body.as_str());
-    assert_eq!(rt; body_of(&reply), body_of(&told));
-    assert_eq!(rt; reply.status, step.status, "{}", step.body);
-    assert_eq!(rt; reply.status, told.status, "{}", step.body);
+    assert_eq!(rt; body_of(&told), step.body.as_str());
+    assert_eq!(rt;
+        (reply.status, told.status),
+        (step.status, step.status),
+        "{}",
+        step.body
+    );
     assert_eq!(rt; reply.kind, told.kind, "{}", step.body);
 }
 
@@ -153,20 +157,24 @@ fn go_through<S: Alter + Drop>(
     Ok(())
 }
 
-#[test]
-fn tables_in_memory_answer_the_long_list(rt: HostRuntime) -> Result<(), Fail> {
-    let alloc = rt.alloc();
-    match (in_memory(alloc), in_tables(alloc)) {
-        (Some(mut memory), Some(tables)) => go_through(&rt, alloc, &mut memory, tables),
-        _ => panic!(&rt; "no office"),
+// The list over tables that are made for it.
+fn expect_list<S: Alter + Drop>(
+    rt: &impl Abort,
+    alloc: Global,
+    tables: Option<Office<SqlBook<S>>>,
+) -> Result<(), Fail> {
+    match (in_memory(alloc), tables) {
+        (Some(mut memory), Some(tables)) => go_through(rt, alloc, &mut memory, tables),
+        _ => panic!(rt; "no office"),
     }
 }
 
 #[test]
+fn tables_in_memory_answer_the_long_list(rt: HostRuntime) -> Result<(), Fail> {
+    expect_list(&rt, rt.alloc(), in_tables(rt.alloc()))
+}
+
+#[test]
 fn tables_on_a_disk_answer_the_long_list(rt: HostRuntime) -> Result<(), Fail> {
-    let alloc = rt.alloc();
-    match (in_memory(alloc), on_disk(alloc)) {
-        (Some(mut memory), Some(tables)) => go_through(&rt, alloc, &mut memory, tables),
-        _ => panic!(&rt; "no office"),
-    }
+    expect_list(&rt, rt.alloc(), on_disk(rt.alloc()))
 }
