@@ -14,12 +14,14 @@ use std::alloc::{AllocError, Global};
 use std::process::Abort;
 use std::test::Fail;
 
-// How many requests a story has, how many are tried between two of them, and how many stories are told.
-const STORY: u32 = 30;
+// How many connections of other desks there are in the second world.
+const OTHERS: u32 = 50;
 
-const BETWEEN: u32 = 3;
+// How often one is drawn anew where it isn't one of another desk.
+const DRAWS: u32 = 20;
 
-const TIMES: u64 = 60;
+// How many stories are told in each test.
+const STORIES: u64 = 250;
 
 // Two lists of connections, and the places of the first list's in the second.
 #[derive(Drop)]
@@ -69,19 +71,20 @@ fn drawn_other(rng: &mut StdRng, known: &Learned) -> Asked {
     drawn_about(rng, known, desk)
 }
 
-// Connections of other desks.
-fn add_others(
+// One connection more of another desk.
+fn add_other(
     rng: &mut StdRng,
     alloc: Global,
     office: &mut Office<MemBook>,
     known: &mut Learned,
     lists: &mut Lists,
 ) -> Result<(), AllocError> {
-    for _ in 0..BETWEEN {
+    for _ in 0..DRAWS {
         let asked = drawn_other(rng, known);
         if is_of_others(&asked, known) {
             learn(alloc, office, known, &asked)?;
             lists.among.push(sent(alloc, &asked)?)?;
+            return Ok(());
         }
     }
     Ok(())
@@ -144,9 +147,11 @@ fn drawn_lists(alloc: Global, seed: u64) -> Result<Lists, AllocError> {
         places: Vec::new(alloc),
     };
     open_desks(alloc, &mut office, &mut known, &mut lists)?;
-    for _ in 0..STORY {
-        add_others(&mut rng, alloc, &mut office, &mut known, &mut lists)?;
-        add_own(&mut rng, alloc, &mut office, &mut known, &mut lists)?;
+    for between in 0..OTHERS {
+        add_other(&mut rng, alloc, &mut office, &mut known, &mut lists)?;
+        if between % 2 == 0 {
+            add_own(&mut rng, alloc, &mut office, &mut known, &mut lists)?;
+        }
     }
     Ok(lists)
 }
@@ -169,17 +174,46 @@ fn expect_alike<A: Book, B: Book>(
     runs.first.len()
 }
 
-#[test]
-fn a_desk_is_told_one_thing_whatever_others_send(rt: HostRuntime) -> Result<(), Fail> {
-    let alloc = rt.alloc();
+// A story in a world in memory, alone, and in one in tables, among the others; how many connections it has.
+fn tell_story(rt: &impl Abort, alloc: Global, seed: u64) -> Result<usize, Fail> {
+    let lists = drawn_lists(alloc, seed)?;
+    let others = lists.among.len().saturating_sub(lists.alone.len());
+    assert_eq!(rt; others, 52, "{seed}");
+    match (in_memory(alloc), in_tables(alloc)) {
+        (Ok(mut first), Ok(mut second)) => {
+            Ok(expect_alike(rt, alloc, &mut first, &mut second, &lists))
+        }
+        _ => panic!(rt; "no office"),
+    }
+}
+
+// Many stories, of more than twelve connections in the mean.
+fn tell_stories(rt: &impl Abort, alloc: Global, first_seed: u64) -> Result<(), Fail> {
     let mut told = 0usize;
-    for seed in 0..TIMES {
-        let lists = drawn_lists(alloc, seed)?;
-        let mut first = in_memory(alloc)?;
-        let mut second = in_tables(alloc)?;
-        let count = expect_alike(&rt, alloc, &mut first, &mut second, &lists);
+    for i in 0..STORIES {
+        let count = tell_story(rt, alloc, first_seed.saturating_add(i))?;
         told = told.saturating_add(count);
     }
-    assert!(&rt; told > 1_000, "{told}");
+    assert!(rt; told > 3_000, "{told}");
     Ok(())
+}
+
+#[test]
+fn a_desk_is_told_one_thing_in_the_first_stories(rt: HostRuntime) -> Result<(), Fail> {
+    tell_stories(&rt, rt.alloc(), 0)
+}
+
+#[test]
+fn a_desk_is_told_one_thing_in_the_second_stories(rt: HostRuntime) -> Result<(), Fail> {
+    tell_stories(&rt, rt.alloc(), 250)
+}
+
+#[test]
+fn a_desk_is_told_one_thing_in_the_third_stories(rt: HostRuntime) -> Result<(), Fail> {
+    tell_stories(&rt, rt.alloc(), 500)
+}
+
+#[test]
+fn a_desk_is_told_one_thing_in_the_last_stories(rt: HostRuntime) -> Result<(), Fail> {
+    tell_stories(&rt, rt.alloc(), 750)
 }

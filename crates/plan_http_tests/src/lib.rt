@@ -15,5 +15,3 @@ mod limits;
 mod pieces;
 #[cfg(test)]
 mod responses;
-#[cfg(test)]
-mod serving;

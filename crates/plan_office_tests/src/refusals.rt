@@ -3,10 +3,11 @@
 //! answered as with ample memory.
 
 use crate::asking::{
-    NORTH_KEY, OFFICE_KEY, best, bind, body_of, bytes, chart, dates, days, import_project,
-    import_shop, list_codes, list_plans, new_office, open_desk, publish, remove, schedule,
-    set_calendar, set_key, set_lag,
+    NORTH_KEY, OFFICE_KEY, best, bind, body_of, chart, dates, days, import_project, import_shop,
+    list_codes, list_plans, new_office, open_desk, publish, remove, schedule, set_calendar,
+    set_key, set_lag,
 };
+use crate::calls::bytes;
 use crate::files::{SIX, TWO_BY_TWO};
 use plan_desk::{Call, MemBook, Office, Request};
 use std::alloc::{AllocError, Global};
