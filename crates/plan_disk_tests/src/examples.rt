@@ -3,6 +3,7 @@
 use crate::capacities::{CALENDARS, CAPACITIES};
 use crate::cuts::expect_cuts;
 use crate::desks::{DESKS, KEYS};
+use crate::full::expect_full;
 use crate::lags::LAGS;
 use crate::lengths::expect_lengths;
 use crate::losses::expect_losses;
@@ -11,6 +12,8 @@ use crate::searches::expect_apart;
 use crate::sending::expect_exchanges;
 use crate::wire::expect_wire;
 use plan_desk::{Book, Office};
+use plan_store::SqlBook;
+use sqlite::Alter;
 use std::alloc::Global;
 use std::process::Abort;
 use std::test::Fail;
@@ -29,6 +32,7 @@ fn expect_examples<B: Book>(
     expect_wire(rt, alloc, office)?;
     expect_lengths(rt, alloc, office)?;
     expect_cuts(rt, alloc, office)?;
+    expect_full(rt, alloc, office)?;
     expect_losses(rt, alloc, office)
 }
 
@@ -44,6 +48,15 @@ fn expect_all<B: Book + Drop>(
     }
 }
 
+// The same in an office in tables.
+fn expect_all_in_tables<S: Alter + Drop>(
+    rt: &impl Abort,
+    alloc: Global,
+    office: Option<Office<SqlBook<S>>>,
+) -> Result<(), Fail> {
+    expect_all(rt, alloc, office)
+}
+
 #[test]
 fn the_examples_hold_in_memory(rt: HostRuntime) -> Result<(), Fail> {
     expect_all(&rt, rt.alloc(), in_memory(rt.alloc()))
@@ -51,12 +64,12 @@ fn the_examples_hold_in_memory(rt: HostRuntime) -> Result<(), Fail> {
 
 #[test]
 fn the_examples_hold_in_tables(rt: HostRuntime) -> Result<(), Fail> {
-    expect_all(&rt, rt.alloc(), in_tables(rt.alloc()))
+    expect_all_in_tables(&rt, rt.alloc(), in_tables(rt.alloc()))
 }
 
 #[test]
 fn the_examples_hold_on_a_disk(rt: HostRuntime) -> Result<(), Fail> {
-    expect_all(&rt, rt.alloc(), on_disk(rt.alloc()))
+    expect_all_in_tables(&rt, rt.alloc(), on_disk(rt.alloc()))
 }
 
 // What another desk asks is unseen, in two offices that are made for it.
@@ -72,6 +85,16 @@ fn expect_unseen<B: Book + Drop>(
     }
 }
 
+// The same in two offices in tables.
+fn expect_unseen_in_tables<S: Alter + Drop>(
+    rt: &impl Abort,
+    alloc: Global,
+    alone: Option<Office<SqlBook<S>>>,
+    among: Option<Office<SqlBook<S>>>,
+) -> Result<(), Fail> {
+    expect_unseen(rt, alloc, alone, among)
+}
+
 #[test]
 fn what_another_desk_asked_is_unseen_in_memory(rt: HostRuntime) -> Result<(), Fail> {
     let alloc = rt.alloc();
@@ -81,11 +104,11 @@ fn what_another_desk_asked_is_unseen_in_memory(rt: HostRuntime) -> Result<(), Fa
 #[test]
 fn what_another_desk_asked_is_unseen_in_tables(rt: HostRuntime) -> Result<(), Fail> {
     let alloc = rt.alloc();
-    expect_unseen(&rt, alloc, in_tables(alloc), in_tables(alloc))
+    expect_unseen_in_tables(&rt, alloc, in_tables(alloc), in_tables(alloc))
 }
 
 #[test]
 fn what_another_desk_asked_is_unseen_on_a_disk(rt: HostRuntime) -> Result<(), Fail> {
     let alloc = rt.alloc();
-    expect_unseen(&rt, alloc, on_disk(alloc), on_disk(alloc))
+    expect_unseen_in_tables(&rt, alloc, on_disk(alloc), on_disk(alloc))
 }

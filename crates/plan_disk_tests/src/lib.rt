@@ -13,6 +13,8 @@ mod devices;
 #[cfg(test)]
 mod examples;
 #[cfg(test)]
+mod full;
+#[cfg(test)]
 mod lags;
 #[cfg(test)]
 mod lengths;
