@@ -7,8 +7,6 @@ mod floats;
 mod passes;
 mod successors;
 mod table;
-#[cfg(test)]
-mod tests;
 
 pub use floats::dates;
 pub use passes::tails;

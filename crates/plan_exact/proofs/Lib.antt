@@ -4,7 +4,6 @@ pub mod VisitLemmas
 pub mod StandingLemmas
 pub mod BestLemmas
 pub mod StepLemmas
-pub mod TableLemmas
 pub mod ShopTreeLemmas
 pub mod SolutionLemmas
 pub mod SpellingLemmas

@@ -3,7 +3,6 @@ pub mod Laws
 pub mod Visited
 pub mod Answers
 pub mod Explored
-pub mod TableTree
 pub mod ShopTrees
 pub mod Solutions
 pub mod ProjectTrees

@@ -187,6 +187,3 @@ impl Memo {
         Ok(())
     }
 }
-
-#[cfg(test)]
-mod tests;

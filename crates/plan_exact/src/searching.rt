@@ -6,9 +6,6 @@ ghost use Rattle.plan_exact.specs.Words.{IsWord};
 ghost use Rattle.plan_exact.specs.Answers.{outcome, outcome_of};
 ghost use Rattle.plan_exact.specs.Explored.{after_word, explored_from, children_explored, child_explored, outcome_so_far, standing_of, KeepsLists};
 
-#[cfg(test)]
-mod tests;
-
 use crate::{Answer, Branching, Kind};
 use std::alloc::{AllocError, Global};
 

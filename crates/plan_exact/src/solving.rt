@@ -90,6 +90,3 @@ pub fn solve_shop(alloc: Global, shop: &Shop, budget: u64) -> Result<Solved, Exa
     }
     Ok(searched(alloc, shop, budget)?)
 }
-
-#[cfg(test)]
-mod tests;

@@ -143,6 +143,3 @@ impl Network {
         self.arcs.set_lag(i, j, lag)
     }
 }
-
-#[cfg(test)]
-mod tests;

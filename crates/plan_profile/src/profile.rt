@@ -177,6 +177,3 @@ impl Profile {
         })
     }
 }
-
-#[cfg(test)]
-mod tests;

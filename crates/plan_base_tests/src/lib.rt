@@ -1,0 +1,16 @@
+//! Worked examples of the libraries at the base: networks, dates, profiles, the search of any tree, best
+//! schedules of shops, and what a memo keeps.
+#![tactic(auto)]
+
+#[cfg(test)]
+mod dates;
+#[cfg(test)]
+mod memos;
+#[cfg(test)]
+mod networks;
+#[cfg(test)]
+mod profiles;
+#[cfg(test)]
+mod searches;
+#[cfg(test)]
+mod shops;

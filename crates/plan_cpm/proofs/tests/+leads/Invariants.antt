@@ -1,4 +1,0 @@
-use Rattle.plan_cpm.proofs.tests.+leads.Given as goal
-
-abbrev pub decreases-leads : goal.decreases-leads
-decreases-leads l = l.steps
