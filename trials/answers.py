@@ -9,14 +9,24 @@ EXAMPLES = os.path.join(TOP, "examples")
 BUILT = os.path.join(TOP, "crates", "plan", "out", "plan")
 PROGRAM = os.path.abspath(os.environ.get("PLAN_PROGRAM") or BUILT)
 
+MOST_SHOWN = 1000
+
 
 class Wrong(Exception):
     """Something differs from what it should be."""
 
 
+def shown(value, other):
+    """How a value is written; of a long one the part about the first difference from another."""
+    text = repr(value)
+    begin = max(0, len(os.path.commonprefix([text, repr(other)])) - MOST_SHOWN // 2)
+    return text if len(text) <= MOST_SHOWN else ".." + text[begin : begin + MOST_SHOWN] + ".."
+
+
 def same(what, found, wanted):
     if found != wanted:
-        raise Wrong(f"{what}\n  gave    {found!r}\n  and not {wanted!r}")
+        differing = f"gave    {shown(found, wanted)}\n  and not {shown(wanted, found)}"
+        raise Wrong(f"{what}\n  {differing}")
 
 
 def plan(folder, *words, given=b""):

@@ -57,8 +57,13 @@ class Block:
     def add(self, line):
         """Takes a line that begins with a bar or a mark."""
         if line[1:2] not in ("", " "):
-            raise Wrong(f"no blank behind the first character: {line}")
+            raise Wrong(f"below `{self.line}` there is no blank in {line}")
         (self.printed if line[0] == "|" else self.told).append(line[2:])
+
+    def refuse_lines(self):
+        """That there are no lines below the block, which doesn't take any."""
+        if self.printed or self.told:
+            raise ValueError("no lines are wanted below it")
 
     def output(self):
         return "".join(line + "\n" for line in self.printed).encode()
@@ -66,7 +71,7 @@ class Block:
     def wanted(self):
         """The status and both outputs that the block wants of its command."""
         if len(self.told) > 1 or self.told and self.printed:
-            raise Wrong(f"{self.line}: more than one line for a fault")
+            raise ValueError("more than one line is wanted of a fault")
         if self.told:
             return 1, b"", self.told[0].encode() + b"\n"
         return 0, self.output(), b""
@@ -93,7 +98,7 @@ def changed(content, number, line):
     """A content with another line in the place of one."""
     lines = content.split(b"\n")
     if not 1 <= number < len(lines):
-        raise Wrong(f"there is no line {number}")
+        raise ValueError(f"there is no line {number}")
     lines[number - 1] = line
     return b"\n".join(lines)
 
@@ -105,29 +110,37 @@ class Trial:
         self.name, self.folder, self.changes, self.count = name, folder, [], 0
 
     def take(self, block):
-        """Does what a block says."""
+        """Does what a block says, and names it where something is wrong."""
+        place = f"trials/commands/{self.name}.trial, line {block.number}: {block.line}"
+        try:
+            self.do(block, place)
+        except (OSError, SyntaxError, ValueError) as problem:
+            raise Wrong(f"{place}: {problem}") from None
+
+    def do(self, block, place):
+        """Writes a file, keeps a change, or gives a command."""
         if match := COMMAND.fullmatch(block.line):
-            self.run(block, shlex.split(match[1]))
+            self.run(block, place, shlex.split(match[1]))
         elif match := CHANGE.fullmatch(block.line):
+            block.refuse_lines()
             self.changes.append((match[1], int(match[2]), quoted(match[3])))
         elif match := OTHER_FILE.fullmatch(block.line):
+            block.refuse_lines()
             content = content_of(self.folder, match[2])
             written(self.folder, match[1], changed(content, int(match[3]), quoted(match[4])))
         elif match := PLAIN_FILE.fullmatch(block.line):
             written(self.folder, match[1], self.plain(block, *match.groups()))
         else:
-            raise Wrong(f"{self.place(block)} isn't understood")
-
-    def place(self, block):
-        return f"trials/commands/{self.name}.trial, line {block.number}: {block.line}"
+            raise ValueError("that isn't understood")
 
     def plain(self, block, name, text):
         """The content of a file that is named, stands below its name, or behind it."""
-        if text:
-            return quoted(text)
-        return block.output() or content_of(EXAMPLES, name)
+        if text or not block.printed:
+            block.refuse_lines()
+            return quoted(text) if text else content_of(EXAMPLES, name)
+        return block.wanted()[1]
 
-    def run(self, block, words):
+    def run(self, block, place, words):
         """Gives a command, between the changes that are made for it, and compares the answer."""
         given = b""
         kept = [(name, content_of(self.folder, name)) for name, _, _ in self.changes]
@@ -135,7 +148,7 @@ class Trial:
             written(self.folder, name, changed(content_of(self.folder, name), number, line))
         if "<" in words:
             words, given = words[:-2], content_of(self.folder, words[-1])
-        same(self.place(block), plan(self.folder, *words, given=given), block.wanted())
+        same(place, plan(self.folder, *words, given=given), block.wanted())
         self.restore(kept)
         self.count += 1
 
