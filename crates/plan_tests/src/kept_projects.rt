@@ -1,7 +1,6 @@
 //! What a memo answers where it is asked for projects that differ in one thing, and for a shop
 //! between them.
 
-use crate::best_projects::FIVE;
 use plan_exact::{Kind, Memo};
 use plan_orlib::read_shop;
 use plan_psplib::{ProjectDoc, read_sm};
@@ -10,6 +9,31 @@ use plan_shop::Shop;
 use std::alloc::Global;
 use std::process::Abort;
 use std::test::Fail;
+
+/// Three activities that last 1, 1 and 2 between two that last no time, two of them at a time.
+pub const FIVE: &str = "projects: 1
+jobs: 5
+- renewable: 1
+- nonrenewable: 0
+- doubly constrained: 0
+PRECEDENCE RELATIONS:
+jobnr. #modes #successors successors
+1 1 3 2 3 4
+2 1 1 5
+3 1 1 5
+4 1 1 5
+5 1 0
+REQUESTS/DURATIONS:
+jobnr. mode duration R
+1 1 0 0
+2 1 1 1
+3 1 1 1
+4 1 2 1
+5 1 0 0
+RESOURCEAVAILABILITIES:
+R
+2
+";
 
 // A capacity, the lag between activities 2 and 5, and a budget; whether the answer is optimal, its
 // makespan, and how many answers are kept then. With one at a time the work takes 4; with a lag of

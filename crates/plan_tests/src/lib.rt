@@ -1,38 +1,23 @@
-//! Worked examples of plan_sgs, plan_gantt and plan_cli, and of crates together: files that aren't
-//! there, devices that fail, each fault on its way to its line, schedules of projects by each rule and
-//! by a list, verdicts, best schedules of projects, tables, charts and calendars; and calls whose
-//! allocations are refused.
+//! Worked examples of crates together that no command on files shows: devices that fail, faults that
+//! no file reaches, schedules by a list and with a lag, closed machines, words and verdicts of job
+//! shops, answers that are kept; and calls whose allocations are refused.
 #![tactic(auto)]
 
 #[cfg(test)]
-mod best_projects;
-#[cfg(test)]
 mod calendars;
-#[cfg(test)]
-mod charts;
-#[cfg(test)]
-mod commands;
 #[cfg(test)]
 mod devices;
 #[cfg(test)]
 mod fault_lines;
 #[cfg(test)]
-mod faults;
-#[cfg(test)]
-mod files;
+mod job_shops;
 #[cfg(test)]
 mod kept_projects;
 #[cfg(test)]
-mod reading;
-#[cfg(test)]
 mod refusals;
-#[cfg(test)]
-mod schedules;
 #[cfg(test)]
 mod serial;
 #[cfg(test)]
+mod shop_verdicts;
+#[cfg(test)]
 mod six;
-#[cfg(test)]
-mod texts;
-#[cfg(test)]
-mod verdicts;

@@ -1,7 +1,7 @@
 //! Public calls that allocate, each made twice. With ample memory both answers are the known one. Where one allocation is refused
 //! (`refusals/run` refuses each in turn) the first may be want of memory, and then nothing is left of it: the second is the known one.
 
-use crate::best_projects::FIVE;
+use crate::kept_projects::FIVE;
 use crate::six::SIX;
 use plan_cpm::{dates, tails, total_successors};
 use plan_exact::{

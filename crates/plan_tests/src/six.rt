@@ -55,24 +55,18 @@ pub const SIX_DATES: &str = " act       d      ES      EF      LS      LF      T
 T 7
 ";
 
-/// The first lines of a text, with another in the place of one of them.
-pub fn changed(
-    rt: &HostRuntime,
-    text: &str,
-    number: usize,
-    other: &str,
-    count: usize,
-) -> Result<Vec<u8>, Fail> {
+/// The six activities, where activity 5 lasts 5.
+pub fn longer(rt: &HostRuntime) -> Result<Vec<u8>, Fail> {
     let mut file = Vec::new(rt.alloc());
-    for (i, line) in text.lines().take(count).enumerate() {
-        let chosen = if i + 1 == number { other } else { line };
+    for (i, line) in SIX.lines().enumerate() {
+        // the row of activity 5 is line 33
+        let chosen = if i == 32 {
+            "  5      1     5       1"
+        } else {
+            line
+        };
         file.extend_from_slice(chosen.as_bytes())?;
         file.push(b'\n')?;
     }
     Ok(file)
-}
-
-/// The same, where activity 5 lasts 5.
-pub fn longer(rt: &HostRuntime) -> Result<Vec<u8>, Fail> {
-    changed(rt, SIX, 33, "  5      1     5       1", 39)
 }

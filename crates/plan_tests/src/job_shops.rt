@@ -1,4 +1,4 @@
-//! Worked examples of small job shops: schedules by rules, closed machines, words.
+//! Worked examples of small job shops: closed machines, and words.
 
 use plan_orlib::{ShopDoc, read_shop};
 use plan_shop::{Shop, ShopFault, ShopRule, ShopTree, giffler};
@@ -20,36 +20,6 @@ fn rule_of(rt: &impl Abort, word: &str) -> ShopRule {
         Ok(rule) => rule,
         Err(_) => panic!(rt; "{word} is no rule"),
     }
-}
-
-// Two jobs on two machines, with the starts in flat order and the makespan of each rule.
-const BY_RULE: [(&str, &str, [u64; 4], u64); 7] = [
-    ("2 2\n0 3 1 2\n0 2 1 4\n", "spt", [2, 5, 0, 7], 11),
-    ("2 2\n0 3 1 2\n0 2 1 4\n", "mwkr", [2, 6, 0, 2], 8),
-    ("2 2\n0 3 1 2\n0 2 1 4\n", "fcfs", [0, 3, 3, 5], 9),
-    ("2 2\n0 4 1 1\n0 1 1 3\n", "mwkr", [0, 4, 4, 5], 8),
-    ("2 2\n0 4 1 2\n1 1 0 0\n", "spt", [0, 4, 0, 1], 6),
-    ("2 2\n0 4 1 2\n1 1 0 0\n", "mwkr", [0, 4, 0, 1], 6),
-    ("2 2\n0 4 1 2\n1 1 0 0\n", "fcfs", [0, 4, 0, 1], 6),
-];
-
-#[test]
-fn places_by_each_rule(rt: HostRuntime) -> Result<(), Fail> {
-    for (text, word, starts, makespan) in BY_RULE {
-        let doc = doc_of(&rt, rt.alloc(), text);
-        if doc.machines() == 2 {
-            let shop = Shop::of_doc(rt.alloc(), &doc, &[true, true])?;
-            let found = giffler(rt.alloc(), &shop, rule_of(&rt, word))?;
-            assert_eq!(rt;
-                found.starts.as_slice(),
-                starts.as_slice(),
-                "{word} of {text}"
-            );
-            assert_eq!(rt; found.makespan, makespan, "{word} of {text}");
-        }
-    }
-    assert!(rt; matches!(ShopRule::parse("zzz"), Err(ShopFault::UnknownRule)));
-    Ok(())
 }
 
 #[test]
