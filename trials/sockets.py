@@ -1,0 +1,136 @@
+"""What only a socket shows: responses that come at once, clients that go away, and such that have sent before they are served."""
+
+import os
+import socket
+import time
+
+import longer
+from exchanges import refusal
+from programs import DONE, Wrong, connect, init, received, rows, same, serving, talk
+from story import answered, named, told, written
+
+LOST = "lost-key-1"
+RESET = b"\1\0\0\0\0\0\0\0"
+
+
+def office(room, story):
+    """A file with an office in which a story has happened."""
+    database = os.path.join(room, "office.db")
+    init(database)
+    if story:
+        answered(story, database, written(story, room))
+    return database
+
+
+# ---- at once
+
+HEADS = [
+    (b"GET\x01 and so on", refusal(400, "H1 message")),
+    (b"GET /a HTTP/2.0\r\n\r\n", refusal(400, "H1 message")),
+    (b"GET /a HTTP/1.1\r\n\r\nmore", refusal(400, "H1 message")),
+    (b"PUT / HTTP/1.0\r\nContent-Length: x\r\n\r\nmore", refusal(400, "H1 message")),
+    (b"PUT / HTTP/1.0\r\nContent-Length: 1048577\r\n\r\nmore", refusal(413, "H2 too large")),
+    (b"PUT / HTTP/1.0\r\nTransfer-Encoding: a\r\n\r\nmore", refusal(501, "H3 coding")),
+    (b"GET /desks/north/plans HTTP/1.0\r\n\r\nNEXT", refusal(403, "E01 key")),
+    (b"POST /office/desks HTTP/1.0\r\nContent-Length: 4\r\n\r\n1234NEXT", refusal(403, "E01 key")),
+]
+
+
+def try_at_once(room):
+    """A bad head is answered at once, and a request when it is whole: while the client still holds its side open."""
+    with serving(office(room, [])) as server:
+        for sent, wanted in HEADS:
+            with connect(server.port) as connection:
+                connection.sendall(sent)
+                same(f"the response to {sent!r}", received(connection), wanted)
+
+
+# ---- clients that go away
+
+
+def importing():
+    """The import that is lost."""
+    return longer.asked("POST /desks/lost/projects", LOST, longer.SIX, 201, longer.imported(1)).request()
+
+
+def listing(numbers):
+    """The list of the plans that are left."""
+    return longer.asked("GET /desks/lost/plans", LOST, "", 200, longer.listing(numbers))
+
+
+def expected(port, exchange):
+    """The exchange is made."""
+    same(f"{exchange.method} {exchange.path}", talk(port, exchange.request()), exchange.expected())
+
+
+def go_away(port, sent):
+    """A client that sends some bytes and breaks off."""
+    with connect(port) as connection:
+        connection.setsockopt(socket.SOL_SOCKET, socket.SO_LINGER, RESET)
+        connection.sendall(sent)
+
+
+def try_broken_off(room):
+    """Imports that break off after each of their bytes: the desk has no plan."""
+    whole = importing()
+    with serving(office(room, [longer.opening("lost", LOST)])) as server:
+        for length in range(len(whole)):
+            go_away(server.port, whole[:length])
+        expected(server.port, listing([]))
+
+
+def plans(database, room):
+    """How many plans the tables have."""
+    return sum(row.startswith("plans|") for row in rows(database, room))
+
+
+def lose_response(server, database, room):
+    """A client that sends an import and goes away without its response, once the plan is in the tables."""
+    deadline = time.monotonic() + 20
+    with connect(server.port) as connection:
+        connection.setsockopt(socket.SOL_SOCKET, socket.SO_LINGER, RESET)
+        connection.sendall(importing())
+        while not plans(database, room):
+            if time.monotonic() > deadline:
+                raise Wrong("an import isn't in the tables")
+
+
+def try_lost_responses(room):
+    """A command whose response is lost stands; whoever lost it imports again, and both plans are listed."""
+    database, key = office(room, [longer.opening("lost", LOST)]), LOST
+    with serving(database) as server:
+        for n in range(1, 11):
+            lose_response(server, database, room)
+            expected(server.port, listing([n]))
+            expected(server.port, longer.asked(f"DELETE /desks/lost/plans/{n}", key, "", 200, f'{{"n":{n}}}\n'))
+        lose_response(server, database, room)
+        again = longer.asked("POST /desks/lost/projects", key, longer.SIX, 201, longer.imported(12))
+        expected(server.port, again)
+        expected(server.port, listing([11, 12]))
+
+
+# ---- among others
+
+
+def try_sent_before(room):
+    """Two clients that have both sent before the first is served read their responses after; then the server ends."""
+    opening, listed = told("opening")[:2]
+    with serving(office(room, []), 2) as server:
+        with connect(server.port) as first, connect(server.port) as second:
+            second.sendall(listed.request())
+            first.sendall(opening.request())
+            same(named(1, opening), received(first), opening.expected())
+            same(named(2, listed), received(second), listed.expected())
+        same("a server that has served all", server.end(), DONE)
+
+
+def try_visits(room):
+    """Five clients, of which one breaks off before it sends, one within its request and one before it reads; two are answered."""
+    opening, listed, exists, _ = told("opening")
+    database = office(room, [opening])
+    with serving(database, 5) as server:
+        for sent in (b"", b"POST /office/desks HTTP/1.0\r\nDesk-Key: off", listed.request()):
+            go_away(server.port, sent)
+        expected(server.port, exists)
+        expected(server.port, listed)
+        same("a server that has served all", server.end(), DONE)

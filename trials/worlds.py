@@ -1,0 +1,125 @@
+"""Two worlds: what a desk is told in an office with others is what it is told in an office of its own, to the byte, in each story
+and for each desk in it."""
+
+import json
+import os
+
+import longer
+import story as stories
+from exchanges import OFFICE_KEY, Exchange, Tables, digest, refusal, response
+from programs import Wrong, init, rows, same
+from story import answered, moved, written
+
+
+def all_stories():
+    """The stories that stand in files, and the longer ones, by their names."""
+    found = {name: stories.told(name) for name in stories.names()}
+    found.update(longer.stories())
+    return found
+
+
+def is_request(exchange):
+    """Its bytes spell a request, so that it was handled: no check of the connection is told."""
+    return exchange.method in ("GET", "POST", "DELETE") and b"\r\n\r\nH" not in exchange.expected()
+
+
+def opened_desk(exchange):
+    """The desk that the body of an opening names, if it names one."""
+    try:
+        return json.loads(exchange.body)["desk"]
+    except (ValueError, TypeError, KeyError):
+        return None
+
+
+def is_of_office(exchange, desk):
+    """It publishes, or opens the desk, or sets the desk's key."""
+    if exchange.path == "/office/desks":
+        return opened_desk(exchange) == desk
+    return exchange.path in ("/office/capacities", f"/office/desks/{desk}/key")
+
+
+def belongs(exchange, desk, tables):
+    """It is the desk's own, with the desk's key, or the office's about the desk, with the office's key."""
+    if not is_request(exchange) or exchange.key is None:
+        return False
+    if exchange.path.startswith("/office/"):
+        return exchange.key == OFFICE_KEY and is_of_office(exchange, desk)
+    is_key = desk in tables.desks and tables.desks[desk][0] == digest(exchange.key)
+    return exchange.path.startswith(f"/desks/{desk}/") and is_key
+
+
+def alone(story, desk):
+    """What belongs to a desk of a story."""
+    tables, own = Tables(), []
+    for exchange in story:
+        if belongs(exchange, desk, tables):
+            own.append(exchange)
+        moved(tables, exchange)
+    return own
+
+
+def desks_of(story):
+    """The desks that a story opens."""
+    tables = Tables()
+    for exchange in story:
+        moved(tables, exchange)
+    return list(tables.desks)
+
+
+def seen(lines, desk):
+    """The rows that a desk sees: the office's key, all codes, and its own."""
+    return [line for line in lines if line.startswith(("meta|", "published|")) or line.split("|")[1] == desk]
+
+
+def left(story, room, name):
+    """The rows that a story leaves in an office of its own, which answers it as it is told."""
+    database = os.path.join(room, name)
+    init(database)
+    answered(story, database, written(story, room))
+    return rows(database, room)
+
+
+def try_alone(room):
+    """Each desk of each story has an office of its own: it gets the same responses, and the same rows."""
+    for name, story in all_stories().items():
+        among = left(story, room, f"{name}.db")
+        for desk in desks_of(story):
+            own = alone(story, desk)
+            if not any(exchange.path.startswith("/desks/") for exchange in own):
+                continue
+            try:
+                same("the rows that it sees", left(own, room, f"{name}-{desk}.db"), seen(among, desk))
+            except Wrong as error:
+                raise Wrong(f"the desk {desk} of the story {name} alone: {error}") from None
+
+
+# ---- another desk between
+
+OPENING = b'{"desk":"stranger","key":"stranger-key"}'
+
+
+def strange(turn, desk):
+    """What another desk sends before a request: the office opens it, it imports a project, and asks for a removal."""
+    n = turn + 1
+    opened = response(201, "json", b'{"desk":"stranger"}\n') if turn == 0 else refusal(409, "E04 desk exists")
+    made = response(201, "json", longer.imported(n).encode()) if n <= 100 else refusal(409, "E08 100 plans")
+    return [
+        stories.tell(Exchange("POST", "/office/desks", OFFICE_KEY, OPENING), opened),
+        stories.tell(Exchange("POST", "/desks/stranger/projects", "stranger-key", longer.SIX.encode()), made),
+        stories.tell(Exchange("DELETE", f"/desks/{desk}/plans/1", "stranger-key"), refusal(403, "E01 key")),
+    ]
+
+
+def crowded(story, desk):
+    """A story with three requests of another desk before each of its own."""
+    return [exchange for turn, own in enumerate(story) for exchange in [*strange(turn, desk), own]]
+
+
+def try_crowded(room):
+    """Each story that stands in a file, with three requests of another desk before each of its own: the same responses."""
+    for name in stories.names():
+        story = stories.told(name)
+        for desk in desks_of(story)[:1]:
+            lines = left(crowded(story, desk), room, f"{name}.db")
+            others = [line for line in lines if line.split("|")[1] != "stranger"]
+            same(f"the rows of the story {name}", others, stories.rows_behind(story))
