@@ -42,7 +42,8 @@ class Exchange:
         self.raw, self.told, self.is_text = None, None, False
 
     def expected(self):
-        """The bytes of the response: those that are told, or what the status, the type and the answer make."""
+        """The bytes of the response: those that are told, or what the status, the type and the
+        answer make."""
         return self.told or response(self.status, self.kind, self.answer, self.allow)
 
     def is_accepted(self):
@@ -72,13 +73,15 @@ def values_of(name, fields):
 
 
 def raw_exchange(raw):
-    """An exchange whose request is these bytes, with the method, path, key and body that they spell, where they spell them."""
+    """An exchange whose request is these bytes, with the method, path, key and body that they spell,
+    where they spell them."""
     head, *behind = re.split(rb"\r?\n\r?\n", raw.lstrip(b"\r\n"), maxsplit=1)
     line, *fields = re.split("\r?\n", head.decode("latin-1"))
     method, path = line.split(" ")[:2] if line.count(" ") == 2 else ("", "")
     keys, lengths = values_of("desk-key", fields), values_of("content-length", fields)
     length = int(lengths[0]) if lengths and lengths[0].isdecimal() else 0
-    exchange = Exchange(method, path, keys[0] if len(keys) == 1 else None, b"".join(behind)[:length])
+    key = keys[0] if len(keys) == 1 else None
+    exchange = Exchange(method, path, key, b"".join(behind)[:length])
     exchange.raw = raw
     return exchange
 

@@ -1,4 +1,5 @@
-"""The program that is tried: how it is run on files and behind a socket, and the rows of its databases by the sqlite3 shell."""
+"""The program that is tried: how it is run on files and behind a socket, and the rows of its
+databases by the sqlite3 shell."""
 
 import contextlib
 import os
@@ -80,7 +81,8 @@ class Server:
         self.port = free_port()
         self.started = time.monotonic()
         words = [PROGRAM, "serve", database, str(self.port), str(count)]
-        self.process = subprocess.Popen(words, stdin=subprocess.DEVNULL, stdout=subprocess.PIPE, stderr=subprocess.PIPE, **more)
+        out = {"stdin": subprocess.DEVNULL, "stdout": subprocess.PIPE, "stderr": subprocess.PIPE}
+        self.process = subprocess.Popen(words, **out, **more)
 
     def url(self, path):
         return f"http://127.0.0.1:{self.port}{path}"
@@ -113,11 +115,18 @@ def copy(database, place):
             shutil.copyfile(database + end, place + end)
 
 
+def told_by_sqlite(database, text):
+    """What the sqlite3 shell tells of a text over a file."""
+    words = ["sqlite3", database]
+    return subprocess.run(words, input=text, capture_output=True, text=True, timeout=60)
+
+
 def rows(database, room):
-    """The rows of a database by the sqlite3 shell, of a copy, since a server keeps the file for itself."""
+    """The rows of a database by the sqlite3 shell, of a copy, since a server keeps the file for
+    itself."""
     copied = os.path.join(room, "copy.db")
     copy(database, copied)
-    shell = subprocess.run(["sqlite3", copied], input=DUMP, capture_output=True, text=True, timeout=60)
+    shell = told_by_sqlite(copied, DUMP)
     lines = shell.stdout.split("\n")
     same("sqlite3 on the file", (shell.stderr, lines[-2:]), ("", ["ok", ""]))
     return sorted(lines[:-2])
@@ -125,5 +134,4 @@ def rows(database, room):
 
 def sql(database, text):
     """Changes a file by the sqlite3 shell, and leaves no log behind."""
-    shell = subprocess.run(["sqlite3", database], input=text, capture_output=True, text=True, timeout=60)
-    same("sqlite3", shell.stderr, "")
+    same("sqlite3", told_by_sqlite(database, text).stderr, "")

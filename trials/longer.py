@@ -1,11 +1,13 @@
-"""Longer stories: loops over requests that would fill many files. What is expected is written here by hand, by formulas where a
-story repeats itself."""
+"""Longer stories: loops over requests that would fill many files. What is expected is written here
+by hand, by formulas where a story repeats itself."""
 
 import os
 
 from exchanges import OFFICE_KEY, Exchange, Tables, file_of, raw_exchange, refusal, response
 from programs import DONE, connect, fault, init, plan, rows, same, serving, talk
-from story import answered, by_replay, by_socket, moved, named, rows_behind, tell, try_story, written
+from story import (
+    answered, by_replay, by_socket, moved, named, rows_behind, tell, try_story, written,
+)
 
 SIX = file_of("trials/files/six.sm").decode()
 WHOLE = file_of("trials/files/whole.sm").decode()
@@ -38,7 +40,8 @@ def listing(numbers):
 
 
 def hundred():
-    """A desk imports a hundred plans, and no more, until one is removed; and its number isn't used again."""
+    """A desk imports a hundred plans, and no more, until one is removed, whose number isn't used
+    again."""
     send, key = "POST /desks/full/projects", "full-key-1"
     full = asked(send, key, SIX, 409, "E08 100 plans\n")
     imports = [asked(send, key, SIX, 201, imported(n)) for n in range(1, 101)]
@@ -63,10 +66,11 @@ def try_hundred(room):
 
 # ---- a file that is cut, or has another line
 
-# What is told of the file up to a line: from which number of lines on, which fault, and of which line where it isn't the last.
+# What is told of the file up to a line: from which number of lines on, which fault, and of which
+# line where it isn't the last.
 ENDS = [
-    (0, "F3", None), (11, "F5", None), (17, "F9", 17), (19, "F9", None), (24, "F5", None), (26, "F9", 26), (29, "F9", None),
-    (34, "F5", None), (36, "F9", 36),
+    (0, "F3", None), (11, "F5", None), (17, "F9", 17), (19, "F9", None), (24, "F5", None),
+    (26, "F9", 26), (29, "F9", None), (34, "F5", None), (36, "F9", 36),
 ]
 CHANGES = [
     (3, "initial value random\0generator: 1", "F2 line 3"),
@@ -121,20 +125,29 @@ def try_cut_files(room):
 
 def sent(head, body, wanted):
     """An exchange by the lines of its head, each with its end, and its body."""
-    return tell(raw_exchange("".join(line + "\r\n" for line in [*head, ""]).encode() + body), wanted)
+    lines = "".join(line + "\r\n" for line in [*head, ""])
+    return tell(raw_exchange(lines.encode() + body), wanted)
 
 
 def cut_requests():
-    """A removal and an opening, each cut after each of its bytes: no request, and nothing changes. Then both are whole."""
+    """A removal and an opening, each cut after each of its bytes: no request, and nothing changes.
+    Then both are whole."""
     removal = sent(
         ["DELETE /desks/north/plans/1 HTTP/1.0", "Desk-Key: north-key-1", "Content-Length: 3"],
         b"123", response(200, "json", b'{"n":1}\n'))
     body = b'{"desk":"south","key":"south-key-1"}'
-    head = ["POST /office/desks HTTP/1.1", "Host: a", f"Desk-Key: {OFFICE_KEY}", f"Content-Length: {len(body)}"]
+    head = ["POST /office/desks HTTP/1.1", "Host: a", f"Desk-Key: {OFFICE_KEY}"]
+    head.append(f"Content-Length: {len(body)}")
     opened = sent(head, body, response(201, "json", b'{"desk":"south"}\n'))
     cuts = [whole.raw[:length] for whole in (removal, opened) for length in range(len(whole.raw))]
-    story = [opening("north", "north-key-1"), asked("POST /desks/north/projects", "north-key-1", SIX, 201, imported(1))]
-    return [*story, *(tell(raw_exchange(cut), refusal(400, "H1 message")) for cut in cuts), removal, opened]
+    wrong = refusal(400, "H1 message")
+    return [
+        opening("north", "north-key-1"),
+        asked("POST /desks/north/projects", "north-key-1", SIX, 201, imported(1)),
+        *(tell(raw_exchange(cut), wrong) for cut in cuts),
+        removal,
+        opened,
+    ]
 
 
 def try_cut_requests(room):
@@ -176,7 +189,8 @@ def long_heads():
 
 def long_body(text, length, wanted, filling=()):
     """The import of a text with spaces behind it up to a length."""
-    head = ["POST /desks/long/projects HTTP/1.0", "Desk-Key: long-key-1", f"Content-Length: {length}", *filling]
+    head = ["POST /desks/long/projects HTTP/1.0", "Desk-Key: long-key-1"]
+    head += [f"Content-Length: {length}", *filling]
     return sent(head, text.encode().ljust(length), wanted)
 
 
@@ -252,16 +266,19 @@ def turns_of(desk, n):
 
 def rounds(first, last, turns=slice(None)):
     """Rounds from one to another of all desks, one desk after another, or some turns of them."""
-    return [turn for n in range(first, last + 1) for desk in DESKS for turn in turns_of(desk, n)[turns]]
+    starts = [(desk, n) for n in range(first, last + 1) for desk in DESKS]
+    return [turn for start in starts for turn in turns_of(*start)[turns]]
 
 
 def no_plans():
     """No desk has a plan."""
-    return [asked(f"GET /desks/{desk}/plans", f"the-key-of-{desk}", "", 200, listing([])) for desk in DESKS]
+    pairs = [(f"GET /desks/{desk}/plans", f"the-key-of-{desk}") for desk in DESKS]
+    return [asked(*pair, "", 200, listing([])) for pair in pairs]
 
 
 def long_list():
-    """Ten desks in fifty rounds, 3,511 requests, and one round more: three parts, between which the store is opened again."""
+    """Ten desks in fifty rounds, 3,511 requests, and one round more: three parts, between which the
+    store is opened again."""
     openings = [asked("POST /office/capacities", OFFICE_KEY, CODE, 200, CODE)]
     openings += [opening(desk, f"the-key-of-{desk}") for desk in DESKS]
     first, second = rounds(1, 25), rounds(26, 50)
@@ -284,17 +301,19 @@ def by_replays(parts, room):
 
 
 def by_servers(parts, room):
-    """The parts of a story, each by a server of its own; the rows are read after each 70 requests."""
+    """The parts of a story, each by a server of its own. The rows are read after each 70
+    requests."""
     database, tables = os.path.join(room, "servers.db"), Tables()
     init(database)
     for part in parts:
         with serving(database, len(part) + 1) as server:
             connect(server.port).close()
             for number, exchange in enumerate(part, 1):
-                same(named(number, exchange), talk(server.port, exchange.request()), exchange.expected())
+                what = named(number, exchange)
+                same(what, talk(server.port, exchange.request()), exchange.expected())
                 moved(tables, exchange)
                 if number % 70 == 0:
-                    same(f"the rows after {named(number, exchange)}", rows(database, room), tables.dump())
+                    same(f"the rows after {what}", rows(database, room), tables.dump())
             same("the end of a server that has served all", server.end(), DONE)
         same("the rows after a part of the list", rows(database, room), tables.dump())
     return database, tables
@@ -304,7 +323,8 @@ def try_long_list(room):
     """The long list; no office is made over the tables that it leaves."""
     by_replays(long_list(), room)
     database, tables = by_servers(long_list(), room)
-    same("plan init over them", plan("init", database, given=b"office-key-2\n"), fault("K1 not ours"))
+    over = plan("init", database, given=b"office-key-2\n")
+    same("plan init over them", over, fault("K1 not ours"))
     same("the rows after plan init over them", rows(database, room), tables.dump())
 
 
@@ -312,6 +332,9 @@ def stories():
     """All longer stories, by their names."""
     parts = long_list()
     return {
-        "hundred": hundred(), "cut_files": cut_files(), "cut_requests": cut_requests(), "lengths": lengths(),
+        "hundred": hundred(),
+        "cut_files": cut_files(),
+        "cut_requests": cut_requests(),
+        "lengths": lengths(),
         "long_list": [exchange for part in parts for exchange in part],
     }

@@ -1,4 +1,5 @@
-"""Offices that `plan init` makes out of texts of keys, and desks whose next number the sqlite3 shell has set."""
+"""Offices that `plan init` makes out of texts of keys, and desks whose next number the sqlite3
+shell has set."""
 
 import os
 
@@ -46,8 +47,9 @@ def try_no_keys(room):
     database, there = os.path.join(room, "new.db"), os.path.join(room, "there.db")
     init(there)
     for text in NO_KEYS:
-        same(f"plan init by {text!r}", plan("init", database, given=text.encode()), fault("K3 key"))
-        same(f"plan init over an office by {text!r}", plan("init", there, given=text.encode()), fault("K3 key"))
+        for place in (database, there):
+            made = plan("init", place, given=text.encode())
+            same(f"plan init {place} by {text!r}", made, fault("K3 key"))
     same("plan init over an office", plan("init", there, given=b"password"), fault("K1 not ours"))
     same("a file after a wrong key", os.path.exists(database), False)
     same("the rows of the office", rows(there, room), [f"meta|2|{digest(OFFICE_KEY)}"])
@@ -69,7 +71,8 @@ def rows_of(number):
 
 
 def last_numbers():
-    """A desk whose next number is 1,000,000 imports one plan more, then none; a number isn't used again."""
+    """A desk whose next number is 1,000,000 imports one plan more, then none. A number isn't used
+    again."""
     send, key, spent = "POST /desks/north/projects", "north-key-1", "E09 numbers spent\n"
     return [
         longer.asked(send, key, longer.SIX, 201, longer.imported(1000000)),
@@ -90,11 +93,13 @@ def try_last_number(room):
 
 
 def try_next_numbers(room):
-    """Numbers that a desk's next plan may get, and such that no office writes, of which nothing is opened."""
+    """Numbers that a desk's next plan may get; and such that no office writes: that store isn't
+    opened."""
     listing = [longer.asked("GET /desks/north/plans", "north-key-1", "", 200, longer.listing([]))]
     for number in (1, 1000001):
         answered(listing, with_next(room, number), written(listing, room))
     for number in (0, 1000002):
         database = with_next(room, number)
-        same(f"the next number {number}", plan("replay", database, *written(listing, room)), fault("K1 not ours"))
+        replayed = plan("replay", database, *written(listing, room))
+        same(f"the next number {number}", replayed, fault("K1 not ours"))
         same(f"the rows of {number}", rows(database, room), rows_of(number))

@@ -1,4 +1,5 @@
-"""What only a socket shows: responses that come at once, clients that go away, and such that have sent before they are served."""
+"""What only a socket shows: responses that come at once, clients that go away, and such that have
+sent before they are served."""
 
 import os
 import socket
@@ -37,7 +38,8 @@ HEADS = [
 
 
 def try_at_once(room):
-    """A bad head is answered at once, and a request when it is whole: while the client still holds its side open."""
+    """A bad head is answered at once, and a request when it is whole, while the client still holds
+    its side open."""
     with serving(office(room, [])) as server:
         for sent, wanted in HEADS:
             with connect(server.port) as connection:
@@ -50,7 +52,17 @@ def try_at_once(room):
 
 def importing():
     """The import that is lost."""
-    return longer.asked("POST /desks/lost/projects", LOST, longer.SIX, 201, longer.imported(1)).request()
+    return imported_as(1).request()
+
+
+def imported_as(n):
+    """The same, as the plan of a number."""
+    return longer.asked("POST /desks/lost/projects", LOST, longer.SIX, 201, longer.imported(n))
+
+
+def removed(n):
+    """The removal of a plan."""
+    return longer.asked(f"DELETE /desks/lost/plans/{n}", LOST, "", 200, f'{{"n":{n}}}\n')
 
 
 def listing(numbers):
@@ -85,7 +97,8 @@ def plans(database, room):
 
 
 def lose_response(server, database, room):
-    """A client that sends an import and goes away without its response, once the plan is in the tables."""
+    """A client that sends an import and, once the plan is in the tables, goes away without its
+    response."""
     deadline = time.monotonic() + 20
     with connect(server.port) as connection:
         connection.setsockopt(socket.SOL_SOCKET, socket.SO_LINGER, RESET)
@@ -96,16 +109,16 @@ def lose_response(server, database, room):
 
 
 def try_lost_responses(room):
-    """A command whose response is lost stands; whoever lost it imports again, and both plans are listed."""
-    database, key = office(room, [longer.opening("lost", LOST)]), LOST
+    """A command whose response is lost stands. Whoever lost it imports again, and both plans are
+    listed."""
+    database = office(room, [longer.opening("lost", LOST)])
     with serving(database) as server:
         for n in range(1, 11):
             lose_response(server, database, room)
             expected(server.port, listing([n]))
-            expected(server.port, longer.asked(f"DELETE /desks/lost/plans/{n}", key, "", 200, f'{{"n":{n}}}\n'))
+            expected(server.port, removed(n))
         lose_response(server, database, room)
-        again = longer.asked("POST /desks/lost/projects", key, longer.SIX, 201, longer.imported(12))
-        expected(server.port, again)
+        expected(server.port, imported_as(12))
         expected(server.port, listing([11, 12]))
 
 
@@ -113,7 +126,8 @@ def try_lost_responses(room):
 
 
 def try_sent_before(room):
-    """Two clients that have both sent before the first is served read their responses after; then the server ends."""
+    """Two clients that have both sent before the first is served read their responses after. Then
+    the server ends."""
     opening, listed = told("opening")[:2]
     with serving(office(room, []), 2) as server:
         with connect(server.port) as first, connect(server.port) as second:
@@ -125,7 +139,8 @@ def try_sent_before(room):
 
 
 def try_visits(room):
-    """Five clients, of which one breaks off before it sends, one within its request and one before it reads; two are answered."""
+    """Five clients, of which one breaks off before it sends, one within its request and one before
+    it reads. Two are answered."""
     opening, listed, exists, _ = told("opening")
     database = office(room, [opening])
     with serving(database, 5) as server:

@@ -1,4 +1,5 @@
-"""Stories: requests and the responses to the byte, each told to the program by files, by a socket and one at a time."""
+"""Stories: requests and the responses to the byte, each told to the program by files, by a socket
+and one at a time."""
 
 import os
 import re
@@ -99,7 +100,8 @@ def by_single_replays(story, room):
 
 
 def by_socket(story, room, stride=1):
-    """A story by `plan serve`, one connection a request, with all rows read by sqlite3 after each one, or each so many."""
+    """A story by `plan serve`, one connection a request, with all rows read by sqlite3 after each
+    one, or each so many."""
     database, tables = os.path.join(room, "serve.db"), Tables()
     init(database)
     with serving(database) as server:

@@ -1,12 +1,12 @@
-"""Two worlds: what a desk is told in an office with others is what it is told in an office of its own, to the byte, in each story
-and for each desk in it."""
+"""Two worlds: what a desk is told in an office with others is what it is told in an office of its
+own, to the byte, in each story and for each desk in it."""
 
 import json
 import os
 
 import longer
 import story as stories
-from exchanges import OFFICE_KEY, Exchange, Tables, digest, refusal, response
+from exchanges import OFFICE_KEY, Tables, digest, refusal
 from programs import Wrong, init, rows, same
 from story import answered, moved, written
 
@@ -39,7 +39,8 @@ def is_of_office(exchange, desk):
 
 
 def belongs(exchange, desk, tables):
-    """It is the desk's own, with the desk's key, or the office's about the desk, with the office's key."""
+    """It is on a path of the desk with the desk's key; or it is the office's about the desk, with
+    the office's key."""
     if not is_request(exchange) or exchange.key is None:
         return False
     if exchange.path.startswith("/office/"):
@@ -68,7 +69,9 @@ def desks_of(story):
 
 def seen(lines, desk):
     """The rows that a desk sees: the office's key, all codes, and its own."""
-    return [line for line in lines if line.startswith(("meta|", "published|")) or line.split("|")[1] == desk]
+    common = ("meta", "published")
+    parted = [(line, line.split("|")) for line in lines]
+    return [line for line, parts in parted if parts[0] in common or parts[1] == desk]
 
 
 def left(story, room, name):
@@ -80,7 +83,8 @@ def left(story, room, name):
 
 
 def try_alone(room):
-    """Each desk of each story has an office of its own: it gets the same responses, and the same rows."""
+    """Each desk of each story has an office of its own: it gets the same responses, and the same
+    rows."""
     for name, story in all_stories().items():
         among = left(story, room, f"{name}.db")
         for desk in desks_of(story):
@@ -88,26 +92,28 @@ def try_alone(room):
             if not any(exchange.path.startswith("/desks/") for exchange in own):
                 continue
             try:
-                same("the rows that it sees", left(own, room, f"{name}-{desk}.db"), seen(among, desk))
+                lines = left(own, room, f"{name}-{desk}.db")
+                same("the rows that it sees", lines, seen(among, desk))
             except Wrong as error:
                 raise Wrong(f"the desk {desk} of the story {name} alone: {error}") from None
 
 
 # ---- another desk between
 
-OPENING = b'{"desk":"stranger","key":"stranger-key"}'
+KEY = "stranger-key"
 
 
 def strange(turn, desk):
-    """What another desk sends before a request: the office opens it, it imports a project, and asks for a removal."""
-    n = turn + 1
-    opened = response(201, "json", b'{"desk":"stranger"}\n') if turn == 0 else refusal(409, "E04 desk exists")
-    made = response(201, "json", longer.imported(n).encode()) if n <= 100 else refusal(409, "E08 100 plans")
-    return [
-        stories.tell(Exchange("POST", "/office/desks", OFFICE_KEY, OPENING), opened),
-        stories.tell(Exchange("POST", "/desks/stranger/projects", "stranger-key", longer.SIX.encode()), made),
-        stories.tell(Exchange("DELETE", f"/desks/{desk}/plans/1", "stranger-key"), refusal(403, "E01 key")),
-    ]
+    """What another desk sends before a request: the office opens it, it imports a project, and asks
+    to remove a plan of the desk."""
+    opened, n = longer.opening("stranger", KEY), turn + 1
+    send, remove = "POST /desks/stranger/projects", f"DELETE /desks/{desk}/plans/1"
+    if turn:
+        stories.tell(opened, refusal(409, "E04 desk exists"))
+    made = longer.asked(send, KEY, longer.SIX, 201, longer.imported(n))
+    if n > 100:
+        stories.tell(made, refusal(409, "E08 100 plans"))
+    return [opened, made, longer.asked(remove, KEY, "", 403, "E01 key\n")]
 
 
 def crowded(story, desk):
@@ -116,7 +122,8 @@ def crowded(story, desk):
 
 
 def try_crowded(room):
-    """Each story that stands in a file, with three requests of another desk before each of its own: the same responses."""
+    """Each story that stands in a file, with three requests of another desk before each of its own,
+    gets the same responses."""
     for name in stories.names():
         story = stories.told(name)
         for desk in desks_of(story)[:1]:
