@@ -6,7 +6,8 @@ import os
 from exchanges import OFFICE_KEY, Exchange, Tables, file_of, raw_exchange, refusal, response
 from programs import DONE, connect, fault, init, plan, rows, same, serving, talk
 from story import (
-    answered, by_replay, by_socket, moved, named, rows_behind, tell, try_story, written,
+    answered, by_replay, by_socket, moved, named, rows_behind, same_rows, tell, told, try_story,
+    written,
 )
 
 SIX = file_of("trials/files/six.sm").decode()
@@ -176,15 +177,20 @@ def head_of(length):
     return [*LONG_HEAD, "X: " + "x" * (length - start)]
 
 
+def many_fields():
+    """Heads of 63, 64 and 65 fields."""
+    none, wrong = response(200, "json", b'{"plans":[]}\n'), refusal(400, "H1 message")
+    for others, wanted in [(62, none), (63, none), (64, wrong)]:
+        yield sent(LONG_HEAD + ["A: b"] * others, b"", wanted)
+
+
 def long_heads():
-    """Heads of 8,191, 8,192 and 8,193 bytes, and of 63, 64 and 65 fields."""
+    """Heads of 8,191, 8,192 and 8,193 bytes."""
     none, wrong = response(200, "json", b'{"plans":[]}\n'), refusal(400, "H1 message")
     for length, wanted in [(8191, none), (8192, none), (8193, wrong)]:
         exchange = sent(head_of(length), b"", wanted)
         same("the length of a head", len(exchange.raw), length)
         yield exchange
-    for others, wanted in [(62, none), (63, none), (64, wrong)]:
-        yield sent(LONG_HEAD + ["A: b"] * others, b"", wanted)
 
 
 def long_body(text, length, wanted, filling=()):
@@ -209,6 +215,7 @@ def lengths():
     return [
         opening("long", "long-key-1"),
         *long_heads(),
+        *many_fields(),
         long_body("", 1048576, none),
         long_body(SIX, 1048576, first),
         long_body(SIX, 1048577, refusal(413, "H2 too large")),
@@ -297,25 +304,29 @@ def by_replays(parts, room):
     for part in parts:
         answered(part, database, written(part, room))
         before += part
-        same("the rows after a part of the list", rows(database, room), rows_behind(before))
+        same_rows("the rows after a part of the list", rows(database, room), rows_behind(before))
+
+
+def by_server(part, database, tables, room):
+    """A part of a story by a server of its own. The rows are read after each 70 requests."""
+    with serving(database, len(part) + 1) as server:
+        connect(server.port).close()
+        for number, exchange in enumerate(part, 1):
+            what = named(number, exchange)
+            same(what, talk(server.port, exchange.request()), exchange.expected())
+            moved(tables, exchange)
+            if number % 70 == 0:
+                same_rows(f"the rows after {what}", rows(database, room), tables.dump())
+        same("the end of a server that has served all", server.end(), DONE)
 
 
 def by_servers(parts, room):
-    """The parts of a story, each by a server of its own. The rows are read after each 70
-    requests."""
+    """The parts of a story, each by a server of its own; the database, and its rows."""
     database, tables = os.path.join(room, "servers.db"), Tables()
     init(database)
     for part in parts:
-        with serving(database, len(part) + 1) as server:
-            connect(server.port).close()
-            for number, exchange in enumerate(part, 1):
-                what = named(number, exchange)
-                same(what, talk(server.port, exchange.request()), exchange.expected())
-                moved(tables, exchange)
-                if number % 70 == 0:
-                    same(f"the rows after {what}", rows(database, room), tables.dump())
-            same("the end of a server that has served all", server.end(), DONE)
-        same("the rows after a part of the list", rows(database, room), tables.dump())
+        by_server(part, database, tables, room)
+        same_rows("the rows after a part of the list", rows(database, room), tables.dump())
     return database, tables
 
 
@@ -325,7 +336,25 @@ def try_long_list(room):
     database, tables = by_servers(long_list(), room)
     over = plan("init", database, given=b"office-key-2\n")
     same("plan init over them", over, fault("K1 not ours"))
-    same("the rows after plan init over them", rows(database, room), tables.dump())
+    same_rows("the rows after plan init over them", rows(database, room), tables.dump())
+
+
+# ---- all in one office
+
+# How many requests of the story `wire` open its office.
+WIRE = 7
+
+
+def together():
+    """Stories of eight desks, one behind another in one office."""
+    first = told("desks") + told("capacities") + told("lags") + told("wire")[WIRE:]
+    return first + lengths() + cut_files() + hundred()
+
+
+def try_together(room):
+    """Stories of eight desks in one office."""
+    by_replay(together(), room)
+    by_socket(together(), room, 20)
 
 
 def stories():
@@ -336,5 +365,6 @@ def stories():
         "cut_files": cut_files(),
         "cut_requests": cut_requests(),
         "lengths": lengths(),
+        "together": together(),
         "long_list": [exchange for part in parts for exchange in part],
     }

@@ -49,6 +49,18 @@ def written(story, room):
     return paths
 
 
+def shown(lines, others):
+    """The rows that are among some and not among others, each cut to a line."""
+    return "".join(f"\n    {line[:200]}" for line in lines if line not in others) or " nothing"
+
+
+def same_rows(what, found, wanted):
+    """The rows of a database are the wanted ones."""
+    if found != wanted:
+        more, less = shown(found, wanted), shown(wanted, found)
+        raise Wrong(f"{what}\n  have too much:{more}\n  and lack:{less}")
+
+
 def moved(tables, exchange):
     """The rows behind an exchange."""
     if exchange.is_accepted():
@@ -87,7 +99,7 @@ def by_replay(story, room):
     database = os.path.join(room, "replay.db")
     init(database)
     answered(story, database, written(story, room))
-    same("plan replay: the rows at the end", rows(database, room), rows_behind(story))
+    same_rows("plan replay: the rows at the end", rows(database, room), rows_behind(story))
 
 
 def by_single_replays(story, room):
@@ -96,7 +108,7 @@ def by_single_replays(story, room):
     init(database)
     for number, (exchange, path) in enumerate(zip(story, written(story, room)), 1):
         same(named(number, exchange), plan("replay", database, path), (0, exchange.expected(), b""))
-    same("single replays: the rows at the end", rows(database, room), rows_behind(story))
+    same_rows("single replays: the rows at the end", rows(database, room), rows_behind(story))
 
 
 def by_socket(story, room, stride=1):
@@ -111,7 +123,7 @@ def by_socket(story, room, stride=1):
             same(what, talk(server.port, exchange.request()), exchange.expected())
             moved(tables, exchange)
             if number % stride == 0 or number == len(story):
-                same(f"the rows after {what}", rows(database, room), tables.dump())
+                same_rows(f"the rows after {what}", rows(database, room), tables.dump())
 
 
 def try_story(story, room):

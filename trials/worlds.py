@@ -7,8 +7,8 @@ import os
 import longer
 import story as stories
 from exchanges import OFFICE_KEY, Tables, digest, refusal
-from programs import Wrong, init, rows, same
-from story import answered, moved, written
+from programs import Wrong, init, rows
+from story import answered, moved, same_rows, written
 
 
 def all_stories():
@@ -82,20 +82,24 @@ def left(story, room, name):
     return rows(database, room)
 
 
+def each_alone(name, story, room):
+    """Each desk of a story that asks something has an office of its own."""
+    among = left(story, room, f"{name}.db")
+    for desk in desks_of(story):
+        own = alone(story, desk)
+        if any(exchange.path.startswith("/desks/") for exchange in own):
+            what = f"the rows that {desk} sees"
+            same_rows(what, left(own, room, f"{name}-{desk}.db"), seen(among, desk))
+
+
 def try_alone(room):
     """Each desk of each story has an office of its own: it gets the same responses, and the same
     rows."""
     for name, story in all_stories().items():
-        among = left(story, room, f"{name}.db")
-        for desk in desks_of(story):
-            own = alone(story, desk)
-            if not any(exchange.path.startswith("/desks/") for exchange in own):
-                continue
-            try:
-                lines = left(own, room, f"{name}-{desk}.db")
-                same("the rows that it sees", lines, seen(among, desk))
-            except Wrong as error:
-                raise Wrong(f"the desk {desk} of the story {name} alone: {error}") from None
+        try:
+            each_alone(name, story, room)
+        except Wrong as error:
+            raise Wrong(f"a desk of the story {name} alone: {error}") from None
 
 
 # ---- another desk between
@@ -126,7 +130,7 @@ def try_crowded(room):
     gets the same responses."""
     for name in stories.names():
         story = stories.told(name)
-        for desk in desks_of(story)[:1]:
-            lines = left(crowded(story, desk), room, f"{name}.db")
-            others = [line for line in lines if line.split("|")[1] != "stranger"]
-            same(f"the rows of the story {name}", others, stories.rows_behind(story))
+        desk = (desks_of(story) or ["north"])[0]
+        lines = left(crowded(story, desk), room, f"{name}.db")
+        others = [line for line in lines if line.split("|")[1] != "stranger"]
+        same_rows(f"the rows of the story {name}", others, stories.rows_behind(story))
