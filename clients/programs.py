@@ -117,8 +117,8 @@ def copy(database, place):
 
 def told_by_sqlite(database, text):
     """What the sqlite3 shell tells of a text over a file."""
-    words = ["sqlite3", database]
-    return subprocess.run(words, input=text, capture_output=True, text=True, timeout=60)
+    words, as_text = ["sqlite3", database], {"encoding": "utf-8", "errors": "surrogateescape"}
+    return subprocess.run(words, input=text, capture_output=True, timeout=60, **as_text)
 
 
 def rows(database, room):
