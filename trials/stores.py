@@ -1,5 +1,5 @@
-"""Stores that are there, as the sqlite3 shell has written them: opened, brought to the second version,
-or refused."""
+"""Stores that are there, as the sqlite3 shell has written them: opened, brought to the second
+version, or refused."""
 
 import os
 
@@ -44,7 +44,8 @@ STORY = LISTING + [
 
 
 def filled(room, change=""):
-    """A store with the rows, and a lag of 2 on an arc of the first project, that was then changed."""
+    """A store with the rows, and a lag of 2 on an arc of the first project, that was then
+    changed."""
     database = os.path.join(room, f"{len(os.listdir(room))}.db")
     same("plan init", plan("init", database, given=KEY.encode()), DONE)
     sql(database, ROWS + LAG + change)
@@ -136,10 +137,10 @@ LATER_DAYS = """ act       first        last
    1  2024-03-01  2024-03-05
    2  2024-03-07  2024-03-12
 """
+LATER_LAG = '{"from":1,"lag":1,"to":2}\n'
 FIRST_STORY = LISTING + [
     asked("GET /desks/north/plans/1/dates", FIRST_DATES),
-    asked(
-        "POST /desks/north/plans/1/lag", '{"from":1,"lag":1,"to":2}\n', '{"from":1,"to":2,"lag":1}'),
+    asked("POST /desks/north/plans/1/lag", LATER_LAG, '{"from":1,"to":2,"lag":1}'),
     asked("GET /desks/north/plans/1/dates", LATER_DATES),
     asked("GET /desks/north/plans/1/days/lft", LATER_DAYS),
 ]
