@@ -8,7 +8,7 @@ import time
 import longer
 from exchanges import refusal
 from programs import DONE, Wrong, connect, init, received, rows, same, serving, talk
-from story import answered, named, told, written
+from story import answered, named, rows_behind, same_rows, told, written
 
 LOST = "lost-key-1"
 RESET = b"\1\0\0\0\0\0\0\0"
@@ -45,6 +45,36 @@ def try_at_once(room):
             with connect(server.port) as connection:
                 connection.sendall(sent)
                 same(f"the response to {sent!r}", received(connection), wanted)
+
+
+# ---- one byte after another
+
+
+def talk_in_pieces(port, sent):
+    """The response to some bytes that are sent one after another."""
+    with connect(port) as connection:
+        connection.setsockopt(socket.IPPROTO_TCP, socket.TCP_NODELAY, 1)
+        for byte in sent:
+            connection.sendall(bytes([byte]))
+        connection.shutdown(socket.SHUT_WR)
+        return received(connection)
+
+
+def told_in_pieces(name, room):
+    """A story whose requests are sent one byte after another."""
+    story, database = told(name), os.path.join(room, f"{name}.db")
+    init(database)
+    with serving(database) as server:
+        for number, exchange in enumerate(story, 1):
+            what = f"{name} in pieces: {named(number, exchange)}"
+            same(what, talk_in_pieces(server.port, exchange.request()), exchange.expected())
+    same_rows("the rows at the end", rows(database, room), rows_behind(story))
+
+
+def try_in_pieces(room):
+    """Stories of connections, one byte after another."""
+    for name in ("checks", "targets", "wire"):
+        told_in_pieces(name, room)
 
 
 # ---- clients that go away
