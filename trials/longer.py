@@ -62,7 +62,7 @@ def hundred():
 def try_hundred(room):
     """A desk with a hundred plans."""
     by_replay(hundred(), room)
-    by_socket(hundred(), room, 10)
+    by_socket(hundred(), room)
 
 
 # ---- a file that is cut, or has another line
