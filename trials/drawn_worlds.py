@@ -4,12 +4,11 @@ foreseen."""
 
 import os
 import random
-import re
 import tempfile
 
 from exchanges import OFFICE_KEY, Exchange, file_of
 from programs import Wrong, init, plan, rows, same
-from story import named, rows_behind, same_rows, tell, written
+from story import named, parted, rows_behind, same_rows, tell, written
 from worlds import alone, left, seen
 
 LENGTH = 100
@@ -119,7 +118,7 @@ def answers(story, database, room):
     init(database)
     status, out, err = plan("replay", database, *written(story, room))
     same("plan replay: the status and the errors", (status, err), (0, b""))
-    responses = re.split(rb"(?=HTTP/1\.1 )", out)[1:]
+    responses = parted(out)
     same("the number of responses", len(responses), len(story))
     return [tell(exchange, response) for exchange, response in zip(story, responses)]
 

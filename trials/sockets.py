@@ -2,8 +2,8 @@
 sent before they are served."""
 
 import os
+import select
 import socket
-import time
 
 import longer
 from exchanges import refusal
@@ -121,33 +121,24 @@ def try_broken_off(room):
         expected(server.port, listing([]))
 
 
-def plans(database, room):
-    """How many plans the tables have."""
-    return sum(row.startswith("plans|") for row in rows(database, room))
-
-
-def lose_response(server, database, room):
-    """A client that sends an import and, once the plan is in the tables, goes away without its
-    response."""
-    deadline = time.monotonic() + 20
-    with connect(server.port) as connection:
+def lose_response(port):
+    """A client that sends an import and goes away without its response, once that has come."""
+    with connect(port) as connection:
         connection.setsockopt(socket.SOL_SOCKET, socket.SO_LINGER, RESET)
         connection.sendall(importing())
-        while not plans(database, room):
-            if time.monotonic() > deadline:
-                raise Wrong("an import isn't in the tables")
+        if not select.select([connection], [], [], 20)[0]:
+            raise Wrong("no response comes to an import")
 
 
 def try_lost_responses(room):
     """A command whose response is lost stands. Whoever lost it imports again, and both plans are
     listed."""
-    database = office(room, [longer.opening("lost", LOST)])
-    with serving(database) as server:
+    with serving(office(room, [longer.opening("lost", LOST)])) as server:
         for n in range(1, 11):
-            lose_response(server, database, room)
+            lose_response(server.port)
             expected(server.port, listing([n]))
             expected(server.port, removed(n))
-        lose_response(server, database, room)
+        lose_response(server.port)
         expected(server.port, imported_as(12))
         expected(server.port, listing([11, 12]))
 

@@ -15,12 +15,19 @@ def names():
     return sorted(os.listdir(STORIES))
 
 
+def parted(out):
+    """Responses that stand one behind another."""
+    front, *responses = re.split(rb"(?=HTTP/1\.1 )", out)
+    same("what stands in front of the first response", front, b"")
+    return responses
+
+
 def told(name):
     """The exchanges of a story, each with its whole response."""
     folder = os.path.join(STORIES, name)
     story = exchanges_in(os.path.join(folder, "requests"))
     with open(os.path.join(folder, "responses"), "rb") as file:
-        responses = re.split(rb"(?=HTTP/1\.1 )", file.read())[1:]
+        responses = parted(file.read())
     same("the number of responses", len(responses), len(story))
     for exchange, wanted in zip(story, responses):
         tell(exchange, wanted)
