@@ -4,6 +4,7 @@ office keeps after each accepted command, as a program of its own that shares no
 import hashlib
 import json
 import os
+import re
 
 HERE = os.path.dirname(os.path.abspath(__file__))
 TOP = os.path.dirname(HERE)
@@ -36,18 +37,24 @@ class Exchange:
 
     def __init__(self, method, path, key=None, body=b"", status=200, kind="json", answer=b"", allow=None):
         self.method, self.path, self.key, self.body = method, path, key, body
-        self.fields, self.has_host = [], True
+        self.fields, self.has_host, self.version = [], True, "1.1"
         self.status, self.kind, self.answer, self.allow = status, kind, answer, allow
+        self.raw, self.told, self.is_text = None, None, False
 
     def expected(self):
-        return response(self.status, self.kind, self.answer, self.allow)
+        """The bytes of the response: those that are told, or what the status, the type and the
+        answer make."""
+        return self.told or response(self.status, self.kind, self.answer, self.allow)
 
     def is_accepted(self):
         """It is a command, and was carried out."""
         return self.method != "GET" and self.status < 300
 
-    def request(self, version="1.1"):
+    def request(self, version=None):
         """The bytes of the request."""
+        if self.raw is not None:
+            return self.raw
+        version = version or self.version
         lines = [f"{self.method} {self.path} HTTP/{version}"]
         if self.has_host and version == "1.1":
             lines.append("Host: 127.0.0.1")
@@ -59,38 +66,81 @@ class Exchange:
         return "\r\n".join(lines + ["", ""]).encode() + self.body
 
 
+def values_of(name, fields):
+    """The values of the fields of a name."""
+    pairs = [field.partition(":") for field in fields]
+    return [value.strip(" \t") for found, _, value in pairs if found.lower() == name]
+
+
+def raw_exchange(raw):
+    """An exchange whose request is these bytes, with the method, path, key and body that they spell,
+    where they spell them."""
+    head, *behind = re.split(rb"\r?\n\r?\n", raw.lstrip(b"\r\n"), maxsplit=1)
+    line, *fields = re.split("\r?\n", head.decode("latin-1"))
+    method, path = line.split(" ")[:2] if line.count(" ") == 2 else ("", "")
+    keys, lengths = values_of("desk-key", fields), values_of("content-length", fields)
+    length = int(lengths[0]) if lengths and lengths[0].isdecimal() else 0
+    key = keys[0] if len(keys) == 1 else None
+    exchange = Exchange(method, path, key, b"".join(behind)[:length])
+    exchange.raw = raw
+    return exchange
+
+
+def escaped(text):
+    """Bytes that are written with escapes."""
+    return text.encode("ascii").decode("unicode_escape").encode("latin-1")
+
+
 def read_part(exchange, word, rest):
     """Takes one line of an exchange behind its first."""
-    if word == "key":
-        exchange.key = rest
+    if word in ("key", "version"):
+        setattr(exchange, word, rest)
     elif word == "field":
         exchange.fields.append(rest)
-    elif word == "body":
-        exchange.body = rest.encode()
-    elif word == "file":
-        with open(os.path.join(TOP, rest), "rb") as file:
-            exchange.body = file.read()
+    elif word == "|" and exchange.is_text:
+        exchange.body += rest.encode() + b"\n"
+    elif word == "|":
+        exchange.answer += rest.encode() + b"\n"
     elif word == "no":
         exchange.has_host = False
     elif word == "allow":
         exchange.allow = rest
-    elif word == "|":
-        exchange.answer += rest.encode() + b"\n"
+    elif word in BODIES:
+        exchange.body += BODIES[word](rest)
+        exchange.is_text = word == "text"
     else:
-        exchange.status, exchange.kind = int(word), rest
+        exchange.status, exchange.kind, exchange.is_text = int(word), rest, False
 
 
-def conversation():
-    """The exchanges of the file."""
+def file_of(name):
+    """The bytes of a file of the repository."""
+    with open(os.path.join(TOP, name), "rb") as file:
+        return file.read()
+
+
+BODIES = {"body": str.encode, "file": file_of, "text": str.encode}
+
+
+def exchanges_in(path):
+    """The exchanges that a file tells."""
     exchanges = []
-    with open(os.path.join(HERE, "conversation"), encoding="ascii") as file:
+    with open(path, encoding="ascii") as file:
         for line in file.read().split("\n"):
             word, _, rest = line.partition(" ")
             if word.isupper() and word.isalpha():
                 exchanges.append(Exchange(word, rest))
+            elif word == "bytes":
+                exchanges.append(raw_exchange(escaped(rest)))
+            elif word == "more":
+                exchanges[-1] = raw_exchange(exchanges[-1].raw + escaped(rest))
             elif line and word != "#":
                 read_part(exchanges[-1], word, rest)
     return exchanges
+
+
+def conversation():
+    """The exchanges of the file `conversation`."""
+    return exchanges_in(os.path.join(HERE, "conversation"))
 
 
 def digest(key):
