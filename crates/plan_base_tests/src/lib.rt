@@ -1,5 +1,5 @@
-//! Worked examples of the libraries at the base: networks, dates, profiles, the search of any tree, best
-//! schedules of shops, and what a memo keeps.
+//! Worked examples of the libraries at the base: networks, tails and successors, profiles, the search of any
+//! tree, and what a memo keeps.
 #![tactic(auto)]
 
 #[cfg(test)]
@@ -12,5 +12,3 @@ mod networks;
 mod profiles;
 #[cfg(test)]
 mod searches;
-#[cfg(test)]
-mod shops;
