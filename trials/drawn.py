@@ -4,6 +4,7 @@ same rows. Every run of one seed draws the same requests.
 
     trials/drawn.py                     says nothing where all is well
     trials/drawn.py --cases N --seed S  so many requests, drawn by this seed
+    trials/drawn.py --commands N        so many commands on files
     trials/drawn.py -v                  says how often each call and each answer came up
 
 Needs the sqlite3 shell, and the program that the gate has built (or that PLAN_PROGRAM names).
@@ -25,188 +26,21 @@ HERE = os.path.dirname(os.path.abspath(__file__))
 sys.path.insert(0, HERE)
 sys.path.insert(0, os.path.join(os.path.dirname(HERE), "clients"))
 
-import drawing
+from drawing import OFFICE_KEY, Draw, Requests, command
 from exchanges import DUMP, TOP
-from model import Office
-from model.messages import ROUTES, Refusal, Request
+from model import run
 
 PROGRAM = os.environ.get("PLAN_PROGRAM") or os.path.join(TOP, "crates", "plan", "out", "plan")
-OFFICE_KEY = "office-key-1"
+# A folder in memory, where there is one: on a disk most of the time goes into waiting for it.
+MEMORY = "/dev/shm" if os.path.isdir("/dev/shm") else None
 MOST_SLICE = 300
 SERVED = 0.1
-DESKS = ("north", "north-2", "east", "a", "0-west")
-CODES = ("crew-a", "crew-b", "crew-c", "press", "lathe", "saw")
-PLENTY = 12
-
-# How often each call is drawn.
-WEIGHTS = {
-    "publish": 9, "open": 1, "key": 2, "capacities": 2, "plans": 3, "project": 8, "shop": 6,
-    "remove": 4, "bind": 14, "calendar": 7, "lag": 8, "dates": 6, "schedule": 8, "chart": 7,
-    "days": 9, "best": 8,
-}
-
-
 class Differs(Exception):
     """The program and the model differ."""
 
 
 def differ(what, found, wanted):
     raise Differs(f"{what}\n  gave    {found!r}\n  and not {wanted!r}")
-
-
-class Requests:
-    """Draws requests for an office, which the model keeps."""
-
-    def __init__(self, seed):
-        self.draw = drawing.Draw(random.Random(seed))
-        self.office = Office(OFFICE_KEY.encode())
-        self.keys = {self.office.digest: OFFICE_KEY}
-        self.tally = collections.Counter()
-
-    def following(self):
-        """The bytes of the next request, and the response that the model gives."""
-        call = self.call()
-        path, body = getattr(self, "draw_" + call, self.draw_page)(call)
-        key = self.key(path)
-        form = drawing.faulty_request if self.draw.chance(0.06) else drawing.request
-        sent = form(self.draw, ROUTES[call][0], path, key, body)
-        wanted = self.office.answer(sent)
-        self.count(sent, wanted)
-        return sent, wanted
-
-    def call(self):
-        """A call; desks and codes come first, and where there are many plans one goes."""
-        if len(self.office.desks) < 3 and self.draw.chance(0.2):
-            return "open"
-        call = self.draw.random.choices(list(WEIGHTS), list(WEIGHTS.values()))[0]
-        is_import = call in ("project", "shop")
-        return "remove" if is_import and len(self.office.plans) > 5 * PLENTY else call
-
-    def count(self, sent, wanted):
-        """Counts the call and what it was answered."""
-        line = wanted.partition(b"\r\n\r\n")[2].partition(b"\n")[0].decode()
-        status = wanted[9:12].decode()
-        self.tally["status " + status] += 1
-        self.tally[line.split(" ")[0] if status >= "400" else "fine"] += 1
-        if status == "422":
-            self.tally[" ".join(line.split(" ")[:2])] += 1
-        try:
-            self.tally[Request(sent).call] += 1
-        except Refusal:
-            self.tally["no call"] += 1
-
-    # ---- parts of a request
-
-    def known_key(self):
-        """A new key, which is kept, so that it can be sent."""
-        key = f"key-{self.draw.number(10000, 99999)}"
-        self.keys[Office(key.encode()).digest] = key
-        return key
-
-    def desk(self):
-        """A desk, mostly one that is there."""
-        there = list(self.office.desks)
-        if not there or self.draw.chance(0.02):
-            return self.draw.pick((*DESKS, "nobody", "North", "-a", "x" * 40))
-        return self.draw.pick(there)
-
-    def key(self, path):
-        """The key that a path takes, now and then another or none."""
-        if self.draw.chance(0.03):
-            return self.draw.pick((None, "wrong-key-1", OFFICE_KEY, self.draw.pick(list(self.keys.values()))))
-        if path.startswith("/office"):
-            return OFFICE_KEY
-        row = self.office.desks.get(path.split("/")[2])
-        return "some-key-1" if row is None else self.keys.get(row[0], "some-key-1")
-
-    def plan(self, *kinds):
-        """The desk and the number of a plan, mostly one that is there, of these kinds."""
-        there = [own for own, plan in self.office.plans.items() if plan.kind in kinds]
-        if not there or self.draw.chance(0.03):
-            others = ("0", "1", "01", "999999", "1000000", "12345678", "x", "-1", "1.0")
-            return self.desk(), self.draw.pick(others)
-        return self.draw.pick(there)
-
-    def place(self, call, *kinds):
-        """The path of a call for a plan, and the plan; at times of another kind."""
-        kinds = ("project", "shop") if not kinds or self.draw.chance(0.05) else kinds
-        desk, n = self.plan(*kinds)
-        zero = "0" if self.draw.chance(0.01) else ""
-        return f"/desks/{desk}/plans/{zero}{n}/{call}", self.office.plans.get((desk, n))
-
-    def body(self, members):
-        form = drawing.spoiled_body if self.draw.chance(0.08) else drawing.spelled
-        return form(self.draw, members)
-
-    # ---- requests, by their calls
-
-    def draw_publish(self, call):
-        code = self.draw.pick(CODES)
-        kind = "crew" if code.startswith("crew") else "machine"
-        if self.draw.chance(0.05):
-            kind = self.draw.pick(("crew", "machine"))
-        capacity = self.draw.pick((0, 1, 1, 2, 2, 3, 4, 5, 10000))
-        return "/office/capacities", self.body({"code": code, "kind": kind, "capacity": capacity})
-
-    def draw_open(self, call):
-        return "/office/desks", self.body({"desk": self.draw.pick(DESKS), "key": self.known_key()})
-
-    def draw_key(self, call):
-        return f"/office/desks/{self.desk()}/key", self.body({"key": self.known_key()})
-
-    def draw_capacities(self, call):
-        return f"/desks/{self.desk()}/capacities", self.draw.pick((b"", b"", b"anything"))
-
-    def draw_plans(self, call):
-        return f"/desks/{self.desk()}/plans", b""
-
-    def draw_project(self, call):
-        return f"/desks/{self.desk()}/projects", drawing.project_text(self.draw)
-
-    def draw_shop(self, call):
-        text = drawing.shop_text(self.draw)
-        names = [line[9:] for line in text.decode("latin-1").split("\n") if "instance " in line]
-        name = self.draw.pick(names).strip() if names else "-"
-        name = name if name.isalnum() and self.draw.chance(0.9) else self.draw.pick("ab-x")
-        return f"/desks/{self.desk()}/shops/{name}", text
-
-    def draw_remove(self, call):
-        path, _ = self.place("")
-        return path[:-1], b""
-
-    def draw_bind(self, call):
-        path, plan = self.place(call)
-        kind = plan.takes() if plan else "crew"
-        codes = [code for code in self.office.published if self.office.published[code][0] == kind]
-        codes = codes if codes and self.draw.chance(0.93) else [*CODES, "unknown"]
-        least = 1 if kind == "crew" else 0
-        place = self.draw.number(least, least + 1) if self.draw.chance(0.95) else 17
-        return path, self.body({"place": place, "code": self.draw.pick(codes)})
-
-    def draw_calendar(self, call):
-        path, _ = self.place(call)
-        start = self.draw.pick(drawing.NO_STARTS if self.draw.chance(0.08) else drawing.STARTS)
-        days = self.draw.pick(drawing.NO_MARKS if self.draw.chance(0.08) else drawing.MARKS)
-        return path, self.body({"start": start, "days": days})
-
-    def draw_lag(self, call):
-        path, plan = self.place(call, "project")
-        arcs = plan.project().arcs if plan and plan.kind == "project" else []
-        source, target = self.draw.pick(arcs) if arcs else (1, 2)
-        if self.draw.chance(0.08):
-            source, target = self.draw.number(0, 8), self.draw.number(0, 8)
-        lag = self.draw.pick((0, 0, 1, 1, 2, 3, 5, 9, 10000))
-        return path, self.body({"from": source, "to": target, "lag": lag})
-
-    def draw_page(self, call):
-        path, plan = self.place(call, *(["project"] if call == "dates" else []))
-        if call == "dates":
-            return path, b""
-        own = drawing.BUDGETS if call == "best" else drawing.RULES
-        if self.draw.chance(0.85):
-            rules = drawing.RULES[:5] if not plan or plan.kind == "project" else ("spt", "mwkr", "fcfs")
-            own = drawing.BUDGETS[:6] if call == "best" else rules
-        return f"{path}/{self.draw.pick(own)}", b""
 
 
 class Store:
@@ -306,10 +140,16 @@ def compare_rows(seed, number, found, wanted):
         differ(f"seed {seed}, the rows after request {number}", *more)
 
 
+def tell(is_verbose, what, tally):
+    """Says what was tried, and how often each thing came up."""
+    if is_verbose:
+        print("\n".join([what, *(f"{count:8} {own}" for own, count in sorted(tally.items()))]))
+
+
 def try_drawn(cases=20000, seed=1, is_verbose=False):
     """Draws so many requests, and compares what comes of them."""
     drawn, done = Requests(seed), 0
-    with tempfile.TemporaryDirectory() as folder:
+    with tempfile.TemporaryDirectory(dir=MEMORY) as folder:
         store = Store(folder)
         while done < cases:
             size = min(drawn.draw.number(1, MOST_SLICE), cases - done)
@@ -319,19 +159,46 @@ def try_drawn(cases=20000, seed=1, is_verbose=False):
             compare(seed, done, exchanges, found)
             done += size
             compare_rows(seed, done, store.rows(), drawn.office.rows())
-    if is_verbose:
-        print(f"{done} requests by seed {seed}")
-        print("\n".join(f"{count:8} {what}" for what, count in sorted(drawn.tally.items())))
+    tell(is_verbose, f"{done} requests by seed {seed}", drawn.tally)
+
+
+def compare_command(what, folder, drawn):
+    """Runs a command on a text by standard input, and compares all that it gives."""
+    name, text, words, behind = drawn
+    wanted = run(name, text, *words, *behind)
+    if name == "check":
+        path = os.path.join(folder, "starts")
+        with open(path, "wb") as file:
+            file.write(behind[0])
+        behind = [path]
+    given = [PROGRAM, name, *words, "-", *behind]
+    done = subprocess.run(given, input=text, capture_output=True, timeout=300)
+    found = done.returncode, done.stdout, done.stderr
+    if found != wanted:
+        differ(f"{what}: {drawn[0]} {drawn[2:]} {text!r}", found, wanted)
+    return name, done.stderr.split(b" ")[0].decode() or "fine"
+
+
+def try_files(cases=600, seed=1, is_verbose=False):
+    """Draws so many commands on files, and compares what they print."""
+    draw, tally = Draw(random.Random(seed)), collections.Counter()
+    with tempfile.TemporaryDirectory(dir=MEMORY) as folder:
+        for number in range(1, cases + 1):
+            what = f"seed {seed}, command {number}"
+            tally.update(compare_command(what, folder, command(draw)))
+    tell(is_verbose, f"{cases} commands by seed {seed}", tally)
 
 
 def main():
     words = argparse.ArgumentParser(description="Tries drawn requests.")
     words.add_argument("--cases", type=int, default=20000)
+    words.add_argument("--commands", type=int, default=600)
     words.add_argument("--seed", type=int, default=1)
     words.add_argument("-v", action="store_true", dest="is_verbose")
     given = words.parse_args()
     try:
         try_drawn(given.cases, given.seed, given.is_verbose)
+        try_files(given.commands, given.seed, given.is_verbose)
     except Differs as difference:
         sys.exit(f"drawn: {difference}")
 

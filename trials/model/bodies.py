@@ -10,6 +10,7 @@ STRING = re.compile(r'"(?:[^"\\]|\\.)*"')
 MOST_LEVELS = 127
 MOST_CAPACITY = 10000
 MOST_LAG = 10000
+MOST_ACTIVITIES = 502
 
 
 class NoJson(ValueError):
@@ -58,6 +59,11 @@ def is_whole(value, most):
     return type(value) is int and 0 <= value <= most
 
 
+def is_activity(value):
+    """The number of an activity of some project, be it in this one or not."""
+    return is_whole(value, MOST_ACTIVITIES) and value > 0
+
+
 def is_name(value):
     return type(value) is str and NAME.fullmatch(value) is not None
 
@@ -82,8 +88,8 @@ MEMBERS = {
     "bind": {"place": lambda value: is_whole(value, 2**64), "code": is_name},
     "calendar": {"start": is_text, "days": is_text},
     "lag": {
-        "from": lambda value: is_whole(value, 2**64),
-        "to": lambda value: is_whole(value, 2**64),
+        "from": is_activity,
+        "to": is_activity,
         "lag": lambda value: is_whole(value, MOST_LAG),
     },
 }

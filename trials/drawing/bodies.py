@@ -1,0 +1,65 @@
+"""Bodies of commands, right ones and wrong ones."""
+
+import json
+
+
+def escaped(draw, text):
+    """The text of a string in JSON, at times with an escape for one of its letters."""
+    spelled = json.dumps(text)
+    if text and draw.chance(0.1):
+        spelled = spelled.replace(text[0], f"\\u{ord(text[0]):04x}", 1)
+    return spelled
+
+
+def spelled(draw, members):
+    """The bytes of an object with these members, in any order, at times with others or twice."""
+    pairs = [
+        (escaped(draw, name), escaped(draw, value) if type(value) is str else json.dumps(value))
+        for name, value in members.items()
+    ]
+    draw.random.shuffle(pairs)
+    if draw.chance(0.1):
+        pairs.insert(0, (pairs[-1][0], draw.pick(('"twice"', "7", "[[]]", "null"))))
+    if draw.chance(0.1):
+        pairs.append(('"more"', draw.pick(('"\\u00e4"', "-1.5e3", "[1, {}]", "{}", "true"))))
+    blank = draw.pick(("", "", " ", "\n", "\t"))
+    pieces = [f"{name}{blank}:{blank}{value}" for name, value in pairs]
+    return ("{" + blank + ("," + blank).join(pieces) + blank + "}").encode()
+
+
+# Keys and names as long or as short as they may be.
+EDGES = ("!" * 8, "~" * 64, "a" * 32, "a" * 33)
+
+
+def other_value(draw, value):
+    """A value that is seldom right."""
+    if draw.chance(0.5):
+        return draw.pick((None, True, [], {}, 1.0, -1, 10001, 2**32, 2**64, "1", 0, 10**25))
+    texts = ("", "-a", "A", "a b", "\u00e4", "!" * 7, "~" * 65, "Crew", "machine", "tab\tkey1")
+    return draw.pick((*texts, *EDGES, "key with blank"))
+
+
+NO_JSON = (
+    b"", b"{", b"[]", b"null", b'"a"', b"{}", b"{,}", b'{"a":NaN}', b'{"a":1e999}', b"\xff",
+    b'{"a":"\\ud800"}', b'{"a":Infinity}', b"\xef\xbb\xbf{}", b'{"a":"\n"}', b'{"a":01}',
+)
+
+
+def spoiled_body(draw, members):
+    """The body of a command with one thing changed."""
+    way, name = draw.number(0, 9), draw.pick(list(members))
+    body = spelled(draw, members)
+    if way < 4:
+        return spelled(draw, {**members, name: other_value(draw, members[name])})
+    if way == 4:
+        return spelled(draw, {own: value for own, value in members.items() if own != name})
+    if way == 5:
+        return draw.pick(NO_JSON)
+    if way == 6:
+        return body[:-1] + b',"a":' + draw.pick((b"NaN", b"1e999", b'"\\ud800"', b"-0", b"1.")) + b"}"
+    if way == 7:
+        levels = draw.pick((125, 126, 127, 128, 300))
+        return body[:-1] + b',"a":' + b"[" * levels + b"]" * levels + b"}"
+    if way == 8:
+        return body + draw.pick((b" ", b"x", b"{}", b"\n"))
+    return body[: draw.number(0, len(body))]

@@ -1,0 +1,87 @@
+"""The bytes of connections, right ones and wrong ones."""
+
+
+def fields_of(draw, version, key, length):
+    """The fields of a head, in any order."""
+    fields = [] if version == "1.0" and draw.chance(0.5) else ["Host: 127.0.0.1"]
+    if key is not None:
+        fields.append(draw.pick(("Desk-Key: ", "desk-key:", "DESK-KEY:\t ")) + key)
+    if length or draw.chance(0.1):
+        fields.append(f"Content-Length: {length}")
+    if draw.chance(0.1):
+        fields.append(draw.pick(("Accept: */*", "X: ", "Content-Type: text/plain", "Expect:")))
+    draw.random.shuffle(fields)
+    return fields
+
+
+def joined(draw, first, fields, body):
+    """The bytes of a request."""
+    end = "\n" if draw.chance(0.05) else "\r\n"
+    before = draw.pick((end, end * 3)) if draw.chance(0.03) else ""
+    head = before + end.join([first, *fields, "", ""])
+    return head.encode() + body + (b"behind" if draw.chance(0.02) else b"")
+
+
+def request(draw, method, path, key, body):
+    """The bytes of a whole request."""
+    version = draw.pick(("1.1",) * 9 + ("1.0",))
+    fields = fields_of(draw, version, key, len(body))
+    return joined(draw, f"{method} {path} HTTP/{version}", fields, body)
+
+
+def wrong_lengths(draw, length):
+    """Fields of lengths that are wrong, or seldom right."""
+    values = draw.pick((
+        ("x",), ("",), ("-1",), (f"+{length}",), (f"{length}, {length}",), (length + 1,),
+        (length + 9999,), (max(length - 1, 0),), (f"00{length}", length), (length, length + 1),
+        (1048576,), ("0" * 30 + str(length),), (length, "x"), (length, length),
+    ))
+    return [f"Content-Length: {value}" for value in values]
+
+
+def other_fields(draw, key, length):
+    """Fields of which some are wrong."""
+    fields = ["Host: 127.0.0.1", f"Desk-Key: {key}", f"Content-Length: {length}"]
+    way = draw.number(0, 10)
+    if way < 3:
+        return [*fields[:2], *wrong_lengths(draw, length)]
+    if way == 10:
+        return [*fields[:2], f"Content-Length: {draw.pick((1048577, 9999999, '9' * 30))}"]
+    if way == 3:
+        return fields[1:]
+    if way == 4:
+        return [*fields, "host: other"]
+    if way == 5:
+        return [*fields, draw.pick(("Transfer-Encoding: chunked", "transfer-encoding:"))]
+    if way == 6:
+        return [*fields, *(f"X-{n}: {n}" for n in range(draw.pick((60, 61, 62, 70))))]
+    if way == 7:
+        return [*fields, "X: " + "x" * draw.pick((7000, 8000, 8060, 8100, 8192, 9000))]
+    if way == 8:
+        return [*fields, f"desk-key: {key}"]
+    return [*fields, draw.pick(("X : y", " x", ": x", "X", "X\x7f: y", "X: \x01", "X: \r y"))]
+
+
+def first_lines(method, path):
+    """First lines that are wrong, or of another route or method."""
+    return (
+        f"HEAD {path} HTTP/1.1", f"PUT {path} HTTP/1.1", f"{method.lower()} {path} HTTP/1.1",
+        f"{method} {path}/ HTTP/1.1", f"{method} {path}?a=1 HTTP/1.1", f"HEAD {path}/x HTTP/1.1",
+        f"{method} /{path} HTTP/1.1", f"{method} http://127.0.0.1{path} HTTP/1.1",
+        f"{method} {path} HTTP/1.2", f"{method} {path} HTTP/2.0", f"{method} {path}",
+        f"{method}  {path} HTTP/1.1", f"OPTIONS * HTTP/1.1", f"{method} {path} HTTP/1.1 ",
+        f"{method} / HTTP/1.1", f"{method} {path}%20 HTTP/1.1", f"{method} /desks HTTP/1.1",
+        f"GET {path} HTTP/1.1", f"POST {path} HTTP/1.1", f"DELETE {path} HTTP/1.1",
+        f"{method} {path}# HTTP/1.1", f"{method} {path} http/1.1", f"M\x01 {path} HTTP/1.1",
+    )
+
+
+def faulty_request(draw, method, path, key, body):
+    """The bytes of a connection with one thing changed."""
+    key = key or "no-key-at-all"
+    way = draw.number(0, 9)
+    if way < 4:
+        first = draw.pick(first_lines(method, path))
+        return joined(draw, first, fields_of(draw, "1.1", key, len(body)), body)
+    sent = joined(draw, f"{method} {path} HTTP/1.1", other_fields(draw, key, len(body)), body)
+    return sent[: draw.number(0, len(sent))] if draw.chance(0.1) else sent

@@ -1,0 +1,144 @@
+"""Texts of projects and job shops, right ones and wrong ones."""
+
+WORDS = ("x", "-1", "0", "1", "2", "3", "7", "007", "10000", "10001", "999999999", "1234567890")
+NEEDS = (0, 0, 1, 1, 1, 1, 1, 1, 2, 2, 2, 3)
+CAPACITIES = (1, 2, 2, 3, 3, 3, 4, 4, 5)
+TITLES = ("PRECEDENCE RELATIONS:", "REQUESTS/DURATIONS:", "RESOURCEAVAILABILITIES:")
+
+
+def arcs_of(draw, count, density=0.4):
+    """Arcs that rise, and now and then one that doesn't."""
+    arcs = [
+        (i, j)
+        for i in range(1, count + 1)
+        for j in range(i + 1, count + 1)
+        if draw.chance(density)
+    ]
+    if draw.chance(0.07):
+        arcs.append((draw.number(1, count), draw.number(1, count)))
+    return list(dict.fromkeys(arcs))
+
+
+def project_head(count, resources):
+    return [
+        "projects : 1",
+        f"jobs (incl. supersource/sink ):  {count}",
+        "RESOURCES",
+        f"  - renewable                 :  {resources}   R",
+        "  - nonrenewable              :  0   N",
+        "  - doubly constrained        :  0   D",
+    ]
+
+
+def successors_of(draw, arcs, i):
+    """The successors in the row of an activity, in any order, seldom one of them twice."""
+    own = [target for source, target in arcs if source == i]
+    draw.random.shuffle(own)
+    return [*own, own[0]] if own and draw.chance(0.005) else own
+
+
+def project_lines(draw, arcs, durations, resources):
+    """The lines of a project file."""
+    count = len(durations)
+    lines = [*project_head(count, resources), TITLES[0], "jobnr. #modes #successors successors"]
+    for i in range(1, count + 1):
+        own = successors_of(draw, arcs, i)
+        lines.append(" ".join(map(str, (i, 1, len(own), *own))))
+    lines += [TITLES[1], "jobnr. mode duration R"]
+    for i, duration in enumerate(durations, 1):
+        needs = [draw.pick(NEEDS) for _ in range(resources)]
+        lines.append(" ".join(map(str, (i, 1, duration, *needs))))
+    capacities = [str(draw.pick(CAPACITIES)) for _ in range(resources)]
+    return [*lines, TITLES[2], "R", " ".join(capacities)]
+
+
+def laid_out(draw, lines):
+    """Lines with stars and empty ones between them, blanks in them, and an end of their own."""
+    found = []
+    for line in lines:
+        found += [draw.pick(("***", "", "  ", "-*-"))] if draw.chance(0.08) else []
+        is_wide = ":" not in line and draw.chance(0.1)
+        found.append(line.replace(" ", draw.pick(("  ", "\t"))) if is_wide else line)
+    end = draw.pick(("\n", "\n", "\n", "\r\n"))
+    return end.join(found) + draw.pick((end, end, ""))
+
+
+def chain_text(draw):
+    """A project whose activities follow each other, so long that its last day may be beyond the
+    calendar: from 2000-01-01 on there are 417,420 Sundays."""
+    count = draw.pick((40, 42, 42, 42, 47))
+    arcs = [(i, i + 1) for i in range(1, count)]
+    durations = [10000] * (count - 1) + [draw.pick((7419, 7420, 7421, 10000))]
+    lines = project_lines(draw, arcs, durations, 1)
+    return laid_out(draw, [*lines[:-1], str(max(NEEDS))])
+
+
+def project_text(draw):
+    """The text of a project."""
+    if draw.chance(0.04):
+        return spoiled_at_times(draw, chain_text(draw), 0.05)
+    count = draw.number(2, 7)
+    durations = [0, *(draw.duration() for _ in range(count - 2)), 0]
+    if draw.chance(0.3):
+        durations = [draw.duration() for _ in range(count)]
+    lines = project_lines(draw, arcs_of(draw, count), durations, draw.number(1, 2))
+    return spoiled_at_times(draw, laid_out(draw, lines), 0.2)
+
+
+def shop_lines(draw, jobs, machines):
+    """The numbers of a shop; now and then a job visits a machine twice."""
+    lines = [f"{jobs} {machines}"]
+    for _ in range(jobs):
+        order = draw.random.sample(range(machines), machines)
+        if draw.chance(0.2):
+            order = [draw.number(0, machines - 1) for _ in range(machines)]
+        times = [draw.duration() for _ in range(machines)]
+        lines.append(" ".join(f"{machine} {time}" for machine, time in zip(order, times)))
+    return lines
+
+
+def shop_text(draw):
+    """The text of a job shop file."""
+    sizes = (11, 10) if draw.chance(0.02) else (draw.number(1, 3), draw.number(1, 3))
+    lines = shop_lines(draw, *sizes)
+    if draw.chance(0.3):
+        return spoiled_at_times(draw, laid_out(draw, lines), 0.2)
+    found = ["a collection"]
+    for name in draw.random.sample(("a", "b", "c", "-"), draw.number(1, 2)):
+        found += ["+++", f"instance {name}", "+++"][draw.number(0, 1) :]
+        found += [draw.pick(("a description", "1 1")), *lines, *draw.pick(([], ["++ +"]))]
+        lines = shop_lines(draw, draw.number(1, 2), draw.number(1, 3))
+    found = [line for line in found if line != "***"]
+    return spoiled_at_times(draw, laid_out(draw, found), 0.2)
+
+
+def spoiled_at_times(draw, text, part):
+    """The bytes of a text, spoiled in so many of all cases."""
+    return spoiled(draw, text.encode()) if draw.chance(part) else text.encode()
+
+
+def spoiled(draw, text):
+    """A text with one thing changed: a word, a line, a byte, or its end."""
+    lines = text.split(b"\n")
+    place = draw.number(0, len(lines) - 1)
+    way = draw.number(0, 9)
+    if way < 5:
+        lines[place] = spoiled_line(draw, lines[place])
+    elif way == 5:
+        del lines[place]
+    elif way == 6:
+        lines.insert(place, draw.pick(lines))
+    elif way == 7:
+        lines[place] += b"\0"
+    else:
+        return text[: draw.number(0, len(text))]
+    return b"\n".join(lines)
+
+
+def spoiled_line(draw, line):
+    """A line with one word replaced, put in or taken out."""
+    words = line.split()
+    place = draw.number(0, len(words))
+    kept = words[place + draw.number(0, 1) :]
+    put = [draw.pick(WORDS).encode()] if draw.chance(0.7) else []
+    return b" ".join([*words[:place], *put, *kept])

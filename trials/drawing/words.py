@@ -1,0 +1,38 @@
+"""Words of requests and commands: names, rules, budgets and calendars, mostly right ones."""
+
+PROJECT_RULES, SHOP_RULES = ("lft", "slk", "spt", "mts", "num"), ("spt", "mwkr", "fcfs")
+NO_RULES = ("LFT", "best", "lf", "lftt")
+BUDGETS = ("1", "2", "5", "12", "40", "150", "400")
+NO_BUDGETS = ("0", "06", "+6", "200001", "six", "1000000", "2.0")
+STARTS = ("2024-03-01", "1900-01-01", "2199-12-31", "2000-02-29", "2023-12-30", "2031-07-06")
+NO_STARTS = ("2023-02-29", "1899-12-31", "2200-01-01", "20240301", "2024-3-1", "", "+2024-03-01")
+MARKS = ("1111100", "1111111", "0000001", "1010101", "0000011", "1000000")
+NO_MARKS = ("0000000", "111110", "11111000", "MTWTF..", "", "1111102")
+
+
+def rule(draw, is_shop):
+    """A rule, mostly one of this kind."""
+    if draw.chance(0.12):
+        return draw.pick(PROJECT_RULES + SHOP_RULES + NO_RULES)
+    return draw.pick(SHOP_RULES if is_shop else PROJECT_RULES)
+
+
+def budget(draw):
+    return draw.pick(NO_BUDGETS if draw.chance(0.1) else BUDGETS)
+
+
+def instance(draw, text):
+    """The name of an instance, mostly one that a text has."""
+    lines = text.decode("latin-1").split("\n")
+    names = [line.strip()[9:].strip() for line in lines if line.strip().startswith("instance ")]
+    name = draw.pick(names) if names else "-"
+    is_plain = name == "-" or name.isalnum()
+    return name if is_plain and draw.chance(0.95) else draw.pick("ab-x")
+
+
+def calendar(draw, text):
+    """The two texts of a calendar; for a long project mostly one that it may leave."""
+    if text.count(b"10000") > 30 and draw.chance(0.7):
+        return draw.pick(("2000-01-01", "2199-12-31")), "0000001"
+    start = draw.pick(NO_STARTS if draw.chance(0.08) else STARTS)
+    return start, draw.pick(NO_MARKS if draw.chance(0.08) else MARKS)
