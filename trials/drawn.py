@@ -114,7 +114,8 @@ def talk(port, sent):
     """The response to some bytes, behind which nothing comes."""
     pieces = []
     with connect(port) as connection:
-        connection.sendall(sent)
+        connection.sendall(sent[: len(sent) // 3])
+        connection.sendall(sent[len(sent) // 3 :])
         connection.shutdown(socket.SHUT_WR)
         while piece := connection.recv(65536):
             pieces.append(piece)

@@ -1,6 +1,7 @@
 """Bodies of commands, right ones and wrong ones."""
 
 import json
+import re
 
 
 def escaped(draw, text):
@@ -31,7 +32,14 @@ def spelled(draw, members):
 EDGES = ("!" * 8, "~" * 64, "a" * 32, "a" * 33)
 
 
-def other_value(draw, value):
+# Texts in the place of a number, mostly of none.
+NUMBERS = (
+    b"-0", b"1e0", b"1.0", b"01", b"+1", b"1E2", b"0x1", b".5", b"1.", b"18446744073709551615",
+    b"18446744073709551616", b"0", b"1", b"2", b"10000", b"10001", b"503",
+)
+
+
+def other_value(draw):
     """A value that is seldom right."""
     if draw.chance(0.5):
         return draw.pick((None, True, [], {}, 1.0, -1, 10001, 2**32, 2**64, "1", 0, 10**25))
@@ -45,21 +53,27 @@ NO_JSON = (
 )
 
 
+# Values of a member that is ignored where it is JSON.
+VALUES = (b"NaN", b"1e999", b'"\\ud800"', b"-0", b"1.", b"-", b'"\\ud83d\\ude00"', b"9" * 400)
+
+
 def spoiled_body(draw, members):
     """The body of a command with one thing changed."""
-    way, name = draw.number(0, 9), draw.pick(list(members))
+    way, name = draw.number(0, 10), draw.pick(list(members))
     body = spelled(draw, members)
     if way < 4:
-        return spelled(draw, {**members, name: other_value(draw, members[name])})
+        return spelled(draw, {**members, name: other_value(draw)})
     if way == 4:
         return spelled(draw, {own: value for own, value in members.items() if own != name})
     if way == 5:
         return draw.pick(NO_JSON)
     if way == 6:
-        return body[:-1] + b',"a":' + draw.pick((b"NaN", b"1e999", b'"\\ud800"', b"-0", b"1.")) + b"}"
+        return body[:-1] + b',"a":' + draw.pick(VALUES) + b"}"
     if way == 7:
         levels = draw.pick((125, 126, 127, 128, 300))
         return body[:-1] + b',"a":' + b"[" * levels + b"]" * levels + b"}"
     if way == 8:
         return body + draw.pick((b" ", b"x", b"{}", b"\n"))
+    if way == 9:
+        return re.sub(rb":(\s*)[0-9]+", b":" + draw.pick(NUMBERS), body, count=1)
     return body[: draw.number(0, len(body))]

@@ -5,11 +5,12 @@ def fields_of(draw, version, key, length):
     """The fields of a head, in any order."""
     fields = [] if version == "1.0" and draw.chance(0.5) else ["Host: 127.0.0.1"]
     if key is not None:
-        fields.append(draw.pick(("Desk-Key: ", "desk-key:", "DESK-KEY:\t ")) + key)
+        name = draw.pick(("Desk-Key: ", "desk-key:", "DESK-KEY:\t "))
+        fields.append(name + key + draw.pick(("", "", "", " ", "\t \t")))
     if length or draw.chance(0.1):
         fields.append(f"Content-Length: {length}")
     if draw.chance(0.1):
-        fields.append(draw.pick(("Accept: */*", "X: ", "Content-Type: text/plain", "Expect:")))
+        fields.append(draw.pick(("Accept: */*", "X: ", "Content-Type: text/plain", "Expect:", "X: \xe4")))
     draw.random.shuffle(fields)
     return fields
 
@@ -34,7 +35,7 @@ def wrong_lengths(draw, length):
     values = draw.pick((
         ("x",), ("",), ("-1",), (f"+{length}",), (f"{length}, {length}",), (length + 1,),
         (length + 9999,), (max(length - 1, 0),), (f"00{length}", length), (length, length + 1),
-        (1048576,), ("0" * 30 + str(length),), (length, "x"), (length, length),
+        (), (1048576,), ("0" * 30 + str(length),), (length, "x"), (length, length),
     ))
     return [f"Content-Length: {value}" for value in values]
 
@@ -56,10 +57,10 @@ def other_fields(draw, key, length):
     if way == 6:
         return [*fields, *(f"X-{n}: {n}" for n in range(draw.pick((60, 61, 62, 70))))]
     if way == 7:
-        return [*fields, "X: " + "x" * draw.pick((7000, 8000, 8060, 8100, 8192, 9000))]
+        return [*fields, "X: " + "x" * draw.pick((7000, 8000, 9000))]
     if way == 8:
         return [*fields, f"desk-key: {key}"]
-    return [*fields, draw.pick(("X : y", " x", ": x", "X", "X\x7f: y", "X: \x01", "X: \r y"))]
+    return [*fields, draw.pick(("X : y", " x", ": x", "X", "X\x7f: y", "X: \x01", "X: \r y", "\xe4: y"))]
 
 
 def first_lines(method, path):
@@ -76,6 +77,12 @@ def first_lines(method, path):
     )
 
 
+def long_fields(draw, first, fields):
+    """Fields with one more, so that the head has about as many bytes as it may have."""
+    rest = len("\r\n".join([first, *fields, "X: ", "", ""]))
+    return [*fields, "X: " + "x" * (draw.number(8190, 8194) - rest)]
+
+
 def faulty_request(draw, method, path, key, body):
     """The bytes of a connection with one thing changed."""
     key = key or "no-key-at-all"
@@ -83,5 +90,9 @@ def faulty_request(draw, method, path, key, body):
     if way < 4:
         first = draw.pick(first_lines(method, path))
         return joined(draw, first, fields_of(draw, "1.1", key, len(body)), body)
-    sent = joined(draw, f"{method} {path} HTTP/1.1", other_fields(draw, key, len(body)), body)
+    first = f"{method} {path} HTTP/1.1"
+    if way == 4:
+        fields = fields_of(draw, "1.1", key, len(body))
+        return joined(draw, first, long_fields(draw, first, fields), body)
+    sent = joined(draw, first, other_fields(draw, key, len(body)), body)
     return sent[: draw.number(0, len(sent))] if draw.chance(0.1) else sent

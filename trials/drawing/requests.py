@@ -5,7 +5,7 @@ import collections
 import random
 
 from model import Office
-from model.messages import ROUTES, Refusal, Request
+from model.messages import MOST_BODY, ROUTES, Refusal, Request
 
 from .bodies import EDGES, spelled, spoiled_body
 from .connections import faulty_request, request
@@ -35,17 +35,23 @@ class Requests:
         known = (OFFICE_KEY, *EDGES)
         self.keys = {Office(key.encode()).digest: key for key in known}
         self.tally = collections.Counter()
+        self.last = []
 
     def following(self):
         """The bytes of the next request, and the response that the model gives."""
+        sent = self.draw.pick(self.last) if self.last and self.draw.chance(0.04) else self.new()
+        self.last = [*self.last[-20:], sent]
+        wanted = self.office.answer(sent)
+        self.count(sent, wanted)
+        return sent, wanted
+
+    def new(self):
+        """The bytes of a request that isn't one of the last ones again."""
         call = self.call()
         path, body = getattr(self, "draw_" + call, self.draw_page)(call)
         key = self.key(path)
         form = faulty_request if self.draw.chance(0.08) else request
-        sent = form(self.draw, ROUTES[call][0], path, key, body)
-        wanted = self.office.answer(sent)
-        self.count(sent, wanted)
-        return sent, wanted
+        return form(self.draw, ROUTES[call][0], path, key, body)
 
     def call(self):
         """A call; desks and codes come first, and where there are many plans one goes."""
@@ -86,7 +92,7 @@ class Requests:
     def key(self, path):
         """The key that a path takes, now and then another or none."""
         if self.draw.chance(0.03):
-            return self.draw.pick((None, "wrong-key-1", OFFICE_KEY, self.draw.pick(list(self.keys.values()))))
+            return self.draw.pick((None, "wrong-key-1", *list(self.keys.values())[-9:]))
         if path.startswith("/office"):
             return OFFICE_KEY
         row = self.office.desks.get(path.split("/")[2])
@@ -135,7 +141,10 @@ class Requests:
         return f"/desks/{self.desk()}/plans", b""
 
     def draw_project(self, call):
-        return f"/desks/{self.desk()}/projects", project_text(self.draw)
+        text = project_text(self.draw)
+        if self.draw.chance(0.01):
+            text = b"*" * (self.draw.pick((MOST_BODY, MOST_BODY + 1)) - len(text) - 1) + b"\n" + text
+        return f"/desks/{self.desk()}/projects", text
 
     def draw_shop(self, call):
         text = shop_text(self.draw)

@@ -1,8 +1,13 @@
 """Texts of projects and job shops, right ones and wrong ones."""
 
-WORDS = ("x", "-1", "0", "1", "2", "3", "7", "007", "10000", "10001", "999999999", "1234567890")
+WORDS = (
+    "x", "-1", "0", "1", "2", "3", "7", "007", "10000", "10001", "999999999", "1234567890", "1\xe4",
+    "+", "instance", "503", "17", "51", "21",
+)
+NAMES = ("a", "b", "c", "-", "A.1_b~", "x:y@(z)*", "a-very-long-name-of-an-instance-that-is-there")
 NEEDS = (0, 0, 1, 1, 1, 1, 1, 1, 2, 2, 2, 3)
 CAPACITIES = (1, 2, 2, 3, 3, 3, 4, 4, 5)
+WIDE = ("  ", "\t", "\x0b\x0c", " \x1a", " \r", "\n", " \n\n")
 TITLES = ("PRECEDENCE RELATIONS:", "REQUESTS/DURATIONS:", "RESOURCEAVAILABILITIES:")
 
 
@@ -20,6 +25,7 @@ def arcs_of(draw, count, density=0.4):
 
 
 def project_head(count, resources):
+    """The keys."""
     return [
         "projects : 1",
         f"jobs (incl. supersource/sink ):  {count}",
@@ -37,19 +43,27 @@ def successors_of(draw, arcs, i):
     return [*own, own[0]] if own and draw.chance(0.005) else own
 
 
+def row(*numbers):
+    return " ".join(map(str, numbers))
+
+
+def precedence_rows(draw, arcs, count):
+    lists = [successors_of(draw, arcs, i) for i in range(1, count + 1)]
+    return [row(i, 1, len(own), *own) for i, own in enumerate(lists, 1)]
+
+
+def request_rows(draw, durations, resources):
+    lists = [[own, *(draw.pick(NEEDS) for _ in range(resources))] for own in durations]
+    return [row(i, 1, *own) for i, own in enumerate(lists, 1)]
+
+
 def project_lines(draw, arcs, durations, resources):
     """The lines of a project file."""
-    count = len(durations)
-    lines = [*project_head(count, resources), TITLES[0], "jobnr. #modes #successors successors"]
-    for i in range(1, count + 1):
-        own = successors_of(draw, arcs, i)
-        lines.append(" ".join(map(str, (i, 1, len(own), *own))))
-    lines += [TITLES[1], "jobnr. mode duration R"]
-    for i, duration in enumerate(durations, 1):
-        needs = [draw.pick(NEEDS) for _ in range(resources)]
-        lines.append(" ".join(map(str, (i, 1, duration, *needs))))
-    capacities = [str(draw.pick(CAPACITIES)) for _ in range(resources)]
-    return [*lines, TITLES[2], "R", " ".join(capacities)]
+    head = project_head(len(durations), resources)
+    rows = [TITLES[0], "jobnr. #modes #successors", *precedence_rows(draw, arcs, len(durations))]
+    rows += [TITLES[1], "jobnr. mode duration R", *request_rows(draw, durations, resources)]
+    capacities = [draw.pick(CAPACITIES) for _ in range(resources)]
+    return [*head, *rows, TITLES[2], "R", row(*capacities)]
 
 
 def laid_out(draw, lines):
@@ -58,7 +72,7 @@ def laid_out(draw, lines):
     for line in lines:
         found += [draw.pick(("***", "", "  ", "-*-"))] if draw.chance(0.08) else []
         is_wide = ":" not in line and draw.chance(0.1)
-        found.append(line.replace(" ", draw.pick(("  ", "\t"))) if is_wide else line)
+        found.append(line.replace(" ", draw.pick(WIDE)) if is_wide else line)
     end = draw.pick(("\n", "\n", "\n", "\r\n"))
     return end.join(found) + draw.pick((end, end, ""))
 
@@ -66,7 +80,7 @@ def laid_out(draw, lines):
 def chain_text(draw):
     """A project whose activities follow each other, so long that its last day may be beyond the
     calendar: from 2000-01-01 on there are 417,420 Sundays."""
-    count = draw.pick((40, 42, 42, 42, 47))
+    count = draw.pick((40, 42, 42, 42, 42, 42, 47, 100, 101))
     arcs = [(i, i + 1) for i in range(1, count)]
     durations = [10000] * (count - 1) + [draw.pick((7419, 7420, 7421, 10000))]
     lines = project_lines(draw, arcs, durations, 1)
@@ -81,30 +95,35 @@ def project_text(draw):
     durations = [0, *(draw.duration() for _ in range(count - 2)), 0]
     if draw.chance(0.3):
         durations = [draw.duration() for _ in range(count)]
-    lines = project_lines(draw, arcs_of(draw, count), durations, draw.number(1, 2))
+    resources = draw.pick((16, 17)) if draw.chance(0.02) else draw.number(1, 2)
+    lines = project_lines(draw, arcs_of(draw, count), durations, resources)
     return spoiled_at_times(draw, laid_out(draw, lines), 0.2)
 
 
 def shop_lines(draw, jobs, machines):
     """The numbers of a shop; now and then a job visits a machine twice."""
-    lines = [f"{jobs} {machines}"]
+    lines, longest = [f"{jobs} {machines}"], jobs * machines > 100 and draw.chance(0.3)
     for _ in range(jobs):
         order = draw.random.sample(range(machines), machines)
         if draw.chance(0.2):
             order = [draw.number(0, machines - 1) for _ in range(machines)]
-        times = [draw.duration() for _ in range(machines)]
+        times = [10000 if longest else draw.duration() for _ in range(machines)]
         lines.append(" ".join(f"{machine} {time}" for machine, time in zip(order, times)))
     return lines
 
 
+# Sizes at their limits and beyond, also those of a search.
+SIZES = ((11, 10), (50, 1), (51, 1), (1, 20), (1, 21), (20, 5), (6, 17))
+
+
 def shop_text(draw):
     """The text of a job shop file."""
-    sizes = (11, 10) if draw.chance(0.02) else (draw.number(1, 3), draw.number(1, 3))
+    sizes = draw.pick(SIZES) if draw.chance(0.03) else (draw.number(1, 3), draw.number(1, 3))
     lines = shop_lines(draw, *sizes)
     if draw.chance(0.3):
         return spoiled_at_times(draw, laid_out(draw, lines), 0.2)
     found = ["a collection"]
-    for name in draw.random.sample(("a", "b", "c", "-"), draw.number(1, 2)):
+    for name in draw.random.sample(NAMES, draw.number(1, 2)):
         found += ["+++", f"instance {name}", "+++"][draw.number(0, 1) :]
         found += [draw.pick(("a description", "1 1")), *lines, *draw.pick(([], ["++ +"]))]
         lines = shop_lines(draw, draw.number(1, 2), draw.number(1, 3))
@@ -140,5 +159,5 @@ def spoiled_line(draw, line):
     words = line.split()
     place = draw.number(0, len(words))
     kept = words[place + draw.number(0, 1) :]
-    put = [draw.pick(WORDS).encode()] if draw.chance(0.7) else []
+    put = [draw.pick(WORDS).encode("latin-1")] if draw.chance(0.7) else []
     return b" ".join([*words[:place], *put, *kept])

@@ -1,8 +1,10 @@
 """Words of requests and commands: names, rules, budgets and calendars, mostly right ones."""
 
+from .texts import NAMES
+
 PROJECT_RULES, SHOP_RULES = ("lft", "slk", "spt", "mts", "num"), ("spt", "mwkr", "fcfs")
 NO_RULES = ("LFT", "best", "lf", "lftt")
-BUDGETS = ("1", "2", "5", "12", "40", "150", "400")
+BUDGETS = ("1", "2", "5", "12", "40", "150", "400", "3000")
 NO_BUDGETS = ("0", "06", "+6", "200001", "six", "1000000", "2.0")
 STARTS = ("2024-03-01", "1900-01-01", "2199-12-31", "2000-02-29", "2023-12-30", "2031-07-06")
 NO_STARTS = ("2023-02-29", "1899-12-31", "2200-01-01", "20240301", "2024-3-1", "", "+2024-03-01")
@@ -26,7 +28,7 @@ def instance(draw, text):
     lines = text.decode("latin-1").split("\n")
     names = [line.strip()[9:].strip() for line in lines if line.strip().startswith("instance ")]
     name = draw.pick(names) if names else "-"
-    is_plain = name == "-" or name.isalnum()
+    is_plain = name in NAMES or name.isascii() and name.isalnum()
     return name if is_plain and draw.chance(0.95) else draw.pick("ab-x")
 
 

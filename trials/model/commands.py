@@ -48,7 +48,7 @@ def run_best(text, budget, name):
 
 
 def run_names(text):
-    return page(*(name.decode() for name in read_names(text)))
+    return page(*(name.decode("latin-1") for name in read_names(text)))
 
 
 def run_check(text, listed):
@@ -67,6 +67,6 @@ COMMANDS = {
 def run(command, text, *words):
     """The status, standard output and standard error of a command."""
     try:
-        return 0, COMMANDS[command](text, *words).encode(), b""
+        return 0, COMMANDS[command](text, *words).encode("latin-1"), b""
     except Fault as fault:
         return 1, b"", fault.line.encode() + b"\n"
