@@ -19,7 +19,7 @@ def spelled(draw, members):
         for name, value in members.items()
     ]
     draw.random.shuffle(pairs)
-    if draw.chance(0.1):
+    if pairs and draw.chance(0.1):
         pairs.insert(0, (pairs[-1][0], draw.pick(('"twice"', "7", "[[]]", "null"))))
     if draw.chance(0.1):
         pairs.append(('"more"', draw.pick(('"\\u00e4"', "-1.5e3", "[1, {}]", "{}", "true"))))
@@ -70,7 +70,7 @@ def spoiled_body(draw, members):
     if way == 6:
         return body[:-1] + b',"a":' + draw.pick(VALUES) + b"}"
     if way == 7:
-        levels = draw.pick((125, 126, 127, 128, 300))
+        levels = draw.pick((126, 126, 127, 127, 300))
         return body[:-1] + b',"a":' + b"[" * levels + b"]" * levels + b"}"
     if way == 8:
         return body + draw.pick((b" ", b"x", b"{}", b"\n"))

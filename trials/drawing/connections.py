@@ -40,27 +40,36 @@ def wrong_lengths(draw, length):
     return [f"Content-Length: {value}" for value in values]
 
 
-def other_fields(draw, key, length):
-    """Fields of which some are wrong."""
-    fields = ["Host: 127.0.0.1", f"Desk-Key: {key}", f"Content-Length: {length}"]
+# Lines that are no fields.
+NO_FIELDS = ("X : y", " x", ": x", "X", "X\x7f: y", "X: \x01", "X: \r y", "\xe4: y")
+
+
+def without(fields, name):
+    return [field for field in fields if not field.startswith(name)]
+
+
+def other_fields(draw, fields, key, length):
+    """Fields of which some are others, and mostly wrong."""
     way = draw.number(0, 10)
     if way < 3:
-        return [*fields[:2], *wrong_lengths(draw, length)]
-    if way == 10:
-        return [*fields[:2], f"Content-Length: {draw.pick((1048577, 9999999, '9' * 30))}"]
+        return [*without(fields, "Content-Length"), *wrong_lengths(draw, length)]
     if way == 3:
-        return fields[1:]
+        return without(fields, "Host")
     if way == 4:
         return [*fields, "host: other"]
     if way == 5:
         return [*fields, draw.pick(("Transfer-Encoding: chunked", "transfer-encoding:"))]
     if way == 6:
-        return [*fields, *(f"X-{n}: {n}" for n in range(draw.pick((60, 61, 62, 70))))]
+        count = draw.pick((63, 64, 65, 70)) - len(fields)
+        return [*fields, *(f"X-{n}: {n}" for n in range(count))]
     if way == 7:
         return [*fields, "X: " + "x" * draw.pick((7000, 8000, 9000))]
     if way == 8:
         return [*fields, f"desk-key: {key}"]
-    return [*fields, draw.pick(("X : y", " x", ": x", "X", "X\x7f: y", "X: \x01", "X: \r y", "\xe4: y"))]
+    if way == 9:
+        length = draw.pick((1048577, 9999999, "9" * 30))
+        return [*without(fields, "Content-Length"), f"Content-Length: {length}"]
+    return [*fields, draw.pick(NO_FIELDS)]
 
 
 def first_lines(method, path):
@@ -84,15 +93,15 @@ def long_fields(draw, first, fields):
 
 
 def faulty_request(draw, method, path, key, body):
-    """The bytes of a connection with one thing changed."""
-    key = key or "no-key-at-all"
+    """The bytes of a connection with some things changed."""
+    key, first = key or "no-key-at-all", f"{method} {path} HTTP/1.1"
+    fields = fields_of(draw, "1.1", key, len(body))
     way = draw.number(0, 9)
-    if way < 4:
+    if way < 4 or draw.chance(0.2):
         first = draw.pick(first_lines(method, path))
-        return joined(draw, first, fields_of(draw, "1.1", key, len(body)), body)
-    first = f"{method} {path} HTTP/1.1"
     if way == 4:
-        fields = fields_of(draw, "1.1", key, len(body))
-        return joined(draw, first, long_fields(draw, first, fields), body)
-    sent = joined(draw, first, other_fields(draw, key, len(body)), body)
-    return sent[: draw.number(0, len(sent))] if draw.chance(0.1) else sent
+        fields = long_fields(draw, first, fields)
+    for _ in range(draw.pick((1, 1, 2)) if way > 4 else draw.pick((0, 0, 1))):
+        fields = other_fields(draw, fields, key, len(body))
+    sent = joined(draw, first, fields, body)
+    return sent[: draw.number(0, len(sent))] if draw.chance(0.05) else sent

@@ -5,16 +5,18 @@ class Draw:
     """Choices by a random generator, which stands for them all."""
 
     def __init__(self, random):
-        self.random = random
+        self.random, self.care = random, 1
 
     def chance(self, part):
         return self.random.random() < part
+
+    def slips(self, part):
+        """Something goes wrong in so many of all cases; in more of them where care is less, so that
+        there are requests with several things wrong."""
+        return self.chance(min(part / self.care, 0.6))
 
     def pick(self, values):
         return self.random.choice(values)
 
     def number(self, least, greatest):
         return self.random.randint(least, greatest)
-
-    def duration(self):
-        return self.pick((0, 1, 1, 2, 2, 3, 3, 4, 5, 7, self.pick((9, 30, 61, 10000))))

@@ -6,12 +6,13 @@ import random
 
 from model import Office
 from model.messages import MOST_BODY, ROUTES, Refusal, Request
+from model.words import Fault
 
 from .bodies import EDGES, spelled, spoiled_body
 from .connections import faulty_request, request
 from .draw import Draw
 from .texts import project_text, shop_text
-from .words import budget, calendar, instance, rule
+from .words import budget, calendar, instance, is_long, rule
 
 OFFICE_KEY = "office-key-1"
 DESKS = ("north", "north-2", "east", "a", "0-west")
@@ -47,10 +48,11 @@ class Requests:
 
     def new(self):
         """The bytes of a request that isn't one of the last ones again."""
+        self.draw.care = 0.1 if self.draw.chance(0.05) else 1
         call = self.call()
         path, body = getattr(self, "draw_" + call, self.draw_page)(call)
         key = self.key(path)
-        form = faulty_request if self.draw.chance(0.08) else request
+        form = faulty_request if self.draw.slips(0.08) else request
         return form(self.draw, ROUTES[call][0], path, key, body)
 
     def call(self):
@@ -85,7 +87,7 @@ class Requests:
     def desk(self):
         """A desk, mostly one that is there."""
         there = list(self.office.desks)
-        if not there or self.draw.chance(0.02):
+        if not there or self.draw.slips(0.02):
             return self.draw.pick((*DESKS, "nobody", "North", "-a", "x" * 40))
         return self.draw.pick(there)
 
@@ -101,20 +103,21 @@ class Requests:
     def plan(self, *kinds):
         """The desk and the number of a plan, mostly one that is there, of these kinds."""
         there = [own for own, plan in self.office.plans.items() if plan.kind in kinds]
-        if not there or self.draw.chance(0.03):
+        if not there or self.draw.slips(0.03):
             others = ("0", "1", "01", "999999", "1000000", "12345678", "x", "-1", "1.0")
             return self.desk(), self.draw.pick(others)
         return self.draw.pick(there)
 
     def place(self, call, *kinds):
-        """The path of a call for a plan, and the plan; at times of another kind."""
-        kinds = ("project", "shop") if not kinds or self.draw.chance(0.1) else kinds
+        """The path of a call for a plan, and the plan; at times one of another kind."""
+        kinds = kinds or ("project", "shop")
+        kinds = ("shop",) if self.draw.slips(0.06) else kinds
         desk, n = self.plan(*kinds)
-        zero = "0" if self.draw.chance(0.01) else ""
+        zero = "0" if self.draw.slips(0.01) else ""
         return f"/desks/{desk}/plans/{zero}{n}/{call}", self.office.plans.get((desk, n))
 
     def body(self, members):
-        form = spoiled_body if self.draw.chance(0.08) else spelled
+        form = spoiled_body if self.draw.slips(0.1) else spelled
         return form(self.draw, members)
 
     # ---- requests, by their calls
@@ -122,7 +125,7 @@ class Requests:
     def draw_publish(self, call):
         code = self.draw.pick(CODES)
         kind = "crew" if code.startswith("crew") else "machine"
-        if self.draw.chance(0.05):
+        if self.draw.slips(0.05):
             kind = self.draw.pick(("crew", "machine"))
         most = (0, 1, 1, 2, 2) if kind == "machine" else (0, 1, 2, 2, 2, 3, 3, 3, 4, 4, 5, 10000)
         capacity = self.draw.pick(most)
@@ -158,9 +161,10 @@ class Requests:
         path, plan = self.place(call)
         kind = plan.takes() if plan else "crew"
         codes = [code for code in self.office.published if self.office.published[code][0] == kind]
-        codes = codes if codes and self.draw.chance(0.93) else [*CODES, "unknown", "none"]
+        codes = [*CODES, "unknown", "none"] if self.draw.slips(0.1) or not codes else codes
         places = [place for place in range(4) if plan and plan.has_place(place)]
-        place = self.draw.pick(places if places and self.draw.chance(0.95) else (0, 1, 2, 3, 17))
+        places = (0, 1, 2, 3, 17) if self.draw.slips(0.05) or not places else places
+        place = self.draw.pick(places)
         return path, self.body({"place": place, "code": self.draw.pick(codes)})
 
     def draw_calendar(self, call):
@@ -172,10 +176,26 @@ class Requests:
         path, plan = self.place(call, "project")
         arcs = plan.project().arcs if plan and plan.kind == "project" else []
         source, target = self.draw.pick(arcs) if arcs else (1, 2)
-        if self.draw.chance(0.08):
+        if self.draw.slips(0.08):
             source, target = self.draw.pick((0, 3, 502, 503, 2**32)), self.draw.number(0, 8)
         lag = self.draw.pick((0, 0, 1, 1, 2, 3, 5, 9, 10000))
         return path, self.body({"from": source, "to": target, "lag": lag})
+
+    def draw_best(self, call):
+        """A best schedule; at times with just the budget that it takes, or with one word less."""
+        path, plan = self.place(call)
+        needed = self.words_of(path) if plan and self.draw.chance(0.3) else None
+        if needed:
+            return f"{path}/{max(needed - self.draw.number(0, 1), 1)}", b""
+        return f"{path}/{budget(self.draw)}", b""
+
+    def words_of(self, path):
+        """How many words are visited, up to 400; None where nothing is searched."""
+        _, _, desk, _, n, _ = path.split("/")
+        try:
+            return self.office.pages((desk, int(n))).search("400").visited
+        except Fault:
+            return None
 
     def draw_dates(self, call):
         return self.place(call, "project")[0], b""
@@ -185,12 +205,11 @@ class Requests:
         dated = [own for own, plan in self.office.plans.items() if plan.start]
         if not dated or self.draw.chance(0.4):
             return self.draw_page(call)
-        desk, n = self.draw.pick(dated)
+        long = [own for own in dated if is_long(self.office.plans[own].body)]
+        desk, n = self.draw.pick(long if long and self.draw.chance(0.1) else dated)
         is_shop = self.office.plans[desk, n].kind == "shop"
         return f"/desks/{desk}/plans/{n}/days/{rule(self.draw, is_shop)}", b""
 
     def draw_page(self, call):
         path, plan = self.place(call)
-        if call == "best":
-            return f"{path}/{budget(self.draw)}", b""
         return f"{path}/{rule(self.draw, plan is not None and plan.kind == 'shop')}", b""

@@ -5,8 +5,9 @@ WORDS = (
     "+", "instance", "503", "17", "51", "21",
 )
 NAMES = ("a", "b", "c", "-", "A.1_b~", "x:y@(z)*", "a-very-long-name-of-an-instance-that-is-there")
-NEEDS = (0, 0, 1, 1, 1, 1, 1, 1, 2, 2, 2, 3)
-CAPACITIES = (1, 2, 2, 3, 3, 3, 4, 4, 5)
+# Needs, and capacities that mostly hold them.
+AMOUNTS = (((0, 1, 1, 1), (1, 1, 2)), ((0, 1, 1, 2), (2, 2, 3)), ((1, 2, 2, 3), (3, 4, 5)))
+SHORT, LONG = (0, 1, 1, 1, 2, 2, 3, 3, 4, 5), (9, 10, 20, 30, 59, 60, 61, 10000)
 WIDE = ("  ", "\t", "\x0b\x0c", " \x1a", " \r", "\n", " \n\n")
 TITLES = ("PRECEDENCE RELATIONS:", "REQUESTS/DURATIONS:", "RESOURCEAVAILABILITIES:")
 
@@ -52,17 +53,17 @@ def precedence_rows(draw, arcs, count):
     return [row(i, 1, len(own), *own) for i, own in enumerate(lists, 1)]
 
 
-def request_rows(draw, durations, resources):
-    lists = [[own, *(draw.pick(NEEDS) for _ in range(resources))] for own in durations]
+def request_rows(draw, durations, resources, needs):
+    lists = [[own, *(draw.pick(needs) for _ in range(resources))] for own in durations]
     return [row(i, 1, *own) for i, own in enumerate(lists, 1)]
 
 
 def project_lines(draw, arcs, durations, resources):
     """The lines of a project file."""
-    head = project_head(len(durations), resources)
+    head, (needs, amounts) = project_head(len(durations), resources), draw.pick(AMOUNTS)
     rows = [TITLES[0], "jobnr. #modes #successors", *precedence_rows(draw, arcs, len(durations))]
-    rows += [TITLES[1], "jobnr. mode duration R", *request_rows(draw, durations, resources)]
-    capacities = [draw.pick(CAPACITIES) for _ in range(resources)]
+    rows += [TITLES[1], "jobnr. mode duration R", *request_rows(draw, durations, resources, needs)]
+    capacities = [draw.pick((0, 1) if draw.slips(0.03) else amounts) for _ in range(resources)]
     return [*head, *rows, TITLES[2], "R", row(*capacities)]
 
 
@@ -80,21 +81,27 @@ def laid_out(draw, lines):
 def chain_text(draw):
     """A project whose activities follow each other, so long that its last day may be beyond the
     calendar: from 2000-01-01 on there are 417,420 Sundays."""
-    count = draw.pick((40, 42, 42, 42, 42, 42, 47, 100, 101))
+    count = draw.pick((40, 47, 100, 101, 42, 42, 42, 42, 42, 42, 42, 42))
     arcs = [(i, i + 1) for i in range(1, count)]
     durations = [10000] * (count - 1) + [draw.pick((7419, 7420, 7421, 10000))]
     lines = project_lines(draw, arcs, durations, 1)
-    return laid_out(draw, [*lines[:-1], str(max(NEEDS))])
+    return laid_out(draw, [*lines[:-1], "3"])
+
+
+def durations_of(draw, count):
+    """Durations, short or long ones alike."""
+    own = LONG if draw.chance(0.12) else SHORT
+    return [draw.pick(own) for _ in range(count)]
 
 
 def project_text(draw):
     """The text of a project."""
     if draw.chance(0.04):
         return spoiled_at_times(draw, chain_text(draw), 0.05)
-    count = draw.number(2, 7)
-    durations = [0, *(draw.duration() for _ in range(count - 2)), 0]
-    if draw.chance(0.3):
-        durations = [draw.duration() for _ in range(count)]
+    count = draw.pick((2, 3, 4, 5, 6, 6, 7, 7, 7))
+    durations = durations_of(draw, count)
+    if draw.chance(0.6):
+        durations[0], durations[-1] = 0, 0
     resources = draw.pick((16, 17)) if draw.chance(0.02) else draw.number(1, 2)
     lines = project_lines(draw, arcs_of(draw, count), durations, resources)
     return spoiled_at_times(draw, laid_out(draw, lines), 0.2)
@@ -107,7 +114,7 @@ def shop_lines(draw, jobs, machines):
         order = draw.random.sample(range(machines), machines)
         if draw.chance(0.2):
             order = [draw.number(0, machines - 1) for _ in range(machines)]
-        times = [10000 if longest else draw.duration() for _ in range(machines)]
+        times = [10000] * machines if longest else durations_of(draw, machines)
         lines.append(" ".join(f"{machine} {time}" for machine, time in zip(order, times)))
     return lines
 
@@ -118,7 +125,7 @@ SIZES = ((11, 10), (50, 1), (51, 1), (1, 20), (1, 21), (20, 5), (6, 17))
 
 def shop_text(draw):
     """The text of a job shop file."""
-    sizes = draw.pick(SIZES) if draw.chance(0.03) else (draw.number(1, 3), draw.number(1, 3))
+    sizes = draw.pick(SIZES) if draw.chance(0.03) else (draw.pick((1, 2, 3, 3)), draw.number(1, 3))
     lines = shop_lines(draw, *sizes)
     if draw.chance(0.3):
         return spoiled_at_times(draw, laid_out(draw, lines), 0.2)

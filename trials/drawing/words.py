@@ -14,13 +14,15 @@ NO_MARKS = ("0000000", "111110", "11111000", "MTWTF..", "", "1111102")
 
 def rule(draw, is_shop):
     """A rule, mostly one of this kind."""
-    if draw.chance(0.12):
+    if draw.slips(0.1):
         return draw.pick(PROJECT_RULES + SHOP_RULES + NO_RULES)
     return draw.pick(SHOP_RULES if is_shop else PROJECT_RULES)
 
 
 def budget(draw):
-    return draw.pick(NO_BUDGETS if draw.chance(0.1) else BUDGETS)
+    if draw.chance(0.3):
+        return str(draw.number(1, 30))
+    return draw.pick(NO_BUDGETS if draw.slips(0.12) else BUDGETS)
 
 
 def instance(draw, text):
@@ -29,12 +31,17 @@ def instance(draw, text):
     names = [line.strip()[9:].strip() for line in lines if line.strip().startswith("instance ")]
     name = draw.pick(names) if names else "-"
     is_plain = name in NAMES or name.isascii() and name.isalnum()
-    return name if is_plain and draw.chance(0.95) else draw.pick("ab-x")
+    return draw.pick("ab-x") if draw.slips(0.05) or not is_plain else name
+
+
+def is_long(text):
+    """A project or a shop that may leave a calendar."""
+    return text.count(b"10000") > 30
 
 
 def calendar(draw, text):
     """The two texts of a calendar; for a long project mostly one that it may leave."""
-    if text.count(b"10000") > 30 and draw.chance(0.7):
-        return draw.pick(("2000-01-01", "2199-12-31")), "0000001"
-    start = draw.pick(NO_STARTS if draw.chance(0.08) else STARTS)
-    return start, draw.pick(NO_MARKS if draw.chance(0.08) else MARKS)
+    if is_long(text) and draw.chance(0.9):
+        return draw.pick(("2000-01-01", "2000-01-01", "2199-12-31")), "0000001"
+    start = draw.pick(NO_STARTS if draw.slips(0.08) else STARTS)
+    return start, draw.pick(NO_MARKS if draw.slips(0.08) else MARKS)

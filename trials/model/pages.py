@@ -27,10 +27,13 @@ class ProjectPages:
     def days(self, starts, calendar):
         return texts.project_days(self.project, starts, calendar)
 
-    def best(self, budget):
+    def search(self, budget):
         self.check()
-        kind, least, starts = searches.best_of_project(self.project, budget)
-        return texts.best_text(kind, least, texts.project_lines(self.project, starts))
+        return searches.best_of_project(self.project, budget)
+
+    def best(self, budget):
+        found = self.search(budget)
+        return texts.best_text(found, texts.project_lines(self.project, found.starts))
 
 
 class ShopPages:
@@ -53,7 +56,10 @@ class ShopPages:
     def days(self, starts, calendar):
         return texts.shop_days(self.shop, starts, calendar)
 
-    def best(self, budget):
+    def search(self, budget):
         shops.check_open(self.shop, self.closed)
-        kind, least, starts = searches.best_of_shop(self.shop, budget)
-        return texts.best_text(kind, least, texts.shop_lines(self.shop, starts))
+        return searches.best_of_shop(self.shop, budget)
+
+    def best(self, budget):
+        found = self.search(budget)
+        return texts.best_text(found, texts.shop_lines(self.shop, found.starts))

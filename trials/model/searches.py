@@ -72,7 +72,7 @@ class Search:
     """What is found of a tree from initial starts, and how many words were visited."""
 
     def __init__(self, tree, initial, budget):
-        self.tree, self.budget, self.visited = tree, budget, 0
+        self.tree, self.budget, self.visited, self.kind = tree, budget, 0, "optimal"
         self.starts, self.least = initial, tree.makespan(initial)
 
     def visit(self, word):
@@ -93,13 +93,13 @@ class Search:
 
 
 def search(tree, initial, budget):
-    """The kind, the least makespan and the starts that are found."""
+    """What is found, beginning with the empty word."""
     found = Search(tree, initial, budget)
     try:
         found.visit([])
     except Spent:
-        return "budget", found.least, found.starts
-    return "optimal", found.least, found.starts
+        found.kind = "budget"
+    return found
 
 
 def budget_of(text):

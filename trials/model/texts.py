@@ -131,5 +131,6 @@ def shop_days(shop, starts, calendar):
     return page(*lines)
 
 
-def best_text(kind, least, lines):
-    return page(f"{kind} {least}", *lines)
+def best_text(found, lines):
+    """What a search found, with the table of its schedule."""
+    return page(f"{found.kind} {found.least}", *lines)
