@@ -43,6 +43,11 @@ def differ(what, found, wanted):
     raise Differs(f"{what}\n  gave    {found!r}\n  and not {wanted!r}")
 
 
+def shown(text):
+    """A text without the middle of a long run of stars."""
+    return repr(text.replace(b"*" * 1000, b""))
+
+
 class Store:
     """A file of an office, and the program on it."""
 
@@ -85,7 +90,8 @@ class Store:
         """The rows by the sqlite3 shell, of a copy."""
         copy = os.path.join(self.folder, "copy.db")
         shutil.copyfile(self.database, copy)
-        shell = subprocess.run(["sqlite3", copy], input=DUMP.encode(), capture_output=True, timeout=60)
+        words, given = ["sqlite3", copy], DUMP.encode()
+        shell = subprocess.run(words, input=given, capture_output=True, timeout=60)
         lines = shell.stdout.decode().split("\n")
         if (shell.stderr, lines[-2:]) != (b"", ["ok", ""]):
             differ("sqlite3 on the file", (shell.stderr, lines[-2:]), (b"", ["ok", ""]))
@@ -129,7 +135,7 @@ def compare(seed, number, exchanges, found):
         if not found.startswith(wanted):
             end = found.find(b"HTTP/1.1 ", 1)
             came = found[:end] if end > 0 else found
-            differ(f"seed {seed}, request {number}: {sent!r}", came, wanted)
+            differ(f"seed {seed}, request {number}: {shown(sent)}", came, wanted)
         found = found[len(wanted) :]
     if found:
         differ(f"seed {seed}, behind request {number}", found, b"")
@@ -176,7 +182,7 @@ def compare_command(what, folder, drawn):
     done = subprocess.run(given, input=text, capture_output=True, timeout=300)
     found = done.returncode, done.stdout, done.stderr
     if found != wanted:
-        differ(f"{what}: {drawn[0]} {drawn[2:]} {text!r}", found, wanted)
+        differ(f"{what}: {name} {words} {drawn[3]} {shown(text)}", found, wanted)
     return name, done.stderr.split(b" ")[0].decode() or "fine"
 
 

@@ -10,7 +10,7 @@ def fields_of(draw, version, key, length):
     if length or draw.chance(0.1):
         fields.append(f"Content-Length: {length}")
     if draw.chance(0.1):
-        fields.append(draw.pick(("Accept: */*", "X: ", "Content-Type: text/plain", "Expect:", "X: \xe4")))
+        fields.append(draw.pick(("Accept: */*", "X: ", "X-Desk-Key: a", "Expect:", "X: \xe4")))
     draw.random.shuffle(fields)
     return fields
 

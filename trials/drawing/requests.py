@@ -16,12 +16,13 @@ from .words import budget, calendar, instance, is_long, rule
 
 OFFICE_KEY = "office-key-1"
 DESKS = ("north", "north-2", "east", "a", "0-west")
+NO_DESKS = ("nobody", "North", "-a", "x" * 40)
 CODES = ("crew-a", "crew-b", "crew-c", "press", "lathe", "saw")
 PLENTY = 12
 
 # How often each call is drawn.
 WEIGHTS = {
-    "publish": 9, "open": 1, "key": 2, "capacities": 2, "plans": 3, "project": 8, "shop": 6,
+    "publish": 9, "open": 1, "key": 3, "capacities": 2, "plans": 3, "project": 8, "shop": 6,
     "remove": 4, "bind": 14, "calendar": 7, "lag": 8, "dates": 6, "schedule": 8, "chart": 7,
     "days": 9, "best": 8,
 }
@@ -88,7 +89,7 @@ class Requests:
         """A desk, mostly one that is there."""
         there = list(self.office.desks)
         if not there or self.draw.slips(0.02):
-            return self.draw.pick((*DESKS, "nobody", "North", "-a", "x" * 40))
+            return self.draw.pick(DESKS + NO_DESKS)
         return self.draw.pick(there)
 
     def key(self, path):
@@ -135,7 +136,9 @@ class Requests:
         return "/office/desks", self.body({"desk": self.draw.pick(DESKS), "key": self.known_key()})
 
     def draw_key(self, call):
-        return f"/office/desks/{self.desk()}/key", self.body({"key": self.known_key()})
+        desk = self.draw.pick(NO_DESKS) if self.draw.chance(0.2) else self.desk()
+        form = spoiled_body if self.draw.chance(0.3) else spelled
+        return f"/office/desks/{desk}/key", form(self.draw, {"key": self.known_key()})
 
     def draw_capacities(self, call):
         return f"/desks/{self.desk()}/capacities", self.draw.pick((b"", b"", b"anything"))
@@ -146,7 +149,8 @@ class Requests:
     def draw_project(self, call):
         text = project_text(self.draw)
         if self.draw.chance(0.01):
-            text = b"*" * (self.draw.pick((MOST_BODY, MOST_BODY + 1)) - len(text) - 1) + b"\n" + text
+            stars = self.draw.pick((MOST_BODY, MOST_BODY + 1)) - len(text) - 1
+            text = b"*" * stars + b"\n" + text
         return f"/desks/{self.desk()}/projects", text
 
     def draw_shop(self, call):
@@ -206,7 +210,7 @@ class Requests:
         if not dated or self.draw.chance(0.4):
             return self.draw_page(call)
         long = [own for own in dated if is_long(self.office.plans[own].body)]
-        desk, n = self.draw.pick(long if long and self.draw.chance(0.1) else dated)
+        desk, n = self.draw.pick(long if long and self.draw.chance(0.15) else dated)
         is_shop = self.office.plans[desk, n].kind == "shop"
         return f"/desks/{desk}/plans/{n}/days/{rule(self.draw, is_shop)}", b""
 

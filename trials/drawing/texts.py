@@ -7,7 +7,9 @@ WORDS = (
 NAMES = ("a", "b", "c", "-", "A.1_b~", "x:y@(z)*", "a-very-long-name-of-an-instance-that-is-there")
 # Needs, and capacities that mostly hold them.
 AMOUNTS = (((0, 1, 1, 1), (1, 1, 2)), ((0, 1, 1, 2), (2, 2, 3)), ((1, 2, 2, 3), (3, 4, 5)))
-SHORT, LONG = (0, 1, 1, 1, 2, 2, 3, 3, 4, 5), (9, 10, 20, 30, 59, 60, 61, 10000)
+# Durations; the longer ones often add up to what a chart shows with one unit alone, or just not.
+SHORT = (0, 1, 1, 1, 2, 2, 3, 3, 4, 5)
+LONG = ((0, 60), (0, 20, 40), (0, 30), (0, 61), (0, 0, 60, 1), (0, 120, 1), (9, 10000))
 WIDE = ("  ", "\t", "\x0b\x0c", " \x1a", " \r", "\n", " \n\n")
 TITLES = ("PRECEDENCE RELATIONS:", "REQUESTS/DURATIONS:", "RESOURCEAVAILABILITIES:")
 
@@ -90,7 +92,7 @@ def chain_text(draw):
 
 def durations_of(draw, count):
     """Durations, short or long ones alike."""
-    own = LONG if draw.chance(0.12) else SHORT
+    own = draw.pick(LONG) if draw.chance(0.12) else SHORT
     return [draw.pick(own) for _ in range(count)]
 
 
