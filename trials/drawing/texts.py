@@ -9,7 +9,7 @@ NAMES = ("a", "b", "c", "-", "A.1_b~", "x:y@(z)*", "a-very-long-name-of-an-insta
 AMOUNTS = (((0, 1, 1, 1), (1, 1, 2)), ((0, 1, 1, 2), (2, 2, 3)), ((1, 2, 2, 3), (3, 4, 5)))
 # Durations; the longer ones often add up to what a chart shows with one unit alone, or just not.
 SHORT = (0, 1, 1, 1, 2, 2, 3, 3, 4, 5)
-LONG = ((0, 60), (0, 20, 40), (0, 30), (0, 61), (0, 0, 60, 1), (0, 120, 1), (9, 10000))
+LONG = ((0, 60), (0, 20, 40), (0, 30), (0, 0, 61), (0, 0, 60, 1), (0, 120, 1), (9, 10000))
 WIDE = ("  ", "\t", "\x0b\x0c", " \x1a", " \r", "\n", " \n\n")
 TITLES = ("PRECEDENCE RELATIONS:", "REQUESTS/DURATIONS:", "RESOURCEAVAILABILITIES:")
 
@@ -60,9 +60,9 @@ def request_rows(draw, durations, resources, needs):
     return [row(i, 1, *own) for i, own in enumerate(lists, 1)]
 
 
-def project_lines(draw, arcs, durations, resources):
+def project_lines(draw, arcs, durations, resources, amounts=AMOUNTS):
     """The lines of a project file."""
-    head, (needs, amounts) = project_head(len(durations), resources), draw.pick(AMOUNTS)
+    head, (needs, amounts) = project_head(len(durations), resources), draw.pick(amounts)
     rows = [TITLES[0], "jobnr. #modes #successors", *precedence_rows(draw, arcs, len(durations))]
     rows += [TITLES[1], "jobnr. mode duration R", *request_rows(draw, durations, resources, needs)]
     capacities = [draw.pick((0, 1) if draw.slips(0.03) else amounts) for _ in range(resources)]
@@ -86,13 +86,12 @@ def chain_text(draw):
     count = draw.pick((40, 47, 100, 101, 42, 42, 42, 42, 42, 42, 42, 42))
     arcs = [(i, i + 1) for i in range(1, count)]
     durations = [10000] * (count - 1) + [draw.pick((7419, 7420, 7421, 10000))]
-    lines = project_lines(draw, arcs, durations, 1)
-    return laid_out(draw, [*lines[:-1], "3"])
+    return laid_out(draw, project_lines(draw, arcs, durations, 1, AMOUNTS[:1]))
 
 
 def durations_of(draw, count):
     """Durations, short or long ones alike."""
-    own = draw.pick(LONG) if draw.chance(0.12) else SHORT
+    own = draw.pick(LONG) if draw.chance(0.2) else SHORT
     return [draw.pick(own) for _ in range(count)]
 
 
