@@ -59,7 +59,7 @@ VALUES = (b"NaN", b"1e999", b'"\\ud800"', b"-0", b"1.", b"-", b'"\\ud83d\\ude00"
 
 def spoiled_body(draw, members):
     """The body of a command with one thing changed."""
-    way, name = draw.number(0, 10), draw.pick(list(members))
+    way, name = draw.number(0, 12), draw.pick(list(members))
     body = spelled(draw, members)
     if way < 4:
         return spelled(draw, {**members, name: other_value(draw)})
@@ -76,4 +76,6 @@ def spoiled_body(draw, members):
         return body + draw.pick((b" ", b"x", b"{}", b"\n"))
     if way == 9:
         return re.sub(rb":(\s*)[0-9]+", b":" + draw.pick(NUMBERS), body, count=1)
-    return body[: draw.number(0, len(body))]
+    if way == 10:
+        return body[: draw.number(0, len(body))]
+    return draw.other_byte(body)

@@ -96,12 +96,15 @@ def faulty_request(draw, method, path, key, body):
     """The bytes of a connection with some things changed."""
     key, first = key or "no-key-at-all", f"{method} {path} HTTP/1.1"
     fields = fields_of(draw, "1.1", key, len(body))
-    way = draw.number(0, 9)
+    way = draw.number(0, 10)
     if way < 4 or draw.chance(0.2):
         first = draw.pick(first_lines(method, path))
     if way == 4:
         fields = long_fields(draw, first, fields)
-    for _ in range(draw.pick((1, 1, 2)) if way > 4 else draw.pick((0, 0, 1))):
+    for _ in range(draw.pick((1, 1, 2)) if 4 < way < 9 else draw.pick((0, 0, 0, 1))):
         fields = other_fields(draw, fields, key, len(body))
     sent = joined(draw, first, fields, body)
+    if way > 8:
+        head = len(sent) - len(body)
+        return draw.other_byte(sent[:head]) + sent[head:]
     return sent[: draw.number(0, len(sent))] if draw.chance(0.05) else sent

@@ -18,5 +18,11 @@ class Draw:
     def pick(self, values):
         return self.random.choice(values)
 
+    def other_byte(self, text):
+        """A text with one byte replaced, put in or taken out."""
+        place = self.number(0, len(text))
+        put = bytes([self.number(0, 255)]) if self.chance(0.8) else b""
+        return text[:place] + put + text[place + self.number(0, 1) :]
+
     def number(self, least, greatest):
         return self.random.randint(least, greatest)

@@ -103,11 +103,17 @@ class Requests:
 
     def plan(self, *kinds):
         """The desk and the number of a plan, mostly one that is there, of these kinds."""
-        there = [own for own, plan in self.office.plans.items() if plan.kind in kinds]
+        plans = self.office.plans.items()
+        there = [own for own, plan in plans if plan.kind in kinds and not is_long(plan.body)]
+        long = self.long_plans()
+        there = long if long and (not there or self.draw.chance(0.1)) else there
         if not there or self.draw.slips(0.03):
             others = ("0", "1", "01", "999999", "1000000", "12345678", "x", "-1", "1.0")
             return self.desk(), self.draw.pick(others)
         return self.draw.pick(there)
+
+    def long_plans(self):
+        return [own for own, plan in self.office.plans.items() if is_long(plan.body)]
 
     def place(self, call, *kinds):
         """The path of a call for a plan, and the plan; at times one of another kind."""
@@ -178,6 +184,8 @@ class Requests:
 
     def draw_lag(self, call):
         path, plan = self.place(call, "project")
+        if plan and is_long(plan.body) and self.draw.chance(0.9):
+            return self.draw_lag(call)
         arcs = plan.project().arcs if plan and plan.kind == "project" else []
         source, target = self.draw.pick(arcs) if arcs else (1, 2)
         if self.draw.slips(0.08):
@@ -209,8 +217,7 @@ class Requests:
         dated = [own for own, plan in self.office.plans.items() if plan.start]
         if not dated or self.draw.chance(0.4):
             return self.draw_page(call)
-        long = [own for own in dated if is_long(self.office.plans[own].body)]
-        desk, n = self.draw.pick(long if long and self.draw.chance(0.15) else dated)
+        desk, n = self.draw.pick(dated)
         is_shop = self.office.plans[desk, n].kind == "shop"
         return f"/desks/{desk}/plans/{n}/days/{rule(self.draw, is_shop)}", b""
 

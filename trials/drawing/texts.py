@@ -43,7 +43,7 @@ def successors_of(draw, arcs, i):
     """The successors in the row of an activity, in any order, seldom one of them twice."""
     own = [target for source, target in arcs if source == i]
     draw.random.shuffle(own)
-    return [*own, own[0]] if own and draw.chance(0.005) else own
+    return [*own, own[0]] if len(own) > 1 and draw.chance(0.01) else own
 
 
 def row(*numbers):
@@ -85,7 +85,7 @@ def chain_text(draw):
     calendar: from 2000-01-01 on there are 417,420 Sundays."""
     count = draw.pick((40, 47, 100, 101, 42, 42, 42, 42, 42, 42, 42, 42))
     arcs = [(i, i + 1) for i in range(1, count)]
-    durations = [10000] * (count - 1) + [draw.pick((7419, 7420, 7421, 10000))]
+    durations = [10000] * (count - 1) + [draw.pick((7419, 7420, 7420, 7420, 7421, 10000))]
     return laid_out(draw, project_lines(draw, arcs, durations, 1, AMOUNTS[:1]))
 
 
@@ -97,7 +97,7 @@ def durations_of(draw, count):
 
 def project_text(draw):
     """The text of a project."""
-    if draw.chance(0.04):
+    if draw.chance(0.05):
         return spoiled_at_times(draw, chain_text(draw), 0.05)
     count = draw.pick((2, 3, 4, 5, 6, 6, 7, 7, 7))
     durations = durations_of(draw, count)
@@ -156,7 +156,9 @@ def spoiled(draw, text):
     elif way == 6:
         lines.insert(place, draw.pick(lines))
     elif way == 7:
-        lines[place] += b"\0"
+        lines[place] = draw.other_byte(lines[place])
+    elif way == 8:
+        lines[place] += draw.pick((b"\0", b" 1", b" x"))
     else:
         return text[: draw.number(0, len(text))]
     return b"\n".join(lines)

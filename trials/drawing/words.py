@@ -42,6 +42,6 @@ def is_long(text):
 def calendar(draw, text):
     """The two texts of a calendar; for a long project mostly one that it may leave."""
     if is_long(text) and draw.chance(0.9):
-        return draw.pick(("2000-01-01", "2000-01-01", "2199-12-31")), "0000001"
+        return draw.pick(("2000-01-01",) * 4 + ("2199-12-31",)), "0000001"
     start = draw.pick(NO_STARTS if draw.slips(0.08) else STARTS)
     return start, draw.pick(NO_MARKS if draw.slips(0.08) else MARKS)
