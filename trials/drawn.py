@@ -35,6 +35,8 @@ PROGRAM = os.environ.get("PLAN_PROGRAM") or os.path.join(TOP, "crates", "plan", 
 MEMORY = "/dev/shm" if os.path.isdir("/dev/shm") else None
 MOST_SLICE = 300
 SERVED = 0.1
+
+
 class Differs(Exception):
     """The program and the model differ."""
 
@@ -44,7 +46,7 @@ def differ(what, found, wanted):
 
 
 def shown(text):
-    """A text without the middle of a long run of stars."""
+    """The bytes of a text; of a long run of stars less than a thousand."""
     return repr(text.replace(b"*" * 1000, b""))
 
 
@@ -59,8 +61,9 @@ class Store:
     def run(self, *words, given=b""):
         """Standard output of a command that doesn't fail."""
         done = subprocess.run([PROGRAM, *words], input=given, capture_output=True, timeout=300)
-        if (done.returncode, done.stderr) != (0, b""):
-            differ(f"plan {words[0]}", (done.returncode, done.stderr), (0, b""))
+        found = done.returncode, done.stderr
+        if found != (0, b""):
+            differ(f"plan {words[0]}", found, (0, b""))
         return done.stdout
 
     def replay(self, requests):
@@ -93,8 +96,9 @@ class Store:
         words, given = ["sqlite3", copy], DUMP.encode()
         shell = subprocess.run(words, input=given, capture_output=True, timeout=60)
         lines = shell.stdout.decode().split("\n")
-        if (shell.stderr, lines[-2:]) != (b"", ["ok", ""]):
-            differ("sqlite3 on the file", (shell.stderr, lines[-2:]), (b"", ["ok", ""]))
+        found, wanted = (shell.stderr, lines[-2:]), (b"", ["ok", ""])
+        if found != wanted:
+            differ("sqlite3 on the file", found, wanted)
         return sorted(lines[:-2])
 
 
@@ -169,20 +173,25 @@ def try_drawn(cases=20000, seed=1, is_verbose=False):
     tell(is_verbose, f"{done} requests by seed {seed}", drawn.tally)
 
 
+def in_file(folder, text):
+    """The name of a file with a text."""
+    path = os.path.join(folder, "starts")
+    with open(path, "wb") as file:
+        file.write(text)
+    return path
+
+
 def compare_command(what, folder, drawn):
-    """Runs a command on a text by standard input, and compares all that it gives."""
+    """Runs a command on a text by standard input, and compares all that it gives. A check takes
+    its starts from a file."""
     name, text, words, behind = drawn
     wanted = run(name, text, *words, *behind)
-    if name == "check":
-        path = os.path.join(folder, "starts")
-        with open(path, "wb") as file:
-            file.write(behind[0])
-        behind = [path]
-    given = [PROGRAM, name, *words, "-", *behind]
-    done = subprocess.run(given, input=text, capture_output=True, timeout=300)
+    given = [in_file(folder, word) if type(word) is bytes else word for word in behind]
+    call = [PROGRAM, name, *words, "-", *given]
+    done = subprocess.run(call, input=text, capture_output=True, timeout=300)
     found = done.returncode, done.stdout, done.stderr
     if found != wanted:
-        differ(f"{what}: {name} {words} {drawn[3]} {shown(text)}", found, wanted)
+        differ(f"{what}: {name} {words} {behind} {shown(text)}", found, wanted)
     return name, done.stderr.split(b" ")[0].decode() or "fine"
 
 

@@ -73,11 +73,13 @@ def text_of(name):
 def try_tour():
     """Each command, with what it prints on either output."""
     tour = calls()
+    same("the tour has commands", len(tour) > 0, True)
     for words, lines in tour:
         files = [word for word in words if type(word) is bytes]
         others = [word for word in words[1:] if word is not files[0]]
         _, out, err = run(words[0], files[0], *others)
-        what = " ".join(["the model:", words[0], *map(str, words[1:])])
+        named = [word for word in words if type(word) is str]
+        what = "the model: " + " ".join(named)
         same(what, (out + err).decode(), "".join(line + "\n" for line in lines))
     return len(tour)
 

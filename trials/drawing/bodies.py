@@ -3,6 +3,21 @@
 import json
 import re
 
+# Keys and names as long or as short as they may be.
+EDGES = ("!" * 8, "~" * 64, "a" * 32, "a" * 33)
+
+# Texts in the place of a number, mostly of none.
+NUMBERS = (
+    b"-0", b"1e0", b"1.0", b"01", b"+1", b"1E2", b"0x1", b".5", b"1.", b"18446744073709551615",
+    b"18446744073709551616", b"0", b"1", b"2", b"10000", b"10001", b"503",
+)
+NO_JSON = (
+    b"", b"{", b"[]", b"null", b'"a"', b"{}", b"{,}", b'{"a":NaN}', b'{"a":1e999}', b"\xff",
+    b'{"a":"\\ud800"}', b'{"a":Infinity}', b"\xef\xbb\xbf{}", b'{"a":"\n"}', b'{"a":01}',
+)
+# Values of a member that is ignored where it is JSON.
+VALUES = (b"NaN", b"1e999", b'"\\ud800"', b"-0", b"1.", b"-", b'"\\ud83d\\ude00"', b"9" * 400)
+
 
 def escaped(draw, text):
     """The text of a string in JSON, at times with an escape for one of its letters."""
@@ -28,33 +43,12 @@ def spelled(draw, members):
     return ("{" + blank + ("," + blank).join(pieces) + blank + "}").encode()
 
 
-# Keys and names as long or as short as they may be.
-EDGES = ("!" * 8, "~" * 64, "a" * 32, "a" * 33)
-
-
-# Texts in the place of a number, mostly of none.
-NUMBERS = (
-    b"-0", b"1e0", b"1.0", b"01", b"+1", b"1E2", b"0x1", b".5", b"1.", b"18446744073709551615",
-    b"18446744073709551616", b"0", b"1", b"2", b"10000", b"10001", b"503",
-)
-
-
 def other_value(draw):
     """A value that is seldom right."""
     if draw.chance(0.5):
         return draw.pick((None, True, [], {}, 1.0, -1, 10001, 2**32, 2**64, "1", 0, 10**25))
     texts = ("", "-a", "A", "a b", "\u00e4", "!" * 7, "~" * 65, "Crew", "machine", "tab\tkey1")
     return draw.pick((*texts, *EDGES, "key with blank"))
-
-
-NO_JSON = (
-    b"", b"{", b"[]", b"null", b'"a"', b"{}", b"{,}", b'{"a":NaN}', b'{"a":1e999}', b"\xff",
-    b'{"a":"\\ud800"}', b'{"a":Infinity}', b"\xef\xbb\xbf{}", b'{"a":"\n"}', b'{"a":01}',
-)
-
-
-# Values of a member that is ignored where it is JSON.
-VALUES = (b"NaN", b"1e999", b'"\\ud800"', b"-0", b"1.", b"-", b'"\\ud83d\\ude00"', b"9" * 400)
 
 
 def spoiled_body(draw, members):

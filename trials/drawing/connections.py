@@ -1,5 +1,8 @@
 """The bytes of connections, right ones and wrong ones."""
 
+# Lines that are no fields.
+NO_FIELDS = ("X : y", " x", ": x", "X", "X\x7f: y", "X: \x01", "X: \r y", "\xe4: y")
+
 
 def fields_of(draw, version, key, length):
     """The fields of a head, in any order."""
@@ -38,10 +41,6 @@ def wrong_lengths(draw, length):
         (), (1048576,), ("0" * 30 + str(length),), (length, "x"), (length, length),
     ))
     return [f"Content-Length: {value}" for value in values]
-
-
-# Lines that are no fields.
-NO_FIELDS = ("X : y", " x", ": x", "X", "X\x7f: y", "X: \x01", "X: \r y", "\xe4: y")
 
 
 def without(fields, name):

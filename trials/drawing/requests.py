@@ -132,7 +132,7 @@ class Requests:
     def draw_publish(self, call):
         code = self.draw.pick(CODES)
         kind = "crew" if code.startswith("crew") else "machine"
-        if self.draw.slips(0.05):
+        if self.draw.slips(0.1):
             kind = self.draw.pick(("crew", "machine"))
         most = (0, 1, 1, 2, 2) if kind == "machine" else (0, 1, 2, 2, 2, 3, 3, 3, 4, 4, 5, 10000)
         capacity = self.draw.pick(most)

@@ -11,6 +11,8 @@ AMOUNTS = (((0, 1, 1, 1), (1, 1, 2)), ((0, 1, 1, 2), (2, 2, 3)), ((1, 2, 2, 3), 
 SHORT = (0, 1, 1, 1, 2, 2, 3, 3, 4, 5)
 LONG = ((0, 60), (0, 20, 40), (0, 30), (0, 0, 61), (0, 0, 60, 1), (0, 120, 1), (9, 10000))
 WIDE = ("  ", "\t", "\x0b\x0c", " \x1a", " \r", "\n", " \n\n")
+# Sizes at their limits and beyond, also those of a search.
+SIZES = ((11, 10), (50, 1), (51, 1), (1, 20), (1, 21), (20, 5), (6, 17))
 TITLES = ("PRECEDENCE RELATIONS:", "REQUESTS/DURATIONS:", "RESOURCEAVAILABILITIES:")
 
 
@@ -118,10 +120,6 @@ def shop_lines(draw, jobs, machines):
         times = [10000] * machines if longest else durations_of(draw, machines)
         lines.append(" ".join(f"{machine} {time}" for machine, time in zip(order, times)))
     return lines
-
-
-# Sizes at their limits and beyond, also those of a search.
-SIZES = ((11, 10), (50, 1), (51, 1), (1, 20), (1, 21), (20, 5), (6, 17))
 
 
 def shop_text(draw):
