@@ -18,7 +18,10 @@ OFFICE_KEY = "office-key-1"
 DESKS = ("north", "north-2", "east", "a", "0-west")
 NO_DESKS = ("nobody", "North", "-a", "x" * 40)
 CODES = ("crew-a", "crew-b", "crew-c", "press", "lathe", "saw")
-PLENTY = 12
+# So many plans are there before one goes for each that comes, those of the crowded desk apart, of
+# which few go, so that it comes to hold as many as a desk may.
+PLENTY = 60
+CROWDED = "north-2"
 
 # How often each call is drawn.
 WEIGHTS = {
@@ -61,8 +64,8 @@ class Requests:
         if len(self.office.desks) < 3 and self.draw.chance(0.2):
             return "open"
         call = self.draw.random.choices(list(WEIGHTS), list(WEIGHTS.values()))[0]
-        is_import = call in ("project", "shop")
-        return "remove" if is_import and len(self.office.plans) > 5 * PLENTY else call
+        others = [desk for desk, _ in self.office.plans if desk != CROWDED]
+        return "remove" if call in ("project", "shop") and len(others) > PLENTY else call
 
     def count(self, sent, wanted):
         """Counts the call and what it was answered."""
@@ -91,6 +94,11 @@ class Requests:
         if not there or self.draw.slips(0.02):
             return self.draw.pick(DESKS + NO_DESKS)
         return self.draw.pick(there)
+
+    def importing(self):
+        """The desk that imports: often the crowded one, until it is full."""
+        held = sum(desk == CROWDED for desk, _ in self.office.plans)
+        return CROWDED if self.draw.chance(0.3 if held < 99 else 0.05) else self.desk()
 
     def key(self, path):
         """The key that a path takes, now and then another or none."""
@@ -134,7 +142,7 @@ class Requests:
         kind = "crew" if code.startswith("crew") else "machine"
         if self.draw.slips(0.1):
             kind = self.draw.pick(("crew", "machine"))
-        most = (0, 1, 1, 2, 2) if kind == "machine" else (0, 1, 2, 2, 2, 3, 3, 3, 4, 4, 5, 10000)
+        most = (0, 1, 1, 1, 2, 2) if kind == "machine" else (0, 1, 2, 2, 2, 3, 3, 3, 4, 4, 5, 10000)
         capacity = self.draw.pick(most)
         return "/office/capacities", self.body({"code": code, "kind": kind, "capacity": capacity})
 
@@ -157,14 +165,16 @@ class Requests:
         if self.draw.chance(0.01):
             stars = self.draw.pick((MOST_BODY, MOST_BODY + 1)) - len(text) - 1
             text = b"*" * stars + b"\n" + text
-        return f"/desks/{self.desk()}/projects", text
+        return f"/desks/{self.importing()}/projects", text
 
     def draw_shop(self, call):
         text = shop_text(self.draw)
-        return f"/desks/{self.desk()}/shops/{instance(self.draw, text)}", text
+        return f"/desks/{self.importing()}/shops/{instance(self.draw, text)}", text
 
     def draw_remove(self, call):
         path, _ = self.place("")
+        if CROWDED in path and self.draw.chance(0.9):
+            return self.draw_remove(call)
         return path[:-1], b""
 
     def draw_bind(self, call):

@@ -29,15 +29,18 @@ def arcs_of(draw, count, density=0.4):
     return list(dict.fromkeys(arcs))
 
 
-def project_head(count, resources):
-    """The keys."""
+def project_head(draw, count, resources):
+    """The keys with their values, seldom one of them another."""
+    values = [1, count, resources, 0, 0]
+    if draw.slips(0.02):
+        values[draw.number(0, 4)] = draw.pick((0, 1, 2, 17, 503, "x", ""))
     return [
-        "projects : 1",
-        f"jobs (incl. supersource/sink ):  {count}",
+        f"projects : {values[0]}",
+        f"jobs (incl. supersource/sink ):  {values[1]}",
         "RESOURCES",
-        f"  - renewable                 :  {resources}   R",
-        "  - nonrenewable              :  0   N",
-        "  - doubly constrained        :  0   D",
+        f"  - renewable                 :  {values[2]}   R",
+        f"  - nonrenewable              :  {values[3]}   N",
+        f"  - doubly constrained        :  {values[4]}   D",
     ]
 
 
@@ -64,7 +67,7 @@ def request_rows(draw, durations, resources, needs):
 
 def project_lines(draw, arcs, durations, resources, amounts=AMOUNTS):
     """The lines of a project file."""
-    head, (needs, amounts) = project_head(len(durations), resources), draw.pick(amounts)
+    head, (needs, amounts) = project_head(draw, len(durations), resources), draw.pick(amounts)
     rows = [TITLES[0], "jobnr. #modes #successors", *precedence_rows(draw, arcs, len(durations))]
     rows += [TITLES[1], "jobnr. mode duration R", *request_rows(draw, durations, resources, needs)]
     capacities = [draw.pick((0, 1) if draw.slips(0.03) else amounts) for _ in range(resources)]
@@ -129,8 +132,8 @@ def shop_text(draw):
     if draw.chance(0.3):
         return spoiled_at_times(draw, laid_out(draw, lines), 0.2)
     found = ["a collection"]
-    for name in draw.random.sample(NAMES, draw.number(1, 2)):
-        found += ["+++", f"instance {name}", "+++"][draw.number(0, 1) :]
+    for _ in range(draw.number(1, 2)):
+        found += ["+++", f"instance {draw.pick(NAMES)}", "+++"][draw.number(0, 1) :]
         found += [draw.pick(("a description", "1 1")), *lines, *draw.pick(([], ["++ +"]))]
         lines = shop_lines(draw, draw.number(1, 2), draw.number(1, 3))
     found = [line for line in found if line != "***"]
