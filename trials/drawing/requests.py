@@ -111,9 +111,8 @@ class Requests:
 
     def plan(self, *kinds):
         """The desk and the number of a plan, mostly one that is there, of these kinds."""
-        plans = self.office.plans.items()
-        there = [own for own, plan in plans if plan.kind in kinds and not is_long(plan.body)]
-        long = self.long_plans()
+        plans, long = self.office.plans.items(), self.long_plans()
+        there = [own for own, plan in plans if plan.kind in kinds and own not in long]
         there = long if long and (not there or self.draw.chance(0.1)) else there
         if not there or self.draw.slips(0.03):
             others = ("0", "1", "01", "999999", "1000000", "12345678", "x", "-1", "1.0")

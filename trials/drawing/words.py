@@ -36,7 +36,7 @@ def instance(draw, text):
 
 def is_long(text):
     """A project or a shop that may leave a calendar."""
-    return text.count(b"10000") > 30
+    return len(text) > 800 and text.count(b"10000") > 30
 
 
 def calendar(draw, text):

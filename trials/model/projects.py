@@ -15,12 +15,14 @@ class Project:
         self.durations, self.arcs, self.needs = durations, arcs, needs
         self.lags = {arc: 0 for arc in arcs}
         self.capacities = capacities
+        self.before = {j: [i for i, k in sorted(arcs) if k == j] for j in durations}
+        self.behind = {j: [k for i, k in sorted(arcs) if i == j] for j in durations}
 
     def predecessors(self, j):
-        return sorted(source for source, target in self.arcs if target == j)
+        return self.before[j]
 
     def successors(self, j):
-        return sorted(target for source, target in self.arcs if source == j)
+        return self.behind[j]
 
 
 def is_title(line):
