@@ -98,7 +98,8 @@ class Requests:
     def importing(self):
         """The desk that imports: often the crowded one, until it is full."""
         held = sum(desk == CROWDED for desk, _ in self.office.plans)
-        return CROWDED if self.draw.chance(0.3 if held < 99 else 0.05) else self.desk()
+        is_often = CROWDED in self.office.desks and held < 99
+        return CROWDED if self.draw.chance(0.3 if is_often else 0.04) else self.desk()
 
     def key(self, path):
         """The key that a path takes, now and then another or none."""
