@@ -16,7 +16,11 @@ NO_JSON = (
     b'{"a":"\\ud800"}', b'{"a":Infinity}', b"\xef\xbb\xbf{}", b'{"a":"\n"}', b'{"a":01}',
 )
 # Values of a member that is ignored where it is JSON.
-VALUES = (b"NaN", b"1e999", b'"\\ud800"', b"-0", b"1.", b"-", b'"\\ud83d\\ude00"', b"9" * 400)
+VALUES = (
+    b"NaN", b"1e999", b"-1e999", b"0e999", b"1e-999", b"-0", b"1.", b"-", b"9" * 400, b"9" * 300,
+    b"1E+5", b"0.5e-1", b'"\\ud800"', b'"\\udc00"', b'"\\ud83d\\ude00"', b'"\\ud83d\\ud83d"',
+    b'"\\u12"', b'"\\x"', b'"\\u0000\\b\\/"', b"'a'", b"nul", b"truetrue", b"[1,]", b'{"a":}',
+)
 
 
 def escaped(draw, text):

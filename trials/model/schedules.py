@@ -63,7 +63,7 @@ def total_successors(project, j):
     """The other activities at the end of a path that begins with j."""
     reached = set(project.successors(j))
     while True:
-        more = {l for k in reached for l in project.successors(k)} - reached
+        more = {further for k in reached for further in project.successors(k)} - reached
         if not more:
             return reached
         reached |= more

@@ -72,7 +72,7 @@ def shop_lines(shop, starts):
     """The table of a shop, as lines."""
     steps = shop_steps(shop, starts)
     lines = [row("job", "step", "mach", "d", "start", "end")]
-    return [*lines, *(row(*step) for step in steps), f"makespan {max(s[-1] for s in steps)}"]
+    return [*lines, *(row(*step) for step in steps), f"makespan {max(step[-1] for step in steps)}"]
 
 
 def rounded_up(number, divisor):
