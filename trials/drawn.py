@@ -82,6 +82,8 @@ class Store:
         try:
             found = b"".join(talk(port, sent) for sent in requests)
             _, error = server.communicate(timeout=20)
+        except (OSError, subprocess.TimeoutExpired) as failure:
+            differ("plan serve", failure, "all responses, and an end by itself")
         finally:
             server.kill()
             server.communicate()
@@ -212,6 +214,8 @@ def main():
     words.add_argument("--seed", type=int, default=1)
     words.add_argument("-v", action="store_true", dest="is_verbose")
     given = words.parse_args()
+    if not os.path.exists(PROGRAM):
+        sys.exit(f"drawn: {PROGRAM} isn't there; the gate builds it, or PLAN_PROGRAM names another")
     try:
         try_drawn(given.cases, given.seed, given.is_verbose)
         try_files(given.commands, given.seed, given.is_verbose)
