@@ -1,5 +1,6 @@
 """Commands on files with their words and texts, mostly right ones."""
 
+from model.commands import pages_of
 from model.projects import read_project
 from model.schedules import check_needs, rule_starts
 from model.words import Fault
@@ -7,8 +8,8 @@ from model.words import Fault
 from .texts import project_text, shop_text, spoiled_at_times
 from .words import budget, calendar, instance, rule
 
-PROJECT_COMMANDS = ("cpm", "schedule", "chart", "days", "best-project", "check")
-SHOP_COMMANDS = ("shop", "best", "names", "chart", "days")
+PROJECT_COMMANDS = ("cpm", "schedule", "chart", "days", "best-project", "best-project", "check")
+SHOP_COMMANDS = ("shop", "best", "best", "best", "names", "chart", "days")
 OTHER_TEXTS = (b"", b"\n", b" " * 1048576, b"\n" * 1048577, b"x" * 1048577, b"1 1", b"\0")
 
 
@@ -33,13 +34,21 @@ def starts_text(draw, text):
     return spoiled_at_times(draw, "".join(pieces), 0.15)
 
 
-def words_of(draw, name, text, is_shop):
-    """The words of a command, those of the file apart."""
+def searched(text, name):
+    """The pages of a text; None where it is wrong."""
+    try:
+        return pages_of(text, name)
+    except Fault:
+        return None
+
+
+def words_of(draw, name, text, behind):
+    """The words of a command in front of the file."""
     if name in ("cpm", "names", "check"):
         return []
     if name.startswith("best"):
-        return [budget(draw)]
-    words = [rule(draw, is_shop)]
+        return [budget(draw, searched(text, behind))]
+    words = [rule(draw, len(behind) > 0)]
     return [*words, *calendar(draw, text)] if name == "days" else words
 
 
@@ -49,7 +58,7 @@ def command(draw):
     name = draw.pick(SHOP_COMMANDS if is_shop else PROJECT_COMMANDS)
     text = shop_text(draw) if is_shop else project_text(draw)
     text = draw.pick(OTHER_TEXTS) if draw.chance(0.02) else text
-    words = words_of(draw, name, text, is_shop)
     behind = [instance(draw, text)] if is_shop and name != "names" else []
+    words = words_of(draw, name, text, behind)
     listed = [starts_text(draw, text)] if name == "check" else []
     return name, text, words, [*behind, *listed]

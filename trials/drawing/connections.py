@@ -100,7 +100,7 @@ def faulty_request(draw, method, path, key, body):
         first = draw.pick(first_lines(method, path))
     if way == 4:
         fields = long_fields(draw, first, fields)
-    for _ in range(draw.pick((1, 1, 2)) if 4 < way < 9 else draw.pick((0, 0, 0, 1))):
+    for _ in range(draw.pick((1, 1, 2, 3)) if 4 < way < 9 else draw.pick((0, 0, 0, 1))):
         fields = other_fields(draw, fields, key, len(body))
     sent = joined(draw, first, fields, body)
     if way > 8:

@@ -6,7 +6,6 @@ import random
 
 from model import Office
 from model.messages import MOST_BODY, ROUTES, Refusal, Request
-from model.words import Fault
 
 from .bodies import EDGES, spelled, spoiled_body
 from .connections import faulty_request, request
@@ -27,7 +26,7 @@ CROWDED = "north-2"
 WEIGHTS = {
     "publish": 9, "open": 1, "key": 3, "capacities": 2, "plans": 3, "project": 8, "shop": 6,
     "remove": 4, "bind": 14, "calendar": 7, "lag": 8, "dates": 6, "schedule": 8, "chart": 7,
-    "days": 9, "best": 8,
+    "days": 9, "best": 10,
 }
 
 
@@ -204,20 +203,10 @@ class Requests:
         return path, self.body({"from": source, "to": target, "lag": lag})
 
     def draw_best(self, call):
-        """A best schedule; at times with just the budget that it takes, or with one word less."""
         path, plan = self.place(call)
-        needed = self.words_of(path) if plan and self.draw.chance(0.3) else None
-        if needed:
-            return f"{path}/{max(needed - self.draw.number(0, 1), 1)}", b""
-        return f"{path}/{budget(self.draw)}", b""
-
-    def words_of(self, path):
-        """How many words are visited, up to 400; None where nothing is searched."""
         _, _, desk, _, n, _ = path.split("/")
-        try:
-            return self.office.pages((desk, int(n))).search("400").visited
-        except Fault:
-            return None
+        pages = self.office.pages((desk, int(n))) if plan else None
+        return f"{path}/{budget(self.draw, pages)}", b""
 
     def draw_dates(self, call):
         return self.place(call, "project")[0], b""

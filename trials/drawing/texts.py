@@ -12,7 +12,7 @@ SHORT = (0, 1, 1, 1, 2, 2, 3, 3, 4, 5)
 LONG = ((0, 60), (0, 20, 40), (0, 30), (0, 0, 61), (0, 0, 60, 1), (0, 120, 1), (9, 10000))
 WIDE = ("  ", "\t", "\x0b\x0c", " \x1a", " \r", "\n", " \n\n")
 # Sizes at their limits and beyond, also those of a search.
-SIZES = ((11, 10), (50, 1), (51, 1), (1, 20), (1, 21), (20, 5), (6, 17))
+SIZES = ((11, 10), (50, 1), (51, 1), (1, 20), (1, 21), (20, 5), (6, 17), (7, 15))
 TITLES = ("PRECEDENCE RELATIONS:", "REQUESTS/DURATIONS:", "RESOURCEAVAILABILITIES:")
 
 
@@ -127,7 +127,7 @@ def shop_lines(draw, jobs, machines):
 
 def shop_text(draw):
     """The text of a job shop file."""
-    sizes = draw.pick(SIZES) if draw.chance(0.03) else (draw.pick((1, 2, 3, 3)), draw.number(1, 3))
+    sizes = draw.pick(SIZES) if draw.chance(0.04) else (draw.pick((1, 2, 3, 3)), draw.number(1, 3))
     lines = shop_lines(draw, *sizes)
     if draw.chance(0.3):
         return spoiled_at_times(draw, laid_out(draw, lines), 0.2)

@@ -1,5 +1,7 @@
 """Words of requests and commands: names, rules, budgets and calendars, mostly right ones."""
 
+from model.words import Fault
+
 from .texts import NAMES
 
 PROJECT_RULES, SHOP_RULES = ("lft", "slk", "spt", "mts", "num"), ("spt", "mwkr", "fcfs")
@@ -19,10 +21,20 @@ def rule(draw, is_shop):
     return draw.pick(SHOP_RULES if is_shop else PROJECT_RULES)
 
 
-def budget(draw):
-    if draw.chance(0.3):
-        return str(draw.number(1, 30))
-    return draw.pick(NO_BUDGETS if draw.slips(0.12) else BUDGETS)
+def budget(draw, pages):
+    """A budget, often just the one that a search needs, or one word less."""
+    needed = words_of(pages) if pages and draw.chance(0.6) else None
+    if needed and not draw.slips(0.12):
+        return str(max(needed - draw.number(0, 1), 1))
+    return draw.pick(NO_BUDGETS if draw.slips(0.15) else BUDGETS)
+
+
+def words_of(pages):
+    """How many words a search visits, up to 400; None where there is no search."""
+    try:
+        return pages.search("400").visited
+    except Fault:
+        return None
 
 
 def instance(draw, text):
