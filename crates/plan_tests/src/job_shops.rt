@@ -1,7 +1,7 @@
-//! Worked examples of small job shops: closed machines, and words.
+//! Words of small job shops.
 
 use plan_orlib::{ShopDoc, read_shop};
-use plan_shop::{Shop, ShopFault, ShopRule, ShopTree, giffler};
+use plan_shop::{Shop, ShopTree};
 use std::alloc::Global;
 use std::process::Abort;
 use std::test::Fail;
@@ -12,35 +12,6 @@ fn doc_of(rt: &impl Abort, alloc: Global, text: &str) -> ShopDoc {
         Ok(doc) => doc,
         Err(_) => panic!(rt; "not read: {text}"),
     }
-}
-
-// The rule of a name.
-fn rule_of(rt: &impl Abort, word: &str) -> ShopRule {
-    match ShopRule::parse(word) {
-        Ok(rule) => rule,
-        Err(_) => panic!(rt; "{word} is no rule"),
-    }
-}
-
-#[test]
-fn refuses_closed_machines_in_use(rt: HostRuntime) -> Result<(), Fail> {
-    let doc = doc_of(&rt, rt.alloc(), "1 2\n0 0 1 2\n");
-    if doc.machines() == 2 {
-        let shop = Shop::of_doc(rt.alloc(), &doc, &[false, true])?;
-        for word in ["spt", "mwkr", "fcfs"] {
-            let found = giffler(rt.alloc(), &shop, rule_of(&rt, word))?;
-            assert_eq!(rt; found.starts.as_slice(), [0, 0].as_slice(), "{word}");
-            assert_eq!(rt; found.makespan, 2, "{word}");
-        }
-        let refused = Shop::of_doc(rt.alloc(), &doc, &[true, false]);
-        assert!(rt; matches!(refused, Err(ShopFault::MachineClosed(1))));
-    }
-    let doc = doc_of(&rt, rt.alloc(), "2 2\n0 3 1 2\n0 2 1 4\n");
-    if doc.machines() == 2 {
-        let refused = Shop::of_doc(rt.alloc(), &doc, &[false, false]);
-        assert!(rt; matches!(refused, Err(ShopFault::MachineClosed(0))));
-    }
-    Ok(())
 }
 
 // A shop, a word, the letters that may follow and the bound.

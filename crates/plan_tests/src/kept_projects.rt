@@ -1,7 +1,7 @@
 //! What a memo answers where it is asked for projects that differ in one thing, and for a shop
 //! between them.
 
-use plan_exact::{Kind, Memo};
+use plan_exact::{ExactFault, Kind, Memo};
 use plan_orlib::read_shop;
 use plan_psplib::{ProjectDoc, read_sm};
 use plan_sgs::Instance;
@@ -90,6 +90,18 @@ fn keeps_an_answer_for_each_capacity_lag_and_budget(rt: HostRuntime) -> Result<(
     Ok(())
 }
 
+// The least makespan of a project that a memo answers, and how many answers it keeps then.
+fn project_kept(memo: &mut Memo, instance: &Instance<'_>) -> Result<(u64, usize), ExactFault> {
+    let found = memo.solve_project(instance, 10)?;
+    Ok((found.schedule.makespan, memo.len()))
+}
+
+// The same of a shop.
+fn shop_kept(memo: &mut Memo, shop: &Shop) -> Result<(u64, usize), ExactFault> {
+    let found = memo.solve(shop, 10)?;
+    Ok((found.schedule.makespan, memo.len()))
+}
+
 #[test]
 fn keeps_answers_of_both_kinds(rt: HostRuntime) -> Result<(), Fail> {
     let mut memo = Memo::new(rt.alloc())?;
@@ -99,10 +111,8 @@ fn keeps_answers_of_both_kinds(rt: HostRuntime) -> Result<(), Fail> {
     let instance = Instance::of_project(&project, &caps)?;
     let shop = step(&rt, rt.alloc());
     for kept in [1, 2] {
-        assert_eq!(rt; memo.solve_project(&instance, 10)?.schedule.makespan, 2);
-        assert_eq!(rt; memo.len(), kept);
-        assert_eq!(rt; memo.solve(&shop, 10)?.schedule.makespan, 4);
-        assert_eq!(rt; memo.len(), 2);
+        assert_eq!(rt; project_kept(&mut memo, &instance)?, (2, kept));
+        assert_eq!(rt; shop_kept(&mut memo, &shop)?, (4, 2));
     }
     Ok(())
 }

@@ -1,6 +1,6 @@
 //! Worked examples of crates together that no command on files shows: devices that fail, faults that
-//! no file reaches, schedules by a list and with a lag, closed machines, words and verdicts of job
-//! shops, answers that are kept; and calls whose allocations are refused.
+//! no file reaches, schedules by a list and with a lag, words and verdicts of job shops, answers that
+//! are kept; and calls whose allocations are refused.
 #![tactic(auto)]
 
 #[cfg(test)]
