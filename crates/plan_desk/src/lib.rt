@@ -1,5 +1,4 @@
-//! The desks of an office: what is kept for them, what each request is answered and changes, and
-//! why no desk sees another.
+//! The desks of an office: what each request is answered and changes, and why no desk sees another.
 #![tactic(auto)]
 
 mod answers;
