@@ -3,14 +3,14 @@ use Rattle.std.proofs.Common.{◌≡◌, ℕ, ◌≤◌, ◌<◌, Bool, true, Li
 use Rattle.std.specs.Prelude.{find, option_to_list, ◌==◌}
 use Rattle.std.specs.List.{AllByRecursion}
 use Rattle.std.proofs.lemmas.Bool.{and_parts}
-use Rattle.plan_desk.specs.World.{Text, Desk, Plan, World, same_text, is_desk, is_plan_of, is_bind_by, is_lag_by, is_plan, is_bind, is_lag, desk_in, plan_in}
-use Rattle.plan_desk.specs.Views.{view, alone}
-use Rattle.plan_desk.specs.Rules.{AllDiffer, IsThereAnd, is_desk_row, IsPlanRow, IsBindRow, IsLagRow, IsOwned}
+use Rattle.plan_rows.specs.World.{Text, Desk, Plan, World, same_text, is_desk, is_plan_of, is_bind_by, is_lag_by, is_plan, is_bind, is_lag, desk_in, plan_in}
+use Rattle.plan_rows.specs.Views.{view, alone}
+use Rattle.plan_rows.specs.Rules.{AllDiffer, IsThereAnd, is_desk_row, IsPlanRow, IsBindRow, IsLagRow, IsOwned}
 use Rattle.plan_desk.specs.Laws.{AloneKeepsRules}
-use Rattle.plan_desk.proofs.RowLemmas.{find_again}
-use Rattle.plan_desk.proofs.OwnerLemmas.{text_from_same}
+use Rattle.plan_rows.proofs.RowLemmas.{find_again}
+use Rattle.plan_rows.proofs.OwnerLemmas.{text_from_same}
 use Rattle.plan_desk.proofs.KeepLemmas.{HasBound, HasLag}
-use Rattle.plan_desk.proofs.RuleLemmas.{all_filter, differ_filter, found_has, find_kept, length_fewer}
+use Rattle.plan_rows.proofs.RuleLemmas.{all_filter, differ_filter, found_has, find_kept, length_fewer}
 
 -- what holds of each row holds of the one that is found
 all_of_found : (P : Desk → Type 0) (d : Text) (xs : List Desk) → AllByRecursion P xs → AllByRecursion P (option_to_list (find (is_desk d) xs))

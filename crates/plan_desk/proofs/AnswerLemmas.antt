@@ -3,13 +3,14 @@ use Rattle.std.proofs.Common.{◌≡◌, ℕ, zero, suc, ◌+◌, ◌<◌, ◌�
 use Rattle.std.specs.Prelude.{map, codes}
 use Rattle.std.proofs.lemmas.List.{map-append, append_assoc, length-map, length-take-le}
 use Rattle.std.proofs.Math.Seq.{take-suc}
-use Rattle.plan_desk.specs.declared.kinds.PlanKind.{PlanKind}
-use Rattle.plan_desk.specs.declared.rows.CodeRow.{CodeRow}
-use Rattle.plan_desk.specs.declared.rows.PlanEntry.{PlanEntry}
-use Rattle.plan_desk.specs.World.{Text, Published, Plan}
-use Rattle.plan_desk.specs.Plans.{in_order}
-use Rattle.plan_desk.specs.JsonTexts.{separated, code_text, plan_text, plan_before, codes_text, plans_text}
-use Rattle.plan_desk.specs.Books.{ListsCodes, ListsPlans, published_in, entry_in, entry_of}
+use Rattle.plan_rows.specs.declared.kinds.PlanKind.{PlanKind}
+use Rattle.plan_rows.specs.declared.rows.CodeRow.{CodeRow}
+use Rattle.plan_rows.specs.declared.rows.PlanEntry.{PlanEntry}
+use Rattle.plan_rows.specs.World.{Text, Published, Plan}
+use Rattle.plan_rows.specs.Plans.{in_order}
+use Rattle.plan_desk.specs.JsonTexts.{separated, code_text, plan_text, codes_text, plans_text}
+use Rattle.plan_rows.specs.Plans.{plan_before}
+use Rattle.plan_rows.specs.Books.{ListsCodes, ListsPlans, published_in, entry_in, entry_of}
 use Rattle.plan_desk.specs.Answers.{comma_before, text_of_code, text_of_entry, list_of_codes, list_of_plans}
 
 -- one more text

@@ -17,9 +17,9 @@ use Rattle.plan_exact.specs.declared.solving.Solved.{Solved}
 use Rattle.plan_gantt.specs.BestText.{best_text_of}
 use Rattle.plan_gantt.specs.ProjectBestText.{best_project_text_of, IsBestProjectTextOf, TellsBestProjectRefusal}
 use Rattle.plan_gantt.specs.ShopBestText.{IsBestTextOf}
-use Rattle.plan_desk.specs.declared.kinds.PlanKind.TheVariants as kinds
+use Rattle.plan_rows.specs.declared.kinds.PlanKind.TheVariants as kinds
 use Rattle.plan_desk.specs.declared.bound.BoundPlan.{BoundPlan}
-use Rattle.plan_desk.specs.World.{Text}
+use Rattle.plan_rows.specs.World.{Text}
 use Rattle.plan_desk.specs.BestRoutes.{TellsNoShopBest}
 use Rattle.plan_desk.specs.PlanValues.{IsProjectIn, capacities_in, open_in}
 use Rattle.plan_desk.specs.BestOf.{IsOpenBest, IsBestOf, TellsNoBest}

@@ -6,18 +6,18 @@ use Rattle.plan_gantt.specs.WorkingDay.{Workdays}
 use Rattle.plan_gantt.specs.CalendarText.{IsCalendar, RefusesTexts}
 use Rattle.plan_gantt.specs.CalendarFaultText.{calendar_fault_text_of}
 use Rattle.plan_gantt.specs.declared.calendar.CalendarFault.{CalendarFault}
-use Rattle.plan_desk.specs.declared.kinds.Kind.{Kind}
-use Rattle.plan_desk.specs.declared.kinds.PlanKind.{PlanKind}
+use Rattle.plan_rows.specs.declared.kinds.Kind.{Kind}
+use Rattle.plan_rows.specs.declared.kinds.PlanKind.{PlanKind}
 use Rattle.plan_desk.specs.declared.finding.FoundPlan.{FoundPlan}
-use Rattle.plan_desk.specs.World.{Text, Published, takes, code_in}
-use Rattle.plan_desk.specs.Changes.{Keep, BindPlace, SetCalendar, SetLag}
+use Rattle.plan_rows.specs.World.{Text, Published, takes, code_in}
+use Rattle.plan_rows.specs.Changes.{Keep, BindPlace, SetCalendar, SetLag}
 use Rattle.plan_desk.specs.Calls.{Reply, answer}
-use Rattle.plan_desk.specs.Views.{View}
+use Rattle.plan_rows.specs.Views.{View}
 use Rattle.plan_desk.specs.Bodies.{BindBody, CalendarBody, LagBody, bind_body, calendar_body, lag_body}
 use Rattle.plan_desk.specs.Outcomes.{refuses, makes, some, why_or}
-use Rattle.plan_desk.specs.Plans.{plan_seen, is_place}
+use Rattle.plan_rows.specs.Plans.{plan_seen, is_place}
 use Rattle.plan_desk.specs.JsonTexts.{bind_text, calendar_text, lag_text}
-use Rattle.plan_desk.specs.Books.{Matches, IsCapacityAnswer}
+use Rattle.plan_rows.specs.Books.{Matches, IsCapacityAnswer}
 use Rattle.plan_desk.specs.PlanRoutes.{of_plan, Binds, Calendars, SetsLag}
 use Rattle.plan_desk.specs.Refusals.{not_found, bad_body, bad_calendar}
 use Rattle.plan_desk.specs.RouteRefusals.{bind_refusal_of, lag_refusal_of}

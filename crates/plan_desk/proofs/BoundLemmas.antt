@@ -3,9 +3,9 @@ use Rattle.std.proofs.Common.{◌≡◌, ℕ, zero, suc, ◌+◌, ◌<◌, Bool,
 use Rattle.std.specs.Prelude.{find, option_map, option_and_then, unwrap_or, ◌==◌}
 use Rattle.std.proofs.lemmas.Bool.{cases_Bool, eqb-true, ltb-true, ne_eqb}
 use Rattle.plan_desk.specs.declared.bound.BoundPlace.{BoundPlace}
-use Rattle.plan_desk.specs.World.{Text, Published, Bind, code_in}
-use Rattle.plan_desk.specs.Views.{View}
-use Rattle.plan_desk.specs.Plans.{put_in_order, in_order, bind_before, place_of, places_of, is_bound_at, code_at, capacities_from, is_open, open_machines}
+use Rattle.plan_rows.specs.World.{Text, Published, Bind, code_in}
+use Rattle.plan_rows.specs.Views.{View}
+use Rattle.plan_rows.specs.Plans.{put_in_order, in_order, bind_before, place_of, places_of, is_bound_at, code_at, capacities_from, is_open, open_machines}
 use Rattle.plan_desk.specs.Pages.{capacity_of, capacities_at, bound_in}
 use Rattle.plan_desk.specs.PlanValues.{capacity_at, capacities_in, is_open_at, machines_in}
 

@@ -5,8 +5,8 @@ use Rattle.plan_gantt.specs.WorkingDay.{Workdays}
 use Rattle.plan_gantt.specs.CalendarText.{IsCalendar}
 use Rattle.plan_gantt.specs.CalendarFaultText.{calendar_fault_text_of, missing_calendar_text}
 use Rattle.plan_gantt.specs.declared.calendar.CalendarFault.TheVariants.{BeyondCalendar}
-use Rattle.plan_desk.specs.World.{Text, Plan}
-use Rattle.plan_desk.specs.Changes.{Keep}
+use Rattle.plan_rows.specs.World.{Text, Plan}
+use Rattle.plan_rows.specs.Changes.{Keep}
 use Rattle.plan_desk.specs.Calls.{Reply, page}
 use Rattle.plan_desk.specs.Outcomes.{refuses, shows, some, why_or}
 use Rattle.plan_desk.specs.Refusals.{bad_calendar}

@@ -6,24 +6,24 @@ use Rattle.std.proofs.lemmas.Bool.{eqb-true}
 use Rattle.std.proofs.lemmas.List.{map-append}
 use Rattle.std.proofs.Math.Seq.{take-suc}
 use Rattle.plan_desk.specs.declared.bound.BoundPlace.{BoundPlace}
-use Rattle.plan_desk.specs.declared.rows.BindEntry.{BindEntry}
+use Rattle.plan_rows.specs.declared.rows.BindEntry.{BindEntry}
 use Rattle.std.proofs.Common.{Vec}
 use Rattle.std.specs.Global.{Global}
 use Rattle.plan_desk.specs.Pages.{bound_in, IsBound}
-use Rattle.plan_desk.specs.declared.fault.BookFault.{BookFault}
-use Rattle.plan_desk.specs.declared.fault.BookFault.TheVariants.{NoMemory, Store}
+use Rattle.plan_rows.specs.declared.fault.BookFault.{BookFault}
+use Rattle.plan_rows.specs.declared.fault.BookFault.TheVariants.{NoMemory, Store}
 use Rattle.plan_desk.specs.declared.finding.FoundPlan.{FoundPlan}
-use Rattle.plan_desk.specs.declared.rows.PlanRow.{PlanRow}
+use Rattle.plan_rows.specs.declared.rows.PlanRow.{PlanRow}
 use Rattle.plan_desk.specs.declared.change.Decision.{Decision}
-use Rattle.plan_desk.specs.World.{Text, Published, Plan, World}
-use Rattle.plan_desk.specs.Views.{View, view, alone}
-use Rattle.plan_desk.specs.Plans.{plan_number, plan_seen, has_number}
+use Rattle.plan_rows.specs.World.{Text, Published, Plan, World}
+use Rattle.plan_rows.specs.Views.{View, view, alone}
+use Rattle.plan_rows.specs.Plans.{plan_number, plan_seen, has_number}
 use Rattle.plan_desk.specs.Outcomes.{Outcome}
-use Rattle.plan_desk.specs.Rules.{IsWorld}
-use Rattle.plan_desk.specs.Books.{Shelf, Reads, Matches, IsPlanAnswer, bind_in}
+use Rattle.plan_rows.specs.Rules.{IsWorld}
+use Rattle.plan_rows.specs.Books.{Shelf, Reads, Matches, IsPlanAnswer, bind_in}
 use Rattle.plan_desk.specs.Finding.{IsNumbered, FindsPlan, with_capacity_of, HasCapacities}
 use Rattle.plan_desk.specs.Deciding.{Quiet, Finds, IsDecided, MakesDecision}
-use Rattle.plan_desk.proofs.RuleLemmas.{found_has}
+use Rattle.plan_rows.proofs.RuleLemmas.{found_has}
 use Rattle.plan_desk.proofs.AloneLemmas.{alone_keeps_rules}
 
 module _ {B : Type 0} (shelf : Shelf B) where

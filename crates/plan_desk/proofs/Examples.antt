@@ -23,18 +23,18 @@ use Rattle.plan_shop.specs.Laws.{RuleIsActive}
 use Rattle.plan_shop.proofs.WordCount.{rule_is_active, spt_chooses}
 use Rattle.plan_gantt.specs.ShopText.{rule_starts}
 use Rattle.plan_shop.specs.Docs.{shop_of, IsFirstClosed, NoneIsClosed}
-use Rattle.plan_desk.specs.declared.kinds.Kind.TheVariants.{Crew, Machine}
-use Rattle.plan_desk.specs.declared.kinds.Kind.{Kind}
-use Rattle.plan_desk.specs.declared.kinds.PlanKind.{PlanKind}
-use Rattle.plan_desk.specs.declared.kinds.ReplyKind.{ReplyKind}
-use Rattle.plan_desk.specs.declared.kinds.ReplyKind.TheVariants.{Plain, Json}
-use Rattle.plan_desk.specs.declared.kinds.PlanKind.TheVariants.{Project, Shop}
-use Rattle.plan_desk.specs.World.{Text, Published, Desk, Plan, Bind, Lag, World}
-use Rattle.plan_desk.specs.Views.{View, view}
-use Rattle.plan_desk.specs.Names.{is_name, is_key}
-use Rattle.plan_desk.specs.Plans.{plan_number, is_place, open_machines}
+use Rattle.plan_rows.specs.declared.kinds.Kind.TheVariants.{Crew, Machine}
+use Rattle.plan_rows.specs.declared.kinds.Kind.{Kind}
+use Rattle.plan_rows.specs.declared.kinds.PlanKind.{PlanKind}
+use Rattle.plan_desk.specs.declared.reply.ReplyKind.{ReplyKind}
+use Rattle.plan_desk.specs.declared.reply.ReplyKind.TheVariants.{Plain, Json}
+use Rattle.plan_rows.specs.declared.kinds.PlanKind.TheVariants.{Project, Shop}
+use Rattle.plan_rows.specs.World.{Text, Published, Desk, Plan, Bind, Lag, World}
+use Rattle.plan_rows.specs.Views.{View, view}
+use Rattle.plan_rows.specs.Names.{is_name, is_key}
+use Rattle.plan_rows.specs.Plans.{plan_number, is_place, open_machines}
 use Rattle.plan_desk.specs.Bodies.{publish_body, desk_body, desk_named, key_body, bind_body, calendar_body, lag_body}
-use Rattle.plan_desk.specs.Changes.{Change, Keep, Publish, OpenDesk, SetKey, AddPlan, RemovePlan, BindPlace, SetCalendar, SetLag, apply}
+use Rattle.plan_rows.specs.Changes.{Change, Keep, Publish, OpenDesk, SetKey, AddPlan, RemovePlan, BindPlace, SetCalendar, SetLag, apply}
 use Rattle.plan_desk.specs.Calls.{Call, Request, Reply, admits}
 use Rattle.plan_desk.specs.Calls as call
 use Rattle.plan_desk.specs.Stories.{decided}

@@ -12,10 +12,10 @@ use Rattle.plan_psplib.specs.declared.fault.FileFault.{FileFault}
 use Rattle.plan_psplib.specs.Faults.{IsWantOfMemory}
 use Rattle.plan_psplib.specs.Project.{Project, SaysProject, IsFirstFailing, with_project_lag}
 use Rattle.plan_psplib.proofs.OnceLemmas.{said_fails_none}
-use Rattle.plan_desk.specs.declared.fault.BookFault.{BookFault}
-use Rattle.plan_desk.specs.declared.rows.LagEntry.{LagEntry}
-use Rattle.plan_desk.specs.Plans.{lagged_by}
-use Rattle.plan_desk.specs.Books.{lag_in}
+use Rattle.plan_rows.specs.declared.fault.BookFault.{BookFault}
+use Rattle.plan_rows.specs.declared.rows.LagEntry.{LagEntry}
+use Rattle.plan_rows.specs.Plans.{lagged_by}
+use Rattle.plan_rows.specs.Books.{lag_in}
 use Rattle.plan_desk.specs.PlanValues.{TakesLags}
 
 -- a text that says a project is refused for want of memory alone

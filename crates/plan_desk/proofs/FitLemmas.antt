@@ -11,28 +11,29 @@ use Rattle.sha2.proofs.Facts256.{length-sha256}
 use Rattle.serde_json.specs.Data.{Data}
 use Rattle.plan_gantt.specs.WorkingDay.{Workdays}
 use Rattle.plan_psplib.specs.Project.{Project, SaysProject}
-use Rattle.plan_desk.specs.declared.kinds.Kind.{Kind}
-use Rattle.plan_desk.specs.declared.kinds.PlanKind.{PlanKind}
-use Rattle.plan_desk.specs.declared.kinds.PlanKind.TheVariants as kinds
-use Rattle.plan_desk.specs.World.{Text, Published, Desk, Plan, World, same_kind, takes, is_plan_of, is_plan, code_in, desk_in, plan_in}
-use Rattle.plan_desk.specs.Names.{is_name, is_key, is_digest, is_from_to}
+use Rattle.plan_rows.specs.declared.kinds.Kind.{Kind}
+use Rattle.plan_rows.specs.declared.kinds.PlanKind.{PlanKind}
+use Rattle.plan_rows.specs.declared.kinds.PlanKind.TheVariants as kinds
+use Rattle.plan_rows.specs.World.{Text, Published, Desk, Plan, World, same_kind, takes, is_plan_of, is_plan, code_in, desk_in, plan_in}
+use Rattle.plan_rows.specs.Names.{is_name, is_key, is_digest, is_from_to}
 use Rattle.plan_desk.specs.Bodies.{json, passing, text_in, number_in, any_text, kind_named, PublishBody, publish_members, publish_body, DeskBody, desk_members, desk_body, desk_named, BindBody, bind_members, bind_body, LagBody, lag_members, lag_body, key_body}
-use Rattle.plan_desk.specs.Changes.{Change, Keep, apply}
-use Rattle.plan_desk.specs.Views.{View, view}
+use Rattle.plan_rows.specs.Changes.{Change, Keep, apply}
+use Rattle.plan_rows.specs.Views.{View, view}
 use Rattle.plan_desk.specs.Calls.{Call, publish, open_desk, set_key, capacities, plans, import_project, import_shop, remove, bind, set_calendar, set_lag, dates, schedule, chart, days, best, Request, Reply, subject, admits}
 use Rattle.plan_desk.specs.Stories.{decided}
 use Rattle.plan_desk.specs.Outcomes.{Outcome, refuses, tells, shows, makes, unless, given, some, why_or}
-use Rattle.plan_desk.specs.Plans.{plan_number, has_number, plan_seen, HasPlaces, is_place}
+use Rattle.plan_rows.specs.Plans.{plan_number, has_number, plan_seen, HasPlaces, is_place}
 use Rattle.plan_desk.specs.OfficeRoutes.{is_other_kind, Publishes, Opens, SetsKey}
-use Rattle.plan_desk.specs.PlanRoutes.{of_plan, by_kind, has_arc, Imports, ImportsProject, ImportsShop, Removes, Binds, Calendars, SetsLag}
+use Rattle.plan_desk.specs.PlanRoutes.{of_plan, by_kind, Imports, ImportsProject, ImportsShop, Removes, Binds, Calendars, SetsLag}
+use Rattle.plan_rows.specs.Plans.{has_arc}
 use Rattle.plan_desk.specs.PageRoutes.{Dates, OfSchedule, OfShopSchedule, Schedules, Charts, OfCalendar, Days}
 use Rattle.plan_desk.specs.BestRoutes.{OfProjectBest, OfShopBest, Best}
-use Rattle.plan_desk.specs.declared.kinds.Kind.TheVariants as codes_of
+use Rattle.plan_rows.specs.declared.kinds.Kind.TheVariants as codes_of
 use Rattle.plan_desk.specs.Deciding.{HasRows, Allows}
 use Rattle.plan_desk.specs.Decisions.{Answers, IsDecision, IsStep}
-use Rattle.plan_desk.specs.Rules.{IsThereAnd, HasName, IsWorld}
+use Rattle.plan_rows.specs.Rules.{IsThereAnd, HasName, IsWorld}
 use Rattle.plan_desk.specs.Laws.{StepsKeepRules}
-use Rattle.plan_desk.proofs.RuleLemmas.{found_has}
+use Rattle.plan_rows.proofs.RuleLemmas.{found_has}
 use Rattle.plan_desk.proofs.StoryLemmas.{decided_rest, decided_keeps}
 use Rattle.plan_desk.proofs.KeepLemmas.{Fits, fits_keeps}
 

@@ -2,22 +2,22 @@
 use Rattle.std.proofs.Common.{◌≡◌, ℕ, Some, Result, Ok, Err, sym, ◌∙◌, subst}
 use Rattle.std.specs.Prelude.{IfErr, IsErr, IsErrAnd, string_bytes}
 use Rattle.plan_psplib.specs.Project.{Project, SaysProject}
-use Rattle.plan_desk.specs.declared.kinds.PlanKind.{PlanKind}
-use Rattle.plan_desk.specs.declared.kinds.PlanKind.TheVariants as kinds
-use Rattle.plan_desk.specs.declared.fault.BookFault.{BookFault}
-use Rattle.plan_desk.specs.declared.fault.BookFault.TheVariants.{Store}
+use Rattle.plan_rows.specs.declared.kinds.PlanKind.{PlanKind}
+use Rattle.plan_rows.specs.declared.kinds.PlanKind.TheVariants as kinds
+use Rattle.plan_rows.specs.declared.fault.BookFault.{BookFault}
+use Rattle.plan_rows.specs.declared.fault.BookFault.TheVariants.{Store}
 use Rattle.plan_desk.specs.declared.finding.FoundPlan.{FoundPlan}
-use Rattle.plan_desk.specs.declared.rows.PlanRow.{PlanRow}
-use Rattle.plan_desk.specs.World.{Text, World, is_plan}
-use Rattle.plan_desk.specs.Views.{View, view}
-use Rattle.plan_desk.specs.Plans.{HasPlaces}
-use Rattle.plan_desk.specs.Rules.{IsWorld, IsPlanRow}
-use Rattle.plan_desk.specs.Books.{Shelf}
+use Rattle.plan_rows.specs.declared.rows.PlanRow.{PlanRow}
+use Rattle.plan_rows.specs.World.{Text, World, is_plan}
+use Rattle.plan_rows.specs.Views.{View, view}
+use Rattle.plan_rows.specs.Plans.{HasPlaces}
+use Rattle.plan_rows.specs.Rules.{IsWorld, IsPlanRow}
+use Rattle.plan_rows.specs.Books.{Shelf}
 use Rattle.plan_desk.specs.Finding.{IsNumbered, FindsPlan}
 use Rattle.plan_desk.specs.FoundFiles.{RowHasPlaces}
 use Rattle.plan_desk.specs.Deciding.{Finds}
 use Rattle.plan_desk.proofs.FitLemmas.{seen_there}
-use Rattle.plan_desk.proofs.RuleLemmas.{found_has}
+use Rattle.plan_rows.proofs.RuleLemmas.{found_has}
 
 -- a fault that is handed on is blamed as it was
 pub blamed_on : {X : Type 0} (result : Result X BookFault) (fault : BookFault) (Blamed : Type 0) → IsErr result × IsErrAnd result (λ handed. handed ≡ fault)

@@ -3,19 +3,19 @@ use Rattle.std.proofs.Common.{◌≡◌, ℕ, ◌+◌, ◌⊎◌, inl, inr, Bool
 use Rattle.std.proofs.lemmas.Bool.{both_ways}
 use Rattle.std.specs.Prelude.{nat_lt, OnErr, IsErr, IsErrAnd, MatchResult}
 use Rattle.plan_desk.specs.declared.reply.Reply as whole
-use Rattle.plan_desk.specs.declared.fault.BookFault.{BookFault}
-use Rattle.plan_desk.specs.declared.fault.BookFault.TheVariants.{NoMemory, Store}
+use Rattle.plan_rows.specs.declared.fault.BookFault.{BookFault}
+use Rattle.plan_rows.specs.declared.fault.BookFault.TheVariants.{NoMemory, Store}
 use Rattle.plan_desk.specs.declared.change.Decision.{Decision}
-use Rattle.plan_desk.specs.World.{Text, World}
-use Rattle.plan_desk.specs.Changes.{Change, Keep, Publish, OpenDesk, SetKey, AddPlan, RemovePlan, BindPlace, SetCalendar, SetLag, apply}
-use Rattle.plan_desk.specs.Views.{View, view}
+use Rattle.plan_rows.specs.World.{Text, World}
+use Rattle.plan_rows.specs.Changes.{Change, Keep, Publish, OpenDesk, SetKey, AddPlan, RemovePlan, BindPlace, SetCalendar, SetLag, apply}
+use Rattle.plan_rows.specs.Views.{View, view}
 use Rattle.plan_desk.specs.Calls.{Request, Reply, subject, writes, is_accepted}
 use Rattle.plan_desk.specs.Stories.{IsWant, belongs}
 use Rattle.plan_desk.specs.Decisions.{IsDecision, IsStep, IsRealStep}
-use Rattle.plan_desk.specs.Books.{Shelf, Writes}
+use Rattle.plan_rows.specs.Books.{Shelf, Writes}
 use Rattle.plan_desk.specs.Replies.{reply_of}
 use Rattle.plan_desk.specs.Deciding.{Quiet, Finds, CarriesOut, Handled, IsDecided, Allows, change_in, owner_of, want_of}
-use Rattle.plan_desk.specs.Rules.{IsWorld}
+use Rattle.plan_rows.specs.Rules.{IsWorld}
 use Rattle.plan_desk.proofs.FitLemmas.{decision_allows}
 use Rattle.plan_desk.proofs.DecidingLemmas.{quiet_then}
 use Rattle.plan_desk.proofs.SortedLemmas.{IsMade, is_keep, Keeps, Makes, sorted_decision, want_unaccepted}

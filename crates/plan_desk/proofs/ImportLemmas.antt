@@ -4,17 +4,18 @@ use Rattle.std.proofs.lemmas.Bool.{cases_Bool}
 use Rattle.std.proofs.lemmas.List.{length-map}
 use Rattle.plan_psplib.specs.Project.{SaysProject}
 use Rattle.plan_orlib.specs.Says.{Says}
-use Rattle.plan_desk.specs.declared.kinds.PlanKind.{PlanKind}
-use Rattle.plan_desk.specs.declared.kinds.PlanKind.TheVariants as kinds
-use Rattle.plan_desk.specs.declared.rows.DeskRow.{DeskRow}
-use Rattle.plan_desk.specs.declared.rows.PlanEntry.{PlanEntry}
-use Rattle.plan_desk.specs.World.{Text, Desk, Plan, World, desk_in}
-use Rattle.plan_desk.specs.Changes.{Keep, AddPlan}
+use Rattle.plan_rows.specs.declared.kinds.PlanKind.{PlanKind}
+use Rattle.plan_rows.specs.declared.kinds.PlanKind.TheVariants as kinds
+use Rattle.plan_rows.specs.declared.rows.DeskRow.{DeskRow}
+use Rattle.plan_rows.specs.declared.rows.PlanEntry.{PlanEntry}
+use Rattle.plan_rows.specs.World.{Text, Desk, Plan, World, desk_in}
+use Rattle.plan_rows.specs.Changes.{Keep, AddPlan}
 use Rattle.plan_desk.specs.Calls.{Reply, answer}
-use Rattle.plan_desk.specs.Views.{View, view}
-use Rattle.plan_desk.specs.Plans.{put_in_order, in_order}
-use Rattle.plan_desk.specs.JsonTexts.{plan_text, plan_before}
-use Rattle.plan_desk.specs.Books.{Matches, IsDeskAnswer, ListsPlans, entry_in, entry_of}
+use Rattle.plan_rows.specs.Views.{View, view}
+use Rattle.plan_rows.specs.Plans.{put_in_order, in_order}
+use Rattle.plan_desk.specs.JsonTexts.{plan_text}
+use Rattle.plan_rows.specs.Plans.{plan_before}
+use Rattle.plan_rows.specs.Books.{Matches, IsDeskAnswer, ListsPlans, entry_in, entry_of}
 use Rattle.plan_desk.specs.PlanRoutes.{Imports}
 use Rattle.plan_desk.specs.Refusals.{not_found}
 use Rattle.plan_desk.specs.RouteRefusals.{IsRead, IsImportRefusal}

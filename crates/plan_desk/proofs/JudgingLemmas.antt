@@ -3,9 +3,9 @@ use Rattle.std.proofs.Common.{◌≡◌, Bool, true, false, Option, refl, sym, a
 use Rattle.plan_desk.specs.declared.change.Decision.{Decision}
 use Rattle.plan_desk.specs.declared.reply.Reply as whole
 use Rattle.plan_desk.specs.declared.change.Change.TheVariants as made
-use Rattle.plan_desk.specs.World.{Text, World}
-use Rattle.plan_desk.specs.Changes.{Change, Keep}
-use Rattle.plan_desk.specs.Views.{View, view}
+use Rattle.plan_rows.specs.World.{Text, World}
+use Rattle.plan_rows.specs.Changes.{Change, Keep}
+use Rattle.plan_rows.specs.Views.{View, view}
 use Rattle.plan_desk.specs.Calls.{Request, Reply, no_key, admits}
 use Rattle.plan_desk.specs.Stories.{decided}
 use Rattle.plan_desk.specs.Decisions.{Answers, IsDecision}

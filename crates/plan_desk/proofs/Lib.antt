@@ -1,12 +1,9 @@
-pub mod RowLemmas
-pub mod OwnerLemmas
 pub mod SeenLemmas
 pub mod StoryLemmas
 pub mod OutcomeLemmas
 pub mod QuietLemmas
 pub mod OneLemmas
 pub mod LawLemmas
-pub mod RuleLemmas
 pub mod KeepLemmas
 pub mod FitLemmas
 pub mod AloneLemmas
@@ -29,14 +26,6 @@ pub mod AnswerLemmas
 pub mod SortedLemmas
 pub mod HandledLemmas
 pub mod JudgingLemmas
-pub mod TableLemmas
-pub mod KeyLemmas
-pub mod OrderedLemmas
-pub mod ReadLemmas
-pub mod RowTestLemmas
-pub mod KeyedLemmas
-pub mod LookupLemmas
-pub mod TestedLemmas
 pub mod PlaceLemmas
 pub mod PromiseLemmas
 pub mod MadeLemmas

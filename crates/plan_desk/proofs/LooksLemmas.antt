@@ -10,13 +10,14 @@ use Rattle.std.proofs.lemmas.Map.Text.{is_eq-slice_cmp}
 use Rattle.std.specs.Ordering.{is_eq}
 use Rattle.std.proofs.lemmas.Bool.{cases_Bool, both_ways, and_parts, and_from, eqb-true, eq-eqb, ltb-true, lt-ltb, le-ltb, cases_order, false_from_ne_true, or_cases, or_left, or_right}
 use Rattle.std.proofs.lemmas.List.Sorted.{Contains-permutation, IsPermutation-sym}
-use Rattle.plan_desk.specs.World.{Text, Published, Desk, Plan, Bind, Lag, same_text, is_code, is_desk, is_plan, is_bind, is_lag, code_in, plan_in}
-use Rattle.plan_desk.specs.Views.{View, Agree, alone}
-use Rattle.plan_desk.specs.Plans.{has_number, plan_number, plan_seen, lag_before, arc_of, lags_of, is_bound_at, code_at}
-use Rattle.plan_desk.specs.JsonTexts.{code_text, code_before, codes_text, plan_text, plan_before, plans_text, separated}
-use Rattle.plan_desk.specs.Rules.{AllDiffer, IsThereAnd, IsOwned, IsBindRow, IsLagRow, IsWorld}
-use Rattle.plan_desk.proofs.OwnerLemmas.{text_from_same, same_text_refl}
-use Rattle.plan_desk.proofs.RuleLemmas.{differ_filter}
+use Rattle.plan_rows.specs.World.{Text, Published, Desk, Plan, Bind, Lag, same_text, is_code, is_desk, is_plan, is_bind, is_lag, code_in, plan_in}
+use Rattle.plan_rows.specs.Views.{View, Agree, alone}
+use Rattle.plan_rows.specs.Plans.{has_number, plan_number, plan_seen, lag_before, arc_of, lags_of, is_bound_at, code_at}
+use Rattle.plan_desk.specs.JsonTexts.{code_text, codes_text, plan_text, plans_text, separated}
+use Rattle.plan_rows.specs.Plans.{code_before, plan_before}
+use Rattle.plan_rows.specs.Rules.{AllDiffer, IsThereAnd, IsOwned, IsBindRow, IsLagRow, IsWorld}
+use Rattle.plan_rows.proofs.OwnerLemmas.{text_from_same, same_text_refl}
+use Rattle.plan_rows.proofs.RuleLemmas.{differ_filter}
 use Rattle.plan_desk.proofs.SameLemmas.{Has, AreSame, same_filter, find_same, all_has, found_there, filter_has}
 use Rattle.plan_desk.proofs.SortLemmas.{Orders, in_order_same, length_same}
 

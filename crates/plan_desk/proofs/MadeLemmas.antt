@@ -24,9 +24,9 @@ use Rattle.plan_shop.proofs.ShopBasics.{count_is, duration_is}
 use Rattle.plan_gantt.specs.Limits.{latest_end}
 use Rattle.plan_gantt.specs.ShopText.{rule_starts}
 use Rattle.plan_gantt.specs.ShopFaultText.{shop_fault_text_of}
-use Rattle.plan_desk.specs.declared.kinds.PlanKind.TheVariants as kinds
+use Rattle.plan_rows.specs.declared.kinds.PlanKind.TheVariants as kinds
 use Rattle.plan_desk.specs.declared.bound.BoundPlan.{BoundPlan}
-use Rattle.plan_desk.specs.World.{Text}
+use Rattle.plan_rows.specs.World.{Text}
 use Rattle.plan_desk.specs.PageRoutes.{TellsShopRefusal}
 use Rattle.plan_desk.specs.PlanValues.{open_in}
 use Rattle.plan_desk.specs.Scheduled.{IsMade, IsMadeOfShop, TellsUnscheduled}

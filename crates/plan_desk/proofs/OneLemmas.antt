@@ -19,13 +19,13 @@ use Rattle.plan_gantt.specs.ShopFaultText.{shop_fault_text_of}
 use Rattle.plan_gantt.specs.ShopBestText.{IsBestTextOf}
 use Rattle.plan_gantt.proofs.OnceLemmas as once
 use Rattle.plan_gantt.proofs.CalendarOnceLemmas as calendars
-use Rattle.plan_desk.specs.declared.kinds.PlanKind.{PlanKind}
-use Rattle.plan_desk.specs.declared.kinds.PlanKind.TheVariants as kinds
-use Rattle.plan_desk.specs.World.{Text, Published, Plan}
-use Rattle.plan_desk.specs.Views.{View}
+use Rattle.plan_rows.specs.declared.kinds.PlanKind.{PlanKind}
+use Rattle.plan_rows.specs.declared.kinds.PlanKind.TheVariants as kinds
+use Rattle.plan_rows.specs.World.{Text, Published, Plan}
+use Rattle.plan_rows.specs.Views.{View}
 use Rattle.plan_desk.specs.Calls.{Call, publish, open_desk, set_key, capacities, plans, import_project, import_shop, remove, bind, set_calendar, set_lag, dates, schedule, chart, days, best}
 use Rattle.plan_desk.specs.Outcomes.{Outcome}
-use Rattle.plan_desk.specs.Plans.{lagged_by, lags_of, IsProjectOf, IsShopOf, bound_project, open_machines, HasPlaces}
+use Rattle.plan_rows.specs.Plans.{lagged_by, lags_of, IsProjectOf, IsShopOf, bound_project, open_machines, HasPlaces}
 use Rattle.plan_desk.specs.OfficeRoutes.{Publishes, Opens, SetsKey}
 use Rattle.plan_desk.specs.PlanRoutes.{of_plan, by_kind, Imports, ImportsProject, ImportsShop, Removes, Binds, TellsTexts, Calendars, SetsLag}
 use Rattle.plan_desk.specs.PageRoutes.{Dates, IsScheduleBy, OfSchedule, TellsClosed, TellsShopRefusal, IsShopScheduleBy, OfShopSchedule, Schedules, Charts, TellsBeyond, ShowsDays, OfCalendar, Days}

@@ -2,17 +2,17 @@
 use Rattle.std.proofs.Common.{◌≡◌, ℕ, ◌⊎◌, inl, inr, Bool, true, false, List, [], ◌∷◌, ◌++◌, sym, ap, ◌∙◌, subst}
 use Rattle.std.specs.Prelude.{find, option_to_list, if◌then◌else◌, ◌==◌}
 use Rattle.std.proofs.lemmas.Bool.{cases_Bool, cond-true, cond-false}
-use Rattle.plan_desk.specs.World.{Text, Lag, World, is_code, is_desk, is_plan_of, is_bind_by, is_lag_by, is_plan, is_bind, is_lag, desk_in}
-use Rattle.plan_desk.specs.Changes.{Change, Keep, Publish, OpenDesk, SetKey, AddPlan, RemovePlan, BindPlace, SetCalendar, SetLag, changed, put, without, apply, new_code, with_capacity, new_desk, with_digest, risen, next_of, new_plan, with_calendar, new_bind, with_code, new_lag, with_lag, lags_after}
-use Rattle.plan_desk.specs.Views.{View, view, alone}
-use Rattle.plan_desk.specs.Names.{has_key, unlocks}
+use Rattle.plan_rows.specs.World.{Text, Lag, World, is_code, is_desk, is_plan_of, is_bind_by, is_lag_by, is_plan, is_bind, is_lag, desk_in}
+use Rattle.plan_rows.specs.Changes.{Change, Keep, Publish, OpenDesk, SetKey, AddPlan, RemovePlan, BindPlace, SetCalendar, SetLag, changed, put, without, apply, new_code, with_capacity, new_desk, with_digest, risen, next_of, new_plan, with_calendar, new_bind, with_code, new_lag, with_lag, lags_after}
+use Rattle.plan_rows.specs.Views.{View, view, alone}
+use Rattle.plan_rows.specs.Names.{has_key, unlocks}
 use Rattle.plan_desk.specs.Calls.{Request, Reply, subject, is_of_office, admits}
 use Rattle.plan_desk.specs.Stories.{decided}
 use Rattle.plan_desk.specs.Decisions.{Answers, IsDecision, IsStep, IsStoryOf}
 use Rattle.plan_desk.specs.Stories as story
-use Rattle.plan_desk.specs.Rules.{IsWorld}
+use Rattle.plan_rows.specs.Rules.{IsWorld}
 use Rattle.plan_desk.specs.Laws.{StepsKeepRules, AloneKeepsRules, OrderIsUnseen, AgreeingViewsAreToldAlike}
-use Rattle.plan_desk.proofs.RowLemmas.{head_of_cons, tail_of_cons, cons_is_not_nil}
+use Rattle.plan_rows.proofs.RowLemmas.{head_of_cons, tail_of_cons, cons_is_not_nil}
 use Rattle.plan_desk.proofs.StoryLemmas.{decided_map, decided_once, nothing_told}
 use Rattle.plan_desk.proofs.OneLemmas.{one_answer}
 use Rattle.plan_desk.proofs.LawLemmas.{routes_keep_apart}

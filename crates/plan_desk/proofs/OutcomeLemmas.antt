@@ -1,7 +1,7 @@
 -- Outcomes that publish nothing, and outcomes of which there is only one.
 use Rattle.std.proofs.Common.{◌≡◌, ℕ, inl, inr, Bool, true, false, Option, Some, None, sym, ap, ◌∙◌, subst}
-use Rattle.plan_desk.specs.World.{Text}
-use Rattle.plan_desk.specs.Changes.{Change, is_publishing}
+use Rattle.plan_rows.specs.World.{Text}
+use Rattle.plan_rows.specs.Changes.{Change, is_publishing}
 use Rattle.plan_desk.specs.Calls.{Reply, page}
 use Rattle.plan_desk.specs.Outcomes.{Outcome, refuses, tells, shows, makes, unless, given, some, why_or}
 

@@ -18,25 +18,25 @@ use Rattle.plan_gantt.specs.WorkingDay.{Workdays}
 use Rattle.plan_gantt.specs.ProjectBestText.{IsBestProjectTextOf, TellsBestProjectRefusal}
 use Rattle.plan_desk.specs.BestRoutes.{TellsNoShopBest, OfProjectBest, OfShopBest, Best}
 use Rattle.plan_desk.specs.BestOf.{IsOpenBest, IsBestOf, TellsNoBest}
-use Rattle.plan_desk.specs.declared.fault.BookFault.{BookFault}
-use Rattle.plan_desk.specs.declared.fault.BookFault.TheVariants.{Store}
+use Rattle.plan_rows.specs.declared.fault.BookFault.{BookFault}
+use Rattle.plan_rows.specs.declared.fault.BookFault.TheVariants.{Store}
 use Rattle.plan_desk.specs.declared.reply.Reply as rows
-use Rattle.plan_desk.specs.declared.kinds.PlanKind.TheVariants as kinds
-use Rattle.plan_desk.specs.declared.rows.PlanRow.{PlanRow}
+use Rattle.plan_rows.specs.declared.kinds.PlanKind.TheVariants as kinds
+use Rattle.plan_rows.specs.declared.rows.PlanRow.{PlanRow}
 use Rattle.plan_desk.specs.declared.bound.BoundPlan.{BoundPlan}
 use Rattle.plan_desk.specs.declared.pages.scheduled.Scheduled.{Scheduled}
 use Rattle.plan_desk.specs.declared.pages.scheduled.Scheduled.TheVariants as made
-use Rattle.plan_desk.specs.World.{Text, Plan}
-use Rattle.plan_desk.specs.Changes.{Keep}
+use Rattle.plan_rows.specs.World.{Text, Plan}
+use Rattle.plan_rows.specs.Changes.{Keep}
 use Rattle.plan_desk.specs.Calls.{Reply, page}
-use Rattle.plan_desk.specs.Views.{View, alone}
+use Rattle.plan_rows.specs.Views.{View, alone}
 use Rattle.plan_desk.specs.Outcomes.{Outcome, refuses, shows, some, why_or}
-use Rattle.plan_desk.specs.Plans.{plan_seen, lagged_by, IsProjectOf, IsShopOf, bound_project, open_machines}
+use Rattle.plan_rows.specs.Plans.{plan_seen, lagged_by, IsProjectOf, IsShopOf, bound_project, open_machines}
 use Rattle.plan_desk.specs.PlanRoutes.{of_plan, by_kind}
 use Rattle.plan_desk.specs.Refusals.{not_found, other_kind, bad_schedule}
 use Rattle.plan_desk.specs.PageRoutes.{Dates, OfSchedule, OfShopSchedule, Schedules, Charts, Days, IsScheduleBy, IsShopScheduleBy, TellsShopRefusal, OfCalendar}
-use Rattle.plan_desk.specs.Rules.{IsWorld, HasCalendar}
-use Rattle.plan_desk.specs.Books.{IsPlanAnswer}
+use Rattle.plan_rows.specs.Rules.{IsWorld, HasCalendar}
+use Rattle.plan_rows.specs.Books.{IsPlanAnswer}
 use Rattle.plan_desk.specs.Replies.{reply_of}
 use Rattle.plan_desk.specs.Pages.{IsFound, IsBound, MakesPage}
 use Rattle.plan_desk.specs.PlanValues.{IsProjectIn, row_in, planned_in, open_in, IsSoundPlan}

@@ -1,24 +1,24 @@
 -- A route that makes a page of a plan.
 use Rattle.std.proofs.Common.{◌≡◌, Option, Some, None, Result, Ok, Err, refl, sym, ap, ◌∙◌, subst}
 use Rattle.std.specs.Prelude.{IsErr, IsErrAnd}
-use Rattle.plan_desk.specs.declared.fault.BookFault.{BookFault}
+use Rattle.plan_rows.specs.declared.fault.BookFault.{BookFault}
 use Rattle.plan_desk.specs.declared.reply.Reply as whole
 use Rattle.plan_desk.specs.declared.change.Change.TheVariants as made
 use Rattle.plan_desk.specs.declared.change.Decision.{Decision}
 use Rattle.plan_desk.specs.declared.finding.FoundPlan.{FoundPlan}
-use Rattle.plan_desk.specs.World.{Text, World}
-use Rattle.plan_desk.specs.Changes.{Keep}
-use Rattle.plan_desk.specs.Views.{View, view, alone}
+use Rattle.plan_rows.specs.World.{Text, World}
+use Rattle.plan_rows.specs.Changes.{Keep}
+use Rattle.plan_rows.specs.Views.{View, view, alone}
 use Rattle.plan_desk.specs.Outcomes.{Outcome}
-use Rattle.plan_desk.specs.Plans.{plan_seen}
-use Rattle.plan_desk.specs.Rules.{IsWorld}
+use Rattle.plan_rows.specs.Plans.{plan_seen}
+use Rattle.plan_rows.specs.Rules.{IsWorld}
 use Rattle.plan_desk.specs.Laws.{AloneKeepsRules}
 use Rattle.plan_desk.specs.Refusals.{not_found}
 use Rattle.plan_desk.specs.PlanRoutes.{of_plan}
 use Rattle.plan_desk.specs.PageRoutes.{Dates, Schedules, Charts, Days}
 use Rattle.plan_desk.specs.BestRoutes.{Best}
 use Rattle.plan_desk.specs.Replies.{reply_of}
-use Rattle.plan_desk.specs.Books.{Shelf}
+use Rattle.plan_rows.specs.Books.{Shelf}
 use Rattle.plan_desk.specs.Pages.{MakesPage, IsFound}
 use Rattle.plan_desk.specs.Finding.{IsNumbered}
 use Rattle.plan_desk.specs.Deciding.{Finds, IsDecided}

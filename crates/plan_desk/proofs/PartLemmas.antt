@@ -4,14 +4,14 @@ use Rattle.std.specs.Prelude.{option_map, unwrap_or, is_some, nat_le}
 use Rattle.plan_psplib.specs.Project.{Project}
 use Rattle.plan_sgs.specs.Instances.{Planned, planned}
 use Rattle.plan_shop.specs.Shop.{JobShop}
-use Rattle.plan_desk.specs.declared.kinds.PlanKind.{PlanKind}
-use Rattle.plan_desk.specs.declared.kinds.PlanKind.TheVariants as kinds
-use Rattle.plan_desk.specs.World.{Text, Plan, takes}
-use Rattle.plan_desk.specs.Changes.{Change}
-use Rattle.plan_desk.specs.Views.{View}
+use Rattle.plan_rows.specs.declared.kinds.PlanKind.{PlanKind}
+use Rattle.plan_rows.specs.declared.kinds.PlanKind.TheVariants as kinds
+use Rattle.plan_rows.specs.World.{Text, Plan, takes}
+use Rattle.plan_rows.specs.Changes.{Change}
+use Rattle.plan_rows.specs.Views.{View}
 use Rattle.plan_desk.specs.Calls.{Call, publish, open_desk, set_key, capacities, plans, import_project, import_shop, remove, bind, set_calendar, set_lag, dates, schedule, chart, days, best, Reply}
 use Rattle.plan_desk.specs.Outcomes.{Outcome, tells, shows, makes, unless, given, some, why_or}
-use Rattle.plan_desk.specs.Plans.{code_at, lagged_by, IsProjectOf, capacities_from, bound_project, is_open, open_machines}
+use Rattle.plan_rows.specs.Plans.{code_at, lagged_by, IsProjectOf, capacities_from, bound_project, is_open, open_machines}
 use Rattle.plan_desk.specs.OfficeRoutes.{is_other_kind, Publishes, Opens, SetsKey}
 use Rattle.plan_desk.specs.PlanRoutes.{of_plan, by_kind, Imports, ImportsProject, ImportsShop, Removes, Binds, Calendars, SetsLag}
 use Rattle.plan_gantt.specs.ScheduleText.{TellsRefusal}

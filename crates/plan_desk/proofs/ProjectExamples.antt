@@ -36,18 +36,18 @@ use Rattle.plan_gantt.specs.FirstFaults.{TellsFirstFailing}
 use Rattle.plan_gantt.specs.declared.calendar.CalendarFault.TheVariants as calendar_fault
 use Rattle.plan_gantt.specs.CalendarText.{IsCalendar, HasNoStart, HasNoMarks}
 use Rattle.plan_gantt.proofs.TextLemmas.{same_parts, one_of}
-use Rattle.plan_desk.specs.declared.kinds.Kind.TheVariants.{Crew, Machine}
-use Rattle.plan_desk.specs.declared.kinds.ReplyKind.TheVariants.{Plain, Json}
-use Rattle.plan_desk.specs.declared.kinds.PlanKind.TheVariants.{Project, Shop}
-use Rattle.plan_desk.specs.World.{Text, Plan, World}
-use Rattle.plan_desk.specs.Views.{View, view}
+use Rattle.plan_rows.specs.declared.kinds.Kind.TheVariants.{Crew, Machine}
+use Rattle.plan_desk.specs.declared.reply.ReplyKind.TheVariants.{Plain, Json}
+use Rattle.plan_rows.specs.declared.kinds.PlanKind.TheVariants.{Project, Shop}
+use Rattle.plan_rows.specs.World.{Text, Plan, World}
+use Rattle.plan_rows.specs.Views.{View, view}
 use Rattle.plan_desk.specs.Bodies.{key_body, bind_body, calendar_body, lag_body}
-use Rattle.plan_desk.specs.Changes.{Keep, SetKey, AddPlan, RemovePlan, BindPlace, SetCalendar, SetLag, apply}
+use Rattle.plan_rows.specs.Changes.{Keep, SetKey, AddPlan, RemovePlan, BindPlace, SetCalendar, SetLag, apply}
 use Rattle.plan_desk.specs.Calls.{Call, Request, Reply, admits}
 use Rattle.plan_desk.specs.Calls as call
 use Rattle.plan_desk.specs.Outcomes.{refuses, tells, shows, makes, unless, given, some, why_or}
 use Rattle.plan_desk.specs.OfficeRoutes.{SetsKey}
-use Rattle.plan_desk.specs.Plans.{bound_project}
+use Rattle.plan_rows.specs.Plans.{bound_project}
 use Rattle.plan_desk.specs.PlanRoutes.{of_plan, by_kind, Imports, ImportsProject, Removes, Binds, Calendars, SetsLag}
 use Rattle.plan_desk.specs.PageRoutes.{Dates, OfSchedule, Schedules}
 use Rattle.plan_desk.specs.Decisions.{IsDecision, IsRun}

@@ -13,16 +13,16 @@ use Rattle.plan_gantt.specs.CalendarTable.{IsCalendarTable, HasActivityBeyond}
 use Rattle.plan_gantt.specs.ShopCharts.{IsShopCalendarTable, HasStepBeyond}
 use Rattle.plan_shop.specs.Docs.{NoneIsClosed}
 use Rattle.plan_gantt.specs.WorkingDay.{Workdays}
-use Rattle.plan_desk.specs.declared.kinds.PlanKind.{PlanKind}
-use Rattle.plan_desk.specs.declared.kinds.PlanKind.TheVariants.{Project, Shop}
+use Rattle.plan_rows.specs.declared.kinds.PlanKind.{PlanKind}
+use Rattle.plan_rows.specs.declared.kinds.PlanKind.TheVariants.{Project, Shop}
 use Rattle.plan_psplib.specs.Project as files
-use Rattle.plan_desk.specs.World.{Text, Plan}
-use Rattle.plan_desk.specs.Changes.{Change}
-use Rattle.plan_desk.specs.Views.{View}
+use Rattle.plan_rows.specs.World.{Text, Plan}
+use Rattle.plan_rows.specs.Changes.{Change}
+use Rattle.plan_rows.specs.Views.{View}
 use Rattle.plan_desk.specs.Calls.{Call, Request, Reply, admits, refusal, page}
 use Rattle.plan_desk.specs.Calls as call
 use Rattle.plan_desk.specs.Stories.{decided}
-use Rattle.plan_desk.specs.Plans.{plan_seen, IsProjectOf, IsShopOf, bound_project, open_machines}
+use Rattle.plan_rows.specs.Plans.{plan_seen, IsProjectOf, IsShopOf, bound_project, open_machines}
 use Rattle.plan_desk.specs.Outcomes.{Outcome, refuses, shows, unless, given, some, why_or}
 use Rattle.plan_desk.specs.Refusals.{not_found, other_kind, bad_schedule, bad_calendar}
 use Rattle.plan_desk.specs.PlanRoutes.{of_plan, by_kind}

@@ -4,17 +4,17 @@ use Rattle.std.proofs.Common.{◌≡◌, ℕ, Bool, true, false, List, Option, S
 use Rattle.std.proofs.lemmas.Bool.{both_ways}
 use Rattle.std.specs.Prelude.{option_and_then, codes}
 use Rattle.serde_json.specs.Data.{Data}
-use Rattle.plan_desk.specs.World.{Text, Plan}
-use Rattle.plan_desk.specs.Changes.{Change, Keep, is_publishing}
-use Rattle.plan_desk.specs.Views.{View}
-use Rattle.plan_desk.specs.Names.{is_name}
+use Rattle.plan_rows.specs.World.{Text, Plan}
+use Rattle.plan_rows.specs.Changes.{Change, Keep, is_publishing}
+use Rattle.plan_rows.specs.Views.{View}
+use Rattle.plan_rows.specs.Names.{is_name}
 use Rattle.plan_desk.specs.Bodies.{json, text_in, any_text, desk_members, desk_body, desk_named}
 use Rattle.plan_desk.specs.Calls.{Call, publish, open_desk, set_key, capacities, plans, import_project, import_shop, remove, bind, set_calendar, set_lag, dates, schedule, chart, days, best, Reply, is_publish}
-use Rattle.plan_desk.specs.declared.kinds.PlanKind.{PlanKind}
-use Rattle.plan_desk.specs.declared.kinds.PlanKind.TheVariants as kinds
+use Rattle.plan_rows.specs.declared.kinds.PlanKind.{PlanKind}
+use Rattle.plan_rows.specs.declared.kinds.PlanKind.TheVariants as kinds
 use Rattle.plan_sgs.specs.Instances.{Planned}
 use Rattle.plan_shop.specs.Shop.{JobShop}
-use Rattle.plan_desk.specs.Plans.{bound_project}
+use Rattle.plan_rows.specs.Plans.{bound_project}
 use Rattle.plan_desk.specs.Outcomes.{Outcome, refuses, given}
 use Rattle.plan_desk.specs.OfficeRoutes.{Publishes, Opens, SetsKey}
 use Rattle.plan_desk.specs.PlanRoutes.{of_plan, by_kind, Imports, ImportsProject, ImportsShop, Removes, Binds, Calendars, SetsLag}

@@ -2,20 +2,21 @@
 use Rattle.std.proofs.Common.{◌≡◌, inl, inr, ℕ, Bool, true, false, Option, Some, None, List, length, refl, sym, ap, subst}
 use Rattle.std.specs.Prelude.{option_map, option_and_then, unwrap_or, is_some, not, if◌then◌else◌, nat_le}
 use Rattle.std.proofs.lemmas.Bool.{both_ways, lt-leb, le-leb}
-use Rattle.plan_desk.specs.declared.kinds.Kind.{Kind}
-use Rattle.plan_desk.specs.declared.kinds.PlanKind.{PlanKind}
-use Rattle.plan_desk.specs.declared.kinds.PlanKind.TheVariants as kinds
+use Rattle.plan_rows.specs.declared.kinds.Kind.{Kind}
+use Rattle.plan_rows.specs.declared.kinds.PlanKind.{PlanKind}
+use Rattle.plan_rows.specs.declared.kinds.PlanKind.TheVariants as kinds
 use Rattle.plan_psplib.specs.Project.{Project, SaysProject}
-use Rattle.plan_desk.specs.World.{Text, Published, Desk, Plan, same_kind, takes, code_in}
-use Rattle.plan_desk.specs.Changes.{Change, Keep, AddPlan, BindPlace, SetLag}
+use Rattle.plan_rows.specs.World.{Text, Published, Desk, Plan, same_kind, takes, code_in}
+use Rattle.plan_rows.specs.Changes.{Change, Keep, AddPlan, BindPlace, SetLag}
 use Rattle.plan_desk.specs.Calls.{Reply, answer}
-use Rattle.plan_desk.specs.Views.{View}
+use Rattle.plan_rows.specs.Views.{View}
 use Rattle.plan_desk.specs.Bodies.{BindBody, LagBody, bind_body, lag_body}
 use Rattle.plan_desk.specs.Outcomes.{Outcome, refuses, makes, unless, given, some, why_or}
-use Rattle.plan_desk.specs.Plans.{plan_seen, HasPlaces, is_place}
+use Rattle.plan_rows.specs.Plans.{plan_seen, HasPlaces, is_place}
 use Rattle.plan_desk.specs.OfficeRoutes.{is_other_kind}
 use Rattle.plan_desk.specs.JsonTexts.{plan_text, bind_text, lag_text}
-use Rattle.plan_desk.specs.PlanRoutes.{of_plan, by_kind, has_arc, Imports, Binds, SetsLag}
+use Rattle.plan_desk.specs.PlanRoutes.{of_plan, by_kind, Imports, Binds, SetsLag}
+use Rattle.plan_rows.specs.Plans.{has_arc}
 use Rattle.plan_desk.specs.Refusals.{not_found, bad_body, unpublished, kind_differs, other_kind, many_plans, numbers_spent, bad_file}
 use Rattle.plan_desk.specs.RouteRefusals.{TellsFileFault, IsFileRefusal, IsImportRefusal, bind_refusal_of, lag_refusal_of}
 

@@ -10,22 +10,22 @@ use Rattle.plan_desk.specs.declared.reply.Reply as whole
 use Rattle.plan_desk.specs.declared.bodies.DeskBody as read
 use Rattle.plan_desk.specs.BodyViews.{desk_body_in}
 use Rattle.plan_desk.specs.Calls as calls
-use Rattle.plan_desk.specs.World.{Text, Digest, Published, Desk, Plan, World, code_in, desk_in}
-use Rattle.plan_desk.specs.Names.{is_key, key_digest_of}
-use Rattle.plan_desk.specs.Changes.{Change, Keep, Publish, OpenDesk, SetKey, RemovePlan}
+use Rattle.plan_rows.specs.World.{Text, Digest, Published, Desk, Plan, World, code_in, desk_in}
+use Rattle.plan_rows.specs.Names.{is_key, key_digest_of}
+use Rattle.plan_rows.specs.Changes.{Change, Keep, Publish, OpenDesk, SetKey, RemovePlan}
 use Rattle.plan_desk.specs.Calls.{Reply, answer}
-use Rattle.plan_desk.specs.Views.{View, view}
+use Rattle.plan_rows.specs.Views.{View, view}
 use Rattle.plan_desk.specs.Bodies.{PublishBody, publish_body, DeskBody, desk_body, desk_named, key_body}
 use Rattle.plan_desk.specs.Outcomes.{Outcome, refuses, tells, makes, unless, given}
-use Rattle.plan_desk.specs.Plans.{plan_seen}
+use Rattle.plan_rows.specs.Plans.{plan_seen}
 use Rattle.plan_desk.specs.OfficeRoutes.{is_other_kind, Publishes, Opens, SetsKey}
 use Rattle.plan_desk.specs.PlanRoutes.{of_plan, Removes}
 use Rattle.plan_desk.specs.JsonTexts.{code_text, desk_text, number_text}
 use Rattle.plan_desk.specs.Refusals.{not_found, bad_body, desk_exists, kind_differs}
 use Rattle.plan_desk.specs.Replies.{reply_of}
 use Rattle.plan_desk.specs.Deciding.{IsDecided, change_in, owner_of}
-use Rattle.plan_desk.specs.declared.rows.DeskRow.{DeskRow}
-use Rattle.plan_desk.specs.Books.{Matches, IsDeskAnswer}
+use Rattle.plan_rows.specs.declared.rows.DeskRow.{DeskRow}
+use Rattle.plan_rows.specs.Books.{Matches, IsDeskAnswer}
 use Rattle.plan_desk.proofs.FitLemmas.{desk_says}
 use Rattle.plan_desk.proofs.RefusedLemmas.{refused_by, passed_by, given_there}
 

@@ -5,8 +5,8 @@ use Rattle.plan_psplib.specs.Faults.{IsWantOfMemory}
 use Rattle.plan_psplib.specs.Project.{IsFirstFailing}
 use Rattle.plan_orlib.specs.Reading.{FailsWith, shop}
 use Rattle.plan_gantt.specs.FaultText.{file_fault_text_of}
-use Rattle.plan_desk.specs.declared.kinds.PlanKind.{PlanKind}
-use Rattle.plan_desk.specs.declared.kinds.PlanKind.TheVariants as kinds
+use Rattle.plan_rows.specs.declared.kinds.PlanKind.{PlanKind}
+use Rattle.plan_rows.specs.declared.kinds.PlanKind.TheVariants as kinds
 use Rattle.plan_desk.specs.RouteRefusals.{TellsFileFault}
 
 -- memory ran out, or the line of the fault tells what the file fails

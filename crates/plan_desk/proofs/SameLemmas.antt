@@ -3,10 +3,10 @@ use Rattle.std.proofs.Common.{◌≡◌, ◌⊎◌, inl, inr, Bool, true, false,
 use Rattle.std.specs.Prelude.{find}
 use Rattle.std.specs.List.{list_any, AllByRecursion}
 use Rattle.std.proofs.lemmas.Bool.{cases_Bool, cond-true, cond-false, both_ways}
-use Rattle.plan_desk.specs.Changes.{changed, put}
-use Rattle.plan_desk.specs.Rules.{AllDiffer}
-use Rattle.plan_desk.proofs.RowLemmas.{change_of}
-use Rattle.plan_desk.proofs.RuleLemmas.{find_none}
+use Rattle.plan_rows.specs.Changes.{changed, put}
+use Rattle.plan_rows.specs.Rules.{AllDiffer}
+use Rattle.plan_rows.proofs.RowLemmas.{change_of}
+use Rattle.plan_rows.proofs.RuleLemmas.{find_none}
 
 module _ {A : Type 0} where
   -- x is a row of the list

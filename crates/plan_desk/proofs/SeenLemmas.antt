@@ -4,13 +4,13 @@
 use Rattle.std.proofs.Common.{◌≡◌, ℕ, ◌⊎◌, inl, inr, Bool, true, false, ◌&&◌, List, [], ◌∷◌, ◌++◌, filter, refl, sym, ap, ◌∙◌, subst}
 use Rattle.std.specs.Prelude.{find, option_map, option_to_list, ◌==◌}
 use Rattle.std.proofs.lemmas.Bool.{cases_Bool, cond-true, cond-false, both_ways, and_parts}
-use Rattle.plan_desk.specs.World.{Text, Desk, Plan, Bind, Lag, World, same_text, is_desk, is_plan_of, is_bind_by, is_lag_by, is_plan, is_bind_of, is_bind, is_lag_of, is_lag, desk_in}
-use Rattle.plan_desk.specs.Changes.{Change, Keep, Publish, OpenDesk, SetKey, AddPlan, RemovePlan, BindPlace, SetCalendar, SetLag, changed, put, without, apply, lags_after, is_publishing, next_of, new_desk, with_digest, risen, new_plan, with_calendar, new_bind, with_code, new_lag, with_lag}
-use Rattle.plan_desk.specs.Views.{View, view, alone}
+use Rattle.plan_rows.specs.World.{Text, Desk, Plan, Bind, Lag, World, same_text, is_desk, is_plan_of, is_bind_by, is_lag_by, is_plan, is_bind_of, is_bind, is_lag_of, is_lag, desk_in}
+use Rattle.plan_rows.specs.Changes.{Change, Keep, Publish, OpenDesk, SetKey, AddPlan, RemovePlan, BindPlace, SetCalendar, SetLag, changed, put, without, apply, lags_after, is_publishing, next_of, new_desk, with_digest, risen, new_plan, with_calendar, new_bind, with_code, new_lag, with_lag}
+use Rattle.plan_rows.specs.Views.{View, view, alone}
 use Rattle.std.specs.Option.{option_or}
 use Rattle.std.proofs.lemmas.List.Folds.{find-append}
-use Rattle.plan_desk.proofs.RowLemmas.{filter_again, find_again, change_of, find-changed, find_hidden, find_past_new}
-use Rattle.plan_desk.proofs.OwnerLemmas.{text_from_same, seen_changed, hidden_changed, seen_without, hidden_without, seen_added, hidden_added, seen_put, hidden_put}
+use Rattle.plan_rows.proofs.RowLemmas.{filter_again, find_again, change_of, find-changed, find_hidden, find_past_new}
+use Rattle.plan_rows.proofs.OwnerLemmas.{text_from_same, seen_changed, hidden_changed, seen_without, hidden_without, seen_added, hidden_added, seen_put, hidden_put}
 
 abbrev plan_owner : Plan → Text
 plan_owner row = row.desk

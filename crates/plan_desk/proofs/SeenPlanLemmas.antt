@@ -8,15 +8,15 @@ use Rattle.plan_psplib.specs.Project.{Project, SaysProject}
 use Rattle.plan_orlib.specs.Shop as docs
 use Rattle.plan_orlib.specs.Says.{Says}
 use Rattle.plan_psplib.proofs.OnceLemmas.{project_once}
-use Rattle.plan_desk.specs.declared.kinds.PlanKind.{PlanKind}
-use Rattle.plan_desk.specs.declared.kinds.PlanKind.TheVariants as kinds
-use Rattle.plan_desk.specs.declared.rows.PlanRow.{PlanRow}
-use Rattle.plan_desk.specs.World.{Text, Plan, Lag, is_plan, is_plan_of, plan_in}
-use Rattle.plan_desk.specs.Views.{View, alone}
-use Rattle.plan_desk.specs.Plans.{plan_seen, plan_number, has_number, put_in_order, in_order, lag_before, arc_of, lags_of, HasPlaces}
-use Rattle.plan_desk.specs.PlanRoutes.{has_arc}
-use Rattle.plan_desk.specs.Rules.{IsThereAnd, IsPlanRow, IsLagRow, IsWorld, HasCalendar}
-use Rattle.plan_desk.specs.Books.{IsPlanAnswer}
+use Rattle.plan_rows.specs.declared.kinds.PlanKind.{PlanKind}
+use Rattle.plan_rows.specs.declared.kinds.PlanKind.TheVariants as kinds
+use Rattle.plan_rows.specs.declared.rows.PlanRow.{PlanRow}
+use Rattle.plan_rows.specs.World.{Text, Plan, Lag, is_plan, is_plan_of, plan_in}
+use Rattle.plan_rows.specs.Views.{View, alone}
+use Rattle.plan_rows.specs.Plans.{plan_seen, plan_number, has_number, put_in_order, in_order, lag_before, arc_of, lags_of, HasPlaces}
+use Rattle.plan_rows.specs.Plans.{has_arc}
+use Rattle.plan_rows.specs.Rules.{IsThereAnd, IsPlanRow, IsLagRow, IsWorld, HasCalendar}
+use Rattle.plan_rows.specs.Books.{IsPlanAnswer}
 use Rattle.plan_desk.specs.PlanValues.{TakesLags, IsSoundPlan}
 use Rattle.plan_desk.proofs.KeepLemmas.{HasLag}
 use Rattle.plan_desk.proofs.SameLemmas.{Has, all_has, found_there, found_one, filter_has, any_has}

@@ -2,8 +2,8 @@
 use Rattle.std.proofs.Common.{◌≡◌, ◌+◌, ◌⊎◌, inl, inr, Bool, true, false, List, [], ◌∷◌, ◌++◌, length, refl, sym, ap, ◌∙◌, subst, arith}
 use Rattle.std.specs.List.{AllByRecursion}
 use Rattle.std.proofs.lemmas.Bool.{cases_Bool, both_ways}
-use Rattle.plan_desk.specs.Plans.{put_in_order, in_order}
-use Rattle.plan_desk.specs.Rules.{AllDiffer}
+use Rattle.plan_rows.specs.Plans.{put_in_order, in_order}
+use Rattle.plan_rows.specs.Rules.{AllDiffer}
 use Rattle.plan_desk.proofs.SameLemmas.{Has, AreSame, all_has}
 
 -- rows of different keys come one before the other, not both ways, and so on along a chain; a row is

@@ -2,14 +2,14 @@
 use Rattle.std.proofs.Common.{◌≡◌, ◌⊎◌, inl, inr, Bool, true, false, List, [], ◌∷◌, Option, Some, None, refl, sym, ap, ◌∙◌, subst, arith}
 use Rattle.std.specs.Prelude.{unwrap_or}
 use Rattle.std.proofs.lemmas.Bool.{cases_Bool, both_ways, and_parts, or_cases, or_parts}
-use Rattle.plan_desk.proofs.RowLemmas.{head_of_cons, tail_of_cons, cons_is_not_nil}
-use Rattle.plan_desk.specs.World.{Text, World}
-use Rattle.plan_desk.specs.Changes.{Change, Keep, apply, is_publishing}
-use Rattle.plan_desk.specs.Views.{View, view, alone}
+use Rattle.plan_rows.proofs.RowLemmas.{head_of_cons, tail_of_cons, cons_is_not_nil}
+use Rattle.plan_rows.specs.World.{Text, World}
+use Rattle.plan_rows.specs.Changes.{Change, Keep, apply, is_publishing}
+use Rattle.plan_rows.specs.Views.{View, view, alone}
 use Rattle.plan_desk.specs.Bodies.{desk_named}
 use Rattle.plan_desk.specs.Calls.{Call, publish, open_desk, set_key, capacities, plans, import_project, import_shop, remove, bind, set_calendar, set_lag, dates, schedule, chart, days, best, Request, Reply, desk_of, subject, is_publish, admits}
 use Rattle.plan_desk.specs.Stories.{names, concerns, belongs, decided, IsDecided, IsStep, IsRealStep, IsRun, AreTold, IsStoryOf, IsWanting}
-use Rattle.plan_desk.proofs.OwnerLemmas.{text_from_same}
+use Rattle.plan_rows.proofs.OwnerLemmas.{text_from_same}
 use Rattle.plan_desk.proofs.SeenLemmas.{view_alone, seen, hidden}
 
 -- what every way of answering keeps: publishing looks at the codes alone, no other call publishes, a

@@ -1,8 +1,8 @@
 -- Lists in JSON, by the rows in their order (docs/DEFINITIONS.md, "Desks").
 use Rattle.std.specs.Prelude.{ℕ, zero, suc, List, [], ◌++◌, map, codes, string_bytes}
-use Rattle.plan_desk.specs.declared.rows.CodeRow.{CodeRow}
-use Rattle.plan_desk.specs.declared.rows.PlanEntry.{PlanEntry}
-use Rattle.plan_desk.specs.World.{Text}
+use Rattle.plan_rows.specs.declared.rows.CodeRow.{CodeRow}
+use Rattle.plan_rows.specs.declared.rows.PlanEntry.{PlanEntry}
+use Rattle.plan_rows.specs.World.{Text}
 use Rattle.plan_desk.specs.JsonTexts.{code_text, plan_text, separated}
 
 abbrev pub text_of_code : CodeRow → Text

@@ -6,10 +6,10 @@ use Rattle.plan_shop.specs.Shop.{JobShop}
 use Rattle.plan_shop.specs.Docs.{NoneIsClosed}
 use Rattle.plan_gantt.specs.ShopBestText.{IsBestTextOf}
 use Rattle.plan_gantt.specs.ProjectBestText.{IsBestProjectTextOf, TellsBestProjectRefusal}
-use Rattle.plan_desk.specs.declared.kinds.PlanKind.TheVariants as kinds
+use Rattle.plan_rows.specs.declared.kinds.PlanKind.TheVariants as kinds
 use Rattle.plan_desk.specs.declared.bound.BoundPlan.{BoundPlan}
-use Rattle.plan_desk.specs.World.{Text}
-use Rattle.plan_desk.specs.Plans.{IsShopOf}
+use Rattle.plan_rows.specs.World.{Text}
+use Rattle.plan_rows.specs.Plans.{IsShopOf}
 use Rattle.plan_desk.specs.BestRoutes.{TellsNoShopBest}
 use Rattle.plan_desk.specs.PlanValues.{IsProjectIn, row_in, planned_in, open_in}
 

@@ -6,10 +6,10 @@ use Rattle.plan_shop.specs.Shop.{JobShop}
 use Rattle.plan_shop.specs.Docs.{NoneIsClosed}
 use Rattle.plan_gantt.specs.ShopBestText.{IsBestTextOf, TellsBestRefusal}
 use Rattle.plan_gantt.specs.ProjectBestText.{IsBestProjectTextOf, TellsBestProjectRefusal}
-use Rattle.plan_desk.specs.World.{Text, Plan}
-use Rattle.plan_desk.specs.Views.{View}
+use Rattle.plan_rows.specs.World.{Text, Plan}
+use Rattle.plan_rows.specs.Views.{View}
 use Rattle.plan_desk.specs.Outcomes.{Outcome, shows, some, why_or}
-use Rattle.plan_desk.specs.Plans.{IsProjectOf, IsShopOf, bound_project, open_machines}
+use Rattle.plan_rows.specs.Plans.{IsProjectOf, IsShopOf, bound_project, open_machines}
 use Rattle.plan_desk.specs.PlanRoutes.{of_plan, by_kind}
 use Rattle.plan_desk.specs.PageRoutes.{TellsClosed}
 use Rattle.plan_desk.specs.Refusals.{bad_schedule}

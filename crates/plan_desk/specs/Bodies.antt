@@ -6,10 +6,10 @@ use Rattle.std.specs.Str.{is_utf8}
 use Rattle.serde_json.specs.Data.{Data}
 use Rattle.serde_json.specs.Read.{read}
 use Rattle.serde_json.specs.Find.{get, as_str, as_number, as_u64}
-use Rattle.plan_desk.specs.declared.kinds.Kind.{Kind}
-use Rattle.plan_desk.specs.declared.kinds.Kind.TheVariants.{Crew, Machine}
-use Rattle.plan_desk.specs.World.{Text, same_text}
-use Rattle.plan_desk.specs.Names.{is_name, is_key, is_from_to}
+use Rattle.plan_rows.specs.declared.kinds.Kind.{Kind}
+use Rattle.plan_rows.specs.declared.kinds.Kind.TheVariants.{Crew, Machine}
+use Rattle.plan_rows.specs.World.{Text, same_text}
+use Rattle.plan_rows.specs.Names.{is_name, is_key, is_from_to}
 
 -- the value that the bytes spell
 abbrev pub json : Text → Option Data

@@ -1,11 +1,11 @@
 -- Requests and replies (docs/DEFINITIONS.md, "Desks").
 use Rattle.std.specs.Prelude.{ℕ, Bool, true, false, ◌&&◌, if◌then◌else◌, [], ◌∷◌, ◌++◌, nat_lt, Option, Some, None, unwrap_or, codes}
-use Rattle.plan_desk.specs.declared.kinds.ReplyKind.{ReplyKind}
-use Rattle.plan_desk.specs.declared.kinds.ReplyKind.TheVariants.{Plain, Json}
-use Rattle.plan_desk.specs.World.{Text}
-use Rattle.plan_desk.specs.Names.{has_key, unlocks}
+use Rattle.plan_desk.specs.declared.reply.ReplyKind.{ReplyKind}
+use Rattle.plan_desk.specs.declared.reply.ReplyKind.TheVariants.{Plain, Json}
+use Rattle.plan_rows.specs.World.{Text}
+use Rattle.plan_rows.specs.Names.{has_key, unlocks}
 use Rattle.plan_desk.specs.Bodies.{desk_named}
-use Rattle.plan_desk.specs.Views.{View}
+use Rattle.plan_rows.specs.Views.{View}
 
 -- One call for each route. What stands in a path is a text as it came, and so is a body.
 pub data Call : Type 0 where

@@ -1,20 +1,20 @@
 -- What is decided of a request over a book, and how it is carried out (docs/DEFINITIONS.md, "Books").
 use Rattle.std.specs.Prelude.{◌≡◌, ◌⊎◌, ℕ, ◌+◌, Bool, true, false, [], Option, Some, None, Result, IfOk, IfErr, IfSome, IsSome, OnErr, string_bytes, codes}
-use Rattle.plan_desk.specs.declared.fault.BookFault.{BookFault}
-use Rattle.plan_desk.specs.declared.fault.BookFault.TheVariants.{NoMemory, Store}
+use Rattle.plan_rows.specs.declared.fault.BookFault.{BookFault}
+use Rattle.plan_rows.specs.declared.fault.BookFault.TheVariants.{NoMemory, Store}
 use Rattle.plan_desk.specs.declared.change.Change as rows
 use Rattle.plan_desk.specs.declared.change.Change.TheVariants as made
 use Rattle.plan_desk.specs.declared.change.Decision.{Decision}
-use Rattle.plan_desk.specs.World.{Text, World, code_in, desk_in, plan_in}
-use Rattle.plan_desk.specs.Changes.{Change, Keep, Publish, OpenDesk, SetKey, AddPlan, RemovePlan, BindPlace, SetCalendar, SetLag, apply}
-use Rattle.plan_desk.specs.Views.{View, view, alone}
+use Rattle.plan_rows.specs.World.{Text, World, code_in, desk_in, plan_in}
+use Rattle.plan_rows.specs.Changes.{Change, Keep, Publish, OpenDesk, SetKey, AddPlan, RemovePlan, BindPlace, SetCalendar, SetLag, apply}
+use Rattle.plan_rows.specs.Views.{View, view, alone}
 use Rattle.plan_desk.specs.Calls.{Request, Reply, refusal, writes, is_accepted}
 use Rattle.plan_desk.specs.Stories.{IsWant, belongs}
 use Rattle.plan_desk.specs.Decisions.{IsStep}
 use Rattle.plan_desk.specs.Outcomes.{Outcome}
-use Rattle.plan_desk.specs.Rules.{IsWorld}
+use Rattle.plan_rows.specs.Rules.{IsWorld}
 use Rattle.plan_desk.specs.Replies.{reply_of}
-use Rattle.plan_desk.specs.Books.{Shelf, Writes}
+use Rattle.plan_rows.specs.Books.{Shelf, Writes}
 
 -- the change that it stands for
 abbrev pub change_in : rows.Change → Change

@@ -2,9 +2,9 @@
 -- (docs/DEFINITIONS.md, "Desks"). Of several refusals the first of their order is answered; each
 -- route is told in that order.
 use Rattle.std.specs.Prelude.{List, Option}
-use Rattle.plan_desk.specs.World.{Text, World}
-use Rattle.plan_desk.specs.Changes.{Change}
-use Rattle.plan_desk.specs.Views.{View}
+use Rattle.plan_rows.specs.World.{Text, World}
+use Rattle.plan_rows.specs.Changes.{Change}
+use Rattle.plan_rows.specs.Views.{View}
 use Rattle.plan_desk.specs.Calls.{Call, publish, open_desk, set_key, capacities, plans, import_project, import_shop, remove, bind, set_calendar, set_lag, dates, schedule, chart, days, best, Request, Reply}
 use Rattle.plan_desk.specs.Stories as story
 use Rattle.plan_desk.specs.Outcomes.{tells}

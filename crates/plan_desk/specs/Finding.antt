@@ -3,12 +3,12 @@ use Rattle.std.specs.Prelude.{◌≡◌, ℕ, Bool, List, Option, Some, None, ma
 use Rattle.plan_desk.specs.declared.finding.FoundPlan.{FoundPlan}
 use Rattle.plan_desk.specs.declared.bound.BoundPlace.{BoundPlace}
 use Rattle.plan_desk.specs.declared.bound.BoundPlan.{BoundPlan}
-use Rattle.plan_desk.specs.World.{Text, Published, Plan}
-use Rattle.plan_desk.specs.Views.{View}
-use Rattle.plan_desk.specs.Plans.{plan_seen}
-use Rattle.plan_desk.specs.Books.{IsPlanAnswer, bind_in}
+use Rattle.plan_rows.specs.World.{Text, Published, Plan}
+use Rattle.plan_rows.specs.Views.{View}
+use Rattle.plan_rows.specs.Plans.{plan_seen}
+use Rattle.plan_rows.specs.Books.{IsPlanAnswer, bind_in}
 use Rattle.plan_desk.specs.Pages.{IsBound, bound_in, capacity_of}
-use Rattle.plan_desk.specs.declared.rows.BindEntry.{BindEntry}
+use Rattle.plan_rows.specs.declared.rows.BindEntry.{BindEntry}
 
 -- a desk sees a plan of this number under the number that a text spells
 pub record IsNumbered (v : View) (text : Text) (found : FoundPlan) : Type 0 where

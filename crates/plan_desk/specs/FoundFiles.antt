@@ -3,13 +3,13 @@ use Rattle.std.specs.Prelude.{◌≡◌, ℕ, Option, Some, None, string_bytes}
 use Rattle.plan_psplib.specs.Project.{Project, SaysProject}
 use Rattle.plan_orlib.specs.Says.{Says}
 use Rattle.plan_gantt.specs.FirstFaults.{TellsFirstFailing, TellsFirstShopFault}
-use Rattle.plan_desk.specs.declared.kinds.PlanKind.{PlanKind}
-use Rattle.plan_desk.specs.declared.kinds.PlanKind.TheVariants as kinds
-use Rattle.plan_desk.specs.declared.rows.PlanRow.{PlanRow}
-use Rattle.plan_desk.specs.World.{Text}
-use Rattle.plan_desk.specs.Views.{View}
+use Rattle.plan_rows.specs.declared.kinds.PlanKind.{PlanKind}
+use Rattle.plan_rows.specs.declared.kinds.PlanKind.TheVariants as kinds
+use Rattle.plan_rows.specs.declared.rows.PlanRow.{PlanRow}
+use Rattle.plan_rows.specs.World.{Text}
+use Rattle.plan_rows.specs.Views.{View}
 use Rattle.plan_desk.specs.Outcomes.{Outcome}
-use Rattle.plan_desk.specs.Plans.{HasPlaces}
+use Rattle.plan_rows.specs.Plans.{HasPlaces}
 use Rattle.plan_desk.specs.PlanRoutes.{Imports}
 
 -- the plan of a row has so many places

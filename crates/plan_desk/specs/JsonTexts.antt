@@ -1,22 +1,11 @@
 -- The answers in JSON: objects without blanks, their members in the order of their names
 -- (docs/DEFINITIONS.md, "Desks"; RFC 8259). Names and kinds need no escape.
-use Rattle.std.specs.Prelude.{ℕ, Bool, nat_lt, List, [], ◌∷◌, ◌++◌, map, codes, decimal}
-use Rattle.std.specs.Cmp.Lexicographic.{slice_cmp}
-use Rattle.std.specs.Ordering.{nat_cmp, is_lt}
-use Rattle.plan_desk.specs.declared.kinds.Kind.{Kind}
-use Rattle.plan_desk.specs.declared.kinds.PlanKind.{PlanKind}
-use Rattle.plan_desk.specs.declared.kinds.Kind.TheVariants.{Crew, Machine}
-use Rattle.plan_desk.specs.declared.kinds.PlanKind.TheVariants.{Project, Shop}
-use Rattle.plan_desk.specs.World.{Text, Published, Plan}
-use Rattle.plan_desk.specs.Plans.{in_order}
-
-abbrev pub kind_text : Kind → Text
-kind_text Crew = codes "crew"
-kind_text Machine = codes "machine"
-
-abbrev pub plan_kind_text : PlanKind → Text
-plan_kind_text Project = codes "project"
-plan_kind_text Shop = codes "shop"
+use Rattle.std.specs.Prelude.{ℕ, List, [], ◌∷◌, ◌++◌, map, codes, decimal}
+use Rattle.plan_rows.specs.declared.kinds.Kind.{Kind}
+use Rattle.plan_rows.specs.declared.kinds.PlanKind.{PlanKind}
+use Rattle.plan_rows.specs.World.{Text, Published, Plan}
+use Rattle.plan_rows.specs.Names.{kind_text, plan_kind_text}
+use Rattle.plan_rows.specs.Plans.{in_order, code_before, plan_before}
 
 -- a published code
 abbrev pub code_text : Text → Kind → ℕ → Text
@@ -51,16 +40,10 @@ separated [] = []
 separated (text ∷ []) = text
 separated (text ∷ other ∷ texts) = text ++ codes "," ++ separated (other ∷ texts)
 
-abbrev pub code_before : Published → Published → Bool
-code_before a b = is_lt (slice_cmp nat_cmp a.code b.code)
-
 -- the published codes, rising byte by byte
 abbrev pub codes_text : List Published → Text
 codes_text rows =
     codes "{\"capacities\":[" ++ separated (map (λ row. code_text row.code row.kind row.capacity) (in_order code_before rows)) ++ codes "]}"
-
-abbrev pub plan_before : Plan → Plan → Bool
-plan_before a b = nat_lt a.n b.n
 
 -- the plans of a desk, rising by number
 abbrev pub plans_text : List Plan → Text

@@ -1,12 +1,12 @@
 -- Laws of the office (docs/DEFINITIONS.md, "Desks").
 use Rattle.std.specs.Prelude.{◌≡◌, ◌⊎◌, false, List}
-use Rattle.plan_desk.specs.World.{Text, World}
-use Rattle.plan_desk.specs.Changes.{Change}
-use Rattle.plan_desk.specs.Views.{View, view, alone, Agree}
+use Rattle.plan_rows.specs.World.{Text, World}
+use Rattle.plan_rows.specs.Changes.{Change}
+use Rattle.plan_rows.specs.Views.{View, view, alone, Agree}
 use Rattle.plan_desk.specs.Calls.{Request, Reply}
 use Rattle.plan_desk.specs.Stories.{belongs}
 use Rattle.plan_desk.specs.Decisions.{IsDecision, IsStep, IsRealStep, IsRun, AreTold, IsStoryOf, IsWanting}
-use Rattle.plan_desk.specs.Rules.{IsWorld}
+use Rattle.plan_rows.specs.Rules.{IsWorld}
 
 -- a view and a request have one reply and one change at most
 unfoldable pub OneDecision : Type 0

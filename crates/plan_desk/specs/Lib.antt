@@ -1,12 +1,7 @@
-pub mod World
-pub mod Changes
-pub mod Views
-pub mod Names
 pub mod Bodies
 pub mod Calls
 pub mod Stories
 pub mod Outcomes
-pub mod Plans
 pub mod JsonTexts
 pub mod Refusals
 pub mod OfficeRoutes
@@ -14,9 +9,7 @@ pub mod PlanRoutes
 pub mod PageRoutes
 pub mod BestRoutes
 pub mod Decisions
-pub mod Rules
 pub mod Laws
-pub mod Books
 pub mod BodyViews
 pub mod Replies
 pub mod RouteRefusals
@@ -25,11 +18,9 @@ pub mod Deciding
 pub mod Requests
 pub mod Answers
 pub mod Finding
-pub mod Tables
 pub mod Recovering
 pub mod Whole
 pub mod MemBooks
-pub mod RowTests
 pub mod PlanValues
 pub mod Promises
 pub mod Scheduled

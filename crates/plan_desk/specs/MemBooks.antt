@@ -1,10 +1,10 @@
 -- What contracts see of a book in memory (docs/DEFINITIONS.md, "Books").
 use Rattle.std.specs.Prelude.{◌≡◌, Some}
 use Rattle.plan_desk.specs.declared.mem_book.MemBook.{MemBook}
-use Rattle.plan_desk.specs.World.{World}
-use Rattle.plan_desk.specs.Tables.{world_kept}
-use Rattle.plan_desk.specs.Rules.{IsWorld}
-use Rattle.plan_desk.specs.Books.{Shelf}
+use Rattle.plan_rows.specs.World.{World}
+use Rattle.plan_rows.specs.Tables.{world_kept}
+use Rattle.plan_rows.specs.Rules.{IsWorld}
+use Rattle.plan_rows.specs.Books.{Shelf}
 use Rattle.plan_desk.specs.Whole.{whole_of}
 
 -- the rows of its tables

@@ -2,11 +2,11 @@
 -- with the office's key.
 use Rattle.std.specs.Prelude.{Bool, false, not, is_some, List, Option, Some, None}
 use Rattle.sha2.specs.Sha256.{sha256}
-use Rattle.plan_desk.specs.declared.kinds.Kind.{Kind}
-use Rattle.plan_desk.specs.World.{Text, Published, same_kind, code_in}
-use Rattle.plan_desk.specs.Changes.{Publish, OpenDesk, SetKey}
+use Rattle.plan_rows.specs.declared.kinds.Kind.{Kind}
+use Rattle.plan_rows.specs.World.{Text, Published, same_kind, code_in}
+use Rattle.plan_rows.specs.Changes.{Publish, OpenDesk, SetKey}
 use Rattle.plan_desk.specs.Bodies.{publish_body, desk_body, key_body}
-use Rattle.plan_desk.specs.Views.{View}
+use Rattle.plan_rows.specs.Views.{View}
 use Rattle.plan_desk.specs.Outcomes.{Outcome, makes, unless, given}
 use Rattle.plan_desk.specs.Refusals.{not_found, bad_body, desk_exists, kind_differs}
 use Rattle.plan_desk.specs.JsonTexts.{code_text, desk_text}

@@ -1,8 +1,8 @@
 -- The words in which answers are told: an outcome says which replies and changes may come
 -- (docs/DEFINITIONS.md, "Desks").
 use Rattle.std.specs.Prelude.{◌≡◌, ◌⊎◌, ℕ, Bool, true, false, Option, Some, None}
-use Rattle.plan_desk.specs.World.{Text}
-use Rattle.plan_desk.specs.Changes.{Change, Keep}
+use Rattle.plan_rows.specs.World.{Text}
+use Rattle.plan_rows.specs.Changes.{Change, Keep}
 use Rattle.plan_desk.specs.Calls.{Reply, answer, page}
 
 abbrev pub Outcome : Type 1

@@ -1,18 +1,18 @@
 -- What is made of a plan that a desk sees, as a book answers it (docs/DEFINITIONS.md, "Books").
 use Rattle.std.specs.Prelude.{◌≡◌, ℕ, List, Option, Some, Result, IfOk, IfErr, map, option_map}
-use Rattle.plan_desk.specs.declared.fault.BookFault.{BookFault}
-use Rattle.plan_desk.specs.declared.fault.BookFault.TheVariants.{Store}
-use Rattle.plan_desk.specs.declared.rows.PlanRow.{PlanRow}
+use Rattle.plan_rows.specs.declared.fault.BookFault.{BookFault}
+use Rattle.plan_rows.specs.declared.fault.BookFault.TheVariants.{Store}
+use Rattle.plan_rows.specs.declared.rows.PlanRow.{PlanRow}
 use Rattle.plan_desk.specs.declared.bound.BoundPlace.{BoundPlace}
 use Rattle.plan_desk.specs.declared.bound.BoundPlan.{BoundPlan}
 use Rattle.plan_desk.specs.declared.reply.Reply as made
-use Rattle.plan_desk.specs.World.{Text, Published, Plan, code_in}
-use Rattle.plan_desk.specs.Changes.{Keep}
-use Rattle.plan_desk.specs.Views.{View, alone}
+use Rattle.plan_rows.specs.World.{Text, Published, Plan, code_in}
+use Rattle.plan_rows.specs.Changes.{Keep}
+use Rattle.plan_rows.specs.Views.{View, alone}
 use Rattle.plan_desk.specs.Outcomes.{Outcome}
-use Rattle.plan_desk.specs.Plans.{plan_seen, places_of}
-use Rattle.plan_desk.specs.Rules.{IsWorld}
-use Rattle.plan_desk.specs.Books.{IsPlanAnswer}
+use Rattle.plan_rows.specs.Plans.{plan_seen, places_of}
+use Rattle.plan_rows.specs.Rules.{IsWorld}
+use Rattle.plan_rows.specs.Books.{IsPlanAnswer}
 use Rattle.plan_desk.specs.Replies.{reply_of}
 
 -- the capacity of a code, where it is published

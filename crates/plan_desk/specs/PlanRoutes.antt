@@ -1,8 +1,6 @@
 -- What a desk's commands on its plans are answered (docs/DEFINITIONS.md, "Desks"). Each is for a
 -- request with the desk's key.
 use Rattle.std.specs.Prelude.{◌≡◌, ℕ, Bool, not, nat_le, is_some, [], length}
-use Rattle.std.specs.List.{list_any}
-use Rattle.plan_net.specs.Network.{Net, joins}
 use Rattle.plan_psplib.specs.Project.{Project}
 use Rattle.plan_psplib.specs.Project as files
 use Rattle.plan_orlib.specs.Says.{Says}
@@ -10,14 +8,14 @@ use Rattle.plan_gantt.specs.FirstFaults.{TellsFirstFailing, TellsFirstShopFault}
 use Rattle.plan_gantt.specs.CalendarText.{IsCalendar, RefusesTexts}
 use Rattle.plan_gantt.specs.CalendarFaultText.{calendar_fault_text_of}
 use Rattle.plan_gantt.specs.declared.calendar.CalendarFault.{CalendarFault}
-use Rattle.plan_desk.specs.declared.kinds.PlanKind.{PlanKind}
-use Rattle.plan_desk.specs.declared.kinds.PlanKind.TheVariants as kinds
-use Rattle.plan_desk.specs.World.{Text, Plan, takes, code_in}
-use Rattle.plan_desk.specs.Changes.{AddPlan, RemovePlan, BindPlace, SetCalendar, SetLag}
+use Rattle.plan_rows.specs.declared.kinds.PlanKind.{PlanKind}
+use Rattle.plan_rows.specs.declared.kinds.PlanKind.TheVariants as kinds
+use Rattle.plan_rows.specs.World.{Text, Plan, takes, code_in}
+use Rattle.plan_rows.specs.Changes.{AddPlan, RemovePlan, BindPlace, SetCalendar, SetLag}
 use Rattle.plan_desk.specs.Bodies.{bind_body, calendar_body, lag_body}
-use Rattle.plan_desk.specs.Views.{View}
+use Rattle.plan_rows.specs.Views.{View}
 use Rattle.plan_desk.specs.Outcomes.{Outcome, refuses, makes, unless, given, some, why_or}
-use Rattle.plan_desk.specs.Plans.{plan_seen, HasPlaces, is_place}
+use Rattle.plan_rows.specs.Plans.{plan_seen, HasPlaces, is_place, has_arc}
 use Rattle.plan_desk.specs.OfficeRoutes.{is_other_kind}
 use Rattle.plan_desk.specs.Refusals.{not_found, bad_body, unpublished, kind_differs, other_kind, many_plans, numbers_spent, bad_file, bad_calendar}
 use Rattle.plan_desk.specs.JsonTexts.{plan_text, number_text, bind_text, calendar_text, lag_text}
@@ -68,10 +66,6 @@ unfoldable pub Calendars : View → Text → Text → Outcome
 Calendars v n body = of_plan v n (λ plan. given (calendar_body body) bad_body (λ b.
     why_or (TellsTexts b.start b.days) bad_calendar (IsCalendar b.start b.days)
     (λ c. makes 200 (calendar_text b.start b.days) (SetCalendar plan.n b.start b.days))))
-
--- the network has the arc
-abbrev pub has_arc : Net → ℕ → ℕ → Bool
-has_arc net source target = list_any (λ arc. joins arc source target) net.arcs
 
 -- an arc of a project gets a lag
 unfoldable pub SetsLag : View → Text → Text → Outcome

@@ -7,14 +7,14 @@ use Rattle.plan_orlib.specs.Shop as docs
 use Rattle.plan_orlib.specs.Says.{Says}
 use Rattle.plan_sgs.specs.Instances.{Planned, planned}
 use Rattle.plan_shop.specs.Shop.{JobShop}
-use Rattle.plan_desk.specs.declared.kinds.PlanKind.TheVariants as kinds
-use Rattle.plan_desk.specs.declared.rows.PlanRow.{PlanRow}
+use Rattle.plan_rows.specs.declared.kinds.PlanKind.TheVariants as kinds
+use Rattle.plan_rows.specs.declared.rows.PlanRow.{PlanRow}
 use Rattle.plan_desk.specs.declared.bound.BoundPlace.{BoundPlace}
 use Rattle.plan_desk.specs.declared.bound.BoundPlan.{BoundPlan}
-use Rattle.plan_desk.specs.World.{Plan}
-use Rattle.plan_desk.specs.Plans.{lagged_by}
-use Rattle.plan_desk.specs.Books.{lag_in}
-use Rattle.plan_desk.specs.Rules.{HasCalendar}
+use Rattle.plan_rows.specs.World.{Plan}
+use Rattle.plan_rows.specs.Plans.{lagged_by}
+use Rattle.plan_rows.specs.Books.{lag_in}
+use Rattle.plan_rows.specs.Rules.{HasCalendar}
 
 -- the arcs that have lags
 abbrev pub lags_in : PlanRow → List (ℕ × ℕ × ℕ)

@@ -23,11 +23,11 @@ use Rattle.plan_gantt.specs.CalendarText.{IsCalendar}
 use Rattle.plan_gantt.specs.WorkingDay.{Workdays}
 use Rattle.plan_gantt.specs.BestText.{best_text_of}
 use Rattle.plan_gantt.specs.ProjectBestText.{best_project_text_of}
-use Rattle.plan_desk.specs.World.{Text, Plan}
-use Rattle.plan_desk.specs.Changes.{Change}
-use Rattle.plan_desk.specs.Views.{View}
+use Rattle.plan_rows.specs.World.{Text, Plan}
+use Rattle.plan_rows.specs.Changes.{Change}
+use Rattle.plan_rows.specs.Views.{View}
 use Rattle.plan_desk.specs.Calls.{Call, Request, Reply, dates, schedule, chart, days, best}
-use Rattle.plan_desk.specs.Plans.{plan_seen, IsProjectOf, IsShopOf, bound_project, open_machines}
+use Rattle.plan_rows.specs.Plans.{plan_seen, IsProjectOf, IsShopOf, bound_project, open_machines}
 use Rattle.plan_desk.specs.Decisions.{IsDecision}
 
 -- the dates of the greatest lengths of paths

@@ -27,11 +27,11 @@ use Rattle.plan_orlib.proofs.TextLemmas.{stream_is, said_shop}
 use Rattle.plan_gantt.specs.WorkingDay.{Workdays}
 use Rattle.plan_gantt.specs.CalendarText.{IsCalendar}
 use Rattle.plan_gantt.proofs.CalendarOnceLemmas.{start_once, marks_once}
-use Rattle.plan_desk.specs.declared.kinds.PlanKind.{PlanKind}
-use Rattle.plan_desk.specs.declared.kinds.PlanKind.TheVariants as kinds
-use Rattle.plan_desk.specs.World.{Text}
-use Rattle.plan_desk.specs.Plans.{HasPlaces}
-use Rattle.plan_desk.specs.Rules.{HasCalendar, AllDiffer, IsThereAnd}
+use Rattle.plan_rows.specs.declared.kinds.PlanKind.{PlanKind}
+use Rattle.plan_rows.specs.declared.kinds.PlanKind.TheVariants as kinds
+use Rattle.plan_rows.specs.World.{Text}
+use Rattle.plan_rows.specs.Plans.{HasPlaces}
+use Rattle.plan_rows.specs.Rules.{HasCalendar, AllDiffer, IsThereAnd}
 
 -- what is known to hold has its evidence
 abbrev pub Recovers : Type 0 → Type 0

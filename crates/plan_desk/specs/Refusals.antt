@@ -1,6 +1,6 @@
 -- The refusals of the office (docs/DEFINITIONS.md, "Desks"; docs/FAULTS.md).
 use Rattle.std.specs.Prelude.{◌++◌, codes}
-use Rattle.plan_desk.specs.World.{Text}
+use Rattle.plan_rows.specs.World.{Text}
 use Rattle.plan_desk.specs.Calls.{Reply, refusal}
 
 abbrev pub not_found : Reply

@@ -3,7 +3,7 @@ use Rattle.std.specs.Prelude.{string_bytes}
 use Rattle.plan_desk.specs.declared.reply.Body.{Body}
 use Rattle.plan_desk.specs.declared.reply.Body.TheVariants.{Fixed, Owned}
 use Rattle.plan_desk.specs.declared.reply.Reply as rows
-use Rattle.plan_desk.specs.World.{Text}
+use Rattle.plan_rows.specs.World.{Text}
 use Rattle.plan_desk.specs.Calls.{Reply}
 
 -- the bytes of a body

@@ -17,12 +17,12 @@ use Rattle.plan_gantt.specs.Charts.{activity_intervals}
 use Rattle.plan_gantt.specs.ShopCharts.{machine_intervals, IsShopCalendarTable, HasStepBeyond}
 use Rattle.plan_gantt.specs.CalendarTable.{IsCalendarTable, HasActivityBeyond}
 use Rattle.plan_gantt.specs.WorkingDay.{Workdays}
-use Rattle.plan_desk.specs.declared.kinds.PlanKind.TheVariants as kinds
+use Rattle.plan_rows.specs.declared.kinds.PlanKind.TheVariants as kinds
 use Rattle.plan_desk.specs.declared.bound.BoundPlan.{BoundPlan}
 use Rattle.plan_desk.specs.declared.pages.scheduled.Scheduled.{Scheduled}
 use Rattle.plan_desk.specs.declared.pages.scheduled.Scheduled.TheVariants as made
-use Rattle.plan_desk.specs.World.{Text}
-use Rattle.plan_desk.specs.Plans.{IsShopOf}
+use Rattle.plan_rows.specs.World.{Text}
+use Rattle.plan_rows.specs.Plans.{IsShopOf}
 use Rattle.plan_desk.specs.PageRoutes.{IsScheduleBy, IsShopScheduleBy, TellsShopRefusal}
 use Rattle.plan_desk.specs.PlanValues.{IsProjectIn, row_in, planned_in, open_in}
 

@@ -2,9 +2,9 @@
 -- "Desks"). What is answered to an admitted call, and which change that makes, is told by what the
 -- call's desk sees: it is a parameter here, and all routes are in Decisions.
 use Rattle.std.specs.Prelude.{◌≡◌, ◌⊎◌, Bool, true, false, ◌&&◌, ◌||◌, List, [], ◌∷◌, Option, Some, None, codes}
-use Rattle.plan_desk.specs.World.{Text, World, same_text}
-use Rattle.plan_desk.specs.Changes.{Change, Keep, apply}
-use Rattle.plan_desk.specs.Views.{View, view, alone}
+use Rattle.plan_rows.specs.World.{Text, World, same_text}
+use Rattle.plan_rows.specs.Changes.{Change, Keep, apply}
+use Rattle.plan_rows.specs.Views.{View, view, alone}
 use Rattle.plan_desk.specs.Calls.{Call, Request, Reply, refusal, no_key, desk_of, subject, is_publish, admits}
 
 abbrev pub names : Text → Option Text → Bool

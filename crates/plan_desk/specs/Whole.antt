@@ -3,13 +3,13 @@ use Rattle.std.specs.Prelude.{◌≡◌, ℕ, ◌<◌, ◌≤◌, true, [], leng
 use Rattle.std.proofs.Common.{refl}
 use Rattle.std.proofs.Math.Logic.{∥∥₁_elim, ∥∥₁_map}
 use Rattle.std.proofs.Props.{props}
-use Rattle.plan_desk.specs.declared.kinds.PlanKind.{PlanKind}
-use Rattle.plan_desk.specs.declared.kinds.PlanKind.TheVariants as kinds
-use Rattle.plan_desk.specs.World.{Text, Plan, Bind, Lag, World, same_text, same_kind, takes, is_plan_of, is_plan, is_bind, is_lag, plan_in, code_in, desk_in}
-use Rattle.plan_desk.specs.Plans.{is_place}
-use Rattle.plan_desk.specs.PlanRoutes.{has_arc}
-use Rattle.plan_desk.specs.Names.{is_from_to, is_digest}
-use Rattle.plan_desk.specs.Rules.{IsWorld, IsPlanRow, IsBindRow, IsLagRow, IsOwned, HasName, is_published_row, is_desk_row}
+use Rattle.plan_rows.specs.declared.kinds.PlanKind.{PlanKind}
+use Rattle.plan_rows.specs.declared.kinds.PlanKind.TheVariants as kinds
+use Rattle.plan_rows.specs.World.{Text, Plan, Bind, Lag, World, same_text, same_kind, takes, is_plan_of, is_plan, is_bind, is_lag, plan_in, code_in, desk_in}
+use Rattle.plan_rows.specs.Plans.{is_place}
+use Rattle.plan_rows.specs.Plans.{has_arc}
+use Rattle.plan_rows.specs.Names.{is_from_to, is_digest}
+use Rattle.plan_rows.specs.Rules.{IsWorld, IsPlanRow, IsBindRow, IsLagRow, IsOwned, HasName, is_published_row, is_desk_row}
 use Rattle.plan_desk.specs.Recovering.{Recovers, single, equal, each, pair, there, differ, project, places, has_calendar}
 
 has_name : (kind : PlanKind) (name : Text) → Recovers (HasName kind name)

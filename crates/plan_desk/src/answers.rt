@@ -2,6 +2,7 @@
 //! kinds need no escape.
 
 ghost use Rattle.std.specs.Prelude.{◌≡◌, ◌++◌, IfOk, OnOk, string_bytes};
+ghost use Rattle.plan_rows.specs.Names as names;
 ghost use Rattle.plan_desk.specs.Calls as calls;
 ghost use Rattle.plan_desk.specs.JsonTexts as spec;
 ghost use Rattle.plan_desk.specs.Answers as texts;
@@ -9,14 +10,13 @@ ghost use Rattle.plan_desk.specs.BodyViews.{publish_in, bind_body_in, calendar_i
 ghost use Rattle.plan_desk.specs.Replies.{reply_of};
 
 use crate::bodies::{BindBody, CalendarBody, LagBody, PublishBody};
-use crate::kinds::{Kind, PlanKind};
 use crate::reply::{Reply, answer};
-use crate::rows::{CodeRow, PlanEntry};
+use plan_rows::{CodeRow, Kind, PlanEntry, PlanKind};
 use std::alloc::{AllocError, Global};
 use std::fmt::Write;
 
 fn kind_text(kind: Kind) -> &'static str
-    ensures { result.now ≡ spec.kind_text kind }
+    ensures { result.now ≡ names.kind_text kind }
 {
     match kind {
         Kind::Crew => "crew",
@@ -25,7 +25,7 @@ fn kind_text(kind: Kind) -> &'static str
 }
 
 fn plan_kind_text(kind: PlanKind) -> &'static str
-    ensures { result.now ≡ spec.plan_kind_text kind }
+    ensures { result.now ≡ names.plan_kind_text kind }
 {
     match kind {
         PlanKind::Project => "project",

@@ -1,14 +1,13 @@
 //! What the JSON bodies of requests say.
 
 ghost use Rattle.std.specs.Prelude.{◌≡◌, ◌≤◌, ℕ, Bool, IfOk, IfSome, option_map, string_bytes, codes};
-ghost use Rattle.plan_desk.specs.Plans as plans;
+ghost use Rattle.plan_rows.specs.Plans as plans;
 ghost use Rattle.serde_json.specs.View.{view};
 ghost use Rattle.plan_desk.specs.Bodies as spec;
-ghost use Rattle.plan_desk.specs.Names as names;
+ghost use Rattle.plan_rows.specs.Names as names;
 ghost use Rattle.plan_desk.specs.BodyViews.{publish_in, desk_body_in, bind_body_in, calendar_in, lag_body_in};
 
-use crate::kinds::{Kind, PlanKind};
-use crate::names::{is_key, is_name};
+use plan_rows::{Kind, PlanKind, is_key, is_name};
 use serde_json::Value;
 use std::alloc::{AllocError, Global};
 

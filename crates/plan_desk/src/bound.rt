@@ -1,6 +1,6 @@
 //! Plans with the capacities of their bound places.
 
-use crate::rows::PlanRow;
+use plan_rows::PlanRow;
 
 // A bound place, and the capacity of its code where that is published.
 #[derive(Clone, Copy, Drop)]

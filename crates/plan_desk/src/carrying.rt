@@ -2,9 +2,8 @@
 
 ghost use Rattle.plan_desk.specs.Deciding.{Allows, CarriesOut, change_in, owner_of};
 
-use crate::book::Book;
 use crate::change::Change;
-use crate::fault::BookFault;
+use plan_rows::{Book, BookFault};
 
 // Makes a change for the desk of a path, or for the one that it opens.
 pub(crate) fn carry_out<B: Book>(

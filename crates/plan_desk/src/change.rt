@@ -3,8 +3,8 @@
 ghost use Rattle.std.specs.Prelude.{◌≡◌};
 ghost use Rattle.plan_desk.specs.declared.change.Change.TheVariants.{Keep};
 
-use crate::kinds::{Kind, PlanKind};
 use crate::reply::Reply;
+use plan_rows::{Kind, PlanKind};
 
 // What a command changes, one variant for each writing call of a book.
 #[derive(Drop)]

@@ -1,18 +1,14 @@
 //! What is read of a book before a request is decided.
 
 ghost use Rattle.std.specs.Prelude.{◌≡◌, option_map};
-ghost use Rattle.plan_desk.specs.Views.{view};
+ghost use Rattle.plan_rows.specs.Views.{view};
 ghost use Rattle.plan_desk.specs.Deciding.{Finds};
 ghost use Rattle.plan_desk.specs.Finding.{FindsPlan, FindsBound, HasCapacities, with_capacity_of};
-ghost use Rattle.plan_desk.specs.Books.{bind_in};
+ghost use Rattle.plan_rows.specs.Books.{bind_in};
 ghost use Rattle.plan_desk.specs.Pages.{bound_in};
 
-use crate::book::Book;
 use crate::bound::{BoundPlace, BoundPlan};
-use crate::fault::BookFault;
-use crate::kinds::Kind;
-use crate::names::plan_number;
-use crate::rows::{BindEntry, PlanRow};
+use plan_rows::{BindEntry, Book, BookFault, Kind, PlanRow, plan_number};
 use std::alloc::Global;
 
 // A plan of a desk and its number.

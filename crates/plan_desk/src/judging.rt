@@ -1,23 +1,20 @@
 //! Judging requests: who may make a call, and what is decided of it. Nothing is written here.
 
 ghost use Rattle.std.specs.Prelude.{◌≡◌, IfOk, option_map};
-ghost use Rattle.plan_desk.specs.Views.{view};
+ghost use Rattle.plan_rows.specs.Views.{view};
 ghost use Rattle.plan_desk.specs.Calls as calls;
 ghost use Rattle.plan_desk.specs.Decisions.{Answers, IsDecision};
 ghost use Rattle.plan_desk.specs.Deciding.{Finds, IsDecided};
 ghost use Rattle.plan_desk.specs.Requests.{call_in, request_in, path_of, subject_of};
-ghost use Rattle.plan_desk.specs.Names as names;
-ghost use Rattle.plan_desk.specs.World.{desk_in};
+ghost use Rattle.plan_rows.specs.Names as names;
+ghost use Rattle.plan_rows.specs.World.{desk_in};
 
-use crate::book::Book;
 use crate::change::{Decision, kept};
-use crate::fault::BookFault;
-use crate::names::has_key;
 use crate::reply::no_key;
 use crate::request::{Call, Request};
 use crate::routes::{binds, imports, lists, office, pages, plans};
-use crate::rows::DeskRow;
 use plan_exact::Memo;
+use plan_rows::{Book, BookFault, DeskRow, has_key};
 use std::alloc::Global;
 
 // Whether a key is the office's.

@@ -1,18 +1,15 @@
 //! A book in memory.
 
-ghost use Rattle.plan_desk.specs.Rules.{IsWorld};
-ghost use Rattle.plan_desk.specs.Tables.{world_kept};
+ghost use Rattle.plan_rows.specs.Rules.{IsWorld};
+ghost use Rattle.plan_rows.specs.Tables.{world_kept};
 
 mod calls;
 
-use crate::book::Book;
-use crate::fault::BookFault;
-use crate::kinds::{Kind, PlanKind};
 use crate::mem_book::calls::Calls;
-use crate::row_tests::is_world;
-use crate::rows::{CodeRow, DeskRow, PlanEntry, PlanRow};
-use crate::tables::Tables;
-use crate::tables::digests::known_digest;
+use plan_rows::{
+    Book, BookFault, CodeRow, DeskRow, Kind, PlanEntry, PlanKind, PlanRow, Tables, is_world,
+    known_digest,
+};
 use std::alloc::{AllocError, Global};
 
 /// The tables of an office in memory. It refuses only for want of memory, and keeps the rules of
@@ -27,9 +24,9 @@ pub struct MemBook {
 
 impl MemBook {
     ghost use Rattle.std.specs.Prelude.{◌≡◌, IfOk, MatchOption};
-    ghost use Rattle.plan_desk.specs.World.{empty_world};
-    ghost use Rattle.plan_desk.specs.Rules.{IsWorld};
-    ghost use Rattle.plan_desk.specs.Tables.{world_kept};
+    ghost use Rattle.plan_rows.specs.World.{empty_world};
+    ghost use Rattle.plan_rows.specs.Rules.{IsWorld};
+    ghost use Rattle.plan_rows.specs.Tables.{world_kept};
     ghost use Rattle.plan_desk.specs.MemBooks.{memory_world};
 
     /// A book without a row, of an office with the digest of its key.

@@ -5,13 +5,12 @@ ghost use Rattle.plan_desk.specs.Deciding.{Handled, want_of};
 ghost use Rattle.plan_desk.specs.Replies.{reply_of};
 ghost use Rattle.plan_desk.specs.Requests.{request_in};
 
-use crate::book::Book;
 use crate::carrying::carry_out;
-use crate::fault::BookFault;
 use crate::judging::judge;
 use crate::reply::{Reply, no_memory, store_refused};
 use crate::request::Request;
 use plan_exact::Memo;
+use plan_rows::{Book, BookFault};
 use std::alloc::Global;
 use std::marker::Model;
 

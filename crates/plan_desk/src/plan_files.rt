@@ -5,15 +5,14 @@ ghost use Rattle.plan_psplib.specs.Faults.{IsWantOfMemory};
 ghost use Rattle.plan_psplib.specs.Project as files;
 ghost use Rattle.plan_orlib.specs.Shop as docs;
 ghost use Rattle.plan_orlib.specs.Says.{Says};
-ghost use Rattle.plan_desk.specs.Plans.{lagged_by};
-ghost use Rattle.plan_desk.specs.Books.{lag_in};
+ghost use Rattle.plan_rows.specs.Plans.{lagged_by};
+ghost use Rattle.plan_rows.specs.Books.{lag_in};
 ghost use Rattle.plan_desk.specs.PlanValues.{IsProjectIn, HasProject, TakesLags};
-ghost use Rattle.plan_desk.specs.declared.fault.BookFault.TheVariants.{Store};
+ghost use Rattle.plan_rows.specs.declared.fault.BookFault.TheVariants.{Store};
 
-use crate::fault::BookFault;
-use crate::rows::{LagEntry, PlanRow};
 use plan_orlib::{ShopDoc, read_shop};
 use plan_psplib::{FileCode, FileFault, ProjectDoc, read_sm};
+use plan_rows::{BookFault, LagEntry, PlanRow};
 use std::alloc::Global;
 
 // Want of memory, or a body that no plan of a sound store has.

@@ -1,13 +1,21 @@
 //! Replies as code makes them: refusals, answers and whole texts.
 
 ghost use Rattle.std.specs.Prelude.{◌≡◌, ◌++◌, IfOk, string_bytes, codes};
-ghost use Rattle.plan_desk.specs.declared.kinds.ReplyKind.TheVariants.{Plain, Json};
+ghost use Rattle.plan_desk.specs.declared.reply.ReplyKind.TheVariants.{Plain, Json};
 ghost use Rattle.plan_desk.specs.Calls as calls;
 ghost use Rattle.plan_desk.specs.Refusals as refusals;
 ghost use Rattle.plan_desk.specs.Replies.{reply_of};
 
-use crate::kinds::ReplyKind;
 use std::alloc::{AllocError, Global};
+
+/// What the body of a reply is.
+#[derive(Debug, Clone, Copy, PartialEq, Eq, Drop)]
+pub enum ReplyKind {
+    /// Plain text.
+    Plain,
+    /// JSON.
+    Json,
+}
 
 /// The body of a reply, with its end of line.
 #[derive(Debug, Drop)]

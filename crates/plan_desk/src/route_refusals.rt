@@ -3,13 +3,12 @@
 ghost use Rattle.std.specs.Prelude.{◌≡◌, ◌⊎◌, IfOk, IfNone, IfSome, option_map};
 ghost use Rattle.plan_psplib.specs.Faults.{IsWantOfMemory};
 ghost use Rattle.plan_gantt.specs.FaultText.{file_fault_text_of};
-ghost use Rattle.plan_desk.specs.PlanRoutes as routes;
+ghost use Rattle.plan_rows.specs.Plans as plans;
 ghost use Rattle.plan_desk.specs.BodyViews.{bind_body_in, lag_body_in};
 ghost use Rattle.plan_desk.specs.Replies.{reply_of};
 ghost use Rattle.plan_desk.specs.RouteRefusals as spec;
 
 use crate::bodies::{BindBody, LagBody};
-use crate::kinds::{Kind, PlanKind};
 use crate::reply::{
     Reply, bad_body, bad_file, kind_differs, many_plans, numbers_spent, other_kind, unpublished,
 };
@@ -17,6 +16,7 @@ use plan_gantt::file_fault_text;
 use plan_net::Network;
 use plan_orlib::read_shop;
 use plan_psplib::{FileCode, FileFault, ProjectDoc, read_sm};
+use plan_rows::{Kind, PlanKind};
 use std::alloc::{AllocError, Global};
 
 // The most plans of a desk.
@@ -101,7 +101,7 @@ pub(crate) fn bind_refusal(
 }
 
 fn has_arc(network: &Network, source: u32, target: u32) -> bool
-    ensures { result ≡ routes.has_arc network.now source target }
+    ensures { result ≡ plans.has_arc network.now source target }
 {
     network
         .arcs()

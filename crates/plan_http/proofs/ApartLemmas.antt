@@ -3,14 +3,14 @@ use Rattle.std.proofs.Common.{◌≡◌, ◌⊎◌, ℕ, suc, ◌+◌, ◌<◌, 
 use Rattle.std.proofs.lemmas.Bool.{both_ways, or_cases, and_parts}
 use Rattle.std.proofs.lemmas.List.{take_more, map-append, length-map}
 use Rattle.std.specs.Prelude.{unwrap_or}
-use Rattle.plan_desk.specs.World.{Text, World}
-use Rattle.plan_desk.specs.Changes.{Change, apply}
-use Rattle.plan_desk.specs.Views.{View, view, alone}
+use Rattle.plan_rows.specs.World.{Text, World}
+use Rattle.plan_rows.specs.Changes.{Change, apply}
+use Rattle.plan_rows.specs.Views.{View, view, alone}
 use Rattle.plan_desk.specs.Calls.{Call, publish, open_desk, set_key, capacities, plans, import_project, import_shop, remove, bind, set_calendar, set_lag, dates, schedule, chart, days, best, Request, Reply, desk_of, subject, is_publish, admits}
 use Rattle.plan_desk.specs.Stories.{names, concerns, belongs}
 use Rattle.plan_desk.specs.Decisions.{IsStep, IsDecision}
-use Rattle.plan_desk.specs.Books.{Shelf}
-use Rattle.plan_desk.proofs.OwnerLemmas.{text_from_same}
+use Rattle.plan_rows.specs.Books.{Shelf}
+use Rattle.plan_rows.proofs.OwnerLemmas.{text_from_same}
 use Rattle.plan_desk.proofs.SeenLemmas.{view_alone, seen}
 use Rattle.plan_http.specs.Judges.{Verdict, asks, fails, Judges}
 use Rattle.plan_http.specs.Laws.{OneVerdict}

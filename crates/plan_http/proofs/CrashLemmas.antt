@@ -3,13 +3,13 @@ use Rattle.std.proofs.Common.{◌≡◌, ◌⊎◌, ℕ, zero, suc, ◌+◌, ◌
 use Rattle.std.proofs.lemmas.Bool.{cases_Bool, both_ways}
 use Rattle.std.specs.Prelude.{if◌then◌else◌, nat_lt, option_map, slice_get}
 use Rattle.std.specs.List.{list_any}
-use Rattle.plan_desk.specs.World.{Text, World}
-use Rattle.plan_desk.specs.Changes.{apply}
-use Rattle.plan_desk.specs.Views.{view}
+use Rattle.plan_rows.specs.World.{Text, World}
+use Rattle.plan_rows.specs.Changes.{apply}
+use Rattle.plan_rows.specs.Views.{view}
 use Rattle.plan_desk.specs.Calls.{Request, Reply, subject, writes, is_accepted}
 use Rattle.plan_desk.specs.Stories.{IsWant}
 use Rattle.plan_desk.specs.Decisions.{IsStep, IsDecision}
-use Rattle.plan_desk.specs.Books.{Shelf}
+use Rattle.plan_rows.specs.Books.{Shelf}
 use Rattle.plan_desk.specs.Deciding.{Handled}
 use Rattle.plan_desk.proofs.SortedLemmas.{Keeps, Makes, sorted_decision}
 use Rattle.plan_http.specs.Judges.{asks, Judges}

@@ -1,14 +1,14 @@
 -- From two runs of an office to what a desk is told in them.
 use Rattle.std.proofs.Common.{◌≡◌, ◌⊎◌, ℕ, zero, suc, ◌≤◌, List, [], ◌∷◌, ◌++◌, map, length, take, Result, Ok, Err, OnOk, OnErr, inl, inr, refl, sym, ap, ◌∙◌, subst, arith}
-use Rattle.plan_desk.specs.World.{Text, World}
-use Rattle.plan_desk.specs.Views.{View, view, alone, Agree}
+use Rattle.plan_rows.specs.World.{Text, World}
+use Rattle.plan_rows.specs.Views.{View, view, alone, Agree}
 use Rattle.plan_desk.specs.Calls.{Request, Reply, subject}
 use Rattle.plan_desk.specs.Stories.{IsWant}
 use Rattle.plan_desk.specs.Decisions.{IsStep, IsRealStep, IsDecision}
-use Rattle.plan_desk.specs.Rules.{IsWorld}
+use Rattle.plan_rows.specs.Rules.{IsWorld}
 use Rattle.plan_desk.specs.Laws.{AloneKeepsRules}
 use Rattle.plan_desk.specs.Promises.{IsPromised, PagesArePromised}
-use Rattle.plan_desk.specs.Books.{Shelf}
+use Rattle.plan_rows.specs.Books.{Shelf}
 use Rattle.plan_desk.specs.Deciding.{Handled}
 use Rattle.plan_desk.proofs.AloneLemmas.{alone_keeps_rules}
 use Rattle.plan_desk.proofs.PromiseLemmas.{pages_are_promised}

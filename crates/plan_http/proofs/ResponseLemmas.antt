@@ -1,7 +1,7 @@
 -- The lines of a head, one part after another.
 use Rattle.std.proofs.Common.{◌≡◌, ℕ, List, ◌++◌, codes, append_assoc}
 use Rattle.std.specs.Fmt.{decimal}
-use Rattle.plan_desk.specs.declared.kinds.ReplyKind.{ReplyKind}
+use Rattle.plan_desk.specs.declared.reply.ReplyKind.{ReplyKind}
 use Rattle.plan_http.specs.Responses.{front_lines, phrase, media_type, line_end}
 
 parts : (a b c d e f g h i j k : List ℕ) → (a ++ b ++ c ++ d ++ e) ++ (f ++ g ++ h) ++ (i ++ j ++ k) ≡ a ++ b ++ c ++ d ++ e ++ f ++ g ++ h ++ i ++ j ++ k

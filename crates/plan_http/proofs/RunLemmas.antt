@@ -1,8 +1,8 @@
 -- Connections that are served one after another.
 use Rattle.std.proofs.Common.{◌≡◌, ℕ, zero, suc, ◌+◌, ◌<◌, List, [], ◌∷◌, ◌++◌, length, take, map, get_or, refl, sym, ap, ◌∙◌, subst, append_assoc, inr, arith}
 use Rattle.std.proofs.lemmas.List.{take_more, map-append}
-use Rattle.plan_desk.specs.World.{Text}
-use Rattle.plan_desk.specs.Books.{Shelf}
+use Rattle.plan_rows.specs.World.{Text}
+use Rattle.plan_rows.specs.Books.{Shelf}
 use Rattle.plan_http.specs.Answers.{Decision, IsOn}
 use Rattle.plan_http.specs.Serving.{Moves, Serving, Stops, response_of}
 

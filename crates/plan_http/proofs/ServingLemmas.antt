@@ -1,7 +1,7 @@
 -- How a connection that was answered has ended.
 use Rattle.std.proofs.Common.{◌≡◌, Option, None, Some, IfSome, refl, subst}
-use Rattle.plan_desk.specs.World.{Text}
-use Rattle.plan_desk.specs.Books.{Shelf}
+use Rattle.plan_rows.specs.World.{Text}
+use Rattle.plan_rows.specs.Books.{Shelf}
 use Rattle.plan_http.specs.declared.serving.ConnEnd.{ConnEnd}
 use Rattle.plan_http.specs.declared.serving.ConnEnd.TheVariants.{Replied, ReadFailed, WriteFailed}
 use Rattle.plan_http.specs.Answers.{Answer, Decision, answer_of, IsOn}

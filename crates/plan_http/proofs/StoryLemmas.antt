@@ -1,12 +1,12 @@
 -- From connections to requests, and back.
 use Rattle.std.proofs.Common.{◌≡◌, ◌⊎◌, Bool, true, false, List, [], ◌∷◌, map, Option, None, Some, inl, inr, refl, sym, ap, ◌∙◌, subst}
-use Rattle.plan_desk.specs.World.{Text, World}
-use Rattle.plan_desk.specs.Views.{View, view, alone, Agree}
+use Rattle.plan_rows.specs.World.{Text, World}
+use Rattle.plan_rows.specs.Views.{View, view, alone, Agree}
 use Rattle.plan_desk.specs.Calls.{Request, Reply}
 use Rattle.plan_desk.specs.Stories.{belongs, IsWant}
 use Rattle.plan_desk.specs.Decisions.{IsStep, IsRealStep, IsRun}
 use Rattle.plan_desk.specs.Decisions as desks
-use Rattle.plan_desk.specs.Rules.{IsWorld}
+use Rattle.plan_rows.specs.Rules.{IsWorld}
 use Rattle.plan_desk.specs.Laws.{DesksAreApart, AgreeingViewsAreToldAlike}
 use Rattle.plan_desk.proofs.LawLemmas.{desks_are_apart}
 use Rattle.plan_desk.proofs.OrderLemmas.{agreeing_views_are_told_alike}

@@ -1,9 +1,9 @@
 -- A run of connections, whole or not.
 use Rattle.std.proofs.Common.{◌≡◌, ℕ, suc, ◌+◌, ◌<◌, ◌≤◌, List, [], ◌∷◌, ◌++◌, map, length, take, drop, get_or, Result, Ok, Err, OnOk, OnErr, inl, inr, refl, sym, ap, ◌∙◌, subst, append_assoc, arith}
 use Rattle.std.proofs.lemmas.List.{take_more, map-append, length-map, take_at, drop_at, length_push}
-use Rattle.plan_desk.specs.World.{Text, World}
-use Rattle.plan_desk.specs.Views.{view}
-use Rattle.plan_desk.specs.Books.{Shelf}
+use Rattle.plan_rows.specs.World.{Text, World}
+use Rattle.plan_rows.specs.Views.{view}
+use Rattle.plan_rows.specs.Books.{Shelf}
 use Rattle.plan_http.specs.declared.runs.RunFault.{RunFault}
 use Rattle.plan_http.specs.Answers.{Decision, IsOn}
 use Rattle.plan_http.specs.Serving.{Moves, Serving, Stops, response_of}

@@ -1,6 +1,6 @@
 -- How connections are answered (docs/DEFINITIONS.md, "Connections").
 use Rattle.std.specs.Prelude.{Bool, false, List, [], ◌∷◌, Option, None, codes}
-use Rattle.plan_desk.specs.World.{Text}
+use Rattle.plan_rows.specs.World.{Text}
 use Rattle.plan_desk.specs.Calls.{Request, Reply, refusal}
 use Rattle.plan_http.specs.declared.checks.Check.{Check}
 use Rattle.plan_http.specs.declared.checks.Check.TheVariants.{Message, TooLarge, Coding, Route, Method}

@@ -1,6 +1,6 @@
 -- What the reading of a request came to, as facts about all bytes of the connection.
 use Rattle.std.specs.Prelude.{◌≡◌, ℕ, ◌+◌, Bool, option_map, ⊤}
-use Rattle.plan_desk.specs.World.{Text}
+use Rattle.plan_rows.specs.World.{Text}
 use Rattle.plan_desk.specs.Requests.{request_in}
 use Rattle.plan_http.specs.declared.asking.Asked.{Asked}
 use Rattle.plan_http.specs.declared.asking.Asked.TheVariants.{Request, Fails, NoMemory, ReadFailed}

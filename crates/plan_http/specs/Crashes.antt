@@ -1,11 +1,11 @@
 -- What a crash may leave after connections that were served (docs/DEFINITIONS.md, "Connections").
 use Rattle.std.specs.Prelude.{◌≡◌, ◌⊎◌, ℕ, suc, ◌+◌, ◌<◌, ◌≤◌, Bool, true, false, List, length, take, drop, map, filter, Option, Some, IfSome, option_map, slice_get}
 use Rattle.std.specs.List.{list_any}
-use Rattle.plan_desk.specs.World.{Text, World}
+use Rattle.plan_rows.specs.World.{Text, World}
 use Rattle.plan_desk.specs.Calls.{Request, Reply, writes, is_accepted}
 use Rattle.plan_desk.specs.Stories.{IsWant}
 use Rattle.plan_desk.specs.Decisions.{IsStep}
-use Rattle.plan_desk.specs.Books.{Shelf}
+use Rattle.plan_rows.specs.Books.{Shelf}
 use Rattle.plan_desk.specs.Deciding.{Handled}
 use Rattle.plan_http.specs.Judges.{asks, Judges}
 use Rattle.plan_http.specs.Answers.{Decision, handled, failed, starved}

@@ -4,12 +4,12 @@
 -- between; and each date is a longest-path date, each generated schedule feasible and active, each
 -- schedule reported optimal of least makespan among all feasible ones.
 use Rattle.std.specs.Prelude.{◌≡◌, ◌⊎◌, List, [], ◌∷◌, length, take}
-use Rattle.plan_desk.specs.World.{Text, World}
-use Rattle.plan_desk.specs.Views.{View, view, alone}
+use Rattle.plan_rows.specs.World.{Text, World}
+use Rattle.plan_rows.specs.Views.{View, view, alone}
 use Rattle.plan_desk.specs.Calls.{Request, Reply, subject}
 use Rattle.plan_desk.specs.Decisions.{IsStep}
 use Rattle.plan_desk.specs.Promises.{IsPromised}
-use Rattle.plan_desk.specs.Books.{Shelf}
+use Rattle.plan_rows.specs.Books.{Shelf}
 use Rattle.plan_http.specs.Judges.{asks, Judges}
 use Rattle.plan_http.specs.Answers.{handled}
 use Rattle.plan_http.specs.Serving.{response_of}

@@ -1,10 +1,10 @@
 -- One desk in a run of connections (docs/DEFINITIONS.md, "Connections").
 use Rattle.std.specs.Prelude.{◌≡◌, ◌⊎◌, ◌+◌, ◌≤◌, List, [], ◌∷◌, length, take, map}
-use Rattle.plan_desk.specs.World.{Text, World}
-use Rattle.plan_desk.specs.Views.{View, view, alone}
+use Rattle.plan_rows.specs.World.{Text, World}
+use Rattle.plan_rows.specs.Views.{View, view, alone}
 use Rattle.plan_desk.specs.Calls.{Request, Reply}
 use Rattle.plan_desk.specs.Decisions.{IsStep}
-use Rattle.plan_desk.specs.Books.{Shelf}
+use Rattle.plan_rows.specs.Books.{Shelf}
 use Rattle.plan_http.specs.Judges.{asks, Judges}
 use Rattle.plan_http.specs.Answers.{Decision, handled, IsOn}
 use Rattle.plan_http.specs.Serving.{Moves, response_of}

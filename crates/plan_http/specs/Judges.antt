@@ -3,7 +3,7 @@
 use Rattle.std.specs.Prelude.{◌≡◌, ℕ, ◌⊎◌, Bool, false, if◌then◌else◌, nat_lt, bytes_eq, List, length, take, map, Option, Some, None, codes}
 use Rattle.httparse.specs.Grammar.{RequestHead}
 use Rattle.httparse.specs.Spans.{name_and_value}
-use Rattle.plan_desk.specs.World.{Text}
+use Rattle.plan_rows.specs.World.{Text}
 use Rattle.plan_desk.specs.Calls.{Request}
 use Rattle.plan_http.specs.declared.checks.Check.{Check}
 use Rattle.plan_http.specs.declared.checks.Check.TheVariants.{Message, Route, Method}

@@ -1,8 +1,8 @@
 -- Laws of what connections spell (docs/DEFINITIONS.md, "Connections").
 use Rattle.std.specs.Prelude.{◌≡◌, Bool, List}
-use Rattle.plan_desk.specs.World.{Text, World}
-use Rattle.plan_desk.specs.Views.{view}
-use Rattle.plan_desk.specs.Books.{Shelf}
+use Rattle.plan_rows.specs.World.{Text, World}
+use Rattle.plan_rows.specs.Views.{view}
+use Rattle.plan_rows.specs.Books.{Shelf}
 use Rattle.plan_desk.specs.Decisions.{IsRun, AreTold}
 use Rattle.plan_http.specs.Answers.{Decision, requests_of, replies_of}
 use Rattle.plan_http.specs.Serving.{Serving}

@@ -2,9 +2,9 @@
 use Rattle.std.specs.Prelude.{ℕ, Bool, if◌then◌else◌, [], ◌++◌, length, Option, Some, None, unwrap_or, codes}
 use Rattle.std.specs.Fmt.{decimal}
 use Rattle.http.specs.StatusCode.{reason_phrase}
-use Rattle.plan_desk.specs.declared.kinds.ReplyKind.{ReplyKind}
-use Rattle.plan_desk.specs.declared.kinds.ReplyKind.TheVariants.{Plain, Json}
-use Rattle.plan_desk.specs.World.{Text}
+use Rattle.plan_desk.specs.declared.reply.ReplyKind.{ReplyKind}
+use Rattle.plan_desk.specs.declared.reply.ReplyKind.TheVariants.{Plain, Json}
+use Rattle.plan_rows.specs.World.{Text}
 use Rattle.plan_desk.specs.Calls.{Reply}
 
 -- the phrase of a status, empty where it has none

@@ -1,6 +1,6 @@
 -- Runs of connections, by the rows alone (docs/DEFINITIONS.md, "Connections").
 use Rattle.std.specs.Prelude.{◌≡◌, List, [], ◌∷◌}
-use Rattle.plan_desk.specs.World.{Text, World}
+use Rattle.plan_rows.specs.World.{Text, World}
 use Rattle.plan_desk.specs.Decisions.{IsRealStep}
 use Rattle.plan_http.specs.Answers.{Decision, handled, failed, starved, IsOn}
 

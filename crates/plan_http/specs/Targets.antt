@@ -1,7 +1,7 @@
 -- Targets and the calls that they name (docs/DEFINITIONS.md, "Connections").
 use Rattle.std.specs.Prelude.{ℕ, Bool, ◌==◌, [], unwrap_or}
 use Rattle.std.specs.List.{slice_get, slice_split}
-use Rattle.plan_desk.specs.World.{Text}
+use Rattle.plan_rows.specs.World.{Text}
 use Rattle.plan_desk.specs.Calls.{Call, publish, open_desk, set_key, capacities, plans, import_project, import_shop, remove, bind, set_calendar, set_lag, dates, schedule, chart, days, best}
 use Rattle.plan_http.specs.declared.routes.Route.{Route}
 use Rattle.plan_http.specs.declared.routes.Route.TheVariants as route

@@ -1,8 +1,8 @@
 //! The headline, as the contract of a public call.
 
 ghost use Rattle.std.specs.Prelude.{map, vec_items};
-ghost use Rattle.plan_desk.specs.World.{Text};
-ghost use Rattle.plan_desk.specs.Views.{view, Agree};
+ghost use Rattle.plan_rows.specs.World.{Text};
+ghost use Rattle.plan_rows.specs.Views.{view, Agree};
 ghost use Rattle.plan_http.specs.Headline.{Alike};
 
 use crate::runs::serve_run;

@@ -1,7 +1,7 @@
 //! Many connections, one after another.
 
 ghost use Rattle.std.specs.Prelude.{◌≡◌, ◌++◌, ◌∷◌, [], List, length, map, drop, vec_items, MatchResult, IfOk, OnOk, OnErr};
-ghost use Rattle.plan_desk.specs.World.{Text};
+ghost use Rattle.plan_rows.specs.World.{Text};
 ghost use Rattle.plan_http.specs.Answers.{Decision, IsOn};
 ghost use Rattle.plan_http.specs.Serving.{Moves, Serving, Stops, response_of};
 ghost use Rattle.plan_http.specs.Crashes.{Outlasts};

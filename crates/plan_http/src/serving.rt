@@ -1,9 +1,9 @@
 //! One connection, from bytes to bytes.
 
 ghost use Rattle.std.specs.Prelude.{◌≡◌, ◌+◌, ◌≤◌, Option, option_map};
-ghost use Rattle.plan_desk.specs.World.{World};
+ghost use Rattle.plan_rows.specs.World.{World};
 ghost use Rattle.plan_psplib.specs.Devices.{most_calls};
-ghost use Rattle.plan_desk.specs.declared.kinds.ReplyKind.TheVariants.{Plain};
+ghost use Rattle.plan_desk.specs.declared.reply.ReplyKind.TheVariants.{Plain};
 ghost use Rattle.plan_desk.specs.Replies.{reply_of};
 ghost use Rattle.plan_http.specs.Routes.{method_of};
 ghost use Rattle.plan_http.specs.Answers as spec;

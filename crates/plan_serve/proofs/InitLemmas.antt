@@ -2,7 +2,7 @@
 use Rattle.std.proofs.Common.{◌≡◌, ◌≢◌, ◌⊎◌, ◌↔◌, inl, inr, Option, Some, None, Ok, Err, refl, ap}
 use Rattle.sqlite_trees.specs.declared.store.Store.{Ghosts}
 use Rattle.sqlite.specs.Held.{Held, state}
-use Rattle.plan_desk.specs.World.{Text, Digest}
+use Rattle.plan_rows.specs.World.{Text, Digest}
 use Rattle.plan_store.specs.declared.fault.StoreFault.{StoreFault}
 use Rattle.plan_store.specs.declared.fault.StoreFault.TheVariants as store
 use Rattle.plan_store.specs.Tables.{no_schema}

@@ -3,8 +3,8 @@ use Rattle.std.proofs.Common.{◌≡◌, suc, List, [], ◌∷◌, ◌++◌, len
 use Rattle.std.specs.Prelude.{OnErr}
 use Rattle.std.proofs.lemmas.List.{take_all}
 use Rattle.std.specs.List.{flat_map}
-use Rattle.plan_desk.specs.World.{Text}
-use Rattle.plan_desk.specs.Books.{Shelf}
+use Rattle.plan_rows.specs.World.{Text}
+use Rattle.plan_rows.specs.Books.{Shelf}
 use Rattle.plan_http.specs.Answers.{Decision}
 use Rattle.plan_http.specs.Serving.{Serving, Stops, response_of}
 use Rattle.plan_serve.specs.ReplayRun.{responses}

@@ -1,8 +1,8 @@
 -- Offices that move by decisions, one after another.
 use Rattle.std.proofs.Common.{◌≢◌, ◌≤◌, ◌+◌, ℕ, List, [], ◌∷◌, ◌++◌, Option, length, refl, subst, arith}
 use Rattle.std.proofs.lemmas.List.{length-append}
-use Rattle.plan_desk.specs.World.{Text}
-use Rattle.plan_desk.specs.Books.{Shelf}
+use Rattle.plan_rows.specs.World.{Text}
+use Rattle.plan_rows.specs.Books.{Shelf}
 use Rattle.plan_http.specs.declared.serving.ConnEnd.{ConnEnd}
 use Rattle.plan_http.specs.declared.serving.ConnEnd.TheVariants as end
 use Rattle.plan_http.specs.Answers.{Decision}

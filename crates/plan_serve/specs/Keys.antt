@@ -3,8 +3,8 @@ use Rattle.std.specs.Prelude.{◌≡◌, ℕ, ◌-◌, ◌≤◌, bytes_eq, if�
 use Rattle.std.specs.List.{before_first}
 use Rattle.std.specs.Io.KnownBytes.{Consumes}
 use Rattle.plan_psplib.specs.Lines.{is_line_feed}
-use Rattle.plan_desk.specs.World.{Text, Digest}
-use Rattle.plan_desk.specs.Names.{key_digest_of}
+use Rattle.plan_rows.specs.World.{Text, Digest}
+use Rattle.plan_rows.specs.Names.{key_digest_of}
 use Rattle.plan_serve.specs.declared.fault.ServeFault.{ServeFault}
 use Rattle.plan_serve.specs.declared.fault.ServeFault.TheVariants as fault
 

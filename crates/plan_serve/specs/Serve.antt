@@ -1,6 +1,6 @@
 -- An office whose connections come from anywhere (docs/DEFINITIONS.md, "Connections").
 use Rattle.std.specs.Prelude.{◌≡◌, List, [], ◌∷◌}
-use Rattle.plan_desk.specs.Books.{Shelf}
+use Rattle.plan_rows.specs.Books.{Shelf}
 use Rattle.plan_http.specs.Answers.{Decision}
 use Rattle.plan_http.specs.Serving.{Moves}
 use Rattle.plan_serve.specs.declared.fault.ServeFault.{ServeFault}

@@ -10,7 +10,7 @@ use Rattle.sqlite_schema.specs.declared.schema.Schema.{Schema}
 use Rattle.sqlite.specs.Effect.{Database}
 use Rattle.sqlite.specs.State.{State, HasCleanDisk}
 use Rattle.sqlite.specs.Held.{Held, state}
-use Rattle.plan_desk.specs.declared.fault.BookFault.{BookFault}
+use Rattle.plan_rows.specs.declared.fault.BookFault.{BookFault}
 use Rattle.plan_store.specs.declared.fault.StoreFault.{StoreFault}
 use Rattle.plan_store.specs.declared.fault.StoreFault.TheVariants.{NotOurs, Version, NoMemory, Store}
 use Rattle.plan_store.specs.declared.layout.Layout.{Layout}

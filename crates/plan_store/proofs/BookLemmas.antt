@@ -5,9 +5,9 @@ use Rattle.sqlite_trees.specs.Tree.{Trees}
 use Rattle.sqlite.specs.Effect.{Database}
 use Rattle.sqlite.specs.State.{State, HasCleanDisk}
 use Rattle.sqlite.specs.Held.{Held, state}
-use Rattle.plan_desk.specs.declared.fault.BookFault.{BookFault}
-use Rattle.plan_desk.specs.Books.{Writes}
-use Rattle.plan_desk.specs.World.{World}
+use Rattle.plan_rows.specs.declared.fault.BookFault.{BookFault}
+use Rattle.plan_rows.specs.Books.{Writes}
+use Rattle.plan_rows.specs.World.{World}
 use Rattle.plan_store.specs.Stores.{world_of}
 use Rattle.plan_store.specs.Serving.{Stands, IsReady, IsStoreLeft, may_leave, Changes}
 use Rattle.plan_store.specs.SqlBooks.{Counted, sql_shelf}

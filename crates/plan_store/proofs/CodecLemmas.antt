@@ -19,13 +19,13 @@ use Rattle.sqlite_schema.specs.declared.schema.Kind.TheVariants.{Integer}
 use Rattle.sqlite_rules.specs.Cast.{cast_all}
 use Rattle.sqlite_tied.proofs.RuleLemmas.{and_assoc}
 use Rattle.sqlite_typed.proofs.TestLemmas.{at_texts, at_ints, then_term, last_term}
-use Rattle.plan_desk.specs.declared.kinds.Kind.{Kind}
-use Rattle.plan_desk.specs.declared.kinds.PlanKind.{PlanKind}
-use Rattle.plan_desk.specs.declared.kinds.Kind.TheVariants.{Crew, Machine}
-use Rattle.plan_desk.specs.declared.kinds.PlanKind.TheVariants.{Project, Shop}
-use Rattle.plan_desk.specs.JsonTexts.{kind_text, plan_kind_text}
-use Rattle.plan_desk.specs.Names.{is_digest}
-use Rattle.plan_desk.specs.World.{Digest, Published, Desk, Plan, Bind, Lag, same_text, is_code, is_desk, is_plan, is_bind_of, is_bind, is_lag_of, is_lag}
+use Rattle.plan_rows.specs.declared.kinds.Kind.{Kind}
+use Rattle.plan_rows.specs.declared.kinds.PlanKind.{PlanKind}
+use Rattle.plan_rows.specs.declared.kinds.Kind.TheVariants.{Crew, Machine}
+use Rattle.plan_rows.specs.declared.kinds.PlanKind.TheVariants.{Project, Shop}
+use Rattle.plan_rows.specs.Names.{kind_text, plan_kind_text}
+use Rattle.plan_rows.specs.Names.{is_digest}
+use Rattle.plan_rows.specs.World.{Digest, Published, Desk, Plan, Bind, Lag, same_text, is_code, is_desk, is_plan, is_bind_of, is_bind, is_lag_of, is_lag}
 use Rattle.plan_store.specs.Tables as tables
 use Rattle.plan_store.specs.Kept.{row_at}
 use Rattle.plan_store.specs.Rows.{kind_in, plan_kind_in, digest_in, digest_value, decoded, written_code, read_code, written_desk, read_desk, written_plan, read_plan, written_bind, read_bind, written_lag, read_lag}

@@ -23,9 +23,9 @@ use Rattle.sqlite.specs.State.{State, HasCleanDisk, Survives, Executes, Writes, 
 use Rattle.sqlite.specs.Held.{Held, state}
 use Rattle.sqlite.proofs.Callers.{statement_of, runs_as, one_step}
 use Rattle.sqlite.proofs.StateLemmas.{survives_weaker}
-use Rattle.plan_desk.specs.Names.{is_digest}
-use Rattle.plan_desk.specs.Rules.{IsWorld}
-use Rattle.plan_desk.specs.World.{Digest, World, empty_world}
+use Rattle.plan_rows.specs.Names.{is_digest}
+use Rattle.plan_rows.specs.Rules.{IsWorld}
+use Rattle.plan_rows.specs.World.{Digest, World, empty_world}
 use Rattle.plan_store.specs.declared.fault.StoreFault.{StoreFault}
 use Rattle.plan_store.specs.declared.fault.StoreFault.TheVariants.{NotOurs}
 use Rattle.plan_store.specs.Tables.{no_schema, meta, store_schema}

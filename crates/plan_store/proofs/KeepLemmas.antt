@@ -10,8 +10,8 @@ use Rattle.sqlite_keyed.proofs.ListLemmas.{map-map, all-filter, filter-map}
 use Rattle.sqlite_trees.proofs.ListLemmas.{all-append}
 use Rattle.sqlite_keyed.proofs.KeyedLemmas.{IsKeyedBy-insert_by, IsKeyedBy-update_where, IsKeyedBy-delete_where}
 use Rattle.sqlite_keyed.proofs.SliceLemmas.{insert_next}
-use Rattle.plan_desk.specs.Changes.{changed, without}
-use Rattle.plan_desk.specs.Rules.{AllDiffer}
+use Rattle.plan_rows.specs.Changes.{changed, without}
+use Rattle.plan_rows.specs.Rules.{AllDiffer}
 use Rattle.plan_store.specs.Kept.{row_at, Keeps}
 use Rattle.plan_store.proofs.EditLemmas.{number_of, at_number}
 

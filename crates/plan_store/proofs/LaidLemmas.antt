@@ -20,13 +20,13 @@ use Rattle.sqlite_schema.specs.Rules.{are_typed, are_present, has_computed}
 use Rattle.sqlite_keyed.proofs.ListLemmas.{all_both}
 use Rattle.sqlite.specs.Effect.{Database, Reads}
 use Rattle.sqlite.specs.State.{State}
-use Rattle.plan_desk.specs.declared.rows.CodeRow.{CodeRow}
-use Rattle.plan_desk.specs.declared.tables.records.DeskRecord.{DeskRecord}
-use Rattle.plan_desk.specs.declared.tables.records.PlanRecord.{PlanRecord}
-use Rattle.plan_desk.specs.declared.tables.records.BindRecord.{BindRecord}
-use Rattle.plan_desk.specs.declared.tables.records.LagRecord.{LagRecord}
-use Rattle.plan_desk.specs.Books.{published_in}
-use Rattle.plan_desk.specs.Tables.{desk_kept, plan_kept, bind_kept, lag_kept}
+use Rattle.plan_rows.specs.declared.rows.CodeRow.{CodeRow}
+use Rattle.plan_rows.specs.declared.tables.records.DeskRecord.{DeskRecord}
+use Rattle.plan_rows.specs.declared.tables.records.PlanRecord.{PlanRecord}
+use Rattle.plan_rows.specs.declared.tables.records.BindRecord.{BindRecord}
+use Rattle.plan_rows.specs.declared.tables.records.LagRecord.{LagRecord}
+use Rattle.plan_rows.specs.Books.{published_in}
+use Rattle.plan_rows.specs.Tables.{desk_kept, plan_kept, bind_kept, lag_kept}
 use Rattle.plan_store.specs.declared.layout.Layout.{Layout}
 use Rattle.plan_store.specs.declared.layout.Layout.TheVariants.{First, Second}
 use Rattle.plan_store.specs.Tables as tables

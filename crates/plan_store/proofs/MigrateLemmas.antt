@@ -30,8 +30,8 @@ use Rattle.sqlite.proofs.Callers.{IsPlain, command_of, statement_of, runs_as, on
 use Rattle.sqlite_tied.specs.Compute.{everything}
 use Rattle.sqlite_keyed.specs.Keyed.{IsKeyedBy}
 use Rattle.sqlite_typed.proofs.TestLemmas.{last_term, at_ints}
-use Rattle.plan_desk.specs.World.{Digest, World}
-use Rattle.plan_desk.specs.Rules.{IsWorld}
+use Rattle.plan_rows.specs.World.{Digest, World}
+use Rattle.plan_rows.specs.Rules.{IsWorld}
 use Rattle.plan_store.specs.declared.layout.Layout.TheVariants.{First}
 use Rattle.plan_store.specs.Tables.{meta, store_schema}
 use Rattle.plan_store.specs.Kept.{row_at, Keeps}

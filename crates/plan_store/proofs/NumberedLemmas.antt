@@ -3,12 +3,12 @@ use Rattle.std.proofs.Common.{◌≡◌, ◌+◌, ℕ, Bool, true, false, cond, 
 use Rattle.std.specs.List.{AllByRecursion}
 use Rattle.std.proofs.lemmas.Bool.{both_ways}
 use Rattle.std.proofs.lemmas.Slice.Eq.{bytes_eq-Decides}
-use Rattle.plan_desk.specs.declared.kinds.PlanKind.{PlanKind}
-use Rattle.plan_desk.specs.declared.rows.DeskRow.{DeskRow}
-use Rattle.plan_desk.specs.World.{Desk, World, same_text, is_desk, desk_in}
-use Rattle.plan_desk.specs.Changes.{apply, changed, risen, next_of, new_plan, AddPlan}
-use Rattle.plan_desk.specs.Rules.{AllDiffer}
-use Rattle.plan_desk.specs.Books.{Matches, IsDeskAnswer}
+use Rattle.plan_rows.specs.declared.kinds.PlanKind.{PlanKind}
+use Rattle.plan_rows.specs.declared.rows.DeskRow.{DeskRow}
+use Rattle.plan_rows.specs.World.{Desk, World, same_text, is_desk, desk_in}
+use Rattle.plan_rows.specs.Changes.{apply, changed, risen, next_of, new_plan, AddPlan}
+use Rattle.plan_rows.specs.Rules.{AllDiffer}
+use Rattle.plan_rows.specs.Books.{Matches, IsDeskAnswer}
 use Rattle.plan_store.specs.Serving.{numbered_plan}
 
 module _ (desk : List ℕ) (n : ℕ) where

@@ -24,19 +24,20 @@ use Rattle.sqlite_keyed.proofs.ListLemmas.{slice_get-filter, map-map, filter-map
 use Rattle.sqlite_keyed.proofs.KeyedLemmas.{Less-from_lt}
 use Rattle.sqlite_typed.proofs.AnswerLemmas.{no_tie, no_tie_after}
 use Rattle.sqlite_typed.proofs.TestLemmas.{then_key, last_key}
-use Rattle.plan_desk.specs.declared.kinds.Kind.{Kind}
-use Rattle.plan_desk.specs.declared.kinds.PlanKind.{PlanKind}
-use Rattle.plan_desk.specs.declared.rows.DeskRow.{DeskRow}
-use Rattle.plan_desk.specs.declared.rows.CodeRow.{CodeRow}
-use Rattle.plan_desk.specs.declared.rows.PlanEntry.{PlanEntry}
-use Rattle.plan_desk.specs.declared.rows.BindEntry.{BindEntry}
-use Rattle.plan_desk.specs.declared.rows.LagEntry.{LagEntry}
-use Rattle.plan_desk.specs.declared.rows.PlanRow.{PlanRow}
-use Rattle.plan_desk.specs.JsonTexts.{kind_text, plan_kind_text, code_before, plan_before}
-use Rattle.plan_desk.specs.World.{Digest, Published, Desk, Plan, Bind, Lag, World, same_text, is_code, is_desk, is_plan_of, is_plan, is_bind_by, is_bind_of, is_bind, is_lag_by, is_lag_of, is_lag, code_in, desk_in, plan_in}
-use Rattle.plan_desk.specs.Views.{view}
-use Rattle.plan_desk.specs.Plans.{in_order, bind_before, lag_before, place_of, arc_of, places_of, lags_of, has_number}
-use Rattle.plan_desk.specs.Books.{Matches, IsPlanAnswer, IsDeskAnswer, IsCapacityAnswer, ListsCodes, ListsPlans, published_in, entry_in, entry_of, bind_in, lag_in}
+use Rattle.plan_rows.specs.declared.kinds.Kind.{Kind}
+use Rattle.plan_rows.specs.declared.kinds.PlanKind.{PlanKind}
+use Rattle.plan_rows.specs.declared.rows.DeskRow.{DeskRow}
+use Rattle.plan_rows.specs.declared.rows.CodeRow.{CodeRow}
+use Rattle.plan_rows.specs.declared.rows.PlanEntry.{PlanEntry}
+use Rattle.plan_rows.specs.declared.rows.BindEntry.{BindEntry}
+use Rattle.plan_rows.specs.declared.rows.LagEntry.{LagEntry}
+use Rattle.plan_rows.specs.declared.rows.PlanRow.{PlanRow}
+use Rattle.plan_rows.specs.Names.{kind_text, plan_kind_text}
+use Rattle.plan_rows.specs.Plans.{code_before, plan_before}
+use Rattle.plan_rows.specs.World.{Digest, Published, Desk, Plan, Bind, Lag, World, same_text, is_code, is_desk, is_plan_of, is_plan, is_bind_by, is_bind_of, is_bind, is_lag_by, is_lag_of, is_lag, code_in, desk_in, plan_in}
+use Rattle.plan_rows.specs.Views.{view}
+use Rattle.plan_rows.specs.Plans.{in_order, bind_before, lag_before, place_of, arc_of, places_of, lags_of, has_number}
+use Rattle.plan_rows.specs.Books.{Matches, IsPlanAnswer, IsDeskAnswer, IsCapacityAnswer, ListsCodes, ListsPlans, published_in, entry_in, entry_of, bind_in, lag_in}
 use Rattle.plan_store.specs.declared.shown.PlanPart.{PlanPart}
 use Rattle.plan_store.specs.Kept.{row_at, Keeps}
 use Rattle.plan_store.specs.Rows.{kind_in, plan_kind_in, text_in, blob_in, number_in, digest_in, digest_value, number_value, written_code, read_code, written_desk, read_desk, written_plan, read_plan, written_bind, read_bind, written_lag, read_lag, office_in, meta_row}

@@ -13,13 +13,13 @@ use Rattle.sqlite.specs.Listing.{understood}
 use Rattle.sqlite.specs.Does.{Does}
 use Rattle.sqlite.specs.State.{State, Executes, mode_of}
 use Rattle.sqlite.proofs.Callers.{statement_of, runs_as}
-use Rattle.plan_desk.specs.declared.kinds.Kind.{Kind}
-use Rattle.plan_desk.specs.declared.kinds.PlanKind.{PlanKind}
-use Rattle.plan_desk.specs.JsonTexts.{kind_text, plan_kind_text}
-use Rattle.plan_desk.specs.Names.{is_digest}
-use Rattle.plan_desk.specs.Changes.{changed, without, with_capacity, with_digest, risen, with_calendar, with_code, with_lag, new_desk, new_plan}
-use Rattle.plan_desk.specs.Rules.{IsWorld}
-use Rattle.plan_desk.specs.World.{Digest, Published, Desk, Plan, Bind, Lag, World, same_text, is_code, is_desk, is_plan, is_bind_of, is_bind, is_lag_of, is_lag}
+use Rattle.plan_rows.specs.declared.kinds.Kind.{Kind}
+use Rattle.plan_rows.specs.declared.kinds.PlanKind.{PlanKind}
+use Rattle.plan_rows.specs.Names.{kind_text, plan_kind_text}
+use Rattle.plan_rows.specs.Names.{is_digest}
+use Rattle.plan_rows.specs.Changes.{changed, without, with_capacity, with_digest, risen, with_calendar, with_code, with_lag, new_desk, new_plan}
+use Rattle.plan_rows.specs.Rules.{IsWorld}
+use Rattle.plan_rows.specs.World.{Digest, Published, Desk, Plan, Bind, Lag, World, same_text, is_code, is_desk, is_plan, is_bind_of, is_bind, is_lag_of, is_lag}
 use Rattle.plan_store.specs.Tables as tables
 use Rattle.plan_store.specs.Tables.{store_schema}
 use Rattle.plan_store.specs.Kept.{row_at}

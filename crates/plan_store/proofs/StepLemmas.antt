@@ -3,8 +3,8 @@ use Rattle.std.proofs.Common.{◌≡◌, ◌≤◌, ℕ, ℤ, Bool, true, List, 
 use Rattle.sqlite_value.specs.Order.{Row}
 use Rattle.sqlite.specs.Effect.{Database, IsDatabase}
 use Rattle.sqlite.specs.State.{State}
-use Rattle.plan_desk.specs.World.{Published, Desk, Plan, Bind, Lag, World}
-use Rattle.plan_desk.specs.Changes.{changed, without}
+use Rattle.plan_rows.specs.World.{Published, Desk, Plan, Bind, Lag, World}
+use Rattle.plan_rows.specs.Changes.{changed, without}
 use Rattle.plan_store.specs.Tables.{store_schema}
 use Rattle.plan_store.specs.Kept.{row_at}
 use Rattle.plan_store.specs.Rows.{written_code, read_code, written_desk, read_desk, written_plan, read_plan, written_bind, read_bind, written_lag, read_lag}

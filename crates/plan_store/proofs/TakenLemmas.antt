@@ -4,8 +4,8 @@ use Rattle.std.specs.Result.{MatchResult}
 use Rattle.hex.specs.Hex.{encode_lower, decode_sized}
 use Rattle.hex.specs.declared.error.FromHexError.{FromHexError}
 use Rattle.sqlite_value.specs.Order.{Row}
-use Rattle.plan_desk.specs.World.{Digest}
-use Rattle.plan_desk.specs.Names.{is_digest}
+use Rattle.plan_rows.specs.World.{Digest}
+use Rattle.plan_rows.specs.Names.{is_digest}
 use Rattle.plan_store.proofs.CodecLemmas.{digest_decoded}
 use Rattle.plan_store.proofs.NumberedRowLemmas.{cells, cells_all}
 

@@ -2,14 +2,14 @@
 use Rattle.std.proofs.Common.{◌≡◌, inl, inr, ℤ, [], map, Some, None, Vec, Global, sym, ap, ◌∙◌, IsUtf8}
 use Rattle.sqlite_keyed.proofs.ListLemmas.{all_weaker}
 use Rattle.sqlite.specs.Effect.{Database}
-use Rattle.plan_desk.specs.declared.rows.CodeRow.{CodeRow}
-use Rattle.plan_desk.specs.declared.tables.Tables.{Tables}
-use Rattle.plan_desk.specs.declared.tables.records.DeskRecord.{DeskRecord}
-use Rattle.plan_desk.specs.declared.tables.records.PlanRecord.{PlanRecord}
-use Rattle.plan_desk.specs.declared.tables.records.BindRecord.{BindRecord}
-use Rattle.plan_desk.specs.declared.tables.records.LagRecord.{LagRecord}
-use Rattle.plan_desk.specs.Tables.{world_kept, plan_kept, lag_kept}
-use Rattle.plan_desk.specs.World.{Digest}
+use Rattle.plan_rows.specs.declared.rows.CodeRow.{CodeRow}
+use Rattle.plan_rows.specs.declared.tables.Tables.{Tables}
+use Rattle.plan_rows.specs.declared.tables.records.DeskRecord.{DeskRecord}
+use Rattle.plan_rows.specs.declared.tables.records.PlanRecord.{PlanRecord}
+use Rattle.plan_rows.specs.declared.tables.records.BindRecord.{BindRecord}
+use Rattle.plan_rows.specs.declared.tables.records.LagRecord.{LagRecord}
+use Rattle.plan_rows.specs.Tables.{world_kept, plan_kept, lag_kept}
+use Rattle.plan_rows.specs.World.{Digest}
 use Rattle.plan_store.specs.declared.layout.Layout.{Layout}
 use Rattle.plan_store.specs.declared.layout.Layout.TheVariants.{First, Second}
 use Rattle.plan_store.specs.Rows.{office_in}

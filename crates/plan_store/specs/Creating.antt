@@ -4,7 +4,7 @@ use Rattle.sqlite_trees.specs.Tree.{Trees}
 use Rattle.sqlite.specs.State.{State, HasCleanDisk, Survives}
 use Rattle.plan_store.specs.declared.fault.StoreFault.{StoreFault}
 use Rattle.plan_store.specs.declared.fault.StoreFault.TheVariants.{NotOurs}
-use Rattle.plan_desk.specs.World.{Digest, empty_world}
+use Rattle.plan_rows.specs.World.{Digest, empty_world}
 use Rattle.plan_store.specs.Stores.{world_of}
 use Rattle.plan_store.specs.Serving.{Stands, IsStoreLeft}
 

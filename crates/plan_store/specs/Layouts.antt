@@ -12,8 +12,8 @@ use Rattle.sqlite_schema.specs.declared.schema.Column.{Column}
 use Rattle.sqlite_schema.specs.declared.schema.Index.{Index}
 use Rattle.sqlite_schema.specs.declared.schema.Schema.{Schema}
 use Rattle.sqlite.specs.Effect.{Database, IsDatabase}
-use Rattle.plan_desk.specs.World.{Digest, Plan, World}
-use Rattle.plan_desk.specs.Rules.{IsWorld}
+use Rattle.plan_rows.specs.World.{Digest, Plan, World}
+use Rattle.plan_rows.specs.Rules.{IsWorld}
 use Rattle.plan_store.specs.declared.layout.Layout.{Layout}
 use Rattle.plan_store.specs.declared.layout.Layout.TheVariants.{First, Second}
 use Rattle.plan_store.specs.Tables.{filled, key_index, meta, published, desks, plans, binds, store_schema}

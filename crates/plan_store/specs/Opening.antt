@@ -4,11 +4,11 @@ use Rattle.std.specs.List.{AllByRecursion}
 use Rattle.sqlite_trees.specs.Tree.{Trees}
 use Rattle.sqlite.specs.Effect.{Database}
 use Rattle.sqlite.specs.State.{State, HasCleanDisk}
-use Rattle.plan_desk.specs.declared.fault.BookFault.{BookFault}
-use Rattle.plan_desk.specs.declared.tables.Tables.{Tables}
-use Rattle.plan_desk.specs.Tables.{world_kept}
-use Rattle.plan_desk.specs.World.{Plan}
-use Rattle.plan_desk.specs.Rules.{IsWorld}
+use Rattle.plan_rows.specs.declared.fault.BookFault.{BookFault}
+use Rattle.plan_rows.specs.declared.tables.Tables.{Tables}
+use Rattle.plan_rows.specs.Tables.{world_kept}
+use Rattle.plan_rows.specs.World.{Plan}
+use Rattle.plan_rows.specs.Rules.{IsWorld}
 use Rattle.plan_store.specs.declared.layout.Layout.{Layout}
 use Rattle.plan_store.specs.Kept.{Keeps}
 use Rattle.plan_store.specs.Rows.{read_code, written_code, read_desk, written_desk, read_plan, written_plan, read_bind, written_bind}

@@ -7,7 +7,7 @@ use Rattle.sqlite.specs.Given.{IsPlain}
 use Rattle.sqlite.specs.Listing.{understood, reads_listing}
 use Rattle.sqlite.specs.State.{State, HasCleanDisk}
 use Rattle.sqlite.proofs.Callers.{command_of}
-use Rattle.plan_desk.specs.declared.fault.BookFault.{BookFault}
+use Rattle.plan_rows.specs.declared.fault.BookFault.{BookFault}
 
 -- what a text means under a schema
 abbrev pub meaning_under : Schema → List ℕ → Command

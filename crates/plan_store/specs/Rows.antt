@@ -6,13 +6,13 @@ use Rattle.sqlite_value.specs.declared.value.Value.{Value}
 use Rattle.sqlite_value.specs.declared.value.Value.TheVariants.{Null, Int, Real, Text, Blob}
 use Rattle.sqlite_value.specs.Order.{Row, column}
 use Rattle.sqlite_trees.specs.Tree.{Trees}
-use Rattle.plan_desk.specs.declared.kinds.Kind.{Kind}
-use Rattle.plan_desk.specs.declared.kinds.PlanKind.{PlanKind}
-use Rattle.plan_desk.specs.declared.kinds.Kind.TheVariants.{Crew, Machine}
-use Rattle.plan_desk.specs.declared.kinds.PlanKind.TheVariants.{Project, Shop}
-use Rattle.plan_desk.specs.JsonTexts.{kind_text, plan_kind_text}
-use Rattle.plan_desk.specs.World as world
-use Rattle.plan_desk.specs.World.{Digest, Published, Desk, Plan, Bind, Lag, World, same_text}
+use Rattle.plan_rows.specs.declared.kinds.Kind.{Kind}
+use Rattle.plan_rows.specs.declared.kinds.PlanKind.{PlanKind}
+use Rattle.plan_rows.specs.declared.kinds.Kind.TheVariants.{Crew, Machine}
+use Rattle.plan_rows.specs.declared.kinds.PlanKind.TheVariants.{Project, Shop}
+use Rattle.plan_rows.specs.Names.{kind_text, plan_kind_text}
+use Rattle.plan_rows.specs.World as world
+use Rattle.plan_rows.specs.World.{Digest, Published, Desk, Plan, Bind, Lag, World, same_text}
 
 -- what a value says, where it is of the kind that is asked for
 abbrev pub text_in : Value → world.Text

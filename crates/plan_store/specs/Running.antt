@@ -13,7 +13,7 @@ use Rattle.sqlite_schema.specs.declared.command.Command.{Command}
 use Rattle.sqlite.proofs.Callers.{command_of}
 use Rattle.sqlite.specs.Listing.{understood}
 use Rattle.plan_store.specs.Tables.{store_schema}
-use Rattle.plan_desk.specs.World.{World}
+use Rattle.plan_rows.specs.World.{World}
 use Rattle.plan_store.specs.Stores.{world_of, IsStore}
 
 -- a text, and the values of its parameters

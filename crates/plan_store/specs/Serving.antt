@@ -3,11 +3,11 @@
 use Rattle.std.specs.Prelude.{◌≡◌, ◌⊎◌, ℕ, ◌+◌, [], ◌∷◌, ◌++◌, false, IsTrue, Option, Some, None, Result, IfOk, OnOk, OnErr}
 use Rattle.sqlite_trees.specs.Tree.{Trees}
 use Rattle.sqlite.specs.State.{State, HasCleanDisk}
-use Rattle.plan_desk.specs.declared.fault.BookFault.{BookFault}
-use Rattle.plan_desk.specs.declared.kinds.PlanKind.{PlanKind}
-use Rattle.plan_desk.specs.Changes.{changed, new_plan}
-use Rattle.plan_desk.specs.World.{Text, World, is_desk}
-use Rattle.plan_desk.specs.Rules.{IsWorld}
+use Rattle.plan_rows.specs.declared.fault.BookFault.{BookFault}
+use Rattle.plan_rows.specs.declared.kinds.PlanKind.{PlanKind}
+use Rattle.plan_rows.specs.Changes.{changed, new_plan}
+use Rattle.plan_rows.specs.World.{Text, World, is_desk}
+use Rattle.plan_rows.specs.Rules.{IsWorld}
 use Rattle.plan_store.specs.Tables.{store_schema}
 use Rattle.plan_store.specs.Stores.{world_of, IsStore}
 

@@ -2,19 +2,19 @@
 use Rattle.std.specs.Prelude.{◌≡◌, ℕ, pos, Bool, nat_lt, length, string_bytes, Option, Some, slice_get, List}
 use Rattle.sqlite_value.specs.declared.value.Value.TheVariants.{Int, Text, Blob}
 use Rattle.sqlite_value.specs.Order.{Row, column}
-use Rattle.plan_desk.specs.declared.kinds.Kind.{Kind}
-use Rattle.plan_desk.specs.declared.kinds.PlanKind.{PlanKind}
-use Rattle.plan_desk.specs.declared.rows.DeskRow.{DeskRow}
-use Rattle.plan_desk.specs.declared.rows.CodeRow.{CodeRow}
-use Rattle.plan_desk.specs.declared.rows.PlanEntry.{PlanEntry}
-use Rattle.plan_desk.specs.declared.rows.BindEntry.{BindEntry}
-use Rattle.plan_desk.specs.declared.rows.LagEntry.{LagEntry}
+use Rattle.plan_rows.specs.declared.kinds.Kind.{Kind}
+use Rattle.plan_rows.specs.declared.kinds.PlanKind.{PlanKind}
+use Rattle.plan_rows.specs.declared.rows.DeskRow.{DeskRow}
+use Rattle.plan_rows.specs.declared.rows.CodeRow.{CodeRow}
+use Rattle.plan_rows.specs.declared.rows.PlanEntry.{PlanEntry}
+use Rattle.plan_rows.specs.declared.rows.BindEntry.{BindEntry}
+use Rattle.plan_rows.specs.declared.rows.LagEntry.{LagEntry}
 use Rattle.plan_store.specs.declared.shown.PlanPart.{PlanPart}
-use Rattle.plan_desk.specs.JsonTexts.{kind_text, plan_kind_text}
-use Rattle.plan_desk.specs.World.{Digest, Plan}
+use Rattle.plan_rows.specs.Names.{kind_text, plan_kind_text}
+use Rattle.plan_rows.specs.World.{Digest, Plan}
 use Rattle.std.specs.List.{AllZip}
 use Rattle.sqlite.specs.Effect.{Database, Reads}
-use Rattle.plan_desk.specs.Books.{Matches}
+use Rattle.plan_rows.specs.Books.{Matches}
 use Rattle.plan_store.specs.Running.{meaning_of}
 use Rattle.plan_store.specs.Rows.{digest_in}
 

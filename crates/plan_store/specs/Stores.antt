@@ -3,8 +3,8 @@
 use Rattle.std.specs.Prelude.{◌≡◌, [], ◌∷◌, map}
 use Rattle.sqlite_trees.specs.Tree.{Trees}
 use Rattle.sqlite.specs.Effect.{Database, IsDatabase}
-use Rattle.plan_desk.specs.World.{World}
-use Rattle.plan_desk.specs.Rules.{IsWorld}
+use Rattle.plan_rows.specs.World.{World}
+use Rattle.plan_rows.specs.Rules.{IsWorld}
 use Rattle.plan_store.specs.Tables.{store_schema}
 use Rattle.plan_store.specs.Kept.{Keeps}
 use Rattle.plan_store.specs.Rows.{read_code, written_code, read_desk, written_desk, read_plan, written_plan, read_bind, written_bind, read_lag, written_lag, meta_row, office_in}

@@ -11,7 +11,7 @@ use crate::fault::StoreFault;
 use crate::layout::{Layout, layout_of};
 use crate::migrating::migrate;
 use crate::opening::version_in;
-use plan_desk::BookFault;
+use plan_rows::BookFault;
 use sqlite::{Alter, Connection};
 use std::alloc::Global;
 

@@ -16,7 +16,7 @@ ghost use Rattle.plan_store.specs.Opening.{IsReadable, Looks};
 
 use crate::fault::fault_of;
 use crate::layout::Layout;
-use plan_desk::BookFault;
+use plan_rows::BookFault;
 use sqlite::types::ValueRef;
 use sqlite::{Alter, Connection, Row, Statement};
 

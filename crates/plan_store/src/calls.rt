@@ -3,7 +3,7 @@
 ghost use Rattle.std.specs.Prelude.{◌≡◌, ◌+◌, ℕ, OnOk, OnErr, if◌then◌else◌};
 ghost use Rattle.std.specs.Borrow.{ftrue};
 
-use plan_desk::BookFault;
+use plan_rows::BookFault;
 use std::marker::Model;
 
 /// The writing calls of one book, and those of them that it refused. Contracts alone see these

@@ -3,11 +3,11 @@
 ghost use Rattle.std.specs.Prelude.{◌≡◌, pos, string_bytes, IfOk};
 ghost use Rattle.sqlite_value.specs.declared.value.Value.TheVariants.{Int, Text, Blob};
 ghost use Rattle.sqlite_value.specs.Order.{column};
-ghost use Rattle.plan_desk.specs.JsonTexts.{kind_text, plan_kind_text};
+ghost use Rattle.plan_rows.specs.Names.{kind_text, plan_kind_text};
 ghost use Rattle.plan_store.specs.Rows.{digest_in};
 
 use crate::fault::fault_of;
-use plan_desk::{BookFault, Kind, PlanKind};
+use plan_rows::{BookFault, Kind, PlanKind};
 use sqlite::Row;
 use sqlite::types::ValueRef;
 

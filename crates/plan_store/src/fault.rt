@@ -3,7 +3,7 @@
 ghost use Rattle.std.specs.Prelude.{◌≢◌};
 ghost use Rattle.plan_store.specs.declared.fault.StoreFault.TheVariants.{NotOurs, Version};
 
-use plan_desk::BookFault;
+use plan_rows::BookFault;
 use sqlite::{Error, ErrorCode};
 use thiserror::Error as Fault;
 

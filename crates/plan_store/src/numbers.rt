@@ -3,9 +3,9 @@
 ghost use Rattle.std.specs.Prelude.{◌≡◌, ◌+◌, nat_lt, true, IfOk};
 ghost use Rattle.std.specs.List.{list_all};
 ghost use Rattle.hex.specs.Hex.{encode_lower};
-ghost use Rattle.plan_desk.specs.Names.{is_digest};
+ghost use Rattle.plan_rows.specs.Names.{is_digest};
 
-use plan_desk::BookFault;
+use plan_rows::BookFault;
 
 /// A number that SQL can hold. All numbers of an office are below 2^31.
 pub fn sql_number(number: u64) -> Result<u32, BookFault>

@@ -6,7 +6,7 @@ ghost use Rattle.plan_store.specs.Opening.{IsReadable, Looks, IsJudged, SaysVers
 
 use crate::layout::Layout;
 use crate::taking::tables_in;
-use plan_desk::{BookFault, Tables, is_world};
+use plan_rows::{BookFault, Tables, is_world};
 use sqlite::{Alter, Connection};
 use std::alloc::{AllocError, Global};
 

@@ -3,12 +3,12 @@
 ghost use Rattle.std.specs.Prelude.{◌≡◌, false, map, IsTrue, OnOk, OnErr};
 ghost use Rattle.sqlite.specs.State.{HasCleanDisk, KeepsCommit, Survives};
 ghost use Rattle.sqlite.specs.Held.{state};
-ghost use Rattle.plan_desk.specs.World.{World};
+ghost use Rattle.plan_rows.specs.World.{World};
 ghost use Rattle.plan_store.specs.Running.{said, RanAll, LeavesAll, MayMake, Makes};
 ghost use Rattle.plan_store.specs.Serving.{IsReady, Changes};
 
 use crate::fault::fault_of;
-use plan_desk::BookFault;
+use plan_rows::BookFault;
 use sqlite::types::ValueRef;
 use sqlite::{Alter, Connection, Error, Transaction};
 

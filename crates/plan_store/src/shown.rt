@@ -3,11 +3,11 @@
 ghost use Rattle.std.specs.Prelude.{◌≡◌, slice_get, IfOk};
 ghost use Rattle.std.specs.List.{AllZip};
 ghost use Rattle.sqlite_value.specs.Order.{Row as Shown};
-ghost use Rattle.plan_desk.specs.Books.{Matches};
+ghost use Rattle.plan_rows.specs.Books.{Matches};
 ghost use Rattle.plan_store.specs.Shown.{ShowsOffice, ShowsDesk, ShowsCapacity, ShowsCode, ShowsEntry, ShowsBind, ShowsLag};
 
 use crate::cells::{bytes_at, digest_at, kind_at, number_at, plan_kind_at, small_at, text_at};
-use plan_desk::{BindEntry, BookFault, CodeRow, DeskRow, Kind, LagEntry, PlanEntry, PlanKind};
+use plan_rows::{BindEntry, BookFault, CodeRow, DeskRow, Kind, LagEntry, PlanEntry, PlanKind};
 use sqlite::Row;
 use std::alloc::Global;
 

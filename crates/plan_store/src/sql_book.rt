@@ -5,7 +5,7 @@ ghost use Rattle.sqlite_trees.specs.Tree.{Trees};
 ghost use Rattle.sqlite.specs.State.{HasCleanDisk, Survives};
 ghost use Rattle.sqlite.specs.Held.{state};
 ghost use Rattle.sqlite.specs.Steps.{over_memory};
-ghost use Rattle.plan_desk.specs.World.{empty_world};
+ghost use Rattle.plan_rows.specs.World.{empty_world};
 ghost use Rattle.plan_store.specs.declared.fault.StoreFault.TheVariants.{NotOurs};
 ghost use Rattle.plan_store.specs.Tables.{no_schema};
 ghost use Rattle.plan_store.specs.Stores.{world_of};
@@ -24,7 +24,7 @@ use crate::writing::{
     add_plan_in, bind_any, open_desk_in, publish_any, remove_any, set_calendar_any, set_key_in,
     set_lag_any,
 };
-use plan_desk::{Book, BookFault, CodeRow, DeskRow, Kind, PlanEntry, PlanKind, PlanRow};
+use plan_rows::{Book, BookFault, CodeRow, DeskRow, Kind, PlanEntry, PlanKind, PlanRow};
 use sqlite::{Alter, Connection, MemStore};
 use std::alloc::Global;
 use std::marker::Model;

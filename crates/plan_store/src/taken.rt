@@ -3,16 +3,16 @@
 ghost use Rattle.std.specs.Prelude.{◌≡◌, ◌≢◌, ◌<◌, ◌^◌, ℕ, true, List, length, string_bytes, IsUtf8, Option, option_map, IfOk, MatchOption};
 ghost use Rattle.sqlite_value.specs.declared.value.Value.TheVariants.{Text, Blob};
 ghost use Rattle.sqlite_value.specs.Order.{Row as Shown, column};
-ghost use Rattle.plan_desk.specs.World.{Digest};
-ghost use Rattle.plan_desk.specs.Names.{is_digest};
-ghost use Rattle.plan_desk.specs.JsonTexts.{kind_text, plan_kind_text};
-ghost use Rattle.plan_desk.specs.Books.{published_in};
-ghost use Rattle.plan_desk.specs.Tables.{desk_kept, plan_kept, bind_kept, lag_kept};
+ghost use Rattle.plan_rows.specs.World.{Digest};
+ghost use Rattle.plan_rows.specs.Names.{is_digest};
+ghost use Rattle.plan_rows.specs.Names.{kind_text, plan_kind_text};
+ghost use Rattle.plan_rows.specs.Books.{published_in};
+ghost use Rattle.plan_rows.specs.Tables.{desk_kept, plan_kept, bind_kept, lag_kept};
 ghost use Rattle.plan_store.specs.Rows.{number_value, digest_value, written_code, written_desk, written_plan, written_bind, written_lag};
 ghost use Rattle.plan_store.specs.Taking.{HoldsCode, HoldsDesk, HoldsPlan, HoldsBind, HoldsLag, HoldsMeta, shown_meta, TakesRow, TakesAll};
 
 use crate::numbers::digits_of;
-use plan_desk::{
+use plan_rows::{
     BindRecord, BookFault, CodeRow, DeskRecord, Kind, LagRecord, PlanKind, PlanRecord,
 };
 use sqlite::types::{FromSql, ValueRef};

@@ -11,7 +11,7 @@ ghost use Rattle.plan_store.specs.Taking.{ListsTaken, TakesMeta, TakesCodes, Tak
 use crate::asking::rows_laid;
 use crate::layout::Layout;
 use crate::taken::{FromTaken, all_taken};
-use plan_desk::{BindRecord, BookFault, CodeRow, DeskRecord, LagRecord, PlanRecord, Tables};
+use plan_rows::{BindRecord, BookFault, CodeRow, DeskRecord, LagRecord, PlanRecord, Tables};
 use sqlite::{Alter, Connection};
 use std::alloc::Global;
 

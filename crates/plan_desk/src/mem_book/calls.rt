@@ -2,9 +2,9 @@
 
 ghost use Rattle.std.specs.Prelude.{◌≡◌, ◌+◌, ℕ, Err, IsOk, MatchResult, OnOk, OnErr, if◌then◌else◌};
 ghost use Rattle.std.specs.Borrow.{ftrue};
-ghost use Rattle.plan_desk.specs.declared.fault.BookFault.TheVariants.{NoMemory};
+ghost use Rattle.plan_rows.specs.declared.fault.BookFault.TheVariants.{NoMemory};
 
-use crate::fault::BookFault;
+use plan_rows::BookFault;
 use std::alloc::AllocError;
 use std::marker::Model;
 

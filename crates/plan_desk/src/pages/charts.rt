@@ -6,10 +6,10 @@ ghost use Rattle.plan_desk.specs.Pages.{IsBound, MakesPage};
 ghost use Rattle.plan_desk.specs.Scheduled.{ScheduleFits, chart_text_of};
 
 use crate::bound::BoundPlan;
-use crate::fault::BookFault;
 use crate::pages::scheduled::{Scheduled, schedule_of};
 use crate::reply::{Reply, bad_schedule, page};
 use plan_gantt::{chart, shop_chart};
+use plan_rows::BookFault;
 use std::alloc::{AllocError, Global};
 
 // The chart of a schedule.

@@ -5,14 +5,12 @@ ghost use Rattle.plan_gantt.specs.DateTable.{IsDateText};
 ghost use Rattle.plan_desk.specs.PageRoutes.{Dates};
 ghost use Rattle.plan_desk.specs.Pages.{IsFound, MakesPage};
 
-use crate::fault::BookFault;
-use crate::kinds::PlanKind;
 use crate::plan_files::project_of;
 use crate::reply::{Reply, other_kind, page};
-use crate::rows::PlanRow;
 use plan_cpm::dates;
 use plan_gantt::date_table;
 use plan_net::Network;
+use plan_rows::{BookFault, PlanKind, PlanRow};
 use std::alloc::{AllocError, Global};
 
 // The date table of a network.

@@ -2,9 +2,9 @@
 
 ghost use Rattle.std.specs.Prelude.{◌≡◌, IfOk, IfErr, IsErrOf, string_bytes};
 ghost use Rattle.plan_gantt.specs.declared.days.DaysFault.TheVariants.{BeyondCalendar};
-ghost use Rattle.plan_desk.specs.declared.fault.BookFault.TheVariants.{Store};
-ghost use Rattle.plan_desk.specs.Changes.{Keep};
-ghost use Rattle.plan_desk.specs.Rules.{HasCalendar};
+ghost use Rattle.plan_rows.specs.declared.fault.BookFault.TheVariants.{Store};
+ghost use Rattle.plan_rows.specs.Changes.{Keep};
+ghost use Rattle.plan_rows.specs.Rules.{HasCalendar};
 ghost use Rattle.plan_desk.specs.PageRoutes.{OfCalendar, Days};
 ghost use Rattle.plan_desk.specs.Replies.{reply_of};
 ghost use Rattle.plan_desk.specs.Pages.{IsBound, MakesPage};
@@ -12,14 +12,13 @@ ghost use Rattle.plan_desk.specs.PlanValues.{row_in};
 ghost use Rattle.plan_desk.specs.Scheduled.{ScheduleFits, IsDaysTableOf, HasDayBeyondOf};
 
 use crate::bound::BoundPlan;
-use crate::fault::BookFault;
 use crate::pages::scheduled::{Scheduled, schedule_of};
 use crate::reply::{Reply, bad_calendar, bad_schedule, page};
-use crate::rows::PlanRow;
 use plan_gantt::{
     Calendar, CalendarFault, DaysFault, calendar_fault_text, calendar_table, missing_calendar,
     shop_calendar_table,
 };
+use plan_rows::{BookFault, PlanRow};
 use std::alloc::Global;
 
 // The table of a schedule's working days.

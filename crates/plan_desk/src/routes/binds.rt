@@ -1,26 +1,23 @@
 //! The commands on the places, the calendar and the arcs of a plan.
 
 ghost use Rattle.std.specs.Prelude.{◌≡◌, ℕ, IfOk, IfErr, Option, option_map};
-ghost use Rattle.plan_desk.specs.declared.fault.BookFault.TheVariants.{Store};
-ghost use Rattle.plan_desk.specs.World as world;
-ghost use Rattle.plan_desk.specs.Views.{view};
+ghost use Rattle.plan_rows.specs.declared.fault.BookFault.TheVariants.{Store};
+ghost use Rattle.plan_rows.specs.World as world;
+ghost use Rattle.plan_rows.specs.Views.{view};
 ghost use Rattle.plan_desk.specs.FoundFiles.{RowHasPlaces, IsProjectOfRow};
 ghost use Rattle.plan_desk.specs.PlanRoutes as routes;
 ghost use Rattle.plan_desk.specs.Deciding.{Finds, IsDecided};
 
 use crate::answers::{bind_answer, calendar_answer, lag_answer};
 use crate::bodies::{bind_body, calendar_body, lag_body};
-use crate::book::Book;
 use crate::change::{Change, Decision, kept};
-use crate::fault::BookFault;
 use crate::finding::find_plan;
-use crate::kinds::{Kind, PlanKind};
 use crate::plan_files::{said_project, said_shop};
 use crate::reply::{bad_body, bad_calendar, not_found};
 use crate::route_refusals::{bind_refusal, lag_refusal};
-use crate::rows::PlanRow;
 use plan_gantt::{Calendar, calendar_fault_text};
 use plan_psplib::ProjectDoc;
+use plan_rows::{Book, BookFault, Kind, PlanKind, PlanRow};
 use std::alloc::Global;
 
 // How many places a plan has.

@@ -1,17 +1,15 @@
 //! The imports: a file is kept as a plan of a desk.
 
-ghost use Rattle.plan_desk.specs.Views.{view};
+ghost use Rattle.plan_rows.specs.Views.{view};
 ghost use Rattle.plan_desk.specs.FoundFiles.{ImportsFile};
 ghost use Rattle.plan_desk.specs.PlanRoutes as routes;
 ghost use Rattle.plan_desk.specs.Deciding.{Finds, IsDecided};
 
 use crate::answers::plan_answer;
-use crate::book::Book;
 use crate::change::{Change, Decision, kept};
-use crate::fault::BookFault;
-use crate::kinds::PlanKind;
 use crate::reply::not_found;
 use crate::route_refusals::import_refusal;
+use plan_rows::{Book, BookFault, PlanKind};
 use std::alloc::Global;
 
 // A file is kept as a plan of its kind, with the desk's next number.

@@ -1,14 +1,13 @@
 //! What is listed: published codes, and the plans of a desk.
 
-ghost use Rattle.plan_desk.specs.Views.{view};
+ghost use Rattle.plan_rows.specs.Views.{view};
 ghost use Rattle.plan_desk.specs.Outcomes.{tells};
 ghost use Rattle.plan_desk.specs.JsonTexts.{codes_text, plans_text};
 ghost use Rattle.plan_desk.specs.Deciding.{Finds, IsDecided};
 
 use crate::answers::{codes_answer, plans_answer};
-use crate::book::Book;
 use crate::change::{Decision, kept};
-use crate::fault::BookFault;
+use plan_rows::{Book, BookFault};
 use std::alloc::Global;
 
 // All published codes are listed.

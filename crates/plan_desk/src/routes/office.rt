@@ -1,20 +1,17 @@
 //! The calls of the office: codes that are published, desks that are opened, keys that are set.
 
 ghost use Rattle.std.specs.Prelude.{◌≡◌, [], unwrap_or};
-ghost use Rattle.plan_desk.specs.Views.{view};
+ghost use Rattle.plan_rows.specs.Views.{view};
 ghost use Rattle.plan_desk.specs.Bodies.{desk_named};
 ghost use Rattle.plan_desk.specs.OfficeRoutes as routes;
 ghost use Rattle.plan_desk.specs.Deciding.{Finds, IsDecided};
-ghost use Rattle.plan_desk.specs.Books.{Matches, IsCapacityAnswer};
+ghost use Rattle.plan_rows.specs.Books.{Matches, IsCapacityAnswer};
 
 use crate::answers::{code_answer, desk_answer};
 use crate::bodies::{desk_body, key_body, publish_body};
-use crate::book::Book;
 use crate::change::{Change, Decision, kept};
-use crate::fault::BookFault;
-use crate::kinds::Kind;
-use crate::names::key_digest;
 use crate::reply::{bad_body, desk_exists, kind_differs, not_found};
+use plan_rows::{Book, BookFault, Kind, key_digest};
 use std::alloc::Global;
 
 // Whether a code is published and of another kind.

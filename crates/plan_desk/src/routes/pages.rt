@@ -1,17 +1,16 @@
 //! The pages of a plan: dates, schedules, charts, working days, best schedules.
 
-ghost use Rattle.plan_desk.specs.Views.{view};
+ghost use Rattle.plan_rows.specs.Views.{view};
 ghost use Rattle.plan_desk.specs.PageRoutes as routes;
 ghost use Rattle.plan_desk.specs.BestRoutes as best;
 ghost use Rattle.plan_desk.specs.Deciding.{Finds, IsDecided};
 
-use crate::book::Book;
 use crate::change::{Decision, kept};
-use crate::fault::BookFault;
 use crate::finding::{find_bound, find_plan};
 use crate::pages::{best_page, chart_page, dates_page, days_page, schedule_page};
 use crate::reply::not_found;
 use plan_exact::Memo;
+use plan_rows::{Book, BookFault};
 use std::alloc::Global;
 
 // The dates of a project.

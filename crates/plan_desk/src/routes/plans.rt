@@ -1,15 +1,14 @@
 //! The commands on the plans of a desk.
 
-ghost use Rattle.plan_desk.specs.Views.{view};
+ghost use Rattle.plan_rows.specs.Views.{view};
 ghost use Rattle.plan_desk.specs.PlanRoutes as routes;
 ghost use Rattle.plan_desk.specs.Deciding.{Finds, IsDecided};
 
 use crate::answers::number_answer;
-use crate::book::Book;
 use crate::change::{Change, Decision, kept};
-use crate::fault::BookFault;
 use crate::finding::find_plan;
 use crate::reply::not_found;
+use plan_rows::{Book, BookFault};
 use std::alloc::Global;
 
 // A plan goes.

@@ -1,5 +1,5 @@
 use Rattle.std.proofs.Common.{subst, Some}
-use Rattle.plan_desk.specs.Views.{view}
+use Rattle.plan_rows.specs.Views.{view}
 use Rattle.plan_desk.specs.Finding.{FindsPlan, HasCapacities}
 use Rattle.plan_desk.proofs.DecidingLemmas.{found_more, bound_there}
 use Rattle.plan_desk.proofs.finding.find_bound.Goals as goal

@@ -1,8 +1,8 @@
 use Rattle.std.proofs.Common.{sym, ap, ◌∙◌, subst, Some, None}
-use Rattle.plan_desk.specs.Views.{view}
-use Rattle.plan_desk.specs.Books.{Matches, IsPlanAnswer}
+use Rattle.plan_rows.specs.Views.{view}
+use Rattle.plan_rows.specs.Books.{Matches, IsPlanAnswer}
 use Rattle.plan_desk.specs.Finding.{FindsPlan}
-use Rattle.plan_desk.specs.Plans.{plan_number}
+use Rattle.plan_rows.specs.Plans.{plan_number}
 use Rattle.plan_desk.proofs.DecidingLemmas.{found_by, failed_by, plan_there, plan_missing}
 use Rattle.plan_desk.proofs.finding.find_plan.Goals as goal
 

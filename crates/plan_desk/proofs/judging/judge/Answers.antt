@@ -1,4 +1,4 @@
-use Rattle.plan_desk.specs.Views.{view}
+use Rattle.plan_rows.specs.Views.{view}
 use Rattle.plan_desk.specs.Requests.{call_in, request_in, path_of, subject_of}
 use Rattle.plan_desk.proofs.DecidingLemmas.{found_then, found_other}
 use Rattle.plan_desk.proofs.JudgingLemmas.{judged_admitted, judged_locked}

@@ -1,6 +1,6 @@
 use Rattle.std.proofs.Common.{map, sym, subst}
 use Rattle.plan_psplib.specs.Project.{SaysProject}
-use Rattle.plan_desk.specs.Books.{lag_in}
+use Rattle.plan_rows.specs.Books.{lag_in}
 use Rattle.plan_desk.specs.PlanValues.{TakesLags}
 use Rattle.plan_desk.proofs.FileLemmas.{passed_on}
 use Rattle.plan_desk.proofs.plan_files.project_of.Goals as goal

@@ -1,6 +1,6 @@
 use Rattle.std.proofs.Common.{◌+◌, ◌∙◌, map, drop, sym, ap}
-use Rattle.plan_desk.specs.Plans.{lagged_by}
-use Rattle.plan_desk.specs.Books.{lag_in}
+use Rattle.plan_rows.specs.Plans.{lagged_by}
+use Rattle.plan_rows.specs.Books.{lag_in}
 use Rattle.plan_desk.proofs.FileLemmas.{lagged_by-drop, lags_taken}
 use Rattle.plan_desk.proofs.plan_files.set_lags.Goals as goal
 

@@ -1,6 +1,6 @@
 use Rattle.std.proofs.Common.{◌≡◌, map, drop}
-use Rattle.plan_desk.specs.Plans.{lagged_by}
-use Rattle.plan_desk.specs.Books.{lag_in}
+use Rattle.plan_rows.specs.Plans.{lagged_by}
+use Rattle.plan_rows.specs.Books.{lag_in}
 use Rattle.plan_desk.proofs.plan_files.set_lags.Given as goal
 
 -- the lags that are left make of the project what all make of the first one, and the arcs stay

@@ -1,5 +1,5 @@
 use Rattle.std.proofs.Common.{arith}
-use Rattle.plan_desk.proofs.TableLemmas.{all_fit}
+use Rattle.plan_rows.proofs.TableLemmas.{all_fit}
 use Rattle.plan_store.proofs.numbers.known_bytes.Goals as goal
 
 pub returns : goal.returns

@@ -2,8 +2,8 @@ use Rattle.std.proofs.Common.{◌≡◌, refl, sym, ap, subst, ◌∙◌, Ok, So
 use Rattle.sqlite.specs.Effect.{Database}
 use Rattle.sqlite.specs.State.{State}
 use Rattle.sqlite.specs.Held.{state}
-use Rattle.plan_desk.specs.Books.{Matches}
-use Rattle.plan_desk.specs.World.{plan_in}
+use Rattle.plan_rows.specs.Books.{Matches}
+use Rattle.plan_rows.specs.World.{plan_in}
 use Rattle.plan_store.specs.Stores.{world_of}
 use Rattle.plan_store.specs.Shown.{IsPlanPart}
 use Rattle.plan_store.proofs.AskingLemmas.{asks_then}
@@ -33,6 +33,6 @@ returns g c =
     let found : Matches IsPlanPart (plan_in w c.args.desk.now c.args.n) (Some part) = subst (Matches IsPlanPart (plan_in w c.args.desk.now c.args.n)) c.in-Some.is (first.answer clean1).1 in (
       last.0,
       whole_plan w c.args.desk.now c.args.n _ part refl
-          (mid.1 ∙ ap (λ (d : Database). Rattle.plan_desk.specs.Plans.places_of (Rattle.plan_desk.specs.Views.view c.args.desk.now (world_of d.trees)) c.args.n) back0.1)
-          (last.1 ∙ ap (λ (d : Database). Rattle.plan_desk.specs.Plans.lags_of (Rattle.plan_desk.specs.Views.view c.args.desk.now (world_of d.trees)) c.args.n) (back1.1 ∙ back0.1)) found,
+          (mid.1 ∙ ap (λ (d : Database). Rattle.plan_rows.specs.Plans.places_of (Rattle.plan_rows.specs.Views.view c.args.desk.now (world_of d.trees)) c.args.n) back0.1)
+          (last.1 ∙ ap (λ (d : Database). Rattle.plan_rows.specs.Plans.lags_of (Rattle.plan_rows.specs.Views.view c.args.desk.now (world_of d.trees)) c.args.n) (back1.1 ∙ back0.1)) found,
     ))

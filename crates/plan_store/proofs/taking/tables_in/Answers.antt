@@ -3,7 +3,7 @@ use Rattle.std.proofs.lemmas.Int.{ints}
 use mir.Val.{SFits, to_z, of_z}
 use Rattle.sqlite_trees.specs.Tree.{Trees}
 use Rattle.sqlite.specs.Held.{state}
-use Rattle.plan_desk.specs.declared.tables.Tables.{Tables}
+use Rattle.plan_rows.specs.declared.tables.Tables.{Tables}
 use Rattle.plan_store.specs.Opening.{HoldsRows, TakesRows}
 use Rattle.plan_store.specs.Taking.{TakesMeta, TakesCodes, TakesDesks, TakesPlans, TakesBinds, TakesLags, TakesBoth}
 use Rattle.plan_store.proofs.LookingLemmas.{looks_both, looks_made}

@@ -1,9 +1,9 @@
 use Rattle.std.proofs.Common.{[], ◌∷◌, ◌++◌, ◌+◌}
 use Rattle.sqlite_value.specs.declared.value.Value.TheVariants.{Text, Blob}
 use Rattle.sqlite.specs.Held.{state}
-use Rattle.plan_desk.specs.JsonTexts.{plan_kind_text}
-use Rattle.plan_desk.specs.World.{World, is_desk}
-use Rattle.plan_desk.specs.Changes.{changed, new_plan}
+use Rattle.plan_rows.specs.Names.{plan_kind_text}
+use Rattle.plan_rows.specs.World.{World, is_desk}
+use Rattle.plan_rows.specs.Changes.{changed, new_plan}
 use Rattle.plan_store.specs.Serving.{numbered_plan}
 use Rattle.plan_store.specs.Rows.{number_value}
 use Rattle.plan_store.proofs.ServingLemmas.{two_make, begun}

@@ -2,10 +2,10 @@ use Rattle.std.proofs.Common.{◌≡◌, Ok, Some, IsTrue, sym, subst, ap, ◌�
 use Rattle.sqlite.specs.Effect.{Database}
 use Rattle.sqlite.specs.State.{State, HasCleanDisk}
 use Rattle.sqlite.specs.Held.{state}
-use Rattle.plan_desk.specs.Books.{Matches, IsDeskAnswer}
-use Rattle.plan_desk.specs.Changes.{apply, AddPlan}
-use Rattle.plan_desk.specs.Rules.{IsWorld}
-use Rattle.plan_desk.specs.World.{desk_in}
+use Rattle.plan_rows.specs.Books.{Matches, IsDeskAnswer}
+use Rattle.plan_rows.specs.Changes.{apply, AddPlan}
+use Rattle.plan_rows.specs.Rules.{IsWorld}
+use Rattle.plan_rows.specs.World.{desk_in}
 use Rattle.plan_store.specs.Stores.{world_of}
 use Rattle.plan_store.specs.Serving.{numbered_plan}
 use Rattle.plan_store.proofs.AskingLemmas.{asks_then_changes}

@@ -1,8 +1,8 @@
 use Rattle.std.proofs.Common.{[], ◌∷◌}
 use Rattle.sqlite_value.specs.declared.value.Value.TheVariants.{Text}
 use Rattle.sqlite.specs.Held.{state}
-use Rattle.plan_desk.specs.World.{World, is_plan, is_bind_of, is_lag_of}
-use Rattle.plan_desk.specs.Changes.{apply, without, RemovePlan}
+use Rattle.plan_rows.specs.World.{World, is_plan, is_bind_of, is_lag_of}
+use Rattle.plan_rows.specs.Changes.{apply, without, RemovePlan}
 use Rattle.plan_store.specs.Rows.{number_value}
 use Rattle.plan_store.proofs.ServingLemmas.{three_make, begun}
 use Rattle.plan_store.proofs.StatementLemmas.{removes_plan, removes_binds, removes_lags}

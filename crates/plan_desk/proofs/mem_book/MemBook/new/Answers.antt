@@ -1,6 +1,6 @@
 use Rattle.std.proofs.Common.{◌≡◌, true, subst, sym}
-use Rattle.plan_desk.specs.Names.{is_digest}
-use Rattle.plan_desk.specs.Rules.{IsWorld}
+use Rattle.plan_rows.specs.Names.{is_digest}
+use Rattle.plan_rows.specs.Rules.{IsWorld}
 use Rattle.plan_desk.proofs.mem_book.MemBook.new.Goals as goal
 
 pub invariant_of-result : goal.invariant_of-result

@@ -1,5 +1,5 @@
 use Rattle.plan_desk.specs.Whole.{whole_of}
-use Rattle.plan_desk.specs.Tables.{world_kept}
+use Rattle.plan_rows.specs.Tables.{world_kept}
 use Rattle.plan_desk.proofs.mem_book.MemBookBook.bind.Goals as goal
 
 pub bind-answer-requires : goal.bind-answer-requires

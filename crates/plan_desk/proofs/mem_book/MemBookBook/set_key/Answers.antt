@@ -1,5 +1,5 @@
 use Rattle.plan_desk.specs.Whole.{whole_of}
-use Rattle.plan_desk.specs.Tables.{world_kept}
+use Rattle.plan_rows.specs.Tables.{world_kept}
 use Rattle.plan_desk.proofs.mem_book.MemBookBook.set_key.Goals as goal
 
 pub set_key-requires : goal.set_key-requires

@@ -1,5 +1,5 @@
 use Rattle.plan_desk.specs.Whole.{whole_of}
-use Rattle.plan_desk.specs.Tables.{world_kept}
+use Rattle.plan_rows.specs.Tables.{world_kept}
 use Rattle.plan_desk.proofs.mem_book.MemBookBook.set_lag.Goals as goal
 
 pub set_lag-answer-requires : goal.set_lag-answer-requires

@@ -5,7 +5,7 @@ use Rattle.plan_gantt.specs.CalendarText.{IsCalendar}
 use Rattle.plan_desk.specs.Refusals.{bad_calendar}
 use Rattle.plan_desk.specs.PlanValues.{row_in}
 use Rattle.plan_desk.specs.Scheduled.{IsDaysTableOf, HasDayBeyondOf}
-use Rattle.plan_desk.specs.declared.rows.PlanRow.{PlanRow}
+use Rattle.plan_rows.specs.declared.rows.PlanRow.{PlanRow}
 use Rattle.plan_desk.proofs.DaysLemmas.{days_missing, days_shown, days_beyond}
 use Rattle.plan_desk.proofs.pages.days.days_of.Goals as goal
 

@@ -1,11 +1,11 @@
 use Rattle.std.proofs.Common.{◌≡◌, Some, subst, refl, sym, ap, ◌∙◌}
 use Rattle.std.specs.Prelude.{option_map}
-use Rattle.plan_desk.specs.Views.{view}
-use Rattle.plan_desk.specs.World.{code_in}
+use Rattle.plan_rows.specs.Views.{view}
+use Rattle.plan_rows.specs.World.{code_in}
 use Rattle.plan_desk.specs.BodyViews.{bind_body_in}
 use Rattle.plan_desk.specs.Bodies.{bind_body}
-use Rattle.plan_desk.specs.Plans.{is_place}
-use Rattle.plan_desk.specs.Books.{Matches, IsCapacityAnswer}
+use Rattle.plan_rows.specs.Plans.{is_place}
+use Rattle.plan_rows.specs.Books.{Matches, IsCapacityAnswer}
 use Rattle.plan_desk.specs.Replies.{reply_of}
 use Rattle.plan_desk.specs.PlanRoutes.{Binds}
 use Rattle.plan_desk.specs.Finding.{FindsPlan}

@@ -1,6 +1,6 @@
 use Rattle.std.proofs.Common.{◌≡◌, Some, subst, refl, sym, ap, ◌∙◌}
 use Rattle.std.specs.Prelude.{option_map}
-use Rattle.plan_desk.specs.Views.{view}
+use Rattle.plan_rows.specs.Views.{view}
 use Rattle.plan_desk.specs.BodyViews.{calendar_in}
 use Rattle.plan_desk.specs.Bodies.{calendar_body}
 use Rattle.plan_desk.specs.PlanRoutes.{Calendars}

@@ -1,8 +1,8 @@
 use Rattle.std.proofs.Common.{length, subst, refl, ap, ◌∙◌}
 use Rattle.std.specs.Prelude.{option_map}
-use Rattle.plan_desk.specs.Views.{view}
-use Rattle.plan_desk.specs.World.{desk_in}
-use Rattle.plan_desk.specs.Books.{Matches, IsDeskAnswer, ListsPlans}
+use Rattle.plan_rows.specs.Views.{view}
+use Rattle.plan_rows.specs.World.{desk_in}
+use Rattle.plan_rows.specs.Books.{Matches, IsDeskAnswer, ListsPlans}
 use Rattle.plan_desk.specs.Replies.{reply_of}
 use Rattle.plan_desk.specs.RouteRefusals.{IsImportRefusal}
 use Rattle.plan_desk.specs.FoundFiles.{ImportsFile}

@@ -1,5 +1,5 @@
 use Rattle.std.proofs.Common.{sym, ap, ◌∙◌}
-use Rattle.plan_desk.specs.Views.{view}
+use Rattle.plan_rows.specs.Views.{view}
 use Rattle.plan_desk.specs.Calls.{answer}
 use Rattle.plan_desk.specs.Outcomes.{tells}
 use Rattle.plan_desk.specs.JsonTexts.{codes_text, plans_text}

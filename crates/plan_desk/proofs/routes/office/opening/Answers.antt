@@ -1,8 +1,8 @@
 use Rattle.std.proofs.Common.{◌≡◌, subst, refl, ap, sym, ◌∙◌, inl, inr, None, Some, []}
 use Rattle.std.specs.Prelude.{option_map, unwrap_or}
 use Rattle.sha2.specs.Sha256.{sha256}
-use Rattle.plan_desk.specs.Names.{key_digest_of}
-use Rattle.plan_desk.specs.Views.{view}
+use Rattle.plan_rows.specs.Names.{key_digest_of}
+use Rattle.plan_rows.specs.Views.{view}
 use Rattle.plan_desk.specs.BodyViews.{desk_body_in}
 use Rattle.plan_desk.specs.Bodies.{desk_body, desk_named}
 use Rattle.plan_desk.specs.OfficeRoutes.{Opens}

@@ -1,6 +1,6 @@
 use Rattle.std.proofs.Common.{◌≡◌, subst, refl, ap, sym, ◌∙◌, None, Some, []}
 use Rattle.std.specs.Prelude.{option_map}
-use Rattle.plan_desk.specs.Views.{view}
+use Rattle.plan_rows.specs.Views.{view}
 use Rattle.plan_desk.specs.BodyViews.{publish_in}
 use Rattle.plan_desk.specs.Bodies.{publish_body}
 use Rattle.plan_desk.specs.OfficeRoutes.{Publishes}

@@ -1,5 +1,5 @@
 use Rattle.std.proofs.Common.{subst}
-use Rattle.plan_desk.specs.Views.{view}
+use Rattle.plan_rows.specs.Views.{view}
 use Rattle.plan_desk.specs.PageRoutes.{Schedules}
 use Rattle.plan_desk.specs.Pages.{IsBound}
 use Rattle.plan_desk.specs.Finding.{FindsBound}

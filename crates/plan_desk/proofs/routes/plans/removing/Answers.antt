@@ -1,5 +1,5 @@
 use Rattle.std.proofs.Common.{subst, refl}
-use Rattle.plan_desk.specs.Views.{view}
+use Rattle.plan_rows.specs.Views.{view}
 use Rattle.plan_desk.specs.PlanRoutes.{Removes}
 use Rattle.plan_desk.specs.Finding.{FindsPlan}
 use Rattle.plan_desk.proofs.DecidingLemmas.{found_other}

@@ -1,6 +1,6 @@
 use Rattle.std.proofs.Common.{subst}
-use Rattle.plan_desk.specs.Books.{Writes}
-use Rattle.plan_desk.specs.Changes.{apply, SetKey}
+use Rattle.plan_rows.specs.Books.{Writes}
+use Rattle.plan_rows.specs.Changes.{apply, SetKey}
 use Rattle.plan_store.specs.SqlBooks.{Counted, sql_shelf}
 use Rattle.plan_store.proofs.BookLemmas.{writes_from}
 use Rattle.plan_store.proofs.sql_book.SqlBookBook.set_key.Goals as goal

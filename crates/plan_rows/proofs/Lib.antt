@@ -1,0 +1,11 @@
+pub mod RowLemmas
+pub mod OwnerLemmas
+pub mod RuleLemmas
+pub mod TableLemmas
+pub mod KeyLemmas
+pub mod OrderedLemmas
+pub mod ReadLemmas
+pub mod RowTestLemmas
+pub mod KeyedLemmas
+pub mod LookupLemmas
+pub mod TestedLemmas

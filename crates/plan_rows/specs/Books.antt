@@ -1,0 +1,107 @@
+-- What the calls of a book promise, whatever keeps its tables (docs/DEFINITIONS.md, "Books").
+use Rattle.std.specs.Prelude.{◌≡◌, ◌⊎◌, ℕ, ◌+◌, List, Option, Some, None, Result, IfOk, IfErr, OnOk, OnErr, map, string_bytes}
+use Rattle.plan_rows.specs.declared.fault.BookFault.{BookFault}
+use Rattle.plan_rows.specs.declared.fault.BookFault.TheVariants.{Store}
+use Rattle.plan_rows.specs.declared.kinds.Kind.{Kind}
+use Rattle.plan_rows.specs.declared.kinds.PlanKind.{PlanKind}
+use Rattle.plan_rows.specs.declared.rows.DeskRow.{DeskRow}
+use Rattle.plan_rows.specs.declared.rows.CodeRow.{CodeRow}
+use Rattle.plan_rows.specs.declared.rows.PlanEntry.{PlanEntry}
+use Rattle.plan_rows.specs.declared.rows.BindEntry.{BindEntry}
+use Rattle.plan_rows.specs.declared.rows.LagEntry.{LagEntry}
+use Rattle.plan_rows.specs.declared.rows.PlanRow.{PlanRow}
+use Rattle.plan_rows.specs.World.{Text, Published, Desk, Plan, World}
+use Rattle.plan_rows.specs.Views.{View}
+use Rattle.plan_rows.specs.Plans.{in_order, lags_of, places_of}
+use Rattle.plan_rows.specs.Plans.{code_before, plan_before}
+
+-- What contracts see of a book of some type.
+pub record Shelf (B : Type 0) : Type 1 where
+  -- what its tables hold
+  pub world : B → World
+  -- the tables can be seen: a store that a fault has shut stands no more
+  pub stands : B → Type 0
+  -- the disk has returned what was written
+  pub honest : B → Type 0
+  -- a book of the type may refuse at all
+  pub can_refuse : Type 0
+  -- what a crash may leave as the last call ended: an office, or tables that are none
+  pub may_leave : B → Option World → Type 0
+  -- how many writing calls were made, and how many were refused
+  pub made : B → ℕ
+  pub refused : B → ℕ
+
+module _ {B : Type 0} (shelf : Shelf B) (old new : B) where
+  -- a call that reads: its answer is true of the tables, which stay, and it adds nothing to what a
+  -- crash may leave
+  pub record Reads {X : Type 0} (result : Result X BookFault) (Is : X → Type 0) : Type 0 where
+    pub honesty : shelf.honest new → shelf.honest old
+    pub stood : shelf.honest new → shelf.stands new → shelf.stands old
+    pub same : shelf.honest new → shelf.stands new → shelf.world new ≡ shelf.world old
+    pub answer : IfOk result (λ x. shelf.honest new → shelf.stands new × Is x)
+    pub crash : shelf.honest new → (w : Option World) → shelf.may_leave new w → shelf.may_leave old w
+    pub store : IfErr result (λ fault. fault ≡ Store → shelf.can_refuse)
+    pub made : shelf.made new ≡ shelf.made old
+    pub refused : shelf.refused new ≡ shelf.refused old
+
+  -- a call that writes: where it is made, the tables are changed, and a crash leaves them alone; where
+  -- it is refused, they are as they were, and a crash may leave the change besides
+  pub record Writes {X : Type 0} (result : Result X BookFault) (change : World → World) : Type 0 where
+    pub honesty : shelf.honest new → shelf.honest old
+    pub stood : shelf.honest new → shelf.stands new → shelf.stands old
+    pub changed : OnOk result (shelf.honest new → shelf.stands new × (shelf.world new ≡ change (shelf.world old)))
+    pub same : OnErr result (shelf.honest new → shelf.stands new → shelf.world new ≡ shelf.world old)
+    pub durable : OnOk result (shelf.honest new → (w : Option World) → shelf.may_leave new w → w ≡ Some (shelf.world new))
+    pub crash : OnErr result (shelf.honest new → (w : Option World) → shelf.may_leave new w
+        → shelf.may_leave old w ⊎ (shelf.stands old × (w ≡ Some (change (shelf.world old)))))
+    pub store : IfErr result (λ fault. fault ≡ Store → shelf.can_refuse)
+    pub counted : OnOk result ((shelf.made new ≡ shelf.made old + 1) × (shelf.refused new ≡ shelf.refused old))
+    pub refusal : OnErr result ((shelf.made new ≡ shelf.made old) × (shelf.refused new ≡ shelf.refused old + 1))
+
+-- an answer matches a row that is there, or there is neither
+abbrev pub Matches : {A X : Type 0} → (A → X → Type 0) → Option A → Option X → Type 0
+Matches Is None None = Unit {0}
+Matches Is None (Some x) = ⊥
+Matches Is (Some row) None = ⊥
+Matches Is (Some row) (Some x) = Is row x
+
+pub record IsDeskAnswer (row : Desk) (answer : DeskRow) : Type 0 where
+  pub digest : answer.digest ≡ row.digest
+  pub next : answer.next ≡ row.next
+
+pub record IsCapacityAnswer (row : Published) (answer : Kind × ℕ) : Type 0 where
+  pub kind : answer.0 ≡ row.kind
+  pub capacity : answer.1 ≡ row.capacity
+
+abbrev pub published_in : CodeRow → Published
+published_in row = record { code = string_bytes row.code; kind = row.kind; capacity = row.capacity }
+
+-- all published codes, rising
+abbrev pub ListsCodes : List Published → List CodeRow → Type 0
+ListsCodes rows answer = map published_in answer ≡ in_order code_before rows
+
+abbrev pub entry_of : Plan → ℕ × PlanKind
+entry_of row = (row.n, row.kind)
+
+abbrev pub entry_in : PlanEntry → ℕ × PlanKind
+entry_in entry = (entry.n, entry.kind)
+
+-- the plans of a desk by their numbers and kinds, rising by number
+abbrev pub ListsPlans : List Plan → List PlanEntry → Type 0
+ListsPlans rows answer = map entry_in answer ≡ map entry_of (in_order plan_before rows)
+
+abbrev pub bind_in : BindEntry → ℕ × Text
+bind_in entry = (entry.place, string_bytes entry.code)
+
+abbrev pub lag_in : LagEntry → ℕ × ℕ × ℕ
+lag_in entry = (entry.from, entry.to, entry.lag)
+
+-- a plan that a desk sees, with its bound places and its lags, both rising
+pub record IsPlanAnswer (v : View) (row : Plan) (answer : PlanRow) : Type 0 where
+  pub kind : answer.kind ≡ row.kind
+  pub name : string_bytes answer.name ≡ row.name
+  pub body : answer.body.items ≡ row.body
+  pub start : string_bytes answer.start ≡ row.start
+  pub days : string_bytes answer.days ≡ row.days
+  pub binds_are : map bind_in answer.binds.items ≡ places_of v row.n
+  pub lags_are : map lag_in answer.lags.items ≡ lags_of v row.n

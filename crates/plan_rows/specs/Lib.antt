@@ -1,0 +1,9 @@
+pub mod World
+pub mod Changes
+pub mod Views
+pub mod Names
+pub mod Plans
+pub mod Rules
+pub mod Books
+pub mod Tables
+pub mod RowTests

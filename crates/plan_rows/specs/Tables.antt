@@ -1,0 +1,51 @@
+-- What the rows that code keeps stand for (docs/DEFINITIONS.md, "Books").
+use Rattle.std.specs.Prelude.{map, string_bytes}
+use Rattle.plan_rows.specs.declared.tables.Tables.{Tables}
+use Rattle.plan_rows.specs.declared.tables.records.DeskRecord.{DeskRecord}
+use Rattle.plan_rows.specs.declared.tables.records.PlanRecord.{PlanRecord}
+use Rattle.plan_rows.specs.declared.tables.records.BindRecord.{BindRecord}
+use Rattle.plan_rows.specs.declared.tables.records.LagRecord.{LagRecord}
+use Rattle.plan_rows.specs.World.{Desk, Plan, Bind, Lag, World}
+use Rattle.plan_rows.specs.Books.{published_in}
+
+abbrev pub desk_kept : DeskRecord → Desk
+desk_kept row = record { desk = string_bytes row.desk; digest = row.digest; next = row.next }
+
+abbrev pub plan_kept : PlanRecord → Plan
+plan_kept row = record {
+  desk = string_bytes row.desk;
+  n = row.n;
+  kind = row.kind;
+  name = string_bytes row.name;
+  body = row.body.items;
+  start = string_bytes row.start;
+  days = string_bytes row.days;
+}
+
+abbrev pub bind_kept : BindRecord → Bind
+bind_kept row = record {
+  desk = string_bytes row.desk;
+  n = row.n;
+  place = row.place;
+  code = string_bytes row.code;
+}
+
+abbrev pub lag_kept : LagRecord → Lag
+lag_kept row = record {
+  desk = string_bytes row.desk;
+  n = row.n;
+  source = row.from;
+  target = row.to;
+  lag = row.lag;
+}
+
+-- the rows of all tables
+abbrev pub world_kept : Tables → World
+world_kept t = record {
+  office = t.office;
+  published = map published_in t.published.items;
+  desks = map desk_kept t.desks.items;
+  plans = map plan_kept t.plans.items;
+  binds = map bind_kept t.binds.items;
+  lags = map lag_kept t.lags.items;
+}

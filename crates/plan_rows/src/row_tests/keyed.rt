@@ -1,0 +1,101 @@
+//! Rows that have keys, each once.
+
+ghost use Rattle.std.specs.Prelude.{◌≡◌, IfOk};
+ghost use Rattle.plan_rows.specs.Rules.{AllDiffer};
+ghost use Rattle.plan_rows.specs.Books.{published_in};
+ghost use Rattle.plan_rows.specs.Tables.{world_kept, desk_kept, plan_kept, bind_kept, lag_kept};
+ghost use Rattle.plan_rows.specs.RowTests.{Tells, KeysDiffer, RowKey, same_key};
+
+use crate::rows::CodeRow;
+use crate::tables::{BindRecord, DeskRecord, LagRecord, PlanRecord, Tables};
+use std::alloc::{AllocError, Global};
+use std::collections::HashSet;
+
+/// A row that has a key.
+pub trait Keyed {
+    /// Its key.
+    ghost key_of: { Self → RowKey };
+
+    /// Its key: a text, and three numbers, which are 0 where the key has fewer.
+    fn key(&self) -> (&str, u64, u64, u64)
+        ensures { (result.0.now, result.1, result.2, result.3) ≡ key_of self.now };
+}
+
+impl Keyed for CodeRow {
+    ghost key_of = { λ row. ((published_in row).code, 0, 0, 0) };
+
+    fn key(&self) -> (&str, u64, u64, u64) {
+        (self.code.as_str(), 0, 0, 0)
+    }
+}
+
+impl Keyed for DeskRecord {
+    ghost key_of = { λ row. ((desk_kept row).desk, 0, 0, 0) };
+
+    fn key(&self) -> (&str, u64, u64, u64) {
+        (self.desk.as_str(), 0, 0, 0)
+    }
+}
+
+impl Keyed for PlanRecord {
+    ghost key_of = { λ row. ((plan_kept row).desk, (plan_kept row).n, 0, 0) };
+
+    fn key(&self) -> (&str, u64, u64, u64) {
+        (self.desk.as_str(), self.n, 0, 0)
+    }
+}
+
+impl Keyed for BindRecord {
+    ghost key_of = { λ row. ((bind_kept row).desk, (bind_kept row).n, (bind_kept row).place, 0) };
+
+    fn key(&self) -> (&str, u64, u64, u64) {
+        (self.desk.as_str(), self.n, self.place, 0)
+    }
+}
+
+impl Keyed for LagRecord {
+    ghost key_of = { λ row. ((lag_kept row).desk, (lag_kept row).n, (lag_kept row).source, (lag_kept row).target) };
+
+    fn key(&self) -> (&str, u64, u64, u64) {
+        (
+            self.desk.as_str(),
+            self.n,
+            u64::from(self.from),
+            u64::from(self.to),
+        )
+    }
+}
+
+// Whether all rows have keys of their own. The keys are kept in a set, from the last row on.
+fn all_differ<T: Keyed>(alloc: Global, rows: &[T]) -> Result<bool, AllocError>
+    ensures { IfOk result
+        (λ good. Tells good (AllDiffer (λ a b. same_key (T.key_of a) (T.key_of b)) rows.now)) }
+{
+    let mut seen = HashSet::new(alloc);
+    for i in (0..rows.len()).rev() {
+        let is_new = seen.insert(rows[i].key())?;
+        if !is_new {
+            return Ok(false);
+        }
+    }
+    Ok(true)
+}
+
+/// Whether the rows of each table have their keys once.
+pub fn keys_differ(alloc: Global, tables: &Tables) -> Result<bool, AllocError>
+    ensures { IfOk result (λ good. Tells good (KeysDiffer (world_kept tables.now))) }
+{
+    if !all_differ(alloc, &tables.published)? {
+        return Ok(false);
+    }
+    if !all_differ(alloc, &tables.desks)? {
+        return Ok(false);
+    }
+    if !all_differ(alloc, &tables.plans)? {
+        return Ok(false);
+    }
+    if !all_differ(alloc, &tables.binds)? {
+        return Ok(false);
+    }
+    all_differ(alloc, &tables.lags)
+}
