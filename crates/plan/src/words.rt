@@ -8,9 +8,6 @@ use std::alloc::{AllocError, Global};
 const EXAMPLES: &str =
     "Examples:\n  plan chart lft examples/house.sm\n  plan cpm examples/house.sm\n  plan days lft 2024-03-01 1111100 examples/house.sm\n  plan shop mwkr examples/shops.txt ft06\n  plan best 200000 examples/shops.txt ft06\n\nA command that fails prints one line, which begins with a code; plan explain CODE tells what it\nmeans and what to do.";
 
-// The rules of projects and of job shops.
-const RULES: &str = "lft, slk, spt, mts or num; of a job shop spt, mwkr or fcfs";
-
 /// What is asked of files.
 pub enum FileOrder<'a> {
     /// A task on a file by its name.
@@ -46,225 +43,225 @@ pub enum Order<'a> {
     Office(OfficeOrder<'a>),
 }
 
-// A word that has to be there. Where it may begin with a hyphen it is judged by the command.
-fn word<'a>(alloc: Global, name: &'a str, help: &'a str) -> Arg<'a> {
+/// How a word of a command is read.
+#[derive(Clone, Copy, PartialEq, Eq)]
+enum Reading {
+    /// As it is, also where it begins with a hyphen: the command judges it.
+    Judged,
+    /// The same, and it may be left out.
+    Optional,
+    /// As a name; one that begins with a hyphen is an option.
+    Name,
+    /// As one name or more.
+    Names,
+    /// As a port.
+    Port,
+    /// As a number of connections.
+    Count,
+}
+
+// A word of a command: what it is called, how it is read, and what the help says of it.
+type Word = (&'static str, Reading, &'static str);
+
+// A command: its name, what it does, its examples and its words.
+type Entry = (&'static str, &'static str, &'static str, &'static [Word]);
+
+const FILE: Word = ("FILE", Reading::Name, "a file, or - for standard input");
+
+const RULE: Word = (
+    "RULE",
+    Reading::Judged,
+    "lft, slk, spt, mts or num; of a job shop spt, mwkr or fcfs",
+);
+
+const INSTANCE: Word = (
+    "INSTANCE",
+    Reading::Judged,
+    "the name of an instance of the file, or - in a file without names",
+);
+
+// An instance, where it stands for a job shop file in the place of a project file.
+const INSTANCE_IF_SHOP: Word = (
+    "INSTANCE",
+    Reading::Optional,
+    "of a job shop file: the name of an instance, or - in a file without names",
+);
+
+const BUDGET: Word = (
+    "BUDGET",
+    Reading::Judged,
+    "how many words the search may visit, 1 to 200000",
+);
+
+const DATABASE: Word = (
+    "DB",
+    Reading::Name,
+    "the file in which an office is kept, an SQLite database",
+);
+
+const COMMANDS: [Entry; 13] = [
+    (
+        "cpm",
+        "Prints the date table of a project",
+        "Example:\n  plan cpm examples/house.sm",
+        &[FILE],
+    ),
+    (
+        "schedule",
+        "Prints the schedule of a project by a priority rule",
+        "Example:\n  plan schedule lft examples/house.sm",
+        &[("RULE", Reading::Judged, "lft, slk, spt, mts or num"), FILE],
+    ),
+    (
+        "chart",
+        "Draws the schedule of a project or a job shop by a priority rule",
+        "Examples:\n  plan chart lft examples/house.sm\n  plan chart mwkr examples/shops.txt ft06",
+        &[RULE, FILE, INSTANCE_IF_SHOP],
+    ),
+    (
+        "days",
+        "Prints the working days of a schedule by a priority rule",
+        "Examples:\n  plan days lft 2024-03-01 1111100 examples/house.sm\n  plan days mwkr 2024-03-01 1111100 examples/shops.txt ft06",
+        &[
+            RULE,
+            ("START", Reading::Judged, "the first date, as 2024-03-01"),
+            (
+                "MARKS",
+                Reading::Judged,
+                "a 1 for each weekday on which work is done, else a 0, Monday first",
+            ),
+            FILE,
+            INSTANCE_IF_SHOP,
+        ],
+    ),
+    (
+        "best-project",
+        "Prints the best schedule of a project that a search finds, and whether it is proved optimal",
+        "Example:\n  plan best-project 200000 examples/house.sm",
+        &[BUDGET, FILE],
+    ),
+    (
+        "check",
+        "Tells the first thing that is wrong with starts of a project, or that they are active",
+        "Example:\n  plan check examples/six.sm examples/starts.txt",
+        &[
+            FILE,
+            (
+                "STARTS",
+                Reading::Judged,
+                "a file of starts, one number a word, or - for standard input",
+            ),
+        ],
+    ),
+    (
+        "shop",
+        "Prints the schedule of a job shop by a priority rule",
+        "Example:\n  plan shop mwkr examples/shops.txt ft06",
+        &[
+            ("RULE", Reading::Judged, "spt, mwkr or fcfs"),
+            FILE,
+            INSTANCE,
+        ],
+    ),
+    (
+        "best",
+        "Prints the best schedule of a job shop that a search finds, and whether it is proved optimal",
+        "Example:\n  plan best 200000 examples/shops.txt ft06",
+        &[BUDGET, FILE, INSTANCE],
+    ),
+    (
+        "names",
+        "Prints the names of the instances of a job shop file",
+        "Example:\n  plan names examples/shops.txt",
+        &[FILE],
+    ),
+    (
+        "explain",
+        "Tells what the code of a fault means, and what to do",
+        "Example:\n  plan explain F7",
+        &[(
+            "CODE",
+            Reading::Judged,
+            "the first word of the line of a fault",
+        )],
+    ),
+    (
+        "init",
+        "Makes an office in a file; its key is the first line of standard input",
+        "Example:\n  plan init office.db < office.key",
+        &[DATABASE],
+    ),
+    (
+        "replay",
+        "Answers HTTP requests that are in files, one connection each, and prints the responses",
+        "Example:\n  plan replay office.db request-1 request-2",
+        &[
+            DATABASE,
+            (
+                "REQ",
+                Reading::Names,
+                "a file with the bytes of one connection",
+            ),
+        ],
+    ),
+    (
+        "serve",
+        "Answers HTTP requests on 127.0.0.1, one connection after another",
+        "Example:\n  plan serve office.db 8080 1000000",
+        &[
+            DATABASE,
+            ("PORT", Reading::Port, "the port on 127.0.0.1, 1 to 65535"),
+            (
+                "COUNT",
+                Reading::Count,
+                "how many connections to serve, 1 to 1000000",
+            ),
+        ],
+    ),
+];
+
+// A word that is taken as it is.
+fn plain<'a>(alloc: Global, word: Word) -> Arg<'a> {
+    let (name, reading, help) = word;
+    let hyphen = reading == Reading::Judged || reading == Reading::Optional;
     Arg::new(alloc, name)
-        .required(true)
-        .allow_hyphen_values(true)
+        .required(reading != Reading::Optional)
+        .allow_hyphen_values(hyphen)
         .help(help)
 }
 
-// The word for a file.
-fn file<'a>(alloc: Global) -> Arg<'a> {
-    Arg::new(alloc, "FILE")
-        .required(true)
-        .help("a file, or - for standard input")
+// A word of a command.
+fn arg_of<'a>(alloc: Global, word: Word) -> Arg<'a> {
+    let arg = plain(alloc, word);
+    match word.1 {
+        Reading::Names => arg.num_args(1..),
+        Reading::Port => arg.value_parser(value_parser!(u16).range(1..=65535)),
+        Reading::Count => arg.value_parser(value_parser!(u32).range(1..=1000000)),
+        _ => arg,
+    }
 }
 
-// The word for an instance, which may have the name `-`.
-fn instance<'a>(alloc: Global) -> Arg<'a> {
-    word(
-        alloc,
-        "INSTANCE",
-        "the name of an instance of the file, or - in a file without names",
-    )
-}
-
-// The same where it stands for a job shop file in the place of a project file.
-fn instance_if_shop<'a>(alloc: Global) -> Arg<'a> {
-    Arg::new(alloc, "INSTANCE").allow_hyphen_values(true).help(
-        "of a job shop file: the name of an instance, or - in a file without names",
-    )
-}
-
-// `plan cpm`.
-fn cpm<'a>(alloc: Global) -> Result<Command<'a>, AllocError> {
-    Command::new(alloc, "cpm")
-        .about("Prints the date table of a project")
-        .after_help("Example:\n  plan cpm examples/house.sm")
-        .arg(file(alloc))
-}
-
-// `plan schedule`.
-fn schedule<'a>(alloc: Global) -> Result<Command<'a>, AllocError> {
-    Command::new(alloc, "schedule")
-        .about("Prints the schedule of a project by a priority rule")
-        .after_help("Example:\n  plan schedule lft examples/house.sm")
-        .arg(word(alloc, "RULE", "lft, slk, spt, mts or num"))?
-        .arg(file(alloc))
-}
-
-// `plan chart`.
-fn chart<'a>(alloc: Global) -> Result<Command<'a>, AllocError> {
-    Command::new(alloc, "chart")
-        .about("Draws the schedule of a project or a job shop by a priority rule")
-        .after_help(
-            "Examples:\n  plan chart lft examples/house.sm\n  plan chart mwkr examples/shops.txt ft06",
-        )
-        .arg(word(alloc, "RULE", RULES))?
-        .arg(file(alloc))?
-        .arg(instance_if_shop(alloc))
-}
-
-// `plan days`.
-fn days<'a>(alloc: Global) -> Result<Command<'a>, AllocError> {
-    Command::new(alloc, "days")
-        .about("Prints the working days of a schedule by a priority rule")
-        .after_help(
-            "Examples:\n  plan days lft 2024-03-01 1111100 examples/house.sm\n  plan days mwkr 2024-03-01 1111100 examples/shops.txt ft06",
-        )
-        .arg(word(alloc, "RULE", RULES))?
-        .arg(word(alloc, "START", "the first date, as 2024-03-01"))?
-        .arg(word(
-            alloc,
-            "MARKS",
-            "a 1 for each weekday on which work is done, else a 0, Monday first",
-        ))?
-        .arg(file(alloc))?
-        .arg(instance_if_shop(alloc))
-}
-
-// `plan shop`.
-fn shop<'a>(alloc: Global) -> Result<Command<'a>, AllocError> {
-    Command::new(alloc, "shop")
-        .about("Prints the schedule of a job shop by a priority rule")
-        .after_help("Example:\n  plan shop mwkr examples/shops.txt ft06")
-        .arg(word(alloc, "RULE", "spt, mwkr or fcfs"))?
-        .arg(file(alloc))?
-        .arg(instance(alloc))
-}
-
-// `plan names`.
-fn names<'a>(alloc: Global) -> Result<Command<'a>, AllocError> {
-    Command::new(alloc, "names")
-        .about("Prints the names of the instances of a job shop file")
-        .after_help("Example:\n  plan names examples/shops.txt")
-        .arg(file(alloc))
-}
-
-// The word for a budget, which may begin with a hyphen and is then reported to be none.
-fn budget<'a>(alloc: Global) -> Arg<'a> {
-    word(
-        alloc,
-        "BUDGET",
-        "how many words the search may visit, 1 to 200000",
-    )
-}
-
-// `plan best`.
-fn best<'a>(alloc: Global) -> Result<Command<'a>, AllocError> {
-    Command::new(alloc, "best")
-        .about(
-            "Prints the best schedule of a job shop that a search finds, and whether it is proved optimal",
-        )
-        .after_help("Example:\n  plan best 200000 examples/shops.txt ft06")
-        .arg(budget(alloc))?
-        .arg(file(alloc))?
-        .arg(instance(alloc))
-}
-
-// `plan best-project`.
-fn best_project<'a>(alloc: Global) -> Result<Command<'a>, AllocError> {
-    Command::new(alloc, "best-project")
-        .about(
-            "Prints the best schedule of a project that a search finds, and whether it is proved optimal",
-        )
-        .after_help("Example:\n  plan best-project 200000 examples/house.sm")
-        .arg(budget(alloc))?
-        .arg(file(alloc))
-}
-
-// `plan check`.
-fn check<'a>(alloc: Global) -> Result<Command<'a>, AllocError> {
-    Command::new(alloc, "check")
-        .about(
-            "Tells the first thing that is wrong with starts of a project, or that they are active",
-        )
-        .after_help("Example:\n  plan check examples/six.sm examples/starts.txt")
-        .arg(file(alloc))?
-        .arg(word(
-            alloc,
-            "STARTS",
-            "a file of starts, one number a word, or - for standard input",
-        ))
-}
-
-// `plan explain`.
-fn explain<'a>(alloc: Global) -> Result<Command<'a>, AllocError> {
-    Command::new(alloc, "explain")
-        .about("Tells what the code of a fault means, and what to do")
-        .after_help("Example:\n  plan explain F7")
-        .arg(word(alloc, "CODE", "the first word of the line of a fault"))
-}
-
-// The word for the file of an office.
-fn database<'a>(alloc: Global) -> Arg<'a> {
-    Arg::new(alloc, "DB")
-        .required(true)
-        .help("the file in which an office is kept, an SQLite database")
-}
-
-// `plan init`.
-fn init<'a>(alloc: Global) -> Result<Command<'a>, AllocError> {
-    Command::new(alloc, "init")
-        .about("Makes an office in a file; its key is the first line of standard input")
-        .after_help("Example:\n  plan init office.db < office.key")
-        .arg(database(alloc))
-}
-
-// `plan replay`.
-fn replay<'a>(alloc: Global) -> Result<Command<'a>, AllocError> {
-    let requests = Arg::new(alloc, "REQ")
-        .required(true)
-        .num_args(1..)
-        .help("a file with the bytes of one connection");
-    Command::new(alloc, "replay")
-        .about(
-            "Answers HTTP requests that are in files, one connection each, and prints the responses",
-        )
-        .after_help("Example:\n  plan replay office.db request-1 request-2")
-        .arg(database(alloc))?
-        .arg(requests)
-}
-
-// `plan serve`.
-fn serve<'a>(alloc: Global) -> Result<Command<'a>, AllocError> {
-    let port = Arg::new(alloc, "PORT")
-        .required(true)
-        .value_parser(value_parser!(u16).range(1..=65535))
-        .help("the port on 127.0.0.1, 1 to 65535");
-    let count = Arg::new(alloc, "COUNT")
-        .required(true)
-        .value_parser(value_parser!(u32).range(1..=1000000))
-        .help("how many connections to serve, 1 to 1000000");
-    Command::new(alloc, "serve")
-        .about("Answers HTTP requests on 127.0.0.1, one connection after another")
-        .after_help("Example:\n  plan serve office.db 8080 1000000")
-        .arg(database(alloc))?
-        .arg(port)?
-        .arg(count)
+// A command.
+fn subcommand<'a>(alloc: Global, entry: Entry) -> Result<Command<'a>, AllocError> {
+    let (name, about, examples, words) = entry;
+    let mut command = Command::new(alloc, name).about(about).after_help(examples);
+    for word in words {
+        command = command.arg(arg_of(alloc, *word))?;
+    }
+    Ok(command)
 }
 
 /// The command line.
 pub fn command<'a>(alloc: Global) -> Result<Command<'a>, AllocError> {
-    Command::new(alloc, "plan")
+    let mut command = Command::new(alloc, "plan")
         .version("0.2.0")
         .about("Plans projects and job shops: dates, schedules, charts, working days")
         .after_help(EXAMPLES)
-        .subcommand_required(true)
-        .subcommand(cpm(alloc)?)?
-        .subcommand(schedule(alloc)?)?
-        .subcommand(chart(alloc)?)?
-        .subcommand(days(alloc)?)?
-        .subcommand(best_project(alloc)?)?
-        .subcommand(check(alloc)?)?
-        .subcommand(shop(alloc)?)?
-        .subcommand(best(alloc)?)?
-        .subcommand(names(alloc)?)?
-        .subcommand(explain(alloc)?)?
-        .subcommand(init(alloc)?)?
-        .subcommand(replay(alloc)?)?
-        .subcommand(serve(alloc)?)
+        .subcommand_required(true);
+    for entry in COMMANDS {
+        command = command.subcommand(subcommand(alloc, entry)?)?;
+    }
+    Ok(command)
 }
 
 // The chart of a project, or of a job shop where an instance is named.
