@@ -1,0 +1,14 @@
+//! What of the commands that keep an office only a crate can show: keys out of a source that fails, replays to
+//! a sink that fails, and connections that fail among such that don't.
+#![tactic(auto)]
+
+#[cfg(test)]
+mod devices;
+#[cfg(test)]
+mod keys;
+#[cfg(test)]
+mod office;
+#[cfg(test)]
+mod replays;
+#[cfg(test)]
+mod visits;
