@@ -1,17 +1,10 @@
-//! A source and a sink that fail, and a database in memory.
+//! A source and a sink that give and take one byte a call, and may fail.
 
-ghost use Rattle.std.specs.Prelude.{◌≡◌, ◌⊎◌, false, Some, IfOk, IfErr};
-ghost use Rattle.sqlite.specs.Held.{state};
-ghost use Rattle.sqlite.specs.Steps.{over_memory};
-ghost use Rattle.plan_store.specs.declared.fault.StoreFault.TheVariants.{NoMemory, Store};
+ghost use Rattle.std.specs.Prelude.{Some};
 
 use plan_psplib::{DeviceFault, Sink, Source, Tally};
-use plan_serve::Place;
-use plan_store::{SqlBook, StoreFault};
-use sqlite::{Connection, MemStore};
-use std::alloc::Global;
 
-/// A source that gives two bytes a call, and then fails or ends.
+/// A source that gives one byte a call, and then fails or ends.
 #[derive(Drop)]
 pub struct Drip<'a> {
     rest: &'a [u8],
@@ -40,7 +33,7 @@ impl<'a> Source for Drip<'a> {
         if self.rest.is_empty() && self.fails {
             return self.tally.count(Err::<usize, DeviceFault>(DeviceFault));
         }
-        let n = buf.len().min(self.rest.len()).min(2);
+        let n = buf.len().min(self.rest.len()).min(1);
         let (front, rest) = self.rest.split_at(n);
         buf[..n].copy_from_slice(front);
         self.rest = rest;
@@ -48,7 +41,7 @@ impl<'a> Source for Drip<'a> {
     }
 }
 
-/// A sink that takes some bytes, and then fails.
+/// A sink that takes one byte a call, and after some bytes fails.
 #[derive(Drop)]
 pub struct Narrow {
     room: usize,
@@ -82,53 +75,10 @@ impl Sink for Narrow {
         if self.room == 0 {
             return self.tally.count(Err::<usize, DeviceFault>(DeviceFault));
         }
-        let n = bytes.len().min(self.room);
+        let n = bytes.len().min(self.room).min(1);
         let kept = self.taken.extend_from_slice(&bytes[..n]);
         self.tally.count(kept)?;
         self.room -= n;
         Ok(n)
-    }
-}
-
-/// What an office that is there already keeps of its key.
-pub const TAKEN: [u8; 32] = [7; 32];
-
-/// A database in memory, which may have the tables of an office already.
-#[derive(Drop)]
-pub struct InMemory {
-    pub is_used: bool,
-}
-
-// A connection to a new database, with the tables of an office or without.
-fn opened(alloc: Global, is_used: bool) -> Result<Connection<MemStore>, StoreFault>
-    ensures outside { IfOk result (λ conn. (state over_memory conn).in_transaction ≡ false) }
-    ensures which { IfErr result (λ fault. (fault ≡ NoMemory) ⊎ (fault ≡ Store)) }
-{
-    let Ok(conn) = Connection::open_in_memory(alloc) else {
-        return Err(StoreFault::NoMemory);
-    };
-    if !is_used {
-        return Ok(conn);
-    }
-    match SqlBook::create_in(alloc, conn, &TAKEN) {
-        Ok(book) => Ok(book.into_connection()),
-        Err(_) => Err(StoreFault::Store),
-    }
-}
-
-impl Place for InMemory {
-    ghost use Rattle.std.specs.Prelude.{◌≡◌, ◌⊎◌, false};
-    ghost use Rattle.sqlite.specs.Held.{state};
-    ghost use Rattle.sqlite.specs.Steps.{over_memory};
-    ghost use Rattle.plan_store.specs.declared.fault.StoreFault.TheVariants.{NoMemory, Store};
-
-    type Kept = MemStore;
-
-    ghost opens = { λ _ conn. (state over_memory conn).in_transaction ≡ false };
-
-    ghost refuses = { λ _ fault. (fault ≡ NoMemory) ⊎ (fault ≡ Store) };
-
-    fn connect(self, alloc: Global) -> Result<Connection<MemStore>, StoreFault> {
-        opened(alloc, self.is_used)
     }
 }

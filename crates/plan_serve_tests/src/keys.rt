@@ -1,62 +1,14 @@
-//! Keys, as the first line of a text.
+//! Keys out of a source that fails.
 
 use crate::devices::Drip;
-use plan_desk::key_digest;
-use plan_psplib::Source;
 use plan_serve::{ServeFault, read_key};
 use std::alloc::Global;
-use std::test::Fail;
 
-const LONGEST: &str = "0123456789012345678901234567890123456789012345678901234567890123";
-
-#[test]
-fn a_key_is_the_first_line_without_its_end(rt: HostRuntime) {
-    for (text, key) in [
-        ("password", "password"),
-        ("password\n", "password"),
-        ("password\r\n", "password"),
-        ("password\r", "password"),
-        ("password\nand more", "password"),
-        ("password\r\nand more\r\n", "password"),
-        ("12345678\n\n", "12345678"),
-        (LONGEST, LONGEST),
-    ] {
-        let read = read_key(rt.alloc(), &mut Drip::new(text.as_bytes(), false));
-        assert!(&rt; read.ok() == key_digest(key.as_bytes()), "{text}");
-        assert!(&rt; read.is_ok(), "{text}");
-    }
-}
-
-#[test]
-fn the_longest_key_may_have_a_line_end(rt: HostRuntime) -> Result<(), Fail> {
-    for end in ["\n", "\r\n", "\r\nmore"] {
-        let text = format!(in rt.alloc(); "{LONGEST}{end}")?;
-        let read = read_key(rt.alloc(), &mut Drip::new(text.as_bytes(), false));
-        assert!(&rt; read.ok() == key_digest(LONGEST.as_bytes()), "{end}");
-    }
-    for end in ["4", "45", "4\n", "\r\r\n", "456789"] {
-        let text = format!(in rt.alloc(); "{LONGEST}{end}")?;
-        let read = read_key(rt.alloc(), &mut Drip::new(text.as_bytes(), false));
-        assert_eq!(&rt; read, Err(ServeFault::Key), "{end}");
-    }
-    Ok(())
-}
-
-#[test]
-fn what_is_no_key_is_told(rt: HostRuntime) {
-    for text in [
-        "",
-        "\n",
-        "\npassword",
-        "1234567\n",
-        "two words",
-        "pass\rword",
-        "\r\n",
-    ] {
-        let read = read_key(rt.alloc(), &mut Drip::new(text.as_bytes(), false));
-        assert_eq!(&rt; read, Err(ServeFault::Key), "{text}");
-    }
-}
+// The SHA-256 of `password`, as others print it.
+const DIGEST: [u8; 32] = [
+    0x5e, 0x88, 0x48, 0x98, 0xda, 0x28, 0x04, 0x71, 0x51, 0xd0, 0xe5, 0x6f, 0x8d, 0xc6, 0x29, 0x27,
+    0x73, 0x60, 0x3d, 0x0d, 0x6a, 0xab, 0xbd, 0xd6, 0x2a, 0x11, 0xef, 0x72, 0x1d, 0x15, 0x42, 0xd8,
+];
 
 // The digest of a key out of a source that fails behind some bytes.
 fn read_failing(alloc: Global, text: &str) -> Result<[u8; 32], ServeFault> {
@@ -72,14 +24,5 @@ fn a_source_that_fails_within_the_line_is_told(rt: HostRuntime) {
             "{text}"
         );
     }
-    assert!(&rt; read_failing(rt.alloc(), "password\n").is_ok());
-}
-
-#[test]
-fn nothing_is_read_behind_the_line(rt: HostRuntime) {
-    let mut source = Drip::new("password\nnext".as_bytes(), false);
-    assert!(&rt; read_key(rt.alloc(), &mut source).is_ok());
-    let mut rest = [0; 4];
-    assert_eq!(&rt; source.read(&mut rest), Ok(2));
-    assert_eq!(&rt; &rest[..2], "ne".as_bytes());
+    assert_eq!(&rt; read_failing(rt.alloc(), "password\n"), Ok(DIGEST));
 }

@@ -1,5 +1,5 @@
-//! The commands that keep an office: keys in texts, offices that are made, connections out of files
-//! and of a socket.
+//! What of the commands that keep an office only a crate can show: keys out of a source that fails, replays to
+//! a sink that fails, and connections that fail among such that don't.
 #![tactic(auto)]
 
 #[cfg(test)]
@@ -7,10 +7,8 @@ mod devices;
 #[cfg(test)]
 mod keys;
 #[cfg(test)]
-mod offices;
+mod office;
 #[cfg(test)]
 mod replays;
-#[cfg(test)]
-mod sockets;
 #[cfg(test)]
 mod visits;

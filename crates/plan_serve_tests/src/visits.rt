@@ -1,8 +1,8 @@
 //! Connections that fail among such that don't.
 
 use crate::devices::{Drip, Narrow};
-use crate::replays::{LISTED, LISTING, OPENING, office};
-use plan_desk::{MemBook, Office};
+use crate::office::{LISTED, LISTING, OPENING, office};
+use plan_desk::{Book, Office};
 use plan_http::ConnEnd;
 use plan_psplib::{DeviceFault, Tally};
 use plan_serve::{Visitors, serve_visitors};
@@ -73,7 +73,11 @@ const ENDS: [Option<ConnEnd>; 5] = [
     Some(ConnEnd::Replied(200)),
 ];
 
-fn expect_ends(rt: &impl Abort, alloc: Global, office: &mut Office<MemBook>) -> Result<(), Fail> {
+fn expect_ends<B: Book>(
+    rt: &impl Abort,
+    alloc: Global,
+    office: &mut Office<B>,
+) -> Result<(), Fail> {
     let mut queue = Queue {
         alloc,
         turn: 0,

@@ -4,9 +4,11 @@ ghost use Rattle.std.specs.Prelude.{IsTrue, IfOk};
 ghost use Rattle.sqlite_disk.specs.Memory.{memory_is_usable};
 ghost use Rattle.sqlite_disk.specs.Fuse.{inner_of, IsFresh};
 
-use crate::running::{Progress, options, run};
+use crate::first_version::filled_files;
+use crate::running::{Progress, run};
+use crate::shown::lines_of_files;
 use plan_desk::Request;
-use sqlite::{Connection, FileStore, Files};
+use sqlite::Files;
 use sqlite_disk::{Crash, Disk, Fuse, Memory};
 use std::alloc::{AllocError, Global};
 use std::io;
@@ -17,6 +19,23 @@ use std::test::Fail;
 pub struct Image {
     pub log: Vec<u8>,
     pub db: Vec<u8>,
+}
+
+impl Image {
+    /// These bytes, lent.
+    pub fn view(&self) -> View<'_> {
+        View {
+            log: self.log.as_slice(),
+            db: self.db.as_slice(),
+        }
+    }
+}
+
+/// The bytes of files that are lent.
+#[derive(Clone, Copy)]
+pub struct View<'a> {
+    pub log: &'a [u8],
+    pub db: &'a [u8],
 }
 
 /// How many calls each file does before it stops.
@@ -45,16 +64,6 @@ fn file_of(alloc: Global, bytes: &[u8]) -> Result<Memory, io::Error>
     Ok(file)
 }
 
-/// A connection to these files.
-pub fn open(alloc: Global, image: &Image) -> Result<Connection<FileStore<Memory>>, Fail> {
-    let log = file_of(alloc, &image.log)?;
-    let db = file_of(alloc, &image.db)?;
-    match Connection::open_files(alloc, Files { log, db }, options()) {
-        Ok(conn) => Ok(conn),
-        Err((error, _)) => Err(Fail::from(error)),
-    }
-}
-
 fn image_of(alloc: Global, log: &Memory, db: &Memory) -> Result<Image, AllocError> {
     Ok(Image {
         log: Vec::from_slice(alloc, log.bytes())?,
@@ -62,25 +71,29 @@ fn image_of(alloc: Global, log: &Memory, db: &Memory) -> Result<Image, AllocErro
     })
 }
 
-/// What the files hold once a connection is closed.
-pub fn close(alloc: Global, conn: Connection<FileStore<Memory>>) -> Result<Image, Fail> {
-    match conn.close_files() {
-        Ok(Files { log, db }) => Ok(image_of(alloc, &log, &db)?),
-        Err((error, store)) => {
-            drop(store.close());
-            Err(Fail::from(error))
-        }
-    }
+/// The lines that show what these files hold.
+pub fn lines_in(alloc: Global, image: View<'_>) -> Result<String, Fail> {
+    let log = file_of(alloc, image.log)?;
+    let db = file_of(alloc, image.db)?;
+    lines_of_files(alloc, Files { log, db })
+}
+
+/// The files of a store of the first version.
+pub fn first_version(alloc: Global) -> Result<Image, Fail> {
+    let log = file_of(alloc, &[])?;
+    let db = file_of(alloc, &[])?;
+    let Files { log, db } = filled_files(alloc, Files { log, db })?;
+    Ok(image_of(alloc, &log, &db)?)
 }
 
 /// A run on these files, with no stop.
 pub fn whole_run(
     alloc: Global,
-    image: &Image,
+    image: View<'_>,
     request: Option<&Request>,
 ) -> Result<(Progress, Image), Fail> {
-    let log = file_of(alloc, &image.log)?;
-    let db = file_of(alloc, &image.db)?;
+    let log = file_of(alloc, image.log)?;
+    let db = file_of(alloc, image.db)?;
     let (progress, Files { log, db }) = run(alloc, Files { log, db }, request);
     Ok((progress, image_of(alloc, &log, &db)?))
 }
@@ -100,12 +113,12 @@ fn has_calls_left(file: &mut Fuse<Memory>) -> bool {
 /// A run on these files, each of which stops after so many calls.
 pub fn stopped_run(
     alloc: Global,
-    image: &Image,
+    image: View<'_>,
     limits: Limits,
     request: Option<&Request>,
 ) -> Result<Stopped, Fail> {
-    let log = fused(alloc, &image.log, limits.log)?;
-    let db = fused(alloc, &image.db, limits.db)?;
+    let log = fused(alloc, image.log, limits.log)?;
+    let db = fused(alloc, image.db, limits.db)?;
     let (progress, Files { mut log, mut db }) = run(alloc, Files { log, db }, request);
     let log_left = has_calls_left(&mut log);
     let kept = image_of(alloc, log.inner(), db.inner())?;

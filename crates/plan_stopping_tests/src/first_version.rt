@@ -1,7 +1,10 @@
 //! A store of the first version, written by SQL, and the lines that show its rows.
 
-use crate::disks::{Image, close, open};
-use sqlite::{Alter, Connection, Error, params};
+ghost use Rattle.std.specs.Prelude.{IsTrue};
+
+use crate::running::{closed, options};
+use sqlite::{Alter, Connection, Error, FileStore, Files, params};
+use sqlite_disk::Disk;
 use std::alloc::{AllocError, Global};
 use std::test::Fail;
 
@@ -36,55 +39,49 @@ R
 1
 ";
 
-// A job shop of two jobs on two machines, by the name `one`.
-const SHOP: &str = "instance one
+/// A job shop of two jobs on two machines, by the name `one`.
+pub const SHOP: &str = "instance one
 two jobs
 2 2
 0 4 1 1
 0 1 1 3
 ";
 
-// The tables of the first version, and those of the second.
-const FIRST_TABLES: &[&str] = &["binds", "desks", "meta", "plans", "published"];
+/// The tables of the first version, and its row of the version, a line each.
+pub const FIRST_HEAD: &str = "binds
+desks
+meta
+plans
+published
+1 1 5e884898da28047151d0e56f8dc6292773603d0d6aabbdd62a11ef721d1542d8
+";
 
-const SECOND_TABLES: &[&str] = &["binds", "desks", "lags", "meta", "plans", "published"];
+/// Those of the second.
+pub const SECOND_HEAD: &str = "binds
+desks
+lags
+meta
+plans
+published
+1 2 5e884898da28047151d0e56f8dc6292773603d0d6aabbdd62a11ef721d1542d8
+";
 
-// The row of the version, in the first and in the second.
-const FIRST_META: &str = "1 1 5e884898da28047151d0e56f8dc6292773603d0d6aabbdd62a11ef721d1542d8";
+// All other rows but the files and the binds, which are the same in both.
+const ROWS: &str = "crew-a crew 2
+mill machine 1
+north 5e884898da28047151d0e56f8dc6292773603d0d6aabbdd62a11ef721d1542d8 4
+north 1 project//2024-03-01/1111100
+north 2 shop/one//
+north 3 project///
+";
 
-const SECOND_META: &str = "1 2 5e884898da28047151d0e56f8dc6292773603d0d6aabbdd62a11ef721d1542d8";
+const BINDS: &str = "north 1 1 crew-a
+north 2 0 mill
+";
 
-// All other rows, which are the same in both.
-const ROWS: &[&str] = &[
-    "crew-a crew 2",
-    "mill machine 1",
-    "north 5e884898da28047151d0e56f8dc6292773603d0d6aabbdd62a11ef721d1542d8 4",
-    "north 1 project//2024-03-01/1111100",
-    "north 2 shop/one//",
-    "north 3 project///",
-    PROJECT,
-    SHOP,
-    PROJECT,
-    "north 1 1 crew-a",
-    "north 2 0 mill",
-];
-
-fn lines_of(alloc: Global, tables: &[&str], meta: &str) -> Result<Vec<String>, AllocError> {
-    let mut lines = Vec::new(alloc);
-    for line in tables.iter().chain([meta].iter()).chain(ROWS.iter()) {
-        lines.push(String::from_str(alloc, line)?)?;
-    }
-    Ok(lines)
-}
-
-/// The lines that show the store of the first version.
-pub fn first_lines(alloc: Global) -> Result<Vec<String>, AllocError> {
-    lines_of(alloc, FIRST_TABLES, FIRST_META)
-}
-
-/// The lines that show the same rows in the second version.
-pub fn second_lines(alloc: Global) -> Result<Vec<String>, AllocError> {
-    lines_of(alloc, SECOND_TABLES, SECOND_META)
+/// The lines that show these rows in a version.
+pub fn lines_of(alloc: Global, head: &str) -> Result<String, AllocError> {
+    format!(in alloc; "{head}{ROWS}{PROJECT}\n{SHOP}\n{PROJECT}\n{BINDS}")
 }
 
 fn add_plan<S: Alter>(
@@ -111,15 +108,27 @@ fn fill<S: Alter>(conn: &mut Connection<S>) -> Result<(), Error> {
     add_plan(conn, 3, "project", "", PROJECT, ("", ""))
 }
 
-/// The files of a store of the first version.
-pub fn first_version(alloc: Global) -> Result<Image, Fail> {
-    let nothing = Image {
-        log: Vec::new(alloc),
-        db: Vec::new(alloc),
-    };
-    let mut conn = open(alloc, &nothing)?;
-    match fill(&mut conn) {
-        Ok(()) => close(alloc, conn),
+fn filled<S: Alter + Drop>(conn: Connection<S>) -> Result<Connection<S>, Error> {
+    let mut conn = conn;
+    fill(&mut conn)?;
+    Ok(conn)
+}
+
+// Rows of the first version in the database of a connection, whose files are closed.
+fn filled_and_closed<D: Disk + Drop>(conn: Connection<FileStore<D>>) -> Result<Files<D>, Fail> {
+    match filled(conn) {
+        Ok(conn) => Ok(closed(conn).1),
         Err(error) => Err(Fail::from(error)),
+    }
+}
+
+/// Files without bytes, in which a store of the first version is written.
+pub fn filled_files<D: Disk + Drop>(alloc: Global, files: Files<D>) -> Result<Files<D>, Fail>
+    requires log { IsTrue (D.Disk.is_usable files.log) }
+    requires db { IsTrue (D.Disk.is_usable files.db) }
+{
+    match Connection::open_files(alloc, files, options()) {
+        Ok(conn) => filled_and_closed(conn),
+        Err((error, _)) => Err(Fail::from(error)),
     }
 }

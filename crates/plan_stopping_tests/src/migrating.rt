@@ -1,19 +1,28 @@
 //! A store of the first version that is brought to the second on disks that stop.
 
-use crate::first_version::{first_lines, first_version, second_lines};
-use crate::shown::lines_in;
+use crate::disks::{Image, first_version, lines_in};
+use crate::first_version::{FIRST_HEAD, SECOND_HEAD, lines_of};
 use crate::stopping::{Run, expect_stops};
 use std::alloc::Global;
+use std::process::Abort;
 use std::test::Fail;
 
-fn migration(alloc: Global) -> Result<Run, Fail> {
-    Ok(Run {
-        image: first_version(alloc)?,
+fn expect_migration(
+    rt: &impl Abort,
+    alloc: Global,
+    image: &Image,
+    before: &str,
+) -> Result<(), Fail> {
+    let after = lines_of(alloc, SECOND_HEAD)?;
+    let run = Run {
+        image: image.view(),
         request: None,
-        before: first_lines(alloc)?,
-        after: second_lines(alloc)?,
-        taken: second_lines(alloc)?,
-    })
+        before,
+        after: after.as_str(),
+        taken: after.as_str(),
+        torn: 5,
+    };
+    expect_stops(rt, alloc, &run)
 }
 
 #[test]
@@ -21,12 +30,8 @@ fn a_first_version_is_brought_to_the_second_whole_or_not_at_all(
     rt: HostRuntime,
 ) -> Result<(), Fail> {
     let alloc = rt.alloc();
-    let run = migration(alloc)?;
-    assert_eq!(rt; lines_in(alloc, &run.image)?, run.before);
-    let stops = expect_stops(&rt, alloc, &run)?;
-    assert!(rt; stops.calls > 18, "{stops:?}");
-    assert!(rt; stops.before > 0, "{stops:?}");
-    assert!(rt; stops.after > 0, "{stops:?}");
-    assert!(rt; stops.torn > 4, "{stops:?}");
-    Ok(())
+    let image = first_version(alloc)?;
+    let before = lines_of(alloc, FIRST_HEAD)?;
+    assert!(rt; lines_in(alloc, image.view())? == before);
+    expect_migration(&rt, alloc, &image, before.as_str())
 }

@@ -2,7 +2,7 @@
 
 ghost use Rattle.std.specs.Prelude.{IsTrue};
 
-use plan_desk::{Office, Request};
+use plan_desk::{Book, Office, Request};
 use plan_store::{Leftover, SqlBook};
 use sqlite::{Alter, Connection, FileStore, Files, Options};
 use sqlite_disk::Disk;
@@ -27,57 +27,72 @@ pub fn options() -> Options {
     }
 }
 
-// The office of a connection, or the store that is left.
+// The store that a refusal leaves.
+fn left_by<S: Alter + Drop>(left: Leftover<S>) -> S {
+    match left {
+        Leftover::Connection(conn) => conn.into_store(),
+        Leftover::Store(store) => store,
+    }
+}
+
+// The book of a connection, or the store that is left.
 fn taken<S: Alter + Drop>(alloc: Global, conn: Connection<S>) -> Result<SqlBook<S>, S> {
     if !conn.is_autocommit() {
         return Err(conn.into_store());
     }
     match SqlBook::adopt(alloc, conn) {
         Ok(book) => Ok(book),
-        Err((_, Leftover::Connection(conn))) => Err(conn.into_store()),
-        Err((_, Leftover::Store(store))) => Err(store),
+        Err((_, left)) => Err(left_by(left)),
     }
 }
 
-// Whether a request is done, where there is one.
-fn answered<S: Alter + Drop>(
-    alloc: Global,
-    book: SqlBook<S>,
-    request: Option<&Request>,
-) -> (bool, SqlBook<S>) {
+// Whether an office does a request.
+fn does<B: Book>(office: &mut Office<B>, request: &Request) -> bool {
+    office.handle(request).status < 300
+}
+
+// Whether a request is done over a book, where there is one.
+fn answered<B: Book + Drop>(alloc: Global, book: B, request: Option<&Request>) -> (bool, B) {
     let Some(request) = request else {
         return (true, book);
     };
     match Office::new(alloc, book) {
-        Ok(mut office) => {
-            let reply = office.handle(request);
-            (reply.status < 300, office.into_book())
-        }
+        Ok(mut office) => (does(&mut office, request), office.into_book()),
         Err(book) => (false, book),
     }
 }
 
-fn closed<D: Disk + Drop>(book: SqlBook<FileStore<D>>) -> (Progress, Files<D>) {
-    match book.into_connection().close_files() {
+// Takes the tables of a connection, and handles a request; or the store that is left.
+fn handled<S: Alter + Drop>(
+    alloc: Global,
+    conn: Connection<S>,
+    request: Option<&Request>,
+) -> Result<Connection<S>, S> {
+    let (is_done, book) = answered(alloc, taken(alloc, conn)?, request);
+    let conn = book.into_connection();
+    if is_done {
+        Ok(conn)
+    } else {
+        Err(conn.into_store())
+    }
+}
+
+/// How far a run came that closes its files, and the files.
+pub fn closed<D: Disk + Drop>(conn: Connection<FileStore<D>>) -> (Progress, Files<D>) {
+    match conn.close_files() {
         Ok(files) => (Progress::Closed, files),
         Err((_, store)) => (Progress::Done, store.close()),
     }
 }
 
-// Takes the tables of a connection, and handles a request.
+// Takes the tables of a connection, handles a request, and closes the files.
 fn run_over<D: Disk + Drop>(
     alloc: Global,
     conn: Connection<FileStore<D>>,
     request: Option<&Request>,
 ) -> (Progress, Files<D>) {
-    match taken(alloc, conn) {
-        Ok(book) => match answered(alloc, book, request) {
-            (true, book) => closed(book),
-            (false, book) => (
-                Progress::Failed,
-                book.into_connection().into_store().close(),
-            ),
-        },
+    match handled(alloc, conn, request) {
+        Ok(conn) => closed(conn),
         Err(store) => (Progress::Failed, store.close()),
     }
 }

@@ -1,10 +1,9 @@
 //! A run that is stopped after each of its calls.
 
-use crate::disks::{Image, Limits, Stopped, stopped_run, torn, whole_run};
+use crate::disks::{Limits, Stopped, View, lines_in, stopped_run, torn, whole_run};
 use crate::running::Progress;
-use crate::shown::lines_in;
 use plan_desk::Request;
-use std::alloc::{AllocError, Global};
+use std::alloc::Global;
 use std::process::Abort;
 use std::test::Fail;
 
@@ -12,14 +11,15 @@ use std::test::Fail;
 const MOST_CALLS: u32 = 1000;
 
 /// A run: the files that it begins with, its request, where there is one, and the lines of before, of
-/// after it, and of the store of before that was taken.
-#[derive(Drop)]
-pub struct Run {
-    pub image: Image,
-    pub request: Option<Request>,
-    pub before: Vec<String>,
-    pub after: Vec<String>,
-    pub taken: Vec<String>,
+/// after it, and of the store of before that was taken; and how many writes it tears at the least.
+#[derive(Clone, Copy)]
+pub struct Run<'a> {
+    pub image: View<'a>,
+    pub request: Option<&'a Request>,
+    pub before: &'a str,
+    pub after: &'a str,
+    pub taken: &'a str,
+    pub torn: u32,
 }
 
 /// How many calls a run makes, how often what a stop left was the lines of before and those of after,
@@ -47,38 +47,33 @@ impl Stops {
 fn expect_one(
     rt: &impl Abort,
     alloc: Global,
-    run: &Run,
-    image: &Image,
+    run: &Run<'_>,
+    image: View<'_>,
     is_done: bool,
 ) -> Result<bool, Fail> {
     let lines = lines_in(alloc, image)?;
-    let is_after = lines == run.after;
-    assert!(rt; is_after || lines == run.before, "{lines:?}");
-    assert!(rt; is_after || !is_done, "{lines:?}");
-    let (progress, again) = whole_run(alloc, image, None)?;
-    assert_eq!(rt; progress, Progress::Closed);
-    let lines = lines_in(alloc, &again)?;
-    if is_after {
-        assert_eq!(rt; lines, run.after);
-    } else {
-        assert_eq!(rt; lines, run.taken);
-    }
+    let is_after = lines.as_str() == run.after;
+    assert!(rt; is_after || lines.as_str() == run.before, "{lines}");
+    assert!(rt; is_after || !is_done, "{lines}");
+    let wanted = if is_after { run.after } else { run.taken };
+    expect_taken(rt, alloc, image, wanted)?;
     Ok(is_after)
 }
 
-// The log of one and the database of the other.
-fn mixed(alloc: Global, log: &Image, db: &Image) -> Result<Image, AllocError> {
-    Ok(Image {
-        log: log.log.clone()?,
-        db: db.db.clone()?,
-    })
+// Files that are taken again hold these lines.
+fn expect_taken(rt: &impl Abort, alloc: Global, image: View<'_>, wanted: &str) -> Result<(), Fail> {
+    let (progress, again) = whole_run(alloc, image, None)?;
+    assert!(rt; progress == Progress::Closed);
+    let lines = lines_in(alloc, again.view())?;
+    assert_eq!(rt; lines.as_str(), wanted);
+    Ok(())
 }
 
 // What a stop leaves, where of each file what was not synced is kept or lost.
 fn expect_left(
     rt: &impl Abort,
     alloc: Global,
-    run: &Run,
+    run: &Run<'_>,
     stopped: &Stopped,
     stops: &mut Stops,
 ) -> Result<(), Fail> {
@@ -89,8 +84,11 @@ fn expect_left(
         (&stopped.lost, &stopped.kept),
         (&stopped.lost, &stopped.lost),
     ] {
-        let image = mixed(alloc, log, db)?;
-        let is_after = expect_one(rt, alloc, run, &image, is_done)?;
+        let image = View {
+            log: log.log.as_slice(),
+            db: db.db.as_slice(),
+        };
+        let is_after = expect_one(rt, alloc, run, image, is_done)?;
         stops.count(is_after);
     }
     Ok(())
@@ -100,7 +98,7 @@ fn expect_left(
 fn expect_torn(
     rt: &impl Abort,
     alloc: Global,
-    run: &Run,
+    run: &Run<'_>,
     last: &Stopped,
     stopped: &Stopped,
     stops: &mut Stops,
@@ -110,14 +108,14 @@ fn expect_torn(
     }
     let is_done = last.progress != Progress::Failed;
     let image = torn(alloc, &last.kept, &stopped.kept)?;
-    let is_after = expect_one(rt, alloc, run, &image, is_done)?;
+    let is_after = expect_one(rt, alloc, run, image.view(), is_done)?;
     stops.count(is_after);
     stops.torn = stops.torn.saturating_add(1);
     Ok(())
 }
 
 // A call more: of the log, or of the database where the log doesn't take it.
-fn next(alloc: Global, run: &Run, limits: Limits) -> Result<Limits, Fail> {
+fn next(alloc: Global, run: &Run<'_>, limits: Limits) -> Result<Limits, Fail> {
     let log = Limits {
         log: limits.log.saturating_add(1),
         db: limits.db,
@@ -126,12 +124,12 @@ fn next(alloc: Global, run: &Run, limits: Limits) -> Result<Limits, Fail> {
         log: limits.log,
         db: limits.db.saturating_add(1),
     };
-    let stopped = stopped_run(alloc, &run.image, log, run.request.as_ref())?;
+    let stopped = stopped_run(alloc, run.image, log, run.request)?;
     Ok(if stopped.log_left { db } else { log })
 }
 
-/// Stops a run after each of its calls, in the order in which it makes them.
-pub fn expect_stops(rt: &impl Abort, alloc: Global, run: &Run) -> Result<Stops, Fail> {
+// Stops a run after each of its calls, in the order in which it makes them.
+fn all_stops(rt: &impl Abort, alloc: Global, run: &Run<'_>) -> Result<Stops, Fail> {
     let mut limits = Limits { log: 0, db: 0 };
     let mut stops = Stops {
         calls: 0,
@@ -141,7 +139,7 @@ pub fn expect_stops(rt: &impl Abort, alloc: Global, run: &Run) -> Result<Stops, 
     };
     let mut last: Option<Stopped> = None;
     for calls in 0..MOST_CALLS {
-        let stopped = stopped_run(alloc, &run.image, limits, run.request.as_ref())?;
+        let stopped = stopped_run(alloc, run.image, limits, run.request)?;
         if !is_seen(last.as_ref(), &stopped) {
             expect_left(rt, alloc, run, &stopped, &mut stops)?;
         }
@@ -164,4 +162,14 @@ fn is_seen(last: Option<&Stopped>, stopped: &Stopped) -> bool {
         Some(last) => *last == *stopped,
         None => false,
     }
+}
+
+/// A run that is stopped after any of its calls is done whole or not at all.
+pub fn expect_stops(rt: &impl Abort, alloc: Global, run: &Run<'_>) -> Result<(), Fail> {
+    let stops = all_stops(rt, alloc, run)?;
+    assert!(rt; stops.calls > 18, "{stops:?}");
+    assert!(rt; stops.before > 0, "{stops:?}");
+    assert!(rt; stops.after > 0, "{stops:?}");
+    assert!(rt; stops.torn >= run.torn, "{stops:?}");
+    Ok(())
 }

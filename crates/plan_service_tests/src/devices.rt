@@ -1,6 +1,6 @@
-//! Sources and sinks that give and take little, and such that fail.
+//! A source and a sink that give and take one byte a call, and may fail.
 
-ghost use Rattle.std.specs.Prelude.{◌≡◌, Some};
+ghost use Rattle.std.specs.Prelude.{Some};
 
 use plan_psplib::{DeviceFault, Sink, Source, Tally};
 

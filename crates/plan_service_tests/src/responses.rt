@@ -1,10 +1,9 @@
-//! Responses, to the byte.
+//! Phrases of statuses, and responses to writers that fail.
 
-use crate::asking::joined;
 use crate::devices::Narrow;
 use plan_desk::{Body, Reply, ReplyKind};
-use plan_http::{Route, respond, response_bytes};
-use plan_psplib::{MemSink, OutputError};
+use plan_http::{respond, response_bytes};
+use plan_psplib::OutputError;
 use std::test::Fail;
 
 fn reply(status: u16, kind: ReplyKind, body: &'static str) -> Reply {
@@ -15,52 +14,8 @@ fn reply(status: u16, kind: ReplyKind, body: &'static str) -> Reply {
     }
 }
 
-const IMPORTED: &str =
-    "HTTP/1.1 201 Created\r\nContent-Type: application/json\r\nContent-Length: 25\r\nConnection: close\r\n\r\n{\"kind\":\"project\",\"n\":1}\n";
-
 const WRONG_KEY: &str =
     "HTTP/1.1 403 Forbidden\r\nContent-Type: text/plain\r\nContent-Length: 8\r\nConnection: close\r\n\r\nE01 key\n";
-
-const OTHER_METHOD: &str =
-    "HTTP/1.1 405 Method Not Allowed\r\nContent-Type: text/plain\r\nContent-Length: 10\r\nAllow: GET\r\nConnection: close\r\n\r\n";
-
-#[test]
-fn a_first_import_and_a_wrong_key_to_the_byte(rt: HostRuntime) -> Result<(), Fail> {
-    let alloc = rt.alloc();
-    assert_eq!(&rt; IMPORTED.len(), 120);
-    for (reply, text) in [
-        (
-            reply(201, ReplyKind::Json, "{\"kind\":\"project\",\"n\":1}\n"),
-            IMPORTED,
-        ),
-        (reply(403, ReplyKind::Plain, "E01 key\n"), WRONG_KEY),
-    ] {
-        let bytes = response_bytes(alloc, &reply, None, false)?;
-        assert_eq!(&rt; bytes.as_slice(), text.as_bytes());
-        let mut sink = MemSink::new(Vec::new(alloc));
-        assert_eq!(&rt; respond(&mut sink, &reply, None, false), Ok(()));
-        assert_eq!(&rt; sink.into_bytes().as_slice(), text.as_bytes());
-    }
-    Ok(())
-}
-
-#[test]
-fn another_method_is_answered_with_the_routes_own(rt: HostRuntime) -> Result<(), Fail> {
-    let alloc = rt.alloc();
-    let reply = reply(405, ReplyKind::Plain, "H5 method\n");
-    for (is_head, body) in [(true, ""), (false, "H5 method\n")] {
-        let text = joined(alloc, &[OTHER_METHOD, body])?;
-        let bytes = response_bytes(alloc, &reply, Some("GET"), is_head)?;
-        assert_eq!(&rt; bytes.as_slice(), text.as_slice());
-        let mut sink = MemSink::new(Vec::new(alloc));
-        assert_eq!(&rt;
-            respond(&mut sink, &reply, Some(Route::Plans), is_head),
-            Ok(())
-        );
-        assert_eq!(&rt; sink.into_bytes().as_slice(), text.as_slice());
-    }
-    Ok(())
-}
 
 #[test]
 fn each_status_has_its_phrase(rt: HostRuntime) -> Result<(), Fail> {

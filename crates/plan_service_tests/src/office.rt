@@ -1,0 +1,93 @@
+//! A small office in memory, and connections to it.
+
+use plan_desk::{Book, MemBook, Office, key_digest};
+use plan_http::{ConnEnd, Routes, serve_conn};
+use plan_psplib::{MemSink, MemSource};
+use std::alloc::{AllocError, Global};
+use std::process::Abort;
+use std::str;
+
+/// The key of the office.
+pub const OFFICE_KEY: &str = "office-key";
+
+/// The key of the desk `north`.
+pub const NORTH_KEY: &str = "north-key-1";
+
+/// What opens the desk `north`.
+pub const OPENING: &str =
+    "POST /office/desks HTTP/1.0\r\nDesk-Key: office-key\r\nContent-Length: 37\r\n\r\n{\"desk\":\"north\", \"key\":\"north-key-1\"}";
+
+/// What asks for the plans of `north`.
+pub const LISTING: &str = "GET /desks/north/plans HTTP/1.0\r\nDesk-Key: north-key-1\r\n\r\n";
+
+/// The response to the first.
+pub const OPENED: &str =
+    "HTTP/1.1 201 Created\r\nContent-Type: application/json\r\nContent-Length: 17\r\nConnection: close\r\n\r\n{\"desk\":\"north\"}\n";
+
+/// The response to the second, where there are none.
+pub const LISTED: &str =
+    "HTTP/1.1 200 OK\r\nContent-Type: application/json\r\nContent-Length: 13\r\nConnection: close\r\n\r\n{\"plans\":[]}\n";
+
+/// Six activities that last 0, 3, 2, 4, 3 and 0, one resource of which there are 2.
+pub const SIX: &str = "projects: 1
+jobs: 6
+- renewable: 1
+- nonrenewable: 0
+- doubly constrained: 0
+PRECEDENCE RELATIONS:
+jobnr. #modes #successors successors
+1 1 2 2 3
+2 1 1 4
+3 1 2 4 5
+4 1 1 6
+5 1 1 6
+6 1 0
+REQUESTS/DURATIONS:
+jobnr. mode duration R
+1 1 0 0
+2 1 3 1
+3 1 2 1
+4 1 4 1
+5 1 3 1
+6 1 0 0
+RESOURCEAVAILABILITIES:
+R
+2
+";
+
+/// An office without desks.
+pub fn office(alloc: Global) -> Option<Office<MemBook>> {
+    let digest = key_digest(OFFICE_KEY.as_bytes()).unwrap_or([0; 32]);
+    Office::new(alloc, MemBook::new(alloc, digest)).ok()
+}
+
+/// The bytes of a request.
+pub fn sent(alloc: Global, line: &str, key: &str, body: &str) -> Result<String, AllocError> {
+    let len = body.len();
+    format!(in alloc; "{line} HTTP/1.0\r\nDesk-Key: {key}\r\nContent-Length: {len}\r\n\r\n{body}")
+}
+
+/// The bytes of a response in JSON.
+pub fn response(alloc: Global, front: &str, body: &str) -> Result<String, AllocError> {
+    let len = body.len();
+    format!(in alloc;
+        "HTTP/1.1 {front}\r\nContent-Type: application/json\r\nContent-Length: {len}\r\nConnection: close\r\n\r\n{body}"
+    )
+}
+
+/// This is the response to a connection.
+pub fn expect_answer<B: Book>(
+    rt: &impl Abort,
+    alloc: Global,
+    routes: &Routes,
+    office: &mut Office<B>,
+    conn: &str,
+    wanted: &str,
+) {
+    let mut writer = MemSink::new(Vec::new(alloc));
+    let mut reader = MemSource::new(conn.as_bytes());
+    let end = serve_conn(alloc, routes, office, &mut reader, &mut writer);
+    assert!(rt; matches!(end, ConnEnd::Replied(_)), "{conn}");
+    let written = writer.into_bytes();
+    assert_eq!(rt; str::from_utf8(&written).unwrap_or("no text"), wanted);
+}
