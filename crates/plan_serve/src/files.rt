@@ -13,7 +13,7 @@ use crate::init::{Place, init_run};
 use crate::replay::replay_run;
 use crate::requests::read_connection;
 use crate::socket::serve_listener;
-use plan_desk::Office;
+use plan_desk::{Book, Office};
 use plan_psplib::{Sink, StdSource};
 use plan_store::{SqlBook, StoreFault};
 use sqlite::{Connection, Error, ErrorCode, Unknown};
@@ -53,8 +53,10 @@ impl<'a> Place for InFile<'a> {
 
 // Closes the files of a book, with its log copied into the database. Where that fails the log stays
 // beside it, and nothing is lost.
-fn close(book: FileBook) {
-    let _ = book.into_connection().close();
+fn close(book: Option<FileBook>) {
+    if let Some(book) = book {
+        let _ = book.into_connection().close();
+    }
 }
 
 // Why a file can't be opened.
@@ -75,25 +77,21 @@ pub fn init_on_file(rt: &HostRuntime, path: &str) -> Result<(), ServeFault>
 {
     let mut input = StdSource::new(rt.reader());
     match init_run(rt.alloc(), &mut input, InFile { rt, path }) {
-        Ok(book) => close(book),
+        Ok(book) => close(Some(book)),
         Err((fault, _)) => return Err(fault),
     }
     Ok(())
 }
 
-// The office whose tables are in the file of this name.
+// The tables of the office in the file of this name.
 #[tactic(auto, using(crate::proofs::ServeLemmas::serves_not, crate::proofs::ServeLemmas::not_output))]
-fn open_office(rt: &HostRuntime, path: &str) -> Result<Office<FileBook>, ServeFault>
+fn open_book(rt: &HostRuntime, path: &str) -> Result<FileBook, ServeFault>
     ensures which { IfErr result IsServeFault }
     ensures silent { IfErr result (λ e. e ≢ ServeFault.Output) }
 {
-    let book = match SqlBook::open_from(rt, path, Unknown) {
-        Ok(book) => book,
-        Err((fault, _)) => return Err(told(fault)),
-    };
-    match Office::new(rt.alloc(), book) {
-        Ok(office) => Ok(office),
-        Err(_) => Err(ServeFault::Memory),
+    match SqlBook::open_from(rt, path, Unknown) {
+        Ok(book) => Ok(book),
+        Err((fault, _)) => Err(told(fault)),
     }
 }
 
@@ -131,6 +129,30 @@ fn read_all(rt: &HostRuntime, paths: &[&str]) -> Result<Vec<Vec<u8>>, ServeFault
     Ok(conns)
 }
 
+// Serves connections by an office over a book, and writes the responses. The book comes back, unless
+// memory runs out before the first.
+fn replay_over<B: Book + Drop, W: Sink>(
+    alloc: Global,
+    book: B,
+    conns: &[Vec<u8>],
+    writer: &mut W,
+) -> (Result<(), ServeFault>, Option<B>)
+    ensures ok { OnOk result.0 (AreAnswered (length conns.now) (W.taken writer.old) (W.taken writer.new)) }
+    ensures part { IsErrOf result.0 ServeFault.Output → AreAnsweredInPart (length conns.now) (W.taken writer.old) (W.taken writer.new) }
+    ensures writes { W.calls writer.new ≤ W.calls writer.old + most_calls }
+    ensures quiet { IfErr result.0 (λ e. (e ≡ ServeFault.Output) ⊎ (writer.new ≡ writer.old)) }
+    ensures fine { OnOk result.0 (W.faults writer.new ≡ W.faults writer.old) }
+    ensures output { IsErrOf result.0 ServeFault.Output →
+        HasFailed (W.calls writer.old) (W.calls writer.new) (W.faults writer.old) (W.faults writer.new) }
+{
+    let mut office = match Office::new(alloc, book) {
+        Ok(office) => office,
+        Err(_) => return (Err(ServeFault::Memory), None),
+    };
+    let done = replay_run(alloc, &mut office, conns, writer);
+    (done, Some(office.into_book()))
+}
+
 /// `plan replay`: serves the connections whose bytes are in files, by the office in the file of this
 /// name, and writes the responses. All files are read before the office is opened.
 pub fn replay_on_files<W: Sink>(
@@ -153,12 +175,12 @@ pub fn replay_on_files<W: Sink>(
         Ok(conns) => conns,
         Err(fault) => return Err(fault),
     };
-    let mut office = match open_office(rt, path) {
-        Ok(office) => office,
+    let book = match open_book(rt, path) {
+        Ok(book) => book,
         Err(fault) => return Err(fault),
     };
-    let done = replay_run(rt.alloc(), &mut office, &conns, writer);
-    close(office.into_book());
+    let (done, book) = replay_over(rt.alloc(), book, &conns, writer);
+    close(book);
     done
 }
 
@@ -173,9 +195,9 @@ fn bind_fault(error: &io::Error) -> ServeFault
 }
 
 // Serves so many connections on a port of this machine alone, by an office.
-fn serve_by(
+fn serve_by<B: Book>(
     rt: &HostRuntime,
-    office: &mut Office<FileBook>,
+    office: &mut Office<B>,
     port: u16,
     count: u32,
 ) -> Result<(), ServeFault>
@@ -190,16 +212,33 @@ fn serve_by(
     }
 }
 
+// The same by an office over a book, which comes back, unless memory runs out before the port is bound.
+fn serve_over<B: Book + Drop>(
+    rt: &HostRuntime,
+    book: B,
+    port: u16,
+    count: u32,
+) -> (Result<(), ServeFault>, Option<B>)
+    ensures { IfErr result.0 IsServeFault }
+{
+    let mut office = match Office::new(rt.alloc(), book) {
+        Ok(office) => office,
+        Err(_) => return (Err(ServeFault::Memory), None),
+    };
+    let done = serve_by(rt, &mut office, port, count);
+    (done, Some(office.into_book()))
+}
+
 /// `plan serve`: serves so many connections on a port of this machine alone, by the office in the
 /// file of this name. The office is opened before the port.
 pub fn serve_on_port(rt: &HostRuntime, path: &str, port: u16, count: u32) -> Result<(), ServeFault>
     ensures { IfErr result IsServeFault }
 {
-    let mut office = match open_office(rt, path) {
-        Ok(office) => office,
+    let book = match open_book(rt, path) {
+        Ok(book) => book,
         Err(fault) => return Err(fault),
     };
-    let done = serve_by(rt, &mut office, port, count);
-    close(office.into_book());
+    let (done, book) = serve_over(rt, book, port, count);
+    close(book);
     done
 }
