@@ -117,18 +117,22 @@ def chain_table(count):
 
 
 def try_searches(folder):
-    """Chains of 40 and 41 activities, a shop of 110 steps: the size comes before the budget."""
+    """Chains of 40 and 41 activities, shops of 100, 102 and 110 steps: the size comes before the budget."""
     large = refused("S5 too large")
     written(folder, "most.sm", chain([1] * 40))
     written(folder, "more.sm", chain([1] * 41))
     written(folder, "more.txt", even_shop(11, 10, 1))
+    written(folder, "slightly_more.txt", even_shop(34, 3, 1))
+    written(folder, "most.txt", even_shop(50, 2, 1))
     for budget in ("1", "0", "six"):
         same("41 activities", plan(folder, "best-project", budget, "more.sm"), large)
         same("110 steps", plan(folder, "best", budget, "more.txt", "-"), large)
+        same("102 steps", plan(folder, "best", budget, "slightly_more.txt", "-"), large)
     wanted = printed("optimal 40\n" + chain_table(40))
     same("40 activities", plan(folder, "best-project", "1", "most.sm"), wanted)
     same("no budget", plan(folder, "best-project", "0", "most.sm"), refused("S6 budget"))
-    return 8
+    same("no budget for 100 steps", plan(folder, "best", "0", "most.txt", "-"), refused("S6 budget"))
+    return 12
 
 
 # ---- days
