@@ -75,6 +75,25 @@ def try_durations(folder):
     return 2
 
 
+def try_arcs(folder):
+    """Two activities, the fewest; and 502, the most, with an arc from each to all behind it: 125,751."""
+    written(folder, "two.sm", project([0, 0], [[2], []]))
+    rows = [row(job, 0, 0, 0, 0, 0, 0, 0) + " *\n" for job in (1, 2)]
+    same("2 activities", plan(folder, "cpm", "two.sm"), printed(DATES + "".join(rows) + "T 0\n"))
+    durations = [0] + [1] * 500 + [0]
+    successors = [list(range(job + 1, 503)) for job in range(1, 503)]
+    written(folder, "arcs.sm", project(durations, successors))
+    starts = [0, *range(500), 500]
+    ends = [start + duration for start, duration in zip(starts, durations)]
+    lines = list(zip(range(1, 503), durations, starts, ends))
+    dates = [row(*line, *line[2:], 0, 0) + " *\n" for line in lines]
+    same("all arcs", plan(folder, "cpm", "arcs.sm"), printed(DATES + "".join(dates) + "T 500\n"))
+    table = SCHEDULE + "".join(row(*line) + "\n" for line in lines) + "makespan 500\n"
+    for rule in ("lft", "mts", "num"):
+        same(f"all arcs, {rule}", plan(folder, "schedule", rule, "arcs.sm"), printed(table))
+    return 5
+
+
 def even_shop(jobs, machines, time):
     """A shop in the bare form whose steps take the same time; job j stands in line 1 + j."""
     steps = " ".join(f"{machine} {time}" for machine in range(machines))
@@ -203,6 +222,7 @@ def try_far_days(folder):
 FORMULAS = {
     "bytes": try_bytes,
     "durations": try_durations,
+    "arcs": try_arcs,
     "sizes": try_sizes,
     "searches": try_searches,
     "walk": try_walk,

@@ -1,14 +1,17 @@
 #!/usr/bin/env python3
 """Tries the model of an office by itself, without the program: it answers the conversation of
 clients/ as that is written there, keeps the rows of clients/exchanges.py, and prints the tables of
-examples/README.md. So the model is tried against what was written by hand.
+examples/README.md. So the model is tried against what was written by hand. And what it calls an optimum
+is the least of all orders.
 
     trials/modelled.py      says nothing where all is well
     trials/modelled.py -v   says what was tried
 """
 
+import itertools
 import os
 import sys
+from random import Random
 
 sys.dont_write_bytecode = True
 HERE = os.path.dirname(os.path.abspath(__file__))
@@ -16,7 +19,11 @@ sys.path.insert(0, HERE)
 sys.path.insert(0, os.path.join(os.path.dirname(HERE), "clients"))
 
 from exchanges import OFFICE_KEY, TOP, Tables, conversation
-from model import COMMANDS, Office, run
+from model import COMMANDS, Office, run, shops
+from model.projects import Project
+from model.schedules import rule_starts
+from model.searches import ProjectTree, ShopTree, search
+from model.shops import Shop
 
 CALL = "$ ./plan "
 
@@ -92,12 +99,101 @@ def try_words():
     same("the model: ft06", [found[0][:2], found[1][0]], [[b"optimal", b"55"], b"budget"])
 
 
+def drawn_project(random, count):
+    """A small project with lags, some of whose activities last no time."""
+    pairs = itertools.combinations(range(1, count + 1), 2)
+    arcs = [arc for arc in pairs if random.random() < 0.4]
+    capacities = [random.randint(1, 3) for _ in range(random.randint(1, 2))]
+    durations = {j: random.randint(0, 4) for j in range(1, count + 1)}
+    needs = {j: [random.randint(0, capacity) for capacity in capacities] for j in durations}
+    project = Project(durations, arcs, needs, capacities)
+    project.lags = {arc: random.choice((0, 0, 1, 3)) for arc in arcs}
+    return project
+
+
+def runs_at(project, starts, t, k):
+    """What is in use of a resource at an instant."""
+    within = [j for j, start in starts.items() if start <= t < start + project.durations[j]]
+    return sum(project.needs[j][k] for j in within)
+
+
+def has_room(project, starts, j, start):
+    """Whether an activity fits, instant by instant."""
+    return all(
+        runs_at(project, starts, t, k) + project.needs[j][k] <= capacity
+        for t in range(start, start + project.durations[j])
+        for k, capacity in enumerate(project.capacities)
+    )
+
+
+def end_by(project, order):
+    """When all is done, if each activity of an order starts as soon as it can; None for one that
+    stands before a predecessor."""
+    starts = {}
+    for j in order:
+        if any(i not in starts for i in project.predecessors(j)):
+            return None
+        ends = [starts[i] + project.durations[i] + project.lags[i, j] for i in project.predecessors(j)]
+        start = max(ends, default=0)
+        while not has_room(project, starts, j, start):
+            start += 1
+        starts[j] = start
+    return max(start + project.durations[j] for j, start in starts.items())
+
+
+def end_of_turns(jobs, machines, turns):
+    """When all is done, if jobs take turns and each step starts as soon as it can."""
+    done, ends, free = [0] * len(jobs), [0] * len(jobs), [0] * machines
+    for job in turns:
+        machine, time = jobs[job][done[job]]
+        start = max(ends[job], free[machine]) if time else ends[job]
+        done[job], ends[job] = done[job] + 1, start + time
+        if time:
+            free[machine] = start + time
+    return max(ends)
+
+
+def try_orders():
+    """Small random projects and shops, some steps of which take no time: what the model calls optimal
+    is the least of all orders, in each of which all starts as soon as it can."""
+    random = Random(1)
+    for number in range(120):
+        project = drawn_project(random, random.choice((3, 4, 5, 5, 6)))
+        ends = [end_by(project, order) for order in itertools.permutations(project.durations)]
+        wanted = "optimal", min(end for end in ends if end is not None)
+        found = search(ProjectTree(project), rule_starts(project, "lft"), 10**6)
+        same(f"the model: project {number} of all orders", (found.kind, found.least), wanted)
+    for number in range(80):
+        jobs, machines = random.randint(2, 3), random.randint(2, 3)
+        steps = [
+            [(machine, random.randint(0, 4)) for machine in random.sample(range(machines), machines)]
+            for _ in range(jobs)
+        ]
+        letters = [job for job in range(jobs) for _ in range(machines)]
+        least = min(end_of_turns(steps, machines, turns) for turns in turns_of(letters))
+        shop = Shop(machines, steps)
+        found = search(ShopTree(shop), shops.rule_starts(shop, "mwkr"), 10**6)
+        same(f"the model: shop {number} of all orders", (found.kind, found.least), ("optimal", least))
+
+
+def turns_of(letters):
+    """All different orders of letters, of which some are alike."""
+    if not letters:
+        yield ()
+    for letter in sorted({*letters}):
+        rest = list(letters)
+        rest.remove(letter)
+        for turns in turns_of(rest):
+            yield (letter, *turns)
+
+
 def try_model(is_verbose=False):
-    """Tries all three."""
+    """Tries all four."""
     exchanges, commands = try_conversation(), try_tour()
     try_words()
+    try_orders()
     if is_verbose:
-        print(f"the model: {exchanges} exchanges and {commands} commands as they are written")
+        print(f"the model: {exchanges} exchanges and {commands} commands as they are written, and 200 searches beside all orders")
 
 
 if __name__ == "__main__":

@@ -79,26 +79,6 @@ fn refuses_for_the_first_fault(rt: HostRuntime) -> Result<(), Fail> {
 }
 
 #[test]
-fn takes_all_arcs_from_smaller_to_greater(rt: HostRuntime) -> Result<(), Fail> {
-    let alloc = rt.alloc();
-    let mut arcs = Vec::new(alloc);
-    for i in 1..=502 {
-        for j in i + 1..=502 {
-            arcs.push((i, j))?;
-        }
-    }
-    assert_eq!(rt; arcs.len(), 125_751);
-    let network = Network::new(alloc, vec![in alloc; 1u64; 502]?, arcs)?;
-    assert_eq!(rt; network.len(), 502);
-    for (k, &j) in network.order().iter().enumerate() {
-        assert_eq!(rt; k + 1, j as usize);
-    }
-    assert_eq!(rt; network.preds(502).len(), 501);
-    assert_eq!(rt; network.succs(502).len(), 0);
-    Ok(())
-}
-
-#[test]
 fn takes_the_least_that_can_come(rt: HostRuntime) -> Result<(), Fail> {
     let network = network_of(
         rt.alloc(),
