@@ -213,6 +213,6 @@ SELECT 'published|' || code || '|' || kind || '|' || capacity FROM published;
 SELECT 'desks|' || desk || '|' || digest || '|' || next FROM desks;
 SELECT 'plans|' || desk || '|' || n || '|' || kind || '|' || name || '|' || lower(hex(body)) || '|' || start || '|' || days FROM plans;
 SELECT 'binds|' || desk || '|' || n || '|' || place || '|' || code FROM binds;
-SELECT 'lags|' || desk || '|' || n || '|' || source || '|' || target || '|' || lag FROM lags;
+SELECT 'lags|' || desk || '|' || n || '|' || src || '|' || dst || '|' || lag FROM lags;
 PRAGMA integrity_check;
 """

@@ -20,6 +20,7 @@ A trial file has files, commands, and what each command gives, to the byte:
     $ plan schedule lft six.sm            a command; `< pair.txt` at its end is standard input
     | the lines of standard output        status 0 and nothing on standard error
     ! the line on standard error          status 1 and nothing on standard output
+    ? the lines on standard error         status 2 and nothing on standard output
 
 A command without such lines prints nothing and ends with status 0. Files stay up to the end of the
 trial file, in a temporary folder in which the commands run.
@@ -52,29 +53,36 @@ class Block:
     """A line of a trial file, and the lines behind bars and marks below it."""
 
     def __init__(self, number, line):
-        self.number, self.line, self.printed, self.told = number, line, [], []
+        self.number, self.line = number, line
+        self.printed, self.told, self.misused = [], [], []
 
     def add(self, line):
         """Takes a line that begins with a bar or a mark."""
         if line[1:2] not in ("", " "):
             raise Wrong(f"below `{self.line}` there is no blank in {line}")
-        (self.printed if line[0] == "|" else self.told).append(line[2:])
+        {"|": self.printed, "!": self.told, "?": self.misused}[line[0]].append(line[2:])
 
     def refuse_lines(self):
         """That there are no lines below the block, which doesn't take any."""
-        if self.printed or self.told:
+        if self.printed or self.told or self.misused:
             raise ValueError("no lines are wanted below it")
-
-    def output(self):
-        return "".join(line + "\n" for line in self.printed).encode()
 
     def wanted(self):
         """The status and both outputs that the block wants of its command."""
-        if len(self.told) > 1 or self.told and self.printed:
+        if len(self.told) > 1:
             raise ValueError("more than one line is wanted of a fault")
+        if [self.printed, self.told, self.misused].count([]) < 2:
+            raise ValueError("lines of several kinds are wanted")
+        if self.misused:
+            return 2, b"", text_of(self.misused)
         if self.told:
-            return 1, b"", self.told[0].encode() + b"\n"
-        return 0, self.output(), b""
+            return 1, b"", text_of(self.told)
+        return 0, text_of(self.printed), b""
+
+
+def text_of(lines):
+    """The bytes of lines."""
+    return "".join(line + "\n" for line in lines).encode()
 
 
 def blocks_of(path):
@@ -82,7 +90,7 @@ def blocks_of(path):
     blocks = []
     lines = content_of(path).decode().split("\n")
     for number, line in enumerate(lines, 1):
-        if line[:1] in ("|", "!"):
+        if line[:1] in ("|", "!", "?"):
             blocks[-1].add(line)
         elif line and not line.startswith("#"):
             blocks.append(Block(number, line))

@@ -10,8 +10,9 @@ from story import answered, same_rows, written
 
 KEY = "password"
 ROWS = file_of("trials/files/rows.sql").decode()
-LAG = "INSERT INTO lags (desk, n, source, target, lag) VALUES ('north', 1, 1, 2, 2);"
+LAG = "INSERT INTO lags (desk, n, src, dst, lag) VALUES ('north', 1, 1, 2, 2);"
 FIRST = file_of("trials/files/first-version.sql").decode()
+SECOND = file_of("trials/files/second-version.sql").decode()
 NOT_OURS, VERSION = fault("K1 not ours"), fault("K2 version")
 
 
@@ -78,6 +79,15 @@ def try_taken(room):
     same_rows("the rows at the end", rows(database, room), before)
 
 
+def try_by_hand(room):
+    """A store of the second version that the shell has made is opened."""
+    database = os.path.join(room, "by-hand.db")
+    sql(database, SECOND + ROWS + LAG)
+    before = rows(database, room)
+    answered(STORY, database, written(STORY, room))
+    same_rows("the rows at the end", rows(database, room), before)
+
+
 def changes():
     """The changes that break one rule each."""
     lines = file_of("trials/files/not-ours.sql").decode().split("\n")
@@ -116,6 +126,43 @@ def try_spent(room):
     project, spent = file_of("trials/files/two.sm").decode(), "E09 numbers spent\n"
     story = [asked("POST /desks/north/projects", spent, project, 409)]
     answered(story, database, written(story, room))
+
+
+# ---- a store that plan 0.2.0 made
+
+# Its columns `source` and `target` were those that are `src` and `dst`.
+EARLIER = file_of("trials/files/version-0.2.0.sql").decode()
+EARLIER_LAG = LAG.replace("src, dst", "source, target")
+
+
+def renames():
+    """The two lines that docs/SERVICE.md gives for such a store."""
+    lines = file_of("docs/SERVICE.md").decode().split("\n")
+    found = [line.strip() for line in lines if line.startswith("    ALTER TABLE ")]
+    same("the lines of docs/SERVICE.md that rename columns", len(found), 2)
+    return found
+
+
+def try_earlier_columns(room):
+    """A store that plan 0.2.0 made is refused, and opened once its columns have their names."""
+    database = os.path.join(room, "earlier.db")
+    sql(database, EARLIER + ROWS + EARLIER_LAG)
+    refused(database, room, "no change", NOT_OURS)
+    same("plan init over it", plan("init", database, given=KEY.encode()), NOT_OURS)
+    sql(database, renames()[0])
+    refused(database, room, "the first rename alone", NOT_OURS)
+    sql(database, renames()[1])
+    before = rows(database, room)
+    answered(STORY, database, written(STORY, room))
+    same_rows("the rows at the end", rows(database, room), before)
+
+
+def try_explained(room):
+    """`plan explain K1` names the two lines."""
+    status, out, err = plan("explain", "K1")
+    same("how plan explain K1 ends", (status, err), (0, b""))
+    for line in renames():
+        same(f"that plan explain K1 has {line}", line.encode() in out, True)
 
 
 # ---- a store of the first version

@@ -47,7 +47,7 @@ UPDATE binds SET place = 2 WHERE n = 2;
 UPDATE binds SET code = 'drill' WHERE n = 2;
 UPDATE binds SET code = 'mill' WHERE n = 1;
 UPDATE binds SET code = 'crew-a' WHERE n = 2;
-UPDATE lags SET source = 2, target = 1;
+UPDATE lags SET src = 2, dst = 1;
 UPDATE lags SET lag = 0;
 UPDATE lags SET lag = 10001;
 UPDATE lags SET n = 2;

@@ -21,6 +21,7 @@ enum End {
     Usage(Error),
     NoText,
     NoCommand,
+    OneInput,
 }
 
 // How a command ends that is done, or has a fault.
@@ -68,6 +69,12 @@ fn do_file_order(rt: &HostRuntime, order: FileOrder<'_>) -> Result<(), CliFault>
 // Does what the words ask for.
 fn do_order(rt: &HostRuntime, order: Order<'_>) -> End {
     match order {
+        Order::File(
+            FileOrder::Check {
+                file: "-",
+                starts: "-",
+            },
+        ) => End::OneInput,
         Order::File(order) => end_of(do_file_order(rt, order)),
         Order::Office(order) => office_end(do_office_order(rt, order)),
     }
@@ -140,6 +147,7 @@ fn main(rt: HostRuntime) -> ExitCode {
         End::Usage(error) => print_usage(&rt, &error),
         End::NoText => print_misuse(&rt, "a word of the command line isn't UTF-8"),
         End::NoCommand => print_misuse(&rt, "no command"),
+        End::OneInput => print_misuse(&rt, "FILE and STARTS can't both be standard input"),
     };
     ExitCode::from(status)
 }

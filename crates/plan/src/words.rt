@@ -254,7 +254,7 @@ fn subcommand<'a>(alloc: Global, entry: Entry) -> Result<Command<'a>, AllocError
 /// The command line.
 pub fn command<'a>(alloc: Global) -> Result<Command<'a>, AllocError> {
     let mut command = Command::new(alloc, "plan")
-        .version("0.2.0")
+        .version("0.3.0")
         .about("Plans projects and job shops: dates, schedules, charts, working days")
         .after_help(EXAMPLES)
         .subcommand_required(true);

@@ -6,7 +6,7 @@ use Rattle.plan_rows.specs.World.{Text, Digest}
 use Rattle.plan_store.specs.declared.fault.StoreFault.{StoreFault}
 use Rattle.plan_store.specs.declared.fault.StoreFault.TheVariants as store
 use Rattle.plan_store.specs.Tables.{no_schema}
-use Rattle.plan_serve.specs.Faults.{new_fault_of}
+use Rattle.plan_serve.specs.Faults.{fault_of}
 use Rattle.plan_serve.specs.Keys.{ReadsKey, TakesKey}
 use Rattle.plan_serve.specs.declared.fault.ServeFault.{ServeFault}
 use Rattle.plan_serve.specs.declared.fault.ServeFault.TheVariants as fault
@@ -16,7 +16,7 @@ module _ {S : Type 0} (g : Ghosts S) (Opens : Held S → Type 0) (Refuses : Stor
     (reads : ReadsKey remaining rest (Ok digest)) where
   -- no database was opened
   pub unopened : (fault : StoreFault) → Refuses fault → (fault ≡ store.NoMemory) ⊎ (fault ≡ store.Store)
-      → MakesNone g Opens Refuses remaining rest (new_fault_of fault) None
+      → MakesNone g Opens Refuses remaining rest (fault_of fault) None
   unopened store.NotOurs refuses (inl e) = absurd cc
   unopened store.NotOurs refuses (inr e) = absurd cc
   unopened store.Version refuses (inl e) = absurd cc
@@ -25,15 +25,14 @@ module _ {S : Type 0} (g : Ghosts S) (Opens : Held S → Type 0) (Refuses : Stor
   unopened store.Store refuses which = (digest, reads, inl (refuses, refl))
 
   -- a database was opened, and no tables made
-  pub unmade : (conn left : Held S) (fault : StoreFault) → Opens conn → (fault ≡ store.NotOurs) ↔ ((state g conn).now.schema ≢ no_schema)
+  pub unmade : (conn left : Held S) (fault : StoreFault) → Opens conn → (fault ≡ store.NotOurs) ↔ ((state g conn).now.schema ≢ no_schema) → fault ≢ store.Version
       → (fault ≡ store.NotOurs → left ≡ conn) → IsLeft (state g conn) (state g left) digest
-      → MakesNone g Opens Refuses remaining rest (new_fault_of fault) (Some left)
-  unmade conn left store.NotOurs opens ours same kept = (digest, reads, (conn, ap Some (same refl), opens, ours.0 refl))
-  unmade conn left store.Version opens ours same kept =
-      (digest, reads, inr (conn, left, refl, opens, (λ used. let e = ours.1 used in absurd cc), kept))
-  unmade conn left store.NoMemory opens ours same kept =
+      → MakesNone g Opens Refuses remaining rest (fault_of fault) (Some left)
+  unmade conn left store.NotOurs opens ours known same kept = (digest, reads, (conn, ap Some (same refl), opens, ours.0 refl))
+  unmade conn left store.Version opens ours known same kept = absurd (known refl)
+  unmade conn left store.NoMemory opens ours known same kept =
       inr (digest, reads, (conn, left, refl, opens, (λ used. let e = ours.1 used in absurd cc), kept))
-  unmade conn left store.Store opens ours same kept =
+  unmade conn left store.Store opens ours known same kept =
       (digest, reads, inr (conn, left, refl, opens, (λ used. let e = ours.1 used in absurd cc), kept))
 
 -- a key that wasn't read

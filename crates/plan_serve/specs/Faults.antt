@@ -22,10 +22,3 @@ fault_of store.NotOurs = fault.NotOurs
 fault_of store.Version = fault.Version
 fault_of store.NoMemory = fault.Memory
 fault_of store.Store = fault.Store
-
--- the same where tables are made, and none is read for its version
-abbrev pub new_fault_of : StoreFault → ServeFault
-new_fault_of store.NotOurs = fault.NotOurs
-new_fault_of store.Version = fault.Store
-new_fault_of store.NoMemory = fault.Memory
-new_fault_of store.Store = fault.Store

@@ -1,7 +1,7 @@
 //! Why a command that keeps an office failed.
 
 ghost use Rattle.std.specs.Prelude.{◌≡◌};
-ghost use Rattle.plan_serve.specs.Faults.{fault_of, new_fault_of};
+ghost use Rattle.plan_serve.specs.Faults.{fault_of};
 
 use plan_store::StoreFault;
 use thiserror::Error;
@@ -65,15 +65,5 @@ pub(crate) fn told(fault: StoreFault) -> ServeFault
         StoreFault::Version => ServeFault::Version,
         StoreFault::NoMemory => ServeFault::Memory,
         StoreFault::Store => ServeFault::Store,
-    }
-}
-
-/// The same where tables are made, and none is read for its version.
-pub(crate) fn told_of_new(fault: StoreFault) -> ServeFault
-    ensures { result ≡ new_fault_of fault }
-{
-    match fault {
-        StoreFault::Version => ServeFault::Store,
-        other => told(other),
     }
 }

@@ -6,7 +6,7 @@ ghost use Rattle.plan_store.specs.declared.fault.StoreFault.{StoreFault};
 ghost use Rattle.plan_store.specs.declared.fault.StoreFault.TheVariants.{NoMemory, Store};
 ghost use Rattle.plan_serve.specs.InitRun.{Inits};
 
-use crate::fault::{ServeFault, told_of_new};
+use crate::fault::{ServeFault, told};
 use crate::key::read_key;
 use plan_psplib::Source;
 use plan_store::{SqlBook, StoreFault};
@@ -51,10 +51,10 @@ pub fn init_run<R: Source, P: Place>(
     };
     let conn = match place.connect(alloc) {
         Ok(conn) => conn,
-        Err(fault) => return Err((told_of_new(fault), None)),
+        Err(fault) => return Err((told(fault), None)),
     };
     match SqlBook::create_in(alloc, conn, &digest) {
         Ok(book) => Ok(book),
-        Err((fault, conn)) => Err((told_of_new(fault), Some(conn))),
+        Err((fault, conn)) => Err((told(fault), Some(conn))),
     }
 }

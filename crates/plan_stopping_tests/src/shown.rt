@@ -21,7 +21,7 @@ const QUERIES: [&str; 7] = [
 
 // What the second version has besides.
 const LAGS: &str =
-    "SELECT desk || ' ' || n || ' ' || source || ' ' || target || ' ' || lag FROM lags ORDER BY desk, n, source, target";
+    "SELECT desk || ' ' || n || ' ' || src || ' ' || dst || ' ' || lag FROM lags ORDER BY desk, n, src, dst";
 
 // What only the second version has.
 const IS_SECOND: &str = "SELECT name FROM sqlite_master WHERE name = 'lags'";

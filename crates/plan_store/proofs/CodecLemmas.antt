@@ -49,7 +49,7 @@ bind_casts row = ap₂ (λ v w. Text row.desk ∷ v ∷ w ∷ Text row.code ∷ 
 
 pub lag_casts : (row : Lag) → cast_all tables.lags.columns (written_lag row) ≡ written_lag row
 lag_casts row =
-    ap₂ (λ v w. Text row.desk ∷ v ∷ w ∷ cast_all (tables.filled (codes "target") Integer ∷ tables.filled (codes "lag") Integer ∷ []) (Int (pos row.target) ∷ Int (pos row.lag) ∷ []))
+    ap₂ (λ v w. Text row.desk ∷ v ∷ w ∷ cast_all (tables.filled (codes "dst") Integer ∷ tables.filled (codes "lag") Integer ∷ []) (Int (pos row.target) ∷ Int (pos row.lag) ∷ []))
     (cast_int (pos row.n)) (cast_int (pos row.source))
     ∙ ap₂ (λ v w. Text row.desk ∷ Int (pos row.n) ∷ Int (pos row.source) ∷ v ∷ w ∷ []) (cast_int (pos row.target)) (cast_int (pos row.lag))
 

@@ -27,7 +27,7 @@ use Rattle.plan_rows.specs.Names.{is_digest}
 use Rattle.plan_rows.specs.Rules.{IsWorld}
 use Rattle.plan_rows.specs.World.{Digest, World, empty_world}
 use Rattle.plan_store.specs.declared.fault.StoreFault.{StoreFault}
-use Rattle.plan_store.specs.declared.fault.StoreFault.TheVariants.{NotOurs}
+use Rattle.plan_store.specs.declared.fault.StoreFault.TheVariants.{NotOurs, Version}
 use Rattle.plan_store.specs.Tables.{no_schema, meta, store_schema}
 use Rattle.plan_store.specs.Kept.{Keeps}
 use Rattle.plan_store.specs.Rows.{digest_value, meta_row, office_in}
@@ -213,7 +213,7 @@ module _ {S : Type 0} (g : Ghosts S) (digest : Digest) (good : is_digest digest 
 
   pub created_none : ((state g old).in_transaction ≡ false → IsTrue (state g old).is_open → (state g old).now ≡ (state g old).committed) → (state g old).in_transaction ≡ false
       → (HasCleanDisk (state g new) → IsTrue (state g new).is_open → IsTrue (state g old).is_open × ((state g new).now ≡ (state g old).committed) × ((state g new).committed ≡ (state g old).committed))
-      → (r : Result (Unit {0}) StoreFault) (fault : StoreFault) → r ≡ Err fault → fault ≢ NotOurs → Creates (state g old) (state g new) r digest
+      → (r : Result (Unit {0}) StoreFault) (fault : StoreFault) → r ≡ Err fault → (fault ≢ NotOurs) × (fault ≢ Version) → Creates (state g old) (state g new) r digest
   created_none settled was_outside neither r fault is other = subst (λ k. Creates (state g old) (state g new) k digest) (sym is) (record {
     outside = outside;
     made = tt;
@@ -224,7 +224,7 @@ module _ {S : Type 0} (g : Ghosts S) (digest : Digest) (good : is_digest digest 
   })
 
 -- nothing was tried
-pub creates_nothing : (s : State) (digest : Digest) (r : Result (Unit {0}) StoreFault) (fault : StoreFault) → r ≡ Err fault → s.in_transaction ≡ false → fault ≢ NotOurs → Creates s s r digest
+pub creates_nothing : (s : State) (digest : Digest) (r : Result (Unit {0}) StoreFault) (fault : StoreFault) → r ≡ Err fault → s.in_transaction ≡ false → (fault ≢ NotOurs) × (fault ≢ Version) → Creates s s r digest
 creates_nothing s digest r fault is outside other = subst (λ k. Creates s s k digest) (sym is) (record {
   outside = outside;
   made = tt;

@@ -83,7 +83,7 @@ unfolding understood everything
 creates_binds = record { command = refl; whole = refl; defined = refl; leaves = refl; plain = (refl, refl); uncounted = refl }
 
 abbrev pub create_lags : List ℕ
-create_lags = codes "CREATE TABLE lags (desk TEXT NOT NULL, n INTEGER NOT NULL, source INTEGER NOT NULL, target INTEGER NOT NULL, lag INTEGER NOT NULL, PRIMARY KEY (desk, n, source, target)) STRICT"
+create_lags = codes "CREATE TABLE lags (desk TEXT NOT NULL, n INTEGER NOT NULL, src INTEGER NOT NULL, dst INTEGER NOT NULL, lag INTEGER NOT NULL, PRIMARY KEY (desk, n, src, dst)) STRICT"
 
 pub creates_lags : IsCreation create_lags with_binds store_schema (record lags { tree = 0 })
 unfolding understood everything

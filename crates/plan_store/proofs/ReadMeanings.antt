@@ -136,12 +136,12 @@ unfolding understood everything
 binds_listed = refl
 
 abbrev pub lags_text : List ℕ
-lags_text = codes "SELECT source, target, lag FROM lags WHERE desk = ?1 AND n = ?2 ORDER BY source, target, rowid"
+lags_text = codes "SELECT src, dst, lag FROM lags WHERE desk = ?1 AND n = ?2 ORDER BY src, dst, rowid"
 
 abbrev pub lags_query : Query
 lags_query = of_table 9 (is_given 1 0 ∷ is_given 2 1 ∷ []) (col 1 3 ∷ col 1 4 ∷ col 1 5 ∷ []) (by 3 ∷ by 4 ∷ by 0 ∷ [])
 
-pub lags_is : command_of (understood store_schema lags_text) ≡ Select (alone lags_query) (codes "source" ∷ codes "target" ∷ codes "lag" ∷ [])
+pub lags_is : command_of (understood store_schema lags_text) ≡ Select (alone lags_query) (codes "src" ∷ codes "dst" ∷ codes "lag" ∷ [])
 unfolding understood everything
 lags_is = refl
 
@@ -190,7 +190,7 @@ unfolding understood everything
 bound_listed = refl
 
 abbrev pub lagged_text : List ℕ
-lagged_text = codes "SELECT lag FROM lags WHERE desk = ?1 AND n = ?2 AND source = ?3 AND target = ?4 ORDER BY rowid"
+lagged_text = codes "SELECT lag FROM lags WHERE desk = ?1 AND n = ?2 AND src = ?3 AND dst = ?4 ORDER BY rowid"
 
 abbrev pub lagged_query : Query
 lagged_query = of_table 9 (is_given 1 0 ∷ is_given 2 1 ∷ is_given 3 2 ∷ is_given 4 3 ∷ []) (col 1 5 ∷ []) (by 0 ∷ [])

@@ -92,12 +92,12 @@ binds_asks First = record { plain = (refl, refl); ours = refl }
 binds_asks Second = record { plain = (refl, refl); ours = refl }
 
 abbrev pub lags_text : List ℕ
-lags_text = codes "SELECT desk, n, source, target, lag FROM lags ORDER BY rowid"
+lags_text = codes "SELECT desk, n, src, dst, lag FROM lags ORDER BY rowid"
 
 abbrev pub lags_query : Query
 lags_query = of_table 9 [] (col 1 1 ∷ col 1 2 ∷ col 1 3 ∷ col 1 4 ∷ col 1 5 ∷ []) (by 0 ∷ [])
 
-pub lags_is : meaning_under (schema_of Second) lags_text ≡ Select (alone lags_query) (codes "desk" ∷ codes "n" ∷ codes "source" ∷ codes "target" ∷ codes "lag" ∷ [])
+pub lags_is : meaning_under (schema_of Second) lags_text ≡ Select (alone lags_query) (codes "desk" ∷ codes "n" ∷ codes "src" ∷ codes "dst" ∷ codes "lag" ∷ [])
 unfolding understood everything
 lags_is = refl
 

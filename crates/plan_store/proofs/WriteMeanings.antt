@@ -180,7 +180,7 @@ unfolding understood everything
 rebind_plain = (refl, refl)
 
 abbrev pub set_lag_text : List ℕ
-set_lag_text = codes "INSERT INTO lags (desk, n, source, target, lag) VALUES (?1, ?2, ?3, ?4, ?5)"
+set_lag_text = codes "INSERT INTO lags (desk, n, src, dst, lag) VALUES (?1, ?2, ?3, ?4, ?5)"
 
 abbrev pub set_lag_terms : List Term
 set_lag_terms = lit Null ∷ col 0 0 ∷ col 0 1 ∷ col 0 2 ∷ col 0 3 ∷ col 0 4 ∷ []
@@ -194,7 +194,7 @@ unfolding understood everything
 set_lag_plain = (refl, refl)
 
 abbrev pub reset_lag_text : List ℕ
-reset_lag_text = codes "UPDATE lags SET lag = ?5 WHERE desk = ?1 AND n = ?2 AND source = ?3 AND target = ?4"
+reset_lag_text = codes "UPDATE lags SET lag = ?5 WHERE desk = ?1 AND n = ?2 AND src = ?3 AND dst = ?4"
 
 abbrev pub reset_lag_query : Query
 reset_lag_query = of_table 9 (is_given 1 0 ∷ is_given 2 1 ∷ is_given 3 2 ∷ is_given 4 3 ∷ []) (col 1 0 ∷ col 1 0 ∷ col 1 1 ∷ col 1 2 ∷ col 1 3 ∷ col 1 4 ∷ col 0 4 ∷ []) []
@@ -208,7 +208,7 @@ unfolding understood everything
 reset_lag_plain = (refl, refl)
 
 abbrev pub remove_lag_text : List ℕ
-remove_lag_text = codes "DELETE FROM lags WHERE desk = ?1 AND n = ?2 AND source = ?3 AND target = ?4"
+remove_lag_text = codes "DELETE FROM lags WHERE desk = ?1 AND n = ?2 AND src = ?3 AND dst = ?4"
 
 abbrev pub remove_lag_query : Query
 remove_lag_query = of_table 9 (is_given 1 0 ∷ is_given 2 1 ∷ is_given 3 2 ∷ is_given 4 3 ∷ []) (col 1 0 ∷ []) []

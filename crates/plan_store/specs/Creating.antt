@@ -3,7 +3,7 @@ use Rattle.std.specs.Prelude.{◌≡◌, ◌≢◌, false, IsTrue, Result, OnOk,
 use Rattle.sqlite_trees.specs.Tree.{Trees}
 use Rattle.sqlite.specs.State.{State, HasCleanDisk, Survives}
 use Rattle.plan_store.specs.declared.fault.StoreFault.{StoreFault}
-use Rattle.plan_store.specs.declared.fault.StoreFault.TheVariants.{NotOurs}
+use Rattle.plan_store.specs.declared.fault.StoreFault.TheVariants.{NotOurs, Version}
 use Rattle.plan_rows.specs.World.{Digest, empty_world}
 use Rattle.plan_store.specs.Stores.{world_of}
 use Rattle.plan_store.specs.Serving.{Stands, IsStoreLeft}
@@ -21,4 +21,4 @@ pub record Creates (old new : State) {X : Type 0} (result : Result X StoreFault)
   pub kept : OnErr result (HasCleanDisk new → IsTrue new.is_open
       → IsTrue old.is_open × (new.now ≡ old.now) × (new.committed ≡ old.committed))
   pub crash : Survives old new (IsNewStore digest)
-  pub which : IfErr result (λ fault. fault ≢ NotOurs)
+  pub which : IfErr result (λ fault. (fault ≢ NotOurs) × (fault ≢ Version))

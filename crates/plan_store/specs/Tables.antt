@@ -95,8 +95,8 @@ binds = keyed_table (codes "binds") 7 (1 ∷ 2 ∷ 3 ∷ [])
 
 abbrev pub lags : Table
 lags = keyed_table (codes "lags") 9 (1 ∷ 2 ∷ 3 ∷ 4 ∷ [])
-    (filled (codes "desk") Text ∷ filled (codes "n") Integer ∷ filled (codes "source") Integer
-    ∷ filled (codes "target") Integer ∷ filled (codes "lag") Integer ∷ [])
+    (filled (codes "desk") Text ∷ filled (codes "n") Integer ∷ filled (codes "src") Integer
+    ∷ filled (codes "dst") Integer ∷ filled (codes "lag") Integer ∷ [])
 
 -- the tables of a store, and no others
 abbrev pub store_schema : Schema

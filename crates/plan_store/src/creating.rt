@@ -56,7 +56,7 @@ pub fn make_tables<S: Alter>(conn: &mut Connection<S>, digest: &[u8; 32]) -> Res
                 none,
             ),
             (
-                "CREATE TABLE lags (desk TEXT NOT NULL, n INTEGER NOT NULL, source INTEGER NOT NULL, target INTEGER NOT NULL, lag INTEGER NOT NULL, PRIMARY KEY (desk, n, source, target)) STRICT",
+                "CREATE TABLE lags (desk TEXT NOT NULL, n INTEGER NOT NULL, src INTEGER NOT NULL, dst INTEGER NOT NULL, lag INTEGER NOT NULL, PRIMARY KEY (desk, n, src, dst)) STRICT",
                 none,
             ),
             (

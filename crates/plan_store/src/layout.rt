@@ -201,8 +201,8 @@ fn are_lags(table: &Table) -> bool
         &[
             ("desk", Kind::Text),
             ("n", Kind::Integer),
-            ("source", Kind::Integer),
-            ("target", Kind::Integer),
+            ("src", Kind::Integer),
+            ("dst", Kind::Integer),
             ("lag", Kind::Integer),
         ],
     )

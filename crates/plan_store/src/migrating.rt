@@ -25,7 +25,7 @@ pub fn migrate<S: Alter>(conn: &mut Connection<S>) -> Result<(), StoreFault>
         conn,
         &[
             (
-                "CREATE TABLE lags (desk TEXT NOT NULL, n INTEGER NOT NULL, source INTEGER NOT NULL, target INTEGER NOT NULL, lag INTEGER NOT NULL, PRIMARY KEY (desk, n, source, target)) STRICT",
+                "CREATE TABLE lags (desk TEXT NOT NULL, n INTEGER NOT NULL, src INTEGER NOT NULL, dst INTEGER NOT NULL, lag INTEGER NOT NULL, PRIMARY KEY (desk, n, src, dst)) STRICT",
                 none,
             ),
             ("UPDATE meta SET version = 2 WHERE id = 1", none),

@@ -199,7 +199,7 @@ fn lags_in<S: Alter>(
     list_in(
         alloc,
         conn,
-        "SELECT source, target, lag FROM lags WHERE desk = ?1 AND n = ?2 ORDER BY source, target, rowid",
+        "SELECT src, dst, lag FROM lags WHERE desk = ?1 AND n = ?2 ORDER BY src, dst, rowid",
         params![desk, n],
     )
 }
@@ -292,7 +292,7 @@ pub fn is_lagged<S: Alter>(
 {
     has_row(
         conn,
-        "SELECT lag FROM lags WHERE desk = ?1 AND n = ?2 AND source = ?3 AND target = ?4 ORDER BY rowid",
+        "SELECT lag FROM lags WHERE desk = ?1 AND n = ?2 AND src = ?3 AND dst = ?4 ORDER BY rowid",
         params![desk, n, from, to],
     )
 }

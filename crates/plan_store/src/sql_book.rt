@@ -6,7 +6,7 @@ ghost use Rattle.sqlite.specs.State.{HasCleanDisk, Survives};
 ghost use Rattle.sqlite.specs.Held.{state};
 ghost use Rattle.sqlite.specs.Steps.{over_memory};
 ghost use Rattle.plan_rows.specs.World.{empty_world};
-ghost use Rattle.plan_store.specs.declared.fault.StoreFault.TheVariants.{NotOurs};
+ghost use Rattle.plan_store.specs.declared.fault.StoreFault.TheVariants.{NotOurs, Version};
 ghost use Rattle.plan_store.specs.Tables.{no_schema};
 ghost use Rattle.plan_store.specs.Stores.{world_of};
 ghost use Rattle.plan_store.specs.Serving.{Stands};
@@ -68,6 +68,7 @@ impl<S: Alter> SqlBook<S> {
             → (trees : Trees) → (state S.Store b.conn).may_leave trees → trees ≡ (state S.Store b.conn).now.trees) }
         ensures empty { IfOk result (λ _. (state S.Store conn).now.schema ≡ no_schema) }
         ensures ours { IfErr result (λ e. (e.0 ≡ NotOurs) ↔ ((state S.Store conn).now.schema ≢ no_schema)) }
+        ensures known { IfErr result (λ e. e.0 ≢ Version) }
         ensures untouched { IfErr result (λ e. e.0 ≡ NotOurs → e.1 ≡ conn) }
         ensures outside { IfErr result (λ e. (state S.Store e.1).in_transaction ≡ false) }
         ensures kept { IfErr result (λ e. HasCleanDisk (state S.Store e.1) → IsTrue (state S.Store e.1).is_open
@@ -140,6 +141,7 @@ impl SqlBook<MemStore> {
         ensures made { IfOk result (λ b. Stands (state over_memory b.conn) × (world_of (state over_memory b.conn).now.trees ≡ empty_world digest.now)) }
         ensures durable { IfOk result (λ b. (trees : Trees) → (state over_memory b.conn).may_leave trees → trees ≡ (state over_memory b.conn).now.trees) }
         ensures ours { IfErr result (λ fault. fault ≢ NotOurs) }
+        ensures known { IfErr result (λ fault. fault ≢ Version) }
     {
         let conn = match Connection::open_in_memory(alloc) {
             Ok(conn) => conn,

@@ -123,7 +123,7 @@ fn lags_taken<S: Alter>(
             alloc,
             conn,
             layout,
-            "SELECT desk, n, source, target, lag FROM lags ORDER BY rowid",
+            "SELECT desk, n, src, dst, lag FROM lags ORDER BY rowid",
         ),
     }
 }

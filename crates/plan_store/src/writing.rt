@@ -298,7 +298,7 @@ fn drop_lag<S: Alter>(
     transact(
         conn,
         &[(
-            "DELETE FROM lags WHERE desk = ?1 AND n = ?2 AND source = ?3 AND target = ?4",
+            "DELETE FROM lags WHERE desk = ?1 AND n = ?2 AND src = ?3 AND dst = ?4",
             params![desk, n, from, to],
         )],
     )
@@ -320,7 +320,7 @@ fn change_lag<S: Alter>(
     transact(
         conn,
         &[(
-            "UPDATE lags SET lag = ?5 WHERE desk = ?1 AND n = ?2 AND source = ?3 AND target = ?4",
+            "UPDATE lags SET lag = ?5 WHERE desk = ?1 AND n = ?2 AND src = ?3 AND dst = ?4",
             params![desk, n, from, to, lag],
         )],
     )
@@ -342,7 +342,7 @@ fn lag_new<S: Alter>(
     transact(
         conn,
         &[(
-            "INSERT INTO lags (desk, n, source, target, lag) VALUES (?1, ?2, ?3, ?4, ?5)",
+            "INSERT INTO lags (desk, n, src, dst, lag) VALUES (?1, ?2, ?3, ?4, ?5)",
             params![desk, n, from, to, lag],
         )],
     )

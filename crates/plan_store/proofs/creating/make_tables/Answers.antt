@@ -5,7 +5,7 @@ use Rattle.plan_store.proofs.CreateLemmas.{creates_nothing, created_all, created
 use Rattle.plan_store.proofs.creating.make_tables.Goals as goal
 
 pub returns-in-Err : goal.returns-in-Err
-returns-in-Err g c = creates_nothing (state g.S.Store c.args.conn.now) c.args.digest.now (Err Store) Store refl c.requires.outside (λ e. cc)
+returns-in-Err g c = creates_nothing (state g.S.Store c.args.conn.now) c.args.digest.now (Err Store) Store refl c.requires.outside (λ e. cc, λ e. cc)
 
 pub returns-in-Ok-made : goal.returns-in-Ok-made
 returns-in-Ok-made g c =
@@ -20,4 +20,4 @@ returns-in-Err-made g c =
     let did = c.in-Err-made.ensures in
     let settled = c.is_autocommit-settled.ensures in
     created_none g.S.Store c.args.digest.now c.digits_of.ensures.known c.args.conn.now new c.requires.empty did.outside (rw (c.as_slice.ensures, c.in-Ok.ensures.digits) at did.survives)
-    (λ outside live. settled.settled (rw (settled.value, outside) refl) live) c.requires.outside (λ clean live. did.neither clean live) (Err c.store_fault_of.result) c.store_fault_of.result refl c.store_fault_of.ensures.ours
+    (λ outside live. settled.settled (rw (settled.value, outside) refl) live) c.requires.outside (λ clean live. did.neither clean live) (Err c.store_fault_of.result) c.store_fault_of.result refl (c.store_fault_of.ensures.ours, c.store_fault_of.ensures.known)
