@@ -1,0 +1,3 @@
+mod StateLemmas
+mod GraphLemmas
+mod ProofLemmas

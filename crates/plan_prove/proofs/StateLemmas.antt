@@ -1,0 +1,126 @@
+-- What holds of a state when a side of a pair is taken, and how states that are refuted refute others.
+use Rattle.std.proofs.Common.{◌≡◌, ℕ, Bool, Option, Some, None, ◌+◌, ◌≤◌, ◌<◌, inl, inr, List, [], ◌∷◌, ◌++◌, length, get_or, ap, sym, ◌∙◌, refl, subst, arith}
+use Rattle.std.specs.List.{All}
+use Rattle.std.specs.Prelude.{IfNone}
+use Rattle.std.proofs.lemmas.List.{get_or_default, get_or_append_left, get_or_at, length_push}
+use Rattle.std.proofs.lemmas.List.Elements.{All-push}
+use Rattle.plan_prove.specs.Graphs.{time_in, KeepsApart, IsKept, NoneIsBelow}
+use Rattle.plan_prove.specs.States.{GoesBefore, Deduces, Follows, IsRaised, KeepsSide, Holds, IsRefuted, IsRoot, IsWithSide, Covers}
+use Rattle.plan_prove.specs.declared.graph.Pair.{Pair}
+use Rattle.plan_prove.specs.declared.graph.Graph.{Graph}
+use Rattle.plan_prove.specs.declared.state.Side.{Side}
+use Rattle.plan_prove.specs.declared.state.Side.TheVariants.{Open, First, Second}
+use Rattle.plan_prove.specs.declared.state.State.{State}
+
+-- a pair keeps the side that the state has taken
+pub side_kept : (g : Graph) (limit : ℕ) (state : State) (k : ℕ) (p : Pair) (side : Side) (starts : List ℕ) → k < length g.pairs.items → p ≡ get_or g.pairs.items k p
+    → get_or state.sides.items k Open ≡ side → Holds g limit state starts → KeepsSide g starts p side
+side_kept g limit state k p side starts below there is h =
+    subst (λ (q : Pair). KeepsSide g starts q side) (sym there) (subst (λ (v : Side). KeepsSide g starts (get_or g.pairs.items k p) v) is (h.sides k p below))
+
+-- a side that the starts keep may be taken
+pub side_taken : (g : Graph) (limit : ℕ) (old new : State) (k : ℕ) (p : Pair) (side : Side) (starts : List ℕ) → k < length g.pairs.items → p ≡ get_or g.pairs.items k p
+    → IsWithSide old new k side → KeepsSide g starts p side → Holds g limit old starts → Holds g limit new starts
+side_taken g limit old new k p side starts below there is keeps h = record {
+  kept = h.kept;
+  heads = λ x. subst (λ (xs : List ℕ). get_or xs x 0 ≤ get_or starts x 0) (sym is.heads) (h.heads x);
+  tails = λ x. subst (λ (xs : List ℕ). get_or starts x 0 + get_or g.times.items x 0 + get_or xs x 0 < limit) (sym is.tails) (h.tails x);
+  sides = λ j q inside. elim (is.sides j) [
+    | inl same ↦ subst (λ (v : Side). KeepsSide g starts (get_or g.pairs.items j q) v) (sym same) (h.sides j q inside)
+    | inr (at, taken) ↦
+        let pair : get_or g.pairs.items j q ≡ p = ap (λ i. get_or g.pairs.items i q) at ∙ get_or_default g.pairs.items k q p below ∙ sym there in
+        subst (λ (v : Side). KeepsSide g starts (get_or g.pairs.items j q) v) (sym taken) (subst (λ (r : Pair). KeepsSide g starts r side) (sym pair) keeps)
+  ];
+}
+
+-- where one step goes before another, the head of the other and the tail of the one may be raised
+pub followed : (g : Graph) (limit : ℕ) (old new : State) (x y head tail : ℕ) → GoesBefore g limit old x y
+    → head ≡ get_or old.heads.items x 0 + time_in g x → tail ≡ time_in g y + get_or old.tails.items y 0
+    → IsRaised old.heads.items new.heads.items y head → IsRaised old.tails.items new.tails.items x tail → new.sides.items ≡ old.sides.items → Follows g limit old new
+followed g limit old new x y head tail before head_is tail_is heads tails sides starts h =
+    let order : get_or starts x 0 + time_in g x ≤ get_or starts y 0 = before starts h in
+    record {
+      kept = h.kept;
+      heads = λ z. elim (heads z) [
+        | inl less ↦ omega (arith, less, h.heads z)
+        | inr (at, most) ↦ omega (arith, most, head_is, order, h.heads x, ap (λ i. get_or starts i 0) at)
+      ];
+      tails = λ z. elim (tails z) [
+        | inl less ↦ omega (arith, less, h.tails z)
+        | inr (at, most) ↦ omega (arith, most, tail_is, order, h.tails y, ap (λ i. get_or starts i 0) at, ap (λ i. time_in g i) at)
+      ];
+      sides = λ k p inside. subst (λ (vs : List Side). KeepsSide g starts (get_or g.pairs.items k p) (get_or vs k Open)) (sym sides) (h.sides k p inside);
+    }
+
+-- where a state is refuted that follows from another, so is the other
+pub none_left : (g : Graph) (limit : ℕ) (old mid new : State) (answer : Option Bool) → answer ≡ None → Follows g limit old mid → IsRefuted g limit mid → Deduces g limit old new answer
+none_left g limit old mid new answer none follows refuted =
+    subst (λ (o : Option Bool). Deduces g limit old new o) (sym none) (λ starts h. refuted starts (follows starts h))
+
+-- what follows from a state and then refutes, refutes the state
+pub none_after : (g : Graph) (limit : ℕ) (old mid new : State) (given answer : Option Bool) → given ≡ None → answer ≡ None → Follows g limit old mid → Deduces g limit mid new given → Deduces g limit old new answer
+none_after g limit old mid new given answer was none follows deduces =
+    let refuted : IsRefuted g limit mid = subst (λ (o : Option Bool). Deduces g limit mid new o) was deduces in
+    none_left g limit old mid new answer none follows refuted
+
+-- what covers a state covers those from which it follows
+pub cover_before : (g : Graph) (limit : ℕ) (new old : List State) (state later : State) → Follows g limit state later → Covers g limit new old later → Covers g limit new old state
+cover_before g limit new old state later follows cover all = let h = cover all in (h.0, λ starts holds. h.1 starts (follows starts holds))
+
+-- the same where that is said of no leaf
+pub leaf_before : {X : Type 0} (g : Graph) (limit : ℕ) (new old : List State) (state later : State) (leaf : Option X) → Follows g limit state later
+    → IfNone leaf (Covers g limit new old later) → IfNone leaf (Covers g limit new old state)
+leaf_before g limit new old state later None follows cover = cover_before g limit new old state later follows cover
+leaf_before g limit new old state later (Some x) follows cover = tt
+
+-- what is said of no leaf, where there is none
+pub at_none : {X : Type 0} (leaf : Option X) (P : Type 0) → leaf ≡ None → IfNone leaf P → P
+at_none leaf P none said = subst (λ o. IfNone o P) none said
+
+-- states that wait, with one that was taken from them and is covered by others
+pub cover_rest : (g : Graph) (limit : ℕ) (before rest new : List State) (state : State) → before ≡ rest ++ state ∷ [] → Covers g limit new rest state
+    → (All (IsRefuted g limit) before → NoneIsBelow g limit) → All (IsRefuted g limit) new → NoneIsBelow g limit
+cover_rest g limit before rest new state is cover none all =
+    let h = cover all in
+    none (subst (λ (xs : List State). All (IsRefuted g limit) xs) (sym is) (All-push (IsRefuted g limit) rest state h.0 h.1))
+
+-- where one side of a pair can't be kept, the other is
+pub other_side : (g : Graph) (starts : List ℕ) (k : ℕ) (p : Pair) → k < length g.pairs.items → p ≡ get_or g.pairs.items k p → IsKept g starts → KeepsApart g starts p
+other_side g starts k p below there kept = subst (λ (q : Pair). KeepsApart g starts q) (sym there) (kept.pairs k p below)
+
+-- a state is refuted where both sides of a pair are
+pub both_refuted : (g : Graph) (limit : ℕ) (state forth back : State) (k : ℕ) → k < length g.pairs.items → IsWithSide state forth k First → IsWithSide state back k Second
+    → IsRefuted g limit forth → IsRefuted g limit back → IsRefuted g limit state
+both_refuted g limit state forth back k below first second no_forth no_back starts h =
+    let none : Pair = record { first = 0; second = 0 } in
+    let p : Pair = get_or g.pairs.items k none in
+    let there : p ≡ get_or g.pairs.items k p = get_or_default g.pairs.items k none p below in
+    elim (other_side g starts k p below there h.kept) [
+      | inl before ↦ no_forth starts (side_taken g limit state forth k p First starts below there first before h)
+      | inr after ↦ no_back starts (side_taken g limit state back k p Second starts below there second after h)
+    ]
+
+-- what holds of all but the last of a list, and of the last
+pub all_but_last : {X : Type 0} (P : X → Type 0) (xs ys : List X) (y : X) → ys ≡ xs ++ y ∷ [] → All P ys → All P xs × P y
+all_but_last P xs ys y is all =
+    let both : All P (xs ++ y ∷ []) = subst (λ zs. All P zs) is all in (
+      λ k d below. subst P (get_or_append_left xs (y ∷ []) d k below) (both k d (omega (arith, below, length_push xs y))),
+      subst P (get_or_at xs y [] y (length xs) refl) (both (length xs) y (omega (arith, length_push xs y))),
+    )
+
+-- two states that are refuted only with a third cover it
+pub two_cover : (g : Graph) (limit : ℕ) (state one other : State) (old between new : List State) → between ≡ old ++ one ∷ [] → new ≡ between ++ other ∷ []
+    → (IsRefuted g limit one → IsRefuted g limit other → IsRefuted g limit state) → Covers g limit new old state
+two_cover g limit state one other old between new first second both all =
+    let outer = all_but_last (IsRefuted g limit) between new other second all in
+    let inner = all_but_last (IsRefuted g limit) old between one first outer.0 in
+    (inner.0, both inner.1 outer.1)
+
+-- where the root is refuted no starts stay below the limit
+pub root_refuted : (g : Graph) (limit : ℕ) (root : State) → IsRoot root → IsRefuted g limit root → NoneIsBelow g limit
+root_refuted g limit root is refuted starts kept below = refuted starts (record {
+  kept = kept;
+  heads = λ x. omega (arith, is.heads x);
+  tails = λ x. omega (arith, is.tails x, below x);
+  sides = λ k p inside. subst (λ (v : Side). KeepsSide g starts (get_or g.pairs.items k p) v) (sym (is.sides k)) tt;
+})

@@ -1,0 +1,64 @@
+-- Disjunctive graphs of job shops (Roy and Sussmann 1964): steps with their times, arcs that every schedule keeps, and pairs of
+-- steps of which one or the other goes first (docs/DEFINITIONS.md, "Proofs of optima").
+use Rattle.std.specs.Prelude.{◌≡◌, ℕ, suc, ◌+◌, ◌≤◌, ◌<◌, ◌⊎◌, List, get_or, map, All}
+use Rattle.plan_shop.specs.Shop.{JobShop, IsShop, count_steps, time_of, machine_of, job_of}
+use Rattle.plan_prove.specs.declared.graph.Pair.{Pair}
+use Rattle.plan_prove.specs.declared.graph.Graph.{Graph}
+
+-- how long a step takes, 0 where there is no such step
+abbrev pub time_in : Graph → ℕ → ℕ
+time_in g x = get_or g.times.items x 0
+
+-- one step ends before another starts
+abbrev pub IsBefore : Graph → List ℕ → ℕ → ℕ → Type 0
+IsBefore g starts x y = get_or starts x 0 + time_in g x ≤ get_or starts y 0
+
+-- the arc of a pair
+abbrev pub KeepsArc : Graph → List ℕ → Pair → Type 0
+KeepsArc g starts p = IsBefore g starts p.first p.second
+
+-- one or the other of a pair goes first
+abbrev pub KeepsApart : Graph → List ℕ → Pair → Type 0
+KeepsApart g starts p = IsBefore g starts p.first p.second ⊎ IsBefore g starts p.second p.first
+
+-- starts that keep all arcs and pairs
+pub record IsKept (g : Graph) (starts : List ℕ) : Type 0 where
+  pub arcs : All (KeepsArc g starts) g.arcs.items
+  pub pairs : All (KeepsApart g starts) g.pairs.items
+
+-- all steps end before a limit
+abbrev pub IsBelow : Graph → ℕ → List ℕ → Type 0
+IsBelow g limit starts = (x : ℕ) → get_or starts x 0 + time_in g x < limit
+
+-- no starts that keep a graph end before a limit
+abbrev pub NoneIsBelow : Graph → ℕ → Type 0
+NoneIsBelow g limit = (starts : List ℕ) → IsKept g starts → IsBelow g limit starts → ⊥
+
+-- the times of all steps
+abbrev pub times_of : JobShop → List ℕ
+times_of s = map (λ w. w.time) s.steps
+
+-- a step and the next one of its job
+pub record IsArcOf (s : JobShop) (p : Pair) : Type 0 where
+  pub next : p.second ≡ suc p.first
+  pub inside : p.second < count_steps s
+  pub one_job : job_of s p.second ≡ job_of s p.first
+
+-- two steps that last are on one machine
+pub record Compete (s : JobShop) (x y : ℕ) : Type 0 where
+  pub machine : machine_of s x ≡ machine_of s y
+  pub one_lasts : 0 < time_of s x
+  pub other_lasts : 0 < time_of s y
+
+-- a step and a later one by number that competes with it
+pub record IsPairOf (s : JobShop) (p : Pair) : Type 0 where
+  pub rising : p.first < p.second
+  pub inside : p.second < count_steps s
+  pub compete : Compete s p.first p.second
+
+-- the graph of a shop that has a machine and a step on each for each job
+pub record IsGraphOf (s : JobShop) (g : Graph) : Type 0 where
+  pub shop : IsShop s
+  pub times : g.times.items ≡ times_of s
+  pub arcs : All (IsArcOf s) g.arcs.items
+  pub pairs : All (IsPairOf s) g.pairs.items

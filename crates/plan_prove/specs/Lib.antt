@@ -1,0 +1,5 @@
+pub mod Graphs
+pub mod States
+pub mod Proofs
+pub use Rattle.plan_sgs.specs.Problem
+pub use Rattle.plan_shop.specs.Shop

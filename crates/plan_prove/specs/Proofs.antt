@@ -1,0 +1,32 @@
+-- Schedules with lower bounds of all makespans (docs/DEFINITIONS.md, "Proofs of optima").
+use Rattle.std.specs.Prelude.{◌≡◌, ℕ, ◌≤◌, ◌<◌, List}
+use Rattle.plan_sgs.specs.Problem.{IsFeasible, IsActive, makespan}
+use Rattle.plan_sgs.specs.declared.schedule.Schedule.{Schedule}
+use Rattle.plan_shop.specs.Shop.{JobShop, problem_of}
+use Rattle.plan_prove.specs.declared.proving.TheConstants.{MOST_NODES}
+use Rattle.plan_prove.specs.declared.fault.ProveFault.{ProveFault}
+use Rattle.plan_prove.specs.declared.fault.ProveFault.TheVariants.{NoMemory, BadNodes}
+use Rattle.plan_prove.specs.declared.proving.Proof.{Proof}
+
+-- no feasible schedule of a shop has a makespan below a number
+abbrev pub IsLowerBound : JobShop → ℕ → Type 0
+IsLowerBound s lower = (starts : List ℕ) → IsFeasible (problem_of s) starts → lower ≤ makespan (problem_of s) starts
+
+-- an active schedule of a shop with its makespan
+pub record IsActiveSchedule (s : JobShop) (schedule : Schedule) : Type 0 where
+  pub active : IsActive (problem_of s) schedule.starts.items
+  pub makespan_is : schedule.makespan ≡ makespan (problem_of s) schedule.starts.items
+
+-- an active schedule and a lower bound
+pub record IsProofOf (s : JobShop) (proof : Proof) : Type 0 where
+  pub schedule : IsActiveSchedule s proof.schedule
+  pub lower : IsLowerBound s proof.lower
+
+-- how many nodes may be allowed
+abbrev pub IsNodeLimit : ℕ → Type 0
+IsNodeLimit nodes = (0 < nodes) × (nodes ≤ MOST_NODES)
+
+-- a number of nodes is refused where it isn't allowed, and for nothing else but want of memory
+abbrev pub RefusesProving : ℕ → ProveFault → Type 0
+RefusesProving nodes NoMemory = Unit {0}
+RefusesProving nodes BadNodes = IsNodeLimit nodes → ⊥

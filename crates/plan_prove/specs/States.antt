@@ -1,0 +1,68 @@
+-- What a search knows of the schedules that it still looks for, and what follows from what
+-- (docs/DEFINITIONS.md, "Proofs of optima").
+use Rattle.std.specs.Prelude.{◌≡◌, ℕ, ◌+◌, ◌≤◌, ◌<◌, ◌⊎◌, Bool, List, Option, Some, None, get_or, length, All}
+use Rattle.plan_prove.specs.Graphs.{time_in, IsBefore, IsKept}
+use Rattle.plan_prove.specs.declared.graph.Pair.{Pair}
+use Rattle.plan_prove.specs.declared.graph.Graph.{Graph}
+use Rattle.plan_prove.specs.declared.state.Side.{Side}
+use Rattle.plan_prove.specs.declared.state.Side.TheVariants.{Open, First, Second}
+use Rattle.plan_prove.specs.declared.state.State.{State}
+
+-- the side of a pair that is taken
+abbrev pub KeepsSide : Graph → List ℕ → Pair → Side → Type 0
+KeepsSide g starts p Open = Unit {0}
+KeepsSide g starts p First = IsBefore g starts p.first p.second
+KeepsSide g starts p Second = IsBefore g starts p.second p.first
+
+-- starts that keep the graph, and of which all holds that a state says: each step starts at its head or later, ends before the
+-- limit with its tail to spare, and each pair that is decided keeps its side
+pub record Holds (g : Graph) (limit : ℕ) (state : State) (starts : List ℕ) : Type 0 where
+  pub kept : IsKept g starts
+  pub heads : (x : ℕ) → get_or state.heads.items x 0 ≤ get_or starts x 0
+  pub tails : (x : ℕ) → get_or starts x 0 + time_in g x + get_or state.tails.items x 0 < limit
+  pub sides : (k : ℕ) (p : Pair) → k < length g.pairs.items → KeepsSide g starts (get_or g.pairs.items k p) (get_or state.sides.items k Open)
+
+-- nothing holds of a state
+abbrev pub IsRefuted : Graph → ℕ → State → Type 0
+IsRefuted g limit state = (starts : List ℕ) → Holds g limit state starts → ⊥
+
+-- what holds of the one state holds of the other
+abbrev pub Follows : Graph → ℕ → State → State → Type 0
+Follows g limit old new = (starts : List ℕ) → Holds g limit old starts → Holds g limit new starts
+
+-- what a deduction answers: nothing where the state is refuted, else the new state follows
+abbrev pub Deduces : Graph → ℕ → State → State → Option Bool → Type 0
+Deduces g limit old new None = IsRefuted g limit old
+Deduces g limit old new (Some _) = Follows g limit old new
+
+-- one step goes before another in all that the state holds of
+abbrev pub GoesBefore : Graph → ℕ → State → ℕ → ℕ → Type 0
+GoesBefore g limit state x y = (starts : List ℕ) → Holds g limit state starts → IsBefore g starts x y
+
+-- it goes before it in none
+abbrev pub NotBefore : Graph → ℕ → State → ℕ → ℕ → Type 0
+NotBefore g limit state x y = (starts : List ℕ) → Holds g limit state starts → IsBefore g starts x y → ⊥
+
+-- the state in which nothing is known
+pub record IsRoot (state : State) : Type 0 where
+  pub heads : (x : ℕ) → get_or state.heads.items x 0 ≡ 0
+  pub tails : (x : ℕ) → get_or state.tails.items x 0 ≡ 0
+  pub sides : (k : ℕ) → get_or state.sides.items k Open ≡ Open
+
+-- nothing is more than before, but at one place, where it is at most a value
+abbrev pub IsRaised : List ℕ → List ℕ → ℕ → ℕ → Type 0
+IsRaised old new place value = (x : ℕ) → (get_or new x 0 ≤ get_or old x 0) ⊎ ((x ≡ place) × (get_or new x 0 ≤ value))
+
+-- all sides are those of before, but at one place, where it may be another
+abbrev pub TakesSide : List Side → List Side → ℕ → Side → Type 0
+TakesSide old new place side = (k : ℕ) → (get_or new k Open ≡ get_or old k Open) ⊎ ((k ≡ place) × (get_or new k Open ≡ side))
+
+-- a state is another with a side taken
+pub record IsWithSide (old new : State) (place : ℕ) (side : Side) : Type 0 where
+  pub heads : new.heads.items ≡ old.heads.items
+  pub tails : new.tails.items ≡ old.tails.items
+  pub sides : TakesSide old.sides.items new.sides.items place side
+
+-- where all new states are refuted, so are the old ones and one more
+abbrev pub Covers : Graph → ℕ → List State → List State → State → Type 0
+Covers g limit new old state = All (IsRefuted g limit) new → All (IsRefuted g limit) old × IsRefuted g limit state

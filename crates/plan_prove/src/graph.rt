@@ -1,0 +1,108 @@
+//! The disjunctive graph of a shop.
+
+ghost use Rattle.std.specs.Prelude.{◌≡◌, ◌<◌, ◌+◌, ◌*◌, ◌≤◌, ◌↔◌, ℕ, suc, length, slice_index, All, IfOk, OnOk, IsTrue};
+ghost use Rattle.plan_shop.specs.Shop as flat;
+ghost use Rattle.plan_shop.specs.Shop.{IsShop};
+ghost use Rattle.plan_shop.specs.Docs.{IsSmallShop};
+ghost use Rattle.plan_prove.specs.Graphs as spec;
+
+use plan_shop::Shop;
+use std::alloc::{AllocError, Global};
+
+/// Two steps by their flat numbers.
+#[derive(Clone, Copy, Drop)]
+pub struct Pair {
+    pub first: u32,
+    pub second: u32,
+}
+
+/// The times of the steps in flat order, the arcs that every schedule keeps, from step to step, and
+/// the pairs of steps of which one or the other goes first.
+#[derive(Drop)]
+pub struct Graph {
+    pub times: Vec<u32>,
+    pub arcs: Vec<Pair>,
+    pub pairs: Vec<Pair>,
+}
+
+// How many steps there are.
+fn count(shop: &Shop) -> u32
+    ensures value { result ≡ flat.count_steps shop.now }
+    ensures few { result ≤ 1000 }
+    ensures shop { IsSmallShop shop.now }
+{
+    shop.jobs() * shop.machines()
+}
+
+// The times of all steps.
+fn times(alloc: Global, shop: &Shop) -> Result<Vec<u32>, AllocError>
+    ensures times { IfOk result (λ times. times.items ≡ spec.times_of shop.now) }
+    ensures shop { IsShop shop.now }
+{
+    let mut times = Vec::new(alloc);
+    for x in 0..count(shop) {
+        times.push(shop.step(x).time as u32)?;
+    }
+    Ok(times)
+}
+
+// The steps that follow each other in their jobs.
+fn arcs(alloc: Global, shop: &Shop) -> Result<Vec<Pair>, AllocError>
+    ensures { IfOk result (λ arcs. All (spec.IsArcOf shop.now) arcs.items) }
+{
+    let mut arcs = Vec::new(alloc);
+    let machines = shop.machines();
+    for second in 1..count(shop) {
+        let first = second - 1;
+        if second / machines == first / machines {
+            arcs.push(Pair { first, second })?;
+        }
+    }
+    Ok(arcs)
+}
+
+// Whether two steps are on one machine and both last.
+fn compete(shop: &Shop, first: u32, second: u32) -> bool
+    requires first { first < flat.count_steps shop.now }
+    requires second { second < flat.count_steps shop.now }
+    ensures { IsTrue result ↔ spec.Compete shop.now first second }
+{
+    let (one, other) = (shop.step(first), shop.step(second));
+    one.machine == other.machine && one.time > 0 && other.time > 0
+}
+
+// Puts the pairs of a step and those before it behind others.
+fn add_pairs(shop: &Shop, second: u32, pairs: &mut Vec<Pair>) -> Result<(), AllocError>
+    requires step { second < flat.count_steps shop.now }
+    requires pairs { All (spec.IsPairOf shop.now) pairs.old.items }
+    ensures { OnOk result (All (spec.IsPairOf shop.now) pairs.new.items) }
+{
+    for first in 0..second {
+        if compete(shop, first, second) {
+            pairs.push(Pair { first, second })?;
+        }
+    }
+    Ok(())
+}
+
+// The pairs of steps that compete for a machine.
+fn pairs(alloc: Global, shop: &Shop) -> Result<Vec<Pair>, AllocError>
+    ensures { IfOk result (λ pairs. All (spec.IsPairOf shop.now) pairs.items) }
+{
+    let mut pairs = Vec::new(alloc);
+    for second in 0..count(shop) {
+        add_pairs(shop, second, &mut pairs)?;
+    }
+    Ok(pairs)
+}
+
+/// The disjunctive graph of a shop (Roy and Sussmann 1964).
+pub fn graph_of(alloc: Global, shop: &Shop) -> Result<Graph, AllocError>
+    ensures { IfOk result (spec.IsGraphOf shop.now) }
+{
+    Ok(Graph {
+        times: times(alloc, shop)?,
+        arcs: arcs(alloc, shop)?,
+        pairs: pairs(alloc, shop)?,
+    })
+}

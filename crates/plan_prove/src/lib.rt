@@ -1,0 +1,14 @@
+//! Proofs of optima of job shops: a search that refutes makespans, and the lower bounds that it leaves.
+#![tactic(auto)]
+
+mod branching;
+mod deducing;
+mod fault;
+mod graph;
+mod guiding;
+mod proving;
+mod refuting;
+mod state;
+
+pub use fault::ProveFault;
+pub use proving::{MOST_NODES, Proof, prove};

@@ -1,0 +1,109 @@
+//! The search: whether any schedule stays below a limit.
+
+ghost use Rattle.std.specs.Prelude.{◌≡◌, ◌<◌, ◌≤◌, ℕ, List, length, All, IfOk, IfNone};
+ghost use Rattle.plan_prove.specs.Graphs.{NoneIsBelow};
+ghost use Rattle.plan_prove.specs.States as spec;
+ghost use Rattle.plan_prove.specs.declared.refuting.Outcome.TheVariants.{Refuted};
+
+use crate::branching::{Choice, choose};
+use crate::deducing::propagate;
+use crate::graph::Graph;
+use crate::state::{Side, State};
+use std::alloc::{AllocError, Global};
+
+/// What a search came to.
+#[derive(Drop)]
+pub enum Outcome {
+    /// No schedule stays below the limit.
+    Refuted,
+    /// All pairs are decided; the heads.
+    Leaf(Vec<u32>),
+    /// No node was left.
+    Stopped,
+}
+
+// Opens a state with either side of a pair taken, the last the side that is to be visited first.
+fn split(
+    alloc: Global,
+    graph: &Graph,
+    limit: u32,
+    state: &State,
+    choice: Choice,
+    waiting: &mut Vec<State>,
+) -> Result<(), AllocError>
+    requires { choice.place < length graph.now.pairs.items }
+    ensures { IfOk result (λ _. spec.Covers graph.now limit waiting.new.items waiting.old.items state.now) }
+{
+    let forth = state.with_side(alloc, choice.place, Side::First)?;
+    let back = state.with_side(alloc, choice.place, Side::Second)?;
+    if choice.roomier_first {
+        waiting.push(back)?;
+        waiting.push(forth)?;
+    } else {
+        waiting.push(forth)?;
+        waiting.push(back)?;
+    }
+    Ok(())
+}
+
+// Opens the states that a state splits into, or answers the heads of a leaf.
+fn expand(
+    alloc: Global,
+    graph: &Graph,
+    limit: u32,
+    state: State,
+    waiting: &mut Vec<State>,
+) -> Result<Option<Vec<u32>>, AllocError>
+    ensures { IfOk result (λ leaf. IfNone leaf (spec.Covers graph.now limit waiting.new.items waiting.old.items state)) }
+{
+    match choose(graph, limit, &state) {
+        None => Ok(Some(state.heads)),
+        Some(choice) => {
+            split(alloc, graph, limit, &state, choice, waiting)?;
+            Ok(None)
+        }
+    }
+}
+
+// Visits a state: refutes it, or opens those that it splits into, or answers the heads of a leaf.
+fn visit(
+    alloc: Global,
+    graph: &Graph,
+    limit: u32,
+    mut state: State,
+    waiting: &mut Vec<State>,
+) -> Result<Option<Vec<u32>>, AllocError>
+    ensures { IfOk result (λ leaf. IfNone leaf (spec.Covers graph.now limit waiting.new.items waiting.old.items state)) }
+{
+    let Some(_) = propagate(graph, limit, &mut state) else {
+        return Ok(None);
+    };
+    let leaf = expand(alloc, graph, limit, state, waiting)?;
+    Ok(leaf)
+}
+
+/// Searches for a schedule whose makespan is below a limit, depth first, for as many nodes as are
+/// left (branch and bound over disjunctive pairs: Carlier and Pinson 1989; Brucker, Jurisch and
+/// Sievers 1994).
+pub fn refute(
+    alloc: Global,
+    graph: &Graph,
+    limit: u32,
+    nodes: &mut u64,
+) -> Result<Outcome, AllocError>
+    ensures refuted { IfOk result (λ outcome. outcome ≡ Refuted → NoneIsBelow graph.now limit) }
+    ensures nodes { nodes.new ≤ nodes.old }
+{
+    let mut waiting = Vec::new(alloc);
+    waiting.push(State::root(alloc, graph)?)?;
+    for _node in 0..*nodes {
+        let Some(state) = waiting.pop() else {
+            return Ok(Outcome::Refuted);
+        };
+        *nodes -= 1;
+        if let Some(heads) = visit(alloc, graph, limit, state, &mut waiting)? {
+            return Ok(Outcome::Leaf(heads));
+        }
+    }
+    Ok(Outcome::Stopped)
+}

@@ -1,0 +1,102 @@
+//! What a search knows of the schedules that it still looks for.
+
+ghost use Rattle.std.specs.Prelude.{◌≡◌, ◌<◌, ◌≤◌, ◌^◌, ℕ, length, replicate, get_or, slice_index, IfOk, IfSome, IfNone};
+ghost use Rattle.plan_prove.specs.States as spec;
+ghost use Rattle.plan_prove.specs.declared.state.Side.TheVariants.{Open};
+
+use crate::graph::Graph;
+use std::alloc::{AllocError, Global};
+
+/// Which step of a pair goes first, where that is known.
+#[derive(Debug, Clone, Copy, PartialEq, Eq, Drop)]
+pub enum Side {
+    Open,
+    First,
+    Second,
+}
+
+/// Of the schedules that are still looked for: before when no step starts (its head), how much
+/// there is at least between its end and the bound on the makespan (its tail), and which pairs are
+/// decided.
+#[derive(Drop)]
+pub struct State {
+    pub heads: Vec<u32>,
+    pub tails: Vec<u32>,
+    pub sides: Vec<Side>,
+}
+
+/// The number at a place, and 0 where there is none.
+pub fn at(list: &[u32], place: u32) -> u64
+    ensures value { result ≡ slice_index list.now place }
+    ensures small { result < 2 ^ 32 }
+{
+    match list.get(place as usize) {
+        Some(value) => *value as u64,
+        None => 0,
+    }
+}
+
+/// The side at a place, open where there is none.
+pub fn side_at(sides: &[Side], place: usize) -> Side
+    ensures { result ≡ get_or sides.now place Open }
+{
+    match sides.get(place) {
+        Some(side) => *side,
+        None => Side::Open,
+    }
+}
+
+impl State {
+    ghost use Rattle.std.specs.Prelude.{◌≡◌, ◌<◌, ◌≤◌, IfOk, IfSome, IfNone};
+    ghost use Rattle.plan_prove.specs.States as spec;
+
+    /// The state in which nothing is known.
+    pub fn root(alloc: Global, graph: &Graph) -> Result<State, AllocError>
+        ensures { IfOk result spec.IsRoot }
+    {
+        let steps = graph.times.len();
+        Ok(State {
+            heads: vec![in alloc; 0; steps]?,
+            tails: vec![in alloc; 0; steps]?,
+            sides: vec![in alloc; Side::Open; graph.pairs.len()]?,
+        })
+    }
+
+    /// The same with a side of a pair taken.
+    pub fn with_side(&self, alloc: Global, place: usize, side: Side) -> Result<State, AllocError>
+        ensures { IfOk result (λ state. spec.IsWithSide self.now state place side) }
+    {
+        let mut state = State {
+            heads: self.heads.clone()?,
+            tails: self.tails.clone()?,
+            sides: self.sides.clone()?,
+        };
+        take_side(&mut state.sides, place, side);
+        Ok(state)
+    }
+}
+
+/// Raises the number at a place, where it is less; `Some(true)` where it was, `None` where the new one isn't
+/// below the limit.
+pub fn raise(list: &mut Vec<u32>, place: u32, value: u64, limit: u32) -> Option<bool>
+    ensures some { IfSome result (λ _. spec.IsRaised list.old.items list.new.items place value) }
+    ensures none { IfNone result (limit ≤ value) }
+{
+    if value >= limit as u64 {
+        return None;
+    }
+    if value <= at(list, place) || place as usize >= list.len() {
+        return Some(false);
+    }
+    list[place as usize] = value as u32;
+    Some(true)
+}
+
+/// Takes a side of a pair.
+pub fn take_side(sides: &mut Vec<Side>, place: usize, side: Side)
+    ensures { spec.TakesSide sides.old.items sides.new.items place side }
+{
+    if place < sides.len() {
+        sides[place] = side;
+    }
+}
