@@ -1,17 +1,20 @@
 -- The graph of a shop is kept by all its feasible starts, so what is refuted of the graph is of the shop.
-use Rattle.std.proofs.Common.{◌≡◌, ℕ, suc, ◌+◌, ◌≤◌, ◌<◌, inl, inr, List, [], ◌∷◌, ◌++◌, Some, length, get_or, map, take, ap, sym, ◌∙◌, arith}
-use Rattle.std.specs.List.{All}
-use Rattle.std.proofs.lemmas.Bool.{cases_lt}
-use Rattle.std.proofs.lemmas.List.{get_or_past, get_or-map, length-map, take_more, map_push}
+use Rattle.std.proofs.Common.{◌≡◌, ℕ, suc, ◌+◌, ◌≤◌, ◌<◌, inl, inr, List, [], ◌∷◌, ◌++◌, Some, Vec, Bool, true, false, nat_eq, nat_lt, cond, ◌⊎◌, add-one, Contains, length, get_or, map, take, ap, sym, ◌∙◌, subst, arith}
+use Rattle.std.specs.List.{All, AllPairs}
+use Rattle.std.specs.declared.alloc.Global.{Global}
+use Rattle.plan_shop.proofs.NumberLemmas.{there_passes, those_rise}
+use Rattle.std.proofs.lemmas.Bool.{cases_lt, eqb-true, ltb-true, cond-true, cond-false}
+use Rattle.plan_prove.proofs.BoolLemmas.{both_true}
+use Rattle.std.proofs.lemmas.List.{get_or_past, get_or-map, length-map, take_more, map_push, append-nil}
 use Rattle.std.specs.List.{slice_get}
 use Rattle.std.proofs.lemmas.Option.{get_or_from_slice_get, slice_get_within}
 use Rattle.plan_sgs.proofs.TotalLemmas.{greatest_above}
 use Rattle.plan_orlib.specs.declared.steps.Step.{Step}
 use Rattle.plan_sgs.specs.Problem.{count, duration, IsFeasible, makespan}
-use Rattle.plan_shop.specs.Shop.{JobShop, idle, count_steps, time_of, job_of, problem_of}
+use Rattle.plan_shop.specs.Shop.{JobShop, machine_of, those_below, idle, count_steps, time_of, job_of, problem_of}
 use Rattle.plan_shop.specs.Laws.{IsChained, IsApart, ArcsAreNeighbours, CapacitiesKeepApart}
 use Rattle.plan_shop.proofs.ShopBasics.{arcs_are_neighbours, capacities_keep_apart, count_is, duration_is}
-use Rattle.plan_prove.specs.Graphs.{time_in, KeepsArc, KeepsApart, IsKept, IsBelow, NoneIsBelow, IsArcOf, IsPairOf, IsGraphOf}
+use Rattle.plan_prove.specs.Graphs.{time_in, KeepsArc, KeepsApart, KeepsClique, IsKept, IsBelow, NoneIsBelow, IsArcOf, IsPairOf, lasts_on, IsCliqueOf, IsGraphOf}
 use Rattle.plan_prove.specs.Proofs.{IsLowerBound}
 use Rattle.plan_prove.specs.declared.graph.Graph.{Graph}
 
@@ -33,13 +36,35 @@ times_more s i step times new before there is =
     take_more s.steps i step (slice_get_within s.steps i step there) ∙ ap (λ (w : Step). take i s.steps ++ w ∷ []) (get_or_from_slice_get s.steps i step step there) in
     is ∙ ap (λ (xs : List ℕ). xs ++ step.time ∷ []) before ∙ sym (map_push time (take i s.steps) step) ∙ ap (map time) (sym more)
 
+-- the steps of a clique are those of a machine that last, so that no two overlap
+clique_kept : (s : JobShop) (g : Graph) (starts : List ℕ) (clique : Vec ℕ Global) → IsGraphOf s g → IsCliqueOf s clique → IsApart s starts → KeepsClique g starts clique
+clique_kept s g starts clique is (m, are) apart = record {
+  rising = subst (λ (xs : List ℕ). AllPairs (λ x y. x < y) xs) (sym are) (those_rise (count_steps s) (lasts_on s m));
+  apart = λ x y in_x in_y rising.
+      let first = there_passes (count_steps s) (lasts_on s m) x (subst (λ (xs : List ℕ). Contains xs x) are in_x) in
+      let second = there_passes (count_steps s) (lasts_on s m) y (subst (λ (xs : List ℕ). Contains xs y) are in_y) in
+      let one = lasting s m x first.1 in
+      let other = lasting s m y second.1 in
+      elim (apart x y rising second.0 (one.0 ∙ sym other.0) one.1 other.1) [
+        | inl before ↦ inl (omega (arith, before, time_is s g is x))
+        | inr after ↦ inr (omega (arith, after, time_is s g is y))
+      ];
+} where
+  lasting : (s : JobShop) (m x : ℕ) → lasts_on s m x ≡ true → (machine_of s x ≡ m) × (0 < time_of s x)
+  lasting s m x passes =
+      let h = both_true (nat_eq (machine_of s x) m) (nat_lt 0 (time_of s x)) passes in
+      (eqb-true (machine_of s x) m h.0, ltb-true 0 (time_of s x) h.1)
+
 pub kept_in : (s : JobShop) (g : Graph) (starts : List ℕ) → IsGraphOf s g → IsFeasible (problem_of s) starts → IsKept g starts
 unfolding ArcsAreNeighbours CapacitiesKeepApart
 kept_in s g starts is feasible =
     let chained : IsChained s starts = (arcs_are_neighbours s is.shop starts).0 feasible.arcs in
     let apart : IsApart s starts = (capacities_keep_apart s is.shop starts (feasible.each_started ∙ count_is s)).0 feasible.capacities in
-    record { arcs = arcs chained; pairs = pairs apart }
+    record { arcs = arcs chained; pairs = pairs apart; cliques = cliques apart }
   where
+    cliques : IsApart s starts → All (KeepsClique g starts) g.cliques.items
+    cliques apart k v below = clique_kept s g starts (get_or g.cliques.items k v) is (is.cliques k v below) apart
+
     arcs : IsChained s starts → All (KeepsArc g starts) g.arcs.items
     arcs chained k p below =
         let arc : IsArcOf s (get_or g.arcs.items k p) = is.arcs k p below in
@@ -75,3 +100,13 @@ refuted_bound s g limit is none starts feasible = elim (cases_lt (makespan (prob
   | inl below ↦ absurd (none starts (kept_in s g starts is feasible) (below_limit s g limit starts is feasible below))
   | inr least ↦ least
 ]
+
+-- the lasting steps of a machine with one more, where it is one
+pub lasting_more : (s : JobShop) (m x : ℕ) (before new : List ℕ) → before ≡ those_below x (lasts_on s m) → lasts_on s m x ≡ true → new ≡ before ++ x ∷ [] → new ≡ those_below (x + 1) (lasts_on s m)
+lasting_more s m x before new is lasts pushed = rw add-one
+    (pushed ∙ ap (λ (xs : List ℕ). xs ++ x ∷ []) is ∙ ap (λ (xs : List ℕ). those_below x (lasts_on s m) ++ xs) (sym (cond-true (lasts_on s m x) (x ∷ []) [] lasts)))
+
+-- and where it is none
+pub lasting_same : (s : JobShop) (m x : ℕ) (before new : List ℕ) → before ≡ those_below x (lasts_on s m) → lasts_on s m x ≡ false → new ≡ before → new ≡ those_below (x + 1) (lasts_on s m)
+lasting_same s m x before new is lasts same = rw add-one
+    (same ∙ is ∙ sym (ap (λ (xs : List ℕ). those_below x (lasts_on s m) ++ xs) (cond-false (lasts_on s m x) (x ∷ []) [] lasts) ∙ append-nil (those_below x (lasts_on s m))))

@@ -1,3 +1,4 @@
+mod BoolLemmas
 mod StateLemmas
 mod GraphLemmas
-mod ProofLemmas
+mod CliqueLemmas

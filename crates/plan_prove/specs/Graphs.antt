@@ -1,7 +1,9 @@
 -- Disjunctive graphs of job shops (Roy and Sussmann 1964): steps with their times, arcs that every schedule keeps, and pairs of
 -- steps of which one or the other goes first (docs/DEFINITIONS.md, "Proofs of optima").
-use Rattle.std.specs.Prelude.{◌≡◌, ℕ, suc, ◌+◌, ◌≤◌, ◌<◌, ◌⊎◌, List, get_or, map, All}
-use Rattle.plan_shop.specs.Shop.{JobShop, IsShop, count_steps, time_of, machine_of, job_of}
+use Rattle.std.specs.Prelude.{◌≡◌, ℕ, suc, ◌+◌, ◌≤◌, ◌<◌, ◌⊎◌, List, Vec, Contains, Bool, ◌&&◌, nat_eq, nat_lt, get_or, map, All}
+use Rattle.std.specs.List.{AllPairs}
+use Rattle.std.specs.declared.alloc.Global.{Global}
+use Rattle.plan_shop.specs.Shop.{JobShop, IsShop, count_steps, time_of, machine_of, job_of, those_below}
 use Rattle.plan_prove.specs.declared.graph.Pair.{Pair}
 use Rattle.plan_prove.specs.declared.graph.Graph.{Graph}
 
@@ -21,10 +23,16 @@ KeepsArc g starts p = IsBefore g starts p.first p.second
 abbrev pub KeepsApart : Graph → List ℕ → Pair → Type 0
 KeepsApart g starts p = IsBefore g starts p.first p.second ⊎ IsBefore g starts p.second p.first
 
--- starts that keep all arcs and pairs
+-- no two of some steps, which rise, overlap
+pub record KeepsClique (g : Graph) (starts : List ℕ) (clique : Vec ℕ Global) : Type 0 where
+  pub rising : AllPairs (λ x y. x < y) clique.items
+  pub apart : (x y : ℕ) → Contains clique.items x → Contains clique.items y → x < y → IsBefore g starts x y ⊎ IsBefore g starts y x
+
+-- starts that keep all arcs, pairs and cliques
 pub record IsKept (g : Graph) (starts : List ℕ) : Type 0 where
   pub arcs : All (KeepsArc g starts) g.arcs.items
   pub pairs : All (KeepsApart g starts) g.pairs.items
+  pub cliques : All (KeepsClique g starts) g.cliques.items
 
 -- all steps end before a limit
 abbrev pub IsBelow : Graph → ℕ → List ℕ → Type 0
@@ -56,9 +64,22 @@ pub record IsPairOf (s : JobShop) (p : Pair) : Type 0 where
   pub inside : p.second < count_steps s
   pub compete : Compete s p.first p.second
 
+-- a step is on a machine and lasts
+abbrev pub lasts_on : JobShop → ℕ → ℕ → Bool
+lasts_on s m x = nat_eq (machine_of s x) m && nat_lt 0 (time_of s x)
+
+-- the steps of a machine that last, rising
+abbrev pub lasting_on : JobShop → ℕ → List ℕ
+lasting_on s m = those_below (count_steps s) (lasts_on s m)
+
+-- the same of some machine
+abbrev pub IsCliqueOf : JobShop → Vec ℕ Global → Type 0
+IsCliqueOf s clique = (m : ℕ) × (clique.items ≡ lasting_on s m)
+
 -- the graph of a shop that has a machine and a step on each for each job
 pub record IsGraphOf (s : JobShop) (g : Graph) : Type 0 where
   pub shop : IsShop s
   pub times : g.times.items ≡ times_of s
   pub arcs : All (IsArcOf s) g.arcs.items
   pub pairs : All (IsPairOf s) g.pairs.items
+  pub cliques : All (IsCliqueOf s) g.cliques.items

@@ -1,7 +1,8 @@
 -- What a search knows of the schedules that it still looks for, and what follows from what
 -- (docs/DEFINITIONS.md, "Proofs of optima").
-use Rattle.std.specs.Prelude.{◌≡◌, ℕ, ◌+◌, ◌≤◌, ◌<◌, ◌⊎◌, Bool, List, Option, Some, None, get_or, length, All}
-use Rattle.plan_prove.specs.Graphs.{time_in, IsBefore, IsKept}
+use Rattle.std.specs.Prelude.{◌≡◌, ℕ, ◌+◌, ◌≤◌, ◌<◌, ◌⊎◌, ◌&&◌, nat_le, filter, Bool, List, Vec, Option, Some, None, get_or, length, All}
+use Rattle.std.specs.declared.alloc.Global.{Global}
+use Rattle.plan_prove.specs.Graphs.{time_in, IsBefore, KeepsClique, IsKept}
 use Rattle.plan_prove.specs.declared.graph.Pair.{Pair}
 use Rattle.plan_prove.specs.declared.graph.Graph.{Graph}
 use Rattle.plan_prove.specs.declared.state.Side.{Side}
@@ -66,3 +67,15 @@ pub record IsWithSide (old new : State) (place : ℕ) (side : Side) : Type 0 whe
 -- where all new states are refuted, so are the old ones and one more
 abbrev pub Covers : Graph → ℕ → List State → List State → State → Type 0
 Covers g limit new old state = All (IsRefuted g limit) new → All (IsRefuted g limit) old × IsRefuted g limit state
+
+-- a step starts at a head or later, and has a tail at least
+abbrev pub is_within : State → ℕ → ℕ → ℕ → Bool
+is_within state head tail x = nat_le head (get_or state.heads.items x 0) && nat_le tail (get_or state.tails.items x 0)
+
+-- those of some steps
+abbrev pub within : State → ℕ → ℕ → List ℕ → List ℕ
+within state head tail steps = filter (is_within state head tail) steps
+
+-- no two of some steps overlap where a graph is kept
+abbrev pub IsClique : Graph → Vec ℕ Global → Type 0
+IsClique g clique = (starts : List ℕ) → IsKept g starts → KeepsClique g starts clique

@@ -4,6 +4,7 @@ ghost use Rattle.std.specs.Prelude.{◌≡◌, ◌<◌, ◌≤◌, ℕ, List, fa
 ghost use Rattle.plan_prove.specs.Graphs.{IsBefore};
 ghost use Rattle.plan_prove.specs.States as spec;
 
+use crate::cliques::machine_bound;
 use crate::graph::{Graph, Pair};
 use crate::state::{Side, State, at, raise, side_at, take_side};
 
@@ -113,8 +114,8 @@ fn settle_pairs(graph: &Graph, limit: u32, state: &mut State) -> Option<bool>
     Some(moved)
 }
 
-/// Passes over arcs and pairs while they say more; `None` where no schedule is left.
-pub fn propagate(graph: &Graph, limit: u32, state: &mut State) -> Option<bool>
+// Passes over arcs and pairs while they say more; `None` where no schedule is left.
+fn propagate(graph: &Graph, limit: u32, state: &mut State) -> Option<bool>
     ensures { spec.Deduces graph.now limit state.old state.new result }
 {
     for _pass in 0..MOST_PASSES {
@@ -125,4 +126,13 @@ pub fn propagate(graph: &Graph, limit: u32, state: &mut State) -> Option<bool>
         }
     }
     Some(false)
+}
+
+/// All that follows from a state by arcs, pairs and machines; `None` where no schedule is left.
+pub fn deduce(graph: &Graph, limit: u32, state: &mut State) -> Option<bool>
+    ensures { spec.Deduces graph.now limit state.old state.new result }
+{
+    let settled = propagate(graph, limit, state)?;
+    machine_bound(graph, limit, state)?;
+    Some(settled)
 }

@@ -17,12 +17,14 @@ pub struct Pair {
 }
 
 /// The times of the steps in flat order, the arcs that every schedule keeps, from step to step, and
-/// the pairs of steps of which one or the other goes first.
+/// the pairs of steps of which one or the other goes first, and for each machine its steps that last,
+/// none of which may overlap.
 #[derive(Drop)]
 pub struct Graph {
     pub times: Vec<u32>,
     pub arcs: Vec<Pair>,
     pub pairs: Vec<Pair>,
+    pub cliques: Vec<Vec<u32>>,
 }
 
 // How many steps there are.
@@ -96,6 +98,39 @@ fn pairs(alloc: Global, shop: &Shop) -> Result<Vec<Pair>, AllocError>
     Ok(pairs)
 }
 
+// Whether a step is on a machine and lasts.
+fn lasts_on(shop: &Shop, x: u32, machine: u32) -> bool
+    requires { x < flat.count_steps shop.now }
+    ensures { result ≡ spec.lasts_on shop.now machine x }
+{
+    let step = shop.step(x);
+    step.machine == machine && step.time > 0
+}
+
+// The steps of a machine that last.
+fn clique(alloc: Global, shop: &Shop, machine: u32) -> Result<Vec<u32>, AllocError>
+    ensures { IfOk result (λ clique. clique.items ≡ spec.lasting_on shop.now machine) }
+{
+    let mut clique = Vec::new(alloc);
+    for x in 0..count(shop) {
+        if lasts_on(shop, x, machine) {
+            clique.push(x)?;
+        }
+    }
+    Ok(clique)
+}
+
+// The steps that last, machine by machine.
+fn cliques(alloc: Global, shop: &Shop) -> Result<Vec<Vec<u32>>, AllocError>
+    ensures { IfOk result (λ cliques. All (spec.IsCliqueOf shop.now) cliques.items) }
+{
+    let mut cliques = Vec::new(alloc);
+    for machine in 0..shop.machines() {
+        cliques.push(clique(alloc, shop, machine)?)?;
+    }
+    Ok(cliques)
+}
+
 /// The disjunctive graph of a shop (Roy and Sussmann 1964).
 pub fn graph_of(alloc: Global, shop: &Shop) -> Result<Graph, AllocError>
     ensures { IfOk result (spec.IsGraphOf shop.now) }
@@ -104,5 +139,6 @@ pub fn graph_of(alloc: Global, shop: &Shop) -> Result<Graph, AllocError>
         times: times(alloc, shop)?,
         arcs: arcs(alloc, shop)?,
         pairs: pairs(alloc, shop)?,
+        cliques: cliques(alloc, shop)?,
     })
 }

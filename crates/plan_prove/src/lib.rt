@@ -2,6 +2,7 @@
 #![tactic(auto)]
 
 mod branching;
+mod cliques;
 mod deducing;
 mod fault;
 mod graph;

@@ -6,7 +6,7 @@ ghost use Rattle.plan_prove.specs.States as spec;
 ghost use Rattle.plan_prove.specs.declared.refuting.Outcome.TheVariants.{Refuted};
 
 use crate::branching::{Choice, choose};
-use crate::deducing::propagate;
+use crate::deducing::deduce;
 use crate::graph::Graph;
 use crate::state::{Side, State};
 use std::alloc::{AllocError, Global};
@@ -75,7 +75,7 @@ fn visit(
 ) -> Result<Option<Vec<u32>>, AllocError>
     ensures { IfOk result (λ leaf. IfNone leaf (spec.Covers graph.now limit waiting.new.items waiting.old.items state)) }
 {
-    let Some(_) = propagate(graph, limit, &mut state) else {
+    let Some(_) = deduce(graph, limit, &mut state) else {
         return Ok(None);
     };
     let leaf = expand(alloc, graph, limit, state, waiting)?;

@@ -10,6 +10,5 @@ returns-in-Refuted-clause-proof c = record {
   lower = λ starts feasible.
       let least : c.in-Ok.limit ≤ makespan (problem_of c.args.shop.now) starts =
       refuted_bound c.args.shop.now c.args.graph.now c.in-Ok.limit c.requires.graph (c.in_ok-refute.ensures.refuted c.in-Refuted.is) starts feasible in
-      let same = c.in-Ok.ensures in
-      omega (arith, c.max-proof.ensures, least, c.requires.proof.lower starts feasible, c.in-Ok.is);
+      omega (arith, c.max-proof.ensures, least, c.requires.proof.lower starts feasible);
 }

@@ -3,4 +3,4 @@ use Rattle.plan_prove.proofs.refuting.visit.Goals as goal
 
 pub returns : goal.returns
 returns c =
-    leaf_before c.args.graph.now c.args.limit c.expand.new.waiting.items c.args.waiting.now.items c.args.state c.propagate.new.state c.in_ok-leaf.leaf c.in-Some.ensures c.in_ok-leaf.ensures
+    leaf_before c.args.graph.now c.args.limit c.expand.new.waiting.items c.args.waiting.now.items c.args.state c.deduce.new.state c.in_ok-leaf.leaf c.in-Some.ensures c.in_ok-leaf.ensures
