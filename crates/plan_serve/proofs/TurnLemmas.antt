@@ -1,15 +1,17 @@
 -- Connections that were served turn by turn.
-use Rattle.std.proofs.Common.{◌≡◌, ◌≤◌, ◌+◌, ℕ, suc, List, [], ◌∷◌, ◌++◌, Option, Some, None, Result, Ok, Err, IfOk, IsErr, MatchResult, length, refl, sym, subst, ◌∙◌, ap, arith}
-use Rattle.std.proofs.lemmas.List.{length-append}
+use Rattle.std.proofs.Common.{◌≡◌, ◌⊎◌, ◌≤◌, ◌+◌, ℕ, suc, List, [], ◌∷◌, ◌++◌, Option, Some, None, Result, Ok, Err, IfOk, IsErr, MatchResult, inl, inr, length, refl, sym, subst, ◌∙◌, ap, arith}
+use Rattle.std.proofs.lemmas.List.{length-append, append_assoc, append-nil}
 use Rattle.plan_psplib.specs.declared.devices.DeviceFault.{DeviceFault}
-use Rattle.plan_rows.specs.World.{Text}
+use Rattle.plan_rows.specs.World.{Text, World}
 use Rattle.plan_rows.specs.Books.{Shelf}
 use Rattle.plan_http.specs.declared.serving.ConnEnd.{ConnEnd}
 use Rattle.plan_http.specs.declared.serving.ConnEnd.TheVariants as end
 use Rattle.plan_http.specs.Answers.{Decision}
 use Rattle.plan_http.specs.Serving.{Ends}
+use Rattle.plan_http.specs.Crashes.{LeavesOne}
+use Rattle.plan_http.proofs.HeadlineLemmas.{moved_honest}
 use Rattle.plan_serve.specs.Serve.{MovedBy}
-use Rattle.plan_serve.specs.Turns.{Visit, Turn, missed, visited, IsServed, IsTurn, AreTurns, IsVisited, AreVisited, Visiting}
+use Rattle.plan_serve.specs.Turns.{Visit, Turn, missed, visited, IsServed, IsTurn, AreTurns, IsVisited, AreVisited, LeavesTurn, LeavesRefused, LeavesTurns, Visiting}
 
 -- what holds of an answer holds of it once it is counted
 pub counted_ok : {A E F : Type 0} (P : A → Type 0) (answer : Result A E) (result : Result A F) → IfOk answer P
@@ -63,6 +65,94 @@ module _ {B : Type 0} (shelf : Shelf B) where
   turns_move old new (turn ∷ turns) a =
       turn_moves old a.0 new turn (length turns) a.1 (turns_move a.0 new turns a.2)
 
+  -- a disk that has returned what was written, returned it before the turn
+  turn_honest : (old new : B) (turn : Turn) → IsTurn shelf old new turn → shelf.honest new → shelf.honest old
+  turn_honest old new missed same honest = subst shelf.honest same honest
+  turn_honest old new (visited v) served honest = by_decision v.decided served
+    where
+      by_decision : (d : Option Decision) → IsServed shelf old new v d → shelf.honest old
+      by_decision None (failed, ends) = subst shelf.honest ends.0 honest
+      by_decision (Some d) (s, is) = moved_honest shelf old new s.decision s.moves honest
+
+  -- after no turn
+  pub left_at_start : (old : B) (left : Option World) → shelf.may_leave old left → LeavesTurns shelf old old [] left
+  left_at_start old left may = record {
+    settled = old;
+    front = [];
+    behind = [];
+    are = refl;
+    earlier = refl;
+    later = refl;
+    unmade = refl;
+    leaves = inl (refl, may);
+  }
+
+  -- a turn that made no writing call, and leaves what might be left before it
+  left_quiet : (old middle new : B) (turns : List Turn) (turn : Turn) (left : Option World) → IsTurn shelf middle new turn
+      → shelf.made new ≡ shelf.made middle → LeavesTurns shelf old middle turns left → LeavesTurns shelf old new (turns ++ turn ∷ []) left
+  left_quiet old middle new turns turn left is same l = record {
+    settled = l.settled;
+    front = l.front;
+    behind = l.behind ++ turn ∷ [];
+    are = ap (λ (ts : List Turn). ts ++ turn ∷ []) l.are ∙ append_assoc l.front l.behind (turn ∷ []);
+    earlier = l.earlier;
+    later = turns_more l.settled middle new l.behind turn l.later is;
+    unmade = same ∙ l.unmade;
+    leaves = longer l.leaves;
+  }
+    where
+      refused : LeavesRefused shelf l.settled l.behind left → LeavesRefused shelf l.settled (l.behind ++ turn ∷ []) left
+      refused r = record {
+        visit = r.visit;
+        rest = r.rest ++ turn ∷ [];
+        first = ap (λ (ts : List Turn). ts ++ turn ∷ []) r.first;
+        request = r.request;
+        spelled = r.spelled;
+        would = r.would;
+      }
+
+      longer : ((l.front ≡ []) × shelf.may_leave old left) ⊎ ((left ≡ Some (shelf.world l.settled)) ⊎ LeavesRefused shelf l.settled l.behind left)
+          → ((l.front ≡ []) × shelf.may_leave old left) ⊎ ((left ≡ Some (shelf.world l.settled)) ⊎ LeavesRefused shelf l.settled (l.behind ++ turn ∷ []) left)
+      longer (inl before) = inl before
+      longer (inr (inl rows)) = inr (inl rows)
+      longer (inr (inr r)) = inr (inr (refused r))
+
+  -- one turn more
+  left_more : (old middle new : B) (turns : List Turn) (turn : Turn) → AreTurns shelf old turns middle → IsTurn shelf middle new turn
+      → ((left : Option World) → shelf.may_leave middle left → LeavesTurns shelf old middle turns left)
+      → (left : Option World) → LeavesTurn shelf middle new turn left → LeavesTurns shelf old new (turns ++ turn ∷ []) left
+  left_more old middle new turns missed are same before left may =
+      left_quiet old middle new turns missed left same (ap shelf.made same) (before left may)
+  left_more old middle new turns (visited v) are is before left (inl (made, rows)) = record {
+    settled = new;
+    front = turns ++ visited v ∷ [];
+    behind = [];
+    are = sym (append-nil (turns ++ visited v ∷ []));
+    earlier = turns_more old middle new turns (visited v) are is;
+    later = refl;
+    unmade = refl;
+    leaves = inr (inl rows);
+  }
+  left_more old middle new turns (visited v) are is before left (inr (unmade, inl may)) =
+      left_quiet old middle new turns (visited v) left is unmade (before left may)
+  left_more old middle new turns (visited v) are is before left (inr (unmade, inr (refused, request, spelled, would))) = record {
+    settled = middle;
+    front = turns;
+    behind = visited v ∷ [];
+    are = refl;
+    earlier = are;
+    later = (new, is, refl);
+    unmade = unmade;
+    leaves = inr (inr (record {
+      visit = v;
+      rest = [];
+      first = refl;
+      request = request;
+      spelled = spelled;
+      would = would;
+    }));
+  }
+
 module _ {V R W : Type 0} (remaining : R → Option Text) (taken : W → Option Text)
     (Admits : V → V → Result (R × W) DeviceFault → Type 0) (Dismisses : V → V → R → W → ConnEnd → Type 0) where
   visits_more : (came between went : V) (turns : List Turn) (turn : Turn) → AreVisited remaining taken Admits Dismisses came turns between
@@ -74,19 +164,28 @@ module _ {V R W : Type 0} (remaining : R → Option Text) (taken : W → Option 
 
   -- no turn yet
   pub unvisited : {B : Type 0} (shelf : Shelf B) (old : B) (came : V) → Visiting remaining taken Admits Dismisses shelf old old came came 0
-  unvisited shelf old came = record { turns = []; many = refl; served = refl; visits = refl }
+  unvisited shelf old came = record {
+    turns = [];
+    many = refl;
+    served = refl;
+    visits = refl;
+    crash = λ honest left may. left_at_start shelf old left may;
+  }
 
   -- one turn more
   pub visiting_more : {B : Type 0} (shelf : Shelf B) (old middle new : B) (came between went : V) (count : ℕ)
       → Visiting remaining taken Admits Dismisses shelf old middle came between count
-      → ((turn : Turn) × IsTurn shelf middle new turn × IsVisited remaining taken Admits Dismisses between went turn)
+      → ((turn : Turn) × IsTurn shelf middle new turn × IsVisited remaining taken Admits Dismisses between went turn
+      × (shelf.honest new → (left : Option World) → shelf.may_leave new left → LeavesTurn shelf middle new turn left))
       → Visiting remaining taken Admits Dismisses shelf old new came went (count + 1)
-  visiting_more shelf old middle new came between went count v (turn, is, visits) =
+  visiting_more shelf old middle new came between went count v (turn, is, visits, leaves) =
       let long = length-append v.turns (turn ∷ []) in record {
         turns = v.turns ++ turn ∷ [];
         many = omega (arith, long, v.many);
         served = turns_more shelf old middle new v.turns turn v.served is;
         visits = visits_more came between went v.turns turn v.visits visits;
+        crash = λ honest left may.
+            left_more shelf old middle new v.turns turn v.served is (v.crash (turn_honest shelf middle new turn is honest)) left (leaves honest left may);
       }
 
   -- how the office moved

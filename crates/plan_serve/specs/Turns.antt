@@ -1,12 +1,15 @@
 -- Connections that come from anywhere, served turn by turn (docs/DEFINITIONS.md, "Connections").
-use Rattle.std.specs.Prelude.{◌≡◌, ℕ, List, [], ◌∷◌, length, Option, Some, None, Result, Ok, Err}
+use Rattle.std.specs.Prelude.{◌≡◌, ◌⊎◌, ℕ, List, [], ◌∷◌, ◌++◌, length, Option, Some, None, IfSome, Result, Ok, Err}
 use Rattle.plan_psplib.specs.declared.devices.DeviceFault.{DeviceFault}
-use Rattle.plan_rows.specs.World.{Text}
+use Rattle.plan_rows.specs.World.{Text, World}
 use Rattle.plan_rows.specs.Books.{Shelf}
 use Rattle.plan_http.specs.declared.serving.ConnEnd.{ConnEnd}
 use Rattle.plan_http.specs.declared.serving.ConnEnd.TheVariants.{ReadFailed}
+use Rattle.plan_desk.specs.Calls.{Request}
+use Rattle.plan_http.specs.Judges.{asks, Judges}
 use Rattle.plan_http.specs.Answers.{Decision}
 use Rattle.plan_http.specs.Serving.{Serves, Ends}
+use Rattle.plan_http.specs.Crashes.{WouldMake, LeavesOne}
 
 -- A connection that was served: the bytes that were to be read of it, those that it was sent before
 -- and by the end, how that ended, and what was decided, if anything.
@@ -38,6 +41,35 @@ module _ {B : Type 0} (shelf : Shelf B) where
   abbrev pub AreTurns : B → List Turn → B → Type 0
   AreTurns old [] new = new ≡ old
   AreTurns old (turn ∷ turns) new = (middle : B) × IsTurn old middle turn × AreTurns middle turns new
+
+  -- what a crash may leave after one turn
+  abbrev pub LeavesTurn : B → B → Turn → Option World → Type 0
+  LeavesTurn old new missed left = shelf.may_leave old left
+  LeavesTurn old new (visited v) left = LeavesOne shelf old new v.bytes left
+
+  -- the first of some turns has a connection that asks for a command, which these rows would take, to
+  -- make what is left
+  pub record LeavesRefused (settled : B) (turns : List Turn) (left : Option World) : Type 0 where
+    pub visit : Visit
+    pub rest : List Turn
+    pub first : turns ≡ visited visit ∷ rest
+    pub request : Request
+    pub spelled : IfSome visit.bytes (λ all. Judges all (asks request))
+    pub would : WouldMake (shelf.world settled) request left
+
+  -- A crash after turns leaves the rows that there were after some of them, behind which no writing call
+  -- was made: so no accepted command is lost. Or it leaves these rows with one command more, which the
+  -- next turn refused. Or no writing call was made at all, and it leaves what it might leave before.
+  pub record LeavesTurns (old new : B) (turns : List Turn) (left : Option World) : Type 0 where
+    pub settled : B
+    pub front : List Turn
+    pub behind : List Turn
+    pub are : turns ≡ front ++ behind
+    pub earlier : AreTurns old front settled
+    pub later : AreTurns settled behind new
+    pub unmade : shelf.made new ≡ shelf.made settled
+    pub leaves : ((front ≡ []) × shelf.may_leave old left)
+        ⊎ ((left ≡ Some (shelf.world settled)) ⊎ LeavesRefused settled behind left)
 
 module _ {V R W : Type 0} (remaining : R → Option Text) (taken : W → Option Text)
     (Admits : V → V → Result (R × W) DeviceFault → Type 0) (Dismisses : V → V → R → W → ConnEnd → Type 0) where
@@ -72,3 +104,5 @@ module _ {V R W : Type 0} (remaining : R → Option Text) (taken : W → Option 
     pub many : length turns ≡ count
     pub served : AreTurns shelf old turns new
     pub visits : AreVisited came turns went
+    pub crash : shelf.honest new → (left : Option World) → shelf.may_leave new left
+        → LeavesTurns shelf old new turns left

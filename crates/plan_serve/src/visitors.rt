@@ -1,12 +1,13 @@
 //! Connections that come from anywhere, one after another.
 
-ghost use Rattle.std.specs.Prelude.{◌≡◌, ◌+◌, ◌≤◌, ℕ, List, length, Result, IfOk, OnOk, OnErr, IfErr};
+ghost use Rattle.std.specs.Prelude.{◌≡◌, ◌+◌, ◌≤◌, ℕ, List, length, Option, Result, IfOk, OnOk, OnErr, IfErr};
+ghost use Rattle.plan_rows.specs.World.{World};
 ghost use Rattle.plan_psplib.specs.Devices.{IsCounted};
 ghost use Rattle.plan_psplib.specs.declared.devices.DeviceFault.{DeviceFault};
 ghost use Rattle.plan_http.specs.declared.serving.ConnEnd.{ConnEnd};
 ghost use Rattle.plan_http.specs.Answers.{Decision};
 ghost use Rattle.plan_serve.specs.Serve.{MovedBy};
-ghost use Rattle.plan_serve.specs.Turns.{Turn, IsTurn, AreTurns, IsVisited, Visiting};
+ghost use Rattle.plan_serve.specs.Turns.{Turn, IsTurn, AreTurns, IsVisited, LeavesTurn, LeavesTurns, Visiting};
 
 use crate::fault::ServeFault;
 use plan_desk::{Book, Office};
@@ -53,7 +54,8 @@ fn serve_next<B: Book, V: Visitors>(
 )
     ensures awaited { V.awaited visitors.new ≡ V.awaited visitors.old + 1 }
     ensures turn { (turn : Turn) × IsTurn B.shelf office.old office.new turn
-        × IsVisited V.Reader.remaining V.Writer.taken V.admits V.dismisses visitors.old visitors.new turn }
+        × IsVisited V.Reader.remaining V.Writer.taken V.admits V.dismisses visitors.old visitors.new turn
+        × (B.shelf.honest office.new → (left : Option World) → B.shelf.may_leave office.new left → LeavesTurn B.shelf office.old office.new turn left) }
 {
     let Ok((reader, writer)) = visitors.admit() else {
         return;

@@ -23,4 +23,5 @@ returns-clause-turn g c =
         after = refl;
         dismissed = c.dismiss.ensures.dismissed;
       },
+      c.serve_conn-end.ensures.crash,
     )
