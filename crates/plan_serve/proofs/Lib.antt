@@ -1,4 +1,5 @@
 pub mod KeyLemmas
 pub mod ServeLemmas
+pub mod TurnLemmas
 pub mod InitLemmas
 pub mod ReplayLemmas

@@ -3,3 +3,4 @@ pub mod Keys
 pub mod InitRun
 pub mod ReplayRun
 pub mod Serve
+pub mod Turns

@@ -14,16 +14,18 @@ use crate::replay::replay_run;
 use crate::requests::read_connection;
 use crate::socket::serve_listener;
 use plan_desk::{Book, Office};
-use plan_psplib::{Sink, Source, StdSource};
+use plan_psplib::{Sink, StdSource};
 use plan_store::{SqlBook, StoreFault};
 use sqlite::{Connection, Error, ErrorCode, Unknown};
-use sqlite_disk::Disk;
 use sqlite_std_file::File;
 use sqlite_store::FileStore;
 use std::alloc::Global;
 use std::fs;
 use std::io::{self, ErrorKind};
 use std::net::{Ipv4Addr, TcpListener};
+
+// The tables of an office in a file.
+type FileBook = SqlBook<FileStore<File>>;
 
 // A database in a file, by its name.
 #[derive(Drop)]
@@ -51,8 +53,10 @@ impl<'a> Place for InFile<'a> {
 
 // Closes the files of a book, with its log copied into the database. Where that fails the log stays
 // beside it, and nothing is lost.
-fn close<D: Disk + Drop>(book: SqlBook<FileStore<D>>) {
-    let _ = book.into_connection().close();
+fn close(book: Option<FileBook>) {
+    if let Some(book) = book {
+        let _ = book.into_connection().close();
+    }
 }
 
 // Why a file can't be opened.
@@ -65,22 +69,6 @@ fn open_fault(error: &io::Error) -> ServeFault
     ServeFault::Input
 }
 
-// Closes the book that was made; or why none was.
-fn made_and_closed<B: Drop, L: Drop, C: FnOnce(B)>(
-    made: Result<B, (ServeFault, L)>,
-    close: C,
-) -> Result<(), ServeFault>
-    requires closes { (book : _) → C.pre close book }
-    requires faults { IfErr made (λ e. IsInitFault e.0) }
-    ensures { IfErr result IsInitFault }
-{
-    match made {
-        Ok(book) => close(book),
-        Err((fault, _)) => return Err(fault),
-    }
-    Ok(())
-}
-
 /// `plan init`: makes the tables of an office in the file of this name, by the key that is the first
 /// line of standard input.
 #[tactic(auto, using(crate::proofs::InitLemmas::init_faults))]
@@ -88,8 +76,23 @@ pub fn init_on_file(rt: &HostRuntime, path: &str) -> Result<(), ServeFault>
     ensures { IfErr result IsInitFault }
 {
     let mut input = StdSource::new(rt.reader());
-    let made = init_run(rt.alloc(), &mut input, InFile { rt, path });
-    made_and_closed(made, close)
+    match init_run(rt.alloc(), &mut input, InFile { rt, path }) {
+        Ok(book) => close(Some(book)),
+        Err((fault, _)) => return Err(fault),
+    }
+    Ok(())
+}
+
+// The tables of the office in the file of this name.
+#[tactic(auto, using(crate::proofs::ServeLemmas::serves_not, crate::proofs::ServeLemmas::not_output))]
+fn open_book(rt: &HostRuntime, path: &str) -> Result<FileBook, ServeFault>
+    ensures which { IfErr result IsServeFault }
+    ensures silent { IfErr result (λ e. e ≢ ServeFault.Output) }
+{
+    match SqlBook::open_from(rt, path, Unknown) {
+        Ok(book) => Ok(book),
+        Err((fault, _)) => Err(told(fault)),
+    }
 }
 
 // The bytes of a connection, in the file of this name.
@@ -150,36 +153,6 @@ fn replay_over<B: Book + Drop, W: Sink>(
     (done, Some(office.into_book()))
 }
 
-// Serves connections by an office over a book, and writes the responses; then closes the book. Or why
-// none was opened.
-#[tactic(auto, using(crate::proofs::ServeLemmas::not_output))]
-fn replay_opened<B: Book + Drop, L: Drop, W: Sink, C: FnOnce(B)>(
-    alloc: Global,
-    opened: Result<B, (StoreFault, L)>,
-    conns: &[Vec<u8>],
-    writer: &mut W,
-    close: C,
-) -> Result<(), ServeFault>
-    requires closes { (book : _) → C.pre close book }
-    ensures ok { OnOk result (AreAnswered (length conns.now) (W.taken writer.old) (W.taken writer.new)) }
-    ensures part { IsErrOf result ServeFault.Output → AreAnsweredInPart (length conns.now) (W.taken writer.old) (W.taken writer.new) }
-    ensures writes { W.calls writer.new ≤ W.calls writer.old + most_calls }
-    ensures quiet { IfErr result (λ e. (e ≡ ServeFault.Output) ⊎ (writer.new ≡ writer.old)) }
-    ensures fine { OnOk result (W.faults writer.new ≡ W.faults writer.old) }
-    ensures output { IsErrOf result ServeFault.Output →
-        HasFailed (W.calls writer.old) (W.calls writer.new) (W.faults writer.old) (W.faults writer.new) }
-{
-    let book = match opened {
-        Ok(book) => book,
-        Err((fault, _)) => return Err(told(fault)),
-    };
-    let (done, book) = replay_over(alloc, book, conns, writer);
-    if let Some(book) = book {
-        close(book);
-    }
-    done
-}
-
 /// `plan replay`: serves the connections whose bytes are in files, by the office in the file of this
 /// name, and writes the responses. All files are read before the office is opened.
 pub fn replay_on_files<W: Sink>(
@@ -202,8 +175,13 @@ pub fn replay_on_files<W: Sink>(
         Ok(conns) => conns,
         Err(fault) => return Err(fault),
     };
-    let opened = SqlBook::open_from(rt, path, Unknown);
-    replay_opened(rt.alloc(), opened, &conns, writer, close)
+    let book = match open_book(rt, path) {
+        Ok(book) => book,
+        Err(fault) => return Err(fault),
+    };
+    let (done, book) = replay_over(rt.alloc(), book, &conns, writer);
+    close(book);
+    done
 }
 
 // Why nothing can be bound to a port.
@@ -251,34 +229,16 @@ fn serve_over<B: Book + Drop>(
     (done, Some(office.into_book()))
 }
 
-// The same over a book that was opened, which is closed; or why none was.
-#[tactic(auto, using(crate::proofs::ServeLemmas::serves_not))]
-fn serve_opened<B: Book + Drop, L: Drop, C: FnOnce(B)>(
-    rt: &HostRuntime,
-    opened: Result<B, (StoreFault, L)>,
-    port: u16,
-    count: u32,
-    close: C,
-) -> Result<(), ServeFault>
-    requires closes { (book : _) → C.pre close book }
-    ensures { IfErr result IsServeFault }
-{
-    let book = match opened {
-        Ok(book) => book,
-        Err((fault, _)) => return Err(told(fault)),
-    };
-    let (done, book) = serve_over(rt, book, port, count);
-    if let Some(book) = book {
-        close(book);
-    }
-    done
-}
-
 /// `plan serve`: serves so many connections on a port of this machine alone, by the office in the
 /// file of this name. The office is opened before the port.
 pub fn serve_on_port(rt: &HostRuntime, path: &str, port: u16, count: u32) -> Result<(), ServeFault>
     ensures { IfErr result IsServeFault }
 {
-    let opened = SqlBook::open_from(rt, path, Unknown);
-    serve_opened(rt, opened, port, count, close)
+    let book = match open_book(rt, path) {
+        Ok(book) => book,
+        Err(fault) => return Err(fault),
+    };
+    let (done, book) = serve_over(rt, book, port, count);
+    close(book);
+    done
 }

@@ -8,6 +8,8 @@ mod init;
 mod key;
 mod replay;
 mod requests;
+mod room;
+mod side;
 mod socket;
 mod visitors;
 
@@ -17,5 +19,6 @@ pub use init::{Place, init_run};
 pub use key::read_key;
 pub use replay::replay_run;
 pub use requests::read_connection;
-pub use socket::{Side, serve_listener};
+pub use side::Side;
+pub use socket::serve_listener;
 pub use visitors::{Visitors, serve_visitors};

@@ -1,9 +1,13 @@
 //! Connections that come from anywhere, one after another.
 
-ghost use Rattle.std.specs.Prelude.{◌≡◌, ◌+◌, ◌≤◌, ℕ, List, length, OnOk, OnErr, IfErr};
+ghost use Rattle.std.specs.Prelude.{◌≡◌, ◌+◌, ◌≤◌, ℕ, List, length, Option, Result, IfOk, OnOk, OnErr, IfErr};
+ghost use Rattle.plan_rows.specs.World.{World};
 ghost use Rattle.plan_psplib.specs.Devices.{IsCounted};
+ghost use Rattle.plan_psplib.specs.declared.devices.DeviceFault.{DeviceFault};
+ghost use Rattle.plan_http.specs.declared.serving.ConnEnd.{ConnEnd};
 ghost use Rattle.plan_http.specs.Answers.{Decision};
 ghost use Rattle.plan_serve.specs.Serve.{MovedBy};
+ghost use Rattle.plan_serve.specs.Turns.{Turn, IsTurn, AreTurns, IsVisited, LeavesTurn, LeavesTurns, Visiting};
 
 use crate::fault::ServeFault;
 use plan_desk::{Book, Office};
@@ -23,33 +27,43 @@ pub trait Visitors {
     /// How many of these came to none.
     ghost missed: { Self → ℕ };
 
-    /// Awaits a connection.
+    /// What awaiting a connection may come to.
+    ghost admits: { Self → Self → Result (Self.Reader × Self.Writer) DeviceFault → Type 0 };
+
+    /// What ending one may come to.
+    ghost dismisses: { Self → Self → Self.Reader → Self.Writer → ConnEnd → Type 0 };
+
+    /// Awaits a connection, of which nothing is read before it is here.
     fn admit(&mut self) -> Result<(Self::Reader, Self::Writer), DeviceFault>
-        ensures counted { IsCounted (awaited self.old) (awaited self.new) (missed self.old) (missed self.new) result };
+        ensures counted { IsCounted (awaited self.old) (awaited self.new) (missed self.old) (missed self.new) result }
+        ensures admitted { admits self.old self.new result }
+        ensures untouched { IfOk result (λ sides. (Self.Reader.calls sides.0 ≡ 0) × (Self.Writer.calls sides.1 ≡ 0)) };
 
     /// Ends a connection that was served.
     fn dismiss(&mut self, reader: Self::Reader, writer: Self::Writer, end: ConnEnd)
-        ensures same { (awaited self.new ≡ awaited self.old) × (missed self.new ≡ missed self.old) };
+        ensures same { (awaited self.new ≡ awaited self.old) × (missed self.new ≡ missed self.old) }
+        ensures dismissed { dismisses self.old self.new reader writer end };
 }
 
-// Serves the next connection. Whether one came.
+// The turn of the next connection.
 fn serve_next<B: Book, V: Visitors>(
     alloc: Global,
     routes: &Routes,
     office: &mut Office<B>,
     visitors: &mut V,
-) -> bool
+)
     ensures awaited { V.awaited visitors.new ≡ V.awaited visitors.old + 1 }
-    ensures moves { (decisions : List Decision) × (length decisions ≤ 1) × MovedBy B.shelf office.old decisions office.new }
+    ensures turn { (turn : Turn) × IsTurn B.shelf office.old office.new turn
+        × IsVisited V.Reader.remaining V.Writer.taken V.admits V.dismisses visitors.old visitors.new turn
+        × (B.shelf.honest office.new → (left : Option World) → B.shelf.may_leave office.new left → LeavesTurn B.shelf office.old office.new turn left) }
 {
     let Ok((reader, writer)) = visitors.admit() else {
-        return false;
+        return;
     };
     let mut reader = reader;
     let mut writer = writer;
     let end = serve_conn(alloc, routes, office, &mut reader, &mut writer);
     visitors.dismiss(reader, writer, end);
-    true
 }
 
 /// Serves so many connections, one after another. One that doesn't come, or fails, counts too, and
@@ -61,6 +75,10 @@ pub fn serve_visitors<B: Book, V: Visitors>(
     count: u32,
 ) -> Result<(), ServeFault>
     ensures awaited { OnOk result (V.awaited visitors.new ≡ V.awaited visitors.old + count) }
+    ensures visits { OnOk result (Visiting V.Reader.remaining V.Writer.taken V.admits V.dismisses
+        B.shelf office.old office.new visitors.old visitors.new count) }
+    // So, of the office alone:
+    ensures turns { OnOk result ((turns : List Turn) × (length turns ≡ count) × AreTurns B.shelf office.old turns office.new) }
     ensures moves { OnOk result ((decisions : List Decision) × (length decisions ≤ count) × MovedBy B.shelf office.old decisions office.new) }
     // Memory may run out before the first.
     ensures memory { OnErr result ((office.new ≡ office.old) × (visitors.new ≡ visitors.old)) }
@@ -70,7 +88,7 @@ pub fn serve_visitors<B: Book, V: Visitors>(
         return Err(ServeFault::Memory);
     };
     for _ in 0..count {
-        let _came = serve_next(alloc, &routes, office, visitors);
+        serve_next(alloc, &routes, office, visitors);
     }
     Ok(())
 }

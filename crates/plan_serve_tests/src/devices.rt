@@ -1,6 +1,6 @@
 //! A source and a sink that give and take one byte a call, and may fail.
 
-ghost use Rattle.std.specs.Prelude.{Some};
+ghost use Rattle.std.specs.Prelude.{◌≡◌, Some};
 
 use plan_psplib::{DeviceFault, Sink, Source, Tally};
 
@@ -13,7 +13,9 @@ pub struct Drip<'a> {
 }
 
 impl<'a> Drip<'a> {
-    pub fn new(rest: &'a [u8], fails: bool) -> Drip<'a> {
+    pub fn new(rest: &'a [u8], fails: bool) -> Drip<'a>
+        ensures { ⟦<Drip<'a> as Source>⟧.calls result ≡ 0 }
+    {
         Drip {
             rest,
             fails,
@@ -50,7 +52,9 @@ pub struct Narrow {
 }
 
 impl Narrow {
-    pub fn new(taken: Vec<u8>, room: usize) -> Narrow {
+    pub fn new(taken: Vec<u8>, room: usize) -> Narrow
+        ensures { ⟦<Narrow as Sink>⟧.calls result ≡ 0 }
+    {
         Narrow {
             room,
             taken,

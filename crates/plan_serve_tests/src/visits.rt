@@ -1,10 +1,12 @@
 //! Connections that fail among such that don't.
 
+ghost use Rattle.std.specs.Prelude.{◌≡◌, ◌+◌, IfOk};
+
 use crate::devices::{Drip, Narrow};
 use crate::office::{LISTED, LISTING, OPENING, office};
 use plan_desk::{Book, Office};
 use plan_http::ConnEnd;
-use plan_psplib::{DeviceFault, Tally};
+use plan_psplib::{DeviceFault, Sink, Source, Tally};
 use plan_serve::{Visitors, serve_visitors};
 use std::alloc::Global;
 use std::process::Abort;
@@ -27,7 +29,9 @@ struct Queue {
 }
 
 // The two sides of a client, by its turn.
-fn sides(alloc: Global, turn: usize) -> Result<Sides, DeviceFault> {
+fn sides(alloc: Global, turn: usize) -> Result<Sides, DeviceFault>
+    ensures { IfOk result (λ both. (⟦<Drip<'static> as Source>⟧.calls both.0 ≡ 0) × (⟦<Narrow as Sink>⟧.calls both.1 ≡ 0)) }
+{
     let (text, fails, room) = match turn {
         1 => ("POST /office/desks HTTP/1.0\r\nDesk-Key: off", true, 1000),
         2 => (OPENING, false, 10),
@@ -49,6 +53,10 @@ impl Visitors for Queue {
     ghost awaited = { λ queue. queue.tally.calls };
 
     ghost missed = { λ queue. queue.tally.faults };
+
+    ghost admits = { λ old new _. new.tally.calls ≡ old.tally.calls + 1 };
+
+    ghost dismisses = { λ old new _ _ _. new.tally.calls ≡ old.tally.calls };
 
     fn admit(&mut self) -> Result<Sides, DeviceFault> {
         let sides = sides(self.alloc, self.turn);

@@ -1,9 +1,36 @@
-use Rattle.std.proofs.Common.{arith}
-use Rattle.plan_serve.proofs.ServeLemmas.{one_more}
+use Rattle.std.proofs.Common.{ℕ, arith, subst}
+use Rattle.plan_serve.specs.Turns.{Visiting}
+use Rattle.plan_serve.proofs.TurnLemmas.{unvisited, visiting_more, visiting_moves}
 use Rattle.plan_serve.proofs.visitors.serve_visitors.Goals as goal
+
+pub loop-init : goal.loop-init
+loop-init g c = record {
+  awaited = omega arith;
+  visits = unvisited g.V.Reader.Source.remaining g.V.Writer.Sink.taken g.V.Visitors.admits g.V.Visitors.dismisses
+      g.B.Book.shelf c.args.office.now c.args.visitors.now;
+}
 
 pub loop-preserved : goal.loop-preserved
 loop-preserved g c = record {
-  awaited = omega (arith, c.serve_next-came.ensures.awaited, c.loop.invariant.awaited);
-  moves = one_more g.B.Book.shelf c.args.office.now c.loop.office c.serve_next-came.new.office c.loop.counter c.loop.invariant.moves c.serve_next-came.ensures.moves;
+  awaited = omega (arith, c.serve_next.ensures.awaited, c.loop.invariant.awaited);
+  visits = visiting_more g.V.Reader.Source.remaining g.V.Writer.Sink.taken g.V.Visitors.admits g.V.Visitors.dismisses
+      g.B.Book.shelf c.args.office.now c.loop.office c.serve_next.new.office c.args.visitors.now c.loop.visitors c.serve_next.new.visitors
+      c.loop.counter c.loop.invariant.visits c.serve_next.ensures.turn;
 }
+
+pub returns-clause-visits : goal.returns-clause-visits
+returns-clause-visits g c =
+    subst (λ (n : ℕ). Visiting g.V.Reader.Source.remaining g.V.Writer.Sink.taken g.V.Visitors.admits g.V.Visitors.dismisses
+    g.B.Book.shelf c.args.office.now c.loop.office c.args.visitors.now c.loop.visitors n)
+    (omega (arith, c.loop-test.false, c.loop.auto.counter-end)) c.loop.invariant.visits
+
+pub returns-clause-turns : goal.returns-clause-turns
+returns-clause-turns g c =
+    let v = c.loop.invariant.visits in
+    (v.turns, omega (arith, v.many, c.loop-test.false, c.loop.auto.counter-end), v.served)
+
+pub returns-clause-moves : goal.returns-clause-moves
+returns-clause-moves g c =
+    let m = visiting_moves g.V.Reader.Source.remaining g.V.Writer.Sink.taken g.V.Visitors.admits g.V.Visitors.dismisses
+    g.B.Book.shelf c.args.office.now c.loop.office c.args.visitors.now c.loop.visitors c.loop.counter c.loop.invariant.visits in
+    (m.0, omega (arith, m.1, c.loop.auto.counter-end), m.2)

@@ -1,0 +1,141 @@
+//! The two sides of a connection of a socket, and how long each may take.
+
+ghost use Rattle.std.specs.Prelude.{◌≡◌, IfOk};
+ghost use Rattle.std.specs.Io.{ReadsAtMost, WritesAtMost};
+
+use plan_psplib::{DeviceFault, Sink, Source, Tally};
+use std::io::{self, ErrorKind, Read, Write};
+use std::net::{Shutdown, TcpStream};
+use std::time::{Duration, Instant};
+
+// How long a client may take to send its request, and as long to receive its response, in seconds.
+const PATIENCE: u64 = 2;
+
+// How long a client that was answered may keep silent before its connection is closed, and how long it
+// may go on sending, in seconds; and how often it is heard at most.
+const LAST_SILENCE: u64 = 1;
+
+const LAST_PATIENCE: u64 = 5;
+
+const LAST_READS: u32 = 4096;
+
+// The least time that is set, in milliseconds: the system takes none for no limit.
+const LEAST: u64 = 1;
+
+// The time of one side, which begins with its first call.
+#[derive(Drop)]
+struct Timer<'a> {
+    rt: &'a HostRuntime,
+    start: Option<Instant>,
+}
+
+impl<'a> Timer<'a> {
+    // What is left of its time.
+    fn left(&mut self) -> io::Result<Duration> {
+        let now = Instant::now(self.rt)?;
+        let start = self.start.unwrap_or(now);
+        self.start = Some(start);
+        let left = Duration::from_secs(PATIENCE).saturating_sub(now.duration_since(start));
+        if left.is_zero() {
+            return Err(io::Error::from(ErrorKind::TimedOut));
+        }
+        Ok(left.max(Duration::from_millis(LEAST)))
+    }
+}
+
+/// One side of a connection: what a client sends, or what it is sent.
+#[derive(Drop)]
+pub struct Side<'a> {
+    stream: TcpStream,
+    timer: Timer<'a>,
+    tally: Tally,
+}
+
+// Reads what comes in time.
+fn read_in_time(timer: &mut Timer<'_>, stream: &TcpStream, buf: &mut [u8]) -> io::Result<usize>
+    ensures { ReadsAtMost result buf.new }
+{
+    let left = timer.left()?;
+    stream.set_read_timeout(Some(left))?;
+    let mut reader = stream;
+    reader.read(buf)
+}
+
+// Writes what is taken in time.
+fn write_in_time(timer: &mut Timer<'_>, stream: &TcpStream, bytes: &[u8]) -> io::Result<usize>
+    ensures { WritesAtMost result bytes.now }
+{
+    let left = timer.left()?;
+    stream.set_write_timeout(Some(left))?;
+    let mut writer = stream;
+    writer.write(bytes)
+}
+
+impl<'a> Source for Side<'a> {
+    ghost use Rattle.std.specs.Prelude.{None};
+
+    ghost calls = { λ side. side.tally.calls };
+
+    ghost faults = { λ side. side.tally.faults };
+
+    ghost remaining = { λ _. None };
+
+    fn read(&mut self, buf: &mut [u8]) -> Result<usize, DeviceFault> {
+        let read = read_in_time(&mut self.timer, &self.stream, buf);
+        self.tally.count(read)
+    }
+}
+
+impl<'a> Sink for Side<'a> {
+    ghost use Rattle.std.specs.Prelude.{None};
+
+    ghost calls = { λ side. side.tally.calls };
+
+    ghost faults = { λ side. side.tally.faults };
+
+    ghost taken = { λ _. None };
+
+    fn write(&mut self, bytes: &[u8]) -> Result<usize, DeviceFault> {
+        let written = write_in_time(&mut self.timer, &self.stream, bytes);
+        self.tally.count(written)
+    }
+}
+
+fn side_of(rt: &HostRuntime, stream: TcpStream) -> Side<'_>
+    ensures { result.tally.calls ≡ 0 }
+{
+    Side {
+        stream,
+        timer: Timer { rt, start: None },
+        tally: Tally::new(),
+    }
+}
+
+// The two sides of a connection, neither of which was called yet.
+pub(crate) fn both_sides(rt: &HostRuntime, stream: TcpStream) -> io::Result<(Side<'_>, Side<'_>)>
+    ensures { IfOk result (λ sides. (sides.0.tally.calls ≡ 0) × (sides.1.tally.calls ≡ 0)) }
+{
+    stream.set_nonblocking(false)?;
+    let writer = stream.try_clone()?;
+    Ok((side_of(rt, stream), side_of(rt, writer)))
+}
+
+impl<'a> Side<'a> {
+    // Tells a client that nothing more comes, and reads what it goes on sending, for a while: a
+    // connection that is closed with bytes unread would take the response away from it.
+    pub(crate) fn hear_out(&self) -> io::Result<()> {
+        self.stream.shutdown(Shutdown::Write)?;
+        self.stream
+            .set_read_timeout(Some(Duration::from_secs(LAST_SILENCE)))?;
+        let start = Instant::now(self.timer.rt)?;
+        let end = Duration::from_secs(LAST_PATIENCE);
+        let mut reader = &self.stream;
+        let mut rest = [0; 8192];
+        for _ in 0..LAST_READS {
+            if reader.read(&mut rest)? == 0 || start.elapsed(self.timer.rt)? >= end {
+                return Ok(());
+            }
+        }
+        Ok(())
+    }
+}
