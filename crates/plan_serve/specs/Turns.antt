@@ -58,7 +58,7 @@ module _ {B : Type 0} (shelf : Shelf B) where
     pub would : WouldMake (shelf.world settled) request left
 
   -- A crash after turns leaves the rows that there were after some of them, behind which no writing call
-  -- was made: so no accepted command is lost. Or it leaves these rows with one command more, which the
+  -- was made. Or it leaves these rows with one command more, which the
   -- next turn refused. Or no writing call was made at all, and it leaves what it might leave before.
   pub record LeavesTurns (old new : B) (turns : List Turn) (left : Option World) : Type 0 where
     pub settled : B
@@ -73,7 +73,8 @@ module _ {B : Type 0} (shelf : Shelf B) where
 
 module _ {V R W : Type 0} (remaining : R → Option Text) (taken : W → Option Text)
     (Admits : V → V → Result (R × W) DeviceFault → Type 0) (Dismisses : V → V → R → W → ConnEnd → Type 0) where
-  -- A connection was admitted, and dismissed with the two sides that its serving left.
+  -- A connection was admitted, and dismissed with two sides, of which the one that was sent to has taken
+  -- what its serving says.
   pub record IsVisit (came went : V) (v : Visit) : Type 0 where
     pub reader : R
     pub writer : W
