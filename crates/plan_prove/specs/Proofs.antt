@@ -3,7 +3,6 @@ use Rattle.std.specs.Prelude.{◌≡◌, ℕ, ◌≤◌, ◌<◌, List}
 use Rattle.plan_sgs.specs.Problem.{IsFeasible, IsActive, makespan}
 use Rattle.plan_sgs.specs.declared.schedule.Schedule.{Schedule}
 use Rattle.plan_shop.specs.Shop.{JobShop, problem_of}
-use Rattle.plan_prove.specs.declared.proving.TheConstants.{MOST_NODES}
 use Rattle.plan_prove.specs.declared.fault.ProveFault.{ProveFault}
 use Rattle.plan_prove.specs.declared.fault.ProveFault.TheVariants.{NoMemory, BadNodes}
 use Rattle.plan_prove.specs.declared.proving.Proof.{Proof}
@@ -24,7 +23,7 @@ pub record IsProofOf (s : JobShop) (proof : Proof) : Type 0 where
 
 -- how many nodes may be allowed
 abbrev pub IsNodeLimit : ℕ → Type 0
-IsNodeLimit nodes = (0 < nodes) × (nodes ≤ MOST_NODES)
+IsNodeLimit nodes = (0 < nodes) × (nodes ≤ 1000000000)
 
 -- a number of nodes is refused where it isn't allowed, and for nothing else but want of memory
 abbrev pub RefusesProving : ℕ → ProveFault → Type 0
