@@ -17,14 +17,19 @@ class Wrong(Exception):
     """Something differs from what it should be."""
 
 
+class Unable(Exception):
+    """What is needed to try something isn't there."""
+
+
 def same(what, found, wanted):
     if found != wanted:
         raise Wrong(f"{what}\n  gave    {found!r}\n  and not {wanted!r}")
 
 
-def plan(*words, given=b"", **more):
-    """The status and both outputs of the program."""
-    done = subprocess.run([PROGRAM, *words], input=given, capture_output=True, timeout=120, **more)
+def plan(*words, given=b"", patience=120, **more):
+    """The status and both outputs of the program, which takes no longer than so many seconds."""
+    words, more = [PROGRAM, *words], {"capture_output": True, "timeout": patience, **more}
+    done = subprocess.run(words, input=given, **more)
     return done.returncode, done.stdout, done.stderr
 
 
@@ -75,14 +80,16 @@ def talk(port, sent):
 
 
 class Server:
-    """`plan serve` on a free port."""
+    """`plan serve` on a port, a free one if none is named, with as many connections as it serves by
+    itself, or with so many."""
 
-    def __init__(self, database, count=1000000, **more):
-        self.port = free_port()
+    def __init__(self, database, count=None, options=(), port=None, **more):
+        self.port = port or free_port()
         self.started = time.monotonic()
-        words = [PROGRAM, "serve", database, str(self.port), str(count)]
+        words = [PROGRAM, "serve", database, str(self.port), *options]
+        words += [] if count is None else [str(count)]
         out = {"stdin": subprocess.DEVNULL, "stdout": subprocess.PIPE, "stderr": subprocess.PIPE}
-        self.process = subprocess.Popen(words, **out, **more)
+        self.process = subprocess.Popen(words, **{**out, **more})
 
     def url(self, path):
         return f"http://127.0.0.1:{self.port}{path}"
@@ -91,15 +98,15 @@ class Server:
         self.process.kill()
         self.process.communicate()
 
-    def end(self):
+    def end(self, patience=20):
         """The status and both outputs of a server that ends by itself."""
-        out, err = self.process.communicate(timeout=20)
+        out, err = self.process.communicate(timeout=patience)
         return self.process.returncode, out, err
 
 
 @contextlib.contextmanager
-def serving(database, count=1000000, **more):
-    server = Server(database, count, **more)
+def serving(database, count=None, options=(), **more):
+    server = Server(database, count, options, **more)
     try:
         yield server
     finally:

@@ -91,6 +91,15 @@ def try_budgets(folder):
     return 3
 
 
+def try_proof(folder):
+    """The least makespan is proved by the search of pairs too."""
+    text = text_of("ft06", plan(folder, "prove", "100000", "shops.txt", "ft06"))
+    first, _, table = text.partition("\n")
+    same("ft06", first, "optimal 55")
+    same("ft06", judge_table("ft06", table), 55)
+    return 1
+
+
 def try_fisher(folder):
     """The instance among words and others, of which one isn't whole, and one isn't there."""
     written(folder, "shops.txt", COLLECTION.encode())
@@ -99,7 +108,7 @@ def try_fisher(folder):
     same("tiny", plan(folder, "shop", "spt", "shops.txt", "tiny"), tiny)
     for name, line in (("ft10", "F13 line 21"), ("last", "F9 line 21")):
         same(name, plan(folder, "shop", "spt", "shops.txt", name), refused(line))
-    return 4 + try_rules(folder) + try_budgets(folder)
+    return 4 + try_rules(folder) + try_budgets(folder) + try_proof(folder)
 
 
 FORMULAS = {"fisher": try_fisher}

@@ -209,6 +209,19 @@ def longest_request():
     return tell(raw_exchange(exchange.raw + b"?"), first)
 
 
+def off_routes():
+    """Bodies on a path without a route, and with a method that the route hasn't: whole, a byte short,
+    and with a byte behind them. One that is short is told first."""
+    short = refusal(400, "H1 message")
+    posted = response(405, "plain", b"H5 method\n", allow="GET")
+    for start, wanted in [("PUT /desks/long", refusal(404, "H4 route")), ("POST /desks/long/plans", posted)]:
+        for length in (1, 2, 4095, 4096, 4097, 8192, 1048576):
+            head = [f"{start} HTTP/1.0", f"Content-Length: {length}"]
+            yield sent(head, b"x" * (length - 1), short)
+            yield sent(head, b"x" * length, wanted)
+            yield sent(head, b"x" * (length + 1), wanted)
+
+
 def lengths():
     """What is as long as it may be is read, and what is longer is refused."""
     none, first = refusal(422, "E10 F3 line 1"), response(201, "json", imported(1).encode())
@@ -216,6 +229,7 @@ def lengths():
         opening("long", "long-key-1"),
         *long_heads(),
         *many_fields(),
+        *off_routes(),
         long_body("", 1048576, none),
         long_body(SIX, 1048576, first),
         long_body(SIX, 1048577, refusal(413, "H2 too large")),

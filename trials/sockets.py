@@ -147,13 +147,13 @@ def try_lost_responses(room):
 
 
 def try_sent_before(room):
-    """Two clients that have both sent before the first is served read their responses after. Then
-    the server ends."""
+    """Two clients that have both sent before they read are served in the order in which they came
+    and sent. Then the server ends."""
     opening, listed = told("opening")[:2]
     with serving(office(room, []), 2) as server:
         with connect(server.port) as first, connect(server.port) as second:
-            second.sendall(listed.request())
             first.sendall(opening.request())
+            second.sendall(listed.request())
             same(named(1, opening), received(first), opening.expected())
             same(named(2, listed), received(second), listed.expected())
         same("a server that has served all", server.end(), DONE)

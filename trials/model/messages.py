@@ -6,7 +6,7 @@ import re
 TOKEN = rb"[!#$%&'*+\-.^_`|~0-9A-Za-z]+"
 FIELD = re.compile(rb"(" + TOKEN + rb"):([\t\x20-\x7e\x80-\xff]*)\r?\n")
 HEAD = re.compile(
-    rb"(?:\r?\n)*(" + TOKEN + rb") ([!-~]+) HTTP/1\.([01])\r?\n"
+    rb"(?:\r?\n)*(" + TOKEN + rb") ([!-~\x80-\xff]+) HTTP/1\.([01])\r?\n"
     rb"((?:" + TOKEN + rb":[\t\x20-\x7e\x80-\xff]*\r?\n)*)\r?\n"
 )
 MOST_HEAD, MOST_FIELDS, MOST_BODY = 8192, 64, 1048576
@@ -44,6 +44,14 @@ class Refusal(Exception):
         self.status, self.line, self.allow, self.is_head = status, line, allow, is_head
 
 
+def text_of(target):
+    """The text of a target, which is UTF-8."""
+    try:
+        return target.decode()
+    except UnicodeDecodeError:
+        raise Refusal(400, "H1 message") from None
+
+
 class Head:
     """The head of a request: its method, target and fields, and what stands behind it."""
 
@@ -51,7 +59,7 @@ class Head:
         found = HEAD.match(sent[:MOST_HEAD])
         if not found or len(FIELD.findall(found[4])) > MOST_FIELDS:
             raise Refusal(400, "H1 message")
-        self.method, self.target = found[1].decode(), found[2].decode()
+        self.method, self.target = found[1].decode(), text_of(found[2])
         self.minor = found[3]
         self.fields = FIELD.findall(found[4])
         self.behind = sent[found.end() :]

@@ -48,11 +48,7 @@ fn do_office_order(rt: &HostRuntime, order: OfficeOrder<'_>) -> Result<(), Serve
             let mut writer = StdSink::new(io::writer(rt));
             replay_on_files(rt, database, requests, &mut writer)
         }
-        OfficeOrder::Serve {
-            database,
-            port,
-            count,
-        } => serve_on_port(rt, database, port, count),
+        OfficeOrder::Serve(service) => serve_on_port(rt, &service),
     }
 }
 

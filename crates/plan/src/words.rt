@@ -1,7 +1,8 @@
 //! The words of the command line.
 
-use clap::{Arg, ArgMatches, Command, value_parser};
+use clap::{Arg, ArgAction, ArgMatches, Command, value_parser};
 use plan_cli::Task;
+use plan_serve::Service;
 use std::alloc::{AllocError, Global};
 
 // What follows the help.
@@ -29,12 +30,8 @@ pub enum OfficeOrder<'a> {
         database: &'a str,
         requests: &'a [&'a str],
     },
-    /// It serves so many connections on a port.
-    Serve {
-        database: &'a str,
-        port: u16,
-        count: u32,
-    },
+    /// It serves connections on a port.
+    Serve(Service<'a>),
 }
 
 /// What the words ask for.
@@ -56,8 +53,22 @@ enum Reading {
     Names,
     /// As a port.
     Port,
-    /// As a number of connections.
+    /// As a number of connections, which may be left out.
     Count,
+    /// As an option's number of seconds.
+    Seconds,
+    /// As an option without a value.
+    Flag,
+}
+
+impl Reading {
+    // Whether the word has to be there.
+    fn is_required(self) -> bool {
+        !matches!(
+            self,
+            Reading::Optional | Reading::Count | Reading::Seconds | Reading::Flag
+        )
+    }
 }
 
 // A word of a command: what it is called, how it is read, and what the help says of it.
@@ -93,13 +104,19 @@ const BUDGET: Word = (
     "how many words the search may visit, 1 to 200000",
 );
 
+const NODES: Word = (
+    "NODES",
+    Reading::Judged,
+    "how many nodes the search may visit, 1 to 1000000000",
+);
+
 const DATABASE: Word = (
     "DB",
     Reading::Name,
     "the file in which an office is kept, an SQLite database",
 );
 
-const COMMANDS: [Entry; 13] = [
+const COMMANDS: [Entry; 14] = [
     (
         "cpm",
         "Prints the date table of a project",
@@ -170,6 +187,12 @@ const COMMANDS: [Entry; 13] = [
         &[BUDGET, FILE, INSTANCE],
     ),
     (
+        "prove",
+        "Prints a schedule of a job shop, proved optimal or with a lower bound of all makespans",
+        "Example:\n  plan prove 1000000 examples/shops.txt ft06",
+        &[NODES, FILE, INSTANCE],
+    ),
+    (
         "names",
         "Prints the names of the instances of a job shop file",
         "Example:\n  plan names examples/shops.txt",
@@ -207,7 +230,7 @@ const COMMANDS: [Entry; 13] = [
     (
         "serve",
         "Answers HTTP requests on 127.0.0.1, one connection after another",
-        "Example:\n  plan serve office.db 8080 1000000",
+        "Example:\n  plan serve office.db 8080",
         &[
             DATABASE,
             ("PORT", Reading::Port, "the port on 127.0.0.1, 1 to 65535"),
@@ -215,6 +238,16 @@ const COMMANDS: [Entry; 13] = [
                 "COUNT",
                 Reading::Count,
                 "how many connections to serve, 1 to 1000000",
+            ),
+            (
+                "patience",
+                Reading::Seconds,
+                "how long a connection may take for its request, and for its response, 1 to 60",
+            ),
+            (
+                "log",
+                Reading::Flag,
+                "tell each connection in a line on standard error",
             ),
         ],
     ),
@@ -225,7 +258,7 @@ fn plain<'a>(alloc: Global, word: Word) -> Arg<'a> {
     let (name, reading, help) = word;
     let hyphen = reading == Reading::Judged || reading == Reading::Optional;
     Arg::new(alloc, name)
-        .required(reading != Reading::Optional)
+        .required(reading.is_required())
         .allow_hyphen_values(hyphen)
         .help(help)
 }
@@ -236,7 +269,15 @@ fn arg_of<'a>(alloc: Global, word: Word) -> Arg<'a> {
     match word.1 {
         Reading::Names => arg.num_args(1..),
         Reading::Port => arg.value_parser(value_parser!(u16).range(1..=65535)),
-        Reading::Count => arg.value_parser(value_parser!(u32).range(1..=1000000)),
+        Reading::Count => arg
+            .value_parser(value_parser!(u32).range(1..=1000000))
+            .default_value("1000000"),
+        Reading::Seconds => arg
+            .long(word.0)
+            .value_name("SECONDS")
+            .value_parser(value_parser!(u32).range(1..=60))
+            .default_value("2"),
+        Reading::Flag => arg.long(word.0).action(ArgAction::SetTrue),
         _ => arg,
     }
 }
@@ -254,7 +295,7 @@ fn subcommand<'a>(alloc: Global, entry: Entry) -> Result<Command<'a>, AllocError
 /// The command line.
 pub fn command<'a>(alloc: Global) -> Result<Command<'a>, AllocError> {
     let mut command = Command::new(alloc, "plan")
-        .version("0.3.0")
+        .version("0.4.0")
         .about("Plans projects and job shops: dates, schedules, charts, working days")
         .after_help(EXAMPLES)
         .subcommand_required(true);
@@ -307,6 +348,10 @@ fn task_of<'a>(name: &str, words: &'a ArgMatches<'_>) -> Option<Task<'a>> {
             budget: words.get_str("BUDGET")?,
             instance: words.get_str("INSTANCE")?,
         }),
+        "prove" => Some(Task::Prove {
+            nodes: words.get_str("NODES")?,
+            instance: words.get_str("INSTANCE")?,
+        }),
         "best-project" => Some(Task::BestProject {
             budget: words.get_str("BUDGET")?,
         }),
@@ -323,11 +368,13 @@ fn office_order<'a>(name: &str, words: &'a ArgMatches<'_>) -> Option<OfficeOrder
             database,
             requests: words.get_strs("REQ")?,
         }),
-        _ => Some(OfficeOrder::Serve {
+        _ => Some(OfficeOrder::Serve(Service {
             database,
             port: words.get_one("PORT")?,
             count: words.get_one("COUNT")?,
-        }),
+            patience: words.get_one("patience")?,
+            is_logged: words.get_flag("log"),
+        })),
     }
 }
 

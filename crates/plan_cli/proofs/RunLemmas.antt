@@ -22,6 +22,7 @@ use Rattle.plan_cli.specs.NamesRun.{AreNamesOf, TellsNotPlain}
 use Rattle.plan_cli.specs.CheckRun.{IsVerdictOf, TellsWhyNoVerdict}
 use Rattle.plan_cli.specs.ShopRun.{IsShopTableOf, TellsWhyNoShop}
 use Rattle.plan_cli.specs.BestRun.{IsBestTableOf, TellsWhyNoBest}
+use Rattle.plan_cli.specs.ProveRun.{IsProofTableOf, TellsWhyNoProof}
 use Rattle.plan_cli.specs.BestProjectRun.{IsBestProjectTableOf, TellsWhyNoBestProject}
 use Rattle.plan_cli.specs.Tasks.{IsTextOf, IsLineOf}
 use Rattle.plan_cli.specs.declared.tasks.Task.{Task}
@@ -214,6 +215,13 @@ no_best_front : (budget instance : List ℕ) → HoldsByFront (TellsWhyNoBest bu
 no_best_front budget instance file line (inl first) = inl (first_front instance file line first)
 no_best_front budget instance file line (inr (doc, says, tells)) = inr (doc, says_shop_front instance file doc says, tells)
 
+proof_front : (nodes instance : List ℕ) → HoldsByFront (IsProofTableOf nodes instance)
+proof_front nodes instance file text (doc, says, table) = (doc, says_shop_front instance file doc says, table)
+
+no_proof_front : (nodes instance : List ℕ) → HoldsByFront (TellsWhyNoProof nodes instance)
+no_proof_front nodes instance file line (inl first) = inl (first_front instance file line first)
+no_proof_front nodes instance file line (inr (doc, says, tells)) = inr (doc, says_shop_front instance file doc says, tells)
+
 -- the fault of a shop file that is told
 pub told_no_shop : (instance file : List ℕ) (first : FileFault) (e : CliFault) → IsWantOfMemory first ⊎ reading.FailsWith (reading.shop instance file) first → Refuses (Tells first) e → Refuses (TellsFirstShopFault instance file) e
 told_no_shop instance file first e (inl memory) t = refuses_as (Tells first) (TellsFirstShopFault instance file) e (λ line tells. absurd (tells.0 memory.0)) t
@@ -287,6 +295,7 @@ task_front task.Names = names_front
 task_front (task.Check starts) = verdict_front starts.now
 task_front (task.Shop rule instance) = shop_front rule.now instance.now
 task_front (task.Best budget instance) = best_front budget.now instance.now
+task_front (task.Prove nodes instance) = proof_front nodes.now instance.now
 task_front (task.BestProject budget) = best_project_front budget.now
 
 pub task_line_front : (task : Task) → HoldsByFront (IsLineOf task)
@@ -300,4 +309,5 @@ task_line_front task.Names = not_plain_front
 task_line_front (task.Check starts) = no_verdict_front starts.now
 task_line_front (task.Shop rule instance) = no_shop_front rule.now instance.now
 task_line_front (task.Best budget instance) = no_best_front budget.now instance.now
+task_line_front (task.Prove nodes instance) = no_proof_front nodes.now instance.now
 task_line_front (task.BestProject budget) = no_best_project_front budget.now

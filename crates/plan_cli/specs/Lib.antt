@@ -16,8 +16,12 @@ pub use Rattle.plan_gantt.specs.ScheduleText
 pub use Rattle.plan_gantt.specs.ShopText
 pub use Rattle.plan_gantt.specs.ShopBestText
 pub use Rattle.plan_gantt.specs.ProjectBestText
+pub use Rattle.plan_prove.specs.Proofs
+pub use Rattle.plan_prove.specs.Nodes
 pub mod BestRun
 pub mod BestProjectRun
+pub mod ProofText
+pub mod ProveRun
 pub mod Scheduled
 pub mod ChartRun
 pub mod DaysRun

@@ -9,6 +9,7 @@ use Rattle.plan_cli.specs.NamesRun.{AreNamesOf, TellsNotPlain}
 use Rattle.plan_cli.specs.CheckRun.{IsVerdictOf, TellsWhyNoVerdict}
 use Rattle.plan_cli.specs.ShopRun.{IsShopTableOf, TellsWhyNoShop}
 use Rattle.plan_cli.specs.BestRun.{IsBestTableOf, TellsWhyNoBest}
+use Rattle.plan_cli.specs.ProveRun.{IsProofTableOf, TellsWhyNoProof}
 use Rattle.plan_cli.specs.BestProjectRun.{IsBestProjectTableOf, TellsWhyNoBestProject}
 use Rattle.plan_cli.specs.declared.tasks.Task.{Task}
 use Rattle.plan_cli.specs.declared.tasks.Task.TheVariants as task
@@ -28,6 +29,7 @@ IsTextOf task.Names = AreNamesOf
 IsTextOf (task.Check starts) = IsVerdictOf starts.now
 IsTextOf (task.Shop rule instance) = IsShopTableOf rule.now instance.now
 IsTextOf (task.Best budget instance) = IsBestTableOf budget.now instance.now
+IsTextOf (task.Prove nodes instance) = IsProofTableOf nodes.now instance.now
 IsTextOf (task.BestProject budget) = IsBestProjectTableOf budget.now
 
 -- the lines that tell why a task refuses a file
@@ -42,6 +44,7 @@ IsLineOf task.Names = TellsNotPlain
 IsLineOf (task.Check starts) = TellsWhyNoVerdict starts.now
 IsLineOf (task.Shop rule instance) = TellsWhyNoShop rule.now instance.now
 IsLineOf (task.Best budget instance) = TellsWhyNoBest budget.now instance.now
+IsLineOf (task.Prove nodes instance) = TellsWhyNoProof nodes.now instance.now
 IsLineOf (task.BestProject budget) = TellsWhyNoBestProject budget.now
 
 -- a task judges some bytes that were read, unless the input failed or memory ran out

@@ -27,6 +27,7 @@ pub(crate) enum Code {
     MachineClosed,
     TooLarge,
     BadBudget,
+    BadNodes,
     BadDate,
     BadDays,
     BeyondCalendar,
@@ -52,11 +53,16 @@ pub(crate) enum Code {
     NotOurs,
     Version,
     NoKey,
+    InUse,
+    NotThere,
+    NotWritable,
     NoMemory,
     StoreRefused,
     Input,
     Socket,
     Output,
+    PortInUse,
+    PortDenied,
 }
 
 impl Code {
@@ -85,6 +91,7 @@ impl Code {
             "S4" => Some(Code::MachineClosed),
             "S5" => Some(Code::TooLarge),
             "S6" => Some(Code::BadBudget),
+            "S7" => Some(Code::BadNodes),
             "G1" => Some(Code::BadDate),
             "G2" => Some(Code::BadDays),
             "G3" => Some(Code::BeyondCalendar),
@@ -110,11 +117,16 @@ impl Code {
             "K1" => Some(Code::NotOurs),
             "K2" => Some(Code::Version),
             "K3" => Some(Code::NoKey),
+            "K4" => Some(Code::InUse),
+            "K5" => Some(Code::NotThere),
+            "K6" => Some(Code::NotWritable),
             "E90" => Some(Code::NoMemory),
             "E91" => Some(Code::StoreRefused),
             "I1" => Some(Code::Input),
             "I2" => Some(Code::Socket),
             "I3" => Some(Code::Output),
+            "I4" => Some(Code::PortInUse),
+            "I5" => Some(Code::PortDenied),
             _ => None,
         }
     }
@@ -176,10 +188,13 @@ impl Code {
                 "S4 machine M closed\nMachine M is bound to a code whose capacity is 0, and a step that takes time needs it. It is the first such machine, counted from 0.\nPublish a capacity of 1 or more for the code, or bind the machine to another one.\n"
             }
             Code::TooLarge => {
-                "S5 too large\nA best schedule is asked for, and the project has more than 40 activities, or the shop more than 100 steps.\nLeave some out, or take plan schedule or plan shop.\n"
+                "S5 too large\nA best schedule is asked for, and the project has more than 40 activities, or the shop more than 100 steps.\nLeave some out, or take plan schedule, or plan prove of a shop.\n"
             }
             Code::BadBudget => {
                 "S6 budget\nThe budget isn't a number from 1 to 200000 in digits, without zeros or a sign in front.\nGive one: 200000 is the most.\n"
+            }
+            Code::BadNodes => {
+                "S7 nodes\nThe number of nodes isn't a number from 1 to 1000000000 in digits, without zeros or a sign in front.\nGive one: 1000000 takes some seconds.\n"
             }
             Code::BadDate => {
                 "G1 date\nThe first date isn't a date from 1900-01-01 to 2199-12-31, written like 2024-03-01.\nCorrect it.\n"
@@ -248,7 +263,7 @@ impl Code {
                 "E12 ..\nThe calendar is wrong, or none is set, or it ends before the last day: why follows, as E12 G1 date.\nLook up the code that follows, as G1.\n"
             }
             Code::NotOurs => {
-                "K1 not ours\nFor plan init, the database has tables already. Else its tables aren't those of an office, or a row isn't one that an office has, or the file is empty or wasn't there.\nCheck the name; take a backup if the file was changed by hand. If plan 0.2.0 made it, run in sqlite3: ALTER TABLE lags RENAME COLUMN source TO src; ALTER TABLE lags RENAME COLUMN target TO dst;\n"
+                "K1 not ours\nFor plan init, the database has tables already. Else its tables aren't those of an office, or a row isn't one that an office has, or the file is empty or shorter than a database.\nCheck the name; take a backup if the file was changed by hand. If plan 0.2.0 made it, run in sqlite3: ALTER TABLE lags RENAME COLUMN source TO src; ALTER TABLE lags RENAME COLUMN target TO dst;\n"
             }
             Code::Version => {
                 "K2 version\nThe tables are of a version that this program doesn't know.\nTake the program that wrote them, or a newer one.\n"
@@ -256,20 +271,35 @@ impl Code {
             Code::NoKey => {
                 "K3 key\nThe first line of standard input isn't a key: 8 to 64 of the characters from ! to ~, without a blank.\nGive another key.\n"
             }
+            Code::InUse => {
+                "K4 in use\nAnother program has the file of the office open: a server, or sqlite3.\nEnd it, or wait until it is done; fuser with the name of the file tells which it is.\n"
+            }
+            Code::NotThere => {
+                "K5 not there\nNothing is at the name; or, for plan init, there is no such folder. Nothing was made.\nCheck the name, relative to the folder that you stand in. A new office is made by plan init.\n"
+            }
+            Code::NotWritable => {
+                "K6 not writable\nThe file of the office, the log beside it (with -wal at its end) or their folder may not be read and written by this user, or the disk is mounted for reading alone.\nGive the folder and the files to the user that serves (chown), or put the office into a folder of its own.\n"
+            }
             Code::NoMemory => {
                 "E90 memory\nMemory ran out. The file may be in order.\nFree memory and try again.\n"
             }
             Code::StoreRefused => {
-                "E91 store\nThe file of an office can't be opened, read or written: it is no database, another server has it open, the folder isn't there, or the disk is full. A command that was refused so has changed nothing.\nCheck the name and the permissions, end the other server, or make room; then start again.\n"
+                "E91 store\nThe file of an office can't be opened, read or written: it is no database, the name is a folder's, it has a second name (a hard link), sqlite3 left a journal beside it, or the disk is full. A command that was refused so has changed nothing.\nCheck the name, open the file in sqlite3 once if there is a journal (with -journal at its end), or make room; then start again.\n"
             }
             Code::Input => {
                 "I1 file\nThe file or standard input can't be read: it isn't there, is a folder, or may not be read.\nCheck the name, relative to the folder that you stand in, and the permissions.\n"
             }
             Code::Socket => {
-                "I2 socket\nThe server can't listen on the port: another program does, or the port is below 1024 and for the system's own.\nChoose another port, or end the other program.\n"
+                "I2 socket\nThe server can't listen on the port, and not for the causes of I4 and I5; or no connection could be accepted a hundred times in a row, as where too many files are open. What was answered stands.\nLook for what holds files or connections open, raise the limit (ulimit -n), and start the server again.\n"
             }
             Code::Output => {
                 "I3 output\nThe output can't be written whole: the disk is full, or the reader of the pipe has gone.\nMake room or keep the pipe open, and run the command again; throw the part away.\n"
+            }
+            Code::PortInUse => {
+                "I4 port in use\nAnother program listens on the port.\nChoose another port, or end the other program.\n"
+            }
+            Code::PortDenied => {
+                "I5 port denied\nThe port may not be opened: those below 1024 are for the system's own.\nChoose a port from 1024 on; a proxy can listen on the other one.\n"
             }
         }
     }

@@ -13,6 +13,7 @@ use crate::cpm::cpm_run;
 use crate::days::{days_run, shop_days_run};
 use crate::fault::CliFault;
 use crate::names::names_run;
+use crate::prove::prove_run;
 use crate::schedule::schedule_run;
 use crate::shop::shop_run;
 use crate::tasks::Task;
@@ -50,6 +51,7 @@ pub(crate) fn run_command<R: Source, W: Sink>(
             instance,
         } => shop_days_run(alloc, rule, start, marks, instance, reader, writer),
         Task::Best { budget, instance } => best_run(alloc, budget, instance, reader, writer),
+        Task::Prove { nodes, instance } => prove_run(alloc, nodes, instance, reader, writer),
         Task::Names => names_run(alloc, reader, writer),
     }
 }

@@ -5,7 +5,7 @@ ghost use Rattle.plan_net.specs.Network.{count_of};
 ghost use Rattle.plan_psplib.specs.Devices.{most_calls, HasFailed};
 ghost use Rattle.plan_shop.specs.Docs.{shop_of};
 ghost use Rattle.plan_shop.specs.Shop.{count_steps};
-ghost use Rattle.plan_gantt.specs.CalendarText.{IsCalendar};
+ghost use Rattle.plan_calendar.specs.CalendarText.{IsCalendar};
 ghost use Rattle.plan_gantt.specs.CalendarTable.{IsCalendarTable, HasActivityBeyond};
 ghost use Rattle.plan_gantt.specs.ShopCharts.{IsShopCalendarTable, HasStepBeyond};
 ghost use Rattle.plan_cli.specs.Run.{ReadsFront, Refuses, Writes};

@@ -12,6 +12,7 @@ use crate::cpm::date_text;
 use crate::days::{days_text, shop_days_text};
 use crate::fault::CliFault;
 use crate::names::names_text;
+use crate::prove::proof_text_of;
 use crate::schedule::schedule_text;
 use crate::shop::shop_text;
 use std::alloc::Global;
@@ -64,6 +65,11 @@ pub enum Task<'a> {
         budget: &'a str,
         instance: &'a str,
     },
+    /// What a search of so many nodes proves of a job shop: that of an instance of the file.
+    Prove {
+        nodes: &'a str,
+        instance: &'a str,
+    },
     /// The best schedule of a project that a search within a budget finds.
     BestProject {
         budget: &'a str,
@@ -96,6 +102,9 @@ pub(crate) fn text_of(alloc: Global, task: Task<'_>, file: &[u8]) -> Result<Vec<
         } => Ok(shop_days_text(alloc, rule, start, marks, instance, file)?.into_bytes()),
         Task::Best { budget, instance } => Ok(best_text_of(
             alloc, budget, instance, file,
+        )?.into_bytes()),
+        Task::Prove { nodes, instance } => Ok(proof_text_of(
+            alloc, nodes, instance, file,
         )?.into_bytes()),
         Task::Names => names_text(alloc, file),
     }

@@ -1,10 +1,10 @@
 -- Working days by the calendar of a plan.
 use Rattle.std.proofs.Common.{◌≡◌, inl, inr, true, false, length, refl}
 use Rattle.std.specs.Prelude.{nat_eq}
-use Rattle.plan_gantt.specs.WorkingDay.{Workdays}
-use Rattle.plan_gantt.specs.CalendarText.{IsCalendar}
+use Rattle.plan_calendar.specs.WorkingDay.{Workdays}
+use Rattle.plan_calendar.specs.CalendarText.{IsCalendar}
 use Rattle.plan_gantt.specs.CalendarFaultText.{calendar_fault_text_of, missing_calendar_text}
-use Rattle.plan_gantt.specs.declared.calendar.CalendarFault.TheVariants.{BeyondCalendar}
+use Rattle.plan_calendar.specs.declared.calendar.CalendarFault.TheVariants.{BeyondCalendar}
 use Rattle.plan_rows.specs.World.{Text, Plan}
 use Rattle.plan_rows.specs.Changes.{Keep}
 use Rattle.plan_desk.specs.Calls.{Reply, page}

@@ -9,7 +9,7 @@ use Rattle.std.proofs.lemmas.Nat.{mod_below}
 use Rattle.sha2.specs.Sha256.{sha256, digest_bytes, final_hash, initial_hash_256}
 use Rattle.sha2.proofs.Facts256.{length-sha256}
 use Rattle.serde_json.specs.Data.{Data}
-use Rattle.plan_gantt.specs.WorkingDay.{Workdays}
+use Rattle.plan_calendar.specs.WorkingDay.{Workdays}
 use Rattle.plan_psplib.specs.Project.{Project, SaysProject}
 use Rattle.plan_rows.specs.declared.kinds.Kind.{Kind}
 use Rattle.plan_rows.specs.declared.kinds.PlanKind.{PlanKind}

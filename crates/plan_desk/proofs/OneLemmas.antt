@@ -8,7 +8,7 @@ use Rattle.plan_shop.specs.Shop.{JobShop}
 use Rattle.plan_shop.specs.Docs.{shop_of, NoneIsClosed}
 use Rattle.plan_shop.specs.declared.fault.ShopFault.TheVariants as shop_fault
 use Rattle.plan_shop.proofs.OnceLemmas as shops
-use Rattle.plan_gantt.specs.WorkingDay.{Workdays}
+use Rattle.plan_calendar.specs.WorkingDay.{Workdays}
 use Rattle.plan_gantt.specs.CalendarFaultText.{calendar_fault_text_of}
 use Rattle.plan_gantt.specs.ScheduleText.{IsSchedule, TellsRefusal}
 use Rattle.plan_shop.specs.Names as shop_names
@@ -18,7 +18,8 @@ use Rattle.plan_gantt.specs.ShopText.{rule_starts, TellsNoRule}
 use Rattle.plan_gantt.specs.ShopFaultText.{shop_fault_text_of}
 use Rattle.plan_gantt.specs.ShopBestText.{IsBestTextOf}
 use Rattle.plan_gantt.proofs.OnceLemmas as once
-use Rattle.plan_gantt.proofs.CalendarOnceLemmas as calendars
+use Rattle.plan_calendar.proofs.CalendarOnceLemmas as calendars
+use Rattle.plan_gantt.proofs.DaysOnceLemmas as day_tables
 use Rattle.plan_rows.specs.declared.kinds.PlanKind.{PlanKind}
 use Rattle.plan_rows.specs.declared.kinds.PlanKind.TheVariants as kinds
 use Rattle.plan_rows.specs.World.{Text, Published, Plan}
@@ -223,12 +224,12 @@ unfolding Days
 one_days v n rule =
     one_of_plan _ _ _ (λ plan. one_by_kind _ _ _
     (one_of_schedule _ _ _ _ (λ i starts. one_of_calendar _ _ _ (record {
-      one_table = λ c d x y alike a b. calendars.project_days_once c d i.project.network starts x y alike a b;
-      apart = λ c d x alike a b. calendars.project_days_apart c d i.project.network starts x alike a b;
+      one_table = λ c d x y alike a b. day_tables.project_days_once c d i.project.network starts x y alike a b;
+      apart = λ c d x alike a b. day_tables.project_days_apart c d i.project.network starts x alike a b;
     })))
     (one_of_shop_schedule _ _ _ _ (λ s starts. one_of_calendar _ _ _ (record {
-      one_table = λ c d x y alike a b. calendars.shop_days_once c d s starts x y alike a b;
-      apart = λ c d x alike a b. calendars.shop_days_apart c d s starts x alike a b;
+      one_table = λ c d x y alike a b. day_tables.shop_days_once c d s starts x y alike a b;
+      apart = λ c d x alike a b. day_tables.shop_days_apart c d s starts x alike a b;
     }))))
 
 -- ---- best schedules

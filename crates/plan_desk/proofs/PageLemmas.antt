@@ -14,7 +14,7 @@ use Rattle.plan_gantt.specs.ShopTable.{shop_table_text}
 use Rattle.plan_gantt.specs.Chart.{chart_text}
 use Rattle.plan_gantt.specs.Charts.{activity_intervals}
 use Rattle.plan_gantt.specs.ShopCharts.{machine_intervals}
-use Rattle.plan_gantt.specs.WorkingDay.{Workdays}
+use Rattle.plan_calendar.specs.WorkingDay.{Workdays}
 use Rattle.plan_gantt.specs.ProjectBestText.{IsBestProjectTextOf, TellsBestProjectRefusal}
 use Rattle.plan_desk.specs.BestRoutes.{TellsNoShopBest, OfProjectBest, OfShopBest, Best}
 use Rattle.plan_desk.specs.BestOf.{IsOpenBest, IsBestOf, TellsNoBest}

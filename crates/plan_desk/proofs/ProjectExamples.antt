@@ -33,9 +33,9 @@ use Rattle.plan_gantt.specs.Column.{number_column}
 use Rattle.plan_gantt.specs.DateTable.{date_line}
 use Rattle.plan_gantt.specs.FaultText.{fault_text_by}
 use Rattle.plan_gantt.specs.FirstFaults.{TellsFirstFailing}
-use Rattle.plan_gantt.specs.declared.calendar.CalendarFault.TheVariants as calendar_fault
-use Rattle.plan_gantt.specs.CalendarText.{IsCalendar, HasNoStart, HasNoMarks}
-use Rattle.plan_gantt.proofs.TextLemmas.{same_parts, one_of}
+use Rattle.plan_calendar.specs.declared.calendar.CalendarFault.TheVariants as calendar_fault
+use Rattle.plan_calendar.specs.CalendarText.{IsCalendar, HasNoStart, HasNoMarks}
+use Rattle.plan_calendar.proofs.TextLemmas.{same_parts, one_of}
 use Rattle.plan_rows.specs.declared.kinds.Kind.TheVariants.{Crew, Machine}
 use Rattle.plan_desk.specs.declared.reply.ReplyKind.TheVariants.{Plain, Json}
 use Rattle.plan_rows.specs.declared.kinds.PlanKind.TheVariants.{Project, Shop}

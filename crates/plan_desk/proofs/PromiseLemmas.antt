@@ -7,12 +7,12 @@ use Rattle.plan_gantt.specs.DateTable.{IsDateText}
 use Rattle.plan_gantt.specs.ScheduleText.{TellsRefusal}
 use Rattle.plan_gantt.specs.ShopBestText.{IsBestTextOf}
 use Rattle.plan_gantt.specs.ProjectBestText.{IsBestProjectTextOf, TellsBestProjectRefusal}
-use Rattle.plan_gantt.specs.CalendarText.{IsCalendar}
+use Rattle.plan_calendar.specs.CalendarText.{IsCalendar}
 use Rattle.plan_gantt.specs.CalendarFaultText.{missing_calendar_text}
 use Rattle.plan_gantt.specs.CalendarTable.{IsCalendarTable, HasActivityBeyond}
 use Rattle.plan_gantt.specs.ShopCharts.{IsShopCalendarTable, HasStepBeyond}
 use Rattle.plan_shop.specs.Docs.{NoneIsClosed}
-use Rattle.plan_gantt.specs.WorkingDay.{Workdays}
+use Rattle.plan_calendar.specs.WorkingDay.{Workdays}
 use Rattle.plan_rows.specs.declared.kinds.PlanKind.{PlanKind}
 use Rattle.plan_rows.specs.declared.kinds.PlanKind.TheVariants.{Project, Shop}
 use Rattle.plan_psplib.specs.Project as files
@@ -220,6 +220,7 @@ best_of_project v n plan word reply change seen good h =
       said = made.holds;
       active = best.active;
       shortest = best.shortest;
+      makespan = best.makespan;
       shown = same ∙ best.shown;
     }
 
@@ -243,6 +244,7 @@ best_of_shop v n plan word reply change seen good h =
       opened = found.holds.0;
       active = best.active;
       shortest = best.shortest;
+      makespan = best.makespan;
       shown = same ∙ best.shown;
     }
 

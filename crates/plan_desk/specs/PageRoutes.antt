@@ -23,15 +23,15 @@ use Rattle.plan_gantt.specs.Chart.{chart_text}
 use Rattle.plan_gantt.specs.Charts.{activity_intervals}
 use Rattle.plan_gantt.specs.ShopCharts.{machine_intervals, IsShopCalendarTable, HasStepBeyond}
 use Rattle.plan_gantt.specs.CalendarTable.{IsCalendarTable, HasActivityBeyond}
-use Rattle.plan_gantt.specs.WorkingDay.{Workdays}
+use Rattle.plan_calendar.specs.WorkingDay.{Workdays}
 use Rattle.plan_gantt.specs.CalendarFaultText.{calendar_fault_text_of, missing_calendar_text}
-use Rattle.plan_gantt.specs.declared.calendar.CalendarFault.TheVariants as calendar_fault
+use Rattle.plan_calendar.specs.declared.calendar.CalendarFault.TheVariants as calendar_fault
 use Rattle.plan_sgs.specs.Problem.{IsActive}
 use Rattle.plan_rows.specs.World.{Text, Plan}
 use Rattle.plan_rows.specs.Views.{View}
 use Rattle.plan_desk.specs.Outcomes.{Outcome, refuses, shows, unless, some, why_or}
 use Rattle.plan_rows.specs.Plans.{IsProjectOf, IsShopOf, bound_project, open_machines}
-use Rattle.plan_gantt.specs.CalendarText.{IsCalendar}
+use Rattle.plan_calendar.specs.CalendarText.{IsCalendar}
 use Rattle.plan_desk.specs.PlanRoutes.{of_plan, by_kind}
 use Rattle.plan_desk.specs.Refusals.{other_kind, bad_schedule, bad_calendar}
 

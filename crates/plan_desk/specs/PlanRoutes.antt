@@ -5,9 +5,9 @@ use Rattle.plan_psplib.specs.Project.{Project}
 use Rattle.plan_psplib.specs.Project as files
 use Rattle.plan_orlib.specs.Says.{Says}
 use Rattle.plan_gantt.specs.FirstFaults.{TellsFirstFailing, TellsFirstShopFault}
-use Rattle.plan_gantt.specs.CalendarText.{IsCalendar, RefusesTexts}
+use Rattle.plan_calendar.specs.CalendarText.{IsCalendar, RefusesTexts}
 use Rattle.plan_gantt.specs.CalendarFaultText.{calendar_fault_text_of}
-use Rattle.plan_gantt.specs.declared.calendar.CalendarFault.{CalendarFault}
+use Rattle.plan_calendar.specs.declared.calendar.CalendarFault.{CalendarFault}
 use Rattle.plan_rows.specs.declared.kinds.PlanKind.{PlanKind}
 use Rattle.plan_rows.specs.declared.kinds.PlanKind.TheVariants as kinds
 use Rattle.plan_rows.specs.World.{Text, Plan, takes, code_in}

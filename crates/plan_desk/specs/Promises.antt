@@ -19,8 +19,8 @@ use Rattle.plan_gantt.specs.Chart.{chart_text}
 use Rattle.plan_gantt.specs.Charts.{activity_intervals}
 use Rattle.plan_gantt.specs.ShopCharts.{machine_intervals, IsShopCalendarTable}
 use Rattle.plan_gantt.specs.CalendarTable.{IsCalendarTable}
-use Rattle.plan_gantt.specs.CalendarText.{IsCalendar}
-use Rattle.plan_gantt.specs.WorkingDay.{Workdays}
+use Rattle.plan_calendar.specs.CalendarText.{IsCalendar}
+use Rattle.plan_calendar.specs.WorkingDay.{Workdays}
 use Rattle.plan_gantt.specs.BestText.{best_text_of}
 use Rattle.plan_gantt.specs.ProjectBestText.{best_project_text_of}
 use Rattle.plan_rows.specs.World.{Text, Plan}
@@ -61,7 +61,7 @@ pub record ShowsShopSchedule (v : View) (n : Text) (IsText : Plan → JobShop �
   pub active : IsActive (shops.problem_of shop) starts
   pub shown : IsText plan shop starts text
 
--- the best schedule that was found of a project: where it is called optimal, it is
+-- the best schedule that was found of a project, with its makespan: where it is called optimal, it is
 pub record ShowsBest (v : View) (n text : Text) : Type 0 where
   pub plan : Plan
   pub project : Project
@@ -70,6 +70,7 @@ pub record ShowsBest (v : View) (n text : Text) : Type 0 where
   pub said : IsProjectOf v plan project
   pub active : IsActive (problem_of (bound_project v plan project)) solved.schedule.starts.items
   pub shortest : solved.kind ≡ Optimal → IsShortest (problem_of (bound_project v plan project)) solved.schedule.starts.items
+  pub makespan : solved.schedule.makespan ≡ makespan (problem_of (bound_project v plan project)) solved.schedule.starts.items
   pub shown : text ≡ best_project_text_of (bound_project v plan project) solved
 
 -- and of a shop
@@ -82,6 +83,7 @@ pub record ShowsShopBest (v : View) (n text : Text) : Type 0 where
   pub opened : NoneIsClosed shop.steps (open_machines v plan.n shop.machines)
   pub active : IsActive (shops.problem_of shop) solved.schedule.starts.items
   pub shortest : solved.kind ≡ Optimal → IsShortest (shops.problem_of shop) solved.schedule.starts.items
+  pub makespan : solved.schedule.makespan ≡ makespan (shops.problem_of shop) solved.schedule.starts.items
   pub shown : text ≡ best_text_of shop solved
 
 abbrev pub IsTable : Plan → Planned → List ℕ → Text → Type 0

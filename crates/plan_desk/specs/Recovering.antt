@@ -24,9 +24,9 @@ use Rattle.plan_orlib.specs.Reading.{found_stream, shop}
 use Rattle.plan_orlib.specs.Says.{Says}
 use Rattle.plan_orlib.proofs.ShopLemmas.{shop_spelled}
 use Rattle.plan_orlib.proofs.TextLemmas.{stream_is, said_shop}
-use Rattle.plan_gantt.specs.WorkingDay.{Workdays}
-use Rattle.plan_gantt.specs.CalendarText.{IsCalendar}
-use Rattle.plan_gantt.proofs.CalendarOnceLemmas.{start_once, marks_once}
+use Rattle.plan_calendar.specs.WorkingDay.{Workdays}
+use Rattle.plan_calendar.specs.CalendarText.{IsCalendar}
+use Rattle.plan_calendar.proofs.CalendarOnceLemmas.{start_once, marks_once}
 use Rattle.plan_rows.specs.declared.kinds.PlanKind.{PlanKind}
 use Rattle.plan_rows.specs.declared.kinds.PlanKind.TheVariants as kinds
 use Rattle.plan_rows.specs.World.{Text}

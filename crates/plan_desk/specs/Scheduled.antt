@@ -16,7 +16,7 @@ use Rattle.plan_gantt.specs.Chart.{chart_text}
 use Rattle.plan_gantt.specs.Charts.{activity_intervals}
 use Rattle.plan_gantt.specs.ShopCharts.{machine_intervals, IsShopCalendarTable, HasStepBeyond}
 use Rattle.plan_gantt.specs.CalendarTable.{IsCalendarTable, HasActivityBeyond}
-use Rattle.plan_gantt.specs.WorkingDay.{Workdays}
+use Rattle.plan_calendar.specs.WorkingDay.{Workdays}
 use Rattle.plan_rows.specs.declared.kinds.PlanKind.TheVariants as kinds
 use Rattle.plan_desk.specs.declared.bound.BoundPlan.{BoundPlan}
 use Rattle.plan_desk.specs.declared.pages.scheduled.Scheduled.{Scheduled}

@@ -3,7 +3,7 @@ use Rattle.std.proofs.Common.{◌≡◌, ℕ, zero, suc, ◌+◌, ◌-◌, ◌<�
 use mathlib.Core.List.{append_assoc}
 use Rattle.plan_gantt.specs.CalendarTable.{IsDayText, IsDaysText, IsDaysLine, AreDaysLines, IsDaysTable, ShowsBeyond}
 use Rattle.plan_gantt.specs.declared.interval.Interval.{Interval}
-use Rattle.plan_gantt.specs.WorkingDay.{Workdays, IsBeyond}
+use Rattle.plan_calendar.specs.WorkingDay.{Workdays, IsBeyond}
 
 -- what was put behind a text: something of which P holds
 abbrev pub Appended : (List ℕ → Type 0) → List ℕ → List ℕ → Type 0

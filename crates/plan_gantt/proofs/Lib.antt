@@ -1,11 +1,8 @@
 pub mod ColumnLemmas
-pub mod WeekLemmas
-pub mod DayLemmas
-pub mod TextLemmas
 pub mod CellLemmas
 pub mod DayTextLemmas
 pub mod ShopLineLemmas
 pub mod ShopChartLemmas
 pub mod OnceLemmas
 pub mod ProjectOnceLemmas
-pub mod CalendarOnceLemmas
+pub mod DaysOnceLemmas

@@ -1,7 +1,7 @@
 -- The texts of what working days are refused for (docs/DEFINITIONS.md, "Texts").
 use Rattle.std.specs.Prelude.{ℕ, List, codes}
-use Rattle.plan_gantt.specs.declared.calendar.CalendarFault.{CalendarFault}
-use Rattle.plan_gantt.specs.declared.calendar.CalendarFault.TheVariants as fault
+use Rattle.plan_calendar.specs.declared.calendar.CalendarFault.{CalendarFault}
+use Rattle.plan_calendar.specs.declared.calendar.CalendarFault.TheVariants as fault
 
 -- the text of what a calendar is refused for, or a day of it
 abbrev pub calendar_fault_text_of : CalendarFault → List ℕ

@@ -3,7 +3,7 @@ use Rattle.std.specs.Prelude.{◌≡◌, ℕ, ◌+◌, ◌⊎◌, zero, suc, Lis
 use Rattle.jiff_core.specs.declared.civil.date.Date.{Date}
 use Rattle.jiff.specs.Words.{date_text}
 use Rattle.plan_gantt.specs.Column.{column, number_column}
-use Rattle.plan_gantt.specs.WorkingDay.{Workdays, IsWorkingDay, IsBeyond}
+use Rattle.plan_calendar.specs.WorkingDay.{Workdays, IsWorkingDay, IsBeyond}
 use Rattle.plan_net.specs.Network.{Net, IsActivity, count_of}
 use Rattle.plan_gantt.specs.Charts.{activity_interval}
 use Rattle.plan_gantt.specs.declared.interval.Interval.{Interval}

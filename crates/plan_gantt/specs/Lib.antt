@@ -11,9 +11,6 @@ pub mod ShopCharts
 pub mod ShopFaultText
 pub mod FaultText
 pub mod ScheduleFaultText
-pub mod WorkingDay
-pub mod CalendarText
-pub mod Weeks
 pub use Rattle.plan_net.specs.Network
 pub use Rattle.plan_cpm.specs.Dates
 pub use Rattle.plan_psplib.specs.Faults

@@ -2,7 +2,7 @@
 use Rattle.std.specs.Prelude.{ℕ, ◌-◌, ◌<◌, List, ◌++◌, map, nat_eq, slice_index, codes}
 use Rattle.plan_shop.specs.Shop.{JobShop, count_steps, time_of, machine_of, those_below}
 use Rattle.plan_gantt.specs.Column.{number_column}
-use Rattle.plan_gantt.specs.WorkingDay.{Workdays}
+use Rattle.plan_calendar.specs.WorkingDay.{Workdays}
 use Rattle.plan_gantt.specs.CalendarTable.{IsDaysTable, HasDayBeyond}
 use Rattle.plan_gantt.specs.ShopTable.{job_number, step_number}
 use Rattle.plan_gantt.specs.declared.interval.Interval.{Interval}

@@ -3,7 +3,7 @@
 ghost use Rattle.std.specs.Prelude.{◌≡◌};
 ghost use Rattle.plan_gantt.specs.CalendarFaultText.{calendar_fault_text_of, missing_calendar_text};
 
-use crate::calendar::CalendarFault;
+use plan_calendar::CalendarFault;
 
 /// The text of what a calendar, or a day of it, is refused for, as `G1 date`, without an end of
 /// line. Takes no memory.

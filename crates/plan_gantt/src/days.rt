@@ -3,14 +3,14 @@ ghost use Rattle.plan_net.specs.Network.{IsActivity, count_of};
 ghost use Rattle.plan_gantt.specs.Limits.{latest_start, latest_end};
 ghost use Rattle.plan_gantt.specs.Charts.{activity_interval};
 ghost use Rattle.plan_gantt.specs.Column.{number_column};
-ghost use Rattle.plan_gantt.specs.WorkingDay.{IsBeyond};
+ghost use Rattle.plan_calendar.specs.WorkingDay.{IsBeyond};
 ghost use Rattle.plan_gantt.specs.CalendarTable as spec;
 ghost use Rattle.plan_gantt.specs.declared.days.DaysFault.TheVariants.{NoMemory};
 
-use crate::calendar::Calendar;
 use crate::charts::interval_of;
 use crate::column::{push_first, push_right};
 use crate::interval::Interval;
+use plan_calendar::Calendar;
 use plan_net::Network;
 use std::alloc::{AllocError, Global};
 use thiserror::Error;

@@ -1,9 +1,7 @@
-//! The exact texts that people read: tables and fault texts, each a function of the values that it shows; and the calendar of
-//! working days.
+//! The exact texts that people read: tables and fault texts, each a function of the values that it shows.
 #![tactic(auto)]
 
 mod best;
-mod calendar;
 mod calendar_faults;
 mod charts;
 mod column;
@@ -11,25 +9,22 @@ mod dates;
 mod days;
 mod exact_faults;
 mod faults;
-mod first_date;
 mod interval;
-mod marks;
 mod schedule_faults;
 mod schedules;
 mod shop_charts;
 mod shop_days;
 mod shop_faults;
 mod shops;
-mod weeks;
 
 pub use best::{best_project_text, best_text};
-pub use calendar::{Calendar, CalendarFault};
 pub use calendar_faults::{calendar_fault_text, missing_calendar};
 pub use charts::chart;
 pub use dates::date_table;
 pub use days::{DaysFault, calendar_table};
 pub use exact_faults::exact_fault_text;
 pub use faults::file_fault_text;
+pub use plan_calendar::{Calendar, CalendarFault};
 pub use schedule_faults::schedule_fault_text;
 pub use schedules::schedule_table;
 pub use shop_charts::shop_chart;

@@ -4,11 +4,11 @@ ghost use Rattle.plan_gantt.specs.Limits.{latest_start};
 ghost use Rattle.plan_gantt.specs.CalendarTable.{IsDaysLine, HasDayBeyond};
 ghost use Rattle.plan_gantt.specs.ShopCharts as spec;
 
-use crate::calendar::Calendar;
 use crate::column::{push_first, push_number};
 use crate::days::{DaysFault, push_days_line};
 use crate::shop_charts::step_interval;
 use crate::shops::step_count;
+use plan_calendar::Calendar;
 use plan_shop::Shop;
 use std::alloc::{AllocError, Global};
 

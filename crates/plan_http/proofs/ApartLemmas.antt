@@ -124,7 +124,7 @@ module _ {B : Type 0} (shelf : Shelf B) where
   moved_unseen desk old new bytes (handled r reply) is_on h honest stands outside =
       h.outside honest stands desk (outside_request desk (view desk (shelf.world old)) bytes r outside is_on)
   moved_unseen desk old new bytes (failed check allow is_head) is_on h honest stands outside = ap (λ (b : B). view desk (shelf.world b)) h
-  moved_unseen desk old new bytes (starved is_head) is_on h honest stands outside = ap (λ (b : B). view desk (shelf.world b)) h
+  moved_unseen desk old new bytes starved is_on h honest stands outside = ap (λ (b : B). view desk (shelf.world b)) h
 
   pub serving_unseen : (desk : Text) (old new : B) (conns : List Text) (decisions : List Decision) → Serving shelf old conns decisions new → shelf.honest new
       → ServingUnseen shelf desk old conns decisions new

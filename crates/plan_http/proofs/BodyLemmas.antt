@@ -1,8 +1,9 @@
 -- A body in pieces.
-use Rattle.std.proofs.Common.{◌≡◌, ℕ, ◌+◌, ◌<◌, ◌≤◌, List, [], ◌++◌, length, take, drop, Option, Some, sym, ap, ◌∙◌, subst, arith}
+use Rattle.std.proofs.Common.{◌≡◌, ℕ, ◌+◌, ◌<◌, ◌≤◌, List, [], ◌++◌, length, take, drop, Option, Some, Result, Ok, Err, IfOk, refl, sym, ap, ◌∙◌, subst, arith}
 use Rattle.std.proofs.Math.Seq.{take-append_seam, drop-append_seam}
 use Rattle.std.proofs.lemmas.List.{append-nil, length-take-le, length-append, take-append-le}
-use Rattle.plan_http.specs.Pieces.{IsSplit}
+use Rattle.plan_http.specs.Pieces.{IsSplit, Fills}
+use Rattle.plan_http.specs.BodyPieces.{HasLeft, Skips}
 
 -- the end comes before the body is full
 pub ended : (bytes body : List ℕ) (left : Option (List ℕ)) (filled came : ℕ) → IsSplit bytes (take (filled + came) body) left
@@ -42,3 +43,34 @@ came_whole after got left count s short =
       sym (ap (take count) s.whole ∙ take-append-le count got s.more fits),
       λ long. absurd (omega arith),
     )
+
+-- a read whose bytes aren't kept
+pub skipped : {E : Type 0} (old new : List ℕ) (had left : Option (List ℕ)) (r : Result ℕ E) → IfOk r (λ came. 0 + came ≤ length new) → Fills old 0 had new left r → Skips had left r
+skipped old new had left (Ok came) within fills = λ total before h.
+    let s = fills h.rest (record { more = h.rest; left_is = h.left_is; whole = refl }) in
+    let len : length (take (0 + came) new) ≡ 0 + came = length-take-le (0 + came) new within in
+    let all : length h.rest ≡ length (take (0 + came) new) + length s.0.more = ap length s.0.whole ∙ length-append (take (0 + came) new) s.0.more in
+    let sum : total ≡ before + length h.rest = h.sum in (
+      record { rest = s.0.more; left_is = s.0.left_is; sum = omega (arith, len, all, sum) },
+      s.1,
+    )
+skipped old new had left (Err e) within fills = tt
+
+-- what came with the head, and what is left
+pub left_behind : (after got : List ℕ) (left : Option (List ℕ)) → IsSplit after got left → HasLeft (length after) (length got) left
+left_behind after got left s = record { rest = s.more; left_is = s.left_is; sum = ap length s.whole ∙ length-append got s.more }
+
+-- what was skipped is no more than there is
+pub at_least : (total before count : ℕ) (left : Option (List ℕ)) → HasLeft total before left → count ≤ before → count ≤ total
+at_least total before count left h within =
+    let sum : total ≡ before + length h.rest = h.sum in
+    omega (arith, sum, within)
+
+-- and all of it where nothing is left
+pub too_few : (total before came count : ℕ) (left : Option (List ℕ)) → HasLeft total (before + came) left → came ≡ 0 → left ≡ Some [] → before < count → total < count
+too_few total before came count left h zero end short =
+    let same : Some h.rest ≡ Some [] = sym h.left_is ∙ end in
+    let none : h.rest ≡ [] = cc in
+    let sum : total ≡ before + came + length h.rest = h.sum in
+    let nothing : length h.rest ≡ 0 = ap length none in
+    omega (arith, sum, nothing, zero, short)

@@ -46,7 +46,7 @@ module _ {B : Type 0} (shelf : Shelf B) where
   moved_stood : (old new : B) (d : Decision) → Moves shelf old new d → shelf.honest new → shelf.stands new → shelf.stands old
   moved_stood old new (handled r reply) h honest stands = h.stood honest stands
   moved_stood old new (failed check allow is_head) h honest stands = subst shelf.stands h stands
-  moved_stood old new (starved is_head) h honest stands = subst shelf.stands h stands
+  moved_stood old new starved h honest stands = subst shelf.stands h stands
 
   served_stood : (old new : B) (conns : List Text) (decisions : List Decision) → Serving shelf old conns decisions new → shelf.honest new → shelf.stands new → shelf.stands old
   served_stood old new [] [] h honest stands = subst shelf.stands h stands
@@ -62,25 +62,25 @@ module _ {B : Type 0} (shelf : Shelf B) where
     | inr want ↦ want.1 stands
   ]
   moved_same old new (failed check allow is_head) h unaccepted honest stands = ap shelf.world h
-  moved_same old new (starved is_head) h unaccepted honest stands = ap shelf.world h
+  moved_same old new starved h unaccepted honest stands = ap shelf.world h
 
   -- after an accepted command a crash leaves its rows
   moved_durable : (old new : B) (d : Decision) → Moves shelf old new d → accepts d ≡ true → shelf.honest new → (left : Option World) → shelf.may_leave new left
       → left ≡ Some (shelf.world new)
   moved_durable old new (handled r reply) h took honest left may = h.durable honest took left may
   moved_durable old new (failed check allow is_head) h took honest left may = absurd (both_ways _ refl took)
-  moved_durable old new (starved is_head) h took honest left may = absurd (both_ways _ refl took)
+  moved_durable old new starved h took honest left may = absurd (both_ways _ refl took)
 
   -- one writing call for each accepted command, and for nothing else
   moved_made : (old new : B) (d : Decision) → Moves shelf old new d → accepts d ≡ true → shelf.honest new → shelf.made new ≡ shelf.made old + 1
   moved_made old new (handled r reply) h took honest = (h.made honest took).0
   moved_made old new (failed check allow is_head) h took honest = absurd (both_ways _ refl took)
-  moved_made old new (starved is_head) h took honest = absurd (both_ways _ refl took)
+  moved_made old new starved h took honest = absurd (both_ways _ refl took)
 
   moved_unmade : (old new : B) (d : Decision) → Moves shelf old new d → accepts d ≡ false → shelf.honest new → shelf.made new ≡ shelf.made old
   moved_unmade old new (handled r reply) h unaccepted honest = h.unmade honest unaccepted
   moved_unmade old new (failed check allow is_head) h unaccepted honest = ap shelf.made h
-  moved_unmade old new (starved is_head) h unaccepted honest = ap shelf.made h
+  moved_unmade old new starved h unaccepted honest = ap shelf.made h
 
   -- what was refused, in the request's words
   record Refused (old new : B) (d : Decision) (left : Option World) : Type 0 where
@@ -109,7 +109,7 @@ module _ {B : Type 0} (shelf : Shelf B) where
     })
   ]
   moved_crash old new (failed check allow is_head) h unaccepted honest left may = inl (subst (λ (b : B). shelf.may_leave b left) h may)
-  moved_crash old new (starved is_head) h unaccepted honest left may = inl (subst (λ (b : B). shelf.may_leave b left) h may)
+  moved_crash old new starved h unaccepted honest left may = inl (subst (λ (b : B). shelf.may_leave b left) h may)
 
   -- the bytes of what was refused
   refused_on : (bytes : Option Text) (old new : B) (d : Decision) (left : Option World) (r : Refused old new d left)

@@ -1,5 +1,6 @@
 -- From two runs of an office to what a desk is told in them.
 use Rattle.std.proofs.Common.{◌≡◌, ◌⊎◌, ℕ, zero, suc, ◌≤◌, List, [], ◌∷◌, ◌++◌, map, length, take, Result, Ok, Err, OnOk, OnErr, inl, inr, refl, sym, ap, ◌∙◌, subst, arith}
+use Rattle.std.proofs.lemmas.List.{length-map}
 use Rattle.plan_rows.specs.World.{Text, World}
 use Rattle.plan_rows.specs.Views.{View, view, alone, Agree}
 use Rattle.plan_desk.specs.Calls.{Request, Reply, subject}
@@ -15,18 +16,19 @@ use Rattle.plan_desk.proofs.PromiseLemmas.{pages_are_promised}
 use Rattle.plan_http.specs.declared.runs.RunFault.{RunFault}
 use Rattle.plan_http.specs.Judges.{asks, Judges}
 use Rattle.plan_http.specs.Answers.{Decision, handled, failed, starved, IsOn}
-use Rattle.plan_http.specs.Serving.{Moves, Serving, Stops, response_of}
+use Rattle.plan_http.specs.Serving.{Moves, Serving, Stops, IsRunOf, response_of}
 use Rattle.plan_http.specs.Served.{IsMove, AreServed}
 use Rattle.plan_http.specs.Stories.{IsInside, IsAnswered, AreTold, IsStoryOf}
-use Rattle.plan_http.specs.Headline.{answered_of, ArePromised, HasStory, IsToldOrWanting, Alike}
-use Rattle.plan_http.proofs.StoryLemmas.{connections_are_apart, connections_are_told_alike, story_or_want}
+use Rattle.plan_http.specs.Isolated.{IsToldAlone}
+use Rattle.plan_http.specs.Headline.{answered_of, ArePromised, HasStory, IsToldOrWanting, Alike, ApartRunsAreAlike}
+use Rattle.plan_http.proofs.StoryLemmas.{connections_are_apart, connections_are_told_alike}
 
 module _ {B : Type 0} (shelf : Shelf B) where
   -- a disk that has returned what was written, returned it before
   pub moved_honest : (old new : B) (d : Decision) → Moves shelf old new d → shelf.honest new → shelf.honest old
   moved_honest old new (handled r reply) h honest = h.honesty honest
   moved_honest old new (failed check allow is_head) h honest = subst shelf.honest h honest
-  moved_honest old new (starved is_head) h honest = subst shelf.honest h honest
+  moved_honest old new starved h honest = subst shelf.honest h honest
 
   pub served_honest : (old new : B) (conns : List Text) (decisions : List Decision) → Serving shelf old conns decisions new → shelf.honest new → shelf.honest old
   served_honest old new [] [] h honest = subst shelf.honest h honest
@@ -69,7 +71,7 @@ module _ {B : Type 0} (shelf : Shelf B) where
     move = refl;
     follows = subst (λ (b : B). Follows b w) (sym same) follows;
   }
-  follow old new w (starved is_head) follows same honest = record {
+  follow old new w starved follows same honest = record {
     after = w;
     move = refl;
     follows = subst (λ (b : B). Follows b w) (sym same) follows;
@@ -147,16 +149,6 @@ ran_short shelf old new conns responses (decisions, stops, are) = record {
   responses_are = are;
 }
 
--- a run, however it ended
-pub ran : {B : Type 0} (shelf : Shelf B) (old new : B) (conns out responses : List Text) (r : Result (Unit {0}) RunFault) → out ≡ []
-    → OnOk r ((decisions : List Decision) × Serving shelf old conns decisions new × (responses ≡ out ++ map response_of decisions))
-    → OnErr r ((decisions : List Decision) × Stops shelf old new conns decisions × (responses ≡ out ++ map response_of decisions))
-    → Ran shelf old new conns responses
-ran shelf old new conns out responses (Ok x) none ok err = ran_whole shelf old new conns responses
-    (subst (λ (list : List Text). (decisions : List Decision) × Serving shelf old conns decisions new × (responses ≡ list ++ map response_of decisions)) none ok)
-ran shelf old new conns out responses (Err e) none ok err = ran_short shelf old new conns responses
-    (subst (λ (list : List Text). (decisions : List Decision) × Stops shelf old new conns decisions × (responses ≡ list ++ map response_of decisions)) none err)
-
 -- what a desk is told in a run
 pub told_in_run : {B : Type 0} (shelf : Shelf B) (old new : B) (conns responses : List Text) (desk : Text) → Ran shelf old new conns responses → shelf.honest new
     → AreTold desk (view desk (shelf.world old)) (answered_of conns responses) responses
@@ -190,27 +182,45 @@ all_promised desk v (bytes ∷ conns) (response ∷ responses) story told (inr (
     subst (λ (list : List Text). ArePromised desk v list told) (sym is_story) (subst (λ (list : List Text). ArePromised desk v (bytes ∷ more) list) (sym is_told)
     (promised_first desk v bytes response more others r after is answer (all_promised desk (view desk after) conns responses more others rest)))
 
--- a story, or want
-told_or_wanting : (desk : Text) (v : View) (conns responses : List Text) → AreTold desk v conns responses → IsToldOrWanting desk v conns responses
-told_or_wanting desk v conns responses told = elim (story_or_want desk v conns responses told) [
-  | inl found ↦ inl (found.0, found.1, record { told_so = found.2; promised = all_promised desk v conns responses found.0 found.1 found.2 })
-  | inr want ↦ inr want
-]
-
 -- the view of a desk in an office whose rows keep their rules keeps them
 alone_good : (desk : Text) (w : World) → IsWorld w → IsWorld (alone (view desk w))
 unfolding AloneKeepsRules
 alone_good desk w good = alone_keeps_rules desk w good
 
+-- a desk that is told what it would be told alone is told what it is promised
+promised_or_wanting : (desk : Text) (v : View) (conns responses : List Text) → IsToldAlone desk v conns responses → IsToldOrWanting desk v conns responses
+promised_or_wanting desk v conns responses (inl (story, told, is, replies)) =
+    inl (story, told, record { told_so = is; promised = all_promised desk v conns responses story told is })
+promised_or_wanting desk v conns responses (inr want) = inr want
+
 -- two runs
-pub told_alike : {A B : Type 0} (first : Shelf A) (second : Shelf B) (a left : A) (b right : B) (conns responses others answers : List Text)
-    → Ran first a left conns responses → Ran second b right others answers → first.honest left → second.honest right
-    → IsWorld (first.world a) → IsWorld (second.world b) → (desk : Text) → Agree (view desk (first.world a)) (view desk (second.world b))
-    → Alike first second a b conns responses others answers desk
-told_alike first second a left b right conns responses others answers ran also honest true_too good fine desk agree = record {
-  first_told = told_or_wanting desk (view desk (first.world a)) (answered_of conns responses) responses (told_in_run first a left conns responses desk ran honest);
-  second_told = told_or_wanting desk (view desk (second.world b)) (answered_of others answers) answers (told_in_run second b right others answers desk also true_too);
+pub apart_runs_are_alike : {A B : Type 0} (first : Shelf A) (second : Shelf B) → ApartRunsAreAlike first second
+unfolding ApartRunsAreAlike
+apart_runs_are_alike first second = λ a left b right conns responses others answers desk apart also good fine agree. record {
+  first_told = promised_or_wanting desk (view desk (first.world a)) (answered_of conns responses) responses apart.told;
+  second_told = promised_or_wanting desk (view desk (second.world b)) (answered_of others answers) answers also.told;
   equal = λ story told given h k.
       connections_are_told_alike desk (view desk (first.world a)) (view desk (second.world b)) (answered_of conns responses) responses (answered_of others answers) answers
       story told given (alone_good desk (first.world a) good) (alone_good desk (second.world b) fine) agree h k;
 }
+
+-- what a run into an empty list came to
+pub run_of : {B : Type 0} (shelf : Shelf B) (old new : B) (conns out responses : List Text) (r : Result (Unit {0}) RunFault) → out ≡ []
+    → OnOk r ((decisions : List Decision) × Serving shelf old conns decisions new × (responses ≡ out ++ map response_of decisions))
+    → OnErr r ((decisions : List Decision) × Stops shelf old new conns decisions × (responses ≡ out ++ map response_of decisions))
+    → IsRunOf shelf old new conns responses r
+run_of shelf old new conns out responses (Ok x) none ok err =
+    subst (λ (list : List Text). (decisions : List Decision) × Serving shelf old conns decisions new × (responses ≡ list ++ map response_of decisions)) none ok
+run_of shelf old new conns out responses (Err e) none ok err =
+    subst (λ (list : List Text). (decisions : List Decision) × Stops shelf old new conns decisions × (responses ≡ list ++ map response_of decisions)) none err
+
+-- a run that ended well has as many responses as connections
+pub as_many : {B : Type 0} (shelf : Shelf B) (old new : B) (conns responses : List Text) (r : Result (Unit {0}) RunFault) → IsRunOf shelf old new conns responses r
+    → OnOk r (length responses ≡ length conns)
+as_many shelf old new conns responses (Ok x) (decisions, serving, are) = ap (λ (list : List Text). length list) are ∙ one_each shelf old new conns decisions serving
+as_many shelf old new conns responses (Err e) run = tt
+
+-- lists are as long as what each of their elements is seen as
+pub unmapped : {A B E : Type 0} (f : A → B) (xs ys : List A) (r : Result (Unit {0}) E) → OnOk r (length (map f xs) ≡ length (map f ys)) → OnOk r (length xs ≡ length ys)
+unmapped f xs ys (Ok x) same = sym (length-map xs f) ∙ same ∙ length-map ys f
+unmapped f xs ys (Err e) same = tt

@@ -1,5 +1,5 @@
 -- From the parts that were read to what the bytes of a connection spell.
-use Rattle.std.proofs.Common.{◌≡◌, ℕ, ◌-◌, ◌<◌, ◌≤◌, Bool, true, false, List, ◌++◌, length, take, drop, map, Option, None, Some, refl, ap, sym, ◌∙◌, inl, arith, nat_lt}
+use Rattle.std.proofs.Common.{◌≡◌, ℕ, ◌-◌, ◌<◌, ◌≤◌, Bool, true, false, not, List, ◌++◌, length, take, drop, map, Option, None, Some, option_map, bytes_eq, refl, ap, sym, ◌∙◌, subst, inl, inr, arith, nat_lt}
 use Rattle.std.proofs.lemmas.List.{drop-append-le, take_rest}
 use Rattle.std.proofs.lemmas.Bool.Decides.{nat_tests}
 use Rattle.httparse.specs.Grammar.{RequestHead, print_request}
@@ -8,15 +8,18 @@ use Rattle.httparse.specs.declared.spans.HeaderSpan.{HeaderSpan}
 use Rattle.httparse.specs.declared.spans.RequestSpans.{RequestSpans}
 use Rattle.plan_http.specs.declared.checks.Check.{Check}
 use Rattle.plan_http.specs.declared.checks.Check.TheVariants.{Message}
+use Rattle.plan_http.specs.declared.checks.Check.TheVariants as checks
 use Rattle.plan_http.specs.declared.asking.Asked.{Asked}
 use Rattle.plan_http.specs.declared.asking.Asked.TheVariants as made
 use Rattle.plan_http.specs.Head.{BeginsWithHead, after_head}
 use Rattle.plan_http.specs.Fields.{body_length}
 use Rattle.plan_http.specs.Checks.{first_failing, head_checks, lengths_in}
 use Rattle.plan_http.specs.Pieces.{IsSplit}
-use Rattle.plan_http.specs.Routes.{route_of}
-use Rattle.plan_http.specs.Judges.{Judges, judged, asked, asked_at, fails, fields_of, length_of, is_head_method}
-use Rattle.plan_http.specs.Asked.{IsAsked, IsAnswered}
+use Rattle.plan_http.specs.declared.routes.Route.{Route}
+use Rattle.plan_http.specs.Routes.{route_of, method_of}
+use Rattle.plan_http.specs.Targets.{call_at}
+use Rattle.plan_http.specs.Judges.{Judges, MayWant, judged, asked, asked_at, asks, fails, fields_of, key_of, length_of, is_head_method}
+use Rattle.plan_http.specs.Asked.{IsAsked, IsRequestOr, IsRefused, IsPassed, IsOnRoute}
 
 -- the bytes behind the head, some of which were read with it
 pub after_split : (bytes front : List ℕ) (left : Option (List ℕ)) (h : RequestHead) (len : ℕ) → IsSplit bytes front left
@@ -65,11 +68,60 @@ module _ (bytes : List ℕ) (h : RequestHead) (begins : BeginsWithHead bytes h) 
       let test : nat_lt (length (after_head bytes h)) (length_of h) ≡ false = grind (arith, nat_tests) in
       rw (none, test) refl
 
-  pub answered : (is_head : Bool) (result : Asked) (body : List ℕ) → is_head ≡ is_head_method h → first_failing (head_checks h.minor (fields_of h)) ≡ None → length_of h ≤ length (after_head bytes h)
-      → body ≡ take (length_of h) (after_head bytes h) → IsAnswered (asked_at h body (route_of h.target)) is_head result → IsAsked bytes result
-  answered is_head (made.Request request) body head none long is answer =
-      inl (h, begins, sym answer ∙ ap (λ b. asked_at h b (route_of h.target)) is ∙ sym (whole_is none long))
-  answered is_head (made.Fails check route on) body head none long is answer =
-      inl (h, begins, sym answer ∙ ap (λ b. asked_at h b (route_of h.target)) is ∙ sym (whole_is none long))
-  answered is_head (made.NoMemory on) body head none long is answer = inl (h, begins, answer ∙ head)
-  answered is_head made.ReadFailed body head none long is answer = tt
+  -- a check of the route that fails, behind a whole body
+  pub refused_told : (check : Check) (route : Option Route) (is_head : Bool) (count : ℕ) (result : Asked) → is_head ≡ is_head_method h → IsPassed h count
+      → ((body : List ℕ) → asked_at h body (route_of h.target) ≡ fails check (option_map method_of route) (is_head_method h))
+      → IsRefused (after_head bytes h) count check route is_head result → IsAsked bytes result
+  refused_told check route is_head count (made.Request request) head passed all refused = absurd refused
+  refused_told check route is_head count (made.Fails first at on) head passed all (inl (is_check, is_route, is_on, long)) =
+      let whole = whole_is passed.passes (subst (λ n. n ≤ length (after_head bytes h)) passed.count_is long) in
+      rw (is_check, is_route, is_on, head) (inl (h, begins, sym (whole ∙ all (take (length_of h) (after_head bytes h)))))
+  refused_told check route is_head count (made.Fails first at on) head passed all (inr (is_check, is_route, is_on, short)) =
+      rw (is_check, is_route, is_on, head) (fails_short passed.passes (subst (λ n. length (after_head bytes h) < n) passed.count_is short))
+  refused_told check route is_head count made.NoMemory head passed all refused = absurd refused
+  refused_told check route is_head count made.ReadFailed head passed all refused = tt
+
+  -- the checks of the route
+  pub no_route : route_of h.target ≡ None → (body : List ℕ) → asked_at h body (route_of h.target) ≡ fails checks.Route (option_map method_of None) (is_head_method h)
+  no_route none body = rw none refl
+
+  pub other_method : (route : Route) → route_of h.target ≡ Some route → bytes_eq h.method (method_of route) ≡ false → (body : List ℕ)
+      → asked_at h body (route_of h.target) ≡ fails checks.Method (option_map method_of (Some route)) (is_head_method h)
+  other_method route found other body = rw (found, other) refl
+
+  -- memory may be wanted on a route
+  pub may_want : (count : ℕ) (route : Route) (target : List ℕ) → IsOnRoute h count route target → MayWant bytes
+  may_want count route target on = record {
+    head = h;
+    begins = begins;
+    passes = on.passed.passes;
+    route = route;
+    found = on.found;
+    method = on.method;
+  }
+
+  asks_there : (route : Route) (body : List ℕ) → route_of h.target ≡ Some route → bytes_eq h.method (method_of route) ≡ true
+      → asked_at h body (route_of h.target) ≡ asks (record { key = key_of h; call = call_at route h.target body })
+  asks_there route body found method = rw (found, method) refl
+
+  -- the request of a route, behind a whole body
+  pub request_told : (count : ℕ) (route : Route) (target body : List ℕ) (result : Asked) → IsOnRoute h count route target → count ≤ length (after_head bytes h)
+      → body ≡ take count (after_head bytes h) → IsRequestOr (record { key = key_of h; call = call_at route target body }) result → IsAsked bytes result
+  request_told count route target body (made.Request request) on long is request_is =
+      let whole = whole_is on.passed.passes (subst (λ n. n ≤ length (after_head bytes h)) on.passed.count_is long) in
+      let same : body ≡ take (length_of h) (after_head bytes h) = is ∙ ap (λ n. take n (after_head bytes h)) on.passed.count_is in
+      let wanted = ap (λ text. asks (record { key = key_of h; call = call_at route text body })) on.target_is in
+      let there = asks_there route (take (length_of h) (after_head bytes h)) on.found on.method in
+      inl (h, begins, ap asks request_is ∙ wanted ∙ ap (λ b. asks (record { key = key_of h; call = call_at route h.target b })) same ∙ sym (whole ∙ there))
+  request_told count route target body (made.Fails check at is_head) on long is request_is = absurd request_is
+  request_told count route target body made.NoMemory on long is request_is = may_want count route target on
+  request_told count route target body made.ReadFailed on long is request_is = absurd request_is
+
+-- what a test of inequality says
+pub not_same : (b : Bool) → not b ≡ true → b ≡ false
+not_same true is = sym is
+not_same false is = refl
+
+pub same_then : (b : Bool) → not b ≡ false → b ≡ true
+same_then true is = refl
+same_then false is = sym is

@@ -1,5 +1,5 @@
 -- Bytes spell one thing.
-use Rattle.std.proofs.Common.{◌≡◌, ℕ, Bool, List, Option, None, false, take, refl, sym, ◌∙◌, ap, inl, inr}
+use Rattle.std.proofs.Common.{◌≡◌, ℕ, List, Option, None, false, take, refl, sym, ◌∙◌, ap, inl, inr}
 use Rattle.httparse.specs.Grammar.{RequestHead}
 use Rattle.httparse.specs.declared.spans.HeaderSpan.{HeaderSpan}
 use Rattle.httparse.proofs.GrammarLemmas.{request_unique}
@@ -8,8 +8,8 @@ use Rattle.plan_http.specs.declared.head.HeadEnd.{HeadEnd}
 use Rattle.plan_http.specs.declared.head.HeadEnd.TheVariants.{Found, Missing, Failed}
 use Rattle.plan_http.specs.Head.{BeginsWithHead, after_head}
 use Rattle.plan_http.specs.Pieces.{HeadOutcome, HeadFaults}
-use Rattle.plan_http.specs.Judges.{Verdict, judged, fails, Judges, HasHeadMethod, is_head_method}
-use Rattle.plan_http.specs.Laws.{OneVerdict, OneEnd, SpellsSomething}
+use Rattle.plan_http.specs.Judges.{Verdict, judged, fails, Judges}
+use Rattle.plan_http.specs.Laws.{OneVerdict, SpellsSomething}
 
 -- bytes begin with one head
 pub one_head : (bytes : List ℕ) (h g : RequestHead) → BeginsWithHead bytes h → BeginsWithHead bytes g → h ≡ g
@@ -21,19 +21,9 @@ judges_once bytes x y (inl p) (inr q) = absurd (q.0 p.0 p.1)
 judges_once bytes x y (inr p) (inl q) = absurd (p.0 q.0 q.1)
 judges_once bytes x y (inr p) (inr q) = p.1 ∙ sym q.1
 
-ends_once : (bytes : List ℕ) (x y : Bool) → HasHeadMethod bytes x → HasHeadMethod bytes y → x ≡ y
-ends_once bytes x y (inl p) (inl q) = p.2 ∙ ap is_head_method (one_head bytes p.0 q.0 p.1 q.1) ∙ sym q.2
-ends_once bytes x y (inl p) (inr q) = absurd (q.0 p.0 p.1)
-ends_once bytes x y (inr p) (inl q) = absurd (p.0 q.0 q.1)
-ends_once bytes x y (inr p) (inr q) = p.1 ∙ sym q.1
-
 pub one_verdict : OneVerdict
 unfolding OneVerdict
 one_verdict = judges_once
-
-pub one_end : OneEnd
-unfolding OneEnd
-one_end = ends_once
 
 -- a head that was found, or is missing, decides what is spelled
 pub spelled : (bytes : List ℕ) (left : Option (List ℕ)) (buf : List ℕ) (headers : List HeaderSpan) (end : HeadEnd) → HeadOutcome bytes left buf headers end → HeadFaults 0 0 end → SpellsSomething bytes

@@ -64,7 +64,7 @@ module _ {B : Type 0} (shelf : Shelf B) where
       let rest = run_from served.0 new cs ds served.3 honest stands in
       let before : IsRunFrom old ds = subst (λ b. IsRunFrom b ds) served.2 rest in
       record { honest = before.honest; stands = before.stands; worlds = before.worlds; run = before.run }
-  run_from old new (c ∷ cs) (starved is_head ∷ ds) served honest stands =
+  run_from old new (c ∷ cs) (starved ∷ ds) served honest stands =
       let rest = run_from served.0 new cs ds served.3 honest stands in
       let before : IsRunFrom old ds = subst (λ b. IsRunFrom b ds) served.2 rest in
       record { honest = before.honest; stands = before.stands; worlds = before.worlds; run = before.run }

@@ -13,7 +13,7 @@ use Rattle.plan_desk.proofs.OrderLemmas.{agreeing_views_are_told_alike}
 use Rattle.plan_http.specs.declared.checks.Check.{Check}
 use Rattle.plan_http.specs.declared.checks.Check.TheVariants.{Message}
 use Rattle.plan_http.specs.Head.{after_head}
-use Rattle.plan_http.specs.Judges.{Verdict, asks, fails, judged, Judges, HasHeadMethod}
+use Rattle.plan_http.specs.Judges.{Verdict, asks, fails, judged, Judges, MayWant}
 use Rattle.plan_http.specs.Laws.{OneVerdict}
 use Rattle.plan_http.specs.Answers.{Decision, handled, failed, starved, IsOn, no_memory}
 use Rattle.plan_http.specs.Serving.{response_of}
@@ -69,18 +69,17 @@ with_failure w mid bytes response conns responses check allow is_head spells sam
     })
 
 -- a connection on which memory ran out, whatever it spells
-with_starved : (w mid : World) (bytes : Text) (conns responses : List Text) (verdict : Verdict) (is_head : Bool)
-    → Judges bytes verdict → mid ≡ w → HasRun mid conns responses → HasRun w (bytes ∷ conns) (response_of (starved is_head) ∷ responses)
+with_starved : (w mid : World) (bytes : Text) (conns responses : List Text) (verdict : Verdict)
+    → Judges bytes verdict → mid ≡ w → HasRun mid conns responses → HasRun w (bytes ∷ conns) (response_of starved ∷ responses)
 unfolding IsRealStep
-with_starved w mid bytes conns responses (asks r) is_head spells same rest =
-    with_request w mid bytes (response_of (starved is_head)) conns responses r no_memory spells (inr (inl refl, same)) (inr (inl refl, inl (is_head, refl))) rest
-with_starved w mid bytes conns responses (fails check allow head) is_head spells same rest =
-    with_failure w mid bytes (response_of (starved is_head)) conns responses check allow head spells same rest
+with_starved w mid bytes conns responses (asks r) spells same rest =
+    with_request w mid bytes (response_of starved) conns responses r no_memory spells (inr (inl refl, same)) (inr (inl refl, inl refl)) rest
+with_starved w mid bytes conns responses (fails check allow head) spells same rest =
+    with_failure w mid bytes (response_of starved) conns responses check allow head spells same rest
 
--- each connection spells something
-spells_some : (bytes : Text) (is_head : Bool) → HasHeadMethod bytes is_head → (verdict : Verdict) × Judges bytes verdict
-spells_some bytes is_head (inl head) = (judged head.0 (after_head bytes head.0), inl (head.0, head.1, refl))
-spells_some bytes is_head (inr none) = (fails Message None false, inr (none.0, refl))
+-- a connection on which memory may be wanted spells something
+spells_some : (bytes : Text) → MayWant bytes → (verdict : Verdict) × Judges bytes verdict
+spells_some bytes want = (judged want.head (after_head bytes want.head), inl (want.head, want.begins, refl))
 
 one_more : (w mid : World) (bytes : Text) (conns responses : List Text) (d : Decision)
     → IsOn bytes d → IsMove w d mid → HasRun mid conns responses → HasRun w (bytes ∷ conns) (response_of d ∷ responses)
@@ -88,8 +87,8 @@ one_more w mid bytes conns responses (handled r reply) spells step rest =
     with_request w mid bytes (response_of (handled r reply)) conns responses r reply spells step (inl refl) rest
 one_more w mid bytes conns responses (failed check allow is_head) spells same rest =
     with_failure w mid bytes (response_of (failed check allow is_head)) conns responses check allow is_head spells same rest
-one_more w mid bytes conns responses (starved is_head) head same rest =
-    let said = spells_some bytes is_head head in with_starved w mid bytes conns responses said.0 is_head said.1 same rest
+one_more w mid bytes conns responses starved want same rest =
+    let said = spells_some bytes want in with_starved w mid bytes conns responses said.0 said.1 same rest
 
 -- a run of connections is one of requests
 has_run : (w : World) (conns : List Text) (decisions : List Decision) (after : World) → AreServed w conns decisions after → HasRun w conns (map response_of decisions)

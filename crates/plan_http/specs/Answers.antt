@@ -4,7 +4,7 @@ use Rattle.plan_rows.specs.World.{Text}
 use Rattle.plan_desk.specs.Calls.{Request, Reply, refusal}
 use Rattle.plan_http.specs.declared.checks.Check.{Check}
 use Rattle.plan_http.specs.declared.checks.Check.TheVariants.{Message, TooLarge, Coding, Route, Method}
-use Rattle.plan_http.specs.Judges.{asks, fails, Judges, HasHeadMethod}
+use Rattle.plan_http.specs.Judges.{asks, fails, Judges, MayWant}
 use Rattle.plan_http.specs.Responses.{response_text}
 
 -- the reply to a connection that fails a check
@@ -31,32 +31,32 @@ unfoldable pub text_of : Answer → Text
 text_of a = response_text a.reply a.allow a.is_head
 
 -- What happened on a connection: a request was handled, a check failed, or memory ran out before
--- anything was decided.
+-- anything was decided of a request that passes the checks of its head and its route.
 pub data Decision : Type 0 where
   handled : Request → Reply → Decision
   failed : Check → Option Text → Bool → Decision
-  starved : Bool → Decision
+  starved : Decision
 
 abbrev pub answer_of : Decision → Answer
 answer_of (handled request reply) = record { reply = reply; allow = None; is_head = false }
 answer_of (failed check allow is_head) = record { reply = check_reply check; allow = allow; is_head = is_head }
-answer_of (starved is_head) = record { reply = no_memory; allow = None; is_head = is_head }
+answer_of starved = record { reply = no_memory; allow = None; is_head = false }
 
 -- the decision is one on these bytes
 abbrev pub IsOn : Text → Decision → Type 0
 IsOn bytes (handled request reply) = Judges bytes (asks request)
 IsOn bytes (failed check allow is_head) = Judges bytes (fails check allow is_head)
-IsOn bytes (starved is_head) = HasHeadMethod bytes is_head
+IsOn bytes starved = MayWant bytes
 
 -- the requests that were handled, and their replies
 abbrev pub requests_of : List Decision → List Request
 requests_of [] = []
 requests_of (handled request reply ∷ decisions) = request ∷ requests_of decisions
 requests_of (failed check allow is_head ∷ decisions) = requests_of decisions
-requests_of (starved is_head ∷ decisions) = requests_of decisions
+requests_of (starved ∷ decisions) = requests_of decisions
 
 abbrev pub replies_of : List Decision → List Reply
 replies_of [] = []
 replies_of (handled request reply ∷ decisions) = reply ∷ replies_of decisions
 replies_of (failed check allow is_head ∷ decisions) = replies_of decisions
-replies_of (starved is_head ∷ decisions) = replies_of decisions
+replies_of (starved ∷ decisions) = replies_of decisions

@@ -1,30 +1,57 @@
 -- What the reading of a request came to, as facts about all bytes of the connection.
-use Rattle.std.specs.Prelude.{◌≡◌, ℕ, ◌+◌, Bool, option_map, ⊤}
+use Rattle.std.specs.Prelude.{◌≡◌, ℕ, ◌+◌, ◌<◌, ◌≤◌, ◌⊎◌, Bool, true, List, length, bytes_eq, Option, None, Some, option_map, ⊤}
+use Rattle.httparse.specs.Grammar.{RequestHead}
 use Rattle.plan_rows.specs.World.{Text}
+use Rattle.plan_desk.specs.Calls as calls
 use Rattle.plan_desk.specs.Requests.{request_in}
 use Rattle.plan_http.specs.declared.asking.Asked.{Asked}
 use Rattle.plan_http.specs.declared.asking.Asked.TheVariants.{Request, Fails, NoMemory, ReadFailed}
-use Rattle.plan_http.specs.Routes.{method_of}
-use Rattle.plan_http.specs.Judges.{Verdict, asks, fails, Judges, HasHeadMethod}
+use Rattle.plan_http.specs.declared.checks.Check.{Check}
+use Rattle.plan_http.specs.declared.checks.Check.TheVariants.{Message}
+use Rattle.plan_http.specs.declared.routes.Route.{Route}
+use Rattle.plan_http.specs.Checks.{first_failing, head_checks}
+use Rattle.plan_http.specs.Routes.{route_of, method_of}
+use Rattle.plan_http.specs.Judges.{asks, fails, Judges, MayWant, fields_of, length_of}
 
--- the bytes spell what was read; want of memory says of them only whether they begin with a head
--- whose method is HEAD, and a reader that failed says nothing
+-- the bytes spell what was read; memory is wanted only where it may be, and a reader that failed says
+-- nothing
 abbrev pub IsAsked : Text → Asked → Type 0
 IsAsked bytes (Request request) = Judges bytes (asks (request_in request))
 IsAsked bytes (Fails check route is_head) = Judges bytes (fails check (option_map method_of route) is_head)
-IsAsked bytes (NoMemory is_head) = HasHeadMethod bytes is_head
+IsAsked bytes NoMemory = MayWant bytes
 IsAsked bytes ReadFailed = ⊤
 
 -- one fault was counted where the reader failed, else none
 abbrev pub AskedFaults : ℕ → ℕ → Asked → Type 0
 AskedFaults faults after (Request request) = after ≡ faults
 AskedFaults faults after (Fails check route is_head) = after ≡ faults
-AskedFaults faults after (NoMemory is_head) = after ≡ faults
+AskedFaults faults after NoMemory = after ≡ faults
 AskedFaults faults after ReadFailed = after ≡ faults + 1
 
--- the verdict that an answer is, where the whole body was read
-abbrev pub IsAnswered : Verdict → Bool → Asked → Type 0
-IsAnswered verdict is_head (Request request) = verdict ≡ asks (request_in request)
-IsAnswered verdict is_head (Fails check route head) = verdict ≡ fails check (option_map method_of route) head
-IsAnswered verdict is_head (NoMemory head) = head ≡ is_head
-IsAnswered verdict is_head ReadFailed = ⊥
+-- what was made of a request whose body was read whole
+abbrev pub IsRequestOr : calls.Request → Asked → Type 0
+IsRequestOr wanted (Request request) = request_in request ≡ wanted
+IsRequestOr wanted (Fails check route is_head) = ⊥
+IsRequestOr wanted NoMemory = ⊤
+IsRequestOr wanted ReadFailed = ⊥
+
+-- the answer to a request that fails a check of its route: that check, where its body is whole
+abbrev pub IsRefused : List ℕ → ℕ → Check → Option Route → Bool → Asked → Type 0
+IsRefused after count check route is_head (Request request) = ⊥
+IsRefused after count check route is_head (Fails first at on) =
+    ((first ≡ check) × (at ≡ route) × (on ≡ is_head) × (count ≤ length after))
+    ⊎ ((first ≡ Message) × (at ≡ None) × (on ≡ is_head) × (length after < count))
+IsRefused after count check route is_head NoMemory = ⊥
+IsRefused after count check route is_head ReadFailed = ⊤
+
+-- the head passes its checks, and gives this length of the body
+pub record IsPassed (h : RequestHead) (count : ℕ) : Type 0 where
+  pub passes : first_failing (head_checks h.minor (fields_of h)) ≡ None
+  pub count_is : count ≡ length_of h
+
+-- and is on this route, with its method
+pub record IsOnRoute (h : RequestHead) (count : ℕ) (route : Route) (target : List ℕ) : Type 0 where
+  pub passed : IsPassed h count
+  pub target_is : target ≡ h.target
+  pub found : route_of h.target ≡ Some route
+  pub method : bytes_eq h.method (method_of route) ≡ true

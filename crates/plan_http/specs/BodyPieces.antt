@@ -1,5 +1,5 @@
 -- What the pieces of a body say of all bytes behind the head, for private clauses alone.
-use Rattle.std.specs.Prelude.{◌≡◌, ℕ, ◌+◌, ◌<◌, ◌≤◌, Bool, true, false, List, [], length, take, drop, Option, Some, ⊤}
+use Rattle.std.specs.Prelude.{◌≡◌, ℕ, ◌+◌, ◌<◌, ◌≤◌, Bool, true, false, List, [], length, take, drop, Option, Some, ⊤, Result, Ok, Err}
 use Rattle.plan_http.specs.declared.body.BodyEnd.{BodyEnd}
 use Rattle.plan_http.specs.declared.body.BodyEnd.TheVariants.{Read, Short, NoMemory, Failed}
 use Rattle.plan_http.specs.Pieces.{IsSplit}
@@ -31,3 +31,20 @@ BodyFaults faults after (Read body) = after ≡ faults
 BodyFaults faults after Short = after ≡ faults
 BodyFaults faults after NoMemory = after ≡ faults
 BodyFaults faults after Failed = after ≡ faults + 1
+
+-- what is left of so many bytes, of which some were skipped
+pub record HasLeft (total skipped : ℕ) (left : Option (List ℕ)) : Type 0 where
+  pub rest : List ℕ
+  pub left_is : left ≡ Some rest
+  pub sum : total ≡ skipped + length rest
+
+-- a read that keeps nothing
+abbrev pub Skips : {E : Type 0} → Option (List ℕ) → Option (List ℕ) → Result ℕ E → Type 0
+Skips had left (Ok came) = (total skipped : ℕ) → HasLeft total skipped had
+    → HasLeft total (skipped + came) left × (came ≡ 0 → left ≡ Some [])
+Skips had left (Err e) = ⊤
+
+-- whether so many bytes are a whole body
+abbrev pub IsWhole : ℕ → ℕ → Bool → Type 0
+IsWhole total count true = count ≤ total
+IsWhole total count false = total < count

@@ -15,7 +15,7 @@ use Rattle.plan_http.specs.Serving.{Serving, response_of}
 abbrev pub accepts : Decision → Bool
 accepts (handled request reply) = is_accepted request reply
 accepts (failed check allow is_head) = false
-accepts (starved is_head) = false
+accepts starved = false
 
 -- at this place of a run a command was accepted
 abbrev pub IsAcceptedAt : List Decision → ℕ → Type 0

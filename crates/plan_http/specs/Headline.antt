@@ -5,7 +5,8 @@
 -- schedule reported optimal of least makespan among all feasible ones.
 use Rattle.std.specs.Prelude.{◌≡◌, ◌⊎◌, List, [], ◌∷◌, length, take}
 use Rattle.plan_rows.specs.World.{Text, World}
-use Rattle.plan_rows.specs.Views.{View, view, alone}
+use Rattle.plan_rows.specs.Rules.{IsWorld}
+use Rattle.plan_rows.specs.Views.{View, view, alone, Agree}
 use Rattle.plan_desk.specs.Calls.{Request, Reply, subject}
 use Rattle.plan_desk.specs.Decisions.{IsStep}
 use Rattle.plan_desk.specs.Promises.{IsPromised}
@@ -14,6 +15,7 @@ use Rattle.plan_http.specs.Judges.{asks, Judges}
 use Rattle.plan_http.specs.Answers.{handled}
 use Rattle.plan_http.specs.Serving.{response_of}
 use Rattle.plan_http.specs.Stories.{IsStoryOf, IsWanting}
+use Rattle.plan_http.specs.Isolated.{IsApart}
 
 -- the connections of a run that were answered: all of them, or the first ones where memory ran out
 abbrev pub answered_of : List Text → List Text → List Text
@@ -52,3 +54,11 @@ pub record Alike {A B : Type 0} (first : Shelf A) (second : Shelf B) (a : A) (b 
       → IsStoryOf desk (view desk (first.world a)) (answered_of conns responses) responses story told
       → IsStoryOf desk (view desk (second.world b)) (answered_of others answers) answers story given
       → told ≡ given
+
+module _ {A B : Type 0} (first : Shelf A) (second : Shelf B) where
+  -- two runs in each of which the desk is told what it would be told alone are alike
+  unfoldable pub ApartRunsAreAlike : Type 0
+  ApartRunsAreAlike = (a left : A) (b right : B) (conns responses others answers : List Text) (desk : Text)
+      → IsApart first a left conns responses desk → IsApart second b right others answers desk
+      → IsWorld (first.world a) → IsWorld (second.world b) → Agree (view desk (first.world a)) (view desk (second.world b))
+      → Alike first second a b conns responses others answers desk

@@ -1,6 +1,6 @@
 -- What the bytes of a connection spell: a request, or the first check that they fail
 -- (docs/DEFINITIONS.md, "Connections").
-use Rattle.std.specs.Prelude.{◌≡◌, ℕ, ◌⊎◌, Bool, false, if◌then◌else◌, nat_lt, bytes_eq, List, length, take, map, Option, Some, None, codes}
+use Rattle.std.specs.Prelude.{◌≡◌, ℕ, ◌⊎◌, Bool, true, false, if◌then◌else◌, nat_lt, bytes_eq, List, length, take, map, Option, Some, None, codes}
 use Rattle.httparse.specs.Grammar.{RequestHead}
 use Rattle.httparse.specs.Spans.{name_and_value}
 use Rattle.plan_rows.specs.World.{Text}
@@ -64,8 +64,12 @@ Judges bytes verdict =
     ((h : RequestHead) × BeginsWithHead bytes h × (verdict ≡ judged h (after_head bytes h)))
     ⊎ (HasNoHead bytes × (verdict ≡ fails Message None false))
 
--- whether a response to the bytes ends after its head: they begin with a head, whose method is HEAD
-abbrev pub HasHeadMethod : Text → Bool → Type 0
-HasHeadMethod bytes is_head =
-    ((h : RequestHead) × BeginsWithHead bytes h × (is_head ≡ is_head_method h))
-    ⊎ (HasNoHead bytes × (is_head ≡ false))
+-- Memory may be wanted: the bytes begin with a head that passes its checks, on a route and with its
+-- method. What fails otherwise is told without memory.
+pub record MayWant (bytes : Text) : Type 0 where
+  pub head : RequestHead
+  pub begins : BeginsWithHead bytes head
+  pub passes : first_failing (head_checks head.minor (fields_of head)) ≡ None
+  pub route : declared.Route
+  pub found : route_of head.target ≡ Some route
+  pub method : bytes_eq head.method (method_of route) ≡ true

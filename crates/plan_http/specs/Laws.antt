@@ -1,20 +1,16 @@
 -- Laws of what connections spell (docs/DEFINITIONS.md, "Connections").
-use Rattle.std.specs.Prelude.{◌≡◌, Bool, List}
+use Rattle.std.specs.Prelude.{◌≡◌, List}
 use Rattle.plan_rows.specs.World.{Text, World}
 use Rattle.plan_rows.specs.Views.{view}
 use Rattle.plan_rows.specs.Books.{Shelf}
 use Rattle.plan_desk.specs.Decisions.{IsRun, AreTold}
 use Rattle.plan_http.specs.Answers.{Decision, requests_of, replies_of}
 use Rattle.plan_http.specs.Serving.{Serving}
-use Rattle.plan_http.specs.Judges.{Verdict, Judges, HasHeadMethod}
+use Rattle.plan_http.specs.Judges.{Verdict, Judges}
 
 -- bytes spell one thing at most
 unfoldable pub OneVerdict : Type 0
 OneVerdict = (bytes : Text) (x y : Verdict) → Judges bytes x → Judges bytes y → x ≡ y
-
--- and a response to them ends after its head, or doesn't
-unfoldable pub OneEnd : Type 0
-OneEnd = (bytes : Text) (x y : Bool) → HasHeadMethod bytes x → HasHeadMethod bytes y → x ≡ y
 
 -- the bytes spell something
 abbrev pub SpellsSomething : Text → Type 0

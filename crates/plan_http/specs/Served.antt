@@ -8,7 +8,7 @@ use Rattle.plan_http.specs.Answers.{Decision, handled, failed, starved, IsOn}
 abbrev pub IsMove : World → Decision → World → Type 0
 IsMove w (handled request reply) after = IsRealStep w request reply after
 IsMove w (failed check allow is_head) after = after ≡ w
-IsMove w (starved is_head) after = after ≡ w
+IsMove w starved after = after ≡ w
 
 -- connections are served one after another, each by one decision, and these are the rows after them
 abbrev pub AreServed : World → List Text → List Decision → World → Type 0

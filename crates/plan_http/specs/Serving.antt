@@ -1,10 +1,11 @@
 -- Connections that are served by an office, one and many (docs/DEFINITIONS.md, "Connections").
-use Rattle.std.specs.Prelude.{◌≡◌, ℕ, ◌+◌, ◌<◌, ◌≤◌, ◌⊎◌, List, [], ◌∷◌, length, take, get_or, Option, IfSome}
+use Rattle.std.specs.Prelude.{◌≡◌, ℕ, ◌+◌, ◌<◌, ◌≤◌, ◌⊎◌, List, [], ◌∷◌, length, take, map, get_or, Option, IfSome, Result, Ok, Err}
 use Rattle.std.specs.Io.KnownBytes.{Appends}
 use Rattle.plan_psplib.specs.Devices.{HasFailed}
 use Rattle.plan_rows.specs.World.{Text}
 use Rattle.plan_rows.specs.Books.{Shelf}
 use Rattle.plan_desk.specs.Deciding.{Handled}
+use Rattle.plan_http.specs.declared.runs.RunFault.{RunFault}
 use Rattle.plan_http.specs.declared.serving.ConnEnd.{ConnEnd}
 use Rattle.plan_http.specs.declared.serving.ConnEnd.TheVariants.{Replied, ReadFailed, WriteFailed}
 use Rattle.plan_http.specs.Answers.{Answer, text_of, Decision, handled, failed, starved, answer_of, IsOn}
@@ -27,12 +28,16 @@ WriterFaults calls calls_after faults faults_after (Replied status) = faults_aft
 WriterFaults calls calls_after faults faults_after ReadFailed = faults_after ≡ faults
 WriterFaults calls calls_after faults faults_after (WriteFailed sent) = HasFailed calls calls_after faults faults_after
 
+-- the response of a decision
+abbrev pub response_of : Decision → Text
+response_of d = text_of (answer_of d)
+
 module _ {B : Type 0} (shelf : Shelf B) where
   -- the office moves by a decision: a request is handled, and else it stays as it is
   abbrev pub Moves : B → B → Decision → Type 0
   Moves old new (handled request reply) = Handled shelf old new request reply
   Moves old new (failed check allow is_head) = new ≡ old
-  Moves old new (starved is_head) = new ≡ old
+  Moves old new starved = new ≡ old
 
   -- one decision was made on the bytes, and its response written, whole or to the writer's failure
   pub record Serves (old new : B) (bytes taken after : Option Text) (end : ConnEnd) : Type 0 where
@@ -64,6 +69,9 @@ module _ {B : Type 0} (shelf : Shelf B) where
     pub last : (new ≡ middle) ⊎ ((answered < length conns)
         × ((d : Decision) × IsOn (get_or conns answered []) d × Moves middle new d))
 
--- the response of a decision
-abbrev pub response_of : Decision → Text
-response_of d = text_of (answer_of d)
+  -- a run: each connection was served, or memory stopped it; its responses are those of its decisions
+  abbrev pub IsRunOf : B → B → List Text → List Text → Result (Unit {0}) RunFault → Type 0
+  IsRunOf old new conns responses (Ok x) =
+      (decisions : List Decision) × Serving old conns decisions new × (responses ≡ map response_of decisions)
+  IsRunOf old new conns responses (Err e) =
+      (decisions : List Decision) × Stops old new conns decisions × (responses ≡ map response_of decisions)

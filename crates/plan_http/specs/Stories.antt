@@ -16,7 +16,7 @@ belongs_to desk v (fails check allow is_head) = false
 
 -- a response for want of memory, or by the store
 abbrev pub IsWantText : Text → Type 0
-IsWantText response = ((is_head : Bool) × (response ≡ response_of (starved is_head)))
+IsWantText response = (response ≡ response_of starved)
     ⊎ ((r : Request) × (reply : Reply) × IsWant reply × (response ≡ response_of (handled r reply)))
 
 -- it spells nothing that belongs to the desk

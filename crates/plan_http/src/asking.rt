@@ -8,13 +8,11 @@ ghost use Rattle.plan_desk.specs.Requests.{request_in};
 ghost use Rattle.plan_http.specs.Fields.{values_of, only_of};
 ghost use Rattle.plan_http.specs.Head.{BeginsWithHead};
 ghost use Rattle.plan_http.specs.Pieces.{IsSplit};
-ghost use Rattle.plan_http.specs.Routes as routing;
 ghost use Rattle.plan_http.specs.Targets as targets;
-ghost use Rattle.plan_http.specs.Judges as judges;
 ghost use Rattle.plan_http.specs.declared.asking.Asked.TheVariants as made;
-ghost use Rattle.plan_http.specs.Asked.{IsAsked, AskedFaults, IsAnswered};
+ghost use Rattle.plan_http.specs.Asked.{IsAsked, AskedFaults, IsRequestOr, IsRefused, IsPassed, IsOnRoute};
 
-use crate::body::{BodyEnd, read_body};
+use crate::body::{BodyEnd, read_body, skip_body};
 use crate::calls::call_at;
 use crate::checks::{Check, check_head};
 use crate::fields::only_value;
@@ -38,11 +36,8 @@ pub enum Asked {
         /// Whether the response ends after its head.
         is_head: bool,
     },
-    /// Memory ran out.
-    NoMemory {
-        /// Whether the response ends after its head.
-        is_head: bool,
-    },
+    /// Memory ran out, for a request that passes the checks of its head and its route.
+    NoMemory,
     /// The reader failed.
     ReadFailed,
 }
@@ -93,37 +88,77 @@ fn request_at(
     })
 }
 
-// The checks of the route, where the whole body was read.
-fn ask(
+// The request of a route, whose body was read whole.
+fn whole_request(
     alloc: Global,
-    routes: &Routes,
+    front: &[u8],
+    headers: &[HeaderSpan],
+    route: Route,
+    target: &str,
+    body: Vec<u8>,
+) -> Asked
+    requires { All (IsHeaderWithin (length front.now)) headers.now }
+    ensures faults { AskedFaults 0 0 result }
+    ensures made { IsRequestOr (record {
+      key = only_of (values_of (codes "desk-key") (map (header_bytes front.now) headers.now));
+      call = targets.call_at route target.now body.items;
+    }) result }
+{
+    match request_at(alloc, front, headers, route, target, body) {
+        Ok(request) => Asked::Request(request),
+        Err(_) => Asked::NoMemory,
+    }
+}
+
+// Reads the body of a request that fails a check of its route, and keeps none of it. A body that
+// isn't whole is told first.
+fn refuse<R: Source>(
+    reader: &mut R,
+    got: &[u8],
+    count: u32,
+    is_head: bool,
+    check: Check,
+    route: Option<Route>,
+) -> Asked
+    ensures refused { (after : List ℕ) → IsSplit after got.now (R.remaining reader.old) → IsRefused after count check route is_head result }
+    ensures calls { R.calls reader.new ≤ R.calls reader.old + count }
+    ensures faults { AskedFaults (R.faults reader.old) (R.faults reader.new) result }
+{
+    match skip_body(reader, got, count) {
+        Ok(true) => Asked::Fails {
+            check,
+            route,
+            is_head,
+        },
+        Ok(false) => fails(Check::Message, is_head),
+        Err(_) => Asked::ReadFailed,
+    }
+}
+
+// Reads the body of a request on a route, and then the request.
+fn accept<R: Source>(
+    alloc: Global,
+    reader: &mut R,
     front: &[u8],
     headers: &[HeaderSpan],
     spans: &RequestSpans,
-    is_head: bool,
-    body: Vec<u8>,
+    count: u32,
+    route: Route,
+    target: &str,
 ) -> Asked
     requires within { IsRequestWithin front.now headers.now spans.now }
-    ensures faults { AskedFaults 0 0 result }
-    ensures asked { (h : RequestHead) → IsRequestAt front.now headers.now spans.now h → is_head ≡ judges.is_head_method h
-        → IsAnswered (judges.asked_at h body.items (routing.route_of h.target)) is_head result }
+    ensures asked { (bytes : List ℕ) (h : RequestHead) → BeginsWithHead bytes h → IsRequestAt front.now headers.now spans.now h
+        → IsSplit bytes front.now (R.remaining reader.old) → IsOnRoute h count route target.now → IsAsked bytes result }
+    ensures calls { R.calls reader.new ≤ R.calls reader.old + count }
+    ensures faults { AskedFaults (R.faults reader.old) (R.faults reader.new) result }
 {
-    let Ok(target) = str::from_utf8(spans.path.of(front)) else {
-        return fails(Check::Route, is_head);
-    };
-    let Some(route) = routes.of(target) else {
-        return fails(Check::Route, is_head);
-    };
-    if spans.method.of(front) != route.method().as_bytes() {
-        return Asked::Fails {
-            check: Check::Method,
-            route: Some(route),
-            is_head,
-        };
-    }
-    match request_at(alloc, front, &headers[..spans.headers], route, target, body) {
-        Ok(request) => Asked::Request(request),
-        Err(_) => Asked::NoMemory { is_head },
+    match read_body(alloc, reader, &front[spans.len..], count) {
+        BodyEnd::Read(body) => {
+            whole_request(alloc, front, &headers[..spans.headers], route, target, body)
+        },
+        BodyEnd::Short => fails(Check::Message, is_head(front, spans)),
+        BodyEnd::NoMemory => Asked::NoMemory,
+        BodyEnd::Failed => Asked::ReadFailed,
     }
 }
 
@@ -133,6 +168,47 @@ fn is_head(front: &[u8], spans: &RequestSpans) -> bool
     ensures { result ≡ bytes_eq (span_bytes front.now spans.now.method) (codes "HEAD") }
 {
     spans.method.of(front) == "HEAD".as_bytes()
+}
+
+// The target of a head, which is text in each head that was read.
+fn target_of<'a>(front: &'a [u8], headers: &[HeaderSpan], spans: &RequestSpans) -> Option<&'a str>
+    requires within { IsRequestWithin front.now headers.now spans.now }
+    ensures target { (h : RequestHead) → IsRequestAt front.now headers.now spans.now h → option_map (λ text. text.now) result ≡ Some h.target }
+{
+    match str::from_utf8(spans.path.of(front)) {
+        Ok(target) => Some(target),
+        Err(_) => None,
+    }
+}
+
+// The checks of the route, and what is behind the head.
+fn on_target<R: Source>(
+    alloc: Global,
+    routes: &Routes,
+    reader: &mut R,
+    front: &[u8],
+    headers: &[HeaderSpan],
+    spans: &RequestSpans,
+    count: u32,
+) -> Asked
+    requires within { IsRequestWithin front.now headers.now spans.now }
+    ensures asked { (bytes : List ℕ) (h : RequestHead) → BeginsWithHead bytes h → IsRequestAt front.now headers.now spans.now h
+        → IsSplit bytes front.now (R.remaining reader.old) → IsPassed h count → IsAsked bytes result }
+    ensures calls { R.calls reader.new ≤ R.calls reader.old + count }
+    ensures faults { AskedFaults (R.faults reader.old) (R.faults reader.new) result }
+{
+    let got = &front[spans.len..];
+    let is_head = is_head(front, spans);
+    let Some(target) = target_of(front, headers, spans) else {
+        return refuse(reader, got, count, is_head, Check::Route, None);
+    };
+    let Some(route) = routes.of(target) else {
+        return refuse(reader, got, count, is_head, Check::Route, None);
+    };
+    if spans.method.of(front) != route.method().as_bytes() {
+        return refuse(reader, got, count, is_head, Check::Method, Some(route));
+    }
+    accept(alloc, reader, front, headers, spans, count, route, target)
 }
 
 // The checks behind a head, of which all bytes that were read are in front.
@@ -150,22 +226,15 @@ fn behind_head<R: Source>(
     ensures calls { R.calls reader.new ≤ R.calls reader.old + 1048576 }
     ensures faults { AskedFaults (R.faults reader.old) (R.faults reader.new) result }
 {
-    let is_head = is_head(front, spans);
-    let count = match check_head(front, &headers[..spans.headers], spans.version) {
-        Ok(count) => count,
-        Err(check) => return fails(check, is_head),
-    };
-    match read_body(alloc, reader, &front[spans.len..], count) {
-        BodyEnd::Read(body) => ask(alloc, routes, front, headers, spans, is_head, body),
-        BodyEnd::Short => fails(Check::Message, is_head),
-        BodyEnd::NoMemory => Asked::NoMemory { is_head },
-        BodyEnd::Failed => Asked::ReadFailed,
+    match check_head(front, &headers[..spans.headers], spans.version) {
+        Ok(count) => on_target(alloc, routes, reader, front, headers, spans, count),
+        Err(check) => fails(check, is_head(front, spans)),
     }
 }
 
 /// Reads the request of a connection, or its first failing check. It parses after each read, and
 /// reads on only while the head is unfinished, or with the checks of the head passed the body is
-/// short.
+/// short. Where there is no route for it, the body is read and takes no memory.
 pub fn read_request<R: Source>(alloc: Global, routes: &Routes, reader: &mut R) -> Asked
     ensures asked { (bytes : List ℕ) → R.remaining reader.old ≡ Some bytes → IsAsked bytes result }
     ensures calls { R.calls reader.new ≤ R.calls reader.old + most_calls }

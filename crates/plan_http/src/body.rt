@@ -1,8 +1,9 @@
 //! The body of a request, of which some may have come with the head.
 
 ghost use Rattle.std.specs.Prelude.{◌≡◌, ℕ, ◌+◌, ◌<◌, ◌≤◌, List, length, take, IfOk, MatchResult};
+ghost use Rattle.plan_psplib.specs.Devices.{IsCounted};
 ghost use Rattle.plan_http.specs.Pieces.{IsSplit};
-ghost use Rattle.plan_http.specs.BodyPieces.{RestOutcome, BodyOutcome, IfRead, BodyFaults};
+ghost use Rattle.plan_http.specs.BodyPieces.{RestOutcome, BodyOutcome, IfRead, BodyFaults, HasLeft, Skips, IsWhole};
 
 use crate::head::fill;
 use plan_psplib::{DeviceFault, Source};
@@ -82,4 +83,45 @@ pub(crate) fn read_body<R: Source>(alloc: Global, reader: &mut R, got: &[u8], co
         Ok(false) => BodyEnd::Short,
         Err(_) => BodyEnd::Failed,
     }
+}
+
+// How many bytes of a body that isn't kept are read at once.
+const PIECE: usize = 4096;
+
+// Reads bytes that aren't kept, and answers how many.
+fn skip<R: Source>(reader: &mut R, piece: &mut [u8]) -> Result<usize, DeviceFault>
+    requires { 0 < length piece.old }
+    ensures counted { IsCounted (R.calls reader.old) (R.calls reader.new) (R.faults reader.old) (R.faults reader.new) result }
+    ensures within { IfOk result (λ came. came ≤ length piece.new) }
+    ensures bytes { Skips (R.remaining reader.old) (R.remaining reader.new) result }
+{
+    fill(reader, piece, 0)
+}
+
+/// Reads to the end of a body of so many bytes behind those that came with the head, and keeps none
+/// of it. False where the bytes end before.
+pub(crate) fn skip_body<R: Source>(
+    reader: &mut R,
+    got: &[u8],
+    count: u32,
+) -> Result<bool, DeviceFault>
+    ensures whole { IfOk result (λ is_whole. (total : ℕ) → HasLeft total (length got.now) (R.remaining reader.old) → IsWhole total count is_whole) }
+    ensures calls { R.calls reader.new ≤ R.calls reader.old + count }
+    ensures faults { MatchResult result (λ _. R.faults reader.new ≡ R.faults reader.old) (λ _. R.faults reader.new ≡ R.faults reader.old + 1) }
+{
+    let count = count as usize;
+    let mut piece = [0; PIECE];
+    let mut filled = got.len();
+    for _ in 0..count {
+        if count <= filled {
+            return Ok(true);
+        }
+        let room = (count - filled).min(PIECE);
+        let came = skip(reader, &mut piece[..room])?;
+        if came == 0 {
+            return Ok(false);
+        }
+        filled += came;
+    }
+    Ok(true)
 }

@@ -1,21 +1,49 @@
 //! The headline, as the contract of a public call.
 
-ghost use Rattle.std.specs.Prelude.{map, vec_items};
+ghost use Rattle.std.specs.Prelude.{◌≡◌, length, map, vec_items, OnOk};
 ghost use Rattle.plan_rows.specs.World.{Text};
 ghost use Rattle.plan_rows.specs.Views.{view, Agree};
-ghost use Rattle.plan_http.specs.Headline.{Alike};
+ghost use Rattle.plan_http.specs.Serving.{IsRunOf};
+ghost use Rattle.plan_http.specs.Isolated.{IsApart};
+ghost use Rattle.plan_http.specs.Headline.{Alike, ApartRunsAreAlike};
 
-use crate::runs::serve_run;
+use crate::runs::{RunFault, serve_run};
 use plan_desk::{Book, Office};
 use std::alloc::Global;
 
-/// The responses of two runs, in the order of their connections. Where memory ran out in a run they are
-/// those to its first connections.
+/// A run: its responses in the order of their connections, and how it ended. Where memory ran out
+/// they are those to its first connections.
+#[derive(Debug, Drop)]
+pub struct Run {
+    pub responses: Vec<Vec<u8>>,
+    pub end: Result<(), RunFault>,
+}
+
+/// Two runs.
 #[derive(Debug, Drop)]
 pub struct TwoRuns {
-    pub first: Vec<Vec<u8>>,
-    pub second: Vec<Vec<u8>>,
+    pub first: Run,
+    pub second: Run,
 }
+
+// Serves connections one after another, and keeps the responses.
+fn make_run<B: Book>(alloc: Global, office: &mut Office<B>, conns: &[Vec<u8>]) -> Run
+    ensures served { IsRunOf B.shelf office.old office.new (map vec_items conns.now) (map vec_items result.responses.items) result.end }
+    ensures whole { OnOk result.end (length result.responses.items ≡ length conns.now) }
+    ensures apart { B.shelf.honest office.new → (desk : Text)
+        → IsApart B.shelf office.old office.new (map vec_items conns.now) (map vec_items result.responses.items) desk }
+{
+    let mut responses = Vec::new(alloc);
+    let end = serve_run(alloc, office, conns, &mut responses);
+    Run { responses, end }
+}
+
+/// Two runs are alike of each desk on whose views they agree at the start, as soon as the desk is told
+/// in each what it would be told in an office that has its rows and no others: a law of what `serve_run`
+/// says.
+pub fn apart_runs_are_alike<A: Book, B: Book>()
+    ensures { ApartRunsAreAlike A.shelf B.shelf }
+{}
 
 /// Serves connections by one office and others by another, over books of any two kinds.
 ///
@@ -27,7 +55,7 @@ pub struct TwoRuns {
 ///
 /// It holds of tables that can be seen at the start, on disks that have returned what was written, and
 /// of stories in which nothing was answered for want of memory or by the store. Two keys with one
-/// digest count as one key.
+/// digest count as one key. A run that ends well has answered each connection, once and in order.
 pub fn serve_two_worlds<A: Book, B: Book>(
     alloc: Global,
     first: &mut Office<A>,
@@ -35,16 +63,16 @@ pub fn serve_two_worlds<A: Book, B: Book>(
     conns: &[Vec<u8>],
     others: &[Vec<u8>],
 ) -> TwoRuns
+    ensures first { IsRunOf A.shelf first.old first.new (map vec_items conns.now) (map vec_items result.first.responses.items) result.first.end }
+    ensures second { IsRunOf B.shelf second.old second.new (map vec_items others.now) (map vec_items result.second.responses.items) result.second.end }
+    ensures first_whole { OnOk result.first.end (length result.first.responses.items ≡ length conns.now) }
+    ensures second_whole { OnOk result.second.end (length result.second.responses.items ≡ length others.now) }
     ensures headline { A.shelf.honest first.new → B.shelf.honest second.new → A.shelf.stands first.old → B.shelf.stands second.old
         → (desk : Text) → Agree (view desk (A.shelf.world first.old)) (view desk (B.shelf.world second.old))
-        → Alike A.shelf B.shelf first.old second.old (map vec_items conns.now) (map vec_items result.first.items) (map vec_items others.now) (map vec_items result.second.items) desk }
+        → Alike A.shelf B.shelf first.old second.old (map vec_items conns.now) (map vec_items result.first.responses.items) (map vec_items others.now) (map vec_items result.second.responses.items) desk }
 {
-    let mut responses = Vec::new(alloc);
-    let mut answers = Vec::new(alloc);
-    let _whole = serve_run(alloc, first, conns, &mut responses);
-    let _both = serve_run(alloc, second, others, &mut answers);
     TwoRuns {
-        first: responses,
-        second: answers,
+        first: make_run(alloc, first, conns),
+        second: make_run(alloc, second, others),
     }
 }

@@ -1,17 +1,15 @@
 //! Laws of what connections spell, for proofs above to cite.
 
-ghost use Rattle.plan_http.specs.Laws.{OneVerdict, OneEnd, SpellsSomething, ServingIsRun, ServedDesksAreApart};
+ghost use Rattle.plan_http.specs.Laws.{OneVerdict, SpellsSomething, ServingIsRun, ServedDesksAreApart};
 
 use crate::head::{FIELD_LIMIT, HEAD_LIMIT, read_head};
 use httparse::spans::EMPTY_HEADER_SPAN;
 use plan_desk::Book;
 use plan_psplib::MemSource;
 
-/// The bytes of a connection spell one thing at most, a request or one failing check; and whether a
-/// response to them ends after its head is one thing.
+/// The bytes of a connection spell one thing at most, a request or one failing check.
 pub fn one_verdict()
     ensures verdict { OneVerdict }
-    ensures end { OneEnd }
 {}
 
 /// The bytes of a connection spell something. It looks for their head, and does nothing else.

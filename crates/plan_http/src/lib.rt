@@ -19,7 +19,7 @@ mod serving;
 
 pub use asking::{Asked, read_request};
 pub use checks::Check;
-pub use headline::{TwoRuns, serve_two_worlds};
+pub use headline::{Run, TwoRuns, apart_runs_are_alike, serve_two_worlds};
 pub use laws::{one_verdict, served_desks_are_apart, some_verdict};
 pub use response::{respond, response_bytes};
 pub use routes::{Route, Routes};

@@ -50,8 +50,8 @@ const ALL: [Route; 16] = [
 ];
 
 impl Route {
-    // Its text, where what stands in braces takes one segment.
-    fn text(self) -> &'static str
+    /// Its text, where what stands in braces takes one segment.
+    pub fn text(self) -> &'static str
         ensures { result.now ≡ spec.text_of self }
     {
         match self {

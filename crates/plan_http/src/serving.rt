@@ -79,7 +79,8 @@ fn answer<W: Sink>(writer: &mut W, reply: &Reply, route: Option<Route>, is_head:
 }
 
 /// Serves one connection: reads its request, handles it, and writes the response; or answers the
-/// first check that fails. Want of memory before anything is decided is answered too.
+/// first check that fails. Want of memory before anything is decided is answered too, of a request
+/// that passes the checks of its head and its route.
 pub fn serve_conn<R: Source, W: Sink, B: Book>(
     alloc: Global,
     routes: &Routes,
@@ -104,7 +105,7 @@ pub fn serve_conn<R: Source, W: Sink, B: Book>(
             route,
             is_head,
         } => answer(writer, &check_reply(check), route, is_head),
-        Asked::NoMemory { is_head } => answer(writer, &no_memory(), None, is_head),
+        Asked::NoMemory => answer(writer, &no_memory(), None, false),
         Asked::ReadFailed => ConnEnd::ReadFailed,
     }
 }

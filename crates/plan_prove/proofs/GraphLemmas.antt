@@ -3,8 +3,7 @@ use Rattle.std.proofs.Common.{◌≡◌, ℕ, suc, ◌+◌, ◌≤◌, ◌<◌, 
 use Rattle.std.specs.List.{All, AllPairs}
 use Rattle.std.specs.declared.alloc.Global.{Global}
 use Rattle.plan_shop.proofs.NumberLemmas.{there_passes, those_rise}
-use Rattle.std.proofs.lemmas.Bool.{cases_lt, eqb-true, ltb-true, cond-true, cond-false}
-use Rattle.plan_prove.proofs.BoolLemmas.{both_true}
+use Rattle.std.proofs.lemmas.Bool.{cases_lt, eqb-true, ltb-true, cond-true, cond-false, and_parts}
 use Rattle.std.proofs.lemmas.List.{get_or_past, get_or-map, length-map, take_more, map_push, append-nil}
 use Rattle.std.specs.List.{slice_get}
 use Rattle.std.proofs.lemmas.Option.{get_or_from_slice_get, slice_get_within}
@@ -52,7 +51,7 @@ clique_kept s g starts clique is (m, are) apart = record {
 } where
   lasting : (s : JobShop) (m x : ℕ) → lasts_on s m x ≡ true → (machine_of s x ≡ m) × (0 < time_of s x)
   lasting s m x passes =
-      let h = both_true (nat_eq (machine_of s x) m) (nat_lt 0 (time_of s x)) passes in
+      let h = and_parts (nat_eq (machine_of s x) m) (nat_lt 0 (time_of s x)) passes in
       (eqb-true (machine_of s x) m h.0, ltb-true 0 (time_of s x) h.1)
 
 pub kept_in : (s : JobShop) (g : Graph) (starts : List ℕ) → IsGraphOf s g → IsFeasible (problem_of s) starts → IsKept g starts

@@ -1,4 +1,4 @@
-mod BoolLemmas
 mod StateLemmas
 mod GraphLemmas
 mod CliqueLemmas
+mod NodesLemmas

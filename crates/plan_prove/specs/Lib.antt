@@ -1,5 +1,6 @@
 pub mod Graphs
 pub mod States
 pub mod Proofs
+pub mod Nodes
 pub use Rattle.plan_sgs.specs.Problem
 pub use Rattle.plan_shop.specs.Shop

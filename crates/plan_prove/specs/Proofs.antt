@@ -1,5 +1,5 @@
 -- Schedules with lower bounds of all makespans (docs/DEFINITIONS.md, "Proofs of optima").
-use Rattle.std.specs.Prelude.{◌≡◌, ℕ, ◌≤◌, ◌<◌, List}
+use Rattle.std.specs.Prelude.{◌≡◌, ℕ, ◌≤◌, ◌<◌, List, All}
 use Rattle.plan_sgs.specs.Problem.{IsFeasible, IsActive, makespan}
 use Rattle.plan_sgs.specs.declared.schedule.Schedule.{Schedule}
 use Rattle.plan_shop.specs.Shop.{JobShop, problem_of}
@@ -11,10 +11,11 @@ use Rattle.plan_prove.specs.declared.proving.Proof.{Proof}
 abbrev pub IsLowerBound : JobShop → ℕ → Type 0
 IsLowerBound s lower = (starts : List ℕ) → IsFeasible (problem_of s) starts → lower ≤ makespan (problem_of s) starts
 
--- an active schedule of a shop with its makespan
+-- an active schedule of a shop with its makespan, no start of which is after 10,000,000
 pub record IsActiveSchedule (s : JobShop) (schedule : Schedule) : Type 0 where
   pub active : IsActive (problem_of s) schedule.starts.items
   pub makespan_is : schedule.makespan ≡ makespan (problem_of s) schedule.starts.items
+  pub within : All (λ t. t ≤ 10000000) schedule.starts.items
 
 -- an active schedule and a lower bound
 pub record IsProofOf (s : JobShop) (proof : Proof) : Type 0 where

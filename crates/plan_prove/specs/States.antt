@@ -1,6 +1,6 @@
 -- What a search knows of the schedules that it still looks for, and what follows from what
 -- (docs/DEFINITIONS.md, "Proofs of optima").
-use Rattle.std.specs.Prelude.{◌≡◌, ℕ, ◌+◌, ◌≤◌, ◌<◌, ◌⊎◌, ◌&&◌, nat_le, filter, Bool, List, Vec, Option, Some, None, get_or, length, All}
+use Rattle.std.specs.Prelude.{◌≡◌, ℕ, ◌+◌, ◌≤◌, ◌<◌, ◌⊎◌, ◌&&◌, ◌||◌, nat_le, nat_lt, nat_eq, filter, Contains, Bool, List, Vec, Option, Some, None, get_or, length, All}
 use Rattle.std.specs.declared.alloc.Global.{Global}
 use Rattle.plan_prove.specs.Graphs.{time_in, IsBefore, KeepsClique, IsKept}
 use Rattle.plan_prove.specs.declared.graph.Pair.{Pair}
@@ -8,6 +8,7 @@ use Rattle.plan_prove.specs.declared.graph.Graph.{Graph}
 use Rattle.plan_prove.specs.declared.state.Side.{Side}
 use Rattle.plan_prove.specs.declared.state.Side.TheVariants.{Open, First, Second}
 use Rattle.plan_prove.specs.declared.state.State.{State}
+use Rattle.plan_prove.specs.declared.cliques.Rank.{Rank}
 
 -- the side of a pair that is taken
 abbrev pub KeepsSide : Graph → List ℕ → Pair → Side → Type 0
@@ -15,8 +16,9 @@ KeepsSide g starts p Open = Unit {0}
 KeepsSide g starts p First = IsBefore g starts p.first p.second
 KeepsSide g starts p Second = IsBefore g starts p.second p.first
 
--- starts that keep the graph, and of which all holds that a state says: each step starts at its head or later, ends before the
--- limit with its tail to spare, and each pair that is decided keeps its side
+-- starts that keep the graph, and of which all holds that a state says: each step starts at its
+-- head or later, ends before the limit with its tail to spare, and each pair that is decided keeps
+-- its side
 pub record Holds (g : Graph) (limit : ℕ) (state : State) (starts : List ℕ) : Type 0 where
   pub kept : IsKept g starts
   pub heads : (x : ℕ) → get_or state.heads.items x 0 ≤ get_or starts x 0
@@ -68,13 +70,22 @@ pub record IsWithSide (old new : State) (place : ℕ) (side : Side) : Type 0 whe
 abbrev pub Covers : Graph → ℕ → List State → List State → State → Type 0
 Covers g limit new old state = All (IsRefuted g limit) new → All (IsRefuted g limit) old × IsRefuted g limit state
 
--- a step starts at a head or later, and has a tail at least
-abbrev pub is_within : State → ℕ → ℕ → ℕ → Bool
-is_within state head tail x = nat_le head (get_or state.heads.items x 0) && nat_le tail (get_or state.tails.items x 0)
+-- a step starts at a head or later, and its tail is greater than another one, or the same where its
+-- number is at most another one
+abbrev pub is_ranked : State → ℕ → ℕ → ℕ → ℕ → Bool
+is_ranked state head tail step x = nat_le head (get_or state.heads.items x 0)
+    && (nat_lt tail (get_or state.tails.items x 0) || (nat_eq tail (get_or state.tails.items x 0) && nat_le x step))
 
--- those of some steps
-abbrev pub within : State → ℕ → ℕ → List ℕ → List ℕ
-within state head tail steps = filter (is_within state head tail) steps
+-- those of some steps: in the order of falling tails, and of rising numbers where tails are the
+-- same, those up to one
+abbrev pub ranked : State → ℕ → ℕ → ℕ → List ℕ → List ℕ
+ranked state head tail step steps = filter (is_ranked state head tail step) steps
+
+-- the rank of one of some steps, which comes after another rank in that order
+pub record IsRankedAfter (state : State) (steps : List ℕ) (last rank : Rank) : Type 0 where
+  pub there : Contains steps rank.step
+  pub tail : rank.tail ≡ get_or state.tails.items rank.step 0
+  pub after : (rank.tail < last.tail) ⊎ ((rank.tail ≡ last.tail) × (last.step < rank.step))
 
 -- no two of some steps overlap where a graph is kept
 abbrev pub IsClique : Graph → Vec ℕ Global → Type 0

@@ -1,96 +1,111 @@
 //! What the steps of one machine say together: they take turns, so that their times add up.
 
-ghost use Rattle.std.specs.Prelude.{◌≡◌, ◌<◌, ◌≤◌, ℕ, IfNone, length};
-ghost use Rattle.std.specs.List.{sum_by};
+ghost use Rattle.std.specs.Prelude.{◌≡◌, ◌<◌, ◌≤◌, ◌+◌, ◌⊎◌, ℕ, false, IfSome, get_or};
 ghost use Rattle.plan_prove.specs.Graphs.{time_in};
 ghost use Rattle.plan_prove.specs.States as spec;
 
 use crate::graph::Graph;
+use crate::queue::Queue;
 use crate::state::{State, at};
 
-// Whether a step starts at a head or later and has a tail at least.
-fn is_within(state: &State, step: u32, head: u64, tail: u64) -> bool
-    ensures { result ≡ spec.is_within state.now head tail step }
-{
-    head <= at(&state.heads, step) && tail <= at(&state.tails, step)
+/// The tail of a step, and its number.
+#[derive(Clone, Copy, Drop)]
+pub struct Rank {
+    pub tail: u64,
+    pub step: u32,
 }
 
-// The times of those of some steps that do. A sum beyond all limits may be less.
-fn load(graph: &Graph, state: &State, clique: &Vec<u32>, head: u64, tail: u64) -> u64
-    ensures { result ≤ sum_by (time_in graph.now) (spec.within state.now head tail clique.now.items) }
+// The rank of the step at a place of a clique, where it comes after another one: with a less tail,
+// or with the same and a greater number.
+fn next_rank(state: &State, clique: &Vec<u32>, place: u32, last: Rank) -> Option<Rank>
+    ensures { IfSome result (spec.IsRankedAfter state.now clique.now.items last) }
+{
+    if place as usize >= clique.len() {
+        return None;
+    }
+    let step = clique[place as usize];
+    let tail = at(&state.tails, step);
+    if tail < last.tail {
+        return Some(Rank { tail, step });
+    }
+    if tail == last.tail && last.step < step {
+        return Some(Rank { tail, step });
+    }
+    None
+}
+
+// Times with that of a step, where it starts at a head or later. A sum beyond all limits may be
+// less.
+fn grown(graph: &Graph, state: &State, head: u64, step: u32, times: u64) -> u64
+    ensures { (result ≡ times) ⊎ ((head ≤ get_or state.now.heads.items step 0) × (result ≤ times + time_in graph.now step)) }
+{
+    if head <= at(&state.heads, step) {
+        times.saturating_add(at(&graph.times, step))
+    } else {
+        times
+    }
+}
+
+// Whether the steps of a clique that start at a head or later leave room below the limit. They are
+// summed in the order of their tails, the greatest first, and with each the sum and its tail are
+// compared. Where the order given is another one what comes after that is left out.
+fn leave_room_from(
+    graph: &Graph,
+    limit: u32,
+    state: &State,
+    clique: &Vec<u32>,
+    order: &[u32],
+    head: u64,
+) -> bool
+    requires { spec.IsClique graph.now clique.now }
+    ensures { (result ≡ false) → spec.IsRefuted graph.now limit state.now }
 {
     let mut times: u64 = 0;
+    let mut last = Rank {
+        tail: u64::MAX,
+        step: 0,
+    };
+    for place in order {
+        let Some(rank) = next_rank(state, clique, *place, last) else {
+            return true;
+        };
+        times = grown(graph, state, head, rank.step, times);
+        let end = head.saturating_add(times).saturating_add(rank.tail);
+        if times > 0 && end >= limit as u64 {
+            return false;
+        }
+        last = rank;
+    }
+    true
+}
+
+// The same from the head of each step of a clique on.
+fn leave_room(graph: &Graph, limit: u32, state: &State, clique: &Vec<u32>, order: &[u32]) -> bool
+    requires { spec.IsClique graph.now clique.now }
+    ensures { (result ≡ false) → spec.IsRefuted graph.now limit state.now }
+{
     for step in clique {
-        if is_within(state, *step, head, tail) {
-            times = times.saturating_add(at(&graph.times, *step));
+        let head = at(&state.heads, *step);
+        if !leave_room_from(graph, limit, state, clique, order, head) {
+            return false;
         }
     }
-    times
+    true
 }
 
-// When those at a head and with a tail have ended, with the tail; `None` where that leaves no room
-// below the limit.
-fn clique_end(
-    graph: &Graph,
-    limit: u32,
-    state: &State,
-    clique: &Vec<u32>,
-    head: u64,
-    tail: u64,
-) -> Option<u64>
-    requires { spec.IsClique graph.now clique.now }
-    ensures { IfNone result (spec.IsRefuted graph.now limit state.now) }
+/// Whether the machines that are to be bounded leave room below the limit, by the heads, times and
+/// tails of their steps (Carlier 1982, by sets of steps).
+pub fn machines_leave_room(graph: &Graph, limit: u32, state: &State, queue: &mut Queue) -> bool
+    ensures { (result ≡ false) → spec.IsRefuted graph.now limit state.now }
 {
-    let times = load(graph, state, clique, head, tail);
-    let end = head.saturating_add(times).saturating_add(tail);
-    if times > 0 && end >= limit as u64 {
-        None
-    } else {
-        Some(end)
-    }
-}
-
-// The same for the tail of each step of a clique.
-fn clique_end_from(
-    graph: &Graph,
-    limit: u32,
-    state: &State,
-    clique: &Vec<u32>,
-    head: u64,
-) -> Option<u64>
-    requires { spec.IsClique graph.now clique.now }
-    ensures { IfNone result (spec.IsRefuted graph.now limit state.now) }
-{
-    let mut latest = 0;
-    for step in clique {
-        let end = clique_end(graph, limit, state, clique, head, at(&state.tails, *step))?;
-        latest = end.max(latest);
-    }
-    Some(latest)
-}
-
-// The same for the head of each step of a clique.
-fn latest_end(graph: &Graph, limit: u32, state: &State, clique: &Vec<u32>) -> Option<u64>
-    requires { spec.IsClique graph.now clique.now }
-    ensures { IfNone result (spec.IsRefuted graph.now limit state.now) }
-{
-    let mut latest = 0;
-    for step in clique {
-        let end = clique_end_from(graph, limit, state, clique, at(&state.heads, *step))?;
-        latest = end.max(latest);
-    }
-    Some(latest)
-}
-
-/// A bound of all machines by the heads, times and tails of their steps (Carlier 1982, by sets of steps); `None` where one leaves no room
-/// below the limit.
-pub fn machine_bound(graph: &Graph, limit: u32, state: &State) -> Option<u64>
-    ensures { IfNone result (spec.IsRefuted graph.now limit state.now) }
-{
-    let mut latest = 0;
     for machine in 0..graph.cliques.len() {
-        let end = latest_end(graph, limit, state, &graph.cliques[machine])?;
-        latest = end.max(latest);
+        if queue.take_stale(machine) {
+            let clique = &graph.cliques[machine];
+            queue.sort(state, clique, machine);
+            if !leave_room(graph, limit, state, clique, queue.order(machine)) {
+                return false;
+            }
+        }
     }
-    Some(latest)
+    true
 }

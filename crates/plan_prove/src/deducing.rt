@@ -1,17 +1,20 @@
-//! What follows from what is known: heads and tails along arcs, and sides of pairs that leave no room.
+//! What follows from what is known: heads and tails along arcs, and sides of pairs that leave no
+//! room.
 
 ghost use Rattle.std.specs.Prelude.{◌≡◌, ◌<◌, ◌≤◌, ℕ, List, false, true, length, get_or, slice_index, IfSome, IfNone};
 ghost use Rattle.plan_prove.specs.Graphs.{IsBefore};
 ghost use Rattle.plan_prove.specs.States as spec;
 
-use crate::cliques::machine_bound;
+use crate::cliques::machines_leave_room;
 use crate::graph::{Graph, Pair};
+use crate::queue::Queue;
 use crate::state::{Side, State, at, raise, side_at, take_side};
 
-/// The most passes over all arcs and pairs at one node.
-const MOST_PASSES: u32 = 1_000;
+/// The most steps that are looked at in one node.
+const MOST_TURNS: u32 = 1_000_000;
 
-// The head, the time and the tail of a step together; `None` where they leave no room below the limit.
+// The head, the time and the tail of a step together; `None` where they leave no room below the
+// limit.
 fn span(graph: &Graph, limit: u32, state: &State, step: u32) -> Option<u64>
     ensures { IfNone result (spec.IsRefuted graph.now limit state.now) }
 {
@@ -23,8 +26,16 @@ fn span(graph: &Graph, limit: u32, state: &State, step: u32) -> Option<u64>
     }
 }
 
-// One step ends before another starts: what that says of the head of the one and the tail of the other.
-fn follow(graph: &Graph, limit: u32, state: &mut State, first: u32, second: u32) -> Option<bool>
+// One step ends before another starts: what that says of the head of the one and the tail of the
+// other.
+fn follow(
+    graph: &Graph,
+    limit: u32,
+    state: &mut State,
+    queue: &mut Queue,
+    first: u32,
+    second: u32,
+) -> Option<bool>
     requires { spec.GoesBefore graph.now limit state.old first second }
     ensures { spec.Deduces graph.now limit state.old state.new result }
 {
@@ -32,12 +43,15 @@ fn follow(graph: &Graph, limit: u32, state: &mut State, first: u32, second: u32)
     let tail = at(&graph.times, second) + at(&state.tails, second);
     let later = raise(&mut state.heads, second, head, limit)?;
     let longer = raise(&mut state.tails, first, tail, limit)?;
+    queue.note(second, later);
+    queue.note(first, longer);
     span(graph, limit, state, first)?;
     span(graph, limit, state, second)?;
     Some(later || longer)
 }
 
-/// How much room is left below the limit where one step goes before another; `None` where there is none.
+/// How much room is left below the limit where one step goes before another; `None` where there is
+/// none.
 pub fn room(graph: &Graph, limit: u32, state: &State, first: u32, second: u32) -> Option<u64>
     ensures { IfNone result (spec.NotBefore graph.now limit state.now first second) }
 {
@@ -52,12 +66,15 @@ pub fn room(graph: &Graph, limit: u32, state: &State, first: u32, second: u32) -
     }
 }
 
-// Takes the side of an open pair that is the only one with room.
+// Takes the side of a pair that is open, where it is the only one with room.
 fn decide(graph: &Graph, limit: u32, state: &mut State, place: usize) -> Option<bool>
     requires { place < length graph.now.pairs.items }
     ensures { spec.Deduces graph.now limit state.old state.new result }
 {
     let Pair { first, second } = graph.pairs[place];
+    if side_at(&state.sides, place) != Side::Open {
+        return Some(false);
+    }
     let forth = room(graph, limit, state, first, second);
     let back = room(graph, limit, state, second, first);
     match (forth, back) {
@@ -74,65 +91,100 @@ fn decide(graph: &Graph, limit: u32, state: &mut State, place: usize) -> Option<
     }
 }
 
-// What a pair says, decided or not.
-fn settle(graph: &Graph, limit: u32, state: &mut State, place: usize) -> Option<bool>
+// What a pair says that is decided.
+fn keep(
+    graph: &Graph,
+    limit: u32,
+    state: &mut State,
+    queue: &mut Queue,
+    place: usize,
+) -> Option<bool>
     requires { place < length graph.now.pairs.items }
     ensures { spec.Deduces graph.now limit state.old state.new result }
 {
     let Pair { first, second } = graph.pairs[place];
     match side_at(&state.sides, place) {
-        Side::Open => decide(graph, limit, state, place),
-        Side::First => follow(graph, limit, state, first, second),
-        Side::Second => follow(graph, limit, state, second, first),
+        Side::Open => Some(false),
+        Side::First => follow(graph, limit, state, queue, first, second),
+        Side::Second => follow(graph, limit, state, queue, second, first),
     }
 }
 
-// One pass over the arcs.
-fn follow_arcs(graph: &Graph, limit: u32, state: &mut State) -> Option<bool>
+// What a pair says, decided or not.
+fn settle(
+    graph: &Graph,
+    limit: u32,
+    state: &mut State,
+    queue: &mut Queue,
+    place: usize,
+) -> Option<bool>
+    requires { place < length graph.now.pairs.items }
     ensures { spec.Deduces graph.now limit state.old state.new result }
 {
-    let mut moved = false;
-    for place in 0..graph.arcs.len() {
-        let Pair { first, second } = graph.arcs[place];
-        if follow(graph, limit, state, first, second)? {
-            moved = true;
-        }
-    }
-    Some(moved)
+    decide(graph, limit, state, place)?;
+    let kept = keep(graph, limit, state, queue, place)?;
+    Some(kept)
 }
 
-// One pass over the pairs.
-fn settle_pairs(graph: &Graph, limit: u32, state: &mut State) -> Option<bool>
+// What a rule says: an arc by its place, or a pair by its place behind all arcs.
+fn apply(graph: &Graph, limit: u32, state: &mut State, queue: &mut Queue, rule: u32) -> Option<bool>
     ensures { spec.Deduces graph.now limit state.old state.new result }
 {
-    let mut moved = false;
-    for place in 0..graph.pairs.len() {
-        if settle(graph, limit, state, place)? {
-            moved = true;
-        }
+    let (rule, arcs) = (rule as usize, graph.arcs.len());
+    if rule < arcs {
+        let Pair { first, second } = graph.arcs[rule];
+        return follow(graph, limit, state, queue, first, second);
     }
-    Some(moved)
+    let place = rule - arcs;
+    if place < graph.pairs.len() {
+        settle(graph, limit, state, queue, place)
+    } else {
+        Some(false)
+    }
 }
 
-// Passes over arcs and pairs while they say more; `None` where no schedule is left.
-fn propagate(graph: &Graph, limit: u32, state: &mut State) -> Option<bool>
+// What all rules of a step say.
+fn apply_all(
+    graph: &Graph,
+    limit: u32,
+    state: &mut State,
+    queue: &mut Queue,
+    step: u32,
+) -> Option<bool>
     ensures { spec.Deduces graph.now limit state.old state.new result }
 {
-    for _pass in 0..MOST_PASSES {
-        let moved = follow_arcs(graph, limit, state)?;
-        let settled = settle_pairs(graph, limit, state)?;
-        if !moved && !settled {
+    if step as usize >= graph.rules.len() {
+        return Some(false);
+    }
+    for rule in &graph.rules[step as usize] {
+        apply(graph, limit, state, queue, *rule)?;
+    }
+    Some(true)
+}
+
+// What the rules of the steps say that wait, and of those that they raise, while there is one;
+// `None` where no schedule is left.
+fn propagate(graph: &Graph, limit: u32, state: &mut State, queue: &mut Queue) -> Option<bool>
+    ensures { spec.Deduces graph.now limit state.old state.new result }
+{
+    for _turn in 0..MOST_TURNS {
+        let Some(step) = queue.pop(graph) else {
             return Some(true);
-        }
+        };
+        apply_all(graph, limit, state, queue, step)?;
     }
     Some(false)
 }
 
-/// All that follows from a state by arcs, pairs and machines; `None` where no schedule is left.
-pub fn deduce(graph: &Graph, limit: u32, state: &mut State) -> Option<bool>
+/// All that follows from a state by arcs, pairs and machines, for the steps that wait; `None` where
+/// no schedule is left.
+pub fn deduce(graph: &Graph, limit: u32, state: &mut State, queue: &mut Queue) -> Option<bool>
     ensures { spec.Deduces graph.now limit state.old state.new result }
 {
-    let settled = propagate(graph, limit, state)?;
-    machine_bound(graph, limit, state)?;
-    Some(settled)
+    let settled = propagate(graph, limit, state, queue)?;
+    if machines_leave_room(graph, limit, state, queue) {
+        Some(settled)
+    } else {
+        None
+    }
 }

@@ -18,13 +18,16 @@ pub struct Pair {
 
 /// The times of the steps in flat order, the arcs that every schedule keeps, from step to step, and
 /// the pairs of steps of which one or the other goes first, and for each machine its steps that last,
-/// none of which may overlap.
+/// none of which may overlap. Beside them, for the search alone, the machine of each step and the
+/// rules in which it stands: an arc by its place, and a pair by its place behind all arcs.
 #[derive(Drop)]
 pub struct Graph {
     pub times: Vec<u32>,
     pub arcs: Vec<Pair>,
     pub pairs: Vec<Pair>,
     pub cliques: Vec<Vec<u32>>,
+    pub machines: Vec<u32>,
+    pub rules: Vec<Vec<u32>>,
 }
 
 // How many steps there are.
@@ -131,14 +134,63 @@ fn cliques(alloc: Global, shop: &Shop) -> Result<Vec<Vec<u32>>, AllocError>
     Ok(cliques)
 }
 
+// The machines of all steps.
+fn machines(alloc: Global, shop: &Shop) -> Result<Vec<u32>, AllocError> {
+    let mut machines = Vec::new(alloc);
+    for x in 0..count(shop) {
+        machines.push(shop.step(x).machine)?;
+    }
+    Ok(machines)
+}
+
+// Puts a rule behind those of a step.
+fn add_rule(rules: &mut Vec<Vec<u32>>, step: u32, rule: u32) -> Result<(), AllocError> {
+    if let Some(list) = rules.get_mut(step as usize) {
+        list.push(rule)?;
+    }
+    Ok(())
+}
+
+// Puts rules behind those of their steps, numbered from one on, and answers the next number.
+fn add_rules(rules: &mut Vec<Vec<u32>>, pairs: &[Pair], from: u32) -> Result<u32, AllocError> {
+    let mut rule = from;
+    for pair in pairs {
+        add_rule(rules, pair.first, rule)?;
+        add_rule(rules, pair.second, rule)?;
+        rule = rule.saturating_add(1);
+    }
+    Ok(rule)
+}
+
+// The rules of each step.
+fn rules(
+    alloc: Global,
+    shop: &Shop,
+    arcs: &[Pair],
+    pairs: &[Pair],
+) -> Result<Vec<Vec<u32>>, AllocError> {
+    let mut rules = Vec::new(alloc);
+    for _x in 0..count(shop) {
+        rules.push(Vec::new(alloc))?;
+    }
+    let next = add_rules(&mut rules, arcs, 0)?;
+    add_rules(&mut rules, pairs, next)?;
+    Ok(rules)
+}
+
 /// The disjunctive graph of a shop (Roy and Sussmann 1964).
 pub fn graph_of(alloc: Global, shop: &Shop) -> Result<Graph, AllocError>
     ensures { IfOk result (spec.IsGraphOf shop.now) }
 {
+    let arcs = arcs(alloc, shop)?;
+    let pairs = pairs(alloc, shop)?;
+    let rules = rules(alloc, shop, &arcs, &pairs)?;
     Ok(Graph {
         times: times(alloc, shop)?,
-        arcs: arcs(alloc, shop)?,
-        pairs: pairs(alloc, shop)?,
+        arcs,
+        pairs,
         cliques: cliques(alloc, shop)?,
+        machines: machines(alloc, shop)?,
+        rules,
     })
 }

@@ -7,9 +7,12 @@ mod deducing;
 mod fault;
 mod graph;
 mod guiding;
+mod nodes;
 mod proving;
+mod queue;
 mod refuting;
 mod state;
 
 pub use fault::ProveFault;
+pub use nodes::parse_nodes;
 pub use proving::{MOST_NODES, Proof, prove};

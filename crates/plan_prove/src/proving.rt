@@ -1,6 +1,6 @@
 //! Proofs of optima: a schedule and a lower bound that meet, or as near as the nodes allow.
 
-ghost use Rattle.std.specs.Prelude.{◌≡◌, ◌≤◌, ◌⊎◌, IfOk, IfErr};
+ghost use Rattle.std.specs.Prelude.{◌≡◌, ◌≤◌, ◌⊎◌, All, IfOk, IfSome, IfErr};
 ghost use Rattle.plan_sgs.specs.Problem.{IsActive, IsShortest, makespan};
 ghost use Rattle.plan_shop.specs.Shop.{problem_of};
 ghost use Rattle.plan_prove.specs.Graphs.{IsGraphOf};
@@ -10,12 +10,16 @@ use crate::fault::ProveFault;
 use crate::graph::{Graph, graph_of};
 use crate::guiding::activated;
 use crate::refuting::{Outcome, refute};
+use plan_exact::{ExactFault, GREATEST_BUDGET, solve_shop};
 use plan_sgs::Schedule;
 use plan_shop::{Shop, ShopRule, giffler};
 use std::alloc::{AllocError, Global};
 
 /// The most nodes of a search.
 pub const MOST_NODES: u64 = 1_000_000_000;
+
+/// The most short searches of so many nodes.
+const MOST_HALVINGS: u32 = 64;
 
 /// A schedule of a job shop and a lower bound of all makespans: where they meet the schedule is
 /// proved to be a shortest one.
@@ -51,13 +55,36 @@ fn shorter(one: Schedule, other: Schedule) -> Schedule
 }
 
 // The shortest schedule of the rules.
-fn initial(alloc: Global, shop: &Shop) -> Result<Schedule, AllocError>
+fn by_rules(alloc: Global, shop: &Shop) -> Result<Schedule, AllocError>
     ensures { IfOk result (spec.IsActiveSchedule shop.now) }
 {
     let most_work = by_rule(alloc, shop, ShopRule::MostWorkRemaining)?;
     let first_come = by_rule(alloc, shop, ShopRule::FirstCome)?;
     let shortest_time = by_rule(alloc, shop, ShopRule::ShortestTime)?;
     Ok(shorter(shorter(most_work, first_come), shortest_time))
+}
+
+// The schedule of a search of words, where the shop isn't too large for it. What that proves isn't
+// taken over: the two searches stand beside each other.
+fn by_words(alloc: Global, shop: &Shop) -> Result<Option<Schedule>, AllocError>
+    ensures { IfOk result (λ found. IfSome found (spec.IsActiveSchedule shop.now)) }
+{
+    match solve_shop(alloc, shop, GREATEST_BUDGET) {
+        Ok(solved) => Ok(Some(solved.schedule)),
+        Err(ExactFault::NoMemory) => Err(AllocError),
+        Err(_) => Ok(None),
+    }
+}
+
+// The schedule that is known before the search: the shortest of the rules and of a search of words.
+fn initial(alloc: Global, shop: &Shop) -> Result<Schedule, AllocError>
+    ensures { IfOk result (spec.IsActiveSchedule shop.now) }
+{
+    let schedule = by_rules(alloc, shop)?;
+    match by_words(alloc, shop)? {
+        Some(found) => Ok(shorter(found, schedule)),
+        None => Ok(schedule),
+    }
 }
 
 // The makespan that is refuted next, or else improved on: a hundredth below the best, and at most
@@ -67,12 +94,14 @@ fn target(best: u64, lower: u64) -> u64 {
     best - (best / 100).min(gap / 2)
 }
 
-// Searches once below the next target, and says whether to go on.
-fn advance(
+// Searches once for a schedule below a target, for as many nodes as are allowed and left.
+fn attempt(
     alloc: Global,
     shop: &Shop,
     graph: &Graph,
     proof: &mut Proof,
+    target: u64,
+    allowed: u64,
     left: &mut u64,
 ) -> Result<bool, AllocError>
     requires graph { IsGraphOf shop.now graph.now }
@@ -80,11 +109,14 @@ fn advance(
     ensures proof { IfOk result (λ _. spec.IsProofOf shop.now proof.new) }
     ensures left { left.new ≤ left.old }
 {
-    let target = target(proof.schedule.makespan, proof.lower);
     let Ok(limit) = u32::try_from(target) else {
         return Ok(false);
     };
-    match refute(alloc, graph, limit, left)? {
+    let granted = allowed.min(*left);
+    let mut unused = granted;
+    let outcome = refute(alloc, graph, limit, &mut unused)?;
+    *left -= granted - unused;
+    match outcome {
         Outcome::Stopped => Ok(false),
         Outcome::Refuted => {
             proof.lower = proof.lower.max(target);
@@ -111,14 +143,16 @@ fn improve(alloc: Global, shop: &Shop, heads: &[u32], proof: &mut Proof) -> Resu
 /// The shortest schedule of a shop that a search of at most so many nodes finds, and the greatest
 /// lower bound of all makespans that it proves.
 ///
-/// Refused with [`ProveFault::BadNodes`] where the number of nodes is not from 1 to 1,000,000,000. Want of memory may come
-/// in place of any answer.
+/// Refused with [`ProveFault::BadNodes`] where the number of nodes is not from 1 to 1,000,000,000.
+/// Want of memory may come in place of any answer.
 pub fn prove(alloc: Global, shop: &Shop, nodes: u64) -> Result<Proof, ProveFault>
     ensures active { IfOk result (λ proof. IsActive (problem_of shop.now) proof.schedule.starts.items) }
     ensures makespan { IfOk result (λ proof. proof.schedule.makespan ≡ makespan (problem_of shop.now) proof.schedule.starts.items) }
     // No feasible schedule has a makespan below it.
     ensures lower { IfOk result (λ proof. spec.IsLowerBound shop.now proof.lower) }
     ensures below { IfOk result (λ proof. proof.lower ≤ proof.schedule.makespan) }
+    // All starts can be shown: none is after 10,000,000.
+    ensures within { IfOk result (λ proof. All (λ t. t ≤ 10000000) proof.schedule.starts.items) }
     ensures proved { IfOk result (λ proof. proof.lower ≡ proof.schedule.makespan → IsShortest (problem_of shop.now) proof.schedule.starts.items) }
     ensures nodes { IfOk result (λ proof. proof.nodes ≤ nodes) }
     ensures allowed { IfOk result (λ _. spec.IsNodeLimit nodes) }
@@ -128,6 +162,60 @@ pub fn prove(alloc: Global, shop: &Shop, nodes: u64) -> Result<Proof, ProveFault
         return Err(ProveFault::BadNodes);
     }
     Ok(searched(alloc, shop, nodes)?)
+}
+
+// Halves between the lower bound and the best makespan by searches of so many nodes each. Where one
+// comes to nothing the next target is lower.
+fn halve(
+    alloc: Global,
+    shop: &Shop,
+    graph: &Graph,
+    proof: &mut Proof,
+    allowed: u64,
+    left: &mut u64,
+) -> Result<(), AllocError>
+    requires graph { IsGraphOf shop.now graph.now }
+    requires proof { spec.IsProofOf shop.now proof.old }
+    ensures proof { IfOk result (λ _. spec.IsProofOf shop.now proof.new) }
+    ensures left { left.new ≤ left.old }
+{
+    let mut above = proof.schedule.makespan;
+    for _halving in 0..MOST_HALVINGS {
+        above = above.min(proof.schedule.makespan);
+        if proof.lower >= above || *left == 0 {
+            break;
+        }
+        let target = above - (above - proof.lower) / 2;
+        if !attempt(alloc, shop, graph, proof, target, allowed, left)? {
+            above = target.saturating_sub(1);
+        }
+    }
+    Ok(())
+}
+
+// Steps down from the best makespan until it is the lower bound, or no nodes are left.
+fn close(
+    alloc: Global,
+    shop: &Shop,
+    graph: &Graph,
+    proof: &mut Proof,
+    left: &mut u64,
+) -> Result<(), AllocError>
+    requires graph { IsGraphOf shop.now graph.now }
+    requires proof { spec.IsProofOf shop.now proof.old }
+    ensures proof { IfOk result (λ _. spec.IsProofOf shop.now proof.new) }
+    ensures left { left.new ≤ left.old }
+{
+    for _step in 0..*left {
+        if proof.lower >= proof.schedule.makespan {
+            break;
+        }
+        let target = target(proof.schedule.makespan, proof.lower);
+        if !attempt(alloc, shop, graph, proof, target, MOST_NODES, left)? {
+            break;
+        }
+    }
+    Ok(())
 }
 
 // The proof that a search of at most so many nodes comes to.
@@ -142,14 +230,10 @@ fn searched(alloc: Global, shop: &Shop, nodes: u64) -> Result<Proof, AllocError>
         nodes: 0,
     };
     let mut left = nodes;
-    for _step in 0..nodes {
-        if proof.lower >= proof.schedule.makespan {
-            break;
-        }
-        if !advance(alloc, shop, &graph, &mut proof, &mut left)? {
-            break;
-        }
-    }
+    halve(alloc, shop, &graph, &mut proof, 1, &mut left)?;
+    halve(alloc, shop, &graph, &mut proof, 100, &mut left)?;
+    halve(alloc, shop, &graph, &mut proof, 10_000, &mut left)?;
+    close(alloc, shop, &graph, &mut proof, &mut left)?;
     proof.nodes = nodes - left;
     Ok(proof)
 }

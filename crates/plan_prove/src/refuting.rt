@@ -8,6 +8,7 @@ ghost use Rattle.plan_prove.specs.declared.refuting.Outcome.TheVariants.{Refuted
 use crate::branching::{Choice, choose};
 use crate::deducing::deduce;
 use crate::graph::Graph;
+use crate::queue::Queue;
 use crate::state::{Side, State};
 use std::alloc::{AllocError, Global};
 
@@ -27,15 +28,15 @@ fn split(
     alloc: Global,
     graph: &Graph,
     limit: u32,
-    state: &State,
+    state: State,
     choice: Choice,
     waiting: &mut Vec<State>,
 ) -> Result<(), AllocError>
     requires { choice.place < length graph.now.pairs.items }
-    ensures { IfOk result (λ _. spec.Covers graph.now limit waiting.new.items waiting.old.items state.now) }
+    ensures { IfOk result (λ _. spec.Covers graph.now limit waiting.new.items waiting.old.items state) }
 {
-    let forth = state.with_side(alloc, choice.place, Side::First)?;
     let back = state.with_side(alloc, choice.place, Side::Second)?;
+    let forth = state.taking(choice.place, Side::First);
     if choice.roomier_first {
         waiting.push(back)?;
         waiting.push(forth)?;
@@ -59,7 +60,7 @@ fn expand(
     match choose(graph, limit, &state) {
         None => Ok(Some(state.heads)),
         Some(choice) => {
-            split(alloc, graph, limit, &state, choice, waiting)?;
+            split(alloc, graph, limit, state, choice, waiting)?;
             Ok(None)
         }
     }
@@ -71,11 +72,13 @@ fn visit(
     graph: &Graph,
     limit: u32,
     mut state: State,
+    queue: &mut Queue,
     waiting: &mut Vec<State>,
 ) -> Result<Option<Vec<u32>>, AllocError>
     ensures { IfOk result (λ leaf. IfNone leaf (spec.Covers graph.now limit waiting.new.items waiting.old.items state)) }
 {
-    let Some(_) = deduce(graph, limit, &mut state) else {
+    queue.restart(graph.pairs.get(state.last));
+    let Some(_) = deduce(graph, limit, &mut state, queue) else {
         return Ok(None);
     };
     let leaf = expand(alloc, graph, limit, state, waiting)?;
@@ -96,14 +99,18 @@ pub fn refute(
 {
     let mut waiting = Vec::new(alloc);
     waiting.push(State::root(alloc, graph)?)?;
+    let mut queue = Queue::new(alloc, graph)?;
     for _node in 0..*nodes {
         let Some(state) = waiting.pop() else {
             return Ok(Outcome::Refuted);
         };
         *nodes -= 1;
-        if let Some(heads) = visit(alloc, graph, limit, state, &mut waiting)? {
+        if let Some(heads) = visit(alloc, graph, limit, state, &mut queue, &mut waiting)? {
             return Ok(Outcome::Leaf(heads));
         }
     }
-    Ok(Outcome::Stopped)
+    match waiting.pop() {
+        None => Ok(Outcome::Refuted),
+        Some(_) => Ok(Outcome::Stopped),
+    }
 }

@@ -17,12 +17,14 @@ pub enum Side {
 
 /// Of the schedules that are still looked for: before when no step starts (its head), how much
 /// there is at least between its end and the bound on the makespan (its tail), and which pairs are
-/// decided.
+/// decided. Beside them, for the search alone, the place of the pair that was decided last; behind
+/// all pairs where none was.
 #[derive(Drop)]
 pub struct State {
     pub heads: Vec<u32>,
     pub tails: Vec<u32>,
     pub sides: Vec<Side>,
+    pub last: usize,
 }
 
 /// The number at a place, and 0 where there is none.
@@ -59,10 +61,25 @@ impl State {
             heads: vec![in alloc; 0; steps]?,
             tails: vec![in alloc; 0; steps]?,
             sides: vec![in alloc; Side::Open; graph.pairs.len()]?,
+            last: graph.pairs.len(),
         })
     }
 
-    /// The same with a side of a pair taken.
+    /// The state with a side of a pair taken.
+    pub fn taking(self, place: usize, side: Side) -> State
+        ensures { spec.IsWithSide self result place side }
+    {
+        let mut sides = self.sides;
+        take_side(&mut sides, place, side);
+        State {
+            heads: self.heads,
+            tails: self.tails,
+            sides,
+            last: place,
+        }
+    }
+
+    /// A copy with a side of a pair taken.
     pub fn with_side(&self, alloc: Global, place: usize, side: Side) -> Result<State, AllocError>
         ensures { IfOk result (λ state. spec.IsWithSide self.now state place side) }
     {
@@ -70,6 +87,7 @@ impl State {
             heads: self.heads.clone()?,
             tails: self.tails.clone()?,
             sides: self.sides.clone()?,
+            last: place,
         };
         take_side(&mut state.sides, place, side);
         Ok(state)

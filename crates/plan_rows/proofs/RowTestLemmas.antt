@@ -8,10 +8,10 @@ use Rattle.plan_psplib.specs.declared.fault.FileCode.TheVariants as code
 use Rattle.plan_psplib.specs.Faults.{IsWantOfMemory}
 use Rattle.plan_psplib.specs.Project.{Project, SaysProject, IsFirstFailing}
 use Rattle.plan_psplib.proofs.OnceLemmas.{said_fails_none}
-use Rattle.plan_gantt.specs.WorkingDay.{Workdays}
-use Rattle.plan_gantt.specs.CalendarText.{IsCalendar, RefusesTexts}
-use Rattle.plan_gantt.specs.declared.calendar.CalendarFault.{CalendarFault}
-use Rattle.plan_gantt.proofs.CalendarOnceLemmas.{texts_apart}
+use Rattle.plan_calendar.specs.WorkingDay.{Workdays}
+use Rattle.plan_calendar.specs.CalendarText.{IsCalendar, RefusesTexts}
+use Rattle.plan_calendar.specs.declared.calendar.CalendarFault.{CalendarFault}
+use Rattle.plan_calendar.proofs.CalendarOnceLemmas.{texts_apart}
 use Rattle.plan_rows.specs.declared.kinds.PlanKind.{PlanKind}
 use Rattle.plan_rows.specs.declared.kinds.PlanKind.TheVariants as kinds
 use Rattle.plan_rows.specs.declared.row_tests.files.PlanFile.{PlanFile}

@@ -3,13 +3,13 @@ use Rattle.std.specs.Prelude.{◌≡◌, ◌⊎◌, ℕ, ◌≤◌, ◌<◌, Boo
 use Rattle.std.specs.List.{AllByRecursion}
 use Rattle.plan_psplib.specs.Project.{Project}
 use Rattle.plan_psplib.specs.Project as files
-use Rattle.plan_gantt.specs.WorkingDay.{Workdays}
+use Rattle.plan_calendar.specs.WorkingDay.{Workdays}
 use Rattle.plan_rows.specs.declared.kinds.PlanKind.{PlanKind}
 use Rattle.plan_rows.specs.declared.kinds.PlanKind.TheVariants as kinds
 use Rattle.plan_rows.specs.World.{Text, Published, Desk, Plan, Bind, Lag, World, same_text, same_kind, takes, is_plan_of, is_plan, is_bind, is_lag, code_in, desk_in, plan_in}
 use Rattle.plan_rows.specs.Names.{is_name, is_digest, is_from_to}
 use Rattle.plan_rows.specs.Plans.{HasPlaces, is_place}
-use Rattle.plan_gantt.specs.CalendarText.{IsCalendar}
+use Rattle.plan_calendar.specs.CalendarText.{IsCalendar}
 use Rattle.plan_rows.specs.Plans.{has_arc}
 
 -- each row differs from every later one

@@ -46,6 +46,11 @@ unread g Opens Refuses remaining rest fault.NotOurs takes = absurd takes
 unread g Opens Refuses remaining rest fault.Version takes = absurd takes
 unread g Opens Refuses remaining rest fault.Socket takes = absurd takes
 unread g Opens Refuses remaining rest fault.Output takes = absurd takes
+unread g Opens Refuses remaining rest fault.Locked takes = absurd takes
+unread g Opens Refuses remaining rest fault.Missing takes = absurd takes
+unread g Opens Refuses remaining rest fault.Denied takes = absurd takes
+unread g Opens Refuses remaining rest fault.PortTaken takes = absurd takes
+unread g Opens Refuses remaining rest fault.PortDenied takes = absurd takes
 
 -- why the tables of a new office aren't made
 pub init_faults : {S : Type 0} (g : Ghosts S) (Opens : Held S → Type 0) (Refuses : StoreFault → Type 0) (remaining rest : Option Text) (e : ServeFault) (back : Option (Held S))
@@ -58,3 +63,8 @@ init_faults g Opens Refuses remaining rest fault.Key back i = tt
 init_faults g Opens Refuses remaining rest fault.Input back i = tt
 init_faults g Opens Refuses remaining rest fault.Socket back i = absurd i
 init_faults g Opens Refuses remaining rest fault.Output back i = absurd i
+init_faults g Opens Refuses remaining rest fault.Locked back i = tt
+init_faults g Opens Refuses remaining rest fault.Missing back i = tt
+init_faults g Opens Refuses remaining rest fault.Denied back i = tt
+init_faults g Opens Refuses remaining rest fault.PortTaken back i = absurd i
+init_faults g Opens Refuses remaining rest fault.PortDenied back i = absurd i

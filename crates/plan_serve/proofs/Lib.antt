@@ -1,4 +1,5 @@
 pub mod KeyLemmas
+pub mod CauseLemmas
 pub mod ServeLemmas
 pub mod TurnLemmas
 pub mod InitLemmas

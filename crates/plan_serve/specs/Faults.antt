@@ -15,6 +15,11 @@ line_of fault.Key = codes "K3 key"
 line_of fault.Input = codes "I1 file"
 line_of fault.Socket = codes "I2 socket"
 line_of fault.Output = codes "I3 output"
+line_of fault.Locked = codes "K4 in use"
+line_of fault.Missing = codes "K5 not there"
+line_of fault.Denied = codes "K6 not writable"
+line_of fault.PortTaken = codes "I4 port in use"
+line_of fault.PortDenied = codes "I5 port denied"
 
 -- the fault of a command whose store has a fault
 abbrev pub fault_of : StoreFault → ServeFault

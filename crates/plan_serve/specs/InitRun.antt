@@ -71,4 +71,7 @@ IsInitFault fault.Store = Unit {0}
 IsInitFault fault.NotOurs = Unit {0}
 IsInitFault fault.Memory = Unit {0}
 IsInitFault fault.Input = Unit {0}
+IsInitFault fault.Locked = Unit {0}
+IsInitFault fault.Missing = Unit {0}
+IsInitFault fault.Denied = Unit {0}
 IsInitFault e = ⊥

@@ -27,12 +27,27 @@ pub enum ServeFault {
     /// A file or standard input can't be read.
     #[error("I1 file")]
     Input,
-    /// Nothing can be bound to the port.
+    /// Nothing listens on the port, or too many connections in a row couldn't be accepted.
     #[error("I2 socket")]
     Socket,
     /// The output can't be written whole.
     #[error("I3 output")]
     Output,
+    /// Another process has the file of the office open.
+    #[error("K4 in use")]
+    Locked,
+    /// Nothing is at the name.
+    #[error("K5 not there")]
+    Missing,
+    /// The file, its log or their folder may not be written.
+    #[error("K6 not writable")]
+    Denied,
+    /// Another program listens on the port.
+    #[error("I4 port in use")]
+    PortTaken,
+    /// The port may not be opened.
+    #[error("I5 port denied")]
+    PortDenied,
 }
 
 impl ServeFault {
@@ -52,6 +67,11 @@ impl ServeFault {
             ServeFault::Input => "I1 file",
             ServeFault::Socket => "I2 socket",
             ServeFault::Output => "I3 output",
+            ServeFault::Locked => "K4 in use",
+            ServeFault::Missing => "K5 not there",
+            ServeFault::Denied => "K6 not writable",
+            ServeFault::PortTaken => "I4 port in use",
+            ServeFault::PortDenied => "I5 port denied",
         }
     }
 }

@@ -1,6 +1,6 @@
 //! The commands on files, and on a port.
 
-ghost use Rattle.std.specs.Prelude.{◌≡◌, ◌≢◌, ◌⊎◌, ◌+◌, ◌≤◌, length, IfOk, IfErr, IsErrOf, OnOk};
+ghost use Rattle.std.specs.Prelude.{◌≡◌, ◌⊎◌, ◌+◌, ◌≤◌, length, IfOk, IfErr, IsErrOf, OnOk};
 ghost use Rattle.sqlite.specs.Held.{IsNew};
 ghost use Rattle.plan_psplib.specs.Devices.{most_calls, HasFailed};
 ghost use Rattle.plan_store.specs.declared.fault.StoreFault.TheVariants.{NoMemory, Store};
@@ -8,12 +8,12 @@ ghost use Rattle.plan_serve.specs.InitRun.{IsInitFault};
 ghost use Rattle.plan_serve.specs.ReplayRun.{AreAnswered, AreAnsweredInPart};
 ghost use Rattle.plan_serve.specs.Serve.{IsServeFault};
 
-use crate::fault::{ServeFault, told};
-use crate::init::{Place, init_run};
-use crate::replay::replay_run;
+use crate::fault::ServeFault;
+use crate::init::Place;
+use crate::keeping::{Ended, init_at, replay_opened, serve_opened};
+use crate::looking::{look, refusal};
 use crate::requests::read_connection;
-use crate::socket::serve_listener;
-use plan_desk::{Book, Office};
+use crate::service::Service;
 use plan_psplib::{Sink, StdSource};
 use plan_store::{SqlBook, StoreFault};
 use sqlite::{Connection, Error, ErrorCode, Unknown};
@@ -22,10 +22,6 @@ use sqlite_store::FileStore;
 use std::alloc::Global;
 use std::fs;
 use std::io::{self, ErrorKind};
-use std::net::{Ipv4Addr, TcpListener};
-
-// The tables of an office in a file.
-type FileBook = SqlBook<FileStore<File>>;
 
 // A database in a file, by its name.
 #[derive(Drop)]
@@ -51,12 +47,16 @@ impl<'a> Place for InFile<'a> {
     }
 }
 
-// Closes the files of a book, with its log copied into the database. Where that fails the log stays
-// beside it, and nothing is lost.
-fn close(book: Option<FileBook>) {
-    if let Some(book) = book {
-        let _ = book.into_connection().close();
+// The outcome of a command, once the database that is open is closed, with its log copied into it. Where
+// that fails the log stays beside it, and nothing is lost.
+fn closed(ended: Ended<FileStore<File>>) -> Result<(), ServeFault>
+    ensures { result ≡ ended.0 }
+{
+    let (done, conn) = ended;
+    if let Some(conn) = conn {
+        let _ = conn.close();
     }
+    done
 }
 
 // Why a file can't be opened.
@@ -71,27 +71,13 @@ fn open_fault(error: &io::Error) -> ServeFault
 
 /// `plan init`: makes the tables of an office in the file of this name, by the key that is the first
 /// line of standard input.
-#[tactic(auto, using(crate::proofs::InitLemmas::init_faults))]
 pub fn init_on_file(rt: &HostRuntime, path: &str) -> Result<(), ServeFault>
     ensures { IfErr result IsInitFault }
 {
     let mut input = StdSource::new(rt.reader());
-    match init_run(rt.alloc(), &mut input, InFile { rt, path }) {
-        Ok(book) => close(Some(book)),
-        Err((fault, _)) => return Err(fault),
-    }
-    Ok(())
-}
-
-// The tables of the office in the file of this name.
-#[tactic(auto, using(crate::proofs::ServeLemmas::serves_not, crate::proofs::ServeLemmas::not_output))]
-fn open_book(rt: &HostRuntime, path: &str) -> Result<FileBook, ServeFault>
-    ensures which { IfErr result IsServeFault }
-    ensures silent { IfErr result (λ e. e ≢ ServeFault.Output) }
-{
-    match SqlBook::open_from(rt, path, Unknown) {
-        Ok(book) => Ok(book),
-        Err((fault, _)) => Err(told(fault)),
+    match closed(init_at(rt.alloc(), &mut input, InFile { rt, path })) {
+        Err(ServeFault::Store) => Err(refusal(rt, path, Unknown)),
+        done => done,
     }
 }
 
@@ -129,28 +115,29 @@ fn read_all(rt: &HostRuntime, paths: &[&str]) -> Result<Vec<Vec<u8>>, ServeFault
     Ok(conns)
 }
 
-// Serves connections by an office over a book, and writes the responses. The book comes back, unless
-// memory runs out before the first.
-fn replay_over<B: Book + Drop, W: Sink>(
-    alloc: Global,
-    book: B,
+// Serves connections by the office in the file of this name, and writes the responses.
+fn replay_at<W: Sink>(
+    rt: &HostRuntime,
+    path: &str,
     conns: &[Vec<u8>],
     writer: &mut W,
-) -> (Result<(), ServeFault>, Option<B>)
-    ensures ok { OnOk result.0 (AreAnswered (length conns.now) (W.taken writer.old) (W.taken writer.new)) }
-    ensures part { IsErrOf result.0 ServeFault.Output → AreAnsweredInPart (length conns.now) (W.taken writer.old) (W.taken writer.new) }
+) -> Result<(), ServeFault>
+    ensures ok { OnOk result (AreAnswered (length conns.now) (W.taken writer.old) (W.taken writer.new)) }
+    ensures part { IsErrOf result ServeFault.Output → AreAnsweredInPart (length conns.now) (W.taken writer.old) (W.taken writer.new) }
     ensures writes { W.calls writer.new ≤ W.calls writer.old + most_calls }
-    ensures quiet { IfErr result.0 (λ e. (e ≡ ServeFault.Output) ⊎ (writer.new ≡ writer.old)) }
-    ensures fine { OnOk result.0 (W.faults writer.new ≡ W.faults writer.old) }
-    ensures output { IsErrOf result.0 ServeFault.Output →
+    ensures quiet { IfErr result (λ e. (e ≡ ServeFault.Output) ⊎ (writer.new ≡ writer.old)) }
+    ensures fine { OnOk result (W.faults writer.new ≡ W.faults writer.old) }
+    ensures output { IsErrOf result ServeFault.Output →
         HasFailed (W.calls writer.old) (W.calls writer.new) (W.faults writer.old) (W.faults writer.new) }
 {
-    let mut office = match Office::new(alloc, book) {
-        Ok(office) => office,
-        Err(_) => return (Err(ServeFault::Memory), None),
-    };
-    let done = replay_run(alloc, &mut office, conns, writer);
-    (done, Some(office.into_book()))
+    if let Err(fault) = look(rt, path) {
+        return Err(fault);
+    }
+    let opened = SqlBook::open_from(rt, path, Unknown);
+    match closed(replay_opened(rt.alloc(), opened, conns, writer)) {
+        Err(ServeFault::Store) => Err(refusal(rt, path, Unknown)),
+        done => done,
+    }
 }
 
 /// `plan replay`: serves the connections whose bytes are in files, by the office in the file of this
@@ -175,70 +162,21 @@ pub fn replay_on_files<W: Sink>(
         Ok(conns) => conns,
         Err(fault) => return Err(fault),
     };
-    let book = match open_book(rt, path) {
-        Ok(book) => book,
-        Err(fault) => return Err(fault),
-    };
-    let (done, book) = replay_over(rt.alloc(), book, &conns, writer);
-    close(book);
-    done
+    replay_at(rt, path, &conns, writer)
 }
 
-// Why nothing can be bound to a port.
-fn bind_fault(error: &io::Error) -> ServeFault
-    ensures { IsServeFault result }
-{
-    if error.kind() == ErrorKind::OutOfMemory {
-        return ServeFault::Memory;
-    }
-    ServeFault::Socket
-}
-
-// Serves so many connections on a port of this machine alone, by an office.
-fn serve_by<B: Book>(
-    rt: &HostRuntime,
-    office: &mut Office<B>,
-    port: u16,
-    count: u32,
-) -> Result<(), ServeFault>
+/// `plan serve`: serves so many connections on a port of this machine alone, by the office in a file.
+/// The office is opened before the port.
+pub fn serve_on_port(rt: &HostRuntime, service: &Service<'_>) -> Result<(), ServeFault>
     ensures { IfErr result IsServeFault }
 {
-    match TcpListener::bind(rt, (Ipv4Addr::LOCALHOST, port)) {
-        Ok(listener) => match serve_listener(rt, office, &listener, count) {
-            Ok(()) => Ok(()),
-            Err(_) => Err(ServeFault::Memory),
-        },
-        Err(error) => Err(bind_fault(&error)),
+    let path = service.database;
+    if let Err(fault) = look(rt, path) {
+        return Err(fault);
     }
-}
-
-// The same by an office over a book, which comes back, unless memory runs out before the port is bound.
-fn serve_over<B: Book + Drop>(
-    rt: &HostRuntime,
-    book: B,
-    port: u16,
-    count: u32,
-) -> (Result<(), ServeFault>, Option<B>)
-    ensures { IfErr result.0 IsServeFault }
-{
-    let mut office = match Office::new(rt.alloc(), book) {
-        Ok(office) => office,
-        Err(_) => return (Err(ServeFault::Memory), None),
-    };
-    let done = serve_by(rt, &mut office, port, count);
-    (done, Some(office.into_book()))
-}
-
-/// `plan serve`: serves so many connections on a port of this machine alone, by the office in the
-/// file of this name. The office is opened before the port.
-pub fn serve_on_port(rt: &HostRuntime, path: &str, port: u16, count: u32) -> Result<(), ServeFault>
-    ensures { IfErr result IsServeFault }
-{
-    let book = match open_book(rt, path) {
-        Ok(book) => book,
-        Err(fault) => return Err(fault),
-    };
-    let (done, book) = serve_over(rt, book, port, count);
-    close(book);
-    done
+    let opened = SqlBook::open_from(rt, path, Unknown);
+    match closed(serve_opened(rt, opened, service)) {
+        Err(ServeFault::Store) => Err(refusal(rt, path, Unknown)),
+        done => done,
+    }
 }

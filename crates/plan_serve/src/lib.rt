@@ -4,11 +4,16 @@
 
 mod fault;
 mod files;
+mod first_line;
 mod init;
+mod keeping;
 mod key;
+mod log;
+mod looking;
 mod replay;
 mod requests;
 mod room;
+mod service;
 mod side;
 mod socket;
 mod visitors;
@@ -19,6 +24,7 @@ pub use init::{Place, init_run};
 pub use key::read_key;
 pub use replay::replay_run;
 pub use requests::read_connection;
+pub use service::Service;
 pub use side::Side;
 pub use socket::serve_listener;
 pub use visitors::{Visitors, serve_visitors};

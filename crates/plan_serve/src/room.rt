@@ -1,7 +1,5 @@
 //! A waiting room: connections that were accepted, until something comes of them.
 
-ghost use Rattle.std.specs.Prelude.{◌≡◌};
-
 use std::alloc::{AllocError, Global};
 use std::io::{self, ErrorKind};
 use std::net::TcpStream;

@@ -1,15 +1,14 @@
 //! The two sides of a connection of a socket, and how long each may take.
 
-ghost use Rattle.std.specs.Prelude.{◌≡◌, IfOk};
+ghost use Rattle.std.specs.Prelude.{◌≡◌, ◌*◌, ◌≤◌, IfOk};
+ghost use Rattle.std.specs.Duration.{as_nanos};
 ghost use Rattle.std.specs.Io.{ReadsAtMost, WritesAtMost};
 
+use crate::first_line::FirstLine;
 use plan_psplib::{DeviceFault, Sink, Source, Tally};
 use std::io::{self, ErrorKind, Read, Write};
 use std::net::{Shutdown, TcpStream};
 use std::time::{Duration, Instant};
-
-// How long a client may take to send its request, and as long to receive its response, in seconds.
-const PATIENCE: u64 = 2;
 
 // How long a client that was answered may keep silent before its connection is closed, and how long it
 // may go on sending, in seconds; and how often it is heard at most.
@@ -19,27 +18,33 @@ const LAST_PATIENCE: u64 = 5;
 
 const LAST_READS: u32 = 4096;
 
-// The least time that is set, in milliseconds: the system takes none for no limit.
-const LEAST: u64 = 1;
+// The least time that is set, in nanoseconds: the system takes none for no limit.
+const LEAST: u128 = 1_000_000;
 
-// The time of one side, which begins with its first call.
+// The time of one side, so many seconds, which begin with its first call.
 #[derive(Drop)]
 struct Timer<'a> {
     rt: &'a HostRuntime,
+    patience: u32,
     start: Option<Instant>,
 }
 
 impl<'a> Timer<'a> {
-    // What is left of its time.
-    fn left(&mut self) -> io::Result<Duration> {
+    // What is left of its time; less than a millisecond is none.
+    fn left(&mut self) -> io::Result<Duration>
+        ensures within { IfOk result (λ left. as_nanos left ≤ self.old.patience * 1_000_000_000) }
+        ensures some { IfOk result (λ left. 1_000_000 ≤ as_nanos left) }
+        ensures same { self.new.patience ≡ self.old.patience }
+    {
         let now = Instant::now(self.rt)?;
         let start = self.start.unwrap_or(now);
         self.start = Some(start);
-        let left = Duration::from_secs(PATIENCE).saturating_sub(now.duration_since(start));
-        if left.is_zero() {
+        let patience = Duration::from_secs(u64::from(self.patience));
+        let left = patience.saturating_sub(now.duration_since(start));
+        if left.as_nanos() < LEAST {
             return Err(io::Error::from(ErrorKind::TimedOut));
         }
-        Ok(left.max(Duration::from_millis(LEAST)))
+        Ok(left)
     }
 }
 
@@ -49,6 +54,8 @@ pub struct Side<'a> {
     stream: TcpStream,
     timer: Timer<'a>,
     tally: Tally,
+    bytes: u64,
+    line: FirstLine,
 }
 
 // Reads what comes in time.
@@ -82,6 +89,10 @@ impl<'a> Source for Side<'a> {
 
     fn read(&mut self, buf: &mut [u8]) -> Result<usize, DeviceFault> {
         let read = read_in_time(&mut self.timer, &self.stream, buf);
+        if let Ok(count) = read {
+            self.bytes = self.bytes.saturating_add(count as u64);
+            self.line.hear(&buf[..count]);
+        }
         self.tally.count(read)
     }
 }
@@ -97,30 +108,66 @@ impl<'a> Sink for Side<'a> {
 
     fn write(&mut self, bytes: &[u8]) -> Result<usize, DeviceFault> {
         let written = write_in_time(&mut self.timer, &self.stream, bytes);
+        if let Ok(count) = written {
+            self.bytes = self.bytes.saturating_add(count as u64);
+        }
         self.tally.count(written)
     }
 }
 
-fn side_of(rt: &HostRuntime, stream: TcpStream) -> Side<'_>
-    ensures { result.tally.calls ≡ 0 }
+fn side_of(rt: &HostRuntime, stream: TcpStream, patience: u32) -> Side<'_>
+    ensures untouched { result.tally.calls ≡ 0 }
+    ensures timed { result.timer.patience ≡ patience }
 {
     Side {
         stream,
-        timer: Timer { rt, start: None },
+        timer: Timer {
+            rt,
+            patience,
+            start: None,
+        },
         tally: Tally::new(),
+        bytes: 0,
+        line: FirstLine::new(),
     }
 }
 
-// The two sides of a connection, neither of which was called yet.
-pub(crate) fn both_sides(rt: &HostRuntime, stream: TcpStream) -> io::Result<(Side<'_>, Side<'_>)>
-    ensures { IfOk result (λ sides. (sides.0.tally.calls ≡ 0) × (sides.1.tally.calls ≡ 0)) }
+// The two sides of a connection, neither of which was called yet, and each with so many seconds.
+pub(crate) fn both_sides(
+    rt: &HostRuntime,
+    stream: TcpStream,
+    patience: u32,
+) -> io::Result<(Side<'_>, Side<'_>)>
+    ensures untouched { IfOk result (λ sides. (sides.0.tally.calls ≡ 0) × (sides.1.tally.calls ≡ 0)) }
+    ensures timed { IfOk result (λ sides. (sides.0.timer.patience ≡ patience) × (sides.1.timer.patience ≡ patience)) }
 {
     stream.set_nonblocking(false)?;
     let writer = stream.try_clone()?;
-    Ok((side_of(rt, stream), side_of(rt, writer)))
+    Ok((side_of(rt, stream, patience), side_of(rt, writer, patience)))
 }
 
 impl<'a> Side<'a> {
+    // How many bytes were read or written.
+    pub(crate) fn bytes(&self) -> u64 {
+        self.bytes
+    }
+
+    // The first line of those that were read.
+    pub(crate) fn line(&self) -> &FirstLine {
+        &self.line
+    }
+
+    // The milliseconds since its first call.
+    pub(crate) fn milliseconds(&self) -> u128 {
+        let Some(start) = self.timer.start else {
+            return 0;
+        };
+        match start.elapsed(self.timer.rt) {
+            Ok(time) => time.as_millis(),
+            Err(_) => 0,
+        }
+    }
+
     // Tells a client that nothing more comes, and reads what it goes on sending, for a while: a
     // connection that is closed with bytes unread would take the response away from it.
     pub(crate) fn hear_out(&self) -> io::Result<()> {

@@ -1,12 +1,14 @@
 //! Connections of a socket.
 
-ghost use Rattle.std.specs.Prelude.{◌≡◌, ◌≤◌, List, length, IfOk, OnOk, OnErr, IfErr};
+ghost use Rattle.std.specs.Prelude.{◌≡◌, ◌⊎◌, ◌↔◌, ◌+◌, ◌≤◌, List, length, IsTrue, IfOk, OnOk, IsErrOf, IfErr};
 ghost use Rattle.plan_http.specs.Answers.{Decision};
 ghost use Rattle.plan_serve.specs.Serve.{MovedBy};
 ghost use Rattle.plan_serve.specs.Turns.{Turn, AreTurns};
 
 use crate::fault::ServeFault;
+use crate::log::Log;
 use crate::room::Room;
+use crate::service::Service;
 use crate::side::{Side, both_sides};
 use crate::visitors::{Visitors, serve_visitors};
 use plan_desk::{Book, Office};
@@ -17,7 +19,7 @@ use std::net::{TcpListener, TcpStream};
 use std::thread;
 use std::time::Duration;
 
-// How often in a row no connection can be accepted before that counts as one.
+// How often in a row no connection can be accepted before none is awaited any more.
 const MOST_FAILURES: u32 = 100;
 
 // The pause after the first of these, in milliseconds, and how often it is doubled at most.
@@ -35,7 +37,7 @@ enum Seen {
     Nobody,
 }
 
-// Where connections come in and wait.
+// Where connections come in and wait; and how often in a row none could be accepted.
 #[derive(Drop)]
 struct Door<'a> {
     rt: &'a HostRuntime,
@@ -55,16 +57,24 @@ impl<'a> Door<'a> {
         }
     }
 
-    // Pauses after a failure, longer after each in a row; in the end it counts.
-    fn pause(&mut self) -> Seen {
+    // Whether none was accepted so often that the door is closed.
+    fn is_closed(&self) -> bool
+        ensures { IsTrue result ↔ (MOST_FAILURES ≤ self.now.failures) }
+    {
+        self.failures >= MOST_FAILURES
+    }
+
+    // Pauses after a failure, longer after each in a row; after the last the door is closed.
+    fn pause(&mut self) -> Seen
+        ensures counted { self.new.failures ≤ self.old.failures + 1 }
+    {
         let pause = PAUSE << self.failures.min(MOST_DOUBLINGS);
         thread::sleep(self.rt, Duration::from_millis(pause));
         self.failures = self.failures.saturating_add(1);
-        if self.failures < MOST_FAILURES {
-            return Seen::Nobody;
+        if self.is_closed() {
+            return Seen::Lost;
         }
-        self.failures = 0;
-        Seen::Lost
+        Seen::Nobody
     }
 
     // Takes in one that came.
@@ -108,19 +118,22 @@ impl<'a> Door<'a> {
         Err(io::Error::from(ErrorKind::TimedOut))
     }
 
-    // Its two sides.
-    fn next_sides(&mut self) -> io::Result<(Side<'a>, Side<'a>)>
-        ensures { IfOk result (λ sides. (sides.0.tally.calls ≡ 0) × (sides.1.tally.calls ≡ 0)) }
+    // Its two sides, each with so many seconds.
+    fn next_sides(&mut self, patience: u32) -> io::Result<(Side<'a>, Side<'a>)>
+        ensures untouched { IfOk result (λ sides. (sides.0.tally.calls ≡ 0) × (sides.1.tally.calls ≡ 0)) }
+        ensures timed { IfOk result (λ sides. (sides.0.timer.patience ≡ patience) × (sides.1.timer.patience ≡ patience)) }
     {
         let stream = self.next_stream()?;
-        both_sides(self.rt, stream)
+        both_sides(self.rt, stream, patience)
     }
 }
 
-// The connections that come to a socket.
+// The connections that come to a socket, and how many seconds each side of one has in its turn.
 #[derive(Drop)]
 struct Callers<'a> {
     door: Door<'a>,
+    patience: u32,
+    log: Log<'a>,
     tally: Tally,
     ended: Tally,
 }
@@ -130,49 +143,64 @@ impl<'a> Visitors for Callers<'a> {
 
     type Writer = Side<'a>;
 
-    ghost use Rattle.std.specs.Prelude.{◌≡◌, ◌+◌};
+    ghost use Rattle.std.specs.Prelude.{◌≡◌, ◌≤◌, ◌+◌, IfOk};
+    ghost use Rattle.plan_serve.specs.declared.socket.TheConstants.{MOST_FAILURES};
     ghost use Rattle.plan_psplib.specs.Devices.{IsCounted};
 
     ghost awaited = { λ callers. callers.tally.calls };
 
     ghost missed = { λ callers. callers.tally.faults };
 
-    // A connection is awaited, and none is ended.
-    ghost admits = { λ old new result. IsCounted old.tally.calls new.tally.calls old.tally.faults new.tally.faults result × (new.ended.calls ≡ old.ended.calls) };
+    // So often in a row none could be accepted.
+    ghost closed = { λ callers. MOST_FAILURES ≤ callers.door.failures };
+
+    // A connection is awaited, and none is ended. One that comes has the same seconds as all.
+    ghost admits = { λ old new result. IsCounted old.tally.calls new.tally.calls old.tally.faults new.tally.faults result × (new.ended.calls ≡ old.ended.calls)
+        × (new.patience ≡ old.patience) × IfOk result (λ sides. (sides.0.timer.patience ≡ old.patience) × (sides.1.timer.patience ≡ old.patience)) };
 
     // One is ended, and none is awaited.
-    ghost dismisses = { λ old new _ _ _. (new.tally.calls ≡ old.tally.calls) × (new.ended.calls ≡ old.ended.calls + 1) };
+    ghost dismisses = { λ old new _ _ _. (new.tally.calls ≡ old.tally.calls) × (new.ended.calls ≡ old.ended.calls + 1) × (new.patience ≡ old.patience) };
 
     fn admit(&mut self) -> Result<(Side<'a>, Side<'a>), DeviceFault> {
-        let sides = self.door.next_sides();
+        let sides = self.door.next_sides(self.patience);
         self.tally.count(sides)
     }
 
-    fn dismiss(&mut self, reader: Side<'a>, _writer: Side<'a>, end: ConnEnd) {
+    fn dismiss(&mut self, reader: Side<'a>, writer: Side<'a>, end: ConnEnd) {
+        self.log.tell(&reader, &writer, end);
         let heard = match end {
             ConnEnd::Replied(_) => reader.hear_out(),
             _ => Ok(()),
         };
         let _ended = self.ended.count(heard);
     }
+
+    fn is_closed(&self) -> bool {
+        self.door.is_closed()
+    }
 }
 
 /// Serves so many connections of a socket, one after another: of those that are there the oldest of
-/// whom something has come. One that can't be accepted, is sent away or fails counts too, and ends
-/// alone.
+/// whom something has come. One that is sent away or fails counts too, and ends alone. Each has the service's seconds for its request in its turn, and as many for its response.
 pub fn serve_listener<B: Book>(
     rt: &HostRuntime,
     office: &mut Office<B>,
     listener: &TcpListener,
-    count: u32,
+    service: &Service<'_>,
 ) -> Result<(), ServeFault>
-    ensures turns { OnOk result ((turns : List Turn) × (length turns ≡ count) × AreTurns B.shelf office.old turns office.new) }
-    ensures moves { OnOk result ((decisions : List Decision) × (length decisions ≤ count) × MovedBy B.shelf office.old decisions office.new) }
-    // Memory may run out before the first.
-    ensures memory { OnErr result (office.new ≡ office.old) }
-    ensures which { IfErr result (λ e. e ≡ ServeFault.Memory) }
+    ensures turns { OnOk result ((turns : List Turn) × (length turns ≡ service.now.count) × AreTurns B.shelf office.old turns office.new) }
+    ensures moves { OnOk result ((decisions : List Decision) × (length decisions ≤ service.now.count) × MovedBy B.shelf office.old decisions office.new) }
+    // It ends before for one of two causes. Memory may run out before the first;
+    ensures memory { IsErrOf result ServeFault.Memory → office.new ≡ office.old }
+    // or, after some turns, none could be accepted a hundred times in a row.
+    ensures closed { IsErrOf result ServeFault.Socket
+        → (turns : List Turn) × (length turns ≤ service.now.count) × AreTurns B.shelf office.old turns office.new }
+    ensures which { IfErr result (λ e. (e ≡ ServeFault.Memory) ⊎ (e ≡ ServeFault.Socket)) }
 {
     let Ok(room) = Room::new(rt.alloc()) else {
+        return Err(ServeFault::Memory);
+    };
+    let Ok(log) = Log::new(rt, service.is_logged) else {
         return Err(ServeFault::Memory);
     };
     let mut callers = Callers {
@@ -182,8 +210,10 @@ pub fn serve_listener<B: Book>(
             room,
             failures: 0,
         },
+        patience: service.patience,
+        log,
         tally: Tally::new(),
         ended: Tally::new(),
     };
-    serve_visitors(rt.alloc(), office, &mut callers, count)
+    serve_visitors(rt.alloc(), office, &mut callers, service.count)
 }

@@ -1,13 +1,13 @@
 //! Connections that come from anywhere, one after another.
 
-ghost use Rattle.std.specs.Prelude.{◌≡◌, ◌+◌, ◌≤◌, ℕ, List, length, Option, Result, IfOk, OnOk, OnErr, IfErr};
+ghost use Rattle.std.specs.Prelude.{◌≡◌, ◌⊎◌, ◌↔◌, ◌+◌, ◌≤◌, ℕ, List, length, Option, Result, IsTrue, IfOk, OnOk, IsErrOf, IfErr};
 ghost use Rattle.plan_rows.specs.World.{World};
 ghost use Rattle.plan_psplib.specs.Devices.{IsCounted};
 ghost use Rattle.plan_psplib.specs.declared.devices.DeviceFault.{DeviceFault};
 ghost use Rattle.plan_http.specs.declared.serving.ConnEnd.{ConnEnd};
 ghost use Rattle.plan_http.specs.Answers.{Decision};
 ghost use Rattle.plan_serve.specs.Serve.{MovedBy};
-ghost use Rattle.plan_serve.specs.Turns.{Turn, IsTurn, AreTurns, IsVisited, LeavesTurn, LeavesTurns, Visiting};
+ghost use Rattle.plan_serve.specs.Turns.{Turn, IsTurn, AreTurns, IsVisited, LeavesTurn, Visiting};
 
 use crate::fault::ServeFault;
 use plan_desk::{Book, Office};
@@ -27,6 +27,9 @@ pub trait Visitors {
     /// How many of these came to none.
     ghost missed: { Self → ℕ };
 
+    /// That no more will come.
+    ghost closed: { Self → Type 0 };
+
     /// What awaiting a connection may come to.
     ghost admits: { Self → Self → Result (Self.Reader × Self.Writer) DeviceFault → Type 0 };
 
@@ -43,6 +46,10 @@ pub trait Visitors {
     fn dismiss(&mut self, reader: Self::Reader, writer: Self::Writer, end: ConnEnd)
         ensures same { (awaited self.new ≡ awaited self.old) × (missed self.new ≡ missed self.old) }
         ensures dismissed { dismisses self.old self.new reader writer end };
+
+    /// Whether no more will come.
+    fn is_closed(&self) -> bool
+        ensures { IsTrue result ↔ closed self.now };
 }
 
 // The turn of the next connection.
@@ -67,7 +74,7 @@ fn serve_next<B: Book, V: Visitors>(
 }
 
 /// Serves so many connections, one after another. One that doesn't come, or fails, counts too, and
-/// ends alone.
+/// ends alone. Where no more will come it ends before.
 pub fn serve_visitors<B: Book, V: Visitors>(
     alloc: Global,
     office: &mut Office<B>,
@@ -80,15 +87,23 @@ pub fn serve_visitors<B: Book, V: Visitors>(
     // So, of the office alone:
     ensures turns { OnOk result ((turns : List Turn) × (length turns ≡ count) × AreTurns B.shelf office.old turns office.new) }
     ensures moves { OnOk result ((decisions : List Decision) × (length decisions ≤ count) × MovedBy B.shelf office.old decisions office.new) }
-    // Memory may run out before the first.
-    ensures memory { OnErr result ((office.new ≡ office.old) × (visitors.new ≡ visitors.old)) }
-    ensures which { IfErr result (λ e. e ≡ ServeFault.Memory) }
+    // It ends before for one of two causes. Memory may run out before the first;
+    ensures memory { IsErrOf result ServeFault.Memory → (office.new ≡ office.old) × (visitors.new ≡ visitors.old) }
+    // or no more will come, after some turns.
+    ensures closed { IsErrOf result ServeFault.Socket → V.closed visitors.new
+        × (n : ℕ) × (n ≤ count) × (V.awaited visitors.new ≡ V.awaited visitors.old + n)
+        × Visiting V.Reader.remaining V.Writer.taken V.admits V.dismisses
+        B.shelf office.old office.new visitors.old visitors.new n }
+    ensures which { IfErr result (λ e. (e ≡ ServeFault.Memory) ⊎ (e ≡ ServeFault.Socket)) }
 {
     let Ok(routes) = Routes::new(alloc) else {
         return Err(ServeFault::Memory);
     };
     for _ in 0..count {
         serve_next(alloc, &routes, office, visitors);
+        if visitors.is_closed() {
+            return Err(ServeFault::Socket);
+        }
     }
     Ok(())
 }

@@ -1,13 +1,13 @@
 //! Connections that fail among such that don't.
 
-ghost use Rattle.std.specs.Prelude.{◌≡◌, ◌+◌, IfOk};
+ghost use Rattle.std.specs.Prelude.{◌≡◌, ◌+◌, ◌≤◌, IfOk};
 
 use crate::devices::{Drip, Narrow};
 use crate::office::{LISTED, LISTING, OPENING, office};
 use plan_desk::{Book, Office};
 use plan_http::ConnEnd;
 use plan_psplib::{DeviceFault, Sink, Source, Tally};
-use plan_serve::{Visitors, serve_visitors};
+use plan_serve::{ServeFault, Visitors, serve_visitors};
 use std::alloc::Global;
 use std::process::Abort;
 use std::test::Fail;
@@ -54,6 +54,8 @@ impl Visitors for Queue {
 
     ghost missed = { λ queue. queue.tally.faults };
 
+    ghost closed = { λ queue. 7 ≤ queue.turn };
+
     ghost admits = { λ old new _. new.tally.calls ≡ old.tally.calls + 1 };
 
     ghost dismisses = { λ old new _ _ _. new.tally.calls ≡ old.tally.calls };
@@ -69,6 +71,10 @@ impl Visitors for Queue {
         if let Some(place) = self.ends.get_mut(self.turn.saturating_sub(1)) {
             *place = Some(end);
         }
+    }
+
+    fn is_closed(&self) -> bool {
+        self.turn >= 7
     }
 }
 
@@ -98,6 +104,10 @@ fn expect_ends<B: Book>(
     assert!(rt; queue.ends == ENDS);
     let answers = format!(in alloc; "HTTP/1.1 2{EXISTS}{LISTED}")?;
     assert_eq!(rt; queue.answers.as_slice(), answers.as_bytes());
+    // Nobody comes after these, and after two more turns nobody will.
+    let done = serve_visitors(alloc, office, &mut queue, 5);
+    assert_eq!(rt; done, Err(ServeFault::Socket));
+    assert_eq!(rt; queue.turn, 7);
     Ok(())
 }
 

@@ -207,7 +207,7 @@ const EXCHANGES: [Exchange; 18] = [
 fn read(rt: &impl Abort, alloc: Global, routes: &Routes, conn: &str) -> Option<Request> {
     match read_request(alloc, routes, &mut MemSource::new(conn.as_bytes())) {
         Asked::Request(request) => Some(request),
-        Asked::NoMemory { .. } => None,
+        Asked::NoMemory => None,
         _ => panic!(rt; "no request: {conn}"),
     }
 }

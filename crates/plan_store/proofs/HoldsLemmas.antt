@@ -15,8 +15,8 @@ use Rattle.jiff_fmt.specs.Text.{year_text, pad2}
 use Rattle.plan_net.specs.Network.{Net, joins, count_of}
 use Rattle.plan_net.specs.Limits.{IsGoodArc}
 use Rattle.plan_psplib.specs.Project.{Project, SaysProject}
-use Rattle.plan_gantt.specs.CalendarText.{IsStartText, date_bytes, mark_digit}
-use Rattle.plan_gantt.proofs.TextLemmas.{natural_year}
+use Rattle.plan_calendar.specs.CalendarText.{IsStartText, date_bytes, mark_digit}
+use Rattle.plan_calendar.proofs.TextLemmas.{natural_year}
 use Rattle.plan_rows.specs.World.{Published, Desk, Plan, World, same_text, is_code, is_desk, is_plan, code_in, desk_in, plan_in}
 use Rattle.plan_rows.specs.Names.{is_name, is_name_byte, is_digest, begins_with, is_from_to}
 use Rattle.plan_rows.specs.Rules.{IsWorld, IsThereAnd, IsOwned, IsBindRow, IsLagRow, IsPlanRow, HasCalendar, is_published_row, is_desk_row}

@@ -1,18 +1,10 @@
 //! Words of small job shops.
 
-use plan_orlib::{ShopDoc, read_shop};
+use crate::shops::shop_of;
 use plan_shop::{Shop, ShopTree};
 use std::alloc::Global;
 use std::process::Abort;
 use std::test::Fail;
-
-// The shop of a text in the bare form.
-fn doc_of(rt: &impl Abort, alloc: Global, text: &str) -> ShopDoc {
-    match read_shop(alloc, text.as_bytes(), b"-") {
-        Ok(doc) => doc,
-        Err(_) => panic!(rt; "not read: {text}"),
-    }
-}
 
 // A shop, a word, the letters that may follow and the bound.
 const AT_WORDS: [(&str, &[u32], &[u32], u64); 8] = [
@@ -45,20 +37,30 @@ fn go_along(
     Ok(())
 }
 
+// The letters that may follow a word, the bound there, and whether the word is full.
+fn stand(
+    rt: &impl Abort,
+    alloc: Global,
+    shop: &Shop,
+    word: &[u32],
+) -> Result<(Vec<u32>, u64, bool), Fail> {
+    let mut tree = ShopTree::new(alloc, shop)?;
+    go_along(rt, alloc, &mut tree, word)?;
+    let mut letters = Vec::new(alloc);
+    tree.letters(&mut letters)?;
+    Ok((letters, tree.bound(), tree.full()))
+}
+
 #[test]
 fn stands_at_each_word(rt: HostRuntime) -> Result<(), Fail> {
     for (text, word, letters, bound) in AT_WORDS {
-        let doc = doc_of(&rt, rt.alloc(), text);
-        if doc.machines() == 2 {
-            let shop = Shop::of_doc(rt.alloc(), &doc, &[true, true])?;
-            let mut tree = ShopTree::new(rt.alloc(), &shop)?;
-            go_along(&rt, rt.alloc(), &mut tree, word)?;
-            let mut found = Vec::new(rt.alloc());
-            tree.letters(&mut found)?;
-            assert_eq!(rt; found.as_slice(), letters, "{text} at {word:?}");
-            assert_eq!(rt; tree.bound(), bound, "{text} at {word:?}");
-            assert_eq!(rt; tree.full(), letters.is_empty(), "{text} at {word:?}");
-        }
+        let Some(shop) = shop_of(&rt, rt.alloc(), text) else {
+            panic!(rt; "no memory");
+        };
+        let (found, at, full) = stand(&rt, rt.alloc(), &shop, word)?;
+        assert_eq!(rt; found.as_slice(), letters, "{text} at {word:?}");
+        assert_eq!(rt; at, bound, "{text} at {word:?}");
+        assert_eq!(rt; full, letters.is_empty(), "{text} at {word:?}");
     }
     Ok(())
 }

@@ -1,8 +1,8 @@
 //! What a memo answers where it is asked for projects that differ in one thing, and for a shop
 //! between them.
 
+use crate::shops::shop_of;
 use plan_exact::{ExactFault, Kind, Memo};
-use plan_orlib::read_shop;
 use plan_psplib::{ProjectDoc, read_sm};
 use plan_sgs::Instance;
 use plan_shop::Shop;
@@ -57,17 +57,8 @@ fn five(rt: &impl Abort, alloc: Global) -> ProjectDoc {
     }
 }
 
-// A shop of one step.
-fn step(rt: &impl Abort, alloc: Global) -> Shop {
-    let Ok(doc) = read_shop(alloc, b"1 1\n0 4\n", b"-") else {
-        panic!(rt; "the shop isn't read");
-    };
-    assert!(rt; doc.machines() == 1);
-    match Shop::of_doc(alloc, &doc, &[true]) {
-        Ok(shop) => shop,
-        Err(_) => panic!(rt; "the machine is closed"),
-    }
-}
+// A shop of two steps, of which the second takes no time.
+const TWO_STEPS: &str = "1 2\n0 4 1 0\n";
 
 #[test]
 fn keeps_an_answer_for_each_capacity_lag_and_budget(rt: HostRuntime) -> Result<(), Fail> {
@@ -109,7 +100,9 @@ fn keeps_answers_of_both_kinds(rt: HostRuntime) -> Result<(), Fail> {
     assert!(rt; project.avail().len() == 1);
     let caps = [2];
     let instance = Instance::of_project(&project, &caps)?;
-    let shop = step(&rt, rt.alloc());
+    let Some(shop) = shop_of(&rt, rt.alloc(), TWO_STEPS) else {
+        panic!(rt; "no memory");
+    };
     for kept in [1, 2] {
         assert_eq!(rt; project_kept(&mut memo, &instance)?, (2, kept));
         assert_eq!(rt; shop_kept(&mut memo, &shop)?, (4, 2));

@@ -20,4 +20,6 @@ mod serial;
 #[cfg(test)]
 mod shop_verdicts;
 #[cfg(test)]
+mod shops;
+#[cfg(test)]
 mod six;

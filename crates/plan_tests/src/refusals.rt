@@ -2,20 +2,20 @@
 //! (`refusals/run` refuses each in turn) the first may be want of memory, and then nothing is left of it: the second is the known one.
 
 use crate::kept_projects::FIVE;
+use crate::shops::shop_of;
 use plan_exact::{
     Branching, CountedProjectTree, CountedTree, ExactFault, Memo, search, solve_project, solve_shop,
 };
-use plan_orlib::{ShopDoc, read_shop};
 use plan_profile::Profile;
 use plan_psplib::{FileCode, FileFault, read_sm};
 use plan_sgs::{Instance, SgsFault};
-use plan_shop::{Shop, ShopFault, ShopRule, ShopTree, giffler};
+use plan_shop::{ShopFault, ShopRule, ShopTree, giffler};
 use std::alloc::Global;
 use std::process::Abort;
 use std::test::Fail;
 
 // Two orders on two machines.
-const PAIR: &[u8] = b"2 2\n0 4 1 1\n0 1 1 3\n";
+const PAIR: &str = "2 2\n0 4 1 1\n0 1 1 3\n";
 
 // An answer, or none for want of memory.
 fn of_file<T: Drop>(rt: &impl Abort, answer: Result<T, FileFault>) -> Option<T> {
@@ -58,10 +58,6 @@ fn settles<T: PartialEq + Drop>(first: Option<T>, second: Option<T>, known: T) -
     }
 }
 
-fn shop_doc(rt: &impl Abort, alloc: Global) -> Option<ShopDoc> {
-    of_file(rt, read_shop(alloc, PAIR, b"-"))
-}
-
 // What is in use of a capacity of 2 at two instants, where 1 of it is placed before instant 3.
 fn placed(rt: &impl Abort, alloc: Global) -> Option<(u64, u64, usize)> {
     let caps = Vec::from_array(alloc, [2]).ok()?;
@@ -82,15 +78,9 @@ fn profiles(rt: HostRuntime) -> Result<(), Fail> {
     Ok(())
 }
 
-fn shop(rt: &impl Abort, alloc: Global) -> Option<Shop> {
-    let doc = shop_doc(rt, alloc)?;
-    let usable = vec![in alloc; true; doc.machines() as usize].ok()?;
-    of_shop(rt, Shop::of_doc(alloc, &doc, &usable))
-}
-
 // The makespan by a rule, how many letters there are, and the bound behind the first.
 fn walked(rt: &impl Abort, alloc: Global) -> Option<(u64, usize, u64)> {
-    let shop = shop(rt, alloc)?;
+    let shop = shop_of(rt, alloc, PAIR)?;
     let by_rule = of_shop(rt, giffler(alloc, &shop, ShopRule::MostWorkRemaining))?;
     let mut tree = ShopTree::new(alloc, &shop).ok()?;
     let mut letters = Vec::new(alloc);
@@ -112,7 +102,7 @@ fn shops(rt: HostRuntime) -> Result<(), Fail> {
 
 // The least makespan by a search, by the solution of the shop, and by a memo of which a refusal leaves nothing.
 fn solved(rt: &impl Abort, alloc: Global) -> Option<(u64, u64, u64)> {
-    let shop = shop(rt, alloc)?;
+    let shop = shop_of(rt, alloc, PAIR)?;
     let mut tree = CountedTree::new(alloc, &shop).ok()?;
     let Ok(answer) = search(alloc, &mut tree, 8, 6) else {
         assert!(rt; !tree.full());

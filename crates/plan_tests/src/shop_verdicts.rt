@@ -2,11 +2,12 @@
 
 ghost use Rattle.std.specs.Prelude.{All, ◌≤◌};
 
-use plan_orlib::read_shop;
+use crate::shops::shop_of;
 use plan_profile::END;
 use plan_sgs::Verdict;
-use plan_shop::{Shop, check};
+use plan_shop::check;
 use std::alloc::Global;
+use std::process::Abort;
 use std::test::Fail;
 
 // Two jobs on two machines.
@@ -16,13 +17,8 @@ const PAIR: &str = "2 2\n0 4 1 1\n0 1 1 3\n";
 const AT_ONCE: &str = "2 2\n0 0 1 2\n0 1 1 0\n";
 
 // The verdict on these starts of a text's shop of two machines.
-fn verdict(alloc: Global, text: &str, starts: &[u64]) -> Option<Verdict> {
-    let doc = read_shop(alloc, text.as_bytes(), b"-").ok()?;
-    let usable = [true, true];
-    if doc.machines() as usize != usable.len() {
-        return None;
-    }
-    let shop = Shop::of_doc(alloc, &doc, &usable).ok()?;
+fn verdict(rt: &impl Abort, alloc: Global, text: &str, starts: &[u64]) -> Option<Verdict> {
+    let shop = shop_of(rt, alloc, text)?;
     if starts.len() != shop.jobs() as usize * shop.machines() as usize
         || !starts.iter().all(|t| *t <= END)
     {
@@ -48,7 +44,7 @@ fn names_what_is_wrong_first(rt: HostRuntime) -> Result<(), Fail> {
     ];
     for (text, starts, wanted) in cases {
         assert_eq!(rt;
-            verdict(rt.alloc(), text, &starts),
+            verdict(&rt, rt.alloc(), text, &starts),
             Some(wanted),
             "{text} at {starts:?}"
         );

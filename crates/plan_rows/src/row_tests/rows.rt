@@ -13,7 +13,7 @@ use crate::row_tests::files::{PlanFile, read_file};
 use crate::rows::CodeRow;
 use crate::tables::digests::known_digest;
 use crate::tables::{DeskRecord, PlanRecord};
-use plan_gantt::Calendar;
+use plan_calendar::Calendar;
 use std::alloc::{AllocError, Global};
 
 // The greatest capacity of a code.

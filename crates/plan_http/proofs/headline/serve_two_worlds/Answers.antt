@@ -1,16 +1,12 @@
-use Rattle.std.proofs.Common.{map, vec_items, ap}
-use Rattle.plan_http.proofs.HeadlineLemmas.{ran, told_alike}
+use Rattle.std.proofs.Common.{map, vec_items}
+use Rattle.plan_http.specs.Headline.{ApartRunsAreAlike}
+use Rattle.plan_http.proofs.HeadlineLemmas.{apart_runs_are_alike}
 use Rattle.plan_http.proofs.headline.serve_two_worlds.Goals as goal
 
-pub returns : goal.returns
-returns g c =
-    let first = ran g.A.Book.shelf c.args.first.now c.serve_run-whole.new.office (map vec_items c.args.conns.now) (map vec_items c.new-responses.result.items)
-    (map vec_items c.serve_run-whole.new.out.items) c.serve_run-whole.result (ap (map vec_items) c.new-responses.ensures.items) c.serve_run-whole.ensures.ok c.serve_run-whole.ensures.err in
-    let second = ran g.B.Book.shelf c.args.second.now c.serve_run-both.new.office (map vec_items c.args.others.now) (map vec_items c.new-answers.result.items)
-    (map vec_items c.serve_run-both.new.out.items) c.serve_run-both.result (ap (map vec_items) c.new-answers.ensures.items) c.serve_run-both.ensures.ok c.serve_run-both.ensures.err in
-    record {
-      headline = λ honest also stands standing desk agree.
-          told_alike g.A.Book.shelf g.B.Book.shelf c.args.first.now c.serve_run-whole.new.office c.args.second.now c.serve_run-both.new.office
-          (map vec_items c.args.conns.now) (map vec_items c.serve_run-whole.new.out.items) (map vec_items c.args.others.now) (map vec_items c.serve_run-both.new.out.items)
-          first second honest also (g.met.A.Book.whole c.args.first.now stands) (g.met.B.Book.whole c.args.second.now standing) desk agree;
-    }
+pub returns-clause-headline : goal.returns-clause-headline
+unfolding ApartRunsAreAlike
+returns-clause-headline g c honest also stands standing desk agree =
+    apart_runs_are_alike g.A.Book.shelf g.B.Book.shelf c.args.first.now c.make_run.new.office c.args.second.now c.make_run-2.new.office
+    (map vec_items c.args.conns.now) (map vec_items c.make_run.result.responses.items) (map vec_items c.args.others.now) (map vec_items c.make_run-2.result.responses.items) desk
+    (c.make_run.ensures.apart honest desk) (c.make_run-2.ensures.apart also desk)
+    (g.met.A.Book.whole c.args.first.now stands) (g.met.B.Book.whole c.args.second.now standing) agree

@@ -1,4 +1,4 @@
-use Rattle.std.proofs.Common.{None, ap, refl}
+use Rattle.std.proofs.Common.{None, false, ap, refl}
 use Rattle.std.specs.Option.{option_map}
 use Rattle.plan_desk.specs.Requests.{request_in}
 use Rattle.plan_desk.specs.Replies.{reply_of}
@@ -22,8 +22,8 @@ returns-in-Fails-clause-ends g c =
 pub returns-in-NoMemory-clause-ends : goal.returns-in-NoMemory-clause-ends
 returns-in-NoMemory-clause-ends g c =
     ends g.B.Book.shelf c.args.office.now c.args.office.now (g.R.Source.remaining c.args.reader.now) (g.W.Sink.taken c.args.writer.now) (g.W.Sink.taken c.answer-in-NoMemory.new.writer) c.answer-in-NoMemory.result
-    (starved c.in-NoMemory.is_head) _ c.in-NoMemory.ensures.asked refl
-    (ap (λ reply. record { reply = reply; allow = None; is_head = c.in-NoMemory.is_head }) c.no_memory.ensures) c.answer-in-NoMemory.ensures.responds
+    starved _ c.in-NoMemory.ensures.asked refl
+    (ap (λ reply. record { reply = reply; allow = None; is_head = false }) c.no_memory.ensures) c.answer-in-NoMemory.ensures.responds
 
 pub returns-in-Request-clause-crash : goal.returns-in-Request-clause-crash
 returns-in-Request-clause-crash g c honest left may =

@@ -11,7 +11,7 @@ returns-in-Some-None c = λ starts h.
     let g = c.args.graph.now in
     let limit = c.args.limit in
     let old = c.args.state.now in
-    let new : State = record { heads = c.args.state.now.heads; tails = c.args.state.now.tails; sides = c.take_side.new.sides } in
+    let new : State = record { heads = c.args.state.now.heads; tails = c.args.state.now.tails; sides = c.take_side.new.sides; last = c.args.state.now.last } in
     let p = c.index.result.now in
     let no : NotBefore g limit old p.second p.first = subst (λ (o : Option ℕ). IfNone o (NotBefore g limit old p.second p.first)) c.in-Some-None.is-1 c.room-back.ensures in
     let keeps : KeepsSide g starts p First = elim (other_side g starts c.args.place p c.requires c.index.ensures h.kept) [
@@ -25,7 +25,7 @@ returns-in-None-Some c = λ starts h.
     let g = c.args.graph.now in
     let limit = c.args.limit in
     let old = c.args.state.now in
-    let new : State = record { heads = c.args.state.now.heads; tails = c.args.state.now.tails; sides = c.take_side-in-None-Some.new.sides } in
+    let new : State = record { heads = c.args.state.now.heads; tails = c.args.state.now.tails; sides = c.take_side-in-None-Some.new.sides; last = c.args.state.now.last } in
     let p = c.index.result.now in
     let no : NotBefore g limit old p.first p.second = subst (λ (o : Option ℕ). IfNone o (NotBefore g limit old p.first p.second)) c.in-None-Some.is-0 c.room-forth.ensures in
     let keeps : KeepsSide g starts p Second = elim (other_side g starts c.args.place p c.requires c.index.ensures h.kept) [

@@ -10,7 +10,7 @@ returns-in_err-span c =
     let g = c.args.graph.now in
     let limit = c.args.limit in
     let old = c.args.state.now in
-    let new : State = record { heads = c.raise.new.list; tails = c.raise-2.new.list; sides = c.args.state.now.sides } in
+    let new : State = record { heads = c.raise.new.list; tails = c.raise-2.new.list; sides = c.args.state.now.sides; last = c.args.state.now.last } in
     let x = c.args.first in
     let y = c.args.second in
     let refuted : IsRefuted g limit new = subst (λ (o : Option ℕ). IfNone o (IsRefuted g limit new)) c.in_err-span.was c.span.ensures in
@@ -28,7 +28,7 @@ returns-in_err-span-2 c =
     let g = c.args.graph.now in
     let limit = c.args.limit in
     let old = c.args.state.now in
-    let new : State = record { heads = c.raise.new.list; tails = c.raise-2.new.list; sides = c.args.state.now.sides } in
+    let new : State = record { heads = c.raise.new.list; tails = c.raise-2.new.list; sides = c.args.state.now.sides; last = c.args.state.now.last } in
     let x = c.args.first in
     let y = c.args.second in
     let refuted : IsRefuted g limit new = subst (λ (o : Option ℕ). IfNone o (IsRefuted g limit new)) c.in_err-span-2.was c.span-2.ensures in

@@ -18,5 +18,6 @@ returns-then-full c =
     let whole : IsActiveSchedule t.shop schedule = record {
       active = active;
       makespan_is = c.in_ok-schedule.ensures.makespan ∙ ap (makespan (problem_of t.shop)) (sym c.in_ok-schedule.ensures.starts);
+      within = c.in_ok-schedule.ensures.within;
     } in
     subst (λ (s : JobShop). IsActiveSchedule s schedule) c.loop-turn.invariant whole

@@ -1,4 +1,4 @@
-use Rattle.std.proofs.Common.{ℕ, arith, subst}
+use Rattle.std.proofs.Common.{ℕ, ◌+◌, arith, rules, subst}
 use Rattle.plan_serve.specs.Turns.{Visiting}
 use Rattle.plan_serve.proofs.TurnLemmas.{unvisited, visiting_more, visiting_moves}
 use Rattle.plan_serve.proofs.visitors.serve_visitors.Goals as goal
@@ -34,3 +34,14 @@ returns-clause-moves g c =
     let m = visiting_moves g.V.Reader.Source.remaining g.V.Writer.Sink.taken g.V.Visitors.admits g.V.Visitors.dismisses
     g.B.Book.shelf c.args.office.now c.loop.office c.args.visitors.now c.loop.visitors c.loop.counter c.loop.invariant.visits in
     (m.0, omega (arith, m.1, c.loop.auto.counter-end), m.2)
+
+pub returns-then-is_closed-clause-closed : goal.returns-then-is_closed-clause-closed
+returns-then-is_closed-clause-closed g c e = (
+  search rules,
+  c.loop.counter + 1,
+  omega (arith, c.loop-test.true),
+  omega (arith, c.serve_next.ensures.awaited, c.loop.invariant.awaited),
+  visiting_more g.V.Reader.Source.remaining g.V.Writer.Sink.taken g.V.Visitors.admits g.V.Visitors.dismisses
+      g.B.Book.shelf c.args.office.now c.loop.office c.serve_next.new.office c.args.visitors.now c.loop.visitors c.serve_next.new.visitors
+      c.loop.counter c.loop.invariant.visits c.serve_next.ensures.turn,
+)

@@ -1,7 +1,7 @@
 use Rattle.std.proofs.Common.{◌≡◌, Bool, List, length, ℕ, ap, sym, ◌∙◌, subst}
 use Rattle.std.specs.Prelude.{Err, nat_eq, ◌==◌, string_bytes}
-use Rattle.plan_gantt.specs.WorkingDay.{Workdays}
-use Rattle.plan_gantt.specs.CalendarText.{IsCalendar}
+use Rattle.plan_calendar.specs.WorkingDay.{Workdays}
+use Rattle.plan_calendar.specs.CalendarText.{IsCalendar}
 use Rattle.plan_desk.specs.Refusals.{bad_calendar}
 use Rattle.plan_desk.specs.PlanValues.{row_in}
 use Rattle.plan_desk.specs.Scheduled.{IsDaysTableOf, HasDayBeyondOf}

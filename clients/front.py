@@ -1,0 +1,128 @@
+"""An office behind nginx in a folder of its own: share/nginx/office.conf with the paths and ports
+of that folder. share/web/try shows it, clients/browser tries it."""
+
+import contextlib
+import os
+import re
+import shutil
+import subprocess
+import time
+
+from exchanges import TOP, Exchange, file_of
+from programs import Server, Unable, Wrong, connect, free_port, init, same, talk
+
+WEB = os.path.join(TOP, "share", "web")
+NGINX = shutil.which("nginx") or shutil.which("nginx", path="/usr/sbin:/usr/local/sbin")
+
+WHOLE = """daemon off;
+master_process off;
+pid {room}/nginx.pid;
+error_log {room}/error.log;
+events {{}}
+http {{
+    client_body_temp_path {room}/client_body;
+    proxy_temp_path {room}/proxy;
+    fastcgi_temp_path {room}/fastcgi;
+    uwsgi_temp_path {room}/uwsgi;
+    scgi_temp_path {room}/scgi;
+    include {room}/office.conf;
+}}
+"""
+
+
+def replaced(text, pattern, value, count=1):
+    """A text with so many places of a pattern replaced, which it has to have."""
+    text, found = re.subn(pattern, lambda match: value, text, flags=re.MULTILINE)
+    same(f"places of {pattern} in office.conf", found, count)
+    return text
+
+
+def office_conf(room, office_port, port, pair):
+    """share/nginx/office.conf for a folder; with a pair of a certificate and its key, or in the
+    clear."""
+    text = file_of("share/nginx/office.conf").decode()
+    text = replaced(text, r"127\.0\.0\.1:8080", f"127.0.0.1:{office_port}")
+    text = replaced(text, r"^ *listen \[::\]:443 ssl;.*\n", "")
+    text = replaced(text, r"listen 443 ssl;", f"listen 127.0.0.1:{port}{' ssl' if pair else ''};")
+    text = replaced(text, r"/var/log/nginx/office\.log", os.path.join(room, "access.log"))
+    text = replaced(text, r"/usr/local/share/plan/web", WEB)
+    if not pair:
+        text = replaced(text, r"^ *ssl_.*\n", "", 5)
+        return replaced(text, r"^ *add_header Strict-Transport-Security .*\n", "")
+    text = replaced(text, r"ssl_certificate /[^;]*", "ssl_certificate " + pair[0])
+    return replaced(text, r"ssl_certificate_key /[^;]*", "ssl_certificate_key " + pair[1])
+
+
+class Front:
+    """nginx in front of an office that listens on a port."""
+
+    def __init__(self, room, office_port, port=None, pair=None):
+        self.port = port or free_port()
+        os.makedirs(room, exist_ok=True)
+        self.room = room
+        files = {
+            "nginx.conf": WHOLE.format(room=room),
+            "office.conf": office_conf(room, office_port, self.port, pair),
+        }
+        for name, text in files.items():
+            with open(os.path.join(room, name), "w", encoding="utf-8") as file:
+                file.write(text)
+        self.words = [NGINX, "-e", os.path.join(room, "error.log"), "-p", room, "-c"]
+        self.words.append(os.path.join(room, "nginx.conf"))
+        self.process = None
+
+    def test(self):
+        """What nginx says of the configuration, as a status and a text."""
+        done = subprocess.run([*self.words, "-t"], capture_output=True, encoding="utf-8")
+        return done.returncode, done.stderr
+
+    def start(self):
+        """Starts nginx, which writes its number into a file as soon as it listens."""
+        told = subprocess.DEVNULL
+        self.process = subprocess.Popen(self.words, stdin=told, stdout=told, stderr=told)
+        end = time.monotonic() + 20
+        while not os.path.exists(os.path.join(self.room, "nginx.pid")):
+            if self.process.poll() is not None or time.monotonic() > end:
+                self.stop()
+                raise Unable(f"nginx doesn't start on port {self.port}")
+            time.sleep(0.002)
+
+    def stop(self):
+        if self.process is not None:
+            self.process.terminate()
+            self.process.wait()
+
+    def read(self, name):
+        """The text of a file in its folder."""
+        with open(os.path.join(self.room, name), encoding="utf-8") as file:
+            return file.read()
+
+
+@contextlib.contextmanager
+def fronting(room, office_port, port=None, pair=None):
+    front = Front(room, office_port, port, pair)
+    front.start()
+    try:
+        yield front
+    finally:
+        front.stop()
+
+
+def sent(port, method, path, key, body):
+    """Sends a command to an office, which has to accept it."""
+    answer = talk(port, Exchange(method, path, key, body).request())
+    if not answer.startswith((b"HTTP/1.1 200", b"HTTP/1.1 201")):
+        raise Wrong(f"{method} {path} gave {answer!r}")
+
+
+def office_in(room, count=1000000):
+    """A server of a new office in a folder."""
+    database = os.path.join(room, "office.db")
+    init(database)
+    server = Server(database, count)
+    try:
+        connect(server.port).close()
+    except Wrong:
+        server.kill()
+        raise Unable("the office doesn't start") from None
+    return server

@@ -1,0 +1,184 @@
+"""What the page of a desk shows, read by WebDriver, beside what `plan` prints of the same files."""
+
+import os
+
+from exchanges import TOP
+from programs import Wrong, plan, same
+
+RULES = ["lft", "slk", "spt", "mts", "num"]
+
+
+# ---- what `plan` prints
+
+
+def example(name):
+    return os.path.join(TOP, "examples", name)
+
+
+def printed(*words, given=b""):
+    """The lines that a command prints."""
+    status, out, err = plan(*words, given=given)
+    same("plan " + " ".join(words), (status, err), (0, b""))
+    return out.decode().splitlines()
+
+
+def explained(code):
+    """What `plan explain` says of a code, but for its form."""
+    return printed("explain", code)[1:]
+
+
+def rows_of(lines):
+    """The lines of a table as words, without its heading and what stands below."""
+    return [line.split() for line in lines if line.split()[0].isdigit()]
+
+
+def makespan_of(lines):
+    return lines[-1].split()[1]
+
+
+# ---- what the page shows
+
+
+def seen_table(browser, css):
+    """The rows of a table on the page, each as its texts."""
+    return browser.run("""
+        return [...document.querySelectorAll(arguments[0] + " tr")].map(
+            (row) => [...row.cells].map((cell) => cell.textContent));
+    """, css)
+
+
+def seen(browser, css):
+    """The text of an element."""
+    return browser.run("return document.querySelector(arguments[0]).textContent", css)
+
+
+def texts(browser, css):
+    """The texts of all elements that a selector names."""
+    return browser.run("return [...document.querySelectorAll(arguments[0])].map("
+                       "(node) => node.textContent)", css)
+
+
+def seen_plans(browser):
+    """The numbers of the plans that the page lists."""
+    return [int(row[0].split()[1]) for row in seen_table(browser, "#plans")[1:]]
+
+
+def seen_bars(browser):
+    """The line, the start and the end of each bar, and its left and right edge as parts of the
+    chart's threads."""
+    return browser.run("""
+        const thread = document.querySelector(".thread").getBoundingClientRect();
+        return [...document.querySelectorAll("#drawing .bar")].map((bar) => {
+            const box = bar.querySelector("rect, path").getBoundingClientRect();
+            const { line, start, end } = bar.dataset;
+            const edges = [box.left - thread.left, box.right - thread.left];
+            return [line, start, end, ...edges, thread.width];
+        });
+    """)
+
+
+def seen_axis(browser):
+    """The marks of the axis, each with its place as a part of the chart's threads."""
+    return browser.run("""
+        const thread = document.querySelector(".thread").getBoundingClientRect();
+        const lines = [...document.querySelectorAll("#drawing .grid")];
+        return [...document.querySelectorAll("#drawing .time")].map((words, index) => [
+            words.textContent,
+            (lines[index].getBoundingClientRect().left - thread.left) / thread.width,
+        ]);
+    """)
+
+
+def wait_text(browser, css, text):
+    """Waits until an element has a text in it."""
+    browser.wait(f"{text!r} in {css}", """
+        return [...document.querySelectorAll(arguments[0])].some(
+            (node) => node.checkVisibility() && node.textContent.includes(arguments[1]));
+    """, css, text)
+
+
+def wait_plan(browser, n):
+    """Waits until all pages of a plan are shown."""
+    browser.wait(f"plan {n}", """
+        const plan = document.getElementById("plan");
+        return !plan.hidden && !plan.hasAttribute("aria-busy")
+            && document.getElementById("plan-head").textContent.startsWith(arguments[0]);
+    """, f"Plan {n},")
+
+
+def wait_idle(browser):
+    """Waits until no button says that an answer is awaited."""
+    browser.wait("no answer awaited", "return !document.querySelector('[aria-disabled]')")
+
+
+def same_bars(what, browser, rows, last):
+    """The bars are those of rows of a line, a start and an end, to the pixel."""
+    bars = seen_bars(browser)
+    same(f"the bars of {what}", sorted(bar[:3] for bar in bars), sorted(rows))
+    for line, start, end, left, right, width in bars:
+        scale = width / max(1, int(last))
+        wanted = [int(start) * scale, int(end) * scale]
+        edges = [left, right] if start != end else [(left + right) / 2] * 2
+        if any(abs(a - b) > 2 for a, b in zip(edges, wanted)):
+            raise Wrong(f"a bar of line {line} of {what} stands at {edges} and not {wanted}")
+
+
+def same_dates(browser, lines):
+    """The date table is that of `plan cpm`, the critical rows marked."""
+    wanted = [[*line.split(), "", ""][:9] for line in lines[:-1]]
+    same("the date table", seen_table(browser, "#dates"), wanted)
+    bold = texts(browser, "#dates .critical th")
+    same("the rows in bold", bold, [line.split()[0] for line in lines if line.endswith("*")])
+    same("the whole", f"takes {makespan_of(lines)}" in seen(browser, "#dates caption"), True)
+
+
+def same_project(browser, given):
+    """The dates, the schedules by all rules and the chart are those of a file."""
+    same_dates(browser, printed("cpm", "-", given=given))
+    tables = {rule: printed("schedule", rule, "-", given=given) for rule in RULES}
+    columns = [[f"{row[2]}–{row[3]}" for row in rows_of(lines)] for lines in tables.values()]
+    fixed = [row[:2] for row in rows_of(tables["lft"])]
+    wanted = [["act", "d", *RULES]]
+    wanted += [[*row, *cells] for row, cells in zip(fixed, zip(*columns))]
+    wanted += [["makespan", "", *map(makespan_of, tables.values())]]
+    same("the schedules by rule", seen_table(browser, "#rules"), wanted)
+    bars = [[row[0], row[2], row[3]] for row in rows_of(tables["lft"])]
+    same_bars("a project", browser, bars, makespan_of(tables["lft"]))
+    stars = [row[0] + "*" for row in rows_of(printed("cpm", "-", given=given)) if row[-1] == "*"]
+    marked = browser.run("return [...document.querySelectorAll('#drawing .critical')].map("
+                         "(bar) => bar.dataset.line + '*')")
+    same("the bars of what may not slip", marked, stars)
+
+
+# ---- what a person does
+
+
+def submit(browser, form):
+    """Presses the button of a form, and waits for the answer."""
+    browser.click(f"#{form} button")
+    wait_idle(browser)
+
+
+def set_date(browser, css, date):
+    """Sets a field of a date, whose keys differ from country to country."""
+    browser.run("document.querySelector(arguments[0]).value = arguments[1]", css, date)
+
+
+def drop(browser, name, text):
+    """Lets a file fall on the page."""
+    browser.run("""
+        const data = new DataTransfer();
+        data.items.add(new File([arguments[1]], arguments[0]));
+        const words = { dataTransfer: data, bubbles: true, cancelable: true };
+        document.querySelector("main").dispatchEvent(new DragEvent("drop", words));
+    """, name, text)
+
+
+def open_plan(browser, n):
+    """Opens a plan of the list by its button."""
+    browser.run("""
+        [...document.querySelectorAll("#plans button")].find(
+            (button) => button.textContent === arguments[0]).click();
+    """, f"Plan {n}")
+    wait_plan(browser, n)
+    wait_idle(browser)

@@ -1,0 +1,70 @@
+"""Makes a PNG smaller: its colours as a palette of the 256 most frequent ones."""
+
+import collections
+import struct
+import zlib
+
+SIGNATURE = b"\x89PNG\r\n\x1a\n"
+
+
+def chunks_of(data):
+    """The kinds and contents of a PNG's chunks."""
+    at = len(SIGNATURE)
+    while at < len(data):
+        size, kind = struct.unpack(">I4s", data[at:at + 8])
+        yield kind, data[at + 8:at + 8 + size]
+        at += size + 12
+
+
+def chunk(kind, content):
+    code = zlib.crc32(kind + content)
+    return struct.pack(">I", len(content)) + kind + content + struct.pack(">I", code)
+
+
+def nearest(left, above, corner):
+    """Paeth's choice of three neighbours."""
+    guess = left + above - corner
+    return min((left, above, corner), key=lambda value: abs(guess - value))
+
+
+def unfiltered(kind, line, above, width):
+    """A line of bytes without its filter; a pixel has so many bytes."""
+    line = bytearray(line)
+    for place, byte in enumerate(line):
+        left = line[place - width] if place >= width else 0
+        corner = above[place - width] if place >= width else 0
+        up = above[place]
+        guesses = [0, left, up, (left + up) // 2]
+        guess = guesses[kind] if kind < 4 else nearest(left, up, corner)
+        line[place] = (byte + guess) & 255
+    return line
+
+
+def pixels_of(data):
+    """The lines of a PNG as colours, its width and its height."""
+    chunks = list(chunks_of(data))
+    width, height, _, form = struct.unpack(">IIBB", chunks[0][1][:10])
+    size = {2: 3, 6: 4}[form]
+    content = zlib.decompress(b"".join(part for kind, part in chunks if kind == b"IDAT"))
+    lines, above = [], bytes(width * size)
+    for at in range(0, len(content), width * size + 1):
+        above = unfiltered(content[at], content[at + 1:at + 1 + width * size], above, size)
+        lines.append([tuple(above[x:x + 3]) for x in range(0, len(above), size)])
+    return lines, width, height
+
+
+def smaller(data):
+    """The same picture with at most 256 colours."""
+    lines, width, height = pixels_of(data)
+    counts = collections.Counter(colour for line in lines for colour in line)
+    palette = [colour for colour, _ in counts.most_common(256)]
+    distance = lambda colour, other: sum((a - b) ** 2 for a, b in zip(colour, other))
+    place = {
+        colour: min(range(len(palette)), key=lambda at: distance(colour, palette[at]))
+        for colour in counts
+    }
+    content = b"".join(b"\0" + bytes(place[colour] for colour in line) for line in lines)
+    head = struct.pack(">IIBBBBB", width, height, 8, 3, 0, 0, 0)
+    colours = b"".join(bytes(colour) for colour in palette)
+    parts = {b"IHDR": head, b"PLTE": colours, b"IDAT": zlib.compress(content, 9), b"IEND": b""}
+    return SIGNATURE + b"".join(chunk(*part) for part in parts.items())

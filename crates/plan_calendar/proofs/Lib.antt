@@ -1,0 +1,4 @@
+pub mod WeekLemmas
+pub mod DayLemmas
+pub mod TextLemmas
+pub mod CalendarOnceLemmas

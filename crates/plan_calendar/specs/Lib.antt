@@ -1,0 +1,3 @@
+pub mod WorkingDay
+pub mod CalendarText
+pub mod Weeks

@@ -1,0 +1,93 @@
+ghost use Rattle.std.specs.Prelude.{◌≡◌, ◌+◌, ◌*◌, ◌≤◌, pos, ◌+ℤ◌, IfSome, IfNone, IfOk, IfErr};
+ghost use Rattle.jiff_core.specs.Calendar.{IsEpochDay};
+ghost use Rattle.jiff_core.specs.Date.{epoch_day};
+ghost use Rattle.plan_calendar.specs.WorkingDay.{IsWorkingDay, IsBeyond};
+ghost use Rattle.plan_calendar.specs.CalendarText.{IsCalendar, RefusesTexts};
+ghost use Rattle.plan_calendar.specs.declared.weeks.TheConstants.{MOST_DAYS};
+ghost use Rattle.plan_calendar.specs.declared.calendar.CalendarFault.TheVariants.{BeyondCalendar};
+
+use crate::first_date::start_date;
+use crate::marks::week_marks;
+use crate::weeks::{MOST_DAYS, nth_marked};
+use jiff::civil::Date;
+use jiff_core::civil;
+use std::marker::Model;
+use thiserror::Error;
+
+/// Why there is no calendar, or no working day.
+#[derive(Clone, Copy, Debug, PartialEq, Eq, Error)]
+pub enum CalendarFault {
+    /// The first date isn't written `YYYY-MM-DD`, is none, or isn't from 1900-01-01 to 2199-12-31.
+    #[error("G1 date")]
+    BadDate,
+    /// The marks aren't seven of `0` and `1`, or have no `1`.
+    #[error("G2 days")]
+    BadDays,
+    /// The working day would come after 9999-12-31.
+    #[error("G3 beyond calendar")]
+    BeyondCalendar,
+}
+
+/// A first date and the weekdays on which work is done.
+#[derive(Debug, Drop)]
+pub struct Calendar {
+    start: Date,
+    marks: [bool; 7],
+}
+
+// The date so many days later, where there is one.
+fn later(start: Date, days: u64) -> Option<Date>
+    requires { days ≤ MOST_DAYS * 7 + 6 }
+    ensures some { IfSome result (λ date. epoch_day date ≡ epoch_day start +ℤ pos days) }
+    ensures none { IfNone result (IsEpochDay (epoch_day start +ℤ pos days) → ⊥) }
+{
+    let place = start.to_plain().days_since_min() as u64 + days;
+    if place > MOST_DAYS {
+        return None;
+    }
+    Some(Date::from_plain(civil::Date::from_days_since_min(place as u32)))
+}
+
+impl Model for Calendar {
+    ghost use Rattle.plan_calendar.specs.WorkingDay.{Workdays, IsWeek};
+
+    ghost Value = { Workdays };
+
+    ghost view = { λ c. record { start = c.start; marks = c.marks } };
+
+    ghost invariant = { λ c. IsWeek c.marks };
+}
+
+impl Calendar {
+    /// The calendar with this first date, ten bytes `YYYY-MM-DD` from 1900-01-01 to 2199-12-31, and these marks, a byte `0` or
+    /// `1` for each weekday, Monday first, of which one is `1`. Where both are bad the date is refused. Takes no memory.
+    pub fn new(start: &str, marks: &str) -> Result<Calendar, CalendarFault>
+        ensures ok { IfOk result (IsCalendar start.now marks.now) }
+        ensures refused { IfErr result (RefusesTexts start.now marks.now) }
+    {
+        let Some(start) = start_date(start) else {
+            return Err(CalendarFault::BadDate);
+        };
+        let Some(marks) = week_marks(marks) else {
+            return Err(CalendarFault::BadDays);
+        };
+        Ok(Calendar { start, marks })
+    }
+
+    /// The date on which instant `t` falls: of the dates from the first on whose weekday is marked, the one with exactly `t`
+    /// before it. Takes no memory, and a far instant takes no longer than a near one.
+    pub fn day(&self, t: u64) -> Result<Date, CalendarFault>
+        ensures day { IfOk result (IsWorkingDay self.now t) }
+        ensures beyond { IfErr result (λ fault. (fault ≡ BeyondCalendar) × IsBeyond self.now t) }
+    {
+        if t > MOST_DAYS {
+            return Err(CalendarFault::BeyondCalendar);
+        }
+        let weekday = self.start.weekday().index() as u64;
+        let days = nth_marked(&self.marks, weekday, t);
+        match later(self.start, days) {
+            Some(date) => Ok(date),
+            None => Err(CalendarFault::BeyondCalendar),
+        }
+    }
+}

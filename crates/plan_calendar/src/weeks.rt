@@ -1,0 +1,71 @@
+//! Marked days of the week, counted by whole weeks.
+
+ghost use Rattle.std.specs.Prelude.{◌≡◌, ◌*◌, ◌+◌, ◌<◌, ◌≤◌, length};
+ghost use Rattle.plan_calendar.specs.WorkingDay.{IsWeek};
+ghost use Rattle.plan_calendar.specs.declared.weeks.TheConstants.{MOST_DAYS};
+ghost use Rattle.plan_calendar.specs.Weeks.{mark_after, marks_before, IsMarkedAfter};
+
+/// How many days lie between the first and the last date that there is, -9999-01-01 and 9999-12-31.
+pub const MOST_DAYS: u64 = 7_304_483;
+
+// The mark so many days after the weekday, within a week.
+#[tactic(auto, unfolding(crate::specs::Weeks::mark_after))]
+fn mark_at(marks: &[bool], weekday: u64, days: u64) -> bool
+    requires seven { length marks.now ≡ 7 }
+    requires weekday { weekday < 7 }
+    requires days { days < 7 }
+    ensures { result ≡ mark_after marks.now weekday days }
+{
+    marks[((weekday + days) % 7) as usize]
+}
+
+// How many days of a week are marked.
+#[tactic(auto, using(crate::proofs::WeekLemmas::none_before, crate::proofs::WeekLemmas::one_more, crate::proofs::WeekLemmas::at_most_days))]
+fn marks_of_week(marks: &[bool], weekday: u64) -> u64
+    requires week { IsWeek marks.now }
+    requires weekday { weekday < 7 }
+    ensures count { result ≡ marks_before marks.now weekday 7 }
+    ensures some { 0 < result }
+{
+    let mut count = 0;
+    'week: for days in 0..7u64 {
+        if mark_at(marks, weekday, days) {
+            count += 1;
+        }
+    }
+    count
+}
+
+// The day of a week, from the weekday on, that is marked and has so many marked days before it.
+#[tactic(auto, using(crate::proofs::WeekLemmas::none_before, crate::proofs::WeekLemmas::one_more))]
+fn day_of_week(marks: &[bool], weekday: u64, before: u64) -> u64
+    requires week { IsWeek marks.now }
+    requires weekday { weekday < 7 }
+    requires before { before < marks_before marks.now weekday 7 }
+    ensures found { IsMarkedAfter marks.now weekday before result }
+    ensures within { result < 7 }
+{
+    let mut left = before;
+    'week: for days in 0..7u64 {
+        if mark_at(marks, weekday, days) {
+            if left == 0 {
+                return days;
+            }
+            left -= 1;
+        }
+    }
+    0
+}
+
+// The marked day after the weekday with exactly `t` before it.
+pub fn nth_marked(marks: &[bool], weekday: u64, t: u64) -> u64
+    requires week { IsWeek marks.now }
+    requires weekday { weekday < 7 }
+    requires limit { t ≤ MOST_DAYS }
+    ensures found { IsMarkedAfter marks.now weekday t result }
+    ensures limit { result ≤ MOST_DAYS * 7 + 6 }
+{
+    let each_week = marks_of_week(marks, weekday);
+    let days = day_of_week(marks, weekday, t % each_week);
+    t / each_week * 7 + days
+}

@@ -1,0 +1,39 @@
+-- What `plan prove` writes for the bytes that it reads (docs/DEFINITIONS.md, "Runs").
+use Rattle.std.specs.Prelude.{◌≡◌, ◌⊎◌, ℕ, List, codes}
+use Rattle.plan_orlib.specs.Shop as docs
+use Rattle.plan_orlib.specs.Says.{Says}
+use Rattle.plan_sgs.specs.Problem.{IsActive, IsShortest, makespan}
+use Rattle.plan_shop.specs.Shop.{JobShop, problem_of}
+use Rattle.plan_shop.specs.Docs.{shop_of}
+use Rattle.plan_prove.specs.Proofs.{IsLowerBound}
+use Rattle.plan_prove.specs.Nodes.{IsNodesText}
+use Rattle.plan_prove.specs.declared.proving.Proof.{Proof}
+use Rattle.plan_gantt.specs.FirstFaults.{TellsFirstShopFault}
+use Rattle.plan_cli.specs.ProofText.{ShowsProof}
+
+-- a text shows an active schedule of a shop, and a lower bound of the makespans of all feasible
+-- ones; where the two meet the schedule is a shortest one
+pub record IsProvedOf (s : JobShop) (text : List ℕ) : Type 0 where
+  pub proof : Proof
+  pub active : IsActive (problem_of s) proof.schedule.starts.items
+  pub makespan : proof.schedule.makespan ≡ makespan (problem_of s) proof.schedule.starts.items
+  pub lower : IsLowerBound s proof.lower
+  pub shortest : proof.lower ≡ proof.schedule.makespan → IsShortest (problem_of s) proof.schedule.starts.items
+  pub shown : ShowsProof s proof text
+
+-- the same, where a word spells a number of nodes
+abbrev pub IsProofTextOf : List ℕ → JobShop → List ℕ → Type 0
+IsProofTextOf word s text = (nodes : ℕ) × IsNodesText word nodes × IsProvedOf s text
+
+-- a text tells what is proved of an instance in a file
+abbrev pub IsProofTableOf : List ℕ → List ℕ → List ℕ → List ℕ → Type 0
+IsProofTableOf word instance file text = (doc : docs.Shop) × Says instance file doc × IsProofTextOf word (shop_of doc) text
+
+-- a line tells that a word spells no number of nodes
+abbrev pub TellsNoNodes : List ℕ → List ℕ → Type 0
+TellsNoNodes word line = ((nodes : ℕ) → IsNodesText word nodes → ⊥) × (line ≡ codes "S7 nodes")
+
+-- a line tells the first check that a file fails, or else that a word spells no number of nodes
+abbrev pub TellsWhyNoProof : List ℕ → List ℕ → List ℕ → List ℕ → Type 0
+TellsWhyNoProof word instance file line = TellsFirstShopFault instance file line
+    ⊎ ((doc : docs.Shop) × Says instance file doc × TellsNoNodes word line)

@@ -1,7 +1,0 @@
-use Rattle.std.proofs.Common.{ℕ, ◌<◌, get_or}
-use Rattle.plan_gantt.specs.CalendarText.{IsMarkDigit}
-use Rattle.plan_gantt.proofs.marks.are_mark_digits.Given as goal
-
--- the bytes so far are digits of marks
-abbrev pub invariant-all : goal.invariant-all
-invariant-all l = (k : ℕ) → k < l.k → IsMarkDigit (get_or l.bytes k 0)

@@ -1,7 +1,0 @@
-use Rattle.std.proofs.Common.{◌≡◌}
-use Rattle.plan_gantt.specs.Weeks.{marks_before}
-use Rattle.plan_gantt.proofs.weeks.marks_of_week.Given as goal
-
--- the marks of the days so far are counted
-abbrev pub invariant-week : goal.invariant-week
-invariant-week l = l.count ≡ marks_before l.marks l.weekday l.days

@@ -1,0 +1,195 @@
+//! What a search has to look at again: steps, and machines.
+
+use crate::graph::{Graph, Pair};
+use crate::state::{State, at};
+use std::alloc::{AllocError, Global};
+
+/// The steps whose head or tail has risen, first come first served and none twice; and the machines
+/// of which one has been looked at since they were last bounded, each with the places of its steps
+/// in the order of their tails, as it was last sorted. What it holds stands in no clause: a step
+/// that is missing costs the search some of what it could deduce.
+#[derive(Drop)]
+pub struct Queue {
+    ring: Vec<u32>,
+    front: usize,
+    back: usize,
+    waits: Vec<bool>,
+    stale: Vec<bool>,
+    orders: Vec<Vec<u32>>,
+}
+
+// The place after another one in a ring.
+fn following(place: usize, length: usize) -> usize {
+    if place < length && place + 1 < length {
+        place + 1
+    } else {
+        0
+    }
+}
+
+// Whether the step at one place of a clique comes before that at another: with a greater tail, or
+// with the same and a less number.
+fn is_before(state: &State, clique: &[u32], one: u32, other: u32) -> bool {
+    let (one, other) = (at(clique, one) as u32, at(clique, other) as u32);
+    let (tail, than) = (at(&state.tails, one), at(&state.tails, other));
+    than < tail || tail == than && one < other
+}
+
+// Moves what stands at a place forward until it isn't before what precedes it.
+fn sink(state: &State, clique: &[u32], order: &mut Vec<u32>, from: usize) {
+    let mut place = from;
+    for _move in 0..from {
+        if place == 0 || place >= order.len() {
+            break;
+        }
+        if !is_before(state, clique, order[place], order[place - 1]) {
+            break;
+        }
+        order.swap(place - 1, place);
+        place -= 1;
+    }
+}
+
+// Sorts the places of a clique.
+fn sort(state: &State, clique: &[u32], order: &mut Vec<u32>) {
+    for from in 1..order.len() {
+        sink(state, clique, order, from);
+    }
+}
+
+// The places of a list, rising.
+fn places(alloc: Global, list: &[u32]) -> Result<Vec<u32>, AllocError> {
+    let mut places = Vec::new(alloc);
+    let mut place: u32 = 0;
+    for _item in list {
+        places.push(place)?;
+        place = place.saturating_add(1);
+    }
+    Ok(places)
+}
+
+// The places of each clique, rising.
+fn orders(alloc: Global, graph: &Graph) -> Result<Vec<Vec<u32>>, AllocError> {
+    let mut orders = Vec::new(alloc);
+    for clique in &graph.cliques {
+        orders.push(places(alloc, clique)?)?;
+    }
+    Ok(orders)
+}
+
+impl Queue {
+    /// An empty queue for the steps of a graph.
+    pub fn new(alloc: Global, graph: &Graph) -> Result<Queue, AllocError> {
+        let steps = graph.times.len();
+        Ok(Queue {
+            ring: vec![in alloc; 0; steps.saturating_add(1)]?,
+            front: 0,
+            back: 0,
+            waits: vec![in alloc; false; steps]?,
+            stale: vec![in alloc; false; graph.cliques.len()]?,
+            orders: orders(alloc, graph)?,
+        })
+    }
+
+    /// Puts a step into the queue, unless it is there.
+    pub fn push(&mut self, step: u32) {
+        let place = step as usize;
+        if place < self.waits.len() && !self.waits[place] && self.back < self.ring.len() {
+            self.waits[place] = true;
+            self.ring[self.back] = step;
+            self.back = following(self.back, self.ring.len());
+        }
+    }
+
+    /// The same where it has risen.
+    pub fn note(&mut self, step: u32, has_risen: bool) {
+        if has_risen {
+            self.push(step);
+        }
+    }
+
+    // Takes the step out that came first.
+    fn take(&mut self) -> Option<u32> {
+        if self.front == self.back {
+            return None;
+        }
+        let step = *self.ring.get(self.front)?;
+        self.front = following(self.front, self.ring.len());
+        if (step as usize) < self.waits.len() {
+            self.waits[step as usize] = false;
+        }
+        Some(step)
+    }
+
+    /// Takes the step out that came first, whose machine is to be bounded again.
+    pub fn pop(&mut self, graph: &Graph) -> Option<u32> {
+        let step = self.take()?;
+        let machine = at(&graph.machines, step) as usize;
+        if machine < self.stale.len() {
+            self.stale[machine] = true;
+        }
+        Some(step)
+    }
+
+    /// Whether a machine is to be bounded, which it isn't any more then.
+    pub fn take_stale(&mut self, machine: usize) -> bool {
+        if machine < self.stale.len() && self.stale[machine] {
+            self.stale[machine] = false;
+            return true;
+        }
+        false
+    }
+
+    /// Sorts the places of a machine's clique by falling tails.
+    pub fn sort(&mut self, state: &State, clique: &[u32], machine: usize) {
+        if let Some(order) = self.orders.get_mut(machine) {
+            sort(state, clique, order);
+        }
+    }
+
+    /// The places of a machine's clique, as they were last sorted.
+    pub fn order(&self, machine: usize) -> &[u32] {
+        match self.orders.get(machine) {
+            Some(order) => order,
+            None => &[],
+        }
+    }
+
+    // Leaves no machine to be bounded.
+    fn clear_machines(&mut self) {
+        for machine in 0..self.stale.len() {
+            self.take_stale(machine);
+        }
+    }
+
+    // Leaves no step in it.
+    fn clear_steps(&mut self) {
+        for _step in 0..self.ring.len() {
+            if self.take().is_none() {
+                break;
+            }
+        }
+    }
+
+    // Puts all steps into it.
+    fn push_all(&mut self) {
+        let mut step: u32 = 0;
+        for _place in 0..self.waits.len() {
+            self.push(step);
+            step = step.saturating_add(1);
+        }
+    }
+
+    /// Begins with the two steps of a pair, or with all steps where it is none.
+    pub fn restart(&mut self, pair: Option<&Pair>) {
+        self.clear_steps();
+        self.clear_machines();
+        match pair {
+            Some(pair) => {
+                self.push(pair.first);
+                self.push(pair.second);
+            }
+            None => self.push_all(),
+        }
+    }
+}

@@ -1,0 +1,60 @@
+//! What stands at the name of an office, and why it can't be opened.
+
+ghost use Rattle.std.specs.Prelude.{◌≢◌, IfErr};
+ghost use Rattle.plan_serve.specs.Causes.{IsFileCause};
+ghost use Rattle.plan_serve.specs.InitRun.{IsInitFault};
+ghost use Rattle.plan_serve.specs.Serve.{IsServeFault};
+
+use crate::fault::ServeFault;
+use sqlite::Start;
+use sqlite_std_file::OpenError;
+use std::fs;
+use std::io::ErrorKind;
+
+// The fewest bytes of a database: those of a page of the least size.
+const SHORTEST: u64 = 512;
+
+// Why a file can't be opened, by what the system tells.
+fn file_fault(kind: ErrorKind) -> ServeFault
+    ensures { IsFileCause kind result }
+{
+    if kind == ErrorKind::NotFound || kind == ErrorKind::NotADirectory {
+        return ServeFault::Missing;
+    }
+    if kind == ErrorKind::PermissionDenied || kind == ErrorKind::ReadOnlyFilesystem {
+        return ServeFault::Denied;
+    }
+    if kind == ErrorKind::OutOfMemory {
+        return ServeFault::Memory;
+    }
+    ServeFault::Store
+}
+
+/// Tells why no office is at a name where a look at it says so: nothing is there, it can't be reached,
+/// or it is shorter than any database. Nothing is opened, so nothing is made or grows.
+#[tactic(auto, using(crate::proofs::CauseLemmas::file_serves, crate::proofs::CauseLemmas::file_silent))]
+pub(crate) fn look(rt: &HostRuntime, path: &str) -> Result<(), ServeFault>
+    ensures which { IfErr result IsServeFault }
+    ensures silent { IfErr result (λ e. e ≢ ServeFault.Output) }
+{
+    match fs::metadata(rt, path) {
+        Ok(found) if found.is_file() && found.len() < SHORTEST => Err(ServeFault::NotOurs),
+        Ok(_) => Ok(()),
+        Err(error) => Err(file_fault(error.kind())),
+    }
+}
+
+/// Why the files at a name can't be opened, where the store has refused them: they are tried once more.
+#[tactic(auto, using(crate::proofs::CauseLemmas::file_serves, crate::proofs::CauseLemmas::file_silent, crate::proofs::CauseLemmas::file_inits))]
+pub(crate) fn refusal<F: Start>(rt: &HostRuntime, path: &str, start: F) -> ServeFault
+    ensures which { IsServeFault result }
+    ensures initial { IsInitFault result }
+    ensures silent { result ≢ ServeFault.Output }
+{
+    match sqlite_std_file::open(rt, path, start) {
+        Err(OpenError::Busy) => ServeFault::Locked,
+        Err(OpenError::OutOfMemory) => ServeFault::Memory,
+        Err(OpenError::Io(error)) => file_fault(error.kind()),
+        Err(OpenError::HotJournal) | Ok(_) => ServeFault::Store,
+    }
+}
