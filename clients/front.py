@@ -5,6 +5,7 @@ clients/browser tries it, and clients/many the second."""
 import contextlib
 import os
 import re
+import select
 import shutil
 import subprocess
 import time
@@ -126,6 +127,22 @@ def fronting(room, office_port, port=None, pair=None, changed=lambda text: text)
         yield front
     finally:
         front.stop()
+
+
+def statuses(port, path, count, enough):
+    """The statuses of so many requests at one time, until there are enough of them."""
+    found, ends = [], []
+    with contextlib.ExitStack() as open_ends:
+        for _ in range(count):
+            ends.append(open_ends.enter_context(connect(port)))
+            ends[-1].sendall(Exchange("GET", path, "no-such-key").request())
+        while not enough <= set(found):
+            for end in select.select(ends, [], [], 20)[0]:
+                ends.remove(end)
+                found.append(end.recv(12)[-3:])
+            if not ends:
+                break
+    return set(found)
 
 
 def sent(port, method, path, key, body):

@@ -44,18 +44,23 @@ def bare(response):
     """A response of nginx without what nginx adds, as a server has sent it."""
     head, end, body = response.partition(b"\r\n\r\n")
     line, *fields = head.split(b"\r\n")
-    told = {field.partition(b":")[0]: field for field in fields}
-    unknown = [name for name in told if name not in ADDED and name not in FIELDS]
-    if unknown or len(told) != len(fields):
+    named = {field.partition(b":")[0]: field for field in fields}
+    unknown = [name for name in named if name not in ADDED and name not in FIELDS]
+    if unknown or len(named) != len(fields):
         raise Wrong(f"fields of a response: {head!r}")
-    return b"\r\n".join([line, *(told[name] for name in FIELDS if name in told)]) + end + body
+    return b"\r\n".join([line, *(named[name] for name in FIELDS if name in named)]) + end + body
+
+
+def told(port, sent):
+    """The response to a request, behind which the connection is closed."""
+    with connect(port) as connection:
+        connection.sendall(sent)
+        return received(connection)
 
 
 def asked(port, sent):
-    """The response of nginx to a request, behind which it closes the connection."""
-    with connect(port) as connection:
-        connection.sendall(sent)
-        return bare(received(connection))
+    """The same, without what nginx adds."""
+    return bare(told(port, sent))
 
 
 class Office:
