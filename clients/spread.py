@@ -64,17 +64,25 @@ class Drawn:
         for each in sum(said, []):
             self.keep(*each)
 
-    def listing(self, desk):
-        """The request for a desk's plans."""
-        path = f"/desks/{desk.own}/plans"
+    def page(self, desk, name):
+        """The request for a desk's list of plans or of capacities."""
         row = desk.office.desks[desk.own]
-        return plain("GET", path, desk.keys[row[0]])
+        return plain("GET", f"/desks/{desk.own}/{name}", desk.keys[row[0]])
 
     def places(self):
         """The place at which each desk was asked last, by nginx's log."""
         ports = {f"127.0.0.1:{port}": place for place, port in enumerate(self.office.ports)}
-        found = asked_in(self.office.front.read("access.log"))
-        return {desk: ports[address] for desk, address in found}
+        found = dict(asked_in(self.office.front.read("access.log")))
+        same("servers that aren't there", set(found.values()) - set(ports), set())
+        return {desk: ports[address] for desk, address in found.items()}
+
+    def see(self):
+        """At each server a desk asks for the capacities, so that each has to have them all."""
+        at = {place: desk for desk, place in self.places().items()}
+        for desk in self.desks:
+            if desk.own in at.values():
+                sent = self.page(desk, "capacities")
+                self.keep(sent, self.office.ask(sent))
 
 
 def asked_in(log):
@@ -97,7 +105,7 @@ def without_one(drawn):
     office.stop(down)
     there = next(desk for desk in drawn.desks if places[desk.own] == down)
     other = next(desk for desk in drawn.desks if places[desk.own] != down)
-    found = office.ask(drawn.listing(there))
+    found = office.ask(drawn.page(there, "plans"))
     same("a desk whose server is down", found[:12], b"HTTP/1.1 502")
     drawn.keep(*drawn.ask(other))
     published = drawn.requests.told("/office/capacities", SAW)
@@ -145,7 +153,7 @@ def move(drawn):
     desk = max(own, key=lambda each: len(each.office.plans))
     source = places[desk.own]
     office.move(desk.own, source, (source + 1) % SERVERS)
-    listing = drawn.listing(desk)
+    listing = drawn.page(desk, "plans")
     same("a desk that was moved away", asked(office.ports[source], listing)[:12], b"HTTP/1.1 403")
     same("a desk that was moved", office.ask(listing)[:12], b"HTTP/1.1 200")
 
@@ -229,6 +237,7 @@ def send_all(drawn):
     for number in range(1, TURNS + 1):
         drawn.turn(number)
         drawn.publish(*drawn.requests.between())
+        drawn.see()
         if number == DOWN:
             without_one(drawn)
         if number in MOVES:
