@@ -8,7 +8,7 @@ from drawing import OFFICE_KEY
 from drawing.desks import OfficeRequests, body_of, plain
 from programs import Wrong, init, plan, rows, same
 from servers import asked
-from story import parted
+from story import parted, same_rows
 
 SERVERS, DESKS, CLIENTS = 4, 40, 4
 # So many times the clients send so many requests, and the office sends some between.
@@ -215,7 +215,8 @@ def are_rows(drawn, database, room):
         found, wanted = (of_tables(each, "meta", "published") for each in (lines, one))
         same("what is published", found, wanted)
     owned = [of_tables(lines, "plans", "binds", "lags") for lines in several]
-    same("the rows of desks", sorted(sum(owned, [])), of_tables(one, "plans", "binds", "lags"))
+    wanted = of_tables(one, "plans", "binds", "lags")
+    same_rows("the rows of desks on the servers", sorted(sum(owned, [])), wanted)
     same("that more than one server has plans", sum(map(bool, owned)) > 1, True)
     same("the desks", desks_in(several), desks_in([one]))
 
