@@ -1,5 +1,5 @@
-"""An office behind nginx in a folder of its own: share/nginx/office.conf, or servers.conf for one on
-several servers, with the paths and ports of that folder. share/web/try shows the first,
+"""An office behind nginx in a folder of its own: share/nginx/office.conf, or servers.conf for one
+on several servers, with the paths and ports of that folder. share/web/try shows the first,
 clients/browser tries it, and clients/many the second."""
 
 import contextlib

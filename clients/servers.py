@@ -63,6 +63,11 @@ def asked(port, sent):
     return bare(told(port, sent))
 
 
+def word_of(desk):
+    """A desk's name as a line of the map has it."""
+    return "\\" * (desk in ("default", "hostnames", "include", "volatile")) + desk
+
+
 class Office:
     """So many servers, each of a file in the folder, and nginx in front of them."""
 
@@ -128,7 +133,7 @@ class Office:
         folder = os.path.join(self.front.room, "moved")
         os.makedirs(folder, exist_ok=True)
         with open(os.path.join(folder, "desks.map"), "a", encoding="ascii") as file:
-            file.write(f"{desk} 127.0.0.1:{self.ports[target]};\n")
+            file.write(f"{word_of(desk)} 127.0.0.1:{self.ports[target]};\n")
         self.front.stop()
         self.start(source, target)
         self.front.start()

@@ -208,8 +208,8 @@ def desks_in(several):
 
 
 def are_rows(drawn, database, room):
-    """The servers together have the rows of the one: each has all that the office has sent, and each
-    plan is on one of them alone. More than one of them has plans."""
+    """The servers together have the rows of the one: each has all that the office has sent, and
+    each plan is on one of them alone. More than one of them has plans."""
     one, several = rows(database, room), [rows(own, room) for own in drawn.office.databases]
     for lines in several:
         found, wanted = (of_tables(each, "meta", "published") for each in (lines, one))
@@ -222,7 +222,8 @@ def are_rows(drawn, database, room):
 
 
 def are_logs(drawn):
-    """No key is in a log of nginx; and nginx asked one server for each desk, unless it was moved."""
+    """No key is in a log of nginx; and nginx asked one server for each desk, and another for each
+    that was moved."""
     log = drawn.office.front.read("access.log")
     text = log + drawn.office.front.read("error.log")
     found = [key for key in drawn.requests.keys.values() if key in text]
@@ -231,8 +232,8 @@ def are_logs(drawn):
 
 
 def send_all(drawn):
-    """The office publishes and opens the desks; then turns of the clients, and what the office sends
-    between them."""
+    """The office publishes and opens the desks; then turns of the clients, and what the office
+    sends between them."""
     for path, body in drawn.requests.opening():
         drawn.publish(path, body)
     for number in range(1, TURNS + 1):
