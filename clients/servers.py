@@ -72,7 +72,8 @@ class Office:
     """So many servers, each of a file in the folder, and nginx in front of them."""
 
     def __init__(self, room, count, changed=unlimited):
-        self.room, self.ports = room, ports_below(count)
+        self.room = room
+        port, *self.ports = ports_below(count + 1)
         self.databases = [os.path.join(room, str(port), "office.db") for port in self.ports]
         self.running, self.moved = {}, []
         self.write("office.key", OFFICE_KEY.encode() + b"\n")
@@ -80,7 +81,7 @@ class Office:
         for database in self.databases:
             os.makedirs(os.path.dirname(database))
             init(database)
-        self.front = Front(os.path.join(room, "nginx"), self.ports, changed=changed)
+        self.front = Front(os.path.join(room, "nginx"), self.ports, port, changed=changed)
 
     def write(self, name, text):
         """Writes a file of the folder, and gives its path."""
