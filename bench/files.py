@@ -115,14 +115,16 @@ def example(name):
 
 
 def drawn_project(draw):
-    """A small project whose activities aren't numbered in the order of its arcs."""
+    """A small project whose activities aren't numbered in the order of its arcs. A few have a need
+    that is too much, or name a successor twice."""
     count, kinds = draw.randint(2, 12), draw.randint(1, 3)
     label = draw.sample(range(1, count + 1), count)
     share = draw.choice([0.1, 0.3, 0.6])
     successors = [[] for _ in label]
     for i in range(count):
         later = [label[j] for j in range(i + 1, count) if draw.random() < share]
-        successors[label[i] - 1] = draw.sample(later, len(later))
+        twice = later[:1] if draw.random() < 0.01 else []
+        successors[label[i] - 1] = draw.sample(later, len(later)) + twice
     longest = draw.choice([1, 3, 9, 99])
     available = [draw.randint(0, 6) for _ in range(kinds)]
     spare = 1 if draw.random() < 0.1 else 0
@@ -145,10 +147,16 @@ def drawn_shop(draw):
 
 
 def damaged(draw, text):
-    """The text with one line left out, or one byte changed."""
-    if draw.random() < 0.3:
-        lines = text.split("\n")
-        del lines[draw.randrange(len(lines))]
-        return "\n".join(lines)
-    place = draw.randrange(len(text))
-    return text[:place] + draw.choice("0129 :x*+-\t\n\r\x00\x1a") + text[place + 1 :]
+    """The text with one line left out, one number of nine or ten digits, or one byte changed."""
+    kind, lines = draw.randrange(4), text.split("\n")
+    place = draw.randrange(len(lines))
+    if kind == 0:
+        del lines[place]
+    elif kind == 1 and lines[place].split():
+        words = lines[place].split()
+        words[-1] = words[-1].zfill(draw.choice([9, 10]))
+        lines[place] = row(*words)
+    else:
+        place = draw.randrange(len(text))
+        return text[:place] + draw.choice("0129 :x*+-\t\n\r\x00\x1a") + text[place + 1 :]
+    return "\n".join(lines)
