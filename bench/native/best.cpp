@@ -21,7 +21,7 @@ class Search : Building {
         waiting.assign(shop.machines, Waiting());
         for (Number job = 0; job < shop.jobs; job++) {
             Number end = ends[job];
-            for (Number x = next[job]; x < last_of(job); x++) {
+            for (Number x = next[job], last = last_of(job); x < last; x++) {
                 const Step &s = shop.steps[x];
                 if (s.time == 0) continue;
                 Waiting &w = waiting[s.machine];
