@@ -141,7 +141,7 @@ same_apply s (SetLag n i j lag) w x same = record {
 
 -- ---- decisions
 
-admits_alike : (v u : View) (r : Request) → SameView v u → admits v r ≡ admits u r
+pub admits_alike : (v u : View) (r : Request) → SameView v u → admits v r ≡ admits u r
 admits_alike v u r same =
     ap (λ office. if is_of_office r.call then has_key r.key office else unlocks r.key v.desk) same.office
     ∙ ap (λ desk. if is_of_office r.call then has_key r.key u.office else unlocks r.key desk) same.desk
@@ -163,16 +163,16 @@ keeps : (d : Text) (w : World) → IsWorld w → IsWorld (alone (view d w))
 unfolding AloneKeepsRules
 keeps d w k = alone_keeps_rules d w k
 
-keeps_after : (d : Text) (v : View) (r : Request) (reply : Reply) (after : World) → IsWorld (alone v) → story.IsStep Answers (alone v) r reply after → IsWorld (alone (view d after))
+pub keeps_after : (d : Text) (v : View) (r : Request) (reply : Reply) (after : World) → IsWorld (alone v) → story.IsStep Answers (alone v) r reply after → IsWorld (alone (view d after))
 unfolding StepsKeepRules IsStep
 keeps_after d v r reply after k step = keeps d after (steps_keep_rules (alone v) r reply after k step)
 
 -- steps on one request in views of the same rows
-record AreAlike (d : Text) (reply given : Reply) (after behind : World) : Type 0 where
-  reply_is : reply ≡ given
-  seen_is : SameView (view d after) (view d behind)
+pub record AreAlike (d : Text) (reply given : Reply) (after behind : World) : Type 0 where
+  pub reply_is : reply ≡ given
+  pub seen_is : SameView (view d after) (view d behind)
 
-steps_alike : (d : Text) (v u : View) (r : Request) (reply given : Reply) (after behind : World) → IsWorld (alone v) → IsWorld (alone u) → SameView v u
+pub steps_alike : (d : Text) (v u : View) (r : Request) (reply given : Reply) (after behind : World) → IsWorld (alone v) → IsWorld (alone u) → SameView v u
     → story.IsStep Answers (alone v) r reply after → story.IsStep Answers (alone u) r given behind → AreAlike d reply given after behind
 steps_alike d v u r reply given after behind k l same (c, h, e) (b, g, f) =
     let s : Text = subject r in

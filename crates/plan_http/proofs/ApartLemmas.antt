@@ -63,7 +63,7 @@ published_or desk w key (days s n rule) reply c e h = absurd (both_ways false re
 published_or desk w key (best s n budget) reply c e h = absurd (both_ways false refl e)
 
 -- the desk that a call names
-named_desk : (desk : Text) (o : Option Text) → names desk o ≡ true → unwrap_or o [] ≡ desk
+pub named_desk : (desk : Text) (o : Option Text) → names desk o ≡ true → unwrap_or o [] ≡ desk
 named_desk desk None e = absurd (both_ways false refl e)
 named_desk desk (Some t) e = text_from_same t desk e
 
@@ -113,7 +113,7 @@ told_alone desk w conns responses told = elim (story_or_want desk (view desk w) 
 -- ---- connections that don't belong to the desk
 
 -- a request on bytes that spell nothing of the desk isn't one of it
-outside_request : (desk : Text) (v : View) (bytes : Text) (r : Request) → IsOutside desk v bytes → Judges bytes (asks r) → belongs desk v r ≡ false
+pub outside_request : (desk : Text) (v : View) (bytes : Text) (r : Request) → IsOutside desk v bytes → Judges bytes (asks r) → belongs desk v r ≡ false
 unfolding OneVerdict
 outside_request desk v bytes r outside spelled =
     ap (belongs_to desk v) (one_verdict bytes (asks r) outside.verdict spelled outside.spelled) ∙ outside.outside

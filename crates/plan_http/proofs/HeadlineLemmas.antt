@@ -183,7 +183,7 @@ all_promised desk v (bytes ∷ conns) (response ∷ responses) story told (inr (
     (promised_first desk v bytes response more others r after is answer (all_promised desk (view desk after) conns responses more others rest)))
 
 -- the view of a desk in an office whose rows keep their rules keeps them
-alone_good : (desk : Text) (w : World) → IsWorld w → IsWorld (alone (view desk w))
+pub alone_good : (desk : Text) (w : World) → IsWorld w → IsWorld (alone (view desk w))
 unfolding AloneKeepsRules
 alone_good desk w good = alone_keeps_rules desk w good
 

@@ -17,3 +17,4 @@ pub mod ServedLemmas
 pub mod CrashLemmas
 pub mod ApartLemmas
 pub mod WholeRunLemmas
+pub mod ShardLemmas

@@ -199,7 +199,7 @@ asked_or other (asks r) = r
 asked_or other (fails check allow is_head) = other
 
 -- bytes spell one request
-one_request : (bytes : Text) (r q : Request) → Judges bytes (asks r) → Judges bytes (asks q) → r ≡ q
+pub one_request : (bytes : Text) (r q : Request) → Judges bytes (asks r) → Judges bytes (asks q) → r ≡ q
 unfolding OneVerdict asked_or
 one_request bytes r q h k = ap (asked_or r) (one_verdict bytes (asks r) (asks q) h k)
 

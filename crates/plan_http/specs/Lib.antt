@@ -17,3 +17,4 @@ pub mod Answers
 pub mod Serving
 pub mod Crashes
 pub mod Isolated
+pub mod Shards

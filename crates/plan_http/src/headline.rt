@@ -6,6 +6,7 @@ ghost use Rattle.plan_rows.specs.Views.{view, Agree};
 ghost use Rattle.plan_http.specs.Serving.{IsRunOf};
 ghost use Rattle.plan_http.specs.Isolated.{IsApart};
 ghost use Rattle.plan_http.specs.Headline.{Alike, ApartRunsAreAlike};
+ghost use Rattle.plan_http.specs.Shards.{ShardsAreOneOffice};
 
 use crate::runs::{RunFault, serve_run};
 use plan_desk::{Book, Office};
@@ -43,6 +44,15 @@ fn make_run<B: Book>(alloc: Global, office: &mut Office<B>, conns: &[Vec<u8>]) -
 /// says.
 pub fn apart_runs_are_alike<A: Book, B: Book>()
     ensures { ApartRunsAreAlike A.shelf B.shelf }
+{}
+
+/// One office on many servers. However desks are given to servers: if each server gets the connections
+/// of its desks and all of the office, in their order, and the desk's views agree at the start, then what
+/// a desk is told by its server is what it would be told by one office that serves all connections, byte
+/// for byte; as long as nothing in its story is answered for want of memory or by the store. Connections
+/// that spell no request may come to any server. A law of what `serve_run` says.
+pub fn shards_are_one_office<A: Book, B: Book>()
+    ensures { ShardsAreOneOffice A.shelf B.shelf }
 {}
 
 /// Serves connections by one office and others by another, over books of any two kinds.

@@ -1,0 +1,56 @@
+-- One office on many servers (docs/DEFINITIONS.md, "Many servers").
+use Rattle.std.specs.Prelude.{◌≡◌, ◌⊎◌, ℕ, Bool, true, Option, List, [], ◌∷◌}
+use Rattle.plan_rows.specs.World.{Text}
+use Rattle.plan_rows.specs.Rules.{IsWorld}
+use Rattle.plan_rows.specs.Views.{view, Agree}
+use Rattle.plan_rows.specs.Books.{Shelf}
+use Rattle.plan_desk.specs.Calls.{Request, subject, is_of_office}
+use Rattle.plan_http.specs.declared.checks.Check.{Check}
+use Rattle.plan_http.specs.Judges.{asks, fails, Judges}
+use Rattle.plan_http.specs.Stories.{IsStoryOf}
+use Rattle.plan_http.specs.Isolated.{IsApart}
+use Rattle.plan_http.specs.Headline.{Alike}
+
+-- it spells no request, and so is nobody's
+pub record IsNobodys (bytes : Text) : Type 0 where
+  pub check : Check
+  pub allow : Option Text
+  pub is_head : Bool
+  pub spelled : Judges bytes (fails check allow is_head)
+
+module _ (server_of : Text → ℕ) (server : ℕ) where
+  -- The bytes spell a request that has to come to this server: one of the office, which comes to each,
+  -- or one on the path of a desk that is this server's.
+  pub record IsFor (bytes : Text) : Type 0 where
+    pub request : Request
+    pub spelled : Judges bytes (asks request)
+    pub sent : (is_of_office request.call ≡ true) ⊎ (server_of (subject request) ≡ server)
+
+  -- Of some connections those that a server gets, in their order: each that is for it, and any of
+  -- nobody's.
+  abbrev pub IsShare : List Text → List Text → Type 0
+  IsShare [] share = share ≡ []
+  IsShare (bytes ∷ conns) share =
+      ((IsFor bytes → ⊥) × IsShare conns share)
+      ⊎ ((IsFor bytes ⊎ IsNobodys bytes) × ((more : List Text) × (share ≡ bytes ∷ more) × IsShare conns more))
+
+-- a run of one office that serves all connections, and one of a server that serves its share of them
+pub record AreOneOffice {A B : Type 0} (one : Shelf A) (other : Shelf B) (a : A) (b : B)
+    (conns responses share answers : List Text) (desk : Text) : Type 0 where
+  -- as any two runs
+  pub alike : Alike one other a b conns responses share answers desk
+  -- and the desk's story on its server is its story in the one office, told the same, byte for byte
+  pub same : (story told mine given : List Text)
+      → IsStoryOf desk (view desk (one.world a)) conns responses story told
+      → IsStoryOf desk (view desk (other.world b)) share answers mine given
+      → (mine ≡ story) × (given ≡ told)
+
+module _ {A B : Type 0} (one : Shelf A) (other : Shelf B) where
+  -- However desks are given to servers: what a desk is told by its own server, which gets the desk's
+  -- share alone, is what it would be told by one office that serves all connections.
+  unfoldable pub ShardsAreOneOffice : Type 0
+  ShardsAreOneOffice = (server_of : Text → ℕ) (a left : A) (b right : B) (conns responses share answers : List Text) (desk : Text)
+      → IsShare server_of (server_of desk) conns share
+      → IsApart one a left conns responses desk → IsApart other b right share answers desk
+      → IsWorld (one.world a) → IsWorld (other.world b) → Agree (view desk (one.world a)) (view desk (other.world b))
+      → AreOneOffice one other a b conns responses share answers desk
