@@ -1,9 +1,11 @@
-"""An office behind nginx in a folder of its own: share/nginx/office.conf with the paths and ports
-of that folder. share/web/try shows it, clients/browser tries it."""
+"""An office behind nginx in a folder of its own: share/nginx/office.conf, or servers.conf for one
+on several servers, with the paths and ports of that folder. share/web/try shows the first,
+clients/browser tries it, and clients/many the second."""
 
 import contextlib
 import os
 import re
+import select
 import shutil
 import subprocess
 import time
@@ -33,15 +35,14 @@ http {{
 def replaced(text, pattern, value, count=1):
     """A text with so many places of a pattern replaced, which it has to have."""
     text, found = re.subn(pattern, lambda match: value, text, flags=re.MULTILINE)
-    same(f"places of {pattern} in office.conf", found, count)
+    same(f"places of {pattern} in the configuration", found, count)
     return text
 
 
-def office_conf(room, office_port, port, pair):
-    """share/nginx/office.conf for a folder; with a pair of a certificate and its key, or in the
-    clear."""
-    text = file_of("share/nginx/office.conf").decode()
-    text = replaced(text, r"127\.0\.0\.1:8080", f"127.0.0.1:{office_port}")
+def filled(name, room, port, pair):
+    """A configuration of share/nginx for a folder; with a pair of a certificate and its key, or in
+    the clear."""
+    text = file_of(f"share/nginx/{name}").decode()
     text = replaced(text, r"^ *listen \[::\]:443 ssl;.*\n", "")
     text = replaced(text, r"listen 443 ssl;", f"listen 127.0.0.1:{port}{' ssl' if pair else ''};")
     text = replaced(text, r"/var/log/nginx/office\.log", os.path.join(room, "access.log"))
@@ -53,16 +54,32 @@ def office_conf(room, office_port, port, pair):
     return replaced(text, r"ssl_certificate_key /[^;]*", "ssl_certificate_key " + pair[1])
 
 
-class Front:
-    """nginx in front of an office that listens on a port."""
+def office_conf(room, office_port, port, pair):
+    """share/nginx/office.conf for a folder, and an office on a port."""
+    text = filled("office.conf", room, port, pair)
+    return replaced(text, r"127\.0\.0\.1:8080", f"127.0.0.1:{office_port}")
 
-    def __init__(self, room, office_port, port=None, pair=None):
+
+def servers_conf(room, ports, port, pair):
+    """share/nginx/servers.conf for a folder, and servers on several ports."""
+    text = filled("servers.conf", room, port, pair)
+    lines = "".join(f"    server 127.0.0.1:{own} max_fails=0;\n" for own in ports)
+    text = replaced(text, r"(^    server 127\.0\.0\.1:808[12] max_fails=0;.*\n){2}", lines)
+    return replaced(text, r"/etc/nginx/plan-moved", os.path.join(room, "moved"))
+
+
+class Front:
+    """nginx in front of an office that listens on a port, or on each port of a list. `changed` may
+    make another text of the configuration."""
+
+    def __init__(self, room, office_port, port=None, pair=None, changed=lambda text: text):
         self.port = port or free_port()
         os.makedirs(room, exist_ok=True)
         self.room = room
+        conf = servers_conf if isinstance(office_port, list) else office_conf
         files = {
             "nginx.conf": WHOLE.format(room=room),
-            "office.conf": office_conf(room, office_port, self.port, pair),
+            "office.conf": changed(conf(room, office_port, self.port, pair)),
         }
         for name, text in files.items():
             with open(os.path.join(room, name), "w", encoding="utf-8") as file:
@@ -88,9 +105,13 @@ class Front:
             time.sleep(0.002)
 
     def stop(self):
+        """Ends nginx; it may be started again."""
         if self.process is not None:
             self.process.terminate()
             self.process.wait()
+            self.process = None
+        with contextlib.suppress(FileNotFoundError):
+            os.remove(os.path.join(self.room, "nginx.pid"))
 
     def read(self, name):
         """The text of a file in its folder."""
@@ -99,13 +120,29 @@ class Front:
 
 
 @contextlib.contextmanager
-def fronting(room, office_port, port=None, pair=None):
-    front = Front(room, office_port, port, pair)
+def fronting(room, office_port, port=None, pair=None, changed=lambda text: text):
+    front = Front(room, office_port, port, pair, changed)
     front.start()
     try:
         yield front
     finally:
         front.stop()
+
+
+def statuses(port, path, count, enough):
+    """The statuses of so many requests at one time, until there are enough of them."""
+    found, ends = [], []
+    with contextlib.ExitStack() as open_ends:
+        for _ in range(count):
+            ends.append(open_ends.enter_context(connect(port)))
+            ends[-1].sendall(Exchange("GET", path, "no-such-key").request())
+        while not enough <= set(found):
+            for end in select.select(ends, [], [], 20)[0]:
+                ends.remove(end)
+                found.append(end.recv(12)[-3:])
+            if not ends:
+                break
+    return set(found)
 
 
 def sent(port, method, path, key, body):

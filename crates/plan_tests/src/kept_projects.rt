@@ -10,8 +10,8 @@ use std::alloc::Global;
 use std::process::Abort;
 use std::test::Fail;
 
-/// Three activities that last 1, 1 and 2 between two that last no time, two of them at a time.
-pub const FIVE: &str = "projects: 1
+// Three activities that last 1, 1 and 2 between two that last no time, two of them at a time.
+const FIVE: &str = "projects: 1
 jobs: 5
 - renewable: 1
 - nonrenewable: 0

@@ -1,14 +1,10 @@
-//! Public calls that allocate and leave something behind, each made twice. With ample memory both answers are the known one. Where one allocation is refused
-//! (`refusals/run` refuses each in turn) the first may be want of memory, and then nothing is left of it: the second is the known one.
+//! Public calls that allocate and leave something behind, each made twice. With ample memory both
+//! answers are the known one. Where one allocation is refused (`refusals/run` refuses each in turn)
+//! the first may be want of memory, and then nothing is left of it: the second is the known one.
 
-use crate::kept_projects::FIVE;
 use crate::shops::shop_of;
-use plan_exact::{
-    Branching, CountedProjectTree, CountedTree, ExactFault, Memo, search, solve_project, solve_shop,
-};
+use plan_exact::Branching;
 use plan_profile::Profile;
-use plan_psplib::{FileCode, FileFault, read_sm};
-use plan_sgs::{Instance, SgsFault};
 use plan_shop::{ShopFault, ShopRule, ShopTree, giffler};
 use std::alloc::Global;
 use std::process::Abort;
@@ -18,35 +14,11 @@ use std::test::Fail;
 const PAIR: &str = "2 2\n0 4 1 1\n0 1 1 3\n";
 
 // An answer, or none for want of memory.
-fn of_file<T: Drop>(rt: &impl Abort, answer: Result<T, FileFault>) -> Option<T> {
-    match answer {
-        Ok(value) => Some(value),
-        Err(fault) if fault.code == FileCode::Memory => None,
-        Err(_) => panic!(rt; "another fault of a file"),
-    }
-}
-
-fn of_schedule<T: Drop>(rt: &impl Abort, answer: Result<T, SgsFault>) -> Option<T> {
-    match answer {
-        Ok(value) => Some(value),
-        Err(SgsFault::NoMemory) => None,
-        Err(_) => panic!(rt; "another fault of a schedule"),
-    }
-}
-
 fn of_shop<T: Drop>(rt: &impl Abort, answer: Result<T, ShopFault>) -> Option<T> {
     match answer {
         Ok(value) => Some(value),
         Err(ShopFault::NoMemory) => None,
         Err(_) => panic!(rt; "another fault of a shop"),
-    }
-}
-
-fn of_search<T: Drop>(rt: &impl Abort, answer: Result<T, ExactFault>) -> Option<T> {
-    match answer {
-        Ok(value) => Some(value),
-        Err(ExactFault::NoMemory) => None,
-        Err(_) => panic!(rt; "another fault of a search"),
     }
 }
 
@@ -97,63 +69,5 @@ fn walked(rt: &impl Abort, alloc: Global) -> Option<(u64, usize, u64)> {
 fn shops(rt: HostRuntime) -> Result<(), Fail> {
     let (first, second) = (walked(&rt, rt.alloc()), walked(&rt, rt.alloc()));
     assert!(rt; settles(first, second, (8, 2, 8)));
-    Ok(())
-}
-
-// The least makespan by a search, by the solution of the shop, and by a memo of which a refusal leaves nothing.
-fn solved(rt: &impl Abort, alloc: Global) -> Option<(u64, u64, u64)> {
-    let shop = shop_of(rt, alloc, PAIR)?;
-    let mut tree = CountedTree::new(alloc, &shop).ok()?;
-    let Ok(answer) = search(alloc, &mut tree, 8, 6) else {
-        assert!(rt; !tree.full());
-        return None;
-    };
-    let solved = of_search(rt, solve_shop(alloc, &shop, 6))?;
-    let mut memo = Memo::new(alloc).ok()?;
-    let Some(kept) = of_search(rt, memo.solve(&shop, 6)) else {
-        assert!(rt; memo.len() == 0);
-        return None;
-    };
-    Some((
-        answer.value,
-        solved.schedule.makespan,
-        kept.schedule.makespan,
-    ))
-}
-
-#[test]
-fn searches(rt: HostRuntime) -> Result<(), Fail> {
-    let (first, second) = (solved(&rt, rt.alloc()), solved(&rt, rt.alloc()));
-    assert!(rt; settles(first, second, (6, 6, 6)));
-    Ok(())
-}
-
-// The least makespan of a project by a search, by its solution, and by a memo of which a refusal leaves nothing.
-fn solved_project(rt: &impl Abort, alloc: Global) -> Option<(u64, u64, u64)> {
-    let project = of_file(rt, read_sm(alloc, FIVE.as_bytes()))?;
-    let instance = of_schedule(rt, Instance::of_project(&project, project.avail()))?;
-    let mut tree = CountedProjectTree::new(alloc, &instance).ok()?;
-    let Ok(answer) = search(alloc, &mut tree, 3, 10) else {
-        assert!(rt; !tree.full());
-        return None;
-    };
-    let mut memo = Memo::new(alloc).ok()?;
-    let Some(kept) = of_search(rt, memo.solve_project(&instance, 10)) else {
-        assert!(rt; memo.len() == 0);
-        return None;
-    };
-    let solved = of_search(rt, solve_project(alloc, &instance, 10))?;
-    Some((
-        answer.value,
-        solved.schedule.makespan,
-        kept.schedule.makespan,
-    ))
-}
-
-#[test]
-fn searches_of_projects(rt: HostRuntime) -> Result<(), Fail> {
-    let first = solved_project(&rt, rt.alloc());
-    let second = solved_project(&rt, rt.alloc());
-    assert!(rt; settles(first, second, (2, 2, 2)));
     Ok(())
 }

@@ -1,19 +1,43 @@
 //! Serial generation by a list, and with a lag.
 
-use crate::six::longer;
 use plan_psplib::{ProjectDoc, read_sm};
 use plan_sgs::{Instance, Rule, SgsFault, Verdict, check, serial, serial_list};
 use std::test::Fail;
 
 // The six activities, where activity 5 lasts 5.
-fn project(rt: &HostRuntime) -> Result<Option<ProjectDoc>, Fail> {
-    let file = longer(rt)?;
-    Ok(read_sm(rt.alloc(), &file).ok())
+const LONGER: &str = "projects: 1
+jobs: 6
+- renewable: 1
+- nonrenewable: 0
+- doubly constrained: 0
+PRECEDENCE RELATIONS:
+jobnr. #modes #successors successors
+1 1 2 2 3
+2 1 1 4
+3 1 2 4 5
+4 1 1 6
+5 1 1 6
+6 1 0
+REQUESTS/DURATIONS:
+jobnr. mode duration R
+1 1 0 0
+2 1 3 1
+3 1 2 1
+4 1 4 1
+5 1 5 1
+6 1 0 0
+RESOURCEAVAILABILITIES:
+R
+2
+";
+
+fn project(rt: &HostRuntime) -> Option<ProjectDoc> {
+    read_sm(rt.alloc(), LONGER.as_bytes()).ok()
 }
 
 #[test]
 fn places_by_a_list(rt: HostRuntime) -> Result<(), Fail> {
-    let Some(project) = project(&rt)? else {
+    let Some(project) = project(&rt) else {
         panic!(rt; "the file isn't read");
     };
     assert_eq!(rt; project.avail().len(), 1);
@@ -39,7 +63,7 @@ fn places_by_a_list(rt: HostRuntime) -> Result<(), Fail> {
 
 #[test]
 fn keeps_a_lag(rt: HostRuntime) -> Result<(), Fail> {
-    let Some(mut project) = project(&rt)? else {
+    let Some(mut project) = project(&rt) else {
         panic!(rt; "the file isn't read");
     };
     project.set_lag(2, 4, 2)?;

@@ -1,7 +1,5 @@
 //! The example of six activities.
 
-use std::test::Fail;
-
 /// Six activities, one resource, 39 lines. The precedence title is line 17.
 pub const SIX: &str = "****************************************
 file with basedata            : a.bas
@@ -54,19 +52,3 @@ pub const SIX_DATES: &str = " act       d      ES      EF      LS      LF      T
    6       0       7       7       7       7       0       0 *
 T 7
 ";
-
-/// The six activities, where activity 5 lasts 5.
-pub fn longer(rt: &HostRuntime) -> Result<Vec<u8>, Fail> {
-    let mut file = Vec::new(rt.alloc());
-    for (i, line) in SIX.lines().enumerate() {
-        // the row of activity 5 is line 33
-        let chosen = if i == 32 {
-            "  5      1     5       1"
-        } else {
-            line
-        };
-        file.extend_from_slice(chosen.as_bytes())?;
-        file.push(b'\n')?;
-    }
-    Ok(file)
-}

@@ -1,4 +1,4 @@
-# Completion of plan for fish.
+# Completion of plan for fish. Written by docs/facts.
 function __plan_at
     set -l words (commandline -opc)
     test (count $words) -eq $argv[1]; and contains -- $words[2] $argv[2..]
@@ -8,19 +8,20 @@ function __plan_names
     plan names $words[$argv[1]] 2>/dev/null
 end
 complete -c plan -n 'test (count (commandline -opc)) -eq 1' -f -a 'cpm schedule chart days best-project check shop best prove names explain init replay serve help'
+complete -c plan -n '__plan_at 2 help' -f -a 'cpm schedule chart days best-project check shop best prove names explain init replay serve'
 complete -c plan -n '__plan_at 2 schedule' -f -a 'lft slk spt mts num'
 complete -c plan -n '__plan_at 2 chart days' -f -a 'lft slk spt mts num mwkr fcfs'
-complete -c plan -n '__plan_at 2 shop' -f -a 'spt mwkr fcfs'
-complete -c plan -n '__plan_at 2 best best-project' -f -a 200000
-complete -c plan -n '__plan_at 2 prove' -f -a 1000000
+complete -c plan -n '__plan_at 4 chart shop best prove' -f -a '(__plan_names 4)'
 complete -c plan -n '__plan_at 3 days' -f
 complete -c plan -n '__plan_at 4 days' -f -a '1111100 1111110 1111111'
-complete -c plan -n '__plan_at 4 chart shop best prove' -f -a '(__plan_names 4)'
 complete -c plan -n '__plan_at 6 days' -f -a '(__plan_names 6)'
-complete -c plan -n '__plan_at 3 serve' -f -a 8080
-complete -c plan -n '__plan_at 4 serve' -f -a 1000000
-complete -c plan -n 'contains serve (commandline -opc)' -l log -d 'A line for each connection'
-complete -c plan -n 'contains serve (commandline -opc)' -x -l patience -d 'Seconds of a turn, 1 to 60'
+complete -c plan -n '__plan_at 2 best-project best' -f -a '200000'
+complete -c plan -n '__plan_at 2 shop' -f -a 'spt mwkr fcfs'
+complete -c plan -n '__plan_at 2 prove' -f -a '1000000'
 complete -c plan -n '__plan_at 2 explain' -f -a 'F1 F2 F3 F4 F5 F6 F7 F8 F9 F10 F11 F12 F13 F14 S1 S3 S4 S5 S6 S7 G1 G2 G3 G4 C1 H1 H2 H3 H4 H5 E01 E02 E03 E04 E05 E06 E07 E08 E09 E10 E11 E12 K1 K2 K3 K4 K5 K6 E90 E91 I1 I2 I3 I4 I5'
+complete -c plan -n '__plan_at 3 serve' -f -a '8080'
+complete -c plan -n '__plan_at 4 serve' -f -a '1000000'
+complete -c plan -n 'contains serve (commandline -opc)' -x -l patience -d 'how long a connection may take for its request, and for its response, 1 to 60 [default: 2]'
+complete -c plan -n 'contains serve (commandline -opc)' -l log -d 'tell each connection in a line on standard error'
 complete -c plan -s h -l help -d 'Print help'
 complete -c plan -s V -l version -d 'Print version'
