@@ -263,7 +263,7 @@ impl Code {
                 "E12 ..\nThe calendar is wrong, or none is set, or it ends before the last day: why follows, as E12 G1 date.\nLook up the code that follows, as G1.\n"
             }
             Code::NotOurs => {
-                "K1 not ours\nFor plan init, the database has tables already. Else its tables aren't those of an office, or a row isn't one that an office has, or the file is empty or shorter than a database.\nCheck the name; take a backup if the file was changed by hand. If plan 0.2.0 made it, run in sqlite3: ALTER TABLE lags RENAME COLUMN source TO src; ALTER TABLE lags RENAME COLUMN target TO dst;\n"
+                "K1 not ours\nFor plan init, it has a table, index or view already. Else they aren't just an office's, or a row isn't one that an office has, or the file is empty or shorter than a database.\nCheck the name; drop what was added by hand, or take a backup. If plan 0.2.0 made it, run in sqlite3: ALTER TABLE lags RENAME COLUMN source TO src; ALTER TABLE lags RENAME COLUMN target TO dst;\n"
             }
             Code::Version => {
                 "K2 version\nThe tables are of a version that this program doesn't know.\nTake the program that wrote them, or a newer one.\n"
