@@ -120,7 +120,7 @@ class Trial:
 
 
 def trials(folder):
-    """A trial for each route and each of its statuses, with the office that its request meets."""
+    """A trial for each route, with the office that its request meets."""
     office, tables, found, seen = os.path.join(folder, "office.db"), Tables(), [], set()
     init(office)
     for number, exchange in enumerate(conversation()):
