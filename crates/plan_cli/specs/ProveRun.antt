@@ -1,5 +1,5 @@
 -- What `plan prove` writes for the bytes that it reads (docs/DEFINITIONS.md, "Runs").
-use Rattle.std.specs.Prelude.{◌≡◌, ◌⊎◌, ℕ, List, codes}
+use Rattle.std.specs.Prelude.{◌≡◌, ◌≤◌, ◌⊎◌, ℕ, List, codes}
 use Rattle.plan_orlib.specs.Shop as docs
 use Rattle.plan_orlib.specs.Says.{Says}
 use Rattle.plan_sgs.specs.Problem.{IsActive, IsShortest, makespan}
@@ -12,18 +12,19 @@ use Rattle.plan_gantt.specs.FirstFaults.{TellsFirstShopFault}
 use Rattle.plan_cli.specs.ProofText.{ShowsProof}
 
 -- a text shows an active schedule of a shop, and a lower bound of the makespans of all feasible
--- ones; where the two meet the schedule is a shortest one
-pub record IsProvedOf (s : JobShop) (text : List ℕ) : Type 0 where
+-- ones, that were found within a number of nodes; where the two meet the schedule is a shortest one
+pub record IsProvedOf (nodes : ℕ) (s : JobShop) (text : List ℕ) : Type 0 where
   pub proof : Proof
   pub active : IsActive (problem_of s) proof.schedule.starts.items
   pub makespan : proof.schedule.makespan ≡ makespan (problem_of s) proof.schedule.starts.items
   pub lower : IsLowerBound s proof.lower
+  pub visited : proof.nodes ≤ nodes
   pub shortest : proof.lower ≡ proof.schedule.makespan → IsShortest (problem_of s) proof.schedule.starts.items
   pub shown : ShowsProof s proof text
 
--- the same, where a word spells a number of nodes
+-- the same, within the number of nodes that a word spells
 abbrev pub IsProofTextOf : List ℕ → JobShop → List ℕ → Type 0
-IsProofTextOf word s text = (nodes : ℕ) × IsNodesText word nodes × IsProvedOf s text
+IsProofTextOf word s text = (nodes : ℕ) × IsNodesText word nodes × IsProvedOf nodes s text
 
 -- a text tells what is proved of an instance in a file
 abbrev pub IsProofTableOf : List ℕ → List ℕ → List ℕ → List ℕ → Type 0

@@ -54,7 +54,7 @@ fn shown(alloc: Global, shop: &Shop, proof: &Proof) -> Result<String, AllocError
 // The text of what is proved of a shop by a search of so many nodes.
 fn proved_text(alloc: Global, nodes: u64, shop: &Shop) -> Result<String, CliFault>
     requires { IsNodeLimit nodes }
-    ensures made { IfOk result (λ text. spec.IsProvedOf shop.now (string_bytes text)) }
+    ensures made { IfOk result (λ text. spec.IsProvedOf nodes shop.now (string_bytes text)) }
     ensures refused { IfErr result (λ e. e ≡ CliFault.Memory) }
 {
     match prove(alloc, shop, nodes) {

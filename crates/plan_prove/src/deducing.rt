@@ -43,11 +43,14 @@ fn follow(
     let tail = at(&graph.times, second) + at(&state.tails, second);
     let later = raise(&mut state.heads, second, head, limit)?;
     let longer = raise(&mut state.tails, first, tail, limit)?;
+    if !later && !longer {
+        return Some(false);
+    }
     queue.note(second, later);
     queue.note(first, longer);
     span(graph, limit, state, first)?;
     span(graph, limit, state, second)?;
-    Some(later || longer)
+    Some(true)
 }
 
 /// How much room is left below the limit where one step goes before another; `None` where there is
@@ -143,7 +146,7 @@ fn apply(graph: &Graph, limit: u32, state: &mut State, queue: &mut Queue, rule: 
     }
 }
 
-// What all rules of a step say.
+// What all rules of a step say. One that leaves nothing is counted.
 fn apply_all(
     graph: &Graph,
     limit: u32,
@@ -157,7 +160,10 @@ fn apply_all(
         return Some(false);
     }
     for rule in &graph.rules[step as usize] {
-        apply(graph, limit, state, queue, *rule)?;
+        let Some(_) = apply(graph, limit, state, queue, *rule) else {
+            queue.blame(graph, *rule);
+            return None;
+        };
     }
     Some(true)
 }

@@ -9,6 +9,7 @@ ghost use Rattle.plan_prove.specs.Proofs as spec;
 use crate::fault::ProveFault;
 use crate::graph::{Graph, graph_of};
 use crate::guiding::activated;
+use crate::queue::Queue;
 use crate::refuting::{Outcome, refute};
 use plan_exact::{ExactFault, GREATEST_BUDGET, solve_shop};
 use plan_sgs::Schedule;
@@ -20,6 +21,9 @@ pub const MOST_NODES: u64 = 1_000_000_000;
 
 /// The most short searches of so many nodes.
 const MOST_HALVINGS: u32 = 64;
+
+/// How many nodes a search may take before it begins again from what it has learned.
+const FIRST_PATIENCE: u64 = 1_000;
 
 /// A schedule of a job shop and a lower bound of all makespans: where they meet the schedule is
 /// proved to be a shortest one.
@@ -99,6 +103,7 @@ fn attempt(
     alloc: Global,
     shop: &Shop,
     graph: &Graph,
+    queue: &mut Queue,
     proof: &mut Proof,
     target: u64,
     allowed: u64,
@@ -114,7 +119,14 @@ fn attempt(
     };
     let granted = allowed.min(*left);
     let mut unused = granted;
-    let outcome = refute(alloc, graph, limit, &mut unused)?;
+    let outcome = refute(
+        alloc,
+        graph,
+        limit,
+        queue,
+        &proof.schedule.starts,
+        &mut unused,
+    )?;
     *left -= granted - unused;
     match outcome {
         Outcome::Stopped => Ok(false),
@@ -170,6 +182,7 @@ fn halve(
     alloc: Global,
     shop: &Shop,
     graph: &Graph,
+    queue: &mut Queue,
     proof: &mut Proof,
     allowed: u64,
     left: &mut u64,
@@ -186,18 +199,21 @@ fn halve(
             break;
         }
         let target = above - (above - proof.lower) / 2;
-        if !attempt(alloc, shop, graph, proof, target, allowed, left)? {
+        if !attempt(alloc, shop, graph, queue, proof, target, allowed, left)? {
             above = target.saturating_sub(1);
         }
     }
     Ok(())
 }
 
-// Steps down from the best makespan until it is the lower bound, or no nodes are left.
+// Steps down from the best makespan until it is the lower bound, or no nodes are left. A search that
+// comes to nothing within so many nodes is begun again, by the weights that it leaves, for a third
+// more of them, and right below the best makespan too.
 fn close(
     alloc: Global,
     shop: &Shop,
     graph: &Graph,
+    queue: &mut Queue,
     proof: &mut Proof,
     left: &mut u64,
 ) -> Result<(), AllocError>
@@ -206,13 +222,16 @@ fn close(
     ensures proof { IfOk result (λ _. spec.IsProofOf shop.now proof.new) }
     ensures left { left.new ≤ left.old }
 {
+    let mut allowed = FIRST_PATIENCE;
     for _step in 0..*left {
-        if proof.lower >= proof.schedule.makespan {
+        let best = proof.schedule.makespan;
+        if proof.lower >= best || *left == 0 {
             break;
         }
-        let target = target(proof.schedule.makespan, proof.lower);
-        if !attempt(alloc, shop, graph, proof, target, MOST_NODES, left)? {
-            break;
+        let target = target(best, proof.lower);
+        if !attempt(alloc, shop, graph, queue, proof, target, allowed, left)? {
+            allowed = allowed.saturating_add(allowed / 3);
+            attempt(alloc, shop, graph, queue, proof, best, allowed, left)?;
         }
     }
     Ok(())
@@ -229,11 +248,14 @@ fn searched(alloc: Global, shop: &Shop, nodes: u64) -> Result<Proof, AllocError>
         lower: 0,
         nodes: 0,
     };
+    let mut queue = Queue::new(alloc, &graph)?;
     let mut left = nodes;
-    halve(alloc, shop, &graph, &mut proof, 1, &mut left)?;
-    halve(alloc, shop, &graph, &mut proof, 100, &mut left)?;
-    halve(alloc, shop, &graph, &mut proof, 10_000, &mut left)?;
-    close(alloc, shop, &graph, &mut proof, &mut left)?;
+    halve(alloc, shop, &graph, &mut queue, &mut proof, 1, &mut left)?;
+    halve(alloc, shop, &graph, &mut queue, &mut proof, 100, &mut left)?;
+    halve(
+        alloc, shop, &graph, &mut queue, &mut proof, 10_000, &mut left,
+    )?;
+    close(alloc, shop, &graph, &mut queue, &mut proof, &mut left)?;
     proof.nodes = nodes - left;
     Ok(proof)
 }

@@ -6,8 +6,9 @@ use std::alloc::{AllocError, Global};
 
 /// The steps whose head or tail has risen, first come first served and none twice; and the machines
 /// of which one has been looked at since they were last bounded, each with the places of its steps
-/// in the order of their tails, as it was last sorted. What it holds stands in no clause: a step
-/// that is missing costs the search some of what it could deduce.
+/// in the order of their tails, as it was last sorted; and how often each pair came to nothing. What
+/// it holds stands in no clause: a step that is missing costs the search some of what it could
+/// deduce.
 #[derive(Drop)]
 pub struct Queue {
     ring: Vec<u32>,
@@ -16,6 +17,7 @@ pub struct Queue {
     waits: Vec<bool>,
     stale: Vec<bool>,
     orders: Vec<Vec<u32>>,
+    weights: Vec<u32>,
 }
 
 // The place after another one in a ring.
@@ -88,6 +90,7 @@ impl Queue {
             waits: vec![in alloc; false; steps]?,
             stale: vec![in alloc; false; graph.cliques.len()]?,
             orders: orders(alloc, graph)?,
+            weights: vec![in alloc; 1; graph.pairs.len()]?,
         })
     }
 
@@ -177,6 +180,26 @@ impl Queue {
         for _place in 0..self.waits.len() {
             self.push(step);
             step = step.saturating_add(1);
+        }
+    }
+
+    /// How often a pair came to nothing, and once more (Boussemart, Hemery, Lecoutre and Sais 2004).
+    pub fn weight(&self, place: usize) -> u64 {
+        match self.weights.get(place) {
+            Some(weight) => *weight as u64,
+            None => 1,
+        }
+    }
+
+    /// Counts a rule that came to nothing, where it is a pair.
+    pub fn blame(&mut self, graph: &Graph, rule: u32) {
+        let arcs = graph.arcs.len();
+        if (rule as usize) < arcs {
+            return;
+        }
+        let place = rule as usize - arcs;
+        if place < self.weights.len() {
+            self.weights[place] = self.weights[place].saturating_add(1);
         }
     }
 

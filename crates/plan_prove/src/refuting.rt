@@ -37,7 +37,7 @@ fn split(
 {
     let back = state.with_side(alloc, choice.place, Side::Second)?;
     let forth = state.taking(choice.place, Side::First);
-    if choice.roomier_first {
+    if choice.is_forth {
         waiting.push(back)?;
         waiting.push(forth)?;
     } else {
@@ -53,11 +53,13 @@ fn expand(
     graph: &Graph,
     limit: u32,
     state: State,
+    queue: &Queue,
+    guide: &[u64],
     waiting: &mut Vec<State>,
 ) -> Result<Option<Vec<u32>>, AllocError>
     ensures { IfOk result (λ leaf. IfNone leaf (spec.Covers graph.now limit waiting.new.items waiting.old.items state)) }
 {
-    match choose(graph, limit, &state) {
+    match choose(graph, limit, &state, queue, guide) {
         None => Ok(Some(state.heads)),
         Some(choice) => {
             split(alloc, graph, limit, state, choice, waiting)?;
@@ -73,6 +75,7 @@ fn visit(
     limit: u32,
     mut state: State,
     queue: &mut Queue,
+    guide: &[u64],
     waiting: &mut Vec<State>,
 ) -> Result<Option<Vec<u32>>, AllocError>
     ensures { IfOk result (λ leaf. IfNone leaf (spec.Covers graph.now limit waiting.new.items waiting.old.items state)) }
@@ -81,17 +84,20 @@ fn visit(
     let Some(_) = deduce(graph, limit, &mut state, queue) else {
         return Ok(None);
     };
-    let leaf = expand(alloc, graph, limit, state, waiting)?;
+    let leaf = expand(alloc, graph, limit, state, queue, guide, waiting)?;
     Ok(leaf)
 }
 
 /// Searches for a schedule whose makespan is below a limit, depth first, for as many nodes as are
 /// left (branch and bound over disjunctive pairs: Carlier and Pinson 1989; Brucker, Jurisch and
-/// Sievers 1994).
+/// Sievers 1994). Of a pair that side is visited first in which a schedule has it; what the queue
+/// has counted of earlier searches says which pairs come first.
 pub fn refute(
     alloc: Global,
     graph: &Graph,
     limit: u32,
+    queue: &mut Queue,
+    guide: &[u64],
     nodes: &mut u64,
 ) -> Result<Outcome, AllocError>
     ensures refuted { IfOk result (λ outcome. outcome ≡ Refuted → NoneIsBelow graph.now limit) }
@@ -99,13 +105,12 @@ pub fn refute(
 {
     let mut waiting = Vec::new(alloc);
     waiting.push(State::root(alloc, graph)?)?;
-    let mut queue = Queue::new(alloc, graph)?;
     for _node in 0..*nodes {
         let Some(state) = waiting.pop() else {
             return Ok(Outcome::Refuted);
         };
         *nodes -= 1;
-        if let Some(heads) = visit(alloc, graph, limit, state, &mut queue, &mut waiting)? {
+        if let Some(heads) = visit(alloc, graph, limit, state, queue, guide, &mut waiting)? {
             return Ok(Outcome::Leaf(heads));
         }
     }
