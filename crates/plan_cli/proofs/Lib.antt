@@ -3,3 +3,4 @@ pub mod ScheduledLemmas
 pub mod StartLemmas
 pub mod DaysLemmas
 pub mod CheckLemmas
+pub mod InputLemmas

@@ -1,5 +1,5 @@
 -- What is made of a file that is given by its name (docs/DEFINITIONS.md, "Runs").
-use Rattle.std.specs.Prelude.{ℕ, ◌+◌, ◌≤◌, List, Option, None, Result, Err, length}
+use Rattle.std.specs.Prelude.{◌≡◌, ℕ, ◌+◌, ◌≤◌, List, Option, Result, Err, IfSome, length, take, codes, bytes_eq, if◌then◌else◌}
 use Rattle.plan_gantt.specs.FirstFaults.{TellsFirstFailing}
 use Rattle.plan_cli.specs.Run.{IsDateTableOf, ReadsFront}
 use Rattle.plan_cli.specs.ScheduleRun.{IsScheduleTableOf, TellsWhyNoSchedule}
@@ -47,14 +47,25 @@ IsLineOf (task.Best budget instance) = TellsWhyNoBest budget.now instance.now
 IsLineOf (task.Prove nodes instance) = TellsWhyNoProof nodes.now instance.now
 IsLineOf (task.BestProject budget) = TellsWhyNoBestProject budget.now
 
--- a task judges some bytes that were read, unless the input failed or memory ran out
-abbrev pub DoesTask : Task → Option (List ℕ) → Option (List ℕ) → Result (Unit {0}) CliFault → Type 0
-DoesTask task taken after result = ReadsFront (IsTextOf task) (IsLineOf task) None None taken after result
+-- A task judges what was read of a file, which begins the file where its bytes are known; unless the
+-- input failed or memory ran out.
+abbrev pub DoesTask : Task → Option (List ℕ) → Option (List ℕ) → Option (List ℕ) → Result (Unit {0}) CliFault → Type 0
+DoesTask task file taken after result =
+    (rest : Option (List ℕ)) × ReadsFront (IsTextOf task) (IsLineOf task) file rest taken after result
 
--- some bytes of starts were read, at most one more than the longest text has, and some bytes of a
--- project are judged for them, unless the input failed or memory ran out
-abbrev pub DoesCheck : Option (List ℕ) → Option (List ℕ) → Result (Unit {0}) CliFault → Type 0
-DoesCheck taken after (Err fault.Memory) = Unit {0}
-DoesCheck taken after (Err fault.Input) = Unit {0}
-DoesCheck taken after result = (listed : List ℕ) × (length listed ≤ longest_text + 1)
-    × ReadsFront (IsVerdictOf listed) (TellsWhyNoVerdict listed) None None taken after result
+-- these bytes are those of a file, where they are known, up to one more than the longest text has
+abbrev pub AreRead : List ℕ → Option (List ℕ) → Type 0
+AreRead read file = IfSome file (λ bytes. read ≡ take (longest_text + 1) bytes)
+
+-- Some bytes of starts were read, at most one more than the longest text has, and what was read of a
+-- project is judged for them; unless the input failed or memory ran out.
+abbrev pub DoesCheck : Option (List ℕ) → Option (List ℕ) → Option (List ℕ) → Option (List ℕ) → Result (Unit {0}) CliFault → Type 0
+DoesCheck starts file taken after (Err fault.Memory) = Unit {0}
+DoesCheck starts file taken after (Err fault.Input) = Unit {0}
+DoesCheck starts file taken after result = (listed : List ℕ) × (length listed ≤ longest_text + 1) × AreRead listed starts
+    × ((rest : Option (List ℕ)) × ReadsFront (IsVerdictOf listed) (TellsWhyNoVerdict listed) file rest taken after result)
+
+-- the bytes that a name stands for, where they are known: those of standard input for `-`, else those
+-- of the file of that name
+abbrev pub bytes_named : Option (List ℕ) → (List ℕ → Option (List ℕ)) → List ℕ → Option (List ℕ)
+bytes_named standard file_of name = if bytes_eq name (codes "-") then standard else file_of name
