@@ -4,9 +4,9 @@ ghost use Rattle.std.specs.Prelude.{IsTrue, IfOk};
 ghost use Rattle.sqlite_disk.specs.Memory.{memory_is_usable};
 ghost use Rattle.sqlite_disk.specs.Fuse.{inner_of, IsFresh};
 
-use crate::first_version::filled_files;
+use crate::first_version::fill_files;
 use crate::running::{Progress, run};
-use crate::shown::lines_of_files;
+use crate::shown::push_lines_of_files;
 use plan_desk::Request;
 use sqlite::Files;
 use sqlite_disk::{Crash, Disk, Fuse, Memory};
@@ -15,7 +15,7 @@ use std::io;
 use std::test::Fail;
 
 /// The bytes of the files of a store.
-#[derive(PartialEq, Drop)]
+#[derive(Drop)]
 pub struct Image {
     pub log: Vec<u8>,
     pub db: Vec<u8>,
@@ -32,7 +32,7 @@ impl Image {
 }
 
 /// The bytes of files that are lent.
-#[derive(Clone, Copy)]
+#[derive(Clone, Copy, PartialEq)]
 pub struct View<'a> {
     pub log: &'a [u8],
     pub db: &'a [u8],
@@ -47,7 +47,7 @@ pub struct Limits {
 
 /// A run that was stopped: how far it came, whether the log had calls left, and what the files hold,
 /// where what was not synced is kept and where it is lost.
-#[derive(PartialEq, Drop)]
+#[derive(Drop)]
 pub struct Stopped {
     pub progress: Progress,
     pub log_left: bool,
@@ -75,15 +75,21 @@ fn image_of(alloc: Global, log: &Memory, db: &Memory) -> Result<Image, AllocErro
 pub fn lines_in(alloc: Global, image: View<'_>) -> Result<String, Fail> {
     let log = file_of(alloc, image.log)?;
     let db = file_of(alloc, image.db)?;
-    lines_of_files(alloc, Files { log, db })
+    let mut lines = String::new(alloc);
+    match push_lines_of_files(alloc, Files { log, db }, &mut lines) {
+        Progress::Failed => Err(Fail::new("the store can't be shown")),
+        _ => Ok(lines),
+    }
 }
 
 /// The files of a store of the first version.
 pub fn first_version(alloc: Global) -> Result<Image, Fail> {
     let log = file_of(alloc, &[])?;
     let db = file_of(alloc, &[])?;
-    let Files { log, db } = filled_files(alloc, Files { log, db })?;
-    Ok(image_of(alloc, &log, &db)?)
+    match fill_files(alloc, Files { log, db }) {
+        (Progress::Closed, Files { log, db }) => Ok(image_of(alloc, &log, &db)?),
+        _ => Err(Fail::new("the store can't be filled")),
+    }
 }
 
 /// A run on these files, with no stop.

@@ -2,11 +2,10 @@
 
 ghost use Rattle.std.specs.Prelude.{IsTrue};
 
-use crate::running::{closed, options};
-use sqlite::{Alter, Connection, Error, FileStore, Files, params};
+use crate::running::{Progress, Task, run_task};
+use sqlite::{Alter, Connection, Error, Files, params};
 use sqlite_disk::Disk;
 use std::alloc::{AllocError, Global};
-use std::test::Fail;
 
 // The tables as the first version made them, and the rows but those of plans.
 const FIRST: &str =
@@ -108,27 +107,28 @@ fn fill<S: Alter>(conn: &mut Connection<S>) -> Result<(), Error> {
     add_plan(conn, 3, "project", "", PROJECT, ("", ""))
 }
 
-fn filled<S: Alter + Drop>(conn: Connection<S>) -> Result<Connection<S>, Error> {
-    let mut conn = conn;
-    fill(&mut conn)?;
-    Ok(conn)
-}
+// Rows of the first version are written.
+#[derive(Drop)]
+struct Filling;
 
-// Rows of the first version in the database of a connection, whose files are closed.
-fn filled_and_closed<D: Disk + Drop>(conn: Connection<FileStore<D>>) -> Result<Files<D>, Fail> {
-    match filled(conn) {
-        Ok(conn) => Ok(closed(conn).1),
-        Err(error) => Err(Fail::from(error)),
+impl Task for Filling {
+    fn carry_out<S: Alter + Drop>(
+        &mut self,
+        _alloc: Global,
+        conn: Connection<S>,
+    ) -> Result<Connection<S>, S> {
+        let mut conn = conn;
+        match fill(&mut conn) {
+            Ok(()) => Ok(conn),
+            Err(_) => Err(conn.into_store()),
+        }
     }
 }
 
-/// Files without bytes, in which a store of the first version is written.
-pub fn filled_files<D: Disk + Drop>(alloc: Global, files: Files<D>) -> Result<Files<D>, Fail>
+/// How far a run came that writes a store of the first version in files without bytes, and the files.
+pub fn fill_files<D: Disk + Drop>(alloc: Global, files: Files<D>) -> (Progress, Files<D>)
     requires log { IsTrue (D.Disk.is_usable files.log) }
     requires db { IsTrue (D.Disk.is_usable files.db) }
 {
-    match Connection::open_files(alloc, files, options()) {
-        Ok(conn) => filled_and_closed(conn),
-        Err((error, _)) => Err(Fail::from(error)),
-    }
+    run_task(alloc, files, &mut Filling)
 }

@@ -17,8 +17,8 @@ pub enum Progress {
     Closed,
 }
 
-/// Few pages are kept in memory, which takes less time to make.
-pub fn options() -> Options {
+// Few pages are kept in memory, which takes less time to make.
+fn options() -> Options {
     Options {
         cache_pages: 20,
         spill_pages: 20,
@@ -62,38 +62,70 @@ fn answered<B: Book + Drop>(alloc: Global, book: B, request: Option<&Request>) -
     }
 }
 
-// Takes the tables of a connection, and handles a request; or the store that is left.
-fn handled<S: Alter + Drop>(
-    alloc: Global,
-    conn: Connection<S>,
-    request: Option<&Request>,
-) -> Result<Connection<S>, S> {
-    let (is_done, book) = answered(alloc, taken(alloc, conn)?, request);
-    let conn = book.into_connection();
-    if is_done {
-        Ok(conn)
-    } else {
-        Err(conn.into_store())
+/// What is done with the database in files that are open.
+pub trait Task {
+    /// Does it, and gives the connection back; or the store that is left.
+    fn carry_out<S: Alter + Drop>(
+        &mut self,
+        alloc: Global,
+        conn: Connection<S>,
+    ) -> Result<Connection<S>, S>;
+}
+
+// Its tables are taken, and a request is handled, where there is one.
+#[derive(Drop)]
+struct Handling<'a> {
+    request: Option<&'a Request>,
+}
+
+impl<'a> Task for Handling<'a> {
+    fn carry_out<S: Alter + Drop>(
+        &mut self,
+        alloc: Global,
+        conn: Connection<S>,
+    ) -> Result<Connection<S>, S> {
+        let (is_done, book) = answered(alloc, taken(alloc, conn)?, self.request);
+        let conn = book.into_connection();
+        if is_done {
+            Ok(conn)
+        } else {
+            Err(conn.into_store())
+        }
     }
 }
 
-/// How far a run came that closes its files, and the files.
-pub fn closed<D: Disk + Drop>(conn: Connection<FileStore<D>>) -> (Progress, Files<D>) {
+// How far a run came that closes its files, and the files.
+fn closed<D: Disk + Drop>(conn: Connection<FileStore<D>>) -> (Progress, Files<D>) {
     match conn.close_files() {
         Ok(files) => (Progress::Closed, files),
         Err((_, store)) => (Progress::Done, store.close()),
     }
 }
 
-// Takes the tables of a connection, handles a request, and closes the files.
-fn run_over<D: Disk + Drop>(
+// Does a task, and closes the files.
+fn run_over<D: Disk + Drop, T: Task>(
     alloc: Global,
     conn: Connection<FileStore<D>>,
-    request: Option<&Request>,
+    task: &mut T,
 ) -> (Progress, Files<D>) {
-    match handled(alloc, conn, request) {
+    match task.carry_out(alloc, conn) {
         Ok(conn) => closed(conn),
         Err(store) => (Progress::Failed, store.close()),
+    }
+}
+
+/// Opens the files, does a task, and closes the files.
+pub fn run_task<D: Disk + Drop, T: Task>(
+    alloc: Global,
+    files: Files<D>,
+    task: &mut T,
+) -> (Progress, Files<D>)
+    requires log { IsTrue (D.Disk.is_usable files.log) }
+    requires db { IsTrue (D.Disk.is_usable files.db) }
+{
+    match Connection::open_files(alloc, files, options()) {
+        Ok(conn) => run_over(alloc, conn, task),
+        Err((_, left)) => (Progress::Failed, left.into_files()),
     }
 }
 
@@ -106,8 +138,5 @@ pub fn run<D: Disk + Drop>(
     requires log { IsTrue (D.Disk.is_usable files.log) }
     requires db { IsTrue (D.Disk.is_usable files.db) }
 {
-    match Connection::open_files(alloc, files, options()) {
-        Ok(conn) => run_over(alloc, conn, request),
-        Err((_, left)) => (Progress::Failed, left.into_files()),
-    }
+    run_task(alloc, files, &mut Handling { request })
 }

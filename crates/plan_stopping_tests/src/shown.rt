@@ -2,11 +2,10 @@
 
 ghost use Rattle.std.specs.Prelude.{IsTrue};
 
-use crate::running::options;
+use crate::running::{Progress, Task, run_task};
 use sqlite::{Alter, Connection, Error, Files, Row};
 use sqlite_disk::Disk;
 use std::alloc::{AllocError, Global};
-use std::test::Fail;
 
 // What shows the tables of either version.
 const QUERIES: [&str; 7] = [
@@ -63,20 +62,35 @@ fn push_all<S: Alter>(lines: &mut String, conn: &mut Connection<S>) -> Result<()
     Ok(())
 }
 
-fn all_lines<S: Alter + Drop>(alloc: Global, conn: Connection<S>) -> Result<String, Error> {
-    let mut conn = conn;
-    let mut lines = String::new(alloc);
-    push_all(&mut lines, &mut conn)?;
-    Ok(lines)
+// The tables and rows are shown, a line each.
+#[derive(Drop)]
+struct Showing<'a> {
+    lines: &'a mut String,
 }
 
-/// The tables and rows of the store in files, a line each.
-pub fn lines_of_files<D: Disk + Drop>(alloc: Global, files: Files<D>) -> Result<String, Fail>
+impl<'a> Task for Showing<'a> {
+    fn carry_out<S: Alter + Drop>(
+        &mut self,
+        _alloc: Global,
+        conn: Connection<S>,
+    ) -> Result<Connection<S>, S> {
+        let mut conn = conn;
+        match push_all(self.lines, &mut conn) {
+            Ok(()) => Ok(conn),
+            Err(_) => Err(conn.into_store()),
+        }
+    }
+}
+
+/// How far a run came that shows the tables and rows of the store in files, a line each.
+pub fn push_lines_of_files<D: Disk + Drop>(
+    alloc: Global,
+    files: Files<D>,
+    lines: &mut String,
+) -> Progress
     requires log { IsTrue (D.Disk.is_usable files.log) }
     requires db { IsTrue (D.Disk.is_usable files.db) }
 {
-    match Connection::open_files(alloc, files, options()) {
-        Ok(conn) => Ok(all_lines(alloc, conn)?),
-        Err((error, _)) => Err(Fail::from(error)),
-    }
+    let (progress, _files) = run_task(alloc, files, &mut Showing { lines });
+    progress
 }

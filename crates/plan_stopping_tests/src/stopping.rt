@@ -103,7 +103,7 @@ fn expect_torn(
     stopped: &Stopped,
     stops: &mut Stops,
 ) -> Result<(), Fail> {
-    if last.kept == stopped.kept {
+    if last.kept.view() == stopped.kept.view() {
         return Ok(());
     }
     let is_done = last.progress != Progress::Failed;
@@ -128,6 +128,29 @@ fn next(alloc: Global, run: &Run<'_>, limits: Limits) -> Result<Limits, Fail> {
     Ok(if stopped.log_left { db } else { log })
 }
 
+// Whether a stop leaves what the last one did.
+fn is_seen(last: &Stopped, stopped: &Stopped) -> bool {
+    last.progress == stopped.progress
+        && last.log_left == stopped.log_left
+        && last.kept.view() == stopped.kept.view()
+        && last.lost.view() == stopped.lost.view()
+}
+
+// What the next stop leaves, and what it would in the midst of its call.
+fn expect_stop(
+    rt: &impl Abort,
+    alloc: Global,
+    run: &Run<'_>,
+    last: &Stopped,
+    stopped: &Stopped,
+    stops: &mut Stops,
+) -> Result<(), Fail> {
+    if !is_seen(last, stopped) {
+        expect_left(rt, alloc, run, stopped, stops)?;
+    }
+    expect_torn(rt, alloc, run, last, stopped, stops)
+}
+
 // Stops a run after each of its calls, in the order in which it makes them.
 fn all_stops(rt: &impl Abort, alloc: Global, run: &Run<'_>) -> Result<Stops, Fail> {
     let mut limits = Limits { log: 0, db: 0 };
@@ -137,31 +160,19 @@ fn all_stops(rt: &impl Abort, alloc: Global, run: &Run<'_>) -> Result<Stops, Fai
         after: 0,
         torn: 0,
     };
-    let mut last: Option<Stopped> = None;
+    let mut last = stopped_run(alloc, run.image, limits, run.request)?;
+    expect_left(rt, alloc, run, &last, &mut stops)?;
     for calls in 0..MOST_CALLS {
-        let stopped = stopped_run(alloc, run.image, limits, run.request)?;
-        if !is_seen(last.as_ref(), &stopped) {
-            expect_left(rt, alloc, run, &stopped, &mut stops)?;
-        }
-        if let Some(last) = &last {
-            expect_torn(rt, alloc, run, last, &stopped, &mut stops)?;
-        }
-        if stopped.progress == Progress::Closed {
+        if last.progress == Progress::Closed {
             stops.calls = calls;
             return Ok(stops);
         }
         limits = next(alloc, run, limits)?;
-        last = Some(stopped);
+        let stopped = stopped_run(alloc, run.image, limits, run.request)?;
+        expect_stop(rt, alloc, run, &last, &stopped, &mut stops)?;
+        last = stopped;
     }
     panic!(rt; "it never ends");
-}
-
-// Whether a stop leaves what the last one did.
-fn is_seen(last: Option<&Stopped>, stopped: &Stopped) -> bool {
-    match last {
-        Some(last) => *last == *stopped,
-        None => false,
-    }
 }
 
 /// A run that is stopped after any of its calls is done whole or not at all.
