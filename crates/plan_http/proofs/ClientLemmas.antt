@@ -1,5 +1,5 @@
 -- What was read of a client, one read behind another.
-use Rattle.std.proofs.Common.{◌≡◌, ℕ, ◌<◌, ◌≤◌, Bool, true, List, [], ◌++◌, length, take, Option, None, Some, Result, Ok, Err, IfOk, refl, sym, ap, ◌∙◌, subst, append_assoc, append-nil}
+use Rattle.std.proofs.Common.{◌≡◌, ℕ, ◌<◌, ◌≤◌, Bool, true, false, List, [], ◌++◌, length, take, Option, None, Some, Result, Ok, Err, IfOk, refl, sym, ap, ◌∙◌, subst, append_assoc, append-nil}
 use Rattle.std.proofs.KnownBytes.{Consumes-nil, Consumes-trans}
 use Rattle.std.specs.Io.KnownBytes.{Consumes, Keeps, IsAtEnd, ReadConsumes}
 use Rattle.plan_http.specs.Clients.{Known, Comes, Hears, OfBytes}
@@ -50,7 +50,7 @@ reads_then {P} {Q} {S} a b c p q step = record {
   comes = comes_then a b c p.came q.came p.comes q.comes;
   holds = λ more ends.
       let shut : b.ended ≡ true → q.came ++ more ≡ [] = λ ended.
-          let closed = q.comes.shut ended in ap (λ came. came ++ more) closed.0 ∙ ends closed.1 in
+      let closed = q.comes.shut ended in ap (λ came. came ++ more) closed.0 ∙ ends closed.1 in
       subst (λ came. S (Some came) (Some more)) (sym (append_assoc p.came q.came more))
       (step (Some (p.came ++ (q.came ++ more))) (Some (q.came ++ more)) (Some more) (p.holds (q.came ++ more) shut) (q.holds more ends));
 }
@@ -66,6 +66,9 @@ reads_fill {E = E} a b old new filled k (Ok n) fits some bound h = record {
   holds = λ more ends.
       fills {E = E} old new filled k (Some (take n new ++ more)) (Some more) (Ok n) fits some bound (refl, λ zero room. ends (h.1 zero room));
 }
+
+pub still_open : (ended : Bool) → ended ≡ false → ended ≡ true → ⊥
+still_open ended is was = let no : true ≡ false = sym was ∙ is in absurd cc
 
 -- what is left behind bytes that are known
 pub rest_known : {old new : Known} {came : List ℕ} (bytes : List ℕ) → Comes old new came → old.left ≡ Some bytes → (old.ended ≡ true → ⊥)
