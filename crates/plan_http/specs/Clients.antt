@@ -1,5 +1,5 @@
 -- Clients, as far as their connections show them (docs/DEFINITIONS.md, "Connections").
-use Rattle.std.specs.Prelude.{◌≡◌, ℕ, ◌<◌, Bool, true, List, [], ◌++◌, length, take, Option, Some, Result, Ok, Err}
+use Rattle.std.specs.Prelude.{◌≡◌, ℕ, ◌<◌, Bool, true, false, List, [], ◌++◌, length, take, Option, Some, Result, Ok, Err}
 use Rattle.std.specs.Io.KnownBytes.{Consumes}
 
 -- What is known of a client: the bytes that reads of it have answered, in order; whether its end was
@@ -33,4 +33,4 @@ pub record OfBytes (old new : Known) (P : List ℕ → Type 0) : Type 0 where
 -- nothing came of the client yet
 pub record IsFresh (known : Known) : Type 0 where
   pub silent : known.heard ≡ []
-  pub open_still : known.ended ≡ true → ⊥
+  pub unended : known.ended ≡ false

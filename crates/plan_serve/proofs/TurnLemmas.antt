@@ -1,5 +1,5 @@
 -- Connections that were served turn by turn.
-use Rattle.std.proofs.Common.{◌≡◌, ◌<◌, ◌≤◌, ◌+◌, ℕ, suc, true, List, [], ◌∷◌, ◌++◌, Option, Some, None, Result, Ok, Err, IfOk, IsErr, MatchResult, length, take, map, refl, sym, subst, ◌∙◌, ap, arith}
+use Rattle.std.proofs.Common.{◌≡◌, ◌<◌, ◌≤◌, ◌+◌, ℕ, suc, Bool, true, false, List, [], ◌∷◌, ◌++◌, Option, Some, None, Result, Ok, Err, IfOk, IsErr, MatchResult, length, take, map, refl, sym, subst, ◌∙◌, ap, arith}
 use Rattle.std.proofs.lemmas.List.{length-append, append-nil}
 use Rattle.std.specs.Io.KnownBytes.{Appends}
 use Rattle.plan_psplib.specs.declared.devices.DeviceFault.{DeviceFault}
@@ -21,6 +21,13 @@ pub counted_ok : {A E F : Type 0} (P : A → Type 0) (answer : Result A E) (resu
 counted_ok P (Ok value) result h is = subst (λ r. IfOk r P) (sym is) h
 counted_ok P (Err e) (Err f) h is = tt
 counted_ok P (Err e) (Ok value) h is = absurd cc
+
+-- sides of which nothing was heard and that were sent nothing
+pub fresh_sides : {A E : Type 0} (heard : A → Text) (ended : A → Bool) (told : A → Text) (result : Result A E)
+    → IfOk result (λ sides. (heard sides ≡ []) × (ended sides ≡ false) × (told sides ≡ []))
+    → IfOk result (λ sides. IsFresh (record { heard = heard sides; ended = ended sides; left = None }) × (Some (told sides) ≡ Some []))
+fresh_sides heard ended told (Ok sides) (silent, unended, unsent) = (record { silent = silent; unended = unended }, ap Some unsent)
+fresh_sides heard ended told (Err e) h = tt
 
 -- the visit of a connection
 abbrev pub visit_of : Known → Text → ConnEnd → Option Decision → Visit

@@ -1,10 +1,11 @@
 //! The two sides of a connection of a socket, and how long each may take.
 
-ghost use Rattle.std.specs.Prelude.{◌≡◌, ◌*◌, ◌≤◌, IfOk};
+ghost use Rattle.std.specs.Prelude.{◌≡◌, ◌*◌, ◌≤◌, [], false, IfOk};
 ghost use Rattle.std.specs.Duration.{as_nanos};
 ghost use Rattle.std.specs.Io.{ReadsAtMost, WritesAtMost};
 
 use crate::first_line::FirstLine;
+use plan_http::{Listening, Trace};
 use plan_psplib::{DeviceFault, Sink, Source, Tally};
 use std::io::{self, ErrorKind, Read, Write};
 use std::net::{Shutdown, TcpStream};
@@ -54,6 +55,8 @@ pub struct Side<'a> {
     stream: TcpStream,
     timer: Timer<'a>,
     tally: Tally,
+    // What its writes accepted.
+    told: Trace,
     bytes: u64,
     line: FirstLine,
 }
@@ -98,25 +101,30 @@ impl<'a> Source for Side<'a> {
 }
 
 impl<'a> Sink for Side<'a> {
-    ghost use Rattle.std.specs.Prelude.{None};
+    ghost use Rattle.std.specs.Prelude.{Some};
 
     ghost calls = { λ side. side.tally.calls };
 
     ghost faults = { λ side. side.tally.faults };
 
-    ghost taken = { λ _. None };
+    // What it was sent is what its writes accepted.
+    ghost taken = { λ side. Some side.told.bytes };
 
     fn write(&mut self, bytes: &[u8]) -> Result<usize, DeviceFault> {
-        let written = write_in_time(&mut self.timer, &self.stream, bytes);
-        if let Ok(count) = written {
-            self.bytes = self.bytes.saturating_add(count as u64);
+        match write_in_time(&mut self.timer, &self.stream, bytes) {
+            Ok(count) => {
+                self.bytes = self.bytes.saturating_add(count as u64);
+                self.told = self.told.with(&bytes[..count]);
+                self.tally.count(Ok::<usize, DeviceFault>(count))
+            }
+            Err(_) => self.tally.count(Err::<usize, DeviceFault>(DeviceFault)),
         }
-        self.tally.count(written)
     }
 }
 
 fn side_of(rt: &HostRuntime, stream: TcpStream, patience: u32) -> Side<'_>
     ensures untouched { result.tally.calls ≡ 0 }
+    ensures unsent { result.told.bytes ≡ [] }
     ensures timed { result.timer.patience ≡ patience }
 {
     Side {
@@ -127,23 +135,27 @@ fn side_of(rt: &HostRuntime, stream: TcpStream, patience: u32) -> Side<'_>
             start: None,
         },
         tally: Tally::new(),
+        told: Trace::new(),
         bytes: 0,
         line: FirstLine::new(),
     }
 }
 
-// The two sides of a connection, neither of which was called yet, and each with so many seconds.
+// The two sides of a connection, neither of which was called yet, and each with so many seconds. Of the
+// one it is known what is heard, of the other what it is sent.
 pub(crate) fn both_sides(
     rt: &HostRuntime,
     stream: TcpStream,
     patience: u32,
-) -> io::Result<(Side<'_>, Side<'_>)>
-    ensures untouched { IfOk result (λ sides. (sides.0.tally.calls ≡ 0) × (sides.1.tally.calls ≡ 0)) }
-    ensures timed { IfOk result (λ sides. (sides.0.timer.patience ≡ patience) × (sides.1.timer.patience ≡ patience)) }
+) -> io::Result<(Listening<Side<'_>>, Side<'_>)>
+    ensures untouched { IfOk result (λ sides. (sides.0.source.tally.calls ≡ 0) × (sides.1.tally.calls ≡ 0)) }
+    ensures fresh { IfOk result (λ sides. (sides.0.trace.bytes ≡ []) × (sides.0.is_ended ≡ false) × (sides.1.told.bytes ≡ [])) }
+    ensures timed { IfOk result (λ sides. (sides.0.source.timer.patience ≡ patience) × (sides.1.timer.patience ≡ patience)) }
 {
     stream.set_nonblocking(false)?;
     let writer = stream.try_clone()?;
-    Ok((side_of(rt, stream, patience), side_of(rt, writer, patience)))
+    let reader = Listening::new(side_of(rt, stream, patience));
+    Ok((reader, side_of(rt, writer, patience)))
 }
 
 impl<'a> Side<'a> {
