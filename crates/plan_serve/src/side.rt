@@ -5,8 +5,8 @@ ghost use Rattle.std.specs.Duration.{as_nanos};
 ghost use Rattle.std.specs.Io.{ReadsAtMost, WritesAtMost};
 
 use crate::first_line::FirstLine;
-use plan_http::{Listening, Trace};
-use plan_psplib::{DeviceFault, Sink, Source, Tally};
+use plan_http::{Client, Trace};
+use plan_psplib::{DeviceFault, Sink, Tally};
 use std::io::{self, ErrorKind, Read, Write};
 use std::net::{Shutdown, TcpStream};
 use std::time::{Duration, Instant};
@@ -55,6 +55,9 @@ pub struct Side<'a> {
     stream: TcpStream,
     timer: Timer<'a>,
     tally: Tally,
+    // What its reads returned, and whether its end was seen.
+    heard: Trace,
+    is_ended: bool,
     // What its writes accepted.
     told: Trace,
     bytes: u64,
@@ -81,22 +84,31 @@ fn write_in_time(timer: &mut Timer<'_>, stream: &TcpStream, bytes: &[u8]) -> io:
     writer.write(bytes)
 }
 
-impl<'a> Source for Side<'a> {
+impl<'a> Client for Side<'a> {
     ghost use Rattle.std.specs.Prelude.{None};
+    ghost use Rattle.plan_http.specs.Clients.{Known};
 
     ghost calls = { λ side. side.tally.calls };
 
     ghost faults = { λ side. side.tally.faults };
 
-    ghost remaining = { λ _. None };
+    // What is still to come nobody knows.
+    ghost known = { λ side. record { heard = side.heard.bytes; ended = side.is_ended; left = None } };
 
     fn read(&mut self, buf: &mut [u8]) -> Result<usize, DeviceFault> {
-        let read = read_in_time(&mut self.timer, &self.stream, buf);
-        if let Ok(count) = read {
-            self.bytes = self.bytes.saturating_add(count as u64);
-            self.line.hear(&buf[..count]);
+        if self.is_ended {
+            return self.tally.count(Ok::<usize, DeviceFault>(0));
         }
-        self.tally.count(read)
+        match read_in_time(&mut self.timer, &self.stream, buf) {
+            Ok(count) => {
+                self.is_ended = count == 0 && !buf.is_empty();
+                self.bytes = self.bytes.saturating_add(count as u64);
+                self.line.hear(&buf[..count]);
+                self.heard = self.heard.with(&buf[..count]);
+                self.tally.count(Ok::<usize, DeviceFault>(count))
+            }
+            Err(_) => self.tally.count(Err::<usize, DeviceFault>(DeviceFault)),
+        }
     }
 }
 
@@ -124,7 +136,7 @@ impl<'a> Sink for Side<'a> {
 
 fn side_of(rt: &HostRuntime, stream: TcpStream, patience: u32) -> Side<'_>
     ensures untouched { result.tally.calls ≡ 0 }
-    ensures unsent { result.told.bytes ≡ [] }
+    ensures fresh { (result.heard.bytes ≡ []) × (result.is_ended ≡ false) × (result.told.bytes ≡ []) }
     ensures timed { result.timer.patience ≡ patience }
 {
     Side {
@@ -135,6 +147,8 @@ fn side_of(rt: &HostRuntime, stream: TcpStream, patience: u32) -> Side<'_>
             start: None,
         },
         tally: Tally::new(),
+        heard: Trace::new(),
+        is_ended: false,
         told: Trace::new(),
         bytes: 0,
         line: FirstLine::new(),
@@ -147,15 +161,14 @@ pub(crate) fn both_sides(
     rt: &HostRuntime,
     stream: TcpStream,
     patience: u32,
-) -> io::Result<(Listening<Side<'_>>, Side<'_>)>
-    ensures untouched { IfOk result (λ sides. (sides.0.source.tally.calls ≡ 0) × (sides.1.tally.calls ≡ 0)) }
-    ensures fresh { IfOk result (λ sides. (sides.0.trace.bytes ≡ []) × (sides.0.is_ended ≡ false) × (sides.1.told.bytes ≡ [])) }
-    ensures timed { IfOk result (λ sides. (sides.0.source.timer.patience ≡ patience) × (sides.1.timer.patience ≡ patience)) }
+) -> io::Result<(Side<'_>, Side<'_>)>
+    ensures untouched { IfOk result (λ sides. (sides.0.tally.calls ≡ 0) × (sides.1.tally.calls ≡ 0)) }
+    ensures fresh { IfOk result (λ sides. (sides.0.heard.bytes ≡ []) × (sides.0.is_ended ≡ false) × (sides.1.told.bytes ≡ [])) }
+    ensures timed { IfOk result (λ sides. (sides.0.timer.patience ≡ patience) × (sides.1.timer.patience ≡ patience)) }
 {
     stream.set_nonblocking(false)?;
     let writer = stream.try_clone()?;
-    let reader = Listening::new(side_of(rt, stream, patience));
-    Ok((reader, side_of(rt, writer, patience)))
+    Ok((side_of(rt, stream, patience), side_of(rt, writer, patience)))
 }
 
 impl<'a> Side<'a> {

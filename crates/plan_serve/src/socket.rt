@@ -12,7 +12,7 @@ use crate::service::Service;
 use crate::side::{Side, both_sides};
 use crate::visitors::{Visitors, serve_visitors};
 use plan_desk::{Book, Office};
-use plan_http::{ConnEnd, Listening};
+use plan_http::ConnEnd;
 use plan_psplib::{DeviceFault, Tally};
 use std::io::{self, ErrorKind};
 use std::net::{TcpListener, TcpStream};
@@ -119,10 +119,10 @@ impl<'a> Door<'a> {
     }
 
     // Its two sides, each with so many seconds.
-    fn next_sides(&mut self, patience: u32) -> io::Result<(Listening<Side<'a>>, Side<'a>)>
-        ensures untouched { IfOk result (λ sides. (sides.0.source.tally.calls ≡ 0) × (sides.1.tally.calls ≡ 0)) }
-        ensures fresh { IfOk result (λ sides. (sides.0.trace.bytes ≡ []) × (sides.0.is_ended ≡ false) × (sides.1.told.bytes ≡ [])) }
-        ensures timed { IfOk result (λ sides. (sides.0.source.timer.patience ≡ patience) × (sides.1.timer.patience ≡ patience)) }
+    fn next_sides(&mut self, patience: u32) -> io::Result<(Side<'a>, Side<'a>)>
+        ensures untouched { IfOk result (λ sides. (sides.0.tally.calls ≡ 0) × (sides.1.tally.calls ≡ 0)) }
+        ensures fresh { IfOk result (λ sides. (sides.0.heard.bytes ≡ []) × (sides.0.is_ended ≡ false) × (sides.1.told.bytes ≡ [])) }
+        ensures timed { IfOk result (λ sides. (sides.0.timer.patience ≡ patience) × (sides.1.timer.patience ≡ patience)) }
     {
         let stream = self.next_stream()?;
         both_sides(self.rt, stream, patience)
@@ -140,7 +140,7 @@ struct Callers<'a> {
 }
 
 impl<'a> Visitors for Callers<'a> {
-    type Reader = Listening<Side<'a>>;
+    type Reader = Side<'a>;
 
     type Writer = Side<'a>;
 
@@ -157,21 +157,20 @@ impl<'a> Visitors for Callers<'a> {
 
     // A connection is awaited, and none is ended. One that comes has the same seconds as all.
     ghost admits = { λ old new result. IsCounted old.tally.calls new.tally.calls old.tally.faults new.tally.faults result × (new.ended.calls ≡ old.ended.calls)
-        × (new.patience ≡ old.patience) × IfOk result (λ sides. (sides.0.source.timer.patience ≡ old.patience) × (sides.1.timer.patience ≡ old.patience)) };
+        × (new.patience ≡ old.patience) × IfOk result (λ sides. (sides.0.timer.patience ≡ old.patience) × (sides.1.timer.patience ≡ old.patience)) };
 
     // One is ended, and none is awaited.
     ghost dismisses = { λ old new _ _ _. (new.tally.calls ≡ old.tally.calls) × (new.ended.calls ≡ old.ended.calls + 1) × (new.patience ≡ old.patience) };
 
-    fn admit(&mut self) -> Result<(Listening<Side<'a>>, Side<'a>), DeviceFault> {
+    fn admit(&mut self) -> Result<(Side<'a>, Side<'a>), DeviceFault> {
         let sides = self.door.next_sides(self.patience);
         self.tally.count(sides)
     }
 
-    fn dismiss(&mut self, reader: Listening<Side<'a>>, writer: Side<'a>, end: ConnEnd) {
-        let side = reader.source();
-        self.log.tell(side, &writer, end);
+    fn dismiss(&mut self, reader: Side<'a>, writer: Side<'a>, end: ConnEnd) {
+        self.log.tell(&reader, &writer, end);
         let heard = match end {
-            ConnEnd::Replied(_) => side.hear_out(),
+            ConnEnd::Replied(_) => reader.hear_out(),
             _ => Ok(()),
         };
         let _ended = self.ended.count(heard);

@@ -7,8 +7,8 @@ pub returns-clause-turn : goal.returns-clause-turn
 returns-clause-turn g c =
     let known = g.V.Reader.Client.known c.serve_conn-end.new.reader in
     let served = served_by g.B.Book.shelf c.args.office.now c.serve_conn-end.new.office (g.V.Reader.Client.known c.in-Ok.reader) known
-        (g.V.Writer.Sink.taken c.in-Ok.writer) (g.V.Writer.Sink.taken c.serve_conn-end.new.writer) c.serve_conn-end.result
-        c.in-Ok.ensures.fresh.0 c.in-Ok.ensures.fresh.1 c.serve_conn-end.ensures.ends in (
+    (g.V.Writer.Sink.taken c.in-Ok.writer) (g.V.Writer.Sink.taken c.serve_conn-end.new.writer) c.serve_conn-end.result
+    c.in-Ok.ensures.fresh.0 c.in-Ok.ensures.fresh.1 c.serve_conn-end.ensures.ends in (
       visited (visit_of known served.0 c.serve_conn-end.result served.2.0),
       served.2.1,
       record {
