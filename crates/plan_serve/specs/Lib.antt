@@ -6,4 +6,3 @@ pub mod ReplayRun
 pub mod Serve
 pub mod Turns
 pub mod Logs
-pub mod Ports

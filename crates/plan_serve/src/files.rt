@@ -2,14 +2,11 @@
 
 ghost use Rattle.std.specs.Prelude.{◌≡◌, ◌⊎◌, ◌+◌, ◌≤◌, length, IfOk, IfErr, IsErrOf, OnOk};
 ghost use Rattle.sqlite.specs.Held.{IsNew};
-ghost use Rattle.sqlite.specs.Files.{over_files};
 ghost use Rattle.plan_psplib.specs.Devices.{most_calls, HasFailed};
 ghost use Rattle.plan_store.specs.declared.fault.StoreFault.TheVariants.{NoMemory, Store};
-ghost use Rattle.plan_store.specs.OnDisk.{IsTakenFrom};
 ghost use Rattle.plan_serve.specs.InitRun.{IsInitFault};
 ghost use Rattle.plan_serve.specs.ReplayRun.{AreAnswered, AreAnsweredInPart};
 ghost use Rattle.plan_serve.specs.Serve.{IsServeFault};
-ghost use Rattle.plan_serve.specs.Ports.{ServesOpened};
 
 use crate::fault::ServeFault;
 use crate::init::Place;
@@ -17,10 +14,9 @@ use crate::keeping::{Ended, init_at, replay_opened, serve_opened};
 use crate::looking::{look, refusal};
 use crate::requests::read_connection;
 use crate::service::Service;
-use plan_desk::Book;
 use plan_psplib::{Sink, StdSource};
 use plan_store::{SqlBook, StoreFault};
-use sqlite::{Connection, Error, ErrorCode, Start, Unknown};
+use sqlite::{Connection, Error, ErrorCode, Unknown};
 use sqlite_std_file::File;
 use sqlite_store::FileStore;
 use std::alloc::Global;
@@ -172,10 +168,7 @@ pub fn replay_on_files<W: Sink>(
 /// `plan serve`: serves so many connections on a port of this machine alone, by the office in a file.
 /// The office is opened before the port.
 pub fn serve_on_port(rt: &HostRuntime, service: &Service<'_>) -> Result<(), ServeFault>
-    // So many turns were served, over the office that was opened.
-    ensures ok { OnOk result (ServesOpened ⟦<SqlBook<FileStore<File>> as Book>⟧.shelf
-        (λ book. IsTakenFrom ⟦<Unknown as Start>⟧ book.conn over_files) service.now.count) }
-    ensures which { IfErr result IsServeFault }
+    ensures { IfErr result IsServeFault }
 {
     let path = service.database;
     if let Err(fault) = look(rt, path) {
