@@ -3,7 +3,9 @@ use Rattle.std.proofs.Common.{◌≡◌, ℕ, ◌+◌, ◌<◌, ◌≤◌, List,
 use Rattle.std.proofs.Math.Seq.{take-append_seam, drop-append_seam}
 use Rattle.std.proofs.lemmas.List.{append-nil, length-take-le, length-append, take-append-le}
 use Rattle.plan_http.specs.Pieces.{IsSplit, Fills}
-use Rattle.plan_http.specs.BodyPieces.{HasLeft, Skips}
+use Rattle.plan_http.specs.BodyPieces.{BodyOutcome, IfRead, HasLeft, Skips}
+use Rattle.plan_http.specs.declared.body.BodyEnd.{BodyEnd}
+use Rattle.plan_http.specs.declared.body.BodyEnd.TheVariants.{Read, Short, NoMemory, Failed}
 
 -- the end comes before the body is full
 pub ended : (bytes body : List ℕ) (left : Option (List ℕ)) (filled came : ℕ) → IsSplit bytes (take (filled + came) body) left
@@ -74,3 +76,11 @@ too_few total before came count left h zero end short =
     let sum : total ≡ before + came + length h.rest = h.sum in
     let nothing : length h.rest ≡ 0 = ap length none in
     omega (arith, sum, nothing, zero, short)
+
+pub copied_whole : (after got : List ℕ) (left : Option (List ℕ)) (count : ℕ) (result : BodyEnd) → IsSplit after got left → count < length got
+    → IfRead result (take count got) → BodyOutcome after got count left result
+copied_whole after got left count (Read body) s short is =
+    let whole = came_whole after got left count s short in (whole.0, is ∙ whole.1, whole.2)
+copied_whole after got left count Short s short is = absurd is
+copied_whole after got left count NoMemory s short is = tt
+copied_whole after got left count Failed s short is = tt

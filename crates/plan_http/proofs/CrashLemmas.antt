@@ -1,5 +1,5 @@
 -- What a crash may leave after connections that were served.
-use Rattle.std.proofs.Common.{◌≡◌, ◌⊎◌, ℕ, zero, suc, ◌+◌, ◌<◌, Bool, true, false, ◌&&◌, ◌||◌, List, [], ◌∷◌, length, take, drop, filter, Option, None, Some, IfSome, inl, inr, refl, sym, ap, ◌∙◌, subst, arith}
+use Rattle.std.proofs.Common.{◌≡◌, ◌⊎◌, ℕ, zero, suc, ◌+◌, ◌<◌, Bool, true, false, ◌&&◌, ◌||◌, List, [], ◌∷◌, length, take, drop, filter, Option, None, Some, inl, inr, refl, sym, ap, ◌∙◌, subst, arith}
 use Rattle.std.proofs.lemmas.Bool.{cases_Bool, both_ways}
 use Rattle.std.specs.Prelude.{if◌then◌else◌, nat_lt, option_map, slice_get}
 use Rattle.std.specs.List.{list_any}
@@ -15,8 +15,9 @@ use Rattle.plan_desk.proofs.SortedLemmas.{Keeps, Makes, sorted_decision}
 use Rattle.plan_http.specs.Judges.{asks, Judges}
 use Rattle.plan_http.specs.Answers.{Decision, handled, failed, starved, IsOn}
 use Rattle.plan_http.specs.Serving.{Moves, Serving}
+use Rattle.plan_http.specs.Clients.{Known, OfBytes}
 use Rattle.plan_http.specs.Crashes.{accepts, IsAcceptedAt, WouldMake, LeavesOne, LeavesRefused, LastAccepted, LeavesRun, ComesAfter}
-use Rattle.plan_http.proofs.ServingLemmas.{known}
+use Rattle.plan_http.proofs.ClientLemmas.{of_bytes_map}
 use Rattle.plan_http.proofs.HeadlineLemmas.{moved_honest, served_honest}
 
 -- a step that accepts no command leaves the rows
@@ -112,22 +113,22 @@ module _ {B : Type 0} (shelf : Shelf B) where
   moved_crash old new starved h unaccepted honest left may = inl (subst (λ (b : B). shelf.may_leave b left) h may)
 
   -- the bytes of what was refused
-  refused_on : (bytes : Option Text) (old new : B) (d : Decision) (left : Option World) (r : Refused old new d left)
-      → ((all : Text) → bytes ≡ Some all → IsOn all d) → IfSome bytes (λ all. Judges all (asks r.request))
-  refused_on bytes old new d left r on = known bytes (λ all. Judges all (asks r.request)) (λ all is. subst (λ (e : Decision). IsOn all e) r.is (on all is))
+  refused_on : (before after : Known) (old new : B) (d : Decision) (left : Option World) (r : Refused old new d left)
+      → OfBytes before after (λ bytes. IsOn bytes d) → OfBytes before after (λ bytes. Judges bytes (asks r.request))
+  refused_on before after old new d left r on = of_bytes_map on (λ bytes is. subst (λ (e : Decision). IsOn bytes e) r.is is)
 
   -- one connection
-  pub one_left : (bytes : Option Text) (old new : B) (d : Decision) → ((all : Text) → bytes ≡ Some all → IsOn all d) → Moves shelf old new d → shelf.honest new
-      → (left : Option World) → shelf.may_leave new left → LeavesOne shelf old new bytes left
-  one_left bytes old new d on moves honest left may = by_answer (cases_Bool (accepts d))
+  pub one_left : (before after : Known) (old new : B) (d : Decision) → OfBytes before after (λ bytes. IsOn bytes d) → Moves shelf old new d → shelf.honest new
+      → (left : Option World) → shelf.may_leave new left → LeavesOne shelf old new before after left
+  one_left before after old new d on moves honest left may = by_answer (cases_Bool (accepts d))
     where
-      by_answer : (accepts d ≡ true) ⊎ (accepts d ≡ false) → LeavesOne shelf old new bytes left
+      by_answer : (accepts d ≡ true) ⊎ (accepts d ≡ false) → LeavesOne shelf old new before after left
       by_answer (inl took) = inl (moved_made old new d moves took honest, moved_durable old new d moves took honest left may)
       by_answer (inr unaccepted) = inr (
         moved_unmade old new d moves unaccepted honest,
         elim (moved_crash old new d moves unaccepted honest left may) [
           | inl before ↦ inl before
-          | inr r ↦ inr (r.refused, r.request, refused_on bytes old new d left r on, r.would)
+          | inr r ↦ inr (r.refused, r.request, refused_on before after old new d left r on, r.would)
         ],
       )
 

@@ -11,7 +11,7 @@ use Rattle.plan_http.specs.declared.checks.Check.TheVariants.{Message}
 use Rattle.plan_http.specs.declared.checks.Check.TheVariants as checks
 use Rattle.plan_http.specs.declared.asking.Asked.{Asked}
 use Rattle.plan_http.specs.declared.asking.Asked.TheVariants as made
-use Rattle.plan_http.specs.Head.{BeginsWithHead, after_head}
+use Rattle.plan_http.specs.Head.{BeginsWithHead, HasNoHead, after_head}
 use Rattle.plan_http.specs.Fields.{body_length}
 use Rattle.plan_http.specs.Checks.{first_failing, head_checks, lengths_in}
 use Rattle.plan_http.specs.Pieces.{IsSplit}
@@ -39,6 +39,10 @@ module _ (front : List ℕ) (headers : List HeaderSpan) (spans : RequestSpans) (
 
   pub length_at : body_length (lengths_in (map (header_bytes front) (take spans.headers headers))) ≡ length_of h
   length_at = ap (λ fields. body_length (lengths_in fields)) at.fields
+
+-- no head
+pub head_missing : (bytes : List ℕ) → HasNoHead bytes → Judges bytes (fails Message None false)
+head_missing bytes none = inr (none, refl)
 
 -- the three ways on from a head
 module _ (bytes : List ℕ) (h : RequestHead) (begins : BeginsWithHead bytes h) where

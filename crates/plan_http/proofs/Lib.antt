@@ -1,3 +1,4 @@
+pub mod ClientLemmas
 pub mod ReadingLemmas
 pub mod FieldLemmas
 pub mod DigitLemmas

@@ -1,5 +1,5 @@
 -- What the pieces that came say of all bytes of a connection.
-use Rattle.std.proofs.Common.{◌≡◌, ℕ, ◌+◌, ◌-◌, ◌<◌, ◌≤◌, ◌⊎◌, List, [], ◌++◌, length, take, drop, Option, None, Some, refl, ap, sym, ◌∙◌, subst, inl, inr, arith, Result, Ok, Err, IfOk, Bool, true, nat_eq, append_assoc}
+use Rattle.std.proofs.Common.{◌≡◌, ℕ, ◌+◌, ◌-◌, ◌<◌, ◌≤◌, ◌⊎◌, List, [], ◌++◌, length, take, drop, Option, None, Some, refl, ap, sym, ◌∙◌, subst, inl, inr, arith, Result, Ok, Err, IfOk, Bool, true, false, nat_eq, append_assoc}
 use Rattle.std.proofs.Math.Seq.{take-append-add, take-nil}
 use Rattle.std.proofs.lemmas.List.{take-append-le, length-take, length-take-le, length-map, append-nil}
 use Rattle.std.proofs.lemmas.Bool.Decides.{nat_tests}
@@ -125,3 +125,7 @@ nothing_more bytes front left s is_end came e end holds =
     let none = end zero in
     let same : Some s.more ≡ Some [] = sym s.left_is ∙ none in
     cc
+
+-- what isn't the end brought a byte
+pub came_some : (came : ℕ) → nat_eq came 0 ≡ false → 0 < came
+came_some came is = grind (arith, nat_tests)

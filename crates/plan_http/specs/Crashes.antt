@@ -1,5 +1,5 @@
 -- What a crash may leave after connections that were served (docs/DEFINITIONS.md, "Connections").
-use Rattle.std.specs.Prelude.{◌≡◌, ◌⊎◌, ℕ, suc, ◌+◌, ◌<◌, ◌≤◌, Bool, true, false, List, length, take, drop, map, filter, Option, Some, IfSome, option_map, slice_get}
+use Rattle.std.specs.Prelude.{◌≡◌, ◌⊎◌, ℕ, suc, ◌+◌, ◌<◌, ◌≤◌, Bool, true, false, List, length, take, drop, map, filter, Option, Some, option_map, slice_get}
 use Rattle.std.specs.List.{list_any}
 use Rattle.plan_rows.specs.World.{Text, World}
 use Rattle.plan_desk.specs.Calls.{Request, Reply, writes, is_accepted}
@@ -7,6 +7,7 @@ use Rattle.plan_desk.specs.Stories.{IsWant}
 use Rattle.plan_desk.specs.Decisions.{IsStep}
 use Rattle.plan_rows.specs.Books.{Shelf}
 use Rattle.plan_desk.specs.Deciding.{Handled}
+use Rattle.plan_http.specs.Clients.{Known, OfBytes}
 use Rattle.plan_http.specs.Judges.{asks, Judges}
 use Rattle.plan_http.specs.Answers.{Decision, handled, failed, starved}
 use Rattle.plan_http.specs.Serving.{Serving, response_of}
@@ -31,12 +32,12 @@ module _ {B : Type 0} (shelf : Shelf B) where
   -- One connection: a command was accepted, and a crash leaves the rows after it. Or none was, and a
   -- crash leaves what it might leave before, or the rows that its writing call would have made, which
   -- was refused.
-  abbrev pub LeavesOne : B → B → Option Text → Option World → Type 0
-  LeavesOne old new bytes left =
+  abbrev pub LeavesOne : B → B → Known → Known → Option World → Type 0
+  LeavesOne old new before after left =
       ((shelf.made new ≡ shelf.made old + 1) × (left ≡ Some (shelf.world new)))
       ⊎ ((shelf.made new ≡ shelf.made old) × (shelf.may_leave old left
       ⊎ ((shelf.refused new ≡ shelf.refused old + 1) × (request : Request)
-      × IfSome bytes (λ all. Judges all (asks request)) × WouldMake (shelf.world old) request left)))
+      × OfBytes before after (λ bytes. Judges bytes (asks request)) × WouldMake (shelf.world old) request left)))
 
   -- In a run a writing call was refused, for want of memory or by the store: a crash leaves the rows
   -- that it would have made of those at the start.

@@ -1,3 +1,4 @@
+pub mod Clients
 pub mod Head
 pub mod Pieces
 pub mod Fields

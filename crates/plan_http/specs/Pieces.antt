@@ -1,5 +1,5 @@
 -- What the pieces that have come say of all bytes of a connection, for private clauses alone.
-use Rattle.std.specs.Prelude.{◌≡◌, ℕ, ◌+◌, ◌<◌, ◌≤◌, Bool, false, List, [], ◌++◌, length, take, Option, Some, ⊤, Result, Ok, Err}
+use Rattle.std.specs.Prelude.{◌≡◌, ℕ, ◌+◌, ◌<◌, ◌≤◌, Bool, true, false, List, [], ◌++◌, length, take, Option, Some, ⊤, Result, Ok, Err}
 use Rattle.httparse.specs.Grammar.{RequestHead}
 use Rattle.httparse.specs.Spans.{IsRequestAt, IsRequestWithin}
 use Rattle.httparse.specs.declared.spans.HeaderSpan.{HeaderSpan}
@@ -9,6 +9,14 @@ use Rattle.plan_http.specs.declared.head.HeadEnd.TheVariants.{Found, Missing, Fa
 use Rattle.plan_http.specs.declared.head.Judged.{Judged}
 use Rattle.plan_http.specs.declared.head.Judged.TheVariants.{Whole, Hopeless, Unfinished}
 use Rattle.plan_http.specs.Head.{BeginsWithHead, HasNoHead}
+use Rattle.plan_http.specs.Clients.{Known, Comes}
+
+-- Of a client that was read: whatever may follow, this holds of the bytes that were left before and
+-- of those that are left now.
+pub record Reads (old new : Known) (P : Option (List ℕ) → Option (List ℕ) → Type 0) : Type 0 where
+  pub came : List ℕ
+  pub comes : Comes old new came
+  pub holds : (more : List ℕ) → (new.ended ≡ true → more ≡ []) → P (Some (came ++ more)) (Some more)
 
 -- all bytes are those in front, and then those that are left
 pub record IsSplit (bytes front : List ℕ) (left : Option (List ℕ)) : Type 0 where

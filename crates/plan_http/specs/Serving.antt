@@ -1,5 +1,5 @@
 -- Connections that are served by an office, one and many (docs/DEFINITIONS.md, "Connections").
-use Rattle.std.specs.Prelude.{◌≡◌, ℕ, ◌+◌, ◌<◌, ◌≤◌, ◌⊎◌, List, [], ◌∷◌, length, take, map, get_or, Option, IfSome, Result, Ok, Err}
+use Rattle.std.specs.Prelude.{◌≡◌, ℕ, ◌+◌, ◌<◌, ◌≤◌, ◌⊎◌, List, [], ◌∷◌, length, take, map, get_or, Option, Result, Ok, Err}
 use Rattle.std.specs.Io.KnownBytes.{Appends}
 use Rattle.plan_psplib.specs.Devices.{HasFailed}
 use Rattle.plan_rows.specs.World.{Text}
@@ -8,6 +8,7 @@ use Rattle.plan_desk.specs.Deciding.{Handled}
 use Rattle.plan_http.specs.declared.runs.RunFault.{RunFault}
 use Rattle.plan_http.specs.declared.serving.ConnEnd.{ConnEnd}
 use Rattle.plan_http.specs.declared.serving.ConnEnd.TheVariants.{Replied, ReadFailed, WriteFailed}
+use Rattle.plan_http.specs.Clients.{Known, OfBytes}
 use Rattle.plan_http.specs.Answers.{Answer, text_of, Decision, handled, failed, starved, answer_of, IsOn}
 
 -- what the writer has taken of an answer at the end
@@ -39,18 +40,19 @@ module _ {B : Type 0} (shelf : Shelf B) where
   Moves old new (failed check allow is_head) = new ≡ old
   Moves old new starved = new ≡ old
 
-  -- one decision was made on the bytes, and its response written, whole or to the writer's failure
-  pub record Serves (old new : B) (bytes taken after : Option Text) (end : ConnEnd) : Type 0 where
+  -- One decision was made on the bytes of a client, of which these were read, and its response written,
+  -- whole or to the writer's failure.
+  pub record Serves (old new : B) (before after : Known) (taken sent : Option Text) (end : ConnEnd) : Type 0 where
     pub decision : Decision
-    pub on : IfSome bytes (λ known. IsOn known decision)
+    pub on : OfBytes before after (λ bytes. IsOn bytes decision)
     pub moves : Moves old new decision
-    pub responds : Responds taken after (answer_of decision) end
+    pub responds : Responds taken sent (answer_of decision) end
 
   -- how the serving of a connection ended: where the reader failed nothing was decided or written
-  abbrev pub Ends : B → B → Option Text → Option Text → Option Text → ConnEnd → Type 0
-  Ends old new bytes taken after (Replied status) = Serves old new bytes taken after (Replied status)
-  Ends old new bytes taken after ReadFailed = (new ≡ old) × (after ≡ taken)
-  Ends old new bytes taken after (WriteFailed sent) = Serves old new bytes taken after (WriteFailed sent)
+  abbrev pub Ends : B → B → Known → Known → Option Text → Option Text → ConnEnd → Type 0
+  Ends old new before after taken sent (Replied status) = Serves old new before after taken sent (Replied status)
+  Ends old new before after taken sent ReadFailed = (new ≡ old) × (sent ≡ taken)
+  Ends old new before after taken sent (WriteFailed count) = Serves old new before after taken sent (WriteFailed count)
 
   -- connections are served one after another, each by one decision
   abbrev pub Serving : B → List Text → List Decision → B → Type 0

@@ -7,7 +7,8 @@ ghost use Rattle.plan_psplib.specs.Devices.{most_calls};
 ghost use Rattle.plan_desk.specs.Requests.{request_in};
 ghost use Rattle.plan_http.specs.Fields.{values_of, only_of};
 ghost use Rattle.plan_http.specs.Head.{BeginsWithHead};
-ghost use Rattle.plan_http.specs.Pieces.{IsSplit};
+ghost use Rattle.plan_http.specs.Clients.{OfBytes};
+ghost use Rattle.plan_http.specs.Pieces.{Reads, IsSplit};
 ghost use Rattle.plan_http.specs.Targets as targets;
 ghost use Rattle.plan_http.specs.declared.asking.Asked.TheVariants as made;
 ghost use Rattle.plan_http.specs.Asked.{IsAsked, AskedFaults, IsRequestOr, IsRefused, IsPassed, IsOnRoute};
@@ -15,12 +16,12 @@ ghost use Rattle.plan_http.specs.Asked.{IsAsked, AskedFaults, IsRequestOr, IsRef
 use crate::body::{BodyEnd, read_body, skip_body};
 use crate::calls::call_at;
 use crate::checks::{Check, check_head};
+use crate::client::Client;
 use crate::fields::only_value;
 use crate::head::{FIELD_LIMIT, HEAD_LIMIT, HeadEnd, read_head};
 use crate::routes::{Route, Routes};
 use httparse::spans::{EMPTY_HEADER_SPAN, HeaderSpan, RequestSpans};
 use plan_desk::Request;
-use plan_psplib::Source;
 use std::alloc::{AllocError, Global};
 
 /// What the bytes of a connection were read as.
@@ -112,7 +113,7 @@ fn whole_request(
 
 // Reads the body of a request that fails a check of its route, and keeps none of it. A body that
 // isn't whole is told first.
-fn refuse<R: Source>(
+fn refuse<R: Client>(
     reader: &mut R,
     got: &[u8],
     count: u32,
@@ -120,7 +121,8 @@ fn refuse<R: Source>(
     check: Check,
     route: Option<Route>,
 ) -> Asked
-    ensures refused { (after : List ℕ) → IsSplit after got.now (R.remaining reader.old) → IsRefused after count check route is_head result }
+    ensures refused { Reads (R.known reader.old) (R.known reader.new) (λ had _. (after : List ℕ) → IsSplit after got.now had
+        → IsRefused after count check route is_head result) }
     ensures calls { R.calls reader.new ≤ R.calls reader.old + count }
     ensures faults { AskedFaults (R.faults reader.old) (R.faults reader.new) result }
 {
@@ -136,7 +138,7 @@ fn refuse<R: Source>(
 }
 
 // Reads the body of a request on a route, and then the request.
-fn accept<R: Source>(
+fn accept<R: Client>(
     alloc: Global,
     reader: &mut R,
     front: &[u8],
@@ -147,8 +149,8 @@ fn accept<R: Source>(
     target: &str,
 ) -> Asked
     requires within { IsRequestWithin front.now headers.now spans.now }
-    ensures asked { (bytes : List ℕ) (h : RequestHead) → BeginsWithHead bytes h → IsRequestAt front.now headers.now spans.now h
-        → IsSplit bytes front.now (R.remaining reader.old) → IsOnRoute h count route target.now → IsAsked bytes result }
+    ensures asked { Reads (R.known reader.old) (R.known reader.new) (λ had _. (bytes : List ℕ) (h : RequestHead) → BeginsWithHead bytes h
+        → IsRequestAt front.now headers.now spans.now h → IsSplit bytes front.now had → IsOnRoute h count route target.now → IsAsked bytes result) }
     ensures calls { R.calls reader.new ≤ R.calls reader.old + count }
     ensures faults { AskedFaults (R.faults reader.old) (R.faults reader.new) result }
 {
@@ -182,7 +184,7 @@ fn target_of<'a>(front: &'a [u8], headers: &[HeaderSpan], spans: &RequestSpans) 
 }
 
 // The checks of the route, and what is behind the head.
-fn on_target<R: Source>(
+fn on_target<R: Client>(
     alloc: Global,
     routes: &Routes,
     reader: &mut R,
@@ -192,8 +194,8 @@ fn on_target<R: Source>(
     count: u32,
 ) -> Asked
     requires within { IsRequestWithin front.now headers.now spans.now }
-    ensures asked { (bytes : List ℕ) (h : RequestHead) → BeginsWithHead bytes h → IsRequestAt front.now headers.now spans.now h
-        → IsSplit bytes front.now (R.remaining reader.old) → IsPassed h count → IsAsked bytes result }
+    ensures asked { Reads (R.known reader.old) (R.known reader.new) (λ had _. (bytes : List ℕ) (h : RequestHead) → BeginsWithHead bytes h
+        → IsRequestAt front.now headers.now spans.now h → IsSplit bytes front.now had → IsPassed h count → IsAsked bytes result) }
     ensures calls { R.calls reader.new ≤ R.calls reader.old + count }
     ensures faults { AskedFaults (R.faults reader.old) (R.faults reader.new) result }
 {
@@ -212,7 +214,7 @@ fn on_target<R: Source>(
 }
 
 // The checks behind a head, of which all bytes that were read are in front.
-fn behind_head<R: Source>(
+fn behind_head<R: Client>(
     alloc: Global,
     routes: &Routes,
     reader: &mut R,
@@ -221,8 +223,8 @@ fn behind_head<R: Source>(
     spans: &RequestSpans,
 ) -> Asked
     requires within { IsRequestWithin front.now headers.now spans.now }
-    ensures asked { (bytes : List ℕ) (h : RequestHead) → BeginsWithHead bytes h → IsRequestAt front.now headers.now spans.now h
-        → IsSplit bytes front.now (R.remaining reader.old) → IsAsked bytes result }
+    ensures asked { Reads (R.known reader.old) (R.known reader.new) (λ had _. (bytes : List ℕ) (h : RequestHead) → BeginsWithHead bytes h
+        → IsRequestAt front.now headers.now spans.now h → IsSplit bytes front.now had → IsAsked bytes result) }
     ensures calls { R.calls reader.new ≤ R.calls reader.old + 1048576 }
     ensures faults { AskedFaults (R.faults reader.old) (R.faults reader.new) result }
 {
@@ -235,8 +237,8 @@ fn behind_head<R: Source>(
 /// Reads the request of a connection, or its first failing check. It parses after each read, and
 /// reads on only while the head is unfinished, or with the checks of the head passed the body is
 /// short. Where there is no route for it, the body is read and takes no memory.
-pub fn read_request<R: Source>(alloc: Global, routes: &Routes, reader: &mut R) -> Asked
-    ensures asked { (bytes : List ℕ) → R.remaining reader.old ≡ Some bytes → IsAsked bytes result }
+pub fn read_request<R: Client>(alloc: Global, routes: &Routes, reader: &mut R) -> Asked
+    ensures asked { OfBytes (R.known reader.old) (R.known reader.new) (λ bytes. IsAsked bytes result) }
     ensures calls { R.calls reader.new ≤ R.calls reader.old + most_calls }
     ensures faults { AskedFaults (R.faults reader.old) (R.faults reader.new) result }
 {

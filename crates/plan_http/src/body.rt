@@ -2,11 +2,12 @@
 
 ghost use Rattle.std.specs.Prelude.{◌≡◌, ℕ, ◌+◌, ◌<◌, ◌≤◌, List, length, take, IfOk, MatchResult};
 ghost use Rattle.plan_psplib.specs.Devices.{IsCounted};
-ghost use Rattle.plan_http.specs.Pieces.{IsSplit};
+ghost use Rattle.plan_http.specs.Pieces.{Reads, IsSplit};
 ghost use Rattle.plan_http.specs.BodyPieces.{RestOutcome, BodyOutcome, IfRead, BodyFaults, HasLeft, Skips, IsWhole};
 
+use crate::client::Client;
 use crate::head::fill;
-use plan_psplib::{DeviceFault, Source};
+use plan_psplib::DeviceFault;
 use std::alloc::{AllocError, Global};
 
 /// How the reading of a body ended.
@@ -32,12 +33,12 @@ fn with_room(alloc: Global, got: &[u8], count: usize) -> Result<Vec<u8>, AllocEr
 }
 
 // Reads until a body is full. False where the bytes end before.
-fn fill_up<R: Source>(reader: &mut R, body: &mut [u8], from: usize) -> Result<bool, DeviceFault>
+fn fill_up<R: Client>(reader: &mut R, body: &mut [u8], from: usize) -> Result<bool, DeviceFault>
     requires { from ≤ length body.old }
     ensures calls { R.calls reader.new ≤ R.calls reader.old + length body.old }
     ensures faults { MatchResult result (λ _. R.faults reader.new ≡ R.faults reader.old) (λ _. R.faults reader.new ≡ R.faults reader.old + 1) }
-    ensures bytes { IfOk result (λ is_full. (bytes : List ℕ) → IsSplit bytes (take from body.old) (R.remaining reader.old)
-        → RestOutcome bytes body.new (R.remaining reader.new) is_full) }
+    ensures bytes { Reads (R.known reader.old) (R.known reader.new) (λ had left. (bytes : List ℕ) → IsSplit bytes (take from body.old) had
+        → IfOk result (RestOutcome bytes body.new left)) }
 {
     let mut filled = from;
     for _ in 0..body.len() {
@@ -65,9 +66,9 @@ fn copied(alloc: Global, body: &[u8]) -> BodyEnd
 }
 
 /// Reads a body of so many bytes behind those that came with the head.
-pub(crate) fn read_body<R: Source>(alloc: Global, reader: &mut R, got: &[u8], count: u32) -> BodyEnd
-    ensures body { (after : List ℕ) → IsSplit after got.now (R.remaining reader.old)
-        → BodyOutcome after got.now count (R.remaining reader.new) result }
+pub(crate) fn read_body<R: Client>(alloc: Global, reader: &mut R, got: &[u8], count: u32) -> BodyEnd
+    ensures body { Reads (R.known reader.old) (R.known reader.new) (λ had left. (after : List ℕ) → IsSplit after got.now had
+        → BodyOutcome after got.now count left result) }
     ensures calls { R.calls reader.new ≤ R.calls reader.old + count }
     ensures faults { BodyFaults (R.faults reader.old) (R.faults reader.new) result }
 {
@@ -89,23 +90,23 @@ pub(crate) fn read_body<R: Source>(alloc: Global, reader: &mut R, got: &[u8], co
 const PIECE: usize = 4096;
 
 // Reads bytes that aren't kept, and answers how many.
-fn skip<R: Source>(reader: &mut R, piece: &mut [u8]) -> Result<usize, DeviceFault>
+fn skip<R: Client>(reader: &mut R, piece: &mut [u8]) -> Result<usize, DeviceFault>
     requires { 0 < length piece.old }
     ensures counted { IsCounted (R.calls reader.old) (R.calls reader.new) (R.faults reader.old) (R.faults reader.new) result }
     ensures within { IfOk result (λ came. came ≤ length piece.new) }
-    ensures bytes { Skips (R.remaining reader.old) (R.remaining reader.new) result }
+    ensures bytes { Reads (R.known reader.old) (R.known reader.new) (λ had left. Skips had left result) }
 {
     fill(reader, piece, 0)
 }
 
 /// Reads to the end of a body of so many bytes behind those that came with the head, and keeps none
 /// of it. False where the bytes end before.
-pub(crate) fn skip_body<R: Source>(
+pub(crate) fn skip_body<R: Client>(
     reader: &mut R,
     got: &[u8],
     count: u32,
 ) -> Result<bool, DeviceFault>
-    ensures whole { IfOk result (λ is_whole. (total : ℕ) → HasLeft total (length got.now) (R.remaining reader.old) → IsWhole total count is_whole) }
+    ensures whole { Reads (R.known reader.old) (R.known reader.new) (λ had _. (total : ℕ) → HasLeft total (length got.now) had → IfOk result (IsWhole total count)) }
     ensures calls { R.calls reader.new ≤ R.calls reader.old + count }
     ensures faults { MatchResult result (λ _. R.faults reader.new ≡ R.faults reader.old) (λ _. R.faults reader.new ≡ R.faults reader.old + 1) }
 {

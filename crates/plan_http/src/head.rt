@@ -2,11 +2,12 @@
 
 ghost use Rattle.std.specs.Prelude.{◌≡◌, ℕ, ◌+◌, ◌<◌, ◌≤◌, ◌++◌, true, List, [], length, Some, IfOk};
 ghost use Rattle.plan_psplib.specs.Devices.{IsCounted};
-ghost use Rattle.plan_http.specs.Pieces.{JudgedOf, JudgedWithin, Fills, HeadOutcome, HeadWithin, HeadFaults};
+ghost use Rattle.plan_http.specs.Pieces.{Reads, JudgedOf, JudgedWithin, Fills, HeadOutcome, HeadWithin, HeadFaults};
 
+use crate::client::Client;
 use httparse::Status;
 use httparse::spans::{HeaderSpan, RequestSpans, parse_request};
-use plan_psplib::{DeviceFault, Source};
+use plan_psplib::DeviceFault;
 
 /// How many bytes a head may have.
 pub(crate) const HEAD_LIMIT: usize = 8192;
@@ -34,7 +35,7 @@ enum Judged {
 }
 
 // Reads once, to the place behind what was filled before.
-pub(crate) fn fill<R: Source>(
+pub(crate) fn fill<R: Client>(
     reader: &mut R,
     buf: &mut [u8],
     filled: usize,
@@ -42,7 +43,7 @@ pub(crate) fn fill<R: Source>(
     requires { filled < length buf.old }
     ensures counted { IsCounted (R.calls reader.old) (R.calls reader.new) (R.faults reader.old) (R.faults reader.new) result }
     ensures within { IfOk result (λ came. filled + came ≤ length buf.new) }
-    ensures bytes { Fills buf.old filled (R.remaining reader.old) buf.new (R.remaining reader.new) result }
+    ensures bytes { Reads (R.known reader.old) (R.known reader.new) (λ had left. Fills buf.old filled had buf.new left result) }
 {
     reader.read(&mut buf[filled..])
 }
@@ -73,7 +74,7 @@ fn judge(front: &[u8], is_end: bool, headers: &mut [HeaderSpan]) -> Judged
 }
 
 /// Reads until the head is whole, or can't be.
-pub(crate) fn read_head<R: Source>(
+pub(crate) fn read_head<R: Client>(
     reader: &mut R,
     buf: &mut [u8],
     headers: &mut [HeaderSpan],
@@ -81,8 +82,8 @@ pub(crate) fn read_head<R: Source>(
     requires room { length buf.old ≡ 8192 }
     requires fields { length headers.old ≡ 64 }
     ensures within { HeadWithin buf.new headers.new result }
-    ensures outcome { (bytes : List ℕ) → R.remaining reader.old ≡ Some bytes
-        → HeadOutcome bytes (R.remaining reader.new) buf.new headers.new result }
+    ensures outcome { Reads (R.known reader.old) (R.known reader.new) (λ had left. (bytes : List ℕ) → had ≡ Some bytes
+        → HeadOutcome bytes left buf.new headers.new result) }
     ensures calls { R.calls reader.new ≤ R.calls reader.old + 8193 }
     ensures faults { HeadFaults (R.faults reader.old) (R.faults reader.new) result }
 {

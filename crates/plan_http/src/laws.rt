@@ -2,6 +2,7 @@
 
 ghost use Rattle.plan_http.specs.Laws.{OneVerdict, SpellsSomething, ServingIsRun, ServedDesksAreApart};
 
+use crate::client::Listening;
 use crate::head::{FIELD_LIMIT, HEAD_LIMIT, read_head};
 use httparse::spans::EMPTY_HEADER_SPAN;
 use plan_desk::Book;
@@ -18,7 +19,8 @@ pub fn some_verdict(bytes: &[u8])
 {
     let mut buf = [0; HEAD_LIMIT];
     let mut headers = [EMPTY_HEADER_SPAN; FIELD_LIMIT];
-    read_head(&mut MemSource::new(bytes), &mut buf, &mut headers);
+    let mut client = Listening::new(MemSource::new(bytes));
+    read_head(&mut client, &mut buf, &mut headers);
 }
 
 /// Whatever connections an office serves, the requests that were handled are a run of it; so each

@@ -7,6 +7,7 @@ ghost use Rattle.plan_http.specs.Serving.{Moves, Serving, Stops, response_of};
 ghost use Rattle.plan_http.specs.Crashes.{Outlasts};
 ghost use Rattle.plan_http.specs.Isolated.{IsApart};
 
+use crate::client::Listening;
 use crate::routes::Routes;
 use crate::serving::{ConnEnd, serve_conn};
 use plan_desk::{Book, Office};
@@ -29,8 +30,9 @@ fn response_to<B: Book>(
     ensures ok { IfOk result (λ response. (d : Decision) × IsOn conn.now d × Moves B.shelf office.old office.new d × (response.items ≡ response_of d)) }
     ensures err { OnErr result ((d : Decision) × IsOn conn.now d × Moves B.shelf office.old office.new d) }
 {
+    let mut client = Listening::new(MemSource::new(conn));
     let mut sink = MemSink::new(Vec::new(alloc));
-    match serve_conn(alloc, routes, office, &mut MemSource::new(conn), &mut sink) {
+    match serve_conn(alloc, routes, office, &mut client, &mut sink) {
         ConnEnd::Replied(_) => Ok(sink.into_bytes()),
         ConnEnd::ReadFailed => Err(RunFault),
         ConnEnd::WriteFailed { .. } => Err(RunFault),

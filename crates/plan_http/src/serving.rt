@@ -12,10 +12,11 @@ ghost use Rattle.plan_http.specs.Crashes.{LeavesOne};
 
 use crate::asking::{Asked, read_request};
 use crate::checks::Check;
+use crate::client::Client;
 use crate::response::respond;
 use crate::routes::{Route, Routes};
 use plan_desk::{Body, Book, Office, Reply, ReplyKind};
-use plan_psplib::{Sink, Source};
+use plan_psplib::Sink;
 use std::alloc::Global;
 
 /// How the serving of a connection ended.
@@ -81,15 +82,15 @@ fn answer<W: Sink>(writer: &mut W, reply: &Reply, route: Option<Route>, is_head:
 /// Serves one connection: reads its request, handles it, and writes the response; or answers the
 /// first check that fails. Want of memory before anything is decided is answered too, of a request
 /// that passes the checks of its head and its route.
-pub fn serve_conn<R: Source, W: Sink, B: Book>(
+pub fn serve_conn<R: Client, W: Sink, B: Book>(
     alloc: Global,
     routes: &Routes,
     office: &mut Office<B>,
     reader: &mut R,
     writer: &mut W,
 ) -> ConnEnd
-    ensures ends { Ends B.shelf office.old office.new (R.remaining reader.old) (W.taken writer.old) (W.taken writer.new) result }
-    ensures crash { B.shelf.honest office.new → (left : Option World) → B.shelf.may_leave office.new left → LeavesOne B.shelf office.old office.new (R.remaining reader.old) left }
+    ensures ends { Ends B.shelf office.old office.new (R.known reader.old) (R.known reader.new) (W.taken writer.old) (W.taken writer.new) result }
+    ensures crash { B.shelf.honest office.new → (left : Option World) → B.shelf.may_leave office.new left → LeavesOne B.shelf office.old office.new (R.known reader.old) (R.known reader.new) left }
     ensures reads { R.calls reader.new ≤ R.calls reader.old + most_calls }
     ensures writes { W.calls writer.new ≤ W.calls writer.old + most_calls }
     ensures reader_faults { ReaderFaults (R.faults reader.old) (R.faults reader.new) result }

@@ -1,17 +1,19 @@
 -- Connections that were served turn by turn.
-use Rattle.std.proofs.Common.{◌≡◌, ◌⊎◌, ◌≤◌, ◌+◌, ℕ, suc, List, [], ◌∷◌, ◌++◌, Option, Some, None, Result, Ok, Err, IfOk, IsErr, MatchResult, inl, inr, length, refl, sym, subst, ◌∙◌, ap, arith}
-use Rattle.std.proofs.lemmas.List.{length-append, append_assoc, append-nil}
+use Rattle.std.proofs.Common.{◌≡◌, ◌<◌, ◌≤◌, ◌+◌, ℕ, suc, Bool, true, false, List, [], ◌∷◌, ◌++◌, Option, Some, None, Result, Ok, Err, IfOk, IsErr, MatchResult, length, take, map, refl, sym, subst, ◌∙◌, ap, arith}
+use Rattle.std.proofs.lemmas.List.{length-append, append-nil}
+use Rattle.std.specs.Io.KnownBytes.{Appends}
 use Rattle.plan_psplib.specs.declared.devices.DeviceFault.{DeviceFault}
-use Rattle.plan_rows.specs.World.{Text, World}
+use Rattle.plan_rows.specs.World.{Text}
 use Rattle.plan_rows.specs.Books.{Shelf}
 use Rattle.plan_http.specs.declared.serving.ConnEnd.{ConnEnd}
 use Rattle.plan_http.specs.declared.serving.ConnEnd.TheVariants as end
-use Rattle.plan_http.specs.Answers.{Decision}
-use Rattle.plan_http.specs.Serving.{Ends}
-use Rattle.plan_http.specs.Crashes.{LeavesOne}
-use Rattle.plan_http.proofs.HeadlineLemmas.{moved_honest}
+use Rattle.plan_http.specs.Clients.{Known, IsFresh}
+use Rattle.plan_http.specs.Answers.{Decision, IsOn}
+use Rattle.plan_http.specs.Serving.{Serving, Serves, Ends, response_of}
+use Rattle.plan_http.proofs.ClientLemmas.{of_heard}
+use Rattle.plan_http.proofs.WholeRunLemmas.{outlasts, is_apart}
 use Rattle.plan_serve.specs.Serve.{MovedBy}
-use Rattle.plan_serve.specs.Turns.{Visit, Turn, missed, visited, IsServed, IsTurn, AreTurns, IsVisited, AreVisited, LeavesTurn, LeavesRefused, LeavesTurns, Visiting}
+use Rattle.plan_serve.specs.Turns.{Visit, MayBe, IsSent, Turn, missed, visited, decision_in, decisions_of, IsConn, AreConns, read_in, read_of, IsServedBy, IsServed, IsTurn, AreTurns, IsRun, Runs, IsVisited, AreVisited, Visiting}
 
 -- what holds of an answer holds of it once it is counted
 pub counted_ok : {A E F : Type 0} (P : A → Type 0) (answer : Result A E) (result : Result A F) → IfOk answer P
@@ -20,23 +22,62 @@ counted_ok P (Ok value) result h is = subst (λ r. IfOk r P) (sym is) h
 counted_ok P (Err e) (Err f) h is = tt
 counted_ok P (Err e) (Ok value) h is = absurd cc
 
+-- sides of which nothing was heard and that were sent nothing
+pub fresh_sides : {A E : Type 0} (heard : A → Text) (ended : A → Bool) (told : A → Text) (result : Result A E)
+    → IfOk result (λ sides. (heard sides ≡ []) × (ended sides ≡ false) × (told sides ≡ []))
+    → IfOk result (λ sides. IsFresh (record { heard = heard sides; ended = ended sides; left = None }) × (Some (told sides) ≡ Some []))
+fresh_sides heard ended told (Ok sides) (silent, unended, unsent) = (record { silent = silent; unended = unended }, ap Some unsent)
+fresh_sides heard ended told (Err e) h = tt
+
 -- the visit of a connection
-abbrev pub visit_of : Option Text → Option Text → Option Text → ConnEnd → Option Decision → Visit
-visit_of bytes before after e decided = record {
-  bytes = bytes;
-  before = before;
-  after = after;
+abbrev pub visit_of : Known → Text → ConnEnd → Option Decision → Visit
+visit_of known sent e decided = record {
+  read = known.heard;
+  ended = known.ended;
+  sent = sent;
   ending = e;
   decided = decided;
 }
 
+-- a sink that had taken nothing has taken these bytes
+sent_all : (taken after : Option Text) (text : Text) → taken ≡ Some [] → Appends taken after text → after ≡ Some text
+sent_all taken None text none appends = absurd (subst (λ t. Appends t None text) none appends)
+sent_all taken (Some all) text none appends = ap Some (subst (λ t. Appends t (Some all) text) none appends)
+
+-- the bytes that were read are bytes that the connections may have
+may_be_read : (v : Visit) → MayBe v v.read
+may_be_read v = record { more = []; whole = sym (append-nil v.read); none = λ ended. refl }
+
+read_one : (v : Visit) (decided : Option Decision) → IsConn v decided (read_in v decided)
+read_one v None = refl
+read_one v (Some d) = (v.read, refl, may_be_read v)
+
+read_are : (turns : List Turn) → AreConns turns (read_of turns)
+read_are [] = refl
+read_are (missed ∷ turns) = read_are turns
+read_are (visited v ∷ turns) = (read_in v v.decided, read_of turns, refl, read_one v v.decided, read_are turns)
+
 module _ {B : Type 0} (shelf : Shelf B) where
+  on_bytes : (old new : B) (before after : Known) (taken sent : Option Text) (e : ConnEnd) (bytes : Text) → IsFresh before
+      → (s : Serves shelf old new before after taken sent e) → IsSent bytes (response_of s.decision) e
+      → IsServedBy shelf old new (visit_of after bytes e (Some s.decision)) s.decision
+  on_bytes old new before after taken sent e bytes fresh s told = record {
+    on = λ all may. subst (λ text. IsOn text s.decision) (sym may.whole) (of_heard s.on fresh.silent may.more may.none);
+    moves = s.moves;
+    told = told;
+  }
+
   -- one serving of a connection is by one decision, or by none
-  pub served_by : (old new : B) (bytes before after : Option Text) (e : ConnEnd) → Ends shelf old new bytes before after e
-      → (decided : Option Decision) × IsServed shelf old new (visit_of bytes before after e decided) decided
-  served_by old new bytes before after (end.Replied status) s = (Some s.decision, (s, refl))
-  served_by old new bytes before after end.ReadFailed s = (None, (refl, s))
-  served_by old new bytes before after (end.WriteFailed sent) s = (Some s.decision, (s, refl))
+  pub served_by : (old new : B) (before after : Known) (taken sent : Option Text) (e : ConnEnd) → IsFresh before → taken ≡ Some []
+      → Ends shelf old new before after taken sent e
+      → (bytes : Text) × (sent ≡ Some bytes) × ((decided : Option Decision) × IsServed shelf old new (visit_of after bytes e decided) decided)
+  served_by old new before after taken sent (end.Replied status) fresh none s =
+      let text = response_of s.decision in
+      (text, sent_all taken sent text none s.responds.1, (Some s.decision, on_bytes old new before after taken sent (end.Replied status) text fresh s refl))
+  served_by old new before after taken sent end.ReadFailed fresh none (same, silent) = ([], silent ∙ none, (None, (refl, same, refl)))
+  served_by old new before after taken sent (end.WriteFailed count) fresh none s =
+      let text = take count (response_of s.decision) in
+      (text, sent_all taken sent text none s.responds.1, (Some s.decision, on_bytes old new before after taken sent (end.WriteFailed count) text fresh s (s.responds.0, refl)))
 
   -- one turn more
   turns_more : (old middle new : B) (turns : List Turn) (turn : Turn) → AreTurns shelf old turns middle → IsTurn shelf middle new turn
@@ -54,9 +95,9 @@ module _ {B : Type 0} (shelf : Shelf B) where
     where
       by_decision : (d : Option Decision) → IsServed shelf old middle v d
           → (all : List Decision) × (length all ≤ suc n) × MovedBy shelf old all new
-      by_decision None (failed, ends) =
-          (decisions, omega (arith, few), subst (λ (o : B). MovedBy shelf o decisions new) ends.0 moved)
-      by_decision (Some d) (s, is) = (s.decision ∷ decisions, omega (arith, few), (middle, s.moves, moved))
+      by_decision None (failed, same, silent) =
+          (decisions, omega (arith, few), subst (λ (o : B). MovedBy shelf o decisions new) same moved)
+      by_decision (Some d) s = (d ∷ decisions, omega (arith, few), (middle, s.moves, moved))
 
   -- turns move it by as many decisions at most
   pub turns_move : (old new : B) (turns : List Turn) → AreTurns shelf old turns new
@@ -65,132 +106,74 @@ module _ {B : Type 0} (shelf : Shelf B) where
   turns_move old new (turn ∷ turns) a =
       turn_moves old a.0 new turn (length turns) a.1 (turns_move a.0 new turns a.2)
 
-  -- a disk that has returned what was written, returned it before the turn
-  turn_honest : (old new : B) (turn : Turn) → IsTurn shelf old new turn → shelf.honest new → shelf.honest old
-  turn_honest old new missed same honest = subst shelf.honest same honest
-  turn_honest old new (visited v) served honest = by_decision v.decided served
+  -- turns are a run of the connections that were decided
+  serving_of : (old new : B) (turns : List Turn) (conns : List Text) → AreTurns shelf old turns new → AreConns turns conns
+      → Serving shelf old conns (decisions_of turns) new
+  serving_of old new [] conns are none = subst (λ (list : List Text). Serving shelf old list [] new) (sym none) are
+  serving_of old new (missed ∷ turns) conns are conns_are =
+      subst (λ (o : B). Serving shelf o conns (decisions_of turns) new) are.1 (serving_of are.0 new turns conns are.2 conns_are)
+  serving_of old new (visited v ∷ turns) conns are conns_are =
+      let rest = serving_of are.0 new turns conns_are.1 are.2 conns_are.4 in
+      subst (λ (list : List Text). Serving shelf old list (decision_in v.decided ++ decisions_of turns) new) (sym conns_are.2)
+      (by_decision v.decided are.1 conns_are.0 conns_are.3 rest)
     where
-      by_decision : (d : Option Decision) → IsServed shelf old new v d → shelf.honest old
-      by_decision None (failed, ends) = subst shelf.honest ends.0 honest
-      by_decision (Some d) (s, is) = moved_honest shelf old new s.decision s.moves honest
+      by_decision : (d : Option Decision) → IsServed shelf old are.0 v d → (first : List Text) → IsConn v d first
+          → Serving shelf are.0 conns_are.1 (decisions_of turns) new → Serving shelf old (first ++ conns_are.1) (decision_in d ++ decisions_of turns) new
+      by_decision None served first none rest =
+          subst (λ (list : List Text). Serving shelf old (list ++ conns_are.1) (decisions_of turns) new) (sym none)
+          (subst (λ (o : B). Serving shelf o conns_are.1 (decisions_of turns) new) served.1 rest)
+      by_decision (Some d) served first one rest =
+          subst (λ (list : List Text). Serving shelf old (list ++ conns_are.1) (d ∷ decisions_of turns) new) (sym one.1)
+          (are.0, served.on one.0 one.2, served.moves, rest)
 
-  -- after no turn
-  pub left_at_start : (old : B) (left : Option World) → shelf.may_leave old left → LeavesTurns shelf old old [] left
-  left_at_start old left may = record {
-    settled = old;
-    front = [];
-    behind = [];
-    are = refl;
-    earlier = refl;
-    later = refl;
-    unmade = refl;
-    leaves = inl (refl, may);
+  run_of : (old new : B) (conns : List Text) (decisions : List Decision) → Serving shelf old conns decisions new → IsRun shelf old new conns decisions
+  run_of old new conns decisions served = record {
+    served = served;
+    crash = outlasts shelf old new conns [] (map response_of decisions) 0 (Ok tt) refl (decisions, served, refl) tt;
+    apart = λ honest desk. is_apart shelf old new conns [] (map response_of decisions) 0 (Ok tt) refl (decisions, served, refl) tt honest desk;
   }
 
-  -- a turn that made no writing call, and leaves what might be left before it
-  left_quiet : (old middle new : B) (turns : List Turn) (turn : Turn) (left : Option World) → IsTurn shelf middle new turn
-      → shelf.made new ≡ shelf.made middle → LeavesTurns shelf old middle turns left → LeavesTurns shelf old new (turns ++ turn ∷ []) left
-  left_quiet old middle new turns turn left is same l = record {
-    settled = l.settled;
-    front = l.front;
-    behind = l.behind ++ turn ∷ [];
-    are = ap (λ (ts : List Turn). ts ++ turn ∷ []) l.are ∙ append_assoc l.front l.behind (turn ∷ []);
-    earlier = l.earlier;
-    later = turns_more l.settled middle new l.behind turn l.later is;
-    unmade = same ∙ l.unmade;
-    leaves = longer l.leaves;
-  }
-    where
-      refused : LeavesRefused shelf l.settled l.behind left → LeavesRefused shelf l.settled (l.behind ++ turn ∷ []) left
-      refused r = record {
-        visit = r.visit;
-        rest = r.rest ++ turn ∷ [];
-        first = ap (λ (ts : List Turn). ts ++ turn ∷ []) r.first;
-        request = r.request;
-        spelled = r.spelled;
-        would = r.would;
-      }
-
-      longer : ((l.front ≡ []) × shelf.may_leave old left) ⊎ ((left ≡ Some (shelf.world l.settled)) ⊎ LeavesRefused shelf l.settled l.behind left)
-          → ((l.front ≡ []) × shelf.may_leave old left) ⊎ ((left ≡ Some (shelf.world l.settled)) ⊎ LeavesRefused shelf l.settled (l.behind ++ turn ∷ []) left)
-      longer (inl before) = inl before
-      longer (inr (inl rows)) = inr (inl rows)
-      longer (inr (inr r)) = inr (inr (refused r))
-
-  -- one turn more
-  left_more : (old middle new : B) (turns : List Turn) (turn : Turn) → AreTurns shelf old turns middle → IsTurn shelf middle new turn
-      → ((left : Option World) → shelf.may_leave middle left → LeavesTurns shelf old middle turns left)
-      → (left : Option World) → LeavesTurn shelf middle new turn left → LeavesTurns shelf old new (turns ++ turn ∷ []) left
-  left_more old middle new turns missed are same before left may =
-      left_quiet old middle new turns missed left same (ap shelf.made same) (before left may)
-  left_more old middle new turns (visited v) are is before left (inl (made, rows)) = record {
-    settled = new;
-    front = turns ++ visited v ∷ [];
-    behind = [];
-    are = sym (append-nil (turns ++ visited v ∷ []));
-    earlier = turns_more old middle new turns (visited v) are is;
-    later = refl;
-    unmade = refl;
-    leaves = inr (inl rows);
-  }
-  left_more old middle new turns (visited v) are is before left (inr (unmade, inl may)) =
-      left_quiet old middle new turns (visited v) left is unmade (before left may)
-  left_more old middle new turns (visited v) are is before left (inr (unmade, inr (refused, request, spelled, would))) = record {
-    settled = middle;
-    front = turns;
-    behind = visited v ∷ [];
-    are = refl;
-    earlier = are;
-    later = (new, is, refl);
-    unmade = unmade;
-    leaves = inr (inr (record {
-      visit = v;
-      rest = [];
-      first = refl;
-      request = request;
-      spelled = spelled;
-      would = would;
-    }));
+  runs_of : (old new : B) (turns : List Turn) → AreTurns shelf old turns new → Runs shelf old new turns
+  runs_of old new turns are = record {
+    turns_are = are;
+    run = λ conns conns_are. run_of old new conns (decisions_of turns) (serving_of old new turns conns are conns_are);
+    read = read_are turns;
   }
 
-module _ {V R W : Type 0} (remaining : R → Option Text) (taken : W → Option Text)
+module _ {V R W : Type 0} (known : R → Known) (taken : W → Option Text)
     (Admits : V → V → Result (R × W) DeviceFault → Type 0) (Dismisses : V → V → R → W → ConnEnd → Type 0) where
-  visits_more : (came between went : V) (turns : List Turn) (turn : Turn) → AreVisited remaining taken Admits Dismisses came turns between
-      → IsVisited remaining taken Admits Dismisses between went turn
-      → AreVisited remaining taken Admits Dismisses came (turns ++ turn ∷ []) went
+  visits_more : (came between went : V) (turns : List Turn) (turn : Turn) → AreVisited known taken Admits Dismisses came turns between
+      → IsVisited known taken Admits Dismisses between went turn
+      → AreVisited known taken Admits Dismisses came (turns ++ turn ∷ []) went
   visits_more came between went [] turn a b =
-      (went, subst (λ (v : V). IsVisited remaining taken Admits Dismisses v went turn) a b, refl)
+      (went, subst (λ (v : V). IsVisited known taken Admits Dismisses v went turn) a b, refl)
   visits_more came between went (first ∷ turns) turn a b = (a.0, a.1, visits_more a.0 between went turns turn a.2 b)
 
   -- no turn yet
-  pub unvisited : {B : Type 0} (shelf : Shelf B) (old : B) (came : V) → Visiting remaining taken Admits Dismisses shelf old old came came 0
+  pub unvisited : {B : Type 0} (shelf : Shelf B) (old : B) (came : V) → Visiting known taken Admits Dismisses shelf old old came came 0
   unvisited shelf old came = record {
     turns = [];
     many = refl;
-    served = refl;
+    served = runs_of shelf old old [] refl;
     visits = refl;
-    crash = λ honest left may. left_at_start shelf old left may;
   }
 
   -- one turn more
   pub visiting_more : {B : Type 0} (shelf : Shelf B) (old middle new : B) (came between went : V) (count : ℕ)
-      → Visiting remaining taken Admits Dismisses shelf old middle came between count
-      → ((turn : Turn) × IsTurn shelf middle new turn × IsVisited remaining taken Admits Dismisses between went turn
-      × (shelf.honest new → (left : Option World) → shelf.may_leave new left → LeavesTurn shelf middle new turn left))
-      → Visiting remaining taken Admits Dismisses shelf old new came went (count + 1)
-  visiting_more shelf old middle new came between went count v (turn, is, visits, leaves) =
+      → Visiting known taken Admits Dismisses shelf old middle came between count
+      → ((turn : Turn) × IsTurn shelf middle new turn × IsVisited known taken Admits Dismisses between went turn)
+      → Visiting known taken Admits Dismisses shelf old new came went (count + 1)
+  visiting_more shelf old middle new came between went count v (turn, is, visits) =
       let long = length-append v.turns (turn ∷ []) in record {
         turns = v.turns ++ turn ∷ [];
         many = omega (arith, long, v.many);
-        served = turns_more shelf old middle new v.turns turn v.served is;
+        served = runs_of shelf old new (v.turns ++ turn ∷ []) (turns_more shelf old middle new v.turns turn v.served.turns_are is);
         visits = visits_more came between went v.turns turn v.visits visits;
-        crash = λ honest left may.
-            left_more shelf old middle new v.turns turn v.served is (v.crash (turn_honest shelf middle new turn is honest)) left (leaves honest left may);
       }
 
   -- how the office moved
   pub visiting_moves : {B : Type 0} (shelf : Shelf B) (old new : B) (came went : V) (count : ℕ)
-      → Visiting remaining taken Admits Dismisses shelf old new came went count
+      → Visiting known taken Admits Dismisses shelf old new came went count
       → (decisions : List Decision) × (length decisions ≤ count) × MovedBy shelf old decisions new
   visiting_moves shelf old new came went count v =
-      let m = turns_move shelf old new v.turns v.served in (m.0, omega (arith, m.1, v.many), m.2)
+      let m = turns_move shelf old new v.turns v.served.turns_are in (m.0, omega (arith, m.1, v.many), m.2)

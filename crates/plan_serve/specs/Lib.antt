@@ -6,3 +6,4 @@ pub mod ReplayRun
 pub mod Serve
 pub mod Turns
 pub mod Logs
+pub mod Ports

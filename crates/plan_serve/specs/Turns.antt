@@ -1,36 +1,89 @@
 -- Connections that come from anywhere, served turn by turn (docs/DEFINITIONS.md, "Connections").
-use Rattle.std.specs.Prelude.{◌≡◌, ◌⊎◌, ℕ, List, [], ◌∷◌, ◌++◌, length, Option, Some, None, IfSome, Result, Ok, Err}
+use Rattle.std.specs.Prelude.{◌≡◌, ◌<◌, ℕ, Bool, true, List, [], ◌∷◌, ◌++◌, length, take, map, Option, Some, None, Result, Ok, Err}
 use Rattle.plan_psplib.specs.declared.devices.DeviceFault.{DeviceFault}
-use Rattle.plan_rows.specs.World.{Text, World}
+use Rattle.plan_rows.specs.World.{Text}
 use Rattle.plan_rows.specs.Books.{Shelf}
 use Rattle.plan_http.specs.declared.serving.ConnEnd.{ConnEnd}
-use Rattle.plan_http.specs.declared.serving.ConnEnd.TheVariants.{ReadFailed}
-use Rattle.plan_desk.specs.Calls.{Request}
-use Rattle.plan_http.specs.Judges.{asks, Judges}
-use Rattle.plan_http.specs.Answers.{Decision}
-use Rattle.plan_http.specs.Serving.{Serves, Ends}
-use Rattle.plan_http.specs.Crashes.{WouldMake, LeavesOne}
+use Rattle.plan_http.specs.declared.serving.ConnEnd.TheVariants.{Replied, ReadFailed, WriteFailed}
+use Rattle.plan_http.specs.Clients.{Known, IsFresh}
+use Rattle.plan_http.specs.Answers.{Decision, IsOn}
+use Rattle.plan_http.specs.Serving.{Moves, Serving, response_of}
+use Rattle.plan_http.specs.Crashes.{Outlasts}
+use Rattle.plan_http.specs.Isolated.{IsApart}
 
--- A connection that was served: the bytes that were to be read of it, those that it was sent before
--- and by the end, how that ended, and what was decided, if anything.
+-- A connection that was served: the bytes that its reads returned, and whether their end was seen;
+-- those that its writes accepted; how that ended, and what was decided, if anything.
 pub record Visit : Type 0 where
-  pub bytes : Option Text
-  pub before : Option Text
-  pub after : Option Text
+  pub read : Text
+  pub ended : Bool
+  pub sent : Text
   pub ending : ConnEnd
   pub decided : Option Decision
+
+-- the bytes of the connection may be these: those that were read and any behind them, but none once
+-- the end was seen
+pub record MayBe (v : Visit) (bytes : Text) : Type 0 where
+  pub more : Text
+  pub whole : bytes ≡ v.read ++ more
+  pub none : v.ended ≡ true → more ≡ []
+
+-- what was sent of a response by the end: all of it, or its first bytes
+abbrev pub IsSent : Text → Text → ConnEnd → Type 0
+IsSent sent response (Replied status) = sent ≡ response
+IsSent sent response ReadFailed = ⊥
+IsSent sent response (WriteFailed count) = (count < length response) × (sent ≡ take count response)
 
 -- a turn: no connection came, or one came and was served
 pub data Turn : Type 0 where
   missed : Turn
   visited : Visit → Turn
 
+-- what was decided of one connection, as a list
+abbrev pub decision_in : Option Decision → List Decision
+decision_in None = []
+decision_in (Some d) = d ∷ []
+
+-- the decisions that were made in turns
+abbrev pub decisions_of : List Turn → List Decision
+decisions_of [] = []
+decisions_of (missed ∷ turns) = decisions_of turns
+decisions_of (visited v ∷ turns) = decision_in v.decided ++ decisions_of turns
+
+-- the bytes of a connection, if it was decided
+abbrev pub IsConn : Visit → Option Decision → List Text → Type 0
+IsConn v None conns = conns ≡ []
+IsConn v (Some d) conns = (bytes : Text) × (conns ≡ bytes ∷ []) × MayBe v bytes
+
+-- the connections that were decided in turns, one for each decision and in their order, may have these
+-- bytes
+abbrev pub AreConns : List Turn → List Text → Type 0
+AreConns [] conns = conns ≡ []
+AreConns (missed ∷ turns) conns = AreConns turns conns
+AreConns (visited v ∷ turns) conns =
+    (first : List Text) × (rest : List Text) × (conns ≡ first ++ rest)
+    × IsConn v v.decided first × AreConns turns rest
+
+-- the bytes that were read of these connections
+abbrev pub read_in : Visit → Option Decision → List Text
+read_in v None = []
+read_in v (Some d) = v.read ∷ []
+
+abbrev pub read_of : List Turn → List Text
+read_of [] = []
+read_of (missed ∷ turns) = read_of turns
+read_of (visited v ∷ turns) = read_in v v.decided ++ read_of turns
+
 module _ {B : Type 0} (shelf : Shelf B) where
+  -- a connection was served by this decision, on its bytes, and was sent the response
+  pub record IsServedBy (old new : B) (v : Visit) (d : Decision) : Type 0 where
+    pub on : (bytes : Text) → MayBe v bytes → IsOn bytes d
+    pub moves : Moves shelf old new d
+    pub told : IsSent v.sent (response_of d) v.ending
+
   -- a connection was served once: by this decision; or by none, since the reader failed
   abbrev pub IsServed : B → B → Visit → Option Decision → Type 0
-  IsServed old new v None = (v.ending ≡ ReadFailed) × Ends shelf old new v.bytes v.before v.after ReadFailed
-  IsServed old new v (Some d) =
-      (served : Serves shelf old new v.bytes v.before v.after v.ending) × (served.decision ≡ d)
+  IsServed old new v None = (v.ending ≡ ReadFailed) × (new ≡ old) × (v.sent ≡ [])
+  IsServed old new v (Some d) = IsServedBy old new v d
 
   -- the office in one turn
   abbrev pub IsTurn : B → B → Turn → Type 0
@@ -42,49 +95,37 @@ module _ {B : Type 0} (shelf : Shelf B) where
   AreTurns old [] new = new ≡ old
   AreTurns old (turn ∷ turns) new = (middle : B) × IsTurn old middle turn × AreTurns middle turns new
 
-  -- what a crash may leave after one turn
-  abbrev pub LeavesTurn : B → B → Turn → Option World → Type 0
-  LeavesTurn old new missed left = shelf.may_leave old left
-  LeavesTurn old new (visited v) left = LeavesOne shelf old new v.bytes left
+  -- Connections with these bytes were served by these decisions: what a crash may leave, and what each
+  -- desk is told by the responses.
+  pub record IsRun (old new : B) (conns : List Text) (decisions : List Decision) : Type 0 where
+    pub served : Serving shelf old conns decisions new
+    pub crash : Outlasts shelf old new conns (map response_of decisions)
+    pub apart : shelf.honest new → (desk : Text)
+        → IsApart shelf old new conns (map response_of decisions) desk
 
-  -- the first of some turns has a connection that asks for a command, which these rows would take, to
-  -- make what is left
-  pub record LeavesRefused (settled : B) (turns : List Turn) (left : Option World) : Type 0 where
-    pub visit : Visit
-    pub rest : List Turn
-    pub first : turns ≡ visited visit ∷ rest
-    pub request : Request
-    pub spelled : IfSome visit.bytes (λ all. Judges all (asks request))
-    pub would : WouldMake (shelf.world settled) request left
+  -- Turns are a run, whatever the connections sent behind what was read of them. So they are one of
+  -- connections that sent what was read.
+  pub record Runs (old new : B) (turns : List Turn) : Type 0 where
+    pub turns_are : AreTurns old turns new
+    pub run : (conns : List Text) → AreConns turns conns → IsRun old new conns (decisions_of turns)
+    pub read : AreConns turns (read_of turns)
 
-  -- A crash after turns leaves the rows that there were after some of them, behind which no writing call
-  -- was made. Or it leaves these rows with one command more, which the
-  -- next turn refused. Or no writing call was made at all, and it leaves what it might leave before.
-  pub record LeavesTurns (old new : B) (turns : List Turn) (left : Option World) : Type 0 where
-    pub settled : B
-    pub front : List Turn
-    pub behind : List Turn
-    pub are : turns ≡ front ++ behind
-    pub earlier : AreTurns old front settled
-    pub later : AreTurns settled behind new
-    pub unmade : shelf.made new ≡ shelf.made settled
-    pub leaves : ((front ≡ []) × shelf.may_leave old left)
-        ⊎ ((left ≡ Some (shelf.world settled)) ⊎ LeavesRefused settled behind left)
-
-module _ {V R W : Type 0} (remaining : R → Option Text) (taken : W → Option Text)
+module _ {V R W : Type 0} (known : R → Known) (taken : W → Option Text)
     (Admits : V → V → Result (R × W) DeviceFault → Type 0) (Dismisses : V → V → R → W → ConnEnd → Type 0) where
-  -- A connection was admitted, and dismissed with two sides, of which the one that was sent to has taken
-  -- what its serving says.
+  -- A connection was admitted, of which nothing was read and which was sent nothing, and dismissed after
+  -- these bytes were read of it and those sent.
   pub record IsVisit (came went : V) (v : Visit) : Type 0 where
     pub reader : R
     pub writer : W
     pub between : V
     pub admitted : Admits came between (Ok (reader, writer))
-    pub bytes : v.bytes ≡ remaining reader
-    pub before : v.before ≡ taken writer
+    pub fresh : IsFresh (known reader)
+    pub unsent : taken writer ≡ Some []
     pub heard : R
     pub told : W
-    pub after : v.after ≡ taken told
+    pub read : v.read ≡ (known heard).heard
+    pub ended : v.ended ≡ (known heard).ended
+    pub sent : taken told ≡ Some v.sent
     pub dismissed : Dismisses between went heard told v.ending
 
   -- where connections come from, in one turn
@@ -99,11 +140,9 @@ module _ {V R W : Type 0} (remaining : R → Option Text) (taken : W → Option 
       (between : V) × IsVisited came between turn × AreVisited between turns went
 
   -- So many turns: each connection that was admitted was served by one serving, in the order of
-  -- admission, and dismissed after it, before the next was awaited.
+  -- admission, and dismissed after it, before the next was awaited. And they are a run.
   pub record Visiting {B : Type 0} (shelf : Shelf B) (old new : B) (came went : V) (count : ℕ) : Type 0 where
     pub turns : List Turn
     pub many : length turns ≡ count
-    pub served : AreTurns shelf old turns new
+    pub served : Runs shelf old new turns
     pub visits : AreVisited came turns went
-    pub crash : shelf.honest new → (left : Option World) → shelf.may_leave new left
-        → LeavesTurns shelf old new turns left

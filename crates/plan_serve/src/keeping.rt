@@ -1,11 +1,12 @@
 //! The commands on an office wherever its database is.
 
-ghost use Rattle.std.specs.Prelude.{◌≡◌, ◌≢◌, ◌⊎◌, ◌+◌, ◌≤◌, length, IfErr, IsErrOf, OnOk};
+ghost use Rattle.std.specs.Prelude.{◌≡◌, ◌≢◌, ◌⊎◌, ◌+◌, ◌≤◌, length, Ok, IfOk, IfErr, IsErrOf, OnOk, MatchResult};
 ghost use Rattle.plan_psplib.specs.Devices.{most_calls, HasFailed};
 ghost use Rattle.plan_serve.specs.Causes.{IsPortCause};
 ghost use Rattle.plan_serve.specs.InitRun.{IsInitFault};
 ghost use Rattle.plan_serve.specs.ReplayRun.{AreAnswered, AreAnsweredInPart};
 ghost use Rattle.plan_serve.specs.Serve.{IsServeFault};
+ghost use Rattle.plan_serve.specs.Ports.{ServesFrom};
 
 use crate::fault::{ServeFault, told};
 use crate::init::{Place, init_run};
@@ -44,6 +45,7 @@ pub(crate) fn init_at<R: Source, P: Place>(
 // The tables that were opened.
 #[tactic(auto, using(crate::proofs::ServeLemmas::serves_not, crate::proofs::ServeLemmas::not_output))]
 fn book_of<S: Alter + Drop>(opened: Opened<S>) -> Result<SqlBook<S>, ServeFault>
+    ensures book { IfOk result (λ book. opened ≡ Ok book) }
     ensures which { IfErr result IsServeFault }
     ensures silent { IfErr result (λ e. e ≢ ServeFault.Output) }
 {
@@ -139,7 +141,8 @@ fn serve_by<B: Book>(
     office: &mut Office<B>,
     service: &Service<'_>,
 ) -> Result<(), ServeFault>
-    ensures { IfErr result IsServeFault }
+    ensures ok { OnOk result (ServesFrom B.shelf office.old service.now.count) }
+    ensures which { IfErr result IsServeFault }
 {
     match TcpListener::bind(rt, (Ipv4Addr::LOCALHOST, service.port)) {
         Ok(listener) => {
@@ -159,7 +162,8 @@ fn serve_over<B: Book + Drop>(
     book: B,
     service: &Service<'_>,
 ) -> (Result<(), ServeFault>, Option<B>)
-    ensures { IfErr result.0 IsServeFault }
+    ensures ok { OnOk result.0 (ServesFrom B.shelf book service.now.count) }
+    ensures which { IfErr result.0 IsServeFault }
 {
     let mut office = match Office::new(rt.alloc(), book) {
         Ok(office) => office,
@@ -175,7 +179,8 @@ pub(crate) fn serve_opened<S: Alter + Drop>(
     opened: Opened<S>,
     service: &Service<'_>,
 ) -> Ended<S>
-    ensures { IfErr result.0 IsServeFault }
+    ensures ok { OnOk result.0 (MatchResult opened (λ book. ServesFrom ⟦<SqlBook<S> as Book>⟧.shelf book service.now.count) (λ _. ⊥)) }
+    ensures which { IfErr result.0 IsServeFault }
 {
     let book = match book_of(opened) {
         Ok(book) => book,

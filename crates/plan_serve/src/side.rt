@@ -1,11 +1,12 @@
 //! The two sides of a connection of a socket, and how long each may take.
 
-ghost use Rattle.std.specs.Prelude.{◌≡◌, ◌*◌, ◌≤◌, IfOk};
+ghost use Rattle.std.specs.Prelude.{◌≡◌, ◌*◌, ◌≤◌, [], false, IfOk};
 ghost use Rattle.std.specs.Duration.{as_nanos};
 ghost use Rattle.std.specs.Io.{ReadsAtMost, WritesAtMost};
 
 use crate::first_line::FirstLine;
-use plan_psplib::{DeviceFault, Sink, Source, Tally};
+use plan_http::{Client, Trace};
+use plan_psplib::{DeviceFault, Sink, Tally};
 use std::io::{self, ErrorKind, Read, Write};
 use std::net::{Shutdown, TcpStream};
 use std::time::{Duration, Instant};
@@ -54,6 +55,11 @@ pub struct Side<'a> {
     stream: TcpStream,
     timer: Timer<'a>,
     tally: Tally,
+    // What its reads returned, and whether its end was seen.
+    heard: Trace,
+    is_ended: bool,
+    // What its writes accepted.
+    told: Trace,
     bytes: u64,
     line: FirstLine,
 }
@@ -78,45 +84,59 @@ fn write_in_time(timer: &mut Timer<'_>, stream: &TcpStream, bytes: &[u8]) -> io:
     writer.write(bytes)
 }
 
-impl<'a> Source for Side<'a> {
+impl<'a> Client for Side<'a> {
     ghost use Rattle.std.specs.Prelude.{None};
+    ghost use Rattle.plan_http.specs.Clients.{Known};
 
     ghost calls = { λ side. side.tally.calls };
 
     ghost faults = { λ side. side.tally.faults };
 
-    ghost remaining = { λ _. None };
+    // What is still to come nobody knows.
+    ghost known = { λ side. record { heard = side.heard.bytes; ended = side.is_ended; left = None } };
 
     fn read(&mut self, buf: &mut [u8]) -> Result<usize, DeviceFault> {
-        let read = read_in_time(&mut self.timer, &self.stream, buf);
-        if let Ok(count) = read {
-            self.bytes = self.bytes.saturating_add(count as u64);
-            self.line.hear(&buf[..count]);
+        if self.is_ended {
+            return self.tally.count(Ok::<usize, DeviceFault>(0));
         }
-        self.tally.count(read)
+        match read_in_time(&mut self.timer, &self.stream, buf) {
+            Ok(count) => {
+                self.is_ended = count == 0 && !buf.is_empty();
+                self.bytes = self.bytes.saturating_add(count as u64);
+                self.line.hear(&buf[..count]);
+                self.heard = self.heard.with(&buf[..count]);
+                self.tally.count(Ok::<usize, DeviceFault>(count))
+            }
+            Err(_) => self.tally.count(Err::<usize, DeviceFault>(DeviceFault)),
+        }
     }
 }
 
 impl<'a> Sink for Side<'a> {
-    ghost use Rattle.std.specs.Prelude.{None};
+    ghost use Rattle.std.specs.Prelude.{Some};
 
     ghost calls = { λ side. side.tally.calls };
 
     ghost faults = { λ side. side.tally.faults };
 
-    ghost taken = { λ _. None };
+    // What it was sent is what its writes accepted.
+    ghost taken = { λ side. Some side.told.bytes };
 
     fn write(&mut self, bytes: &[u8]) -> Result<usize, DeviceFault> {
-        let written = write_in_time(&mut self.timer, &self.stream, bytes);
-        if let Ok(count) = written {
-            self.bytes = self.bytes.saturating_add(count as u64);
+        match write_in_time(&mut self.timer, &self.stream, bytes) {
+            Ok(count) => {
+                self.bytes = self.bytes.saturating_add(count as u64);
+                self.told = self.told.with(&bytes[..count]);
+                self.tally.count(Ok::<usize, DeviceFault>(count))
+            }
+            Err(_) => self.tally.count(Err::<usize, DeviceFault>(DeviceFault)),
         }
-        self.tally.count(written)
     }
 }
 
 fn side_of(rt: &HostRuntime, stream: TcpStream, patience: u32) -> Side<'_>
     ensures untouched { result.tally.calls ≡ 0 }
+    ensures fresh { (result.heard.bytes ≡ []) × (result.is_ended ≡ false) × (result.told.bytes ≡ []) }
     ensures timed { result.timer.patience ≡ patience }
 {
     Side {
@@ -127,18 +147,23 @@ fn side_of(rt: &HostRuntime, stream: TcpStream, patience: u32) -> Side<'_>
             start: None,
         },
         tally: Tally::new(),
+        heard: Trace::new(),
+        is_ended: false,
+        told: Trace::new(),
         bytes: 0,
         line: FirstLine::new(),
     }
 }
 
-// The two sides of a connection, neither of which was called yet, and each with so many seconds.
+// The two sides of a connection, neither of which was called yet, and each with so many seconds. Of the
+// one it is known what is heard, of the other what it is sent.
 pub(crate) fn both_sides(
     rt: &HostRuntime,
     stream: TcpStream,
     patience: u32,
 ) -> io::Result<(Side<'_>, Side<'_>)>
     ensures untouched { IfOk result (λ sides. (sides.0.tally.calls ≡ 0) × (sides.1.tally.calls ≡ 0)) }
+    ensures fresh { IfOk result (λ sides. (sides.0.heard.bytes ≡ []) × (sides.0.is_ended ≡ false) × (sides.1.told.bytes ≡ [])) }
     ensures timed { IfOk result (λ sides. (sides.0.timer.patience ≡ patience) × (sides.1.timer.patience ≡ patience)) }
 {
     stream.set_nonblocking(false)?;

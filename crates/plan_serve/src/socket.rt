@@ -1,9 +1,9 @@
 //! Connections of a socket.
 
-ghost use Rattle.std.specs.Prelude.{◌≡◌, ◌⊎◌, ◌↔◌, ◌+◌, ◌≤◌, List, length, IsTrue, IfOk, OnOk, IsErrOf, IfErr};
+ghost use Rattle.std.specs.Prelude.{◌≡◌, ◌⊎◌, ◌↔◌, ◌+◌, ◌≤◌, [], false, List, length, IsTrue, IfOk, OnOk, IsErrOf, IfErr};
 ghost use Rattle.plan_http.specs.Answers.{Decision};
 ghost use Rattle.plan_serve.specs.Serve.{MovedBy};
-ghost use Rattle.plan_serve.specs.Turns.{Turn, AreTurns};
+ghost use Rattle.plan_serve.specs.Turns.{Turn, Runs};
 
 use crate::fault::ServeFault;
 use crate::log::Log;
@@ -121,6 +121,7 @@ impl<'a> Door<'a> {
     // Its two sides, each with so many seconds.
     fn next_sides(&mut self, patience: u32) -> io::Result<(Side<'a>, Side<'a>)>
         ensures untouched { IfOk result (λ sides. (sides.0.tally.calls ≡ 0) × (sides.1.tally.calls ≡ 0)) }
+        ensures fresh { IfOk result (λ sides. (sides.0.heard.bytes ≡ []) × (sides.0.is_ended ≡ false) × (sides.1.told.bytes ≡ [])) }
         ensures timed { IfOk result (λ sides. (sides.0.timer.patience ≡ patience) × (sides.1.timer.patience ≡ patience)) }
     {
         let stream = self.next_stream()?;
@@ -188,13 +189,13 @@ pub fn serve_listener<B: Book>(
     listener: &TcpListener,
     service: &Service<'_>,
 ) -> Result<(), ServeFault>
-    ensures turns { OnOk result ((turns : List Turn) × (length turns ≡ service.now.count) × AreTurns B.shelf office.old turns office.new) }
+    ensures turns { OnOk result ((turns : List Turn) × (length turns ≡ service.now.count) × Runs B.shelf office.old office.new turns) }
     ensures moves { OnOk result ((decisions : List Decision) × (length decisions ≤ service.now.count) × MovedBy B.shelf office.old decisions office.new) }
     // It ends before for one of two causes. Memory may run out before the first;
     ensures memory { IsErrOf result ServeFault.Memory → office.new ≡ office.old }
     // or, after some turns, none could be accepted a hundred times in a row.
     ensures closed { IsErrOf result ServeFault.Socket
-        → (turns : List Turn) × (length turns ≤ service.now.count) × AreTurns B.shelf office.old turns office.new }
+        → (turns : List Turn) × (length turns ≤ service.now.count) × Runs B.shelf office.old office.new turns }
     ensures which { IfErr result (λ e. (e ≡ ServeFault.Memory) ⊎ (e ≡ ServeFault.Socket)) }
 {
     let Ok(room) = Room::new(rt.alloc()) else {

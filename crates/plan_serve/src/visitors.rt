@@ -1,23 +1,23 @@
 //! Connections that come from anywhere, one after another.
 
-ghost use Rattle.std.specs.Prelude.{◌≡◌, ◌⊎◌, ◌↔◌, ◌+◌, ◌≤◌, ℕ, List, length, Option, Result, IsTrue, IfOk, OnOk, IsErrOf, IfErr};
-ghost use Rattle.plan_rows.specs.World.{World};
+ghost use Rattle.std.specs.Prelude.{◌≡◌, ◌⊎◌, ◌↔◌, ◌+◌, ◌≤◌, ℕ, [], List, length, Option, Some, Result, IsTrue, IfOk, OnOk, IsErrOf, IfErr};
 ghost use Rattle.plan_psplib.specs.Devices.{IsCounted};
 ghost use Rattle.plan_psplib.specs.declared.devices.DeviceFault.{DeviceFault};
 ghost use Rattle.plan_http.specs.declared.serving.ConnEnd.{ConnEnd};
+ghost use Rattle.plan_http.specs.Clients.{IsFresh};
 ghost use Rattle.plan_http.specs.Answers.{Decision};
 ghost use Rattle.plan_serve.specs.Serve.{MovedBy};
-ghost use Rattle.plan_serve.specs.Turns.{Turn, IsTurn, AreTurns, IsVisited, LeavesTurn, Visiting};
+ghost use Rattle.plan_serve.specs.Turns.{Turn, IsTurn, Runs, IsVisited, Visiting};
 
 use crate::fault::ServeFault;
 use plan_desk::{Book, Office};
-use plan_http::{ConnEnd, Routes, serve_conn};
-use plan_psplib::{DeviceFault, Sink, Source};
+use plan_http::{Client, ConnEnd, Routes, serve_conn};
+use plan_psplib::{DeviceFault, Sink};
 use std::alloc::Global;
 
 /// Where connections come from.
 pub trait Visitors {
-    type Reader: Source + Drop;
+    type Reader: Client + Drop;
 
     type Writer: Sink + Drop;
 
@@ -36,11 +36,12 @@ pub trait Visitors {
     /// What ending one may come to.
     ghost dismisses: { Self → Self → Self.Reader → Self.Writer → ConnEnd → Type 0 };
 
-    /// Awaits a connection, of which nothing is read before it is here.
+    /// Awaits a connection, of which nothing is read before it is here, and which is sent nothing.
     fn admit(&mut self) -> Result<(Self::Reader, Self::Writer), DeviceFault>
         ensures counted { IsCounted (awaited self.old) (awaited self.new) (missed self.old) (missed self.new) result }
         ensures admitted { admits self.old self.new result }
-        ensures untouched { IfOk result (λ sides. (Self.Reader.calls sides.0 ≡ 0) × (Self.Writer.calls sides.1 ≡ 0)) };
+        ensures untouched { IfOk result (λ sides. (Self.Reader.calls sides.0 ≡ 0) × (Self.Writer.calls sides.1 ≡ 0)) }
+        ensures fresh { IfOk result (λ sides. IsFresh (Self.Reader.known sides.0) × (Self.Writer.taken sides.1 ≡ Some [])) };
 
     /// Ends a connection that was served.
     fn dismiss(&mut self, reader: Self::Reader, writer: Self::Writer, end: ConnEnd)
@@ -61,8 +62,7 @@ fn serve_next<B: Book, V: Visitors>(
 )
     ensures awaited { V.awaited visitors.new ≡ V.awaited visitors.old + 1 }
     ensures turn { (turn : Turn) × IsTurn B.shelf office.old office.new turn
-        × IsVisited V.Reader.remaining V.Writer.taken V.admits V.dismisses visitors.old visitors.new turn
-        × (B.shelf.honest office.new → (left : Option World) → B.shelf.may_leave office.new left → LeavesTurn B.shelf office.old office.new turn left) }
+        × IsVisited V.Reader.known V.Writer.taken V.admits V.dismisses visitors.old visitors.new turn }
 {
     let Ok((reader, writer)) = visitors.admit() else {
         return;
@@ -82,17 +82,17 @@ pub fn serve_visitors<B: Book, V: Visitors>(
     count: u32,
 ) -> Result<(), ServeFault>
     ensures awaited { OnOk result (V.awaited visitors.new ≡ V.awaited visitors.old + count) }
-    ensures visits { OnOk result (Visiting V.Reader.remaining V.Writer.taken V.admits V.dismisses
+    ensures visits { OnOk result (Visiting V.Reader.known V.Writer.taken V.admits V.dismisses
         B.shelf office.old office.new visitors.old visitors.new count) }
     // So, of the office alone:
-    ensures turns { OnOk result ((turns : List Turn) × (length turns ≡ count) × AreTurns B.shelf office.old turns office.new) }
+    ensures turns { OnOk result ((turns : List Turn) × (length turns ≡ count) × Runs B.shelf office.old office.new turns) }
     ensures moves { OnOk result ((decisions : List Decision) × (length decisions ≤ count) × MovedBy B.shelf office.old decisions office.new) }
     // It ends before for one of two causes. Memory may run out before the first;
     ensures memory { IsErrOf result ServeFault.Memory → (office.new ≡ office.old) × (visitors.new ≡ visitors.old) }
     // or no more will come, after some turns.
     ensures closed { IsErrOf result ServeFault.Socket → V.closed visitors.new
         × (n : ℕ) × (n ≤ count) × (V.awaited visitors.new ≡ V.awaited visitors.old + n)
-        × Visiting V.Reader.remaining V.Writer.taken V.admits V.dismisses
+        × Visiting V.Reader.known V.Writer.taken V.admits V.dismisses
         B.shelf office.old office.new visitors.old visitors.new n }
     ensures which { IfErr result (λ e. (e ≡ ServeFault.Memory) ⊎ (e ≡ ServeFault.Socket)) }
 {

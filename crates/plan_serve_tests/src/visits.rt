@@ -1,12 +1,13 @@
 //! Connections that fail among such that don't.
 
-ghost use Rattle.std.specs.Prelude.{◌≡◌, ◌+◌, ◌≤◌, IfOk};
+ghost use Rattle.std.specs.Prelude.{◌≡◌, ◌+◌, ◌≤◌, [], false, Some, IfOk};
+ghost use Rattle.plan_http.specs.Clients.{IsFresh};
 
 use crate::devices::{Drip, Narrow};
 use crate::office::{LISTED, LISTING, OPENING, office};
 use plan_desk::{Book, Office};
-use plan_http::ConnEnd;
-use plan_psplib::{DeviceFault, Sink, Source, Tally};
+use plan_http::{Client, ConnEnd, Listening};
+use plan_psplib::{DeviceFault, Sink, Tally};
 use plan_serve::{ServeFault, Visitors, serve_visitors};
 use std::alloc::Global;
 use std::process::Abort;
@@ -15,7 +16,7 @@ use std::test::Fail;
 const EXISTS: &str =
     "HTTP/1.1 409 Conflict\r\nContent-Type: text/plain\r\nContent-Length: 16\r\nConnection: close\r\n\r\nE04 desk exists\n";
 
-type Sides = (Drip<'static>, Narrow);
+type Sides = (Listening<Drip<'static>>, Narrow);
 
 // Five clients: one that doesn't come, one whose request breaks off, one that goes away within the
 // response, and two that are answered.
@@ -30,7 +31,8 @@ struct Queue {
 
 // The two sides of a client, by its turn.
 fn sides(alloc: Global, turn: usize) -> Result<Sides, DeviceFault>
-    ensures { IfOk result (λ both. (⟦<Drip<'static> as Source>⟧.calls both.0 ≡ 0) × (⟦<Narrow as Sink>⟧.calls both.1 ≡ 0)) }
+    ensures untouched { IfOk result (λ both. (⟦<Listening<Drip<'static>> as Client>⟧.calls both.0 ≡ 0) × (⟦<Narrow as Sink>⟧.calls both.1 ≡ 0)) }
+    ensures fresh { IfOk result (λ both. IsFresh (⟦<Listening<Drip<'static>> as Client>⟧.known both.0) × (⟦<Narrow as Sink>⟧.taken both.1 ≡ Some [])) }
 {
     let (text, fails, room) = match turn {
         1 => ("POST /office/desks HTTP/1.0\r\nDesk-Key: off", true, 1000),
@@ -40,13 +42,13 @@ fn sides(alloc: Global, turn: usize) -> Result<Sides, DeviceFault>
         _ => return Err(DeviceFault),
     };
     Ok((
-        Drip::new(text.as_bytes(), fails),
+        Listening::new(Drip::new(text.as_bytes(), fails)),
         Narrow::new(Vec::new(alloc), room),
     ))
 }
 
 impl Visitors for Queue {
-    type Reader = Drip<'static>;
+    type Reader = Listening<Drip<'static>>;
 
     type Writer = Narrow;
 
@@ -66,7 +68,7 @@ impl Visitors for Queue {
         self.tally.count(sides)
     }
 
-    fn dismiss(&mut self, _reader: Drip<'static>, writer: Narrow, end: ConnEnd) {
+    fn dismiss(&mut self, _reader: Listening<Drip<'static>>, writer: Narrow, end: ConnEnd) {
         let _kept = self.answers.extend_from_slice(writer.taken());
         if let Some(place) = self.ends.get_mut(self.turn.saturating_sub(1)) {
             *place = Some(end);

@@ -5,7 +5,7 @@ use crate::office::{
     LISTED, LISTING, NORTH_KEY, OPENED, OPENING, SIX, expect_answer, office, response, sent,
 };
 use plan_desk::{Book, Office};
-use plan_http::{ConnEnd, Routes, serve_conn};
+use plan_http::{ConnEnd, Listening, Routes, serve_conn};
 use plan_psplib::{MemSink, MemSource};
 use std::alloc::Global;
 use std::process::Abort;
@@ -20,7 +20,7 @@ fn expect_broken_off<B: Book>(
     import: &[u8],
 ) {
     for len in 0..import.len() {
-        let mut reader = Drip::new(&import[..len], true);
+        let mut reader = Listening::new(Drip::new(&import[..len], true));
         let mut writer = MemSink::new(Vec::new(alloc));
         let end = serve_conn(alloc, routes, office, &mut reader, &mut writer);
         assert_eq!(rt; end, ConnEnd::ReadFailed, "{len}");
@@ -38,7 +38,7 @@ fn expect_lost<B: Book>(
     loss: (usize, bool),
 ) {
     let (room, fails) = loss;
-    let mut reader = MemSource::new(import);
+    let mut reader = Listening::new(MemSource::new(import));
     let mut writer = Narrow::new(Vec::new(alloc), room, fails);
     let end = serve_conn(alloc, routes, office, &mut reader, &mut writer);
     assert_eq!(rt; end, ConnEnd::WriteFailed { sent: room });

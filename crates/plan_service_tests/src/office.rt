@@ -1,7 +1,7 @@
 //! A small office in memory, and connections to it.
 
 use plan_desk::{Book, MemBook, Office, key_digest};
-use plan_http::{ConnEnd, Routes, serve_conn};
+use plan_http::{ConnEnd, Listening, Routes, serve_conn};
 use plan_psplib::{MemSink, MemSource};
 use std::alloc::{AllocError, Global};
 use std::process::Abort;
@@ -85,7 +85,7 @@ pub fn expect_answer<B: Book>(
     wanted: &str,
 ) {
     let mut writer = MemSink::new(Vec::new(alloc));
-    let mut reader = MemSource::new(conn.as_bytes());
+    let mut reader = Listening::new(MemSource::new(conn.as_bytes()));
     let end = serve_conn(alloc, routes, office, &mut reader, &mut writer);
     assert!(rt; matches!(end, ConnEnd::Replied(_)), "{conn}");
     let written = writer.into_bytes();

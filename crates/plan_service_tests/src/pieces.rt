@@ -1,7 +1,7 @@
 //! Connections that come in pieces.
 
 use crate::devices::Drip;
-use plan_http::{Asked, Check, Routes, read_request};
+use plan_http::{Asked, Check, Listening, Routes, read_request};
 use std::test::Fail;
 
 #[test]
@@ -13,10 +13,10 @@ fn what_follows_a_request_is_left(rt: HostRuntime) -> Result<(), Fail> {
         "POST /office/desks HTTP/1.0\r\nContent-Length: 4\r\n\r\n1234NEXT",
         "DELETE /desks/north/plans/1 HTTP/1.0\r\nContent-Length: 0\r\n\r\nNEXT",
     ] {
-        let mut source = Drip::new(bytes.as_bytes(), true);
-        let asked = read_request(alloc, &routes, &mut source);
+        let mut client = Listening::new(Drip::new(bytes.as_bytes(), true));
+        let asked = read_request(alloc, &routes, &mut client);
         assert!(&rt; matches!(&asked, Asked::Request(_)), "{bytes}");
-        assert_eq!(&rt; source.left(), "NEXT".as_bytes(), "{bytes}");
+        assert_eq!(&rt; client.source().left(), "NEXT".as_bytes(), "{bytes}");
     }
     Ok(())
 }
@@ -45,14 +45,14 @@ fn a_bad_head_is_answered_at_once(rt: HostRuntime) -> Result<(), Fail> {
             Check::Coding,
         ),
     ] {
-        let mut source = Drip::new(bytes.as_bytes(), true);
-        let asked = read_request(alloc, &routes, &mut source);
+        let mut client = Listening::new(Drip::new(bytes.as_bytes(), true));
+        let asked = read_request(alloc, &routes, &mut client);
         let told = match &asked {
             Asked::Fails { check, .. } => Some(*check),
             _ => None,
         };
         assert_eq!(&rt; told, Some(failing), "{bytes}");
-        assert_eq!(&rt; source.left(), left.as_bytes(), "{bytes}");
+        assert_eq!(&rt; client.source().left(), left.as_bytes(), "{bytes}");
     }
     Ok(())
 }
@@ -63,9 +63,11 @@ fn a_reader_that_fails_before_the_end_is_told(rt: HostRuntime) -> Result<(), Fai
     let routes = Routes::new(alloc)?;
     let whole = "POST /office/desks HTTP/1.0\r\nContent-Length: 4\r\n\r\n1234".as_bytes();
     for len in 0..whole.len() {
-        let asked = read_request(alloc, &routes, &mut Drip::new(&whole[..len], true));
+        let mut client = Listening::new(Drip::new(&whole[..len], true));
+        let asked = read_request(alloc, &routes, &mut client);
         assert!(&rt; matches!(&asked, Asked::ReadFailed), "{len}");
-        let asked = read_request(alloc, &routes, &mut Drip::new(&whole[..len], false));
+        let mut client = Listening::new(Drip::new(&whole[..len], false));
+        let asked = read_request(alloc, &routes, &mut client);
         assert!(&rt;
             matches!(
                 &asked,

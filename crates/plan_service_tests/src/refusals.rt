@@ -4,7 +4,7 @@
 
 use crate::office::{NORTH_KEY, OFFICE_KEY, SIX, office, sent};
 use plan_desk::{Body, Book, Office, Reply, Request};
-use plan_http::{Asked, Routes, read_request};
+use plan_http::{Asked, Listening, Routes, read_request};
 use plan_psplib::MemSource;
 use std::alloc::{AllocError, Global};
 use std::process::Abort;
@@ -205,7 +205,8 @@ const EXCHANGES: [Exchange; 18] = [
 
 // The request that a connection spells, or none for want of memory.
 fn read(rt: &impl Abort, alloc: Global, routes: &Routes, conn: &str) -> Option<Request> {
-    match read_request(alloc, routes, &mut MemSource::new(conn.as_bytes())) {
+    let mut client = Listening::new(MemSource::new(conn.as_bytes()));
+    match read_request(alloc, routes, &mut client) {
         Asked::Request(request) => Some(request),
         Asked::NoMemory => None,
         _ => panic!(rt; "no request: {conn}"),

@@ -6,21 +6,21 @@ use Rattle.plan_serve.proofs.visitors.serve_visitors.Goals as goal
 pub loop-init : goal.loop-init
 loop-init g c = record {
   awaited = omega arith;
-  visits = unvisited g.V.Reader.Source.remaining g.V.Writer.Sink.taken g.V.Visitors.admits g.V.Visitors.dismisses
+  visits = unvisited g.V.Reader.Client.known g.V.Writer.Sink.taken g.V.Visitors.admits g.V.Visitors.dismisses
       g.B.Book.shelf c.args.office.now c.args.visitors.now;
 }
 
 pub loop-preserved : goal.loop-preserved
 loop-preserved g c = record {
   awaited = omega (arith, c.serve_next.ensures.awaited, c.loop.invariant.awaited);
-  visits = visiting_more g.V.Reader.Source.remaining g.V.Writer.Sink.taken g.V.Visitors.admits g.V.Visitors.dismisses
+  visits = visiting_more g.V.Reader.Client.known g.V.Writer.Sink.taken g.V.Visitors.admits g.V.Visitors.dismisses
       g.B.Book.shelf c.args.office.now c.loop.office c.serve_next.new.office c.args.visitors.now c.loop.visitors c.serve_next.new.visitors
       c.loop.counter c.loop.invariant.visits c.serve_next.ensures.turn;
 }
 
 pub returns-clause-visits : goal.returns-clause-visits
 returns-clause-visits g c =
-    subst (λ (n : ℕ). Visiting g.V.Reader.Source.remaining g.V.Writer.Sink.taken g.V.Visitors.admits g.V.Visitors.dismisses
+    subst (λ (n : ℕ). Visiting g.V.Reader.Client.known g.V.Writer.Sink.taken g.V.Visitors.admits g.V.Visitors.dismisses
     g.B.Book.shelf c.args.office.now c.loop.office c.args.visitors.now c.loop.visitors n)
     (omega (arith, c.loop-test.false, c.loop.auto.counter-end)) c.loop.invariant.visits
 
@@ -31,7 +31,7 @@ returns-clause-turns g c =
 
 pub returns-clause-moves : goal.returns-clause-moves
 returns-clause-moves g c =
-    let m = visiting_moves g.V.Reader.Source.remaining g.V.Writer.Sink.taken g.V.Visitors.admits g.V.Visitors.dismisses
+    let m = visiting_moves g.V.Reader.Client.known g.V.Writer.Sink.taken g.V.Visitors.admits g.V.Visitors.dismisses
     g.B.Book.shelf c.args.office.now c.loop.office c.args.visitors.now c.loop.visitors c.loop.counter c.loop.invariant.visits in
     (m.0, omega (arith, m.1, c.loop.auto.counter-end), m.2)
 
@@ -41,7 +41,7 @@ returns-then-is_closed-clause-closed g c e = (
   c.loop.counter + 1,
   omega (arith, c.loop-test.true),
   omega (arith, c.serve_next.ensures.awaited, c.loop.invariant.awaited),
-  visiting_more g.V.Reader.Source.remaining g.V.Writer.Sink.taken g.V.Visitors.admits g.V.Visitors.dismisses
+  visiting_more g.V.Reader.Client.known g.V.Writer.Sink.taken g.V.Visitors.admits g.V.Visitors.dismisses
       g.B.Book.shelf c.args.office.now c.loop.office c.serve_next.new.office c.args.visitors.now c.loop.visitors c.serve_next.new.visitors
       c.loop.counter c.loop.invariant.visits c.serve_next.ensures.turn,
 )

@@ -1,0 +1,83 @@
+//! Clients, and what of them is heard.
+
+ghost use Rattle.std.specs.Prelude.{◌≡◌, ℕ, ◌≤◌, length, IfOk, if◌then◌else◌, [], false};
+ghost use Rattle.plan_psplib.specs.Devices.{IsCounted};
+ghost use Rattle.plan_http.specs.Clients.{Known, Hears};
+
+use crate::trace::Trace;
+use plan_psplib::{DeviceFault, Source};
+
+/// What the bytes of a request are read from. Contracts know which bytes the reads have answered, also
+/// where nobody can know what is still to come.
+pub trait Client {
+    /// How often it was read.
+    ghost calls: { Self → ℕ };
+
+    /// How many of these reads answered a fault.
+    ghost faults: { Self → ℕ };
+
+    /// What is known of it.
+    ghost known: { Self → Known };
+
+    /// Reads bytes to the front of a buffer, and answers how many. None in a buffer that has room means
+    /// that there are no more, and then none are read.
+    fn read(&mut self, buf: &mut [u8]) -> Result<usize, DeviceFault>
+        ensures counted { IsCounted (calls self.old) (calls self.new) (faults self.old) (faults self.new) result }
+        ensures within { IfOk result (λ n. n ≤ length buf.new) }
+        ensures heard { Hears (known self.old) (known self.new) result buf.new };
+}
+
+// The room for a read: none behind the end.
+fn room_of(is_ended: bool, room: usize) -> usize
+    ensures { result ≡ (if is_ended then 0 else room) }
+{
+    if is_ended { 0 } else { room }
+}
+
+/// A source as a client. It takes no byte more than the source, but for the note that its end was seen.
+#[derive(Drop)]
+pub struct Listening<R: Source + Drop> {
+    source: R,
+    is_ended: bool,
+    trace: Trace,
+}
+
+impl<R: Source + Drop> Listening<R> {
+    /// A client of whom nothing was read yet.
+    pub fn new(source: R) -> Listening<R>
+        ensures calls { ⟦<Listening<R> as Client>⟧.calls result ≡ R.calls source }
+        ensures faults { ⟦<Listening<R> as Client>⟧.faults result ≡ R.faults source }
+        ensures known { ⟦<Listening<R> as Client>⟧.known result ≡ record { heard = []; ended = false; left = R.remaining source } }
+    {
+        Listening {
+            source,
+            is_ended: false,
+            trace: Trace::new(),
+        }
+    }
+
+    /// The source.
+    pub fn source(&self) -> &R
+        ensures { result.now ≡ self.now.source }
+    {
+        &self.source
+    }
+}
+
+impl<R: Source + Drop> Client for Listening<R> {
+    ghost use Rattle.plan_http.specs.Clients.{Known};
+
+    ghost calls = { λ client. R.calls client.source };
+
+    ghost faults = { λ client. R.faults client.source };
+
+    ghost known = { λ client. record { heard = client.trace.bytes; ended = client.is_ended; left = R.remaining client.source } };
+
+    fn read(&mut self, buf: &mut [u8]) -> Result<usize, DeviceFault> {
+        let room = room_of(self.is_ended, buf.len());
+        let count = self.source.read(&mut buf[..room])?;
+        self.is_ended = self.is_ended || (room > 0 && count == 0);
+        self.trace = self.trace.with(&buf[..count]);
+        Ok(count)
+    }
+}
