@@ -53,7 +53,7 @@ pub struct Narrow {
 
 impl Narrow {
     pub fn new(taken: Vec<u8>, room: usize) -> Narrow
-        ensures { ⟦<Narrow as Sink>⟧.calls result ≡ 0 }
+        ensures calls { ⟦<Narrow as Sink>⟧.calls result ≡ 0 }
         ensures taken { ⟦<Narrow as Sink>⟧.taken result ≡ Some taken.items }
     {
         Narrow {
