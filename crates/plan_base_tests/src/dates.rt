@@ -1,3 +1,5 @@
+//! Tails and total successors of a small project, and the largest network.
+
 use plan_cpm::{tails, total_successors};
 use plan_net::{NetFault, Network};
 use std::alloc::Global;

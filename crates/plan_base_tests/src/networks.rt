@@ -1,3 +1,5 @@
+//! Worked examples of faults, cycles, orders and lags.
+
 use plan_net::{NetFault, Network};
 use std::alloc::Global;
 use std::test::Fail;

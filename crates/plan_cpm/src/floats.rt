@@ -1,3 +1,5 @@
+//! Free floats, and `dates`, which puts all together.
+
 ghost use Rattle.std.specs.Prelude.{◌≡◌, ℕ, ◌+◌, ◌*◌, ◌-◌, ◌≤◌, ◌<◌, length, sum, IfOk, slice_index, EachIndex, SomeIndex};
 ghost use Rattle.plan_net.specs.Network.{IsActivity, IsArc, IsGreatest, count_of, duration_of, lag_of};
 ghost use Rattle.plan_cpm.specs.Lengths.{AreFinishes, HasNoLag, IsLength};

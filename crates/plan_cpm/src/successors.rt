@@ -1,3 +1,5 @@
+//! Total successors, by marks united from the end of the order on.
+
 ghost use Rattle.std.specs.Prelude.{◌≡◌, ℕ, ◌≤◌, ◌<◌, ◌+◌, ◌⊎◌, length, true, false, slice_index_or, IfOk};
 ghost use Rattle.plan_net.specs.Network.{IsActivity, count_of};
 ghost use Rattle.plan_net.specs.Placed.{IsPlaced};

@@ -1,3 +1,5 @@
+//! `Dates` and its getters.
+
 ghost use Rattle.std.specs.Prelude.{◌≡◌, ◌↔◌, IsTrue};
 ghost use Rattle.plan_cpm.specs.Dates.{IsConsistent, IsDated, early_start_of, early_finish_of, late_start_of, late_finish_of, total_float_of, free_float_of};
 

@@ -1,3 +1,5 @@
+//! The best text of a shop, and of a project.
+
 ghost use Rattle.std.specs.Prelude.{◌≡◌, ◌≤◌, length, slice_index, EachIndex, IfOk, string_bytes};
 ghost use Rattle.plan_net.specs.Network.{count_of};
 ghost use Rattle.plan_shop.specs.Shop.{count_steps};

@@ -1,3 +1,5 @@
+//! The date table.
+
 ghost use Rattle.std.specs.Prelude.{◌≡◌, ◌++◌, ◌==◌, length, IfOk, OnOk, string_bytes};
 ghost use Rattle.plan_net.specs.Network.{IsActivity, count_of};
 ghost use Rattle.plan_gantt.specs.Column.{number_columns};

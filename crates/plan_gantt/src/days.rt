@@ -1,3 +1,5 @@
+//! The table of working days of a project.
+
 ghost use Rattle.std.specs.Prelude.{◌≡◌, ◌+◌, ◌++◌, ◌≤◌, List, [], ℕ, length, slice_index, EachIndex, IfOk, OnOk, IsErrOf, string_bytes};
 ghost use Rattle.plan_net.specs.Network.{IsActivity, count_of};
 ghost use Rattle.plan_gantt.specs.Limits.{latest_start, latest_end};

@@ -1,3 +1,5 @@
+//! Texts of what a search is refused for.
+
 ghost use Rattle.std.specs.Prelude.{◌≡◌};
 ghost use Rattle.plan_gantt.specs.ExactFaultText.{exact_fault_text_of};
 

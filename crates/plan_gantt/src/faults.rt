@@ -1,3 +1,5 @@
+//! Texts of file faults.
+
 ghost use Rattle.std.specs.Prelude.{◌≡◌, ◌++◌, IfOk, OnOk, string_bytes};
 ghost use Rattle.plan_gantt.specs.FaultText.{code_name_of, place_text, spaced_numbers, file_fault_text_of};
 

@@ -1,3 +1,5 @@
+//! Intervals, and whether one has an instant of a cell.
+
 ghost use Rattle.std.specs.Prelude.{◌≡◌, ◌+◌, ◌*◌, ◌≤◌, All};
 ghost use Rattle.plan_gantt.specs.Limits.{latest_end};
 ghost use Rattle.plan_gantt.specs.Chart as spec;

@@ -1,3 +1,5 @@
+//! The table of a schedule.
+
 ghost use Rattle.std.specs.Prelude.{◌≡◌, ◌++◌, ◌≤◌, length, slice_index, EachIndex, IfOk, OnOk, string_bytes};
 ghost use Rattle.plan_net.specs.Network.{IsActivity, count_of};
 ghost use Rattle.plan_gantt.specs.Limits.{latest_start};

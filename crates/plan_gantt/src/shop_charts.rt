@@ -1,3 +1,5 @@
+//! The Gantt chart of a shop.
+
 ghost use Rattle.std.specs.Prelude.{◌≡◌, ◌+◌, ◌≤◌, ◌<◌, All, length, slice_index, EachIndex, IfOk, string_bytes};
 ghost use Rattle.plan_shop.specs.Shop.{count_steps, machine_of};
 ghost use Rattle.plan_gantt.specs.Limits.{latest_start, latest_end};

@@ -1,3 +1,5 @@
+//! The table of working days of a shop.
+
 ghost use Rattle.std.specs.Prelude.{◌≡◌, ◌++◌, ◌≤◌, ◌<◌, List, ℕ, length, slice_index, EachIndex, IfOk, OnOk, IsErrOf, string_bytes};
 ghost use Rattle.plan_shop.specs.Shop.{count_steps};
 ghost use Rattle.plan_gantt.specs.Limits.{latest_start};

@@ -1,3 +1,5 @@
+//! Texts of what a shop is refused for.
+
 ghost use Rattle.std.specs.Prelude.{◌≡◌, IfOk, string_bytes};
 ghost use Rattle.plan_gantt.specs.ShopFaultText.{shop_fault_text_of};
 

@@ -1,3 +1,5 @@
+//! The table of a shop's schedule.
+
 ghost use Rattle.std.specs.Prelude.{◌≡◌, ◌+◌, ◌++◌, ◌≤◌, ◌<◌, length, slice_index, EachIndex, IfOk, OnOk, string_bytes};
 ghost use Rattle.plan_shop.specs.Shop.{count_steps};
 ghost use Rattle.plan_gantt.specs.Limits.{latest_start};

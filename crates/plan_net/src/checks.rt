@@ -1,3 +1,5 @@
+//! The first bad duration and the first bad arc.
+
 ghost use Rattle.std.specs.Prelude.{◌≡◌, ℕ, ◌≤◌, ◌↔◌, [], length, IfSome, IfNone, IsTrue};
 ghost use Rattle.plan_net.specs.Network.{unlagged};
 ghost use Rattle.plan_net.specs.Limits.{HasGoodArcs, HasGoodDurations};

@@ -1,3 +1,5 @@
+//! `NetFault`.
+
 use std::alloc::{AllocError, AllocFailed};
 use thiserror::Error;
 

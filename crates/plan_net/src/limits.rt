@@ -1,3 +1,5 @@
+//! The limits as constants.
+
 /// The least number of activities of a network.
 pub const FEWEST_ACTIVITIES: usize = 2;
 

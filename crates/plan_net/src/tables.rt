@@ -1,3 +1,5 @@
+//! Marks for the arcs, the first double arc, rows read off the marks, the place of an arc in them.
+
 ghost use Rattle.std.specs.Prelude.{◌≡◌, ℕ, ◌≤◌, ◌<◌, ◌+◌, ◌-◌, length, slice_index, true, Contains, IfOk, IfSome, IfNone};
 ghost use Rattle.std.specs.List.Sorted.{IsStrictlyIncreasing};
 ghost use Rattle.plan_net.specs.Network.{ListsRising, unlagged};

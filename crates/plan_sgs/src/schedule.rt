@@ -1,3 +1,5 @@
+//! `Schedule`.
+
 /// When each activity starts, in whole time units.
 #[derive(Debug, Drop)]
 pub struct Schedule {
