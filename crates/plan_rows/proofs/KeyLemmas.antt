@@ -21,7 +21,7 @@ one_desk desk x y a b = one_text desk x.desk y.desk a b
 one_number : (n a b : ℕ) → (a == n) ≡ true → (b == n) ≡ true → (b == a) ≡ true
 one_number n a b e f = eq-eqb b a (eqb-true b n f ∙ sym (eqb-true a n e))
 
-one_plan_key : (desk : Text) (n : ℕ) (s t : Text) (a b : ℕ) → (same_text s desk && (a == n)) ≡ true → (same_text t desk && (b == n)) ≡ true
+pub one_plan_key : (desk : Text) (n : ℕ) (s t : Text) (a b : ℕ) → (same_text s desk && (a == n)) ≡ true → (same_text t desk && (b == n)) ≡ true
     → (same_text t s && (b == a)) ≡ true
 one_plan_key desk n s t a b e f =
     let x = and_parts (same_text s desk) (a == n) e in

@@ -9,3 +9,4 @@ pub mod RowTestLemmas
 pub mod KeyedLemmas
 pub mod LookupLemmas
 pub mod TestedLemmas
+pub mod ReviewLemmas

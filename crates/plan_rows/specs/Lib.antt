@@ -7,3 +7,4 @@ pub mod Rules
 pub mod Books
 pub mod Tables
 pub mod RowTests
+pub mod Reviewing

@@ -18,7 +18,7 @@ use Rattle.plan_rows.specs.Books.{published_in}
 use Rattle.plan_rows.specs.Tables.{desk_kept, plan_kept}
 use Rattle.plan_rows.specs.World.{Text, Desk, Plan, World, same_text, is_plan_of, is_plan, is_bind, is_lag}
 use Rattle.plan_rows.specs.Names.{is_from_to}
-use Rattle.plan_rows.specs.Rules.{AllDiffer, IsPlanRow, IsOwned, IsBindRow, IsLagRow, HasName, HasCalendar, is_desk_row, is_published_row}
+use Rattle.plan_rows.specs.Rules.{AllDiffer, IsPlanRow, IsOwned, IsBindRow, HasName, HasCalendar, is_desk_row, is_published_row}
 
 -- a test answers true where it holds, and false where it can't
 abbrev pub Tells : Bool → Type 0 → Type 0
@@ -94,22 +94,10 @@ abbrev pub PlanTold : Plan → Option PlanFile → Type 0
 PlanTold plan None = IsPlanRow plan → ⊥
 PlanTold plan (Some file) = IsPlanRow plan × GivesFile plan.kind plan.name plan.body file
 
--- each plan keeps the rules of rows, and the files are what they give, in their order
-abbrev pub AreFiles : List Plan → List PlanFile → Type 0
-AreFiles [] [] = Unit {0}
-AreFiles [] (file ∷ files) = ⊥
-AreFiles (plan ∷ plans) [] = ⊥
-AreFiles (plan ∷ plans) (file ∷ files) = PlanTold plan (Some file) × AreFiles plans files
-
--- the files of plans that all keep the rules of rows, or nothing where one doesn't
-abbrev pub FilesTold : List Plan → Option (List PlanFile) → Type 0
-FilesTold plans None = AllByRecursion IsPlanRow plans → ⊥
-FilesTold plans (Some files) = AreFiles plans files
-
--- the rows of each table keep their rules beside the others
+-- the rows of each table keep their rules beside the others, but for the arcs of lags
 pub record RowsAreGood (w : World) : Type 0 where
   pub published : AllByRecursion (λ row. is_published_row row ≡ true) w.published
   pub desks : AllByRecursion (IsDeskOf w) w.desks
   pub plans : AllByRecursion (IsOwned w) w.plans
   pub binds : AllByRecursion (IsBindRow w) w.binds
-  pub lags : AllByRecursion (IsLagRow w) w.lags
+  pub lags : AllByRecursion (λ row. is_from_to 1 10000 row.lag ≡ true) w.lags

@@ -3,6 +3,7 @@
 mod files;
 mod keyed;
 mod places;
+mod review;
 mod rows;
 mod tested;
 mod whole;

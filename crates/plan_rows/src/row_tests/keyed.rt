@@ -5,6 +5,7 @@ ghost use Rattle.plan_rows.specs.Rules.{AllDiffer};
 ghost use Rattle.plan_rows.specs.Books.{published_in};
 ghost use Rattle.plan_rows.specs.Tables.{world_kept, desk_kept, plan_kept, bind_kept, lag_kept};
 ghost use Rattle.plan_rows.specs.RowTests.{Tells, KeysDiffer, RowKey, same_key};
+ghost use Rattle.plan_rows.specs.Reviewing.{AreKeys};
 
 use crate::rows::CodeRow;
 use crate::tables::{BindRecord, DeskRecord, LagRecord, PlanRecord, Tables};
@@ -79,6 +80,20 @@ fn all_differ<T: Keyed>(alloc: Global, rows: &[T]) -> Result<bool, AllocError>
         }
     }
     Ok(true)
+}
+
+/// The keys of rows, from the last row on.
+pub fn keys_of<'a, T: Keyed>(
+    alloc: Global,
+    rows: &'a [T],
+) -> Result<HashSet<(&'a str, u64, u64, u64)>, AllocError>
+    ensures { IfOk result (λ keys. AreKeys T.key_of keys.keys rows.now) }
+{
+    let mut keys = HashSet::new(alloc);
+    for at in (0..rows.len()).rev() {
+        let _ = keys.insert(rows[at].key())?;
+    }
+    Ok(keys)
 }
 
 /// Whether the rows of each table have their keys once.

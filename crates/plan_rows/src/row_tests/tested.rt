@@ -8,15 +8,14 @@ ghost use Rattle.plan_rows.specs.Names.{is_from_to};
 ghost use Rattle.plan_rows.specs.Rules as rules;
 ghost use Rattle.plan_rows.specs.Books.{published_in};
 ghost use Rattle.plan_rows.specs.Tables.{world_kept, desk_kept, plan_kept, bind_kept, lag_kept};
-ghost use Rattle.plan_rows.specs.RowTests.{Tells, AreFiles, ArePlaces, IsDeskOf};
+ghost use Rattle.plan_rows.specs.RowTests.{Tells, ArePlaces, IsDeskOf};
+ghost use Rattle.plan_rows.specs.Reviewing.{AreSized};
 
 use crate::kinds::{Kind, PlanKind};
-use crate::row_tests::files::PlanFile;
 use crate::row_tests::places::Places;
 use crate::row_tests::rows::{is_desk_row, is_published_row};
 use crate::rows::CodeRow;
 use crate::tables::{BindRecord, DeskRecord, LagRecord, PlanRecord, Tables};
-use plan_net::Network;
 
 // The most plans of a desk.
 const MOST_PLANS: usize = 100;
@@ -24,14 +23,15 @@ const MOST_PLANS: usize = 100;
 // The greatest lag of an arc.
 const GREATEST_LAG: u64 = 10_000;
 
-/// A row that is tested beside the other tables, and beside what the files of the plans give.
+/// A row that is tested beside the other tables, and beside how many places the plans have, whose
+/// files were let go.
 pub trait Tested {
     /// It keeps its rules.
     ghost keeps: { spec.World → Self → Type 0 };
 
     /// Whether it keeps its rules.
-    fn is_good(&self, tables: &Tables, places: &Places<'_>, files: &[PlanFile]) -> bool
-        requires files { AreFiles (world_kept tables.now).plans files.now }
+    fn is_good(&self, tables: &Tables, places: &Places<'_>, sizes: &[u64]) -> bool
+        requires sizes { AreSized (world_kept tables.now).plans sizes.now }
         requires places { ArePlaces tables.now places.now }
         ensures { Tells result (keeps (world_kept tables.now) self.now) };
 }
@@ -39,7 +39,7 @@ pub trait Tested {
 impl Tested for CodeRow {
     ghost keeps = { λ w row. rules.is_published_row (published_in row) ≡ true };
 
-    fn is_good(&self, _tables: &Tables, _places: &Places<'_>, _files: &[PlanFile]) -> bool {
+    fn is_good(&self, _tables: &Tables, _places: &Places<'_>, _sizes: &[u64]) -> bool {
         is_published_row(self)
     }
 }
@@ -47,7 +47,7 @@ impl Tested for CodeRow {
 impl Tested for DeskRecord {
     ghost keeps = { λ w row. IsDeskOf w (desk_kept row) };
 
-    fn is_good(&self, _tables: &Tables, places: &Places<'_>, _files: &[PlanFile]) -> bool {
+    fn is_good(&self, _tables: &Tables, places: &Places<'_>, _sizes: &[u64]) -> bool {
         if !is_desk_row(self) {
             return false;
         }
@@ -58,7 +58,7 @@ impl Tested for DeskRecord {
 impl Tested for PlanRecord {
     ghost keeps = { λ w row. rules.IsOwned w (plan_kept row) };
 
-    fn is_good(&self, tables: &Tables, places: &Places<'_>, _files: &[PlanFile]) -> bool {
+    fn is_good(&self, tables: &Tables, places: &Places<'_>, _sizes: &[u64]) -> bool {
         match places.desk_at(self.desk.as_str()) {
             Some(at) => self.n < tables.desks[at].next,
             None => false,
@@ -99,25 +99,16 @@ fn has_code(tables: &Tables, places: &Places<'_>, kind: PlanKind, code: &str) ->
 impl Tested for BindRecord {
     ghost keeps = { λ w row. rules.IsBindRow w (bind_kept row) };
 
-    fn is_good(&self, tables: &Tables, places: &Places<'_>, files: &[PlanFile]) -> bool {
+    fn is_good(&self, tables: &Tables, places: &Places<'_>, sizes: &[u64]) -> bool {
         let Some(at) = places.plan_at(self.desk.as_str(), self.n) else {
             return false;
         };
         let kind = tables.plans[at].kind;
-        if !is_place(kind, files[at].places, self.place) {
+        if !is_place(kind, sizes[at], self.place) {
             return false;
         }
         has_code(tables, places, kind, self.code.as_str())
     }
-}
-
-fn has_arc(network: &Network, from: u32, to: u32) -> bool
-    ensures { result ≡ plans.has_arc network.now from to }
-{
-    network
-        .arcs()
-        .iter()
-        .any(|arc| arc.0 == from && arc.1 == to)
 }
 
 fn is_lag(lag: u64) -> bool
@@ -127,18 +118,9 @@ fn is_lag(lag: u64) -> bool
 }
 
 impl Tested for LagRecord {
-    ghost keeps = { λ w row. rules.IsLagRow w (lag_kept row) };
+    ghost keeps = { λ w row. is_from_to 1 10000 (lag_kept row).lag ≡ true };
 
-    fn is_good(&self, tables: &Tables, places: &Places<'_>, files: &[PlanFile]) -> bool {
-        let Some(at) = places.plan_at(self.desk.as_str(), self.n) else {
-            return false;
-        };
-        let Some(network) = &files[at].network else {
-            return false;
-        };
-        if !has_arc(network, self.from, self.to) {
-            return false;
-        }
+    fn is_good(&self, _tables: &Tables, _places: &Places<'_>, _sizes: &[u64]) -> bool {
         is_lag(self.lag)
     }
 }
@@ -148,14 +130,14 @@ pub(crate) fn all_good<T: Tested>(
     rows: &[T],
     tables: &Tables,
     places: &Places<'_>,
-    files: &[PlanFile],
+    sizes: &[u64],
 ) -> bool
-    requires files { AreFiles (world_kept tables.now).plans files.now }
+    requires sizes { AreSized (world_kept tables.now).plans sizes.now }
     requires places { ArePlaces tables.now places.now }
     ensures { Tells result (AllByRecursion (T.keeps (world_kept tables.now)) rows.now) }
 {
     for row in rows {
-        if !row.is_good(tables, places, files) {
+        if !row.is_good(tables, places, sizes) {
             return false;
         }
     }

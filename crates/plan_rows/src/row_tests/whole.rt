@@ -1,52 +1,61 @@
 //! All tables together.
 
-ghost use Rattle.std.specs.Prelude.{IfOk, map, option_map};
-ghost use Rattle.plan_rows.specs.Rules.{IsWorld};
-ghost use Rattle.plan_rows.specs.Tables.{world_kept, plan_kept};
-ghost use Rattle.plan_rows.specs.RowTests.{Tells, AreFiles, ArePlaces, FilesTold, RowsAreGood};
+ghost use Rattle.std.specs.Prelude.{IfOk, map};
+ghost use Rattle.std.specs.Option.{MatchOption};
+ghost use Rattle.std.specs.List.{AllByRecursion};
+ghost use Rattle.plan_rows.specs.Rules.{IsWorld, IsPlanRow};
+ghost use Rattle.plan_rows.specs.Tables.{world_kept, plan_kept, lag_kept};
+ghost use Rattle.plan_rows.specs.RowTests.{Tells, ArePlaces, RowsAreGood};
+ghost use Rattle.plan_rows.specs.Reviewing.{AreSized, AreOnArcs};
 
-use crate::row_tests::files::PlanFile;
 use crate::row_tests::keyed::keys_differ;
 use crate::row_tests::places::Places;
-use crate::row_tests::rows::read_row;
+use crate::row_tests::review::Review;
 use crate::row_tests::tested::all_good;
 use crate::tables::digests::known_digest;
-use crate::tables::{PlanRecord, Tables};
+use crate::tables::{LagRecord, PlanRecord, Tables};
 use std::alloc::{AllocError, Global};
 
-// What the files of all plans give, each of which is read once.
-fn read_files(alloc: Global, rows: &[PlanRecord]) -> Result<Option<Vec<PlanFile>>, AllocError>
-    ensures { IfOk result
-        (λ files. FilesTold (map plan_kept rows.now) (option_map (λ v. v.items) files)) }
+// How many places each plan has, if all plans keep the rules of rows and each lag is on an arc. The
+// file of each plan is let go once it is read.
+fn review_all(
+    alloc: Global,
+    plans: &[PlanRecord],
+    lags: &[LagRecord],
+) -> Result<Option<Vec<u64>>, AllocError>
+    ensures { IfOk result (λ found. MatchOption found
+        (AllByRecursion IsPlanRow (map plan_kept plans.now)
+        → AreOnArcs (map plan_kept plans.now) (map lag_kept lags.now) → ⊥)
+        (λ sizes. AreSized (map plan_kept plans.now) sizes.items
+        × AreOnArcs (map plan_kept plans.now) (map lag_kept lags.now))) }
 {
-    let mut files = Vec::new(alloc);
-    for row in rows {
-        match read_row(alloc, row)? {
-            Some(file) => files.push(file)?,
-            None => return Ok(None),
+    let mut review = Review::new(alloc, lags)?;
+    for plan in plans {
+        if !review.read(plan)? {
+            return Ok(None);
         }
     }
-    Ok(Some(files))
+    Ok(review.end())
 }
 
-fn rows_are_good(tables: &Tables, places: &Places<'_>, files: &[PlanFile]) -> bool
-    requires files { AreFiles (world_kept tables.now).plans files.now }
+fn rows_are_good(tables: &Tables, places: &Places<'_>, sizes: &[u64]) -> bool
+    requires sizes { AreSized (world_kept tables.now).plans sizes.now }
     requires places { ArePlaces tables.now places.now }
     ensures { Tells result (RowsAreGood (world_kept tables.now)) }
 {
-    if !all_good(&tables.published, tables, places, files) {
+    if !all_good(&tables.published, tables, places, sizes) {
         return false;
     }
-    if !all_good(&tables.desks, tables, places, files) {
+    if !all_good(&tables.desks, tables, places, sizes) {
         return false;
     }
-    if !all_good(&tables.plans, tables, places, files) {
+    if !all_good(&tables.plans, tables, places, sizes) {
         return false;
     }
-    if !all_good(&tables.binds, tables, places, files) {
+    if !all_good(&tables.binds, tables, places, sizes) {
         return false;
     }
-    all_good(&tables.lags, tables, places, files)
+    all_good(&tables.lags, tables, places, sizes)
 }
 
 /// Whether tables keep the rules of rows. Each file is read once, and rows are found by their keys.
@@ -57,9 +66,9 @@ pub fn is_world(alloc: Global, tables: &Tables) -> Result<bool, AllocError>
     if !keys_differ(alloc, tables)? {
         return Ok(false);
     }
-    let Some(files) = read_files(alloc, &tables.plans)? else {
+    let Some(sizes) = review_all(alloc, &tables.plans, &tables.lags)? else {
         return Ok(false);
     };
     let places = Places::of(alloc, tables)?;
-    Ok(rows_are_good(tables, &places, &files))
+    Ok(rows_are_good(tables, &places, &sizes))
 }

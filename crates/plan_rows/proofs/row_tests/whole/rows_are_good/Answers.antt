@@ -1,5 +1,6 @@
 use Rattle.std.proofs.Common.{◌≡◌, true}
-use Rattle.plan_rows.specs.Rules.{IsOwned, IsBindRow, IsLagRow, is_published_row}
+use Rattle.plan_rows.specs.Rules.{IsOwned, IsBindRow, is_published_row}
+use Rattle.plan_rows.specs.Names.{is_from_to}
 use Rattle.plan_rows.specs.Books.{published_in}
 use Rattle.plan_rows.specs.Tables.{world_kept, desk_kept, plan_kept, bind_kept, lag_kept}
 use Rattle.plan_rows.specs.RowTests.{IsDeskOf}
@@ -26,6 +27,6 @@ returns c =
       desks = good_told desk_kept (IsDeskOf (world_kept c.args.tables.now)) c.args.tables.now.desks.items c.deref-2.ensures.value c.all_good-2.ensures c.if-not-all_good-2.false;
       plans = good_told plan_kept (IsOwned (world_kept c.args.tables.now)) c.args.tables.now.plans.items c.deref-3.ensures.value c.all_good-3.ensures c.if-not-all_good-3.false;
       binds = good_told bind_kept (IsBindRow (world_kept c.args.tables.now)) c.args.tables.now.binds.items c.deref-4.ensures.value c.all_good-4.ensures c.if-not-all_good-4.false;
-      lags = all_map lag_kept (IsLagRow (world_kept c.args.tables.now)) c.args.tables.now.lags.items last;
-    }) (λ good. map_all lag_kept (IsLagRow (world_kept c.args.tables.now)) c.args.tables.now.lags.items good.lags) c.all_good-5.result
+      lags = all_map lag_kept (λ lag. is_from_to 1 10000 lag.lag ≡ true) c.args.tables.now.lags.items last;
+    }) (λ good. map_all lag_kept (λ lag. is_from_to 1 10000 lag.lag ≡ true) c.args.tables.now.lags.items good.lags) c.all_good-5.result
     (rw c.deref-5.ensures.value at c.all_good-5.ensures)

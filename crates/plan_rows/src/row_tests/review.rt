@@ -1,0 +1,175 @@
+//! Plans that are tested one at a time: the file of each is let go once it is read.
+
+ghost use Rattle.std.specs.Prelude.{◌≡◌, ◌&&◌, ◌++◌, ◌∷◌, [], true, not, List, map, IfOk};
+ghost use Rattle.std.specs.Bool.{MatchBool};
+ghost use Rattle.std.specs.Option.{MatchOption};
+ghost use Rattle.std.specs.List.{AllByRecursion, position};
+ghost use Rattle.plan_rows.specs.World.{Plan};
+ghost use Rattle.plan_rows.specs.Rules.{IsPlanRow};
+ghost use Rattle.plan_rows.specs.Tables.{plan_kept, lag_kept};
+ghost use Rattle.plan_rows.specs.RowTests.{GivesFile, HeldKey, AreFirst};
+ghost use Rattle.plan_rows.specs.Reviewing.{holds_key, has_row, is_arc_key, key_at};
+ghost use Rattle.plan_rows.specs.Reviewing.{lag_key_of, is_owner, owner_key_of};
+ghost use Rattle.plan_rows.specs.Reviewing.{IsStruckBy, IsStruck, SomeLeft};
+ghost use Rattle.plan_rows.specs.Reviewing.{AreSized, HasReviewed, AreOnArcs};
+
+use crate::row_tests::files::PlanFile;
+use crate::row_tests::keyed::{Keyed, keys_of};
+use crate::row_tests::rows::read_row;
+use crate::tables::{LagRecord, PlanRecord};
+use std::alloc::{AllocError, Global};
+use std::collections::{HashMap, HashSet};
+
+/// Tests plans one at a time, beside the lags of all of them.
+#[derive(Drop)]
+pub struct Review<'a> {
+    alloc: Global,
+    lags: &'a [LagRecord],
+    owners: HashMap<(&'a str, u64, u64, u64), usize>,
+    pending: HashSet<(&'a str, u64, u64, u64)>,
+    sizes: Vec<u64>,
+}
+
+// The key of the plan of a lag.
+fn owner_key(lag: &LagRecord) -> (&str, u64, u64, u64)
+    ensures { (result.0.now, result.1, result.2, result.3) ≡ owner_key_of lag.now }
+{
+    (lag.desk.as_str(), lag.n, 0, 0)
+}
+
+// Where the first lag of each plan stands.
+fn owners_of<'a>(
+    alloc: Global,
+    lags: &'a [LagRecord],
+) -> Result<HashMap<(&'a str, u64, u64, u64), usize>, AllocError>
+    ensures { IfOk result (λ places. AreFirst owner_key_of places lags.now) }
+{
+    let mut places = HashMap::new(alloc);
+    for i in (0..lags.len()).rev() {
+        let _ = places.insert(owner_key(&lags[i]), i)?;
+    }
+    Ok(places)
+}
+
+// The key of an arc of a plan.
+fn arc_key<'a>(desk: &'a str, n: u64, arc: &(u32, u32)) -> (&'a str, u64, u64, u64)
+    ensures { (result.0.now, result.1, result.2, result.3) ≡ key_at desk.now n arc.now }
+{
+    (desk, n, u64::from(arc.0), u64::from(arc.1))
+}
+
+// Takes out the keys of arcs of a plan.
+fn strike_arcs<'a>(
+    pending: &mut HashSet<(&'a str, u64, u64, u64)>,
+    desk: &'a str,
+    n: u64,
+    arcs: &[(u32, u32)],
+)
+    ensures { (q : HeldKey) → holds_key pending.new.keys q
+        ≡ (holds_key pending.old.keys q && not (is_arc_key desk.now n arcs.now q)) }
+{
+    for arc in arcs {
+        let _ = pending.remove(&arc_key(desk, n, arc));
+    }
+}
+
+// Where the first lag of a plan stands.
+fn owner_at(owners: &HashMap<(&str, u64, u64, u64), usize>, row: &PlanRecord) -> Option<usize>
+    ensures { (lags : List LagRecord) → AreFirst owner_key_of owners.now lags
+        → result ≡ position (is_owner (plan_kept row.now)) lags }
+{
+    (&*owners).get(&(row.desk.as_str(), row.n, 0, 0)).copied()
+}
+
+// Takes out the keys of the arcs that a plan has, if there are lags of it.
+fn strike<'a>(
+    lags: &'a [LagRecord],
+    owner: Option<usize>,
+    pending: &mut HashSet<(&'a str, u64, u64, u64)>,
+    row: &PlanRecord,
+    file: &PlanFile,
+)
+    requires gives { GivesFile (plan_kept row.now).kind (plan_kept row.now).name
+        (plan_kept row.now).body file.now }
+    requires owner { owner ≡ position (is_owner (plan_kept row.now)) lags.now }
+    ensures { (q : HeldKey) → has_row lag_key_of lags.now q ≡ true
+        → IsStruckBy (plan_kept row.now) pending.old.keys pending.new.keys q }
+{
+    let Some(at) = owner else {
+        return;
+    };
+    let Some(network) = &file.network else {
+        return;
+    };
+    strike_arcs(pending, lags[at].desk.as_str(), row.n, network.arcs());
+}
+
+// Whether no row has a key that is left.
+fn are_struck(pending: &HashSet<(&str, u64, u64, u64)>, rows: &[LagRecord]) -> bool
+    ensures { MatchBool result
+        (AllByRecursion (λ row. IsStruck pending.now.keys (lag_key_of row)) rows.now)
+        (SomeLeft lag_key_of pending.now.keys rows.now) }
+{
+    for row in rows {
+        if (&*pending).contains(&row.key()) {
+            return false;
+        }
+    }
+    true
+}
+
+impl<'a> Review<'a> {
+    /// A review of plans that have these lags.
+    pub fn new(alloc: Global, lags: &'a [LagRecord]) -> Result<Review<'a>, AllocError>
+        ensures fresh { IfOk result (HasReviewed []) }
+        ensures lags { IfOk result (λ review. review.lags.now ≡ lags.now) }
+    {
+        let owners = owners_of(alloc, lags)?;
+        let pending = keys_of(alloc, lags)?;
+        Ok(Review {
+            alloc,
+            lags,
+            owners,
+            pending,
+            sizes: Vec::new(alloc),
+        })
+    }
+
+    /// Whether the next plan keeps the rules of rows.
+    pub fn read(&mut self, row: &PlanRecord) -> Result<bool, AllocError>
+        requires { (plans : List Plan) × HasReviewed plans self.old }
+        ensures same { self.new.lags.now ≡ self.old.lags.now }
+        ensures told { (plans : List Plan) → HasReviewed plans self.old → IfOk result
+            (λ good. MatchBool good
+            (IsPlanRow (plan_kept row.now)
+            × HasReviewed (plans ++ plan_kept row.now ∷ []) self.new)
+            (IsPlanRow (plan_kept row.now) → ⊥)) }
+    {
+        let Some(file) = read_row(self.alloc, row)? else {
+            return Ok(false);
+        };
+        strike(
+            self.lags,
+            owner_at(&self.owners, row),
+            &mut self.pending,
+            row,
+            &file,
+        );
+        self.sizes.push(file.places)?;
+        Ok(true)
+    }
+
+    /// How many places each plan has, if each lag is on an arc of one of them.
+    pub fn end(self) -> Option<Vec<u64>>
+        ensures { (plans : List Plan) → HasReviewed plans self.entry → MatchOption result
+            (AreOnArcs plans (map lag_kept self.entry.lags.now) → ⊥)
+            (λ sizes. AreSized plans sizes.items
+            × AreOnArcs plans (map lag_kept self.entry.lags.now)) }
+    {
+        if are_struck(&self.pending, self.lags) {
+            Some(self.sizes)
+        } else {
+            None
+        }
+    }
+}
