@@ -26,14 +26,20 @@ fn opens_office<B: Book>(book: &mut B, key: Option<&[u8]>) -> Result<bool, BookF
     Ok(has_key(key, &digest))
 }
 
-// Whether a key is that of a desk that is there.
+// What a key is compared with where there is no desk.
+const DIGEST_OF_NO_DESK: [u8; 32] = [0; 32];
+
+// Whether a key is that of a desk that is there. A key is hashed and compared whether there is one or
+// not, so that the time of a refusal doesn't tell it.
 fn unlocks(key: Option<&[u8]>, row: Option<&DeskRow>) -> bool
     ensures { result ≡ names.unlocks_by (option_map (λ k. k.now) key.entry) (option_map (λ r. r.now.digest) row.entry) }
 {
-    match row {
-        Some(row) => has_key(key, &row.digest),
-        None => false,
-    }
+    let digest = match row {
+        Some(row) => &row.digest,
+        None => &DIGEST_OF_NO_DESK,
+    };
+    let is_its_own = has_key(key, digest);
+    is_its_own && row.is_some()
 }
 
 fn opens_desk<B: Book>(book: &mut B, key: Option<&[u8]>, desk: &str) -> Result<bool, BookFault>
