@@ -323,6 +323,13 @@ module _ {B : Type 0} (shelf : Shelf B) (r : Request) where
           (λ honest. owner_is _ (change_in d.change) w.made (owned_by path a b d f stands honest))
           (λ honest. is_command _ (reply_of d.reply) (change_in d.change) (judged.decided (w.honesty honest)) w.made)
 
+  -- the same of a path by another name
+  pub wanted_on : (X : Type 0) (path on : Text) (a b c : B) (d : Decision) (fault : BookFault) → on ≡ path
+      → Finds shelf a b (λ w. IsDecided path (subject r) (λ v. IsDecision v r) (view (subject r) w)) (Ok d) → (shelf.honest b → shelf.stands b)
+      → CarriesOut shelf b c {X = X} (owner_of on d.change) (change_in d.change) (Err fault) → Handled shelf a c r (want_of fault)
+  wanted_on X path on a b c d fault is f stands h =
+      handled_in_want X path a b c d fault f stands (subst (λ p. CarriesOut shelf b c {X = X} (owner_of p d.change) (change_in d.change) (Err fault)) is h)
+
   -- the change that was judged may be carried out
   pub judged_allows : (path : Text) (a b : B) (d : Decision) → Finds shelf a b (λ w. IsDecided path (subject r) (λ v. IsDecision v r) (view (subject r) w)) (Ok d)
       → (shelf.stands b → IsWorld (shelf.world b)) → shelf.honest b → shelf.stands b → Allows (owner_of path d.change) (shelf.world b) (change_in d.change)
@@ -339,9 +346,3 @@ module _ {B : Type 0} (shelf : Shelf B) (r : Request) where
       by_owner : (change_in d.change ≡ Keep) ⊎ (owner_of path d.change ≡ subject r) → Allows (owner_of path d.change) (shelf.world b) (change_in d.change)
       by_owner (inl keeps) = subst (Allows (owner_of path d.change) (shelf.world b)) (sym keeps) (tt, whole stands)
       by_owner (inr is) = subst (λ t. Allows t (shelf.world b) (change_in d.change)) (sym is) allowed
-
-  -- the same where the fault is handed on
-  pub handed_on : (a c : B) (fault : BookFault) (result : Result whole.Reply BookFault) → IsErr result × IsErrAnd result (λ handed. handed ≡ fault) → Handled shelf a c r (want_of fault)
-      → MatchResult result (λ reply. Handled shelf a c r (reply_of reply)) (λ handed. Handled shelf a c r (want_of handed))
-  handed_on a c fault (Ok reply) h k = absurd h.1
-  handed_on a c fault (Err handed) h k = subst (λ f. Handled shelf a c r (want_of f)) (sym h.1) k

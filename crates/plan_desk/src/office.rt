@@ -41,8 +41,10 @@ fn answer<B: Book>(
         (λ fault. Handled B.shelf book.old book.new (request_in request.now) (want_of fault)) }
 {
     let decision = judge(book, alloc, memo, request)?;
-    carry_out(book, request.call.path(), decision.change)?;
-    Ok(decision.reply)
+    match carry_out(book, request.call.path(), decision.change) {
+        Ok(()) => Ok(decision.reply),
+        Err(fault) => Err(fault),
+    }
 }
 
 impl<B: Book> Office<B> {

@@ -1,7 +1,7 @@
 use Rattle.std.proofs.Common.{sym, subst, Ok, Err}
 use Rattle.plan_desk.specs.Deciding.{CarriesOut, Allows, change_in, owner_of}
 use Rattle.plan_desk.specs.Requests.{call_in, request_in, path_of}
-use Rattle.plan_desk.proofs.HandledLemmas.{judged_allows, handled_fully, handled_in_want, handed_on}
+use Rattle.plan_desk.proofs.HandledLemmas.{judged_allows, handled_fully, wanted_on}
 use Rattle.plan_desk.proofs.office.answer.Goals as goal
 
 pub carry_out-requires : goal.carry_out-requires
@@ -11,17 +11,14 @@ carry_out-requires g c =
     (sym c.path.ensures)
     (judged_allows g.B.Book.shelf (request_in c.args.request.now) (path_of (call_in c.args.request.now.call)) c.args.book.now c.judge.new.book d c.in_ok-decision.ensures.found (g.met.B.Book.whole c.judge.new.book))
 
-pub returns-in_err-carry_out : goal.returns-in_err-carry_out
-returns-in_err-carry_out g c =
-    let d = c.in_ok-decision.decision in
-    handed_on g.B.Book.shelf (request_in c.args.request.now) c.args.book.now c.carry_out.new.book c.in_err-carry_out.field-0.0 c.from_residual-in_err-carry_out.result c.from_residual-in_err-carry_out.ensures
-    (handled_in_want g.B.Book.shelf (request_in c.args.request.now) (Unit {0}) (path_of (call_in c.args.request.now.call)) c.args.book.now c.judge.new.book c.carry_out.new.book d c.in_err-carry_out.field-0.0
-    c.in_ok-decision.ensures.found c.in_ok-decision.ensures.stands
-    (subst (λ path. CarriesOut g.B.Book.shelf c.judge.new.book c.carry_out.new.book {X = Unit {0}} (owner_of path d.change) (change_in d.change) (Err c.in_err-carry_out.field-0.0)) c.path.ensures c.in_err-carry_out.ensures))
+pub returns-in-Err : goal.returns-in-Err
+returns-in-Err g c =
+    wanted_on g.B.Book.shelf (request_in c.args.request.now) (Unit {0}) _ _ c.args.book.now c.judge.new.book c.carry_out.new.book c.in_ok-decision.decision _ c.path.ensures
+    c.in_ok-decision.ensures.found c.in_ok-decision.ensures.stands c.in-Err.ensures
 
-pub returns : goal.returns
-returns g c =
+pub returns-in-Ok : goal.returns-in-Ok
+returns-in-Ok g c =
     let d = c.in_ok-decision.decision in
-    handled_fully g.B.Book.shelf (request_in c.args.request.now) (path_of (call_in c.args.request.now.call)) c.args.book.now c.judge.new.book c.carry_out.new.book d c.in_ok-carry_out.field-0
+    handled_fully g.B.Book.shelf (request_in c.args.request.now) (path_of (call_in c.args.request.now.call)) c.args.book.now c.judge.new.book c.carry_out.new.book d _
     c.in_ok-decision.ensures.found c.in_ok-decision.ensures.stands
-    (subst (λ path. CarriesOut g.B.Book.shelf c.judge.new.book c.carry_out.new.book (owner_of path d.change) (change_in d.change) (Ok c.in_ok-carry_out.field-0)) c.path.ensures c.in_ok-carry_out.ensures)
+    (subst (λ path. CarriesOut g.B.Book.shelf c.judge.new.book c.carry_out.new.book {X = Unit {0}} (owner_of path d.change) (change_in d.change) (Ok _)) c.path.ensures c.in-Ok.ensures)
