@@ -22,7 +22,7 @@ use Rattle.plan_desk.specs.Outcomes.{Outcome}
 use Rattle.plan_rows.specs.Rules.{IsWorld}
 use Rattle.plan_rows.specs.Books.{Shelf, Reads, Matches, IsPlanAnswer, bind_in}
 use Rattle.plan_desk.specs.Finding.{IsNumbered, FindsPlan, with_capacity_of, HasCapacities}
-use Rattle.plan_desk.specs.Deciding.{Quiet, Finds, IsDecided, MakesDecision}
+use Rattle.plan_desk.specs.Deciding.{Quiet, Finds, Knows, IsDecided, MakesDecision}
 use Rattle.plan_rows.proofs.RuleLemmas.{found_has}
 use Rattle.plan_desk.proofs.AloneLemmas.{alone_keeps_rules}
 
@@ -69,6 +69,14 @@ module _ {B : Type 0} (shelf : Shelf B) where
   -- nothing was read
   pub found_at_once : {Y : Type 0} (Is : World → Y → Type 0) (a : B) (y : Y) → ((w : World) → Is w y) → Finds shelf a a Is (Ok y)
   found_at_once Is a y is = record { quiet = quiet_self a; found = λ h s. (s, is (shelf.world a)); blamed = tt }
+
+  -- what is known without a read
+  pub found_known : {Y : Type 0} (Is : World → Y → Type 0) (a : B) (y : Y) → Knows shelf a (λ w. Is w y) → Finds shelf a a Is (Ok y)
+  found_known Is a y is = record { quiet = quiet_self a; found = λ h s. (s, is h s); blamed = tt }
+
+  -- what was found is known
+  pub known_then : {Y : Type 0} (Is : World → Y → Type 0) (a b : B) (y : Y) → Finds shelf a b Is (Ok y) → Knows shelf b (λ w. Is w y)
+  known_then Is a b y f h s = subst (λ w. Is w y) (sym (f.quiet.same h s)) (f.found h (f.quiet.stood h s)).1
 
   -- a read that failed
   pub failed_by : {X Y : Type 0} (Is : World → Y → Type 0) (P : X → Type 0) (a b : B) (fault : BookFault) → Reads shelf a b (Err fault) P
@@ -138,6 +146,12 @@ module _ {B : Type 0} (shelf : Shelf B) where
     found = λ h s. let first = f.found h s in (first.0, then (shelf.world a) first.1);
     blamed = tt;
   }
+
+  -- what is found means another thing
+  pub found_so : {X : Type 0} (Is And : World → X → Type 0) (a b : B) (result : Result X BookFault)
+      → Finds shelf a b Is result → ((w : World) (x : X) → Is w x → And w x) → Finds shelf a b And result
+  found_so Is And a b (Ok x) f then = found_other Is And a b x x f (λ w is. then w x is)
+  found_so Is And a b (Err fault) f then = record { quiet = f.quiet; found = tt; blamed = f.blamed }
 
   -- what isn't found
   pub lost : {X Y : Type 0} (Is : World → X → Type 0) (And : World → Y → Type 0) (a b : B) (fault : BookFault) (result : Result Y BookFault)

@@ -5,16 +5,19 @@ use Rattle.plan_rows.specs.declared.fault.BookFault.TheVariants.{NoMemory, Store
 use Rattle.plan_desk.specs.declared.change.Change as rows
 use Rattle.plan_desk.specs.declared.change.Change.TheVariants as made
 use Rattle.plan_desk.specs.declared.change.Decision.{Decision}
+use Rattle.plan_desk.specs.declared.judging.Admission.{Admission}
 use Rattle.plan_rows.specs.World.{Text, World, code_in, desk_in, plan_in}
 use Rattle.plan_rows.specs.Changes.{Change, Keep, Publish, OpenDesk, SetKey, AddPlan, RemovePlan, BindPlace, SetCalendar, SetLag, apply}
 use Rattle.plan_rows.specs.Views.{View, view, alone}
-use Rattle.plan_desk.specs.Calls.{Request, Reply, refusal, writes, is_accepted}
+use Rattle.plan_desk.specs.Calls.{Call, Request, Reply, refusal, subject, writes, is_of_office, is_accepted, admits}
+use Rattle.plan_desk.specs.Requests.{path_of}
 use Rattle.plan_desk.specs.Stories.{IsWant, belongs}
 use Rattle.plan_desk.specs.Decisions.{IsStep}
 use Rattle.plan_desk.specs.Outcomes.{Outcome}
 use Rattle.plan_rows.specs.Rules.{IsWorld}
 use Rattle.plan_desk.specs.Replies.{reply_of}
-use Rattle.plan_rows.specs.Books.{Shelf, Writes}
+use Rattle.plan_rows.specs.declared.rows.DeskRow.{DeskRow}
+use Rattle.plan_rows.specs.Books.{Shelf, Writes, Matches, IsDeskAnswer}
 
 -- the change that it stands for
 abbrev pub change_in : rows.Change → Change
@@ -66,6 +69,20 @@ pub record IsDecided (path s : Text) (Route : View → Outcome) (v : View) (d : 
 pub record MakesDecision (path s : Text) (IsSeen : View → Type 0) (Route : View → Outcome) (result : Result Decision BookFault) : Type 0 where
   pub decided : IfOk result (λ d. (v : View) → IsSeen v → IsDecided path s Route v d)
   pub blamed : IfErr result (λ fault. fault ≡ Store → (v : View) → IsSeen v → IsWorld (alone v) → ⊥)
+
+-- the row that was read for the key of a call that isn't of the office: of the desk on its path
+abbrev pub IsRowFor : Call → Option DeskRow → World → Type 0
+IsRowFor call row w = is_of_office call ≡ false → Matches IsDeskAnswer (desk_in w (path_of call)) row
+
+-- whether a request has the key that its call takes, and the row that was read for that
+pub record IsAdmission (r : Request) (w : World) (admission : Admission) : Type 0 where
+  pub admits : admission.is_admitted ≡ admits (view (subject r) w) r
+  pub row : IsRowFor r.call admission.row w
+
+-- this holds of the tables of a book, where they can be seen, on a disk that has returned what was
+-- written
+abbrev pub Knows : {B : Type 0} → Shelf B → B → (World → Type 0) → Type 0
+Knows shelf book Is = shelf.honest book → shelf.stands book → Is (shelf.world book)
 
 -- the reply where a book could not do what was asked
 abbrev pub want_of : BookFault → Reply

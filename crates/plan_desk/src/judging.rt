@@ -2,12 +2,12 @@
 
 ghost use Rattle.std.specs.Prelude.{◌≡◌, IfOk, option_map};
 ghost use Rattle.plan_rows.specs.Views.{view};
-ghost use Rattle.plan_desk.specs.Calls as calls;
 ghost use Rattle.plan_desk.specs.Decisions.{Answers, IsDecision};
-ghost use Rattle.plan_desk.specs.Deciding.{Finds, IsDecided};
+ghost use Rattle.plan_desk.specs.Deciding.{Finds, IsAdmission, IsDecided, IsRowFor, Knows};
 ghost use Rattle.plan_desk.specs.Requests.{call_in, request_in, path_of, subject_of};
 ghost use Rattle.plan_rows.specs.Names as names;
 ghost use Rattle.plan_rows.specs.World.{desk_in};
+ghost use Rattle.plan_rows.specs.Books.{Matches, IsDeskAnswer};
 
 use crate::change::{Decision, kept};
 use crate::reply::no_key;
@@ -17,13 +17,24 @@ use plan_exact::Memo;
 use plan_rows::{Book, BookFault, DeskRow, has_key};
 use std::alloc::Global;
 
+// Whether a request has the key that its call takes, and the row of the desk on its path if it was
+// read for that.
+#[derive(Drop)]
+struct Admission {
+    is_admitted: bool,
+    row: Option<DeskRow>,
+}
+
 // Whether a key is the office's.
-fn opens_office<B: Book>(book: &mut B, key: Option<&[u8]>) -> Result<bool, BookFault>
-    ensures found { Finds B.shelf book.old book.new (λ w opens. opens ≡ names.has_key (option_map (λ k. k.now) key.entry) w.office) result }
+fn opens_office<B: Book>(book: &mut B, key: Option<&[u8]>) -> Result<Admission, BookFault>
+    ensures found { Finds B.shelf book.old book.new (λ w admission. admission.is_admitted ≡ names.has_key (option_map (λ k. k.now) key.entry) w.office) result }
     ensures stands { IfOk result (λ _. B.shelf.honest book.new → B.shelf.stands book.new) }
 {
     let digest = book.office()?;
-    Ok(has_key(key, &digest))
+    Ok(Admission {
+        is_admitted: has_key(key, &digest),
+        row: None,
+    })
 }
 
 // What a key is compared with where there is no desk.
@@ -42,17 +53,22 @@ fn unlocks(key: Option<&[u8]>, row: Option<&DeskRow>) -> bool
     is_its_own && row.is_some()
 }
 
-fn opens_desk<B: Book>(book: &mut B, key: Option<&[u8]>, desk: &str) -> Result<bool, BookFault>
-    ensures found { Finds B.shelf book.old book.new (λ w opens. opens ≡ names.unlocks (option_map (λ k. k.now) key.entry) (desk_in w desk.now)) result }
+// Whether a key is that of the desk on a path.
+fn opens_desk<B: Book>(book: &mut B, key: Option<&[u8]>, desk: &str) -> Result<Admission, BookFault>
+    ensures found { Finds B.shelf book.old book.new
+        (λ w admission. (admission.is_admitted ≡ names.unlocks (option_map (λ k. k.now) key.entry) (desk_in w desk.now)) × Matches IsDeskAnswer (desk_in w desk.now) admission.row) result }
     ensures stands { IfOk result (λ _. B.shelf.honest book.new → B.shelf.stands book.new) }
 {
     let row = book.desk(desk)?;
-    Ok(unlocks(key, row.as_ref()))
+    Ok(Admission {
+        is_admitted: unlocks(key, row.as_ref()),
+        row,
+    })
 }
 
 // Whether a request has the key that its call takes: the office's, or that of the desk on its path.
-fn admits<B: Book>(book: &mut B, request: &Request) -> Result<bool, BookFault>
-    ensures found { Finds B.shelf book.old book.new (λ w opens. opens ≡ calls.admits (view (subject_of (call_in request.now.call)) w) (request_in request.now)) result }
+fn admit<B: Book>(book: &mut B, request: &Request) -> Result<Admission, BookFault>
+    ensures found { Finds B.shelf book.old book.new (IsAdmission (request_in request.now)) result }
     ensures stands { IfOk result (λ _. B.shelf.honest book.new → B.shelf.stands book.new) }
 {
     let key = request.key.as_deref();
@@ -64,13 +80,15 @@ fn admits<B: Book>(book: &mut B, request: &Request) -> Result<bool, BookFault>
     }
 }
 
-// What is decided of a call with the right key.
+// What is decided of a call with the right key, and with the row of the desk on its path.
 fn decide<'r, B: Book>(
     book: &mut B,
     alloc: Global,
     memo: &mut Memo,
     call: &'r Call,
+    row: Option<DeskRow>,
 ) -> Result<Decision<'r>, BookFault>
+    requires { Knows B.shelf book.old (IsRowFor (call_in call.now) row) }
     ensures { Finds B.shelf book.old book.new
         (λ w. IsDecided (path_of (call_in call.now)) (subject_of (call_in call.now)) (λ v. Answers v (call_in call.now)) (view (subject_of (call_in call.now)) w)) result }
 {
@@ -81,13 +99,13 @@ fn decide<'r, B: Book>(
         Call::Capacities { desk } => lists::code_listing(book, alloc, desk.as_str()),
         Call::Plans { desk } => lists::plan_listing(book, alloc, desk.as_str()),
         Call::ImportProject { desk, body } => {
-            imports::importing_project(book, alloc, desk.as_str(), body)
+            imports::importing_project(book, alloc, desk.as_str(), row, body)
         }
         Call::ImportShop {
             desk,
             instance,
             body,
-        } => imports::importing_shop(book, alloc, desk.as_str(), instance.as_str(), body),
+        } => imports::importing_shop(book, alloc, desk.as_str(), row, instance.as_str(), body),
         Call::Remove { desk, n } => plans::removing(book, alloc, desk.as_str(), n.as_str()),
         Call::Bind { desk, n, body } => {
             binds::binding(book, alloc, desk.as_str(), n.as_str(), body)
@@ -130,8 +148,9 @@ pub(crate) fn judge<'r, B: Book>(
         (λ w. IsDecided (path_of (call_in request.now.call)) (subject_of (call_in request.now.call)) (λ v. IsDecision v (request_in request.now)) (view (subject_of (call_in request.now.call)) w)) result }
     ensures stands { IfOk result (λ _. B.shelf.honest book.new → B.shelf.stands book.new) }
 {
-    if admits(book, request)? {
-        decide(book, alloc, memo, &request.call)
+    let admission = admit(book, request)?;
+    if admission.is_admitted {
+        decide(book, alloc, memo, &request.call, admission.row)
     } else {
         Ok(kept(no_key()))
     }

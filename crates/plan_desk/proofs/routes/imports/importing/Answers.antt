@@ -6,7 +6,7 @@ use Rattle.plan_rows.specs.Books.{Matches, IsDeskAnswer, ListsPlans}
 use Rattle.plan_desk.specs.Replies.{reply_of}
 use Rattle.plan_desk.specs.RouteRefusals.{IsImportRefusal}
 use Rattle.plan_desk.specs.FoundFiles.{ImportsFile}
-use Rattle.plan_desk.proofs.DecidingLemmas.{found_by, found_more}
+use Rattle.plan_desk.proofs.DecidingLemmas.{found_by, found_known, found_more}
 use Rattle.plan_desk.proofs.RouteLemmas.{decides_kept, decides_made}
 use Rattle.plan_desk.proofs.ImportLemmas.{held_are, desk_answered, desk_missing, file_nowhere, file_not_kept, file_kept}
 use Rattle.plan_desk.proofs.routes.imports.importing.Goals as goal
@@ -17,9 +17,9 @@ returns-in_default g c =
     let name = c.args.name.now in
     let body = c.args.body.now in
     let w = g.B.Book.shelf.world c.args.book.now in
-    found_by g.B.Book.shelf _ _ c.args.book.now c.desk.new.self c.in_ok-row.field-0 c.kept.result c.in_ok-row.ensures
-    (λ is. decides_kept desk desk (λ v. ImportsFile c.args.kind v name body) (view desk w) c.kept.result c.not_found.result _ c.kept.ensures.reply c.kept.ensures.change c.not_found.ensures
-    (file_nowhere c.args.kind (view desk w) name body (desk_missing w desk (subst (Matches IsDeskAnswer (desk_in w desk)) c.in_default.is is))))
+    found_known g.B.Book.shelf _ c.args.book.now c.kept.result
+    (λ h s. decides_kept desk desk (λ v. ImportsFile c.args.kind v name body) (view desk w) c.kept.result c.not_found.result _ c.kept.ensures.reply c.kept.ensures.change c.not_found.ensures
+    (file_nowhere c.args.kind (view desk w) name body (desk_missing w desk (subst (Matches IsDeskAnswer (desk_in w desk)) c.in_default.is (c.requires h s)))))
 
 pub returns-in-Some-2 : goal.returns-in-Some-2
 returns-in-Some-2 g c =
@@ -29,9 +29,9 @@ returns-in-Some-2 g c =
     let shelf = g.B.Book.shelf in
     let d = c.kept-in-Some-2 in
     found_more shelf (λ w. Matches IsDeskAnswer (desk_in w desk)) (λ w rows. ListsPlans (view desk w).plans rows.items) _
-    c.args.book.now c.desk.new.self c.plans.new.self c.in_ok-row.field-0 c.in_ok-plans.plans d.result
-    (found_by shelf _ _ c.args.book.now c.desk.new.self c.in_ok-row.field-0 c.in_ok-row.field-0 c.in_ok-row.ensures (λ is. is))
-    (found_by shelf _ _ c.desk.new.self c.plans.new.self c.in_ok-plans.plans c.in_ok-plans.plans c.in_ok-plans.ensures (λ is. is))
+    c.args.book.now c.args.book.now c.plans.new.self c.args.row c.in_ok-plans.plans d.result
+    (found_known shelf _ c.args.book.now c.args.row c.requires)
+    (found_by shelf _ _ c.args.book.now c.plans.new.self c.in_ok-plans.plans c.in_ok-plans.plans c.in_ok-plans.ensures (λ is. is))
     (λ w is lists. decides_kept desk desk (λ v. ImportsFile c.args.kind v name body) (view desk w) d.result c.in-Some-2.refusal _ d.ensures.reply d.ensures.change refl
     (file_not_kept c.args.kind (view desk w) name body c.in-Some.row _ (reply_of c.in-Some-2.refusal)
     (desk_answered w desk c.in-Some.row (subst (Matches IsDeskAnswer (desk_in w desk)) c.in-Some.is is))
@@ -45,9 +45,9 @@ returns g c =
     let body = c.args.body.now in
     let shelf = g.B.Book.shelf in
     found_more shelf (λ w. Matches IsDeskAnswer (desk_in w desk)) (λ w rows. ListsPlans (view desk w).plans rows.items) _
-    c.args.book.now c.desk.new.self c.plans.new.self c.in_ok-row.field-0 c.in_ok-plans.plans _
-    (found_by shelf _ _ c.args.book.now c.desk.new.self c.in_ok-row.field-0 c.in_ok-row.field-0 c.in_ok-row.ensures (λ is. is))
-    (found_by shelf _ _ c.desk.new.self c.plans.new.self c.in_ok-plans.plans c.in_ok-plans.plans c.in_ok-plans.ensures (λ is. is))
+    c.args.book.now c.args.book.now c.plans.new.self c.args.row c.in_ok-plans.plans _
+    (found_known shelf _ c.args.book.now c.args.row c.requires)
+    (found_by shelf _ _ c.args.book.now c.plans.new.self c.in_ok-plans.plans c.in_ok-plans.plans c.in_ok-plans.ensures (λ is. is))
     (λ w is lists. decides_made desk (λ v. ImportsFile c.args.kind v name body) (view desk w) c.in_ok-plan_answer.field-0 _ _ refl c.in_ok-plan_answer.ensures
     (file_kept c.args.kind (view desk w) name body c.in-Some.row _
     (desk_answered w desk c.in-Some.row (subst (Matches IsDeskAnswer (desk_in w desk)) c.in-Some.is is))
