@@ -6,7 +6,8 @@ use Rattle.plan_desk.specs.declared.change.Change as rows
 use Rattle.plan_desk.specs.declared.change.Change.TheVariants as made
 use Rattle.plan_desk.specs.declared.change.Decision.{Decision}
 use Rattle.plan_desk.specs.declared.judging.Admission.{Admission}
-use Rattle.plan_rows.specs.World.{Text, World, code_in, desk_in, plan_in}
+use Rattle.plan_desk.specs.declared.judging.Lock.{Lock}
+use Rattle.plan_rows.specs.World.{Text, Desk, World, code_in, desk_in, plan_in}
 use Rattle.plan_rows.specs.Changes.{Change, Keep, Publish, OpenDesk, SetKey, AddPlan, RemovePlan, BindPlace, SetCalendar, SetLag, apply}
 use Rattle.plan_rows.specs.Views.{View, view, alone}
 use Rattle.plan_desk.specs.Calls.{Call, Request, Reply, refusal, subject, writes, is_of_office, is_accepted, admits}
@@ -73,6 +74,11 @@ pub record MakesDecision (path s : Text) (IsSeen : View → Type 0) (Route : Vie
 -- the row that was read for the key of a call that isn't of the office: of the desk on its path
 abbrev pub IsRowFor : Call → Option DeskRow → World → Type 0
 IsRowFor call row w = is_of_office call ≡ false → Matches IsDeskAnswer (desk_in w (path_of call)) row
+
+-- the row of a desk, and its digest where there is one
+pub record IsLock (desk : Option Desk) (lock : Lock) : Type 0 where
+  pub row : Matches IsDeskAnswer desk lock.row
+  pub digest : IfSome lock.row (λ row. row.digest ≡ lock.digest)
 
 -- whether a request has the key that its call takes, and the row that was read for that
 pub record IsAdmission (r : Request) (w : World) (admission : Admission) : Type 0 where

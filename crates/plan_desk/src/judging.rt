@@ -1,9 +1,9 @@
 //! Judging requests: who may make a call, and what is decided of it. Nothing is written here.
 
-ghost use Rattle.std.specs.Prelude.{◌≡◌, IfOk, option_map};
+ghost use Rattle.std.specs.Prelude.{◌≡◌, ◌&&◌, IfOk, is_some, option_map};
 ghost use Rattle.plan_rows.specs.Views.{view};
 ghost use Rattle.plan_desk.specs.Decisions.{Answers, IsDecision};
-ghost use Rattle.plan_desk.specs.Deciding.{Finds, IsAdmission, IsDecided, IsRowFor, Knows};
+ghost use Rattle.plan_desk.specs.Deciding.{Finds, IsAdmission, IsDecided, IsLock, IsRowFor, Knows};
 ghost use Rattle.plan_desk.specs.Requests.{call_in, request_in, path_of, subject_of};
 ghost use Rattle.plan_rows.specs.Names as names;
 ghost use Rattle.plan_rows.specs.World.{desk_in};
@@ -37,20 +37,37 @@ fn opens_office<B: Book>(book: &mut B, key: Option<&[u8]>) -> Result<Admission, 
     })
 }
 
-// What a key is compared with where there is no desk.
-const DIGEST_OF_NO_DESK: [u8; 32] = [0; 32];
+// The row of a desk, and the digest that a key is compared with.
+#[derive(Drop)]
+struct Lock {
+    row: Option<DeskRow>,
+    digest: [u8; 32],
+}
 
-// Whether a key is that of a desk that is there. A key is hashed and compared whether there is one or
-// not, so that the time of a refusal doesn't tell it.
-fn unlocks(key: Option<&[u8]>, row: Option<&DeskRow>) -> bool
-    ensures { result ≡ names.unlocks_by (option_map (λ k. k.now) key.entry) (option_map (λ r. r.now.digest) row.entry) }
+// Of a desk that isn't there the digest is the office's, which is read for that.
+fn lock_of<B: Book>(book: &mut B, desk: &str) -> Result<Lock, BookFault>
+    ensures found { Finds B.shelf book.old book.new (λ w lock. IsLock (desk_in w desk.now) lock) result }
+    ensures stands { IfOk result (λ _. B.shelf.honest book.new → B.shelf.stands book.new) }
 {
-    let digest = match row {
-        Some(row) => &row.digest,
-        None => &DIGEST_OF_NO_DESK,
-    };
-    let is_its_own = has_key(key, digest);
-    is_its_own && row.is_some()
+    match book.desk(desk)? {
+        Some(row) => Ok(Lock {
+            digest: row.digest,
+            row: Some(row),
+        }),
+        None => Ok(Lock {
+            digest: book.office()?,
+            row: None,
+        }),
+    }
+}
+
+// Whether a key opens a lock: it is that of a desk that is there. It is hashed and compared whether
+// there is one or not, so that the time of a refusal doesn't tell it.
+fn opens(key: Option<&[u8]>, lock: &Lock) -> bool
+    ensures { result ≡ (names.has_key (option_map (λ k. k.now) key.entry) lock.now.digest && is_some lock.now.row) }
+{
+    let is_its_own = has_key(key, &lock.digest);
+    is_its_own && lock.row.is_some()
 }
 
 // Whether a key is that of the desk on a path.
@@ -59,10 +76,10 @@ fn opens_desk<B: Book>(book: &mut B, key: Option<&[u8]>, desk: &str) -> Result<A
         (λ w admission. (admission.is_admitted ≡ names.unlocks (option_map (λ k. k.now) key.entry) (desk_in w desk.now)) × Matches IsDeskAnswer (desk_in w desk.now) admission.row) result }
     ensures stands { IfOk result (λ _. B.shelf.honest book.new → B.shelf.stands book.new) }
 {
-    let row = book.desk(desk)?;
+    let lock = lock_of(book, desk)?;
     Ok(Admission {
-        is_admitted: unlocks(key, row.as_ref()),
-        row,
+        is_admitted: opens(key, &lock),
+        row: lock.row,
     })
 }
 
