@@ -16,7 +16,7 @@ const WORDS_IN_FRONT = {
   429: "Too many requests came in a short time. Wait a moment, and try again.",
 };
 
-// ---- what the page knows; nothing of it outlives the page
+// -- what the page knows
 
 /** A page on which nobody has signed in. */
 const blankPage = () => ({
@@ -26,7 +26,7 @@ const blankPage = () => ({
 
 let page = blankPage();
 
-// ---- nodes
+// -- nodes
 
 const byId = (name) => document.getElementById(name);
 
@@ -54,7 +54,7 @@ function showView(name) {
   byId("who").textContent = name === "office" ? "The office" : `Desk ${page.desk}`;
 }
 
-// ---- asking the office
+// -- asking the office
 
 /** The office, or the server in front of it, refuses by this line. */
 class Refusal extends Error {}
@@ -118,7 +118,7 @@ async function command(path, method, body) {
 const deskPath = (...parts) => `/desks/${[page.desk, ...parts].map(encodeURIComponent).join("/")}`;
 const planPath = (...parts) => deskPath("plans", page.plan.n, ...parts);
 
-// ---- a lost connection
+// -- a lost connection
 
 /** Tells that no answer came, and what that means. */
 function noteLost(words, method) {
@@ -163,7 +163,7 @@ function changeWords(before, after) {
   return words.join(" ") || "The list has the same plans as before.";
 }
 
-// ---- telling answers and refusals
+// -- telling answers and refusals
 
 /** What `plan explain` says of the last code in a line that it knows. */
 function entryOf(line) {
@@ -215,7 +215,7 @@ function onSubmit(name, action, isMeant = () => true) {
   });
 }
 
-/** A refusal, or else the value: what can be told beside other things that can. */
+/** A refusal, or else the value. */
 async function orRefusal(asking) {
   try {
     return await asking;
@@ -225,7 +225,7 @@ async function orRefusal(asking) {
   }
 }
 
-// ---- signing in and out
+// -- signing in and out
 
 /** Opens a desk: its list of plans tells whether the key is right. */
 async function enterDesk(fields) {
@@ -273,7 +273,7 @@ function leave() {
   byId("enter").elements.desk.focus();
 }
 
-// ---- the plans and the published capacities
+// -- the plans and the published capacities
 
 /** Asks for the list of plans. */
 async function askPlans() {
@@ -315,7 +315,7 @@ function codesTable(codes, none) {
   return tableNode({ heads: ["Code", "Kind", "Capacity"], rows });
 }
 
-// ---- importing a file
+// -- importing a file
 
 /** Takes a file that was dropped or chosen; sends it at once where it is plain as what. */
 async function takeFile(file) {
@@ -401,7 +401,7 @@ function placeInText(name, words, text) {
     make("table", { class: "text" }, caption, make("tbody", {}, ...shown)))];
 }
 
-// ---- the pages of a plan
+// -- the pages of a plan
 
 const wordsOf = (line) => line.trim().split(/\s+/);
 
@@ -543,7 +543,7 @@ function showChoice(plan) {
   byId("drawn").replaceChildren(byId("drawn").firstElementChild, ...choices);
 }
 
-// ---- tables
+// -- tables
 
 /** A table with its heads, and rows of texts or nodes. */
 function tableNode({ caption, heads, rows, foot, marks = [] }) {
@@ -603,7 +603,7 @@ function showDays(plan) {
   }
 }
 
-// ---- what a chart shows
+// -- what a chart shows
 
 /** The needs of so many activities in a text, and what there is; none where that isn't plain. */
 function needsIn(text, count) {
@@ -651,7 +651,7 @@ function projectBars(plan, table) {
   });
 }
 
-/** The bars of a job shop: a machine is a line, or a job; the colours are those of machines. */
+/** The bars of a job shop, coloured by machines. */
 function shopBars(plan, table) {
   const lines = byId("lines").value;
   const bars = table.rows.map((row, index) => ({
@@ -679,7 +679,7 @@ function datesKnown(plan) {
   return [...known].sort((a, b) => a[0] - b[0]);
 }
 
-// ---- the chart
+// -- the chart
 
 const ROW = 22;
 const TOP = 26;
@@ -814,7 +814,7 @@ function letTell(chart, bars) {
   });
 }
 
-// ---- changing a plan
+// -- changing a plan
 
 /** Searches for a best schedule within a budget. */
 async function searchBest(fields) {
@@ -877,7 +877,7 @@ async function deletePlan() {
   byId("news").textContent = `Plan ${n} is deleted.`;
 }
 
-// ---- the office
+// -- the office
 
 /** Publishes a capacity. */
 async function publish(fields) {
@@ -911,7 +911,7 @@ async function setKey(fields) {
   return `Desk ${made.desk} has another key.`;
 }
 
-// ---- the page comes to life
+// -- coming to life
 
 /** Lets a file be dropped anywhere on a desk's page. */
 function letDrop() {

@@ -284,7 +284,7 @@ impl Code {
                 "E90 memory\nMemory ran out. The file may be in order.\nFree memory and try again.\n"
             }
             Code::StoreRefused => {
-                "E91 store\nThe file of an office can't be opened, read or written: it is no database, the name is a folder's, it has a second name (a hard link), sqlite3 left a journal beside it, or the disk is full. A command that was refused so has changed nothing.\nCheck the name, open the file in sqlite3 once if there is a journal (with -journal at its end), or make room; then start again.\n"
+                "E91 store\nThe file of an office can't be opened, read or written: a folder or device has its name, or the name is too long; it is no SQLite database, or has UTF-16 or auto_vacuum; it was cut or damaged; its log (-wal) is another's; it has a second name (hard link); sqlite3 left a journal (-journal); the disk is full or fails; or there is a limit on files. A refused command has changed nothing.\nTell them apart by ls -l, df, ulimit -a and PRAGMA integrity_check in sqlite3, which also ends a journal (docs/SERVICE.md); then mend it or take a backup, and start again.\n"
             }
             Code::Input => {
                 "I1 file\nThe file or standard input can't be read: it isn't there, is a folder, or may not be read.\nCheck the name, relative to the folder that you stand in, and the permissions.\n"

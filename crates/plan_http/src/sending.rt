@@ -1,10 +1,27 @@
-//! Writing two texts, one behind the other.
+//! Writing two texts, one behind the other, in as few writes as there may be.
 
 ghost use Rattle.std.specs.Prelude.{◌≡◌, ◌+◌, ◌-◌, ◌<◌, ◌≤◌, ◌++◌, ℕ, length, take, drop, IfErr, OnOk};
 ghost use Rattle.std.specs.Io.KnownBytes.{Appends};
 ghost use Rattle.plan_psplib.specs.Devices.{most_calls, HasFailed};
 
 use plan_psplib::{MOST_CALLS, OutputError, Sink};
+
+// How many bytes go out together at first: most responses whole.
+const ROOM: usize = 4096;
+
+// Puts a text and what fits of a second one side by side, and answers how much of that fits.
+fn join(room: &mut [u8; 4096], first: &[u8], second: &[u8]) -> usize
+    requires { length first.now ≤ 256 }
+    ensures within { result ≤ length second.now }
+    ensures fits { length first.now + result ≤ 4096 }
+    ensures joined { take (length first.now + result) room.new ≡ first.now ++ take result second.now }
+{
+    let start = first.len();
+    let count = second.len().min(ROOM - start);
+    room[..start].copy_from_slice(first);
+    room[start..start + count].copy_from_slice(&second[..count]);
+    count
+}
 
 // A front of what is left of two texts, behind so many bytes.
 fn rest_of<'a>(first: &'a [u8], second: &'a [u8], sent: usize) -> &'a [u8]
@@ -18,10 +35,9 @@ fn rest_of<'a>(first: &'a [u8], second: &'a [u8], sent: usize) -> &'a [u8]
     &second[sent - first.len()..]
 }
 
-/// Writes two texts, with no more calls than one text may take. A write that takes none is tried
-/// again, and one that failed isn't.
-pub(crate) fn send<W: Sink>(writer: &mut W, first: &[u8], second: &[u8]) -> Result<(), OutputError>
-    requires { length first.now ≤ 256 }
+// Writes two texts. A write that takes none is tried again, and one that failed isn't.
+fn send_parts<W: Sink>(writer: &mut W, first: &[u8], second: &[u8]) -> Result<(), OutputError>
+    requires { length first.now ≤ 4096 }
     ensures calls { W.calls writer.new ≤ W.calls writer.old + most_calls }
     ensures written { OnOk result (Appends (W.taken writer.old) (W.taken writer.new) (first.now ++ second.now)) }
     ensures fine { OnOk result (W.faults writer.new ≡ W.faults writer.old) }
@@ -45,4 +61,21 @@ pub(crate) fn send<W: Sink>(writer: &mut W, first: &[u8], second: &[u8]) -> Resu
         return Ok(());
     }
     Err(OutputError { sent })
+}
+
+/// Writes two texts, with no more calls than one text may take: in one write where both are short.
+/// A write that takes none is tried again, and one that failed isn't.
+pub(crate) fn send<W: Sink>(writer: &mut W, first: &[u8], second: &[u8]) -> Result<(), OutputError>
+    requires { length first.now ≤ 256 }
+    ensures calls { W.calls writer.new ≤ W.calls writer.old + most_calls }
+    ensures written { OnOk result (Appends (W.taken writer.old) (W.taken writer.new) (first.now ++ second.now)) }
+    ensures fine { OnOk result (W.faults writer.new ≡ W.faults writer.old) }
+    ensures part { IfErr result (λ e. (e.sent < length (first.now ++ second.now))
+        × Appends (W.taken writer.old) (W.taken writer.new) (take e.sent (first.now ++ second.now))) }
+    ensures failed { IfErr result (λ _.
+        HasFailed (W.calls writer.old) (W.calls writer.new) (W.faults writer.old) (W.faults writer.new)) }
+{
+    let mut room = [0; ROOM];
+    let count = join(&mut room, first, second);
+    send_parts(writer, &room[..first.len() + count], &second[count..])
 }
