@@ -5,7 +5,7 @@ use Rattle.std.specs.List.{position_from, position, prefix_len}
 use Rattle.std.specs.HashMap.{HashMap, get_by}
 use Rattle.std.proofs.lemmas.Bool.{cases_Bool}
 use Rattle.std.proofs.lemmas.Slice.Eq.{bytes_eq-Decides}
-use Rattle.plan_rows.specs.declared.tables.records.PlanRecord.{PlanRecord}
+use Rattle.plan_rows.specs.declared.row_tests.beside.PlanSeen.{PlanSeen}
 use Rattle.plan_rows.specs.World.{Text, same_text}
 use Rattle.plan_rows.specs.RowTests.{RowKey, HeldKey, shown_key, same_key, AreCounts}
 use Rattle.plan_rows.proofs.KeyedLemmas.{same_key_swap, text_key}
@@ -64,7 +64,7 @@ pub count_low : {A : Type 0} (p : A → Bool) (xs : List A) (i count : ℕ) → 
 count_low p xs i count some low e = omega (arith, some, low, e, filter_low p (drop i xs), length-drop i xs)
 
 -- the counts after one row more was counted
-pub counted_more : {S : Type 0} (rows : List PlanRecord) (i : ℕ) (row : PlanRecord) (desk : Bor (List ℕ)) (count : ℕ) (counts now : HashMap (Bor (List ℕ)) ℕ S)
+pub counted_more : {S : Type 0} (rows : List PlanSeen) (i : ℕ) (row : PlanSeen) (desk : Bor (List ℕ)) (count : ℕ) (counts now : HashMap (Bor (List ℕ)) ℕ S)
     → 0 < i → i ≤ length rows → row ≡ get_or rows (i - 1) row → desk.now ≡ string_bytes row.desk → count ≡ length (filter (λ r. same_text (string_bytes r.desk) desk.now) (drop i rows))
     → ((q : Bor (List ℕ)) → get_by (λ k. same_text q.now k.now) now ≡ cond (same_text desk.now q.now) (Some (count + 1)) (get_by (λ k. same_text q.now k.now) counts))
     → AreCounts counts (drop i rows) → AreCounts now (drop (i - 1) rows)

@@ -1,33 +1,35 @@
 -- Plans that are tested one at a time: the keys of lags that are on no arc so far, and one plan more.
-use Rattle.std.proofs.Common.{◌≡◌, Vec, Global, filter, ◌⊎◌, inl, inr, ℕ, zero, suc, ◌<◌, ◌≤◌, Bool, true, false, ◌&&◌, ◌||◌, ◌==◌, List, [], ◌∷◌, ◌++◌, length, map, take, get_or, Option, Some, None, refl, sym, ap, ◌∙◌, subst, arith}
+use Rattle.std.proofs.Common.{◌≡◌, ◌+◌, filter, ◌⊎◌, inl, inr, ℕ, zero, suc, ◌<◌, ◌≤◌, Bool, true, false, ◌&&◌, ◌||◌, ◌==◌, List, [], ◌∷◌, ◌++◌, length, map, take, get_or, Option, Some, None, refl, sym, ap, ap₂, ◌∙◌, subst, arith}
 use Rattle.std.specs.Prelude.{not, cond, find, nat_lt}
 use Rattle.std.specs.Bool.{MatchBool}
-use Rattle.std.specs.Option.{MatchOption}
-use Rattle.std.specs.List.{list_any, position, AllByRecursion}
+use Rattle.std.specs.List.{list_any, position, position_from, AllByRecursion}
 use Rattle.std.proofs.lemmas.Bool.{cases_Bool, both_ways, and_parts, and_from, eq-eqb, ltb-true, ltb-false}
+use Rattle.std.proofs.lemmas.List.{map-id}
 use Rattle.std.proofs.lemmas.List.Quantifiers.{position-Some}
+use Rattle.std.proofs.lemmas.Iterator.Adapters.{position_from-zero}
 use Rattle.plan_net.specs.Network.{Net, joins}
 use Rattle.plan_psplib.specs.Project.{Project, SaysProject}
 use Rattle.plan_psplib.proofs.OnceLemmas.{project_once}
 use Rattle.plan_rows.specs.declared.kinds.PlanKind.{PlanKind}
 use Rattle.plan_rows.specs.declared.kinds.PlanKind.TheVariants as kinds
 use Rattle.plan_rows.specs.declared.row_tests.files.PlanFile.{PlanFile}
+use Rattle.plan_rows.specs.declared.row_tests.beside.PlanSeen.{PlanSeen}
 use Rattle.plan_rows.specs.declared.tables.records.LagRecord.{LagRecord}
 use Rattle.plan_rows.specs.World.{Text, Plan, Lag, World, same_text, is_plan, is_plan_of, is_bind, is_lag, plan_in}
 use Rattle.plan_rows.specs.Names.{is_from_to, is_digest}
 use Rattle.plan_rows.specs.Plans.{HasPlaces, has_arc}
 use Rattle.plan_rows.specs.Rules.{AllDiffer, IsThereAnd, IsPlanRow, IsOwned, IsLagRow, IsWorld, is_desk_row}
-use Rattle.plan_rows.specs.Tables.{plan_kept, lag_kept}
+use Rattle.plan_rows.specs.Tables.{head_of, plan_kept, plan_seen, lag_kept}
 use Rattle.plan_rows.specs.RowTests.{Tells, GivesFile, RowKey, HeldKey, shown_key, same_key, KeysDiffer, RowsAreGood}
-use Rattle.plan_rows.specs.Reviewing.{holds_key, has_row, is_arc_key, lag_key_of, owner_key_of, is_owner, arc_key, HasArc, SomeHasArc, AreOnArcs, IsStruck, IsStruckBy, IsLeft, SomeLeft, AreSized, key_at}
+use Rattle.plan_rows.specs.Reviewing.{holds_key, has_row, is_arc_key, lag_key_of, owner_key_of, is_owner, arc_key, HasArc, SomeHasArc, AreOnArcs, IsStruck, IsStruckBy, IsLeft, SomeLeft, IsSeen, AreSeen, key_at}
 use Rattle.plan_rows.proofs.KeyLemmas.{one_plan_key, one_plan}
 use Rattle.plan_rows.proofs.KeyedLemmas.{same_key_swap, plan_key, lag_key}
 use Rattle.plan_rows.proofs.OwnerLemmas.{text_from_same, same_text_refl}
-use Rattle.plan_rows.proofs.RowTestLemmas.{tells_same, take_all}
+use Rattle.plan_rows.proofs.RowTestLemmas.{tells_same, take_all, differ_seen, differ_under}
 use Rattle.plan_rows.proofs.RowLemmas.{all_weaker}
 use Rattle.plan_rows.proofs.RuleLemmas.{all_both, found_has}
-use Rattle.plan_rows.proofs.TableLemmas.{none_at, find_at_place}
-use Rattle.plan_rows.proofs.TestedLemmas.{project_of_file}
+use Rattle.plan_rows.proofs.TableLemmas.{none_at, find_at_place, find_none_at}
+use Rattle.plan_rows.proofs.TestedLemmas.{project_of_file, length-filter-map, map_all, all_map}
 
 -- ---- tests
 
@@ -139,12 +141,16 @@ owner_name plan rows i row e is =
     let parts = and_parts (same_text l.desk plan.desk) (l.n == plan.n) (sym (plan_key plan.desk l.desk plan.n l.n) ∙ yes) in
     text_from_same l.desk plan.desk parts.0
 
-pub owner_below : (plan : Plan) (rows : List LagRecord) (i : ℕ) → position (is_owner plan) rows ≡ Some i → i < length rows
-owner_below plan [] i e = absurd (none_found e)
+-- what is found is there
+pub found_below : {R : Type 0} (p : R → Bool) (rows : List R) (i : ℕ) → position p rows ≡ Some i → i < length rows
+found_below p [] i e = absurd (none_found e)
   where
     none_found : None ≡ Some i → ⊥
     none_found e = cc
-owner_below plan (row ∷ rows) i e = (position-Some (is_owner plan) (row ∷ rows) i row e).0
+found_below p (row ∷ rows) i e = (position-Some p (row ∷ rows) i row e).0
+
+pub owner_below : (plan : Plan) (rows : List LagRecord) (i : ℕ) → position (is_owner plan) rows ≡ Some i → i < length rows
+owner_below plan = found_below (is_owner plan)
 
 -- ---- one plan more
 
@@ -172,11 +178,11 @@ pub pending_more : (plans : List Plan) (plan : Plan) (old new : List HeldKey) (q
 pending_more plans plan old new q was struck =
     tells_same (some_more plans plan (shown_key q)) (some_less plans plan (shown_key q)) (not (holds_key new q)) (tells_either (SomeHasArc plans (shown_key q)) (HasArc plan (shown_key q)) (holds_key old q) struck.0 (holds_key new q) struck.1 was struck.2)
 
-pub sized_more : (plans : List Plan) (sizes : List ℕ) (plan : Plan) (size : ℕ) → AreSized plans sizes → IsPlanRow plan → HasPlaces plan.kind plan.name plan.body size → AreSized (plans ++ plan ∷ []) (sizes ++ size ∷ [])
-sized_more [] [] plan size are row has = ((row, has), tt)
-sized_more [] (s ∷ sizes) plan size are row has = absurd are
-sized_more (p ∷ plans) [] plan size are row has = absurd are
-sized_more (p ∷ plans) (s ∷ sizes) plan size are row has = (are.0, sized_more plans sizes plan size are.1 row has)
+pub seen_more : (plans : List Plan) (seen : List PlanSeen) (plan : Plan) (one : PlanSeen) → AreSeen plans seen → IsSeen plan one → AreSeen (plans ++ plan ∷ []) (seen ++ one ∷ [])
+seen_more [] [] plan one are is = (is, tt)
+seen_more [] (s ∷ seen) plan one are is = absurd are
+seen_more (p ∷ plans) [] plan one are is = absurd are
+seen_more (p ∷ plans) (s ∷ seen) plan one are is = (are.0, seen_more plans seen plan one are.1 is)
 
 take_step : {R A : Type 0} (g : R → A) (rows : List R) (i : ℕ) (d : R) → i < length rows → map g (take i rows) ++ g (get_or rows i d) ∷ [] ≡ map g (take (suc i) rows)
 take_step g [] i d low = absurd (omega (arith, low))
@@ -226,22 +232,6 @@ match_true P Q e t = subst (λ b. MatchBool b P Q) e t
 pub match_false : {b : Bool} (P Q : Type 0) → b ≡ false → MatchBool b P Q → Q
 match_false P Q e t = subst (λ b. MatchBool b P Q) e t
 
-pub match_none : {A : Type 0} {o : Option A} (P : Type 0) (Q : A → Type 0) → o ≡ None → MatchOption o P Q → P
-match_none P Q e t = subst (λ o. MatchOption o P Q) e t
-
-pub match_some : {A : Type 0} {o : Option A} {x : A} (P : Type 0) (Q : A → Type 0) → o ≡ Some x → MatchOption o P Q → Q x
-match_some P Q e t = subst (λ o. MatchOption o P Q) e t
-
--- what the end of a review tells
-abbrev pub IsEnded : Option (Vec ℕ Global) → Type 0 → List Plan → List LagRecord → Type 0
-IsEnded found none plans lags = MatchOption found none (λ sizes. AreSized plans sizes.items × AreOnArcs plans (map lag_kept lags))
-
-pub review_end : (found : Option (Vec ℕ Global)) (plans all : List Plan) (lags rows : List LagRecord) → plans ≡ all → lags ≡ rows → IsEnded found (AreOnArcs plans (map lag_kept lags) → ⊥) plans lags
-    → IsEnded found (AllByRecursion IsPlanRow all → AreOnArcs all (map lag_kept rows) → ⊥) all rows
-review_end None plans all lags rows e f h = λ good on. h (subst (λ l. AreOnArcs plans (map lag_kept l)) (sym f) (subst (λ k. AreOnArcs k (map lag_kept rows)) (sym e) on))
-review_end (Some sizes) plans all lags rows e f h =
-    (subst (λ k. AreSized k sizes.items) e h.0, subst (λ l. AreOnArcs all (map lag_kept l)) f (subst (λ k. AreOnArcs k (map lag_kept lags)) e h.1))
-
 module _ (plans : List Plan) (keys : List HeldKey) where
   abbrev IsTold : List LagRecord → Type 0
   IsTold rows = (q : HeldKey) → has_row lag_key_of rows q ≡ true → Tells (not (holds_key keys q)) (SomeHasArc plans (shown_key q))
@@ -266,37 +256,71 @@ module _ (plans : List Plan) (keys : List HeldKey) where
   off_arcs (row ∷ rows) told (inl here) on = subst (λ b. Tells (not b) (SomeHasArc plans (lag_key_of row))) here.2 (told_here row rows here.0 told here.1) on.0
   off_arcs (row ∷ rows) told (inr there) on = off_arcs rows (told_tail row rows told) there on.1
 
--- ---- a plan that is found, with how many places it has
+-- ---- what is kept of plans
 
-module _ {R : Type 0} (g : R → Plan) (p : Plan → Bool) where
-  size_at : (rows : List R) (sizes : List ℕ) (i : ℕ) (d : R) (n : ℕ) → AreSized (map g rows) sizes → i < length rows → HasPlaces (g (get_or rows i d)).kind (g (get_or rows i d)).name (g (get_or rows i d)).body (get_or sizes i n)
-  size_at [] sizes i d n are low = absurd (omega (arith, low))
-  size_at (row ∷ rows) [] i d n are low = absurd are
-  size_at (row ∷ rows) (size ∷ sizes) zero d n are low = are.0.1
-  size_at (row ∷ rows) (size ∷ sizes) (suc i) d n are low = size_at rows sizes i d n are.1 (omega (arith, low))
+-- each keeps the rules of rows
+pub seen_good : (plans : List Plan) (seen : List PlanSeen) → AreSeen plans seen → AllByRecursion IsPlanRow plans
+seen_good [] seen are = tt
+seen_good (plan ∷ plans) [] are = absurd are
+seen_good (plan ∷ plans) (one ∷ seen) are = (are.0.row, seen_good plans seen are.1)
 
-  size_below : (rows : List R) (sizes : List ℕ) (i : ℕ) → AreSized (map g rows) sizes → i < length rows → i < length sizes
-  size_below [] sizes i are low = absurd (omega (arith, low))
-  size_below (row ∷ rows) [] i are low = absurd are
-  size_below (row ∷ rows) (size ∷ sizes) zero are low = omega arith
-  size_below (row ∷ rows) (size ∷ sizes) (suc i) are low = let rest : i < length sizes = size_below rows sizes i are.1 (omega (arith, low)) in omega (arith, rest)
+heads : (plans : List Plan) (seen : List PlanSeen) → AreSeen plans seen → map plan_seen seen ≡ map head_of plans
+heads [] [] are = refl
+heads [] (one ∷ seen) are = absurd are
+heads (plan ∷ plans) [] are = absurd are
+heads (plan ∷ plans) (one ∷ seen) are = ap₂ ◌∷◌ are.0.head (heads plans seen are.1)
 
-  -- a plan that is found by its key, and its size
-  pub size_found : (rows : List R) (sizes : List ℕ) (i : ℕ) (row : R) (n : ℕ) → AreSized (map g rows) sizes → position (λ r. p (g r)) rows ≡ Some i → row ≡ get_or rows i row
-      → (find p (map g rows) ≡ Some (g row)) × HasPlaces (g row).kind (g row).name (g row).body (get_or sizes i n)
-  size_found rows sizes i row n are e is =
-      let has = size_at rows sizes i row n are (position-Some (λ r. p (g r)) rows i row e).0 in (
-        find_at_place g p rows i row e ∙ ap (λ r. Some (g r)) (sym is),
-        subst (λ r. HasPlaces (g r).kind (g r).name (g r).body (get_or sizes i n)) (sym is) has,
-      )
+-- plans differ where what is kept of them does
+pub seen_apart : (plans : List Plan) (seen : List PlanSeen) → AreSeen plans seen → (b : Bool) → Tells b (AllDiffer (λ x y. is_plan x.desk x.n y) (map plan_seen seen)) → Tells b (AllDiffer (λ x y. is_plan x.desk x.n y) plans)
+seen_apart plans seen are b t =
+    tells_same (differ_under head_of (λ x y. is_plan x.desk x.n y) plans) (differ_seen head_of (λ x y. is_plan x.desk x.n y) plans) b
+    (subst (λ l. Tells b (AllDiffer (λ x y. is_plan x.desk x.n y) l)) (heads plans seen are) t)
 
-  -- a plan that is found has a size
-  pub place_below : (rows : List R) (sizes : List ℕ) (i : ℕ) → AreSized (map g rows) sizes → position (λ r. p (g r)) rows ≡ Some i → i < length sizes
-  place_below [] sizes i are e = absurd (none_found e)
-    where
-      none_found : None ≡ Some i → ⊥
-      none_found e = cc
-  place_below (row ∷ rows) sizes i are e = size_below (row ∷ rows) sizes i are (position-Some (λ r. p (g r)) (row ∷ rows) i row e).0
+-- a desk has as many plans as are kept of it
+pub seen_count : (desk : Text) (plans : List Plan) (seen : List PlanSeen) → AreSeen plans seen → length (filter (λ row. is_plan_of desk (plan_seen row)) seen) ≡ length (filter (is_plan_of desk) plans)
+seen_count desk plans seen are =
+    sym (length-filter-map plan_seen (is_plan_of desk) seen) ∙ ap (λ l. length (filter (is_plan_of desk) l)) (heads plans seen are) ∙ length-filter-map head_of (is_plan_of desk) plans
+
+-- a rule of keys holds of plans where it holds of what is kept of them
+pub seen_owned : (w : World) (plans : List Plan) (seen : List PlanSeen) → AreSeen plans seen → (b : Bool) → Tells b (AllByRecursion (λ row. IsOwned w (plan_seen row)) seen) → Tells b (AllByRecursion (IsOwned w) plans)
+seen_owned w plans seen are b t =
+    tells_same (map_all head_of (IsOwned w) plans) (all_map head_of (IsOwned w) plans) b
+    (subst (λ l. Tells b (AllByRecursion (IsOwned w) l)) (heads plans seen are)
+    (tells_same (all_map plan_seen (IsOwned w) seen) (map_all plan_seen (IsOwned w) seen) b t))
+
+-- they stand at the same places
+seen_from : (desk : Text) (n j : ℕ) (plans : List Plan) (seen : List PlanSeen) → AreSeen plans seen → position_from (λ row. is_plan desk n (plan_seen row)) j seen ≡ position_from (is_plan desk n) j plans
+seen_from desk n j [] [] are = refl
+seen_from desk n j [] (one ∷ seen) are = absurd are
+seen_from desk n j (plan ∷ plans) [] are = absurd are
+seen_from desk n j (plan ∷ plans) (one ∷ seen) are = ap₂ (λ b o. cond b (Some j) o) (ap (is_plan desk n) are.0.head) (seen_from desk n (j + 1) plans seen are.1)
+
+seen_place : (desk : Text) (n : ℕ) (plans : List Plan) (seen : List PlanSeen) → AreSeen plans seen → position (λ row. is_plan desk n (plan_seen row)) seen ≡ position (is_plan desk n) plans
+seen_place desk n plans seen are =
+    position_from-zero (λ row. is_plan desk n (plan_seen row)) seen ∙ seen_from desk n 0 plans seen are ∙ sym (position_from-zero (is_plan desk n) plans)
+
+-- where none is kept there is none
+pub none_seen : (desk : Text) (n : ℕ) (plans : List Plan) (seen : List PlanSeen) → AreSeen plans seen → position (λ row. is_plan desk n (plan_seen row)) seen ≡ None → find (is_plan desk n) plans ≡ None
+none_seen desk n plans seen are e = subst (λ l. find (is_plan desk n) l ≡ None) (map-id plans) (find_none_at (λ x. x) (is_plan desk n) plans (sym (seen_place desk n plans seen are) ∙ e))
+
+seen_at : (plans : List Plan) (seen : List PlanSeen) (i : ℕ) (d : Plan) (e : PlanSeen) → AreSeen plans seen → i < length seen → IsSeen (get_or plans i d) (get_or seen i e)
+seen_at [] [] i d e are low = absurd (omega (arith, low))
+seen_at [] (one ∷ seen) i d e are low = absurd are
+seen_at (plan ∷ plans) [] i d e are low = absurd are
+seen_at (plan ∷ plans) (one ∷ seen) zero d e are low = are.0
+seen_at (plan ∷ plans) (one ∷ seen) (suc i) d e are low = seen_at plans seen i d e are.1 (omega (arith, low))
+
+-- and where one is kept there is its plan
+pub one_seen : (desk : Text) (n : ℕ) (plans : List Plan) (seen : List PlanSeen) (i : ℕ) (row : PlanSeen) → AreSeen plans seen → position (λ r. is_plan desk n (plan_seen r)) seen ≡ Some i → row ≡ get_or seen i row
+    → (plan : Plan) × (find (is_plan desk n) plans ≡ Some plan) × IsSeen plan row
+one_seen desk n plans seen i row are e is =
+    let there = sym (seen_place desk n plans seen are) ∙ e in
+    let plan = get_or plans i (plan_seen row) in
+    let low = (position-Some (λ r. is_plan desk n (plan_seen r)) seen i row e).0 in (
+      plan,
+      subst (λ l. find (is_plan desk n) l ≡ Some plan) (map-id plans) (find_at_place (λ x. x) (is_plan desk n) plans i (plan_seen row) there),
+      subst (IsSeen plan) (sym is) (seen_at plans seen i (plan_seen row) row are low),
+    )
 
 -- ---- all tables
 
@@ -346,19 +370,13 @@ lags_kept : (w : World) (rows : List Lag) → AllDiffer (λ a b. is_plan a.desk 
 lags_kept w [] apart on low = tt
 lags_kept w (row ∷ rows) apart on low = (lag_kept_rule w row apart on.0 low.0, lags_kept w rows apart on.1 low.1)
 
--- each plan that has a size keeps the rules of rows
-pub sized_good : (plans : List Plan) (sizes : List ℕ) → AreSized plans sizes → AllByRecursion IsPlanRow plans
-sized_good [] sizes are = tt
-sized_good (plan ∷ plans) [] are = absurd are
-sized_good (plan ∷ plans) (size ∷ sizes) are = (are.0.0, sized_good plans sizes are.1)
-
 -- the tables keep the rules of rows where keys differ, the plans and the rows are good and each lag is on an arc
-pub world_of_parts : (w : World) (sizes : List ℕ) → is_digest w.office ≡ true → KeysDiffer w → AreSized w.plans sizes → AreOnArcs w.plans w.lags → RowsAreGood w → IsWorld w
-world_of_parts w sizes office keys are on good = record {
+pub world_of_parts : (w : World) → is_digest w.office ≡ true → KeysDiffer w → AllByRecursion IsPlanRow w.plans → AreOnArcs w.plans w.lags → RowsAreGood w → IsWorld w
+world_of_parts w office keys plans on good = record {
   office = office;
   published = good.published;
   desks = all_weaker (λ row h. h.0) w.desks good.desks;
-  plans = sized_good w.plans sizes are;
+  plans = plans;
   codes_differ = keys.codes;
   desks_differ = keys.desks;
   plans_differ = keys.plans;

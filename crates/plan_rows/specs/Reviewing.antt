@@ -1,12 +1,13 @@
--- Plans that are tested one at a time, beside the lags of all of them (docs/DEFINITIONS.md,
+-- Plans that are tested one at a time, and the other rows beside them (docs/DEFINITIONS.md,
 -- "Books").
 use Rattle.std.specs.Prelude.{◌≡◌, ◌⊎◌, ◌&&◌, ℕ, Bool, true, not, List, [], ◌∷◌}
-use Rattle.std.specs.List.{list_any, AllByRecursion}
+use Rattle.std.specs.List.{list_any, AllByRecursion, AllZip}
 use Rattle.plan_psplib.specs.Project.{Project, SaysProject}
 use Rattle.plan_rows.specs.declared.kinds.PlanKind.TheVariants as kinds
+use Rattle.plan_rows.specs.declared.row_tests.beside.PlanSeen.{PlanSeen}
 use Rattle.plan_rows.specs.declared.row_tests.review.Review.{Review}
 use Rattle.plan_rows.specs.declared.tables.records.LagRecord.{LagRecord}
-use Rattle.plan_rows.specs.Tables.{lag_kept}
+use Rattle.plan_rows.specs.Tables.{head_of, lag_kept, plan_seen}
 use Rattle.plan_rows.specs.World.{Text, Lag, Plan, is_plan}
 use Rattle.plan_rows.specs.Plans.{HasPlaces, has_arc}
 use Rattle.plan_rows.specs.Rules.{IsPlanRow}
@@ -85,18 +86,19 @@ SomeLeft key keys (row ∷ rows) = IsLeft keys (key row) ⊎ SomeLeft key keys r
 
 -- ---- plans
 
--- each plan keeps the rules of rows, and has so many places
-abbrev pub AreSized : List Plan → List ℕ → Type 0
-AreSized [] [] = Unit {0}
-AreSized [] (size ∷ sizes) = ⊥
-AreSized (plan ∷ plans) [] = ⊥
-AreSized (plan ∷ plans) (size ∷ sizes) =
-    (IsPlanRow plan × HasPlaces plan.kind plan.name plan.body size) × AreSized plans sizes
+-- a plan that keeps the rules of rows, and what is kept of it
+pub record IsSeen (plan : Plan) (seen : PlanSeen) : Type 0 where
+  pub row : IsPlanRow plan
+  pub head : plan_seen seen ≡ head_of plan
+  pub places : HasPlaces plan.kind plan.name plan.body seen.places
+
+abbrev pub AreSeen : List Plan → List PlanSeen → Type 0
+AreSeen plans seen = AllZip IsSeen plans seen
 
 -- These plans were tested, and keep the rules of rows. The keys that are left are those of the lags
 -- that are on no arc of one of them.
 pub record HasReviewed (plans : List Plan) (review : Review) : Type 0 where
-  pub sized : AreSized plans review.sizes.items
-  pub owners : AreFirst owner_key_of review.owners review.lags.now
-  pub pending : (q : HeldKey) → has_row lag_key_of review.lags.now q ≡ true
+  pub seen : AreSeen plans review.plans.items
+  pub owners : AreFirst owner_key_of review.owners review.beside.lags.now
+  pub pending : (q : HeldKey) → has_row lag_key_of review.beside.lags.now q ≡ true
       → Tells (not (holds_key review.pending.keys q)) (SomeHasArc plans (shown_key q))

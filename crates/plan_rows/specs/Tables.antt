@@ -1,5 +1,7 @@
 -- What the rows that code keeps stand for (docs/DEFINITIONS.md, "Books").
-use Rattle.std.specs.Prelude.{map, string_bytes}
+use Rattle.std.specs.Prelude.{List, [], map, string_bytes}
+use Rattle.plan_rows.specs.declared.row_tests.beside.Beside.{Beside}
+use Rattle.plan_rows.specs.declared.row_tests.beside.PlanSeen.{PlanSeen}
 use Rattle.plan_rows.specs.declared.tables.Tables.{Tables}
 use Rattle.plan_rows.specs.declared.tables.records.DeskRecord.{DeskRecord}
 use Rattle.plan_rows.specs.declared.tables.records.PlanRecord.{PlanRecord}
@@ -48,4 +50,41 @@ world_kept t = record {
   plans = map plan_kept t.plans.items;
   binds = map bind_kept t.binds.items;
   lags = map lag_kept t.lags.items;
+}
+
+-- ---- rows whose plans are read one at a time
+
+-- a plan without its file and its calendar
+abbrev pub head_of : Plan → Plan
+head_of plan = record {
+  desk = plan.desk;
+  n = plan.n;
+  kind = plan.kind;
+  name = [];
+  body = [];
+  start = [];
+  days = [];
+}
+
+-- what is left of a plan
+abbrev pub plan_seen : PlanSeen → Plan
+plan_seen row = record {
+  desk = string_bytes row.desk;
+  n = row.n;
+  kind = row.kind;
+  name = [];
+  body = [];
+  start = [];
+  days = [];
+}
+
+-- the rows of all tables, where these are the plans
+abbrev pub world_beside : Beside → List Plan → World
+world_beside beside plans = record {
+  office = beside.office.now;
+  published = map published_in beside.published.now;
+  desks = map desk_kept beside.desks.now;
+  plans = plans;
+  binds = map bind_kept beside.binds.now;
+  lags = map lag_kept beside.lags.now;
 }

@@ -14,7 +14,7 @@ pub use book::Book;
 pub use fault::BookFault;
 pub use kinds::{Kind, PlanKind};
 pub use names::{has_key, is_key, is_name, key_digest, plan_number};
-pub use row_tests::{is_desk_row, is_plan_row, is_published_row, is_world};
+pub use row_tests::{Beside, Review, is_desk_row, is_plan_row, is_published_row, is_world};
 pub use rows::{BindEntry, CodeRow, DeskRow, LagEntry, PlanEntry, PlanRow};
 pub use tables::digests::known_digest;
 pub use tables::{BindRecord, DeskRecord, LagRecord, PlanRecord, Tables};

@@ -1,5 +1,6 @@
 //! Tests of the rules of rows, for tables that someone else wrote.
 
+mod beside;
 mod files;
 mod keyed;
 mod places;
@@ -8,5 +9,7 @@ mod rows;
 mod tested;
 mod whole;
 
+pub use beside::Beside;
+pub use review::Review;
 pub use rows::{is_desk_row, is_plan_row, is_published_row};
 pub use whole::is_world;

@@ -2,6 +2,7 @@
 use Rattle.std.proofs.Common.{◌≡◌, ℕ, ℤ, true, ◌&&◌, List, [], ◌∷◌, length, map, drop, Option, Some, None, option_map, refl, sym, ap, subst, ◌∙◌, arith, Contains, IsTrue, Vec, Global, codes, option_and_then}
 use Rattle.std.specs.List.{AllByRecursion, AllZip}
 use Rattle.std.proofs.lemmas.Bool.{and_parts}
+use Rattle.std.proofs.lemmas.List.{map-id}
 use Rattle.sqlite_value.specs.declared.value.Value.TheVariants.{Null, Int, Real, Text, Blob}
 use Rattle.sqlite_value.specs.Order.{Row, column}
 use Rattle.sqlite_trees.specs.Tree.{Trees, rowid}
@@ -22,11 +23,12 @@ use Rattle.sqlite.specs.Effect.{Database, Reads}
 use Rattle.sqlite.specs.State.{State}
 use Rattle.plan_rows.specs.declared.rows.CodeRow.{CodeRow}
 use Rattle.plan_rows.specs.declared.tables.records.DeskRecord.{DeskRecord}
-use Rattle.plan_rows.specs.declared.tables.records.PlanRecord.{PlanRecord}
 use Rattle.plan_rows.specs.declared.tables.records.BindRecord.{BindRecord}
 use Rattle.plan_rows.specs.declared.tables.records.LagRecord.{LagRecord}
 use Rattle.plan_rows.specs.Books.{published_in}
-use Rattle.plan_rows.specs.Tables.{desk_kept, plan_kept, bind_kept, lag_kept}
+use Rattle.plan_rows.specs.Tables.{desk_kept, bind_kept, lag_kept}
+use Rattle.plan_rows.specs.World.{Plan}
+use Rattle.plan_store.specs.Reviewed.{IsGoodPlan, TakesGood}
 use Rattle.plan_store.specs.declared.layout.Layout.{Layout}
 use Rattle.plan_store.specs.declared.layout.Layout.TheVariants.{First, Second}
 use Rattle.plan_store.specs.Tables as tables
@@ -35,7 +37,7 @@ use Rattle.plan_store.specs.Rows.{number_value, digest_value, written_code, read
 use Rattle.plan_store.specs.Querying.{meaning_under}
 use Rattle.plan_store.specs.Layouts.{schema_of, AreNumbered, meta_at}
 use Rattle.plan_store.specs.Opening.{IsLaid}
-use Rattle.plan_store.specs.Taking.{Meta, shown_meta, HoldsMeta, TakesMeta, only_one, HoldsCode, HoldsDesk, HoldsPlan, HoldsBind, HoldsLag, TakesRow, TakesAll, TakesTable, TakesLags, ListsTaken, taken_as}
+use Rattle.plan_store.specs.Taking.{Meta, shown_meta, HoldsMeta, TakesMeta, only_one, HoldsCode, HoldsDesk, HoldsBind, HoldsLag, TakesRow, TakesAll, TakesTable, TakesLags, ListsTaken, taken_as}
 use Rattle.plan_store.proofs.CodecLemmas.{code_back, desk_back, plan_back, bind_back, lag_back}
 use Rattle.plan_store.proofs.QueryForms.{of_table, alone, by}
 use Rattle.plan_store.proofs.NumberedRowLemmas.{as_is, entry_of, cells, all_shown, all_full, IsFilled, IsFull, is_entry, width}
@@ -98,13 +100,18 @@ module _ (layout : Layout) (db : Database) {A X : Type 0} (written : A → Row) 
   abbrev takes : Row → Option X → Type 0
   takes row found = TakesRow written Holds row (option_map kept found)
 
+  -- what is made of the rows that are shown
+  table_listed : AreNumbered (db.trees tree) → AllByRecursion (IsFull columns filled) (db.trees tree) → (found : Option (List X)) (rows : List Row) → Reads (meaning_under (schema_of layout) text) db [] rows
+      → TakesAll takes rows found → TakesTable written read Holds (db.trees tree) (option_map (map kept) found)
+  table_listed numbered full found rows reads h =
+      let answer = answer_of layout text (of_table tree [] project (by 0 ∷ [])) names is db rows reads in
+      let show = λ (e : ℤ × Row). cells (row_at as_is e) 1 (length columns) in
+      let are = all_shown tree project (overlay db.trees []) (subst AreNumbered (sym whole) numbered) show shows rows answer ∙ ap (λ l. map show (map entry_of l)) whole ∙ all_full columns filled (db.trees tree) numbered.1 full in
+      table_taken written read Holds back kept (db.trees tree) numbered found (subst (λ l. TakesAll takes l found) are h)
+
   table_read : AreNumbered (db.trees tree) → AllByRecursion (IsFull columns filled) (db.trees tree) → (found : Option (Vec X Global)) → ListsTaken takes layout text db found
       → TakesTable written read Holds (db.trees tree) (taken_as kept found)
-  table_read numbered full found h =
-      let answer = answer_of layout text (of_table tree [] project (by 0 ∷ [])) names is db h.0 h.1 in
-      let show = λ (e : ℤ × Row). cells (row_at as_is e) 1 (length columns) in
-      let are = all_shown tree project (overlay db.trees []) (subst AreNumbered (sym whole) numbered) show shows h.0 answer ∙ ap (λ l. map show (map entry_of l)) whole ∙ all_full columns filled (db.trees tree) numbered.1 full in
-      table_taken written read Holds back kept (db.trees tree) numbered (option_map (λ v. v.items) found) (subst (λ l. TakesAll takes l (option_map (λ v. v.items) found)) are h.2)
+  table_read numbered full found h = table_listed numbered full (option_map (λ v. v.items) found) h.0 h.1 h.2
 
 module _ (layout : Layout) (s : State) (laid : IsLaid layout s) where
   pub codes_read : (found : Option (Vec CodeRow Global)) → ListsTaken (λ row f. TakesRow written_code HoldsCode row (option_map published_in f)) layout means.codes_text s.now found
@@ -121,12 +128,23 @@ module _ (layout : Layout) (s : State) (laid : IsLaid layout s) where
       table_read layout s.now written_desk read_desk HoldsDesk (λ a holds n. desk_back a holds.1 n) desk_kept 3 tables.desks.columns (refl, (refl, (refl, tt))) means.desks_query.project means.desks_text _ (means.desks_is layout)
       (λ x. refl) refl table.0 table.1
 
-  pub plans_read : (found : Option (Vec PlanRecord Global)) → ListsTaken (λ row f. TakesRow written_plan HoldsPlan row (option_map plan_kept f)) layout means.plans_text s.now found
-      → TakesTable written_plan read_plan HoldsPlan (s.now.trees 5) (taken_as plan_kept found)
-  plans_read =
+  plans_listed : (found : Option (List Plan)) (rows : List Row) → Reads (meaning_under (schema_of layout) means.plans_text) s.now [] rows
+      → TakesAll (λ row f. TakesRow written_plan IsGoodPlan row (option_map (λ (p : Plan). p) f)) rows found → TakesTable written_plan read_plan IsGoodPlan (s.now.trees 5) (option_map (map (λ (p : Plan). p)) found)
+  plans_listed =
       let table = plans_laid layout s laid in
-      table_read layout s.now written_plan read_plan HoldsPlan (λ a holds n. plan_back a n) plan_kept 5 tables.plans.columns (refl, (refl, (refl, (refl, (refl, (refl, (refl, tt))))))) means.plans_query.project means.plans_text _ (means.plans_is layout)
+      table_listed layout s.now written_plan read_plan IsGoodPlan (λ a holds n. plan_back a n) (λ (p : Plan). p) 5 tables.plans.columns (refl, (refl, (refl, (refl, (refl, (refl, (refl, tt))))))) means.plans_query.project means.plans_text _ (means.plans_is layout)
       (λ x. refl) refl table.0 table.1
+
+  -- good plans, each from its row
+  pub plans_good : (plans : List Plan) (rows : List Row) → Reads (meaning_under (schema_of layout) means.plans_text) s.now [] rows → AllZip (λ row plan. TakesGood row (Some plan)) rows plans
+      → TakesTable written_plan read_plan IsGoodPlan (s.now.trees 5) (Some plans)
+  plans_good plans rows reads zip =
+      subst (λ l. TakesTable written_plan read_plan IsGoodPlan (s.now.trees 5) (Some l)) (map-id plans) (plans_listed (Some plans) rows reads zip)
+
+  -- a row that is no good plan
+  pub plan_bad : (rows : List Row) (row : Row) → Reads (meaning_under (schema_of layout) means.plans_text) s.now [] rows → Contains rows row → TakesGood row None
+      → TakesTable written_plan read_plan IsGoodPlan (s.now.trees 5) None
+  plan_bad rows row reads among none = plans_listed None rows reads (row, among, none)
 
   pub binds_read : (found : Option (Vec BindRecord Global)) → ListsTaken (λ row f. TakesRow written_bind HoldsBind row (option_map bind_kept f)) layout means.binds_text s.now found
       → TakesTable written_bind read_bind HoldsBind (s.now.trees 7) (taken_as bind_kept found)

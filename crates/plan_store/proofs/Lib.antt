@@ -26,6 +26,7 @@ pub mod TakingLemmas
 pub mod HoldsLemmas
 pub mod LaidLemmas
 mod RereadLemmas
+pub mod ReviewedLemmas
 pub mod OpeningLemmas
 pub mod MigrateLemmas
 pub mod AdoptLemmas

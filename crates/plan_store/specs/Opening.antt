@@ -1,17 +1,17 @@
 -- A connection while its tables are tested (docs/DEFINITIONS.md, "Tables").
-use Rattle.std.specs.Prelude.{◌≡◌, ◌⊎◌, ℤ, false, [], ◌∷◌, Option, Some, None, IsTrue, Result, IfOk, MatchOption, IsUtf8}
-use Rattle.std.specs.List.{AllByRecursion}
+use Rattle.std.specs.Prelude.{◌≡◌, ℤ, Bool, false, List, [], ◌∷◌, map, Option, IsTrue, Result, IfOk, MatchOption}
+use Rattle.std.specs.Bool.{MatchBool}
 use Rattle.sqlite_trees.specs.Tree.{Trees}
 use Rattle.sqlite.specs.Effect.{Database}
 use Rattle.sqlite.specs.State.{State, HasCleanDisk}
 use Rattle.plan_rows.specs.declared.fault.BookFault.{BookFault}
-use Rattle.plan_rows.specs.declared.tables.Tables.{Tables}
-use Rattle.plan_rows.specs.Tables.{world_kept}
-use Rattle.plan_rows.specs.World.{Plan}
-use Rattle.plan_rows.specs.Rules.{IsWorld}
+use Rattle.plan_rows.specs.Books.{published_in}
+use Rattle.plan_rows.specs.Tables.{desk_kept, bind_kept, lag_kept}
+use Rattle.plan_rows.specs.World.{Plan, World}
+use Rattle.plan_store.specs.declared.taking.OtherRows.{OtherRows}
 use Rattle.plan_store.specs.declared.layout.Layout.{Layout}
 use Rattle.plan_store.specs.Kept.{Keeps}
-use Rattle.plan_store.specs.Rows.{read_code, written_code, read_desk, written_desk, read_plan, written_plan, read_bind, written_bind}
+use Rattle.plan_store.specs.Rows.{read_code, written_code, read_desk, written_desk, read_bind, written_bind}
 use Rattle.plan_store.specs.Layouts.{schema_of, meta_at, world_in, KeepsLags, IsOfficeAt}
 use Rattle.plan_store.specs.Rereading.{IsInOrder}
 
@@ -33,28 +33,36 @@ pub record Looks (layout : Layout) (old new : State) {X : Type 0} (result : Resu
   pub answer : IfOk result (λ x. HasCleanDisk new → IsTrue new.is_open × Is x)
   pub crash : HasCleanDisk new → (trees : Trees) → new.may_leave trees → old.may_leave trees
 
--- The rows of tables are those of an office, whether it keeps the rules of rows or not, and these
--- are its version and its rows.
-pub record HoldsRows (layout : Layout) (db : Database) (version : ℤ) (tables : Tables) : Type 0 where
-  pub meta : db.trees 0 ≡ meta_at version (world_kept tables).office ∷ []
+-- the rows of all tables, where these are the plans
+abbrev pub world_others : OtherRows → List Plan → World
+world_others it plans = record {
+  office = it.office;
+  published = map published_in it.published.items;
+  desks = map desk_kept it.desks.items;
+  plans = plans;
+  binds = map bind_kept it.binds.items;
+  lags = map lag_kept it.lags.items;
+}
+
+-- The rows of the tables beside the plans are those of an office, whether it keeps the rules of rows
+-- or not, and these are its version and its rows.
+pub record HoldsOthers (layout : Layout) (db : Database) (it : OtherRows) : Type 0 where
+  pub meta : db.trees 0 ≡ meta_at it.version it.office ∷ []
   pub published : Keeps written_code read_code (db.trees 1)
   pub desks : Keeps written_desk read_desk (db.trees 3)
-  pub plans : Keeps written_plan read_plan (db.trees 5)
   pub binds : Keeps written_bind read_bind (db.trees 7)
   pub lags : KeepsLags layout db.trees
-  pub names : AllByRecursion (λ (row : Plan). IsUtf8 row.name) (world_kept tables).plans
-  pub world : world_kept tables ≡ world_in layout db.trees
+  pub world : world_others it (world_in layout db.trees).plans ≡ world_in layout db.trees
 
--- the version and the rows of tables, or none where no office has such rows
-abbrev pub TakesRows : Layout → Database → Option (ℤ × Tables) → Type 0
-TakesRows layout db found =
-    MatchOption found ((version : ℤ) → ¬ IsOfficeAt layout version db) (λ it. HoldsRows layout db it.0 it.1)
+-- the version and the rows of tables beside the plans, or none where no office has such rows
+abbrev pub TakesOthers : Layout → Database → Option OtherRows → Type 0
+TakesOthers layout db found =
+    MatchOption found ((version : ℤ) → ¬ IsOfficeAt layout version db) (HoldsOthers layout db)
 
--- rows that keep the rules of rows say a version
-abbrev pub IsJudged : Option (ℤ × Tables) → Option ℤ → Type 0
-IsJudged None said = said ≡ None
-IsJudged (Some it) said =
-    ((said ≡ Some it.0) × IsWorld (world_kept it.1)) ⊎ ((said ≡ None) × ¬ IsWorld (world_kept it.1))
+-- tables with these rows hold an office, or none
+abbrev pub IsJudged : Layout → Database → OtherRows → Bool → Type 0
+IsJudged layout db it good =
+    MatchBool good (IsOfficeAt layout it.version db) ((version : ℤ) → ¬ IsOfficeAt layout version db)
 
 -- the version that the tables of an office say, or none where they hold no office
 abbrev pub SaysVersion : Layout → Database → Option ℤ → Type 0

@@ -101,10 +101,6 @@ abbrev pub TakesDesks : Trees → Option (Vec DeskRecord Global) → Type 0
 TakesDesks trees found =
     TakesTable written_desk read_desk HoldsDesk (trees 3) (taken_as desk_kept found)
 
-abbrev pub TakesPlans : Trees → Option (Vec PlanRecord Global) → Type 0
-TakesPlans trees found =
-    TakesTable written_plan read_plan HoldsPlan (trees 5) (taken_as plan_kept found)
-
 abbrev pub TakesBinds : Trees → Option (Vec BindRecord Global) → Type 0
 TakesBinds trees found =
     TakesTable written_bind read_bind HoldsBind (trees 7) (taken_as bind_kept found)

@@ -20,9 +20,9 @@ use plan_rows::BookFault;
 use sqlite::types::ValueRef;
 use sqlite::{Alter, Connection, Row, Statement};
 
-// The statement of a text, which the connection keeps. That it is compiled shows that the
-// connection is open.
-fn prepared<S: Alter>(conn: &mut Connection<S>, text: &str) -> Result<Statement, BookFault>
+/// The statement of a text, which the connection keeps. That it is compiled shows that the
+/// connection is open.
+pub fn prepared<S: Alter>(conn: &mut Connection<S>, text: &str) -> Result<Statement, BookFault>
     requires rest { IsAtRest (state S.Store conn.old) }
     ensures { Queries (state S.Store conn.old) (state S.Store conn.new) result (λ s. s.text ≡ text.now) }
 {

@@ -15,6 +15,7 @@ mod on_disk;
 mod opening;
 mod reading;
 mod rereading;
+mod reviewing;
 mod running;
 mod shown;
 mod sql_book;

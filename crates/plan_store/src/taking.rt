@@ -1,17 +1,17 @@
-//! All rows of tables that someone else may have written.
+//! All rows of tables that someone else may have written, but for those of plans.
 
 ghost use Rattle.std.specs.Prelude.{◌≡◌, IsTrue};
 ghost use Rattle.sqlite.specs.State.{HasCleanDisk};
 ghost use Rattle.sqlite.specs.Held.{state};
 ghost use Rattle.plan_store.specs.Querying.{IsQueryUnder};
 ghost use Rattle.plan_store.specs.Layouts.{schema_of};
-ghost use Rattle.plan_store.specs.Opening.{IsReadable, Looks, TakesRows};
-ghost use Rattle.plan_store.specs.Taking.{ListsTaken, TakesMeta, TakesCodes, TakesDesks, TakesPlans, TakesBinds, TakesLags, TakesBoth, only_one};
+ghost use Rattle.plan_store.specs.Opening.{IsReadable, Looks, TakesOthers};
+ghost use Rattle.plan_store.specs.Taking.{ListsTaken, TakesMeta, TakesCodes, TakesDesks, TakesBinds, TakesLags, TakesBoth, only_one};
 
 use crate::asking::rows_laid;
 use crate::layout::Layout;
 use crate::taken::{FromTaken, all_taken};
-use plan_rows::{BindRecord, BookFault, CodeRow, DeskRecord, LagRecord, PlanRecord, Tables};
+use plan_rows::{BindRecord, BookFault, CodeRow, DeskRecord, LagRecord};
 use sqlite::{Alter, Connection};
 use std::alloc::Global;
 
@@ -78,19 +78,6 @@ fn desks_taken<S: Alter>(
         (TakesDesks (state S.Store conn.old).now.trees) }
 {
     let text = "SELECT desk, digest, next FROM desks ORDER BY rowid";
-    rows_taken(alloc, conn, layout, text)
-}
-
-fn plans_taken<S: Alter>(
-    alloc: Global,
-    conn: &mut Connection<S>,
-    layout: Layout,
-) -> Result<Option<Vec<PlanRecord>>, BookFault>
-    requires ready { IsReadable layout (state S.Store conn.old) }
-    ensures { Looks layout (state S.Store conn.old) (state S.Store conn.new) result
-        (TakesPlans (state S.Store conn.old).now.trees) }
-{
-    let text = "SELECT desk, n, kind, name, body, start, days FROM plans ORDER BY rowid";
     rows_taken(alloc, conn, layout, text)
 }
 
@@ -166,15 +153,25 @@ fn binds_and_lags<S: Alter>(
     Ok(Some((binds, lags)))
 }
 
-/// All rows of the tables of a layout, with the version that they say, or none where no office has
-/// such rows.
-pub fn tables_in<S: Alter>(
+/// The rows of an office beside its plans, and the version that its tables say.
+#[derive(Debug, Drop)]
+pub struct OtherRows {
+    pub version: i64,
+    pub office: [u8; 32],
+    pub published: Vec<CodeRow>,
+    pub desks: Vec<DeskRecord>,
+    pub binds: Vec<BindRecord>,
+    pub lags: Vec<LagRecord>,
+}
+
+/// All rows of the tables of a layout but for those of plans, or none where no office has such rows.
+pub fn others_in<S: Alter>(
     alloc: Global,
     conn: &mut Connection<S>,
     layout: Layout,
-) -> Result<Option<(i64, Tables)>, BookFault>
+) -> Result<Option<OtherRows>, BookFault>
     requires { IsReadable layout (state S.Store conn.old) }
-    ensures { Looks layout (state S.Store conn.old) (state S.Store conn.new) result (TakesRows layout (state S.Store conn.old).now) }
+    ensures { Looks layout (state S.Store conn.old) (state S.Store conn.new) result (TakesOthers layout (state S.Store conn.old).now) }
 {
     let Some(meta) = meta_taken(alloc, conn, layout)? else {
         return Ok(None);
@@ -182,21 +179,17 @@ pub fn tables_in<S: Alter>(
     let Some((published, desks)) = codes_and_desks(alloc, conn, layout)? else {
         return Ok(None);
     };
-    let Some(plans) = plans_taken(alloc, conn, layout)? else {
-        return Ok(None);
-    };
     let Some((binds, lags)) = binds_and_lags(alloc, conn, layout)? else {
         return Ok(None);
     };
     let version = meta.0;
     let office = meta.1;
-    let tables = Tables {
+    Ok(Some(OtherRows {
+        version,
         office,
         published,
         desks,
-        plans,
         binds,
         lags,
-    };
-    Ok(Some((version, tables)))
+    }))
 }

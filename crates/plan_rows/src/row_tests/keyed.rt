@@ -1,14 +1,16 @@
 //! Rows that have keys, each once.
 
-ghost use Rattle.std.specs.Prelude.{◌≡◌, IfOk};
+ghost use Rattle.std.specs.Prelude.{◌≡◌, List, IfOk};
+ghost use Rattle.plan_rows.specs.World.{Plan};
 ghost use Rattle.plan_rows.specs.Rules.{AllDiffer};
 ghost use Rattle.plan_rows.specs.Books.{published_in};
-ghost use Rattle.plan_rows.specs.Tables.{world_kept, desk_kept, plan_kept, bind_kept, lag_kept};
+ghost use Rattle.plan_rows.specs.Tables.{world_beside, desk_kept, plan_seen, bind_kept, lag_kept};
 ghost use Rattle.plan_rows.specs.RowTests.{Tells, KeysDiffer, RowKey, same_key};
-ghost use Rattle.plan_rows.specs.Reviewing.{AreKeys};
+ghost use Rattle.plan_rows.specs.Reviewing.{AreKeys, AreSeen};
 
+use crate::row_tests::beside::{Beside, PlanSeen};
 use crate::rows::CodeRow;
-use crate::tables::{BindRecord, DeskRecord, LagRecord, PlanRecord, Tables};
+use crate::tables::{BindRecord, DeskRecord, LagRecord};
 use std::alloc::{AllocError, Global};
 use std::collections::HashSet;
 
@@ -38,8 +40,8 @@ impl Keyed for DeskRecord {
     }
 }
 
-impl Keyed for PlanRecord {
-    ghost key_of = { λ row. ((plan_kept row).desk, (plan_kept row).n, 0, 0) };
+impl Keyed for PlanSeen {
+    ghost key_of = { λ row. ((plan_seen row).desk, (plan_seen row).n, 0, 0) };
 
     fn key(&self) -> (&str, u64, u64, u64) {
         (self.desk.as_str(), self.n, 0, 0)
@@ -97,20 +99,25 @@ pub fn keys_of<'a, T: Keyed>(
 }
 
 /// Whether the rows of each table have their keys once.
-pub fn keys_differ(alloc: Global, tables: &Tables) -> Result<bool, AllocError>
-    ensures { IfOk result (λ good. Tells good (KeysDiffer (world_kept tables.now))) }
+pub fn keys_differ(
+    alloc: Global,
+    beside: &Beside<'_>,
+    plans: &[PlanSeen],
+) -> Result<bool, AllocError>
+    ensures { (known : List Plan) → AreSeen known plans.now → IfOk result
+        (λ good. Tells good (KeysDiffer (world_beside beside.now known))) }
 {
-    if !all_differ(alloc, &tables.published)? {
+    if !all_differ(alloc, beside.published)? {
         return Ok(false);
     }
-    if !all_differ(alloc, &tables.desks)? {
+    if !all_differ(alloc, beside.desks)? {
         return Ok(false);
     }
-    if !all_differ(alloc, &tables.plans)? {
+    if !all_differ(alloc, plans)? {
         return Ok(false);
     }
-    if !all_differ(alloc, &tables.binds)? {
+    if !all_differ(alloc, beside.binds)? {
         return Ok(false);
     }
-    all_differ(alloc, &tables.lags)
+    all_differ(alloc, beside.lags)
 }

@@ -1,15 +1,16 @@
 //! Where rows stand by their keys, and how many plans each desk has.
 
-ghost use Rattle.std.specs.Prelude.{◌≡◌, IfOk, filter, length};
+ghost use Rattle.std.specs.Prelude.{◌≡◌, List, IfOk, filter, length};
 ghost use Rattle.std.specs.List.{position};
-ghost use Rattle.plan_rows.specs.declared.tables.Tables.{Tables as Kept};
+ghost use Rattle.plan_rows.specs.declared.row_tests.beside.Beside.{Beside as Others};
+ghost use Rattle.plan_rows.specs.declared.row_tests.beside.PlanSeen.{PlanSeen as Seen};
 ghost use Rattle.plan_rows.specs.World.{is_code, is_desk, is_plan, is_plan_of};
 ghost use Rattle.plan_rows.specs.Books.{published_in};
-ghost use Rattle.plan_rows.specs.Tables.{desk_kept, plan_kept};
+ghost use Rattle.plan_rows.specs.Tables.{desk_kept, plan_seen};
 ghost use Rattle.plan_rows.specs.RowTests.{AreFirst, AreCounts, ArePlaces};
 
+use crate::row_tests::beside::{Beside, PlanSeen};
 use crate::row_tests::keyed::Keyed;
-use crate::tables::{PlanRecord, Tables};
 use std::alloc::{AllocError, Global};
 use std::collections::HashMap;
 
@@ -28,10 +29,7 @@ fn places_of<'a, T: Keyed>(
 }
 
 // How many plans each desk has.
-fn counts_of<'a>(
-    alloc: Global,
-    rows: &'a [PlanRecord],
-) -> Result<HashMap<&'a str, usize>, AllocError>
+fn counts_of<'a>(alloc: Global, rows: &'a [PlanSeen]) -> Result<HashMap<&'a str, usize>, AllocError>
     ensures { IfOk result (λ counts. AreCounts counts rows.now) }
 {
     let mut counts = HashMap::new(alloc);
@@ -43,7 +41,7 @@ fn counts_of<'a>(
     Ok(counts)
 }
 
-/// Where the codes, desks and plans of tables stand, and how many plans each desk has.
+/// Where the codes, desks and plans of an office stand, and how many plans each desk has.
 #[derive(Drop)]
 pub struct Places<'a> {
     codes: HashMap<(&'a str, u64, u64, u64), usize>,
@@ -53,14 +51,18 @@ pub struct Places<'a> {
 }
 
 impl<'a> Places<'a> {
-    /// Those of these tables.
-    pub fn of(alloc: Global, tables: &'a Tables) -> Result<Places<'a>, AllocError>
-        ensures { IfOk result (ArePlaces tables.now) }
+    /// Those of these rows.
+    pub fn of(
+        alloc: Global,
+        beside: &Beside<'a>,
+        seen: &'a [PlanSeen],
+    ) -> Result<Places<'a>, AllocError>
+        ensures { IfOk result (ArePlaces beside.now seen.now) }
     {
-        let codes = places_of(alloc, &tables.published)?;
-        let desks = places_of(alloc, &tables.desks)?;
-        let plans = places_of(alloc, &tables.plans)?;
-        let counts = counts_of(alloc, &tables.plans)?;
+        let codes = places_of(alloc, beside.published)?;
+        let desks = places_of(alloc, beside.desks)?;
+        let plans = places_of(alloc, seen)?;
+        let counts = counts_of(alloc, seen)?;
         Ok(Places {
             codes,
             desks,
@@ -71,32 +73,32 @@ impl<'a> Places<'a> {
 
     /// The place of a code.
     pub fn code_at(&self, code: &str) -> Option<usize>
-        ensures { (t : Kept) → ArePlaces t self.now
-            → result ≡ position (λ row. is_code code.now (published_in row)) t.published.items }
+        ensures { (o : Others) (seen : List Seen) → ArePlaces o seen self.now
+            → result ≡ position (λ row. is_code code.now (published_in row)) o.published.now }
     {
         self.codes.get(&(code, 0, 0, 0)).copied()
     }
 
     /// The place of a desk.
     pub fn desk_at(&self, desk: &str) -> Option<usize>
-        ensures { (t : Kept) → ArePlaces t self.now
-            → result ≡ position (λ row. is_desk desk.now (desk_kept row)) t.desks.items }
+        ensures { (o : Others) (seen : List Seen) → ArePlaces o seen self.now
+            → result ≡ position (λ row. is_desk desk.now (desk_kept row)) o.desks.now }
     {
         self.desks.get(&(desk, 0, 0, 0)).copied()
     }
 
     /// The place of a plan.
     pub fn plan_at(&self, desk: &str, n: u64) -> Option<usize>
-        ensures { (t : Kept) → ArePlaces t self.now
-            → result ≡ position (λ row. is_plan desk.now n (plan_kept row)) t.plans.items }
+        ensures { (o : Others) (seen : List Seen) → ArePlaces o seen self.now
+            → result ≡ position (λ row. is_plan desk.now n (plan_seen row)) seen }
     {
         self.plans.get(&(desk, n, 0, 0)).copied()
     }
 
     /// How many plans a desk has.
     pub fn count_plans(&self, desk: &str) -> usize
-        ensures { (t : Kept) → ArePlaces t self.now
-            → result ≡ length (filter (λ row. is_plan_of desk.now (plan_kept row)) t.plans.items) }
+        ensures { (o : Others) (seen : List Seen) → ArePlaces o seen self.now
+            → result ≡ length (filter (λ row. is_plan_of desk.now (plan_seen row)) seen) }
     {
         self.counts.get(desk).copied().unwrap_or(0usize)
     }

@@ -1,33 +1,37 @@
-//! Plans that are tested one at a time: the file of each is let go once it is read.
+//! Plans that are tested one at a time, and the other rows beside them. The file of a plan may be let
+//! go once it was read.
 
-ghost use Rattle.std.specs.Prelude.{◌≡◌, ◌&&◌, ◌++◌, ◌∷◌, [], true, not, List, map, IfOk};
+ghost use Rattle.std.specs.Prelude.{◌≡◌, ◌&&◌, ◌++◌, ◌∷◌, [], true, not, List, IfOk};
 ghost use Rattle.std.specs.Bool.{MatchBool};
-ghost use Rattle.std.specs.Option.{MatchOption};
 ghost use Rattle.std.specs.List.{AllByRecursion, position};
 ghost use Rattle.plan_rows.specs.World.{Plan};
-ghost use Rattle.plan_rows.specs.Rules.{IsPlanRow};
-ghost use Rattle.plan_rows.specs.Tables.{plan_kept, lag_kept};
-ghost use Rattle.plan_rows.specs.RowTests.{GivesFile, HeldKey, AreFirst};
+ghost use Rattle.plan_rows.specs.Rules.{IsPlanRow, IsWorld};
+ghost use Rattle.plan_rows.specs.Tables.{world_beside, head_of, plan_kept, plan_seen};
+ghost use Rattle.plan_rows.specs.RowTests.{Tells, GivesFile, HeldKey, AreFirst};
 ghost use Rattle.plan_rows.specs.Reviewing.{holds_key, has_row, is_arc_key, key_at};
 ghost use Rattle.plan_rows.specs.Reviewing.{lag_key_of, is_owner, owner_key_of};
 ghost use Rattle.plan_rows.specs.Reviewing.{IsStruckBy, IsStruck, SomeLeft};
-ghost use Rattle.plan_rows.specs.Reviewing.{AreSized, HasReviewed, AreOnArcs};
+ghost use Rattle.plan_rows.specs.Reviewing.{HasReviewed};
 
+use crate::row_tests::beside::{Beside, PlanSeen};
 use crate::row_tests::files::PlanFile;
-use crate::row_tests::keyed::{Keyed, keys_of};
+use crate::row_tests::keyed::{Keyed, keys_differ, keys_of};
+use crate::row_tests::places::Places;
 use crate::row_tests::rows::read_row;
+use crate::row_tests::tested::rows_are_good;
+use crate::tables::digests::known_digest;
 use crate::tables::{LagRecord, PlanRecord};
 use std::alloc::{AllocError, Global};
 use std::collections::{HashMap, HashSet};
 
-/// Tests plans one at a time, beside the lags of all of them.
+/// Tests plans one at a time, beside the other rows of their office.
 #[derive(Drop)]
 pub struct Review<'a> {
     alloc: Global,
-    lags: &'a [LagRecord],
+    beside: Beside<'a>,
     owners: HashMap<(&'a str, u64, u64, u64), usize>,
     pending: HashSet<(&'a str, u64, u64, u64)>,
-    sizes: Vec<u64>,
+    plans: Vec<PlanSeen>,
 }
 
 // The key of the plan of a lag.
@@ -118,27 +122,40 @@ fn are_struck(pending: &HashSet<(&str, u64, u64, u64)>, rows: &[LagRecord]) -> b
     true
 }
 
+// What is kept of a plan that has so many places.
+fn seen(alloc: Global, row: &PlanRecord, places: u64) -> Result<PlanSeen, AllocError>
+    ensures head { IfOk result (λ seen. plan_seen seen ≡ head_of (plan_kept row.now)) }
+    ensures places { IfOk result (λ seen. seen.places ≡ places) }
+{
+    Ok(PlanSeen {
+        desk: String::from_str(alloc, row.desk.as_str())?,
+        n: row.n,
+        kind: row.kind,
+        places,
+    })
+}
+
 impl<'a> Review<'a> {
-    /// A review of plans that have these lags.
-    pub fn new(alloc: Global, lags: &'a [LagRecord]) -> Result<Review<'a>, AllocError>
+    /// A review of no plan so far, beside these rows.
+    pub fn new(alloc: Global, beside: Beside<'a>) -> Result<Review<'a>, AllocError>
         ensures fresh { IfOk result (HasReviewed []) }
-        ensures lags { IfOk result (λ review. review.lags.now ≡ lags.now) }
+        ensures beside { IfOk result (λ review. review.beside ≡ beside.entry) }
     {
-        let owners = owners_of(alloc, lags)?;
-        let pending = keys_of(alloc, lags)?;
+        let owners = owners_of(alloc, beside.lags)?;
+        let pending = keys_of(alloc, beside.lags)?;
         Ok(Review {
             alloc,
-            lags,
+            beside,
             owners,
             pending,
-            sizes: Vec::new(alloc),
+            plans: Vec::new(alloc),
         })
     }
 
     /// Whether the next plan keeps the rules of rows.
     pub fn read(&mut self, row: &PlanRecord) -> Result<bool, AllocError>
         requires { (plans : List Plan) × HasReviewed plans self.old }
-        ensures same { self.new.lags.now ≡ self.old.lags.now }
+        ensures same { self.new.beside ≡ self.old.beside }
         ensures told { (plans : List Plan) → HasReviewed plans self.old → IfOk result
             (λ good. MatchBool good
             (IsPlanRow (plan_kept row.now)
@@ -149,27 +166,29 @@ impl<'a> Review<'a> {
             return Ok(false);
         };
         strike(
-            self.lags,
+            self.beside.lags,
             owner_at(&self.owners, row),
             &mut self.pending,
             row,
             &file,
         );
-        self.sizes.push(file.places)?;
+        self.plans.push(seen(self.alloc, row, file.places)?)?;
         Ok(true)
     }
 
-    /// How many places each plan has, if each lag is on an arc of one of them.
-    pub fn end(self) -> Option<Vec<u64>>
-        ensures { (plans : List Plan) → HasReviewed plans self.entry → MatchOption result
-            (AreOnArcs plans (map lag_kept self.entry.lags.now) → ⊥)
-            (λ sizes. AreSized plans sizes.items
-            × AreOnArcs plans (map lag_kept self.entry.lags.now)) }
+    /// Whether all rows keep the rules of rows, where the plans are those that were read.
+    pub fn is_world(&self) -> Result<bool, AllocError>
+        ensures { (plans : List Plan) → HasReviewed plans self.now → IfOk result
+            (λ good. Tells good (IsWorld (world_beside self.now.beside plans))) }
     {
-        if are_struck(&self.pending, self.lags) {
-            Some(self.sizes)
-        } else {
-            None
+        known_digest(self.beside.office);
+        if !are_struck(&self.pending, self.beside.lags) {
+            return Ok(false);
         }
+        if !keys_differ(self.alloc, &self.beside, self.plans.as_slice())? {
+            return Ok(false);
+        }
+        let places = Places::of(self.alloc, &self.beside, self.plans.as_slice())?;
+        Ok(rows_are_good(&self.beside, self.plans.as_slice(), &places))
     }
 }

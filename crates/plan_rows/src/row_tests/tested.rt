@@ -1,21 +1,24 @@
 //! Rows that are tested beside the other tables.
 
-ghost use Rattle.std.specs.Prelude.{◌≡◌, true};
+ghost use Rattle.std.specs.Prelude.{◌≡◌, true, List, map};
 ghost use Rattle.std.specs.List.{AllByRecursion};
+ghost use Rattle.plan_rows.specs.declared.row_tests.beside.PlanSeen.{PlanSeen as Seen};
 ghost use Rattle.plan_rows.specs.World as spec;
+ghost use Rattle.plan_rows.specs.World.{Plan};
 ghost use Rattle.plan_rows.specs.Plans as plans;
 ghost use Rattle.plan_rows.specs.Names.{is_from_to};
 ghost use Rattle.plan_rows.specs.Rules as rules;
 ghost use Rattle.plan_rows.specs.Books.{published_in};
-ghost use Rattle.plan_rows.specs.Tables.{world_kept, desk_kept, plan_kept, bind_kept, lag_kept};
-ghost use Rattle.plan_rows.specs.RowTests.{Tells, ArePlaces, IsDeskOf};
-ghost use Rattle.plan_rows.specs.Reviewing.{AreSized};
+ghost use Rattle.plan_rows.specs.Tables.{world_beside, desk_kept, plan_seen, bind_kept, lag_kept};
+ghost use Rattle.plan_rows.specs.RowTests.{Tells, ArePlaces, IsDeskOf, RowsAreGood};
+ghost use Rattle.plan_rows.specs.Reviewing.{AreSeen};
 
 use crate::kinds::{Kind, PlanKind};
+use crate::row_tests::beside::{Beside, PlanSeen};
 use crate::row_tests::places::Places;
 use crate::row_tests::rows::{is_desk_row, is_published_row};
 use crate::rows::CodeRow;
-use crate::tables::{BindRecord, DeskRecord, LagRecord, PlanRecord, Tables};
+use crate::tables::{BindRecord, DeskRecord, LagRecord};
 
 // The most plans of a desk.
 const MOST_PLANS: usize = 100;
@@ -23,23 +26,22 @@ const MOST_PLANS: usize = 100;
 // The greatest lag of an arc.
 const GREATEST_LAG: u64 = 10_000;
 
-/// A row that is tested beside the other tables, and beside how many places the plans have, whose
-/// files were let go.
+/// A row that is tested beside the other rows, where the files of the plans were let go.
 pub trait Tested {
     /// It keeps its rules.
     ghost keeps: { spec.World → Self → Type 0 };
 
     /// Whether it keeps its rules.
-    fn is_good(&self, tables: &Tables, places: &Places<'_>, sizes: &[u64]) -> bool
-        requires sizes { AreSized (world_kept tables.now).plans sizes.now }
-        requires places { ArePlaces tables.now places.now }
-        ensures { Tells result (keeps (world_kept tables.now) self.now) };
+    fn is_good(&self, beside: &Beside<'_>, plans: &[PlanSeen], places: &Places<'_>) -> bool
+        requires places { ArePlaces beside.now plans.now places.now }
+        ensures { (known : List Plan) → AreSeen known plans.now
+            → Tells result (keeps (world_beside beside.now known) self.now) };
 }
 
 impl Tested for CodeRow {
     ghost keeps = { λ w row. rules.is_published_row (published_in row) ≡ true };
 
-    fn is_good(&self, _tables: &Tables, _places: &Places<'_>, _sizes: &[u64]) -> bool {
+    fn is_good(&self, _beside: &Beside<'_>, _plans: &[PlanSeen], _places: &Places<'_>) -> bool {
         is_published_row(self)
     }
 }
@@ -47,7 +49,7 @@ impl Tested for CodeRow {
 impl Tested for DeskRecord {
     ghost keeps = { λ w row. IsDeskOf w (desk_kept row) };
 
-    fn is_good(&self, _tables: &Tables, places: &Places<'_>, _sizes: &[u64]) -> bool {
+    fn is_good(&self, _beside: &Beside<'_>, _plans: &[PlanSeen], places: &Places<'_>) -> bool {
         if !is_desk_row(self) {
             return false;
         }
@@ -55,12 +57,12 @@ impl Tested for DeskRecord {
     }
 }
 
-impl Tested for PlanRecord {
-    ghost keeps = { λ w row. rules.IsOwned w (plan_kept row) };
+impl Tested for PlanSeen {
+    ghost keeps = { λ w row. rules.IsOwned w (plan_seen row) };
 
-    fn is_good(&self, tables: &Tables, places: &Places<'_>, _sizes: &[u64]) -> bool {
+    fn is_good(&self, beside: &Beside<'_>, _plans: &[PlanSeen], places: &Places<'_>) -> bool {
         match places.desk_at(self.desk.as_str()) {
-            Some(at) => self.n < tables.desks[at].next,
+            Some(at) => self.n < beside.desks[at].next,
             None => false,
         }
     }
@@ -85,13 +87,13 @@ fn is_taken(kind: PlanKind, code: Kind) -> bool
 }
 
 // Whether a code is published, and of the kind that a plan takes.
-fn has_code(tables: &Tables, places: &Places<'_>, kind: PlanKind, code: &str) -> bool
-    requires { ArePlaces tables.now places.now }
-    ensures { Tells result (rules.IsThereAnd (spec.code_in (world_kept tables.now).published code.now)
+fn has_code(beside: &Beside<'_>, places: &Places<'_>, kind: PlanKind, code: &str) -> bool
+    requires { (seen : List Seen) × ArePlaces beside.now seen places.now }
+    ensures { Tells result (rules.IsThereAnd (spec.code_in (map published_in beside.now.published.now) code.now)
         (λ row. spec.same_kind row.kind (spec.takes kind) ≡ true)) }
 {
     match places.code_at(code) {
-        Some(at) => is_taken(kind, tables.published[at].kind),
+        Some(at) => is_taken(kind, beside.published[at].kind),
         None => false,
     }
 }
@@ -99,15 +101,15 @@ fn has_code(tables: &Tables, places: &Places<'_>, kind: PlanKind, code: &str) ->
 impl Tested for BindRecord {
     ghost keeps = { λ w row. rules.IsBindRow w (bind_kept row) };
 
-    fn is_good(&self, tables: &Tables, places: &Places<'_>, sizes: &[u64]) -> bool {
+    fn is_good(&self, beside: &Beside<'_>, plans: &[PlanSeen], places: &Places<'_>) -> bool {
         let Some(at) = places.plan_at(self.desk.as_str(), self.n) else {
             return false;
         };
-        let kind = tables.plans[at].kind;
-        if !is_place(kind, sizes[at], self.place) {
+        let plan = &plans[at];
+        if !is_place(plan.kind, plan.places, self.place) {
             return false;
         }
-        has_code(tables, places, kind, self.code.as_str())
+        has_code(beside, places, plan.kind, self.code.as_str())
     }
 }
 
@@ -120,26 +122,47 @@ fn is_lag(lag: u64) -> bool
 impl Tested for LagRecord {
     ghost keeps = { λ w row. is_from_to 1 10000 (lag_kept row).lag ≡ true };
 
-    fn is_good(&self, _tables: &Tables, _places: &Places<'_>, _sizes: &[u64]) -> bool {
+    fn is_good(&self, _beside: &Beside<'_>, _plans: &[PlanSeen], _places: &Places<'_>) -> bool {
         is_lag(self.lag)
     }
 }
 
-/// Whether all rows of a table keep their rules.
-pub(crate) fn all_good<T: Tested>(
+// Whether all rows of a table keep their rules.
+fn all_good<T: Tested>(
     rows: &[T],
-    tables: &Tables,
+    beside: &Beside<'_>,
+    plans: &[PlanSeen],
     places: &Places<'_>,
-    sizes: &[u64],
 ) -> bool
-    requires sizes { AreSized (world_kept tables.now).plans sizes.now }
-    requires places { ArePlaces tables.now places.now }
-    ensures { Tells result (AllByRecursion (T.keeps (world_kept tables.now)) rows.now) }
+    requires places { ArePlaces beside.now plans.now places.now }
+    ensures { (known : List Plan) → AreSeen known plans.now
+        → Tells result (AllByRecursion (T.keeps (world_beside beside.now known)) rows.now) }
 {
     for row in rows {
-        if !row.is_good(tables, places, sizes) {
+        if !row.is_good(beside, plans, places) {
             return false;
         }
     }
     true
+}
+
+/// Whether the rows of all tables keep their rules beside the others, but for the arcs of lags.
+pub fn rows_are_good(beside: &Beside<'_>, plans: &[PlanSeen], places: &Places<'_>) -> bool
+    requires places { ArePlaces beside.now plans.now places.now }
+    ensures { (known : List Plan) → AreSeen known plans.now
+        → Tells result (RowsAreGood (world_beside beside.now known)) }
+{
+    if !all_good(beside.published, beside, plans, places) {
+        return false;
+    }
+    if !all_good(beside.desks, beside, plans, places) {
+        return false;
+    }
+    if !all_good(plans, beside, plans, places) {
+        return false;
+    }
+    if !all_good(beside.binds, beside, plans, places) {
+        return false;
+    }
+    all_good(beside.lags, beside, plans, places)
 }

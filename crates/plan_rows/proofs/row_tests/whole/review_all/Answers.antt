@@ -4,11 +4,11 @@ use Rattle.plan_rows.specs.Tables.{plan_kept}
 use Rattle.plan_rows.specs.Reviewing.{HasReviewed}
 use Rattle.plan_rows.proofs.RowTestLemmas.{take_all}
 use Rattle.plan_rows.proofs.TestedLemmas.{one_bad}
-use Rattle.plan_rows.proofs.ReviewLemmas.{match_true, match_false, take_more, review_end}
+use Rattle.plan_rows.proofs.ReviewLemmas.{match_true, match_false, take_more}
 use Rattle.plan_rows.proofs.row_tests.whole.review_all.Goals as goal
 
-pub returns-then-not-branch : goal.returns-then-not-branch
-returns-then-not-branch c = λ good on.
+pub returns-then-not-branch-clause-told : goal.returns-then-not-branch-clause-told
+returns-then-not-branch-clause-told c = λ good.
     let so_far = map plan_kept (take c.loop-plan.plan-index c.args.plans.now) in
     let plan = plan_kept c.plan-item.result in
     one_bad plan_kept IsPlanRow c.args.plans.now c.loop-plan.plan-index c.plan-item.result (omega arith) c.plan-item.is
@@ -24,8 +24,6 @@ loop-plan-preserved c =
       c.in_ok-read.ensures.same ∙ c.loop-plan.invariant.1,
     )
 
-pub returns : goal.returns
-returns c =
-    let so_far = map plan_kept (take c.loop-plan.plan-index c.args.plans.now) in
-    review_end c.end.result so_far (map plan_kept c.args.plans.now) c.loop-plan.review.lags.now c.args.lags.now (ap (map plan_kept) (take_all c.loop-plan.plan-index c.args.plans.now (omega arith)))
-    c.loop-plan.invariant.1 (c.end.ensures so_far c.loop-plan.invariant.0)
+pub returns-clause-told : goal.returns-clause-told
+returns-clause-told c =
+    subst (λ l. HasReviewed l c.loop-plan.review) (ap (map plan_kept) (take_all c.loop-plan.plan-index c.args.plans.now (omega arith))) c.loop-plan.invariant.0

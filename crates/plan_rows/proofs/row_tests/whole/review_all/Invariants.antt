@@ -5,4 +5,4 @@ use Rattle.plan_rows.proofs.row_tests.whole.review_all.Given as goal
 
 -- the plans so far were tested
 abbrev pub invariant-loop-plan : goal.invariant-loop-plan
-invariant-loop-plan l = HasReviewed (map plan_kept (take l.plan-index l.plans)) l.review × (l.review.lags.now ≡ l.lags)
+invariant-loop-plan l = HasReviewed (map plan_kept (take l.plan-index l.plans)) l.review × (l.review.beside ≡ l.fn.review.beside)

@@ -3,4 +3,4 @@ use Rattle.std.specs.Prelude.{unwrap_or}
 use Rattle.plan_rows.proofs.row_tests.places.Places.count_plans.Goals as goal
 
 pub returns : goal.returns
-returns c = λ t are. c.unwrap_or.ensures ∙ ap (λ o. unwrap_or o 0) (c.copied.ensures ∙ c.get.ensures.value) ∙ are.counts c.args.desk
+returns c = λ o seen are. c.unwrap_or.ensures ∙ ap (λ o. unwrap_or o 0) (c.copied.ensures ∙ c.get.ensures.value) ∙ are.counts c.args.desk

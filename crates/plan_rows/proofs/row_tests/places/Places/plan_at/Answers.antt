@@ -1,11 +1,11 @@
 use Rattle.std.proofs.Common.{◌∙◌}
 use Rattle.plan_rows.specs.World.{is_plan}
-use Rattle.plan_rows.specs.Tables.{plan_kept}
+use Rattle.plan_rows.specs.Tables.{plan_seen}
 use Rattle.plan_rows.specs.RowTests.{same_key}
 use Rattle.plan_rows.proofs.LookupLemmas.{position_as}
 use Rattle.plan_rows.proofs.KeyedLemmas.{plan_key}
 use Rattle.plan_rows.proofs.row_tests.places.Places.plan_at.Goals as goal
 
 pub returns : goal.returns
-returns c = λ t are. c.copied.ensures ∙ c.get.ensures.value ∙ are.plans (c.args.desk, c.args.n, 0, 0)
-    ∙ position_as (λ row. same_key (c.args.desk.now, c.args.n, 0, 0) ((plan_kept row).desk, (plan_kept row).n, 0, 0)) (λ row. is_plan c.args.desk.now c.args.n (plan_kept row)) (λ row. plan_key c.args.desk.now (plan_kept row).desk c.args.n (plan_kept row).n) t.plans.items
+returns c = λ o seen are. c.copied.ensures ∙ c.get.ensures.value ∙ are.plans (c.args.desk, c.args.n, 0, 0)
+    ∙ position_as (λ row. same_key (c.args.desk.now, c.args.n, 0, 0) ((plan_seen row).desk, (plan_seen row).n, 0, 0)) (λ row. is_plan c.args.desk.now c.args.n (plan_seen row)) (λ row. plan_key c.args.desk.now (plan_seen row).desk c.args.n (plan_seen row).n) seen
