@@ -4,3 +4,4 @@ pub mod ServeLemmas
 pub mod TurnLemmas
 pub mod InitLemmas
 pub mod ReplayLemmas
+pub mod SummaryLemmas

@@ -14,3 +14,4 @@ pub mod Adopting
 pub mod Opening
 pub mod OnDisk
 pub mod Taking
+pub mod Listing
