@@ -8,9 +8,7 @@ use clap::Error;
 use clap::error::ErrorKind;
 use plan_cli::{CliFault, check_on_files, explain_run, run_on_file};
 use plan_psplib::StdSink;
-use plan_serve::{
-    ServeFault, check_office_on_file, init_on_file, replay_on_files, serve_on_port,
-};
+use plan_serve::{ServeFault, check_office_on_file, init_on_file, replay_on_files, serve_on_port};
 use std::process::ExitCode;
 use std::{env, io};
 

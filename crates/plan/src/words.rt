@@ -405,7 +405,9 @@ fn file_order<'a>(name: &str, words: &'a ArgMatches<'_>) -> Option<FileOrder<'a>
 pub fn order_of<'a>(matches: &'a ArgMatches<'_>) -> Option<Order<'a>> {
     let (name, words) = matches.subcommand()?;
     match name {
-        "init" | "check-office" | "replay" | "serve" => Some(Order::Office(office_order(name, words)?)),
+        "init" | "check-office" | "replay" | "serve" => Some(Order::Office(office_order(
+            name, words,
+        )?)),
         _ => Some(Order::File(file_order(name, words)?)),
     }
 }

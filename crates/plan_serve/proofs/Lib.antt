@@ -5,3 +5,4 @@ pub mod TurnLemmas
 pub mod InitLemmas
 pub mod ReplayLemmas
 pub mod SummaryLemmas
+pub mod CheckLemmas

@@ -148,9 +148,12 @@ length-in_order before (x ∷ xs) = length-put before x (in_order before xs) ∙
 
 -- ---- all rows
 
-pub line_there : (w : World) (key : PlanKey) (row : PlanRow) → Matches (IsPlanAnswer (view (string_bytes key.desk) w)) (find (has_number key.n) (view (string_bytes key.desk) w).plans) (Some row)
+-- the line of the plan that a book answers of a key
+pub line_there : (w : World) (key : PlanKey) (row : PlanRow) (desk : Text) → desk ≡ string_bytes key.desk → Matches (IsPlanAnswer (view desk w)) (find (has_number key.n) (view desk w).plans) (Some row)
     → line_at w (key_in key) ≡ plan_line (plan_of key row)
-line_there w key row h = go (plan_in w (string_bytes key.desk) key.n) refl (subst (λ o. Matches (IsPlanAnswer (view (string_bytes key.desk) w)) o (Some row)) (sym (found_in_view w (string_bytes key.desk) key.n)) h)
+line_there w key row desk is_its h =
+    go (plan_in w (string_bytes key.desk) key.n) refl (subst (λ o. Matches (IsPlanAnswer (view (string_bytes key.desk) w)) o (Some row)) (sym (found_in_view w (string_bytes key.desk) key.n))
+    (subst (λ d. Matches (IsPlanAnswer (view d w)) (find (has_number key.n) (view d w).plans) (Some row)) is_its h))
   where
     go : (o : Option Plan) → plan_in w (string_bytes key.desk) key.n ≡ o → Matches (IsPlanAnswer (view (string_bytes key.desk) w)) o (Some row) → line_at w (key_in key) ≡ plan_line (plan_of key row)
     go None is h = absurd h

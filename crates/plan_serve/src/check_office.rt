@@ -13,6 +13,7 @@ use std::alloc::Global;
 
 /// Writes how many rows a book has in each table, and the digest of the text of all rows. Nothing is
 /// written unless all rows were read, and a fault of the writer is never tried again.
+#[tactic(auto, using(crate::proofs::CheckLemmas::none_written))]
 pub fn check_office_run<B: Listing, W: Sink>(
     alloc: Global,
     book: &mut B,

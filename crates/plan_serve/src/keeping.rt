@@ -113,6 +113,7 @@ pub(crate) fn replay_opened<S: Alter + Drop, W: Sink>(
 }
 
 /// Writes how many rows the office has that was opened, and a digest of them.
+#[tactic(auto, using(crate::proofs::CheckLemmas::printed, crate::proofs::CheckLemmas::printed_in_part))]
 pub(crate) fn check_opened<S: Alter + Drop, W: Sink>(
     alloc: Global,
     opened: Opened<S>,

@@ -90,11 +90,7 @@ pub(crate) fn office_line(alloc: Global, digest: &[u8; 32]) -> Result<String, Al
 }
 
 /// The line of a plan.
-pub(crate) fn plan_line(
-    alloc: Global,
-    key: &PlanKey,
-    plan: &PlanRow,
-) -> Result<String, AllocError>
+pub(crate) fn plan_line(alloc: Global, key: &PlanKey, plan: &PlanRow) -> Result<String, AllocError>
     ensures { IfOk result (λ line. string_bytes line ≡ spec.plan_line (plan_of key.now plan.now)) }
 {
     let name = hex::encode_upper(alloc, plan.name.as_str())?;

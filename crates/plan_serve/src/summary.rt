@@ -4,11 +4,12 @@ ghost use Rattle.std.specs.Prelude.{◌≡◌, IfOk, OnOk, string_bytes};
 ghost use Rattle.std.specs.List.{flat_map};
 ghost use Rattle.plan_store.specs.Listing.{key_in};
 ghost use Rattle.plan_serve.specs.CheckRun.{Takes, Looks};
+ghost use Rattle.plan_serve.specs.RowTexts as spec;
 ghost use Rattle.plan_serve.specs.RowTexts.{IsSummary, text_of};
-ghost use Rattle.plan_serve.specs.Summing.{line_at, lines_at, desk_lines, plan_lines, IsDigestOf, IsSummaryBy};
+ghost use Rattle.plan_serve.specs.Summing.{plan_of, line_at, lines_at, desk_lines, plan_lines, IsDigestOf, IsSummaryBy};
 
 use crate::lines::{Line, office_line, plan_line};
-use plan_rows::BookFault;
+use plan_rows::{BookFault, PlanRow};
 use plan_store::{Listing, PlanKey, RowsByKey};
 use sha2::{Digest, Sha256};
 use std::alloc::{AllocError, Global};
@@ -32,11 +33,7 @@ fn add_text(hasher: &mut Sha256, text: &str)
 }
 
 // Hands the lines of rows to a hasher.
-fn add_lines<T: Line>(
-    alloc: Global,
-    hasher: &mut Sha256,
-    rows: &[T],
-) -> Result<(), AllocError>
+fn add_lines<T: Line>(alloc: Global, hasher: &mut Sha256, rows: &[T]) -> Result<(), AllocError>
     ensures { OnOk result (Takes hasher.old hasher.new (flat_map T.written rows.now)) }
 {
     'all: for row in rows {
@@ -47,11 +44,8 @@ fn add_lines<T: Line>(
 }
 
 // Hands the digest of the office's key, the published codes and the desks to a hasher.
-fn add_desk_tables(
-    alloc: Global,
-    hasher: &mut Sha256,
-    rows: &RowsByKey,
-) -> Result<(), AllocError>
+#[tactic(auto, using(crate::proofs::SummaryLemmas::takes_then))]
+fn add_desk_tables(alloc: Global, hasher: &mut Sha256, rows: &RowsByKey) -> Result<(), AllocError>
     ensures { OnOk result (Takes hasher.old hasher.new (desk_lines rows.now)) }
 {
     let office = office_line(alloc, &rows.office)?;
@@ -61,15 +55,26 @@ fn add_desk_tables(
 }
 
 // Hands the binds and the lags to a hasher.
-fn add_plan_tables(
-    alloc: Global,
-    hasher: &mut Sha256,
-    rows: &RowsByKey,
-) -> Result<(), AllocError>
+#[tactic(auto, using(crate::proofs::SummaryLemmas::takes_then))]
+fn add_plan_tables(alloc: Global, hasher: &mut Sha256, rows: &RowsByKey) -> Result<(), AllocError>
     ensures { OnOk result (Takes hasher.old hasher.new (plan_lines rows.now)) }
 {
     add_lines(alloc, hasher, &rows.binds)?;
     add_lines(alloc, hasher, &rows.lags)
+}
+
+// Hands a plan to a hasher.
+fn add_row(
+    alloc: Global,
+    hasher: &mut Sha256,
+    key: &PlanKey,
+    plan: &PlanRow,
+) -> Result<(), AllocError>
+    ensures { OnOk result (Takes hasher.old hasher.new (spec.plan_line (plan_of key.now plan.now))) }
+{
+    let line = plan_line(alloc, key, plan)?;
+    add_text(hasher, line.as_str());
+    Ok(())
 }
 
 // Hands the plan of a key to a hasher.
@@ -81,12 +86,13 @@ fn add_plan<B: Listing>(
 ) -> Result<(), BookFault>
     ensures { Looks B.shelf book.old book.new (λ w _. Takes hasher.old hasher.new (line_at w (key_in key.now))) result }
 {
-    let Some(plan) = book.plan(key.desk.as_str(), key.n)? else {
-        return Err(BookFault::Store);
-    };
-    let line = plan_line(alloc, key, &plan)?;
-    add_text(hasher, line.as_str());
-    Ok(())
+    match book.plan(key.desk.as_str(), key.n)? {
+        Some(plan) => {
+            add_row(alloc, hasher, key, &plan)?;
+            Ok(())
+        }
+        None => Err(BookFault::Store),
+    }
 }
 
 // Hands the plans of keys to a hasher, one after another.
@@ -149,5 +155,7 @@ pub(crate) fn summary_text(alloc: Global, summary: &Summary) -> Result<String, A
     let hex = hex::encode(alloc, summary.digest.as_slice())?;
     let (desks, published, plans) = (summary.desks, summary.published, summary.plans);
     let (binds, lags, digest) = (summary.binds, summary.lags, hex.as_str());
-    format!(in alloc; "desks {desks}\npublished {published}\nplans {plans}\nbinds {binds}\nlags {lags}\nsha256 {digest}\n")
+    format!(in alloc;
+        "desks {desks}\npublished {published}\nplans {plans}\nbinds {binds}\nlags {lags}\nsha256 {digest}\n"
+    )
 }

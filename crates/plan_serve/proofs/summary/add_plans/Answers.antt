@@ -10,14 +10,9 @@ use Rattle.plan_serve.proofs.summary.add_plans.Goals as goal
 pub all-init : goal.all-init
 all-init g c = looks_here g.B.Book.shelf _ c.args.book.now tt (λ w. takes_none c.args.hasher.now)
 
-pub returns-in_err : goal.returns-in_err
-returns-in_err g c =
-    looks_lost g.B.Book.shelf _ c.args.book.now c.add_plan.new.book _
-    (quiet_then g.B.Book.shelf c.args.book.now c.all.book c.add_plan.new.book c.all.invariant.quiet c.add_plan.ensures.quiet) c.from_residual.ensures.0
-
 pub all-preserved : goal.all-preserved
 all-preserved g c =
-    looks_then g.B.Book.shelf _ _ _ c.args.book.now c.all.book c.add_plan.new.book tt tt tt c.all.invariant c.add_plan.ensures
+    looks_then g.B.Book.shelf _ _ _ c.args.book.now c.all.book c.add_plan.new.book tt tt tt c.all.invariant c.in_ok-add_plan.ensures
     (λ w before is. subst (Takes c.args.hasher.now c.add_plan.new.hasher)
     (lines_next (λ key. line_at w (key_in key)) c.args.keys.now c.all.key-index c.key-item.result _ c.all-test.true (sym c.key-item.is) refl)
     (takes_then c.args.hasher.now c.all.hasher c.add_plan.new.hasher _ _ before is))
