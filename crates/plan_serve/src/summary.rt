@@ -50,8 +50,8 @@ fn add_desk_tables(alloc: Global, hasher: &mut Sha256, rows: &RowsByKey) -> Resu
 {
     let office = office_line(alloc, &rows.office)?;
     add_text(hasher, office.as_str());
-    add_lines(alloc, hasher, &rows.published)?;
-    add_lines(alloc, hasher, &rows.desks)
+    add_lines(alloc, hasher, rows.published.as_slice())?;
+    add_lines(alloc, hasher, rows.desks.as_slice())
 }
 
 // Hands the binds and the lags to a hasher.
@@ -59,8 +59,8 @@ fn add_desk_tables(alloc: Global, hasher: &mut Sha256, rows: &RowsByKey) -> Resu
 fn add_plan_tables(alloc: Global, hasher: &mut Sha256, rows: &RowsByKey) -> Result<(), AllocError>
     ensures { OnOk result (Takes hasher.old hasher.new (plan_lines rows.now)) }
 {
-    add_lines(alloc, hasher, &rows.binds)?;
-    add_lines(alloc, hasher, &rows.lags)
+    add_lines(alloc, hasher, rows.binds.as_slice())?;
+    add_lines(alloc, hasher, rows.lags.as_slice())
 }
 
 // Hands a plan to a hasher.
@@ -120,7 +120,7 @@ fn digest_of<B: Listing>(
 {
     let mut hasher = Sha256::new();
     add_desk_tables(alloc, &mut hasher, rows)?;
-    add_plans(alloc, book, &mut hasher, &rows.plans)?;
+    add_plans(alloc, book, &mut hasher, rows.plans.as_slice())?;
     add_plan_tables(alloc, &mut hasher, rows)?;
     Ok(hasher.finalize())
 }
