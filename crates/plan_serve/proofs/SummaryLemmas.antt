@@ -148,6 +148,10 @@ length-in_order before (x ∷ xs) = length-put before x (in_order before xs) ∙
 
 -- ---- all rows
 
+all_unit : (xs : List Plan) → AllByRecursion (λ _. Unit {0}) xs
+all_unit [] = tt
+all_unit (x ∷ xs) = (tt, all_unit xs)
+
 -- the line of the plan that a book answers of a key
 pub line_there : (w : World) (key : PlanKey) (row : PlanRow) (desk : Text) → desk ≡ string_bytes key.desk → Matches (IsPlanAnswer (view desk w)) (find (has_number key.n) (view desk w).plans) (Some row)
     → line_at w (key_in key) ≡ plan_line (plan_of key row)
@@ -171,10 +175,6 @@ line_there w key row desk is_its h =
           start = sym h.start i;
           days = sym h.days i;
         })
-      where
-        all_unit : (xs : List Plan) → AllByRecursion (λ _. Unit {0}) xs
-        all_unit [] = tt
-        all_unit (x ∷ xs) = (tt, all_unit xs)
 
 module _ (w : World) (rows : RowsByKey) (are : AreRowsByKey w rows) where
   codes_are : flat_map (λ row. code_line (published_in row)) rows.published.items ≡ codes_text w
