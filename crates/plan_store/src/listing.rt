@@ -93,10 +93,7 @@ impl FromShown for LagRecord {
 }
 
 // All desks, by name.
-fn desks_in<S: Alter>(
-    alloc: Global,
-    conn: &mut Connection<S>,
-) -> Result<Vec<DeskRecord>, BookFault>
+fn desks_in<S: Alter>(alloc: Global, conn: &mut Connection<S>) -> Result<Vec<DeskRecord>, BookFault>
     requires ready { IsReady (state S.Store conn.old) }
     ensures { Asks (state S.Store conn.old) (state S.Store conn.new) result
         (λ rows. map desk_kept rows.items ≡ in_order desk_before (world_of (state S.Store conn.old).now.trees).desks) }
