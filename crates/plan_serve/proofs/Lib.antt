@@ -6,3 +6,4 @@ pub mod InitLemmas
 pub mod ReplayLemmas
 pub mod SummaryLemmas
 pub mod CheckLemmas
+pub mod LineLemmas

@@ -1,6 +1,5 @@
 -- What a hasher was given of the rows of an office, step by step.
 use Rattle.std.proofs.Common.{◌≡◌, ◌⊎◌, inl, inr, ℕ, suc, ◌+◌, ◌<◌, take, get_or, Bool, true, false, ◌==◌, List, [], ◌∷◌, ◌++◌, length, map, find, Option, Some, None, Result, Ok, Err, refl, sym, ap, ap₂, subst, ◌∙◌, arith, cond, string_bytes}
-use Rattle.std.specs.Prelude.{IsErr}
 use Rattle.std.specs.List.{flat_map, AllByRecursion}
 use Rattle.std.proofs.lemmas.Bool.{and_parts, both_ways, cases_Bool, cond-true, cond-false}
 use Rattle.std.proofs.lemmas.Bool.Decides.{nat_tests}
@@ -43,11 +42,6 @@ module _ {B : Type 0} (shelf : Shelf B) where
   -- nothing was read
   pub looks_here : {X : Type 0} (Is : World → X → Type 0) (a : B) (x : X) → ((w : World) → Is w x) → Looks shelf a a Is (Ok x)
   looks_here Is a x is = record { quiet = quiet_self shelf a; found = λ h s. (s, is (shelf.world a)) }
-
-  -- nothing came of it
-  pub looks_lost : {X : Type 0} (Is : World → X → Type 0) (a b : B) (result : Result X BookFault) → Quiet shelf a b → IsErr result → Looks shelf a b Is result
-  looks_lost Is a b (Ok x) q lost = absurd lost
-  looks_lost Is a b (Err e) q lost = record { quiet = q; found = tt }
 
   -- what was found, and then what is found
   pub looks_then : {X Y Z : Type 0} (Is : World → X → Type 0) (And : World → Y → Type 0) (Both : World → Z → Type 0) (a b c : B) (x : X) (y : Y) (z : Z)
@@ -104,13 +98,13 @@ is_plan_turned : (p q : Plan) → is_plan p.desk p.n q ≡ false → is_plan q.d
 is_plan_turned p q none = go (cases_Bool (is_plan q.desk q.n p))
   where
     go : (is_plan q.desk q.n p ≡ true) ⊎ (is_plan q.desk q.n p ≡ false) → is_plan q.desk q.n p ≡ false
-    go (inr no) = no
-    go (inl yes) =
-        let parts = and_parts (same_text p.desk q.desk) (p.n == q.n) yes in
+    go (inr differs) = differs
+    go (inl same) =
+        let parts = and_parts (same_text p.desk q.desk) (p.n == q.n) same in
         let desk : p.desk ≡ q.desk = (bytes_eq-Decides p.desk q.desk).0 parts.0 in
         let number : p.n ≡ q.n = let it = parts.1 in grind (arith, nat_tests) in
         let is : is_plan p.desk p.n q ≡ true = subst (λ d. is_plan d p.n q ≡ true) (sym desk) (subst (λ n. is_plan q.desk n q ≡ true) (sym number) (is_plan_itself q)) in
-        absurd (both_ways (is_plan p.desk p.n q) is none)
+        absurd (both_ways (is_plan p.desk p.n q) none is)
 
 -- a row that differs from every earlier one is found by its key
 found_at : (plans : List Plan) → AllDiffer (λ a b. is_plan a.desk a.n b) plans → AllByRecursion (λ plan. find (is_plan plan.desk plan.n) plans ≡ Some plan) plans

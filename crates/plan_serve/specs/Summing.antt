@@ -1,8 +1,9 @@
 -- What a hasher is given of the rows of an office that a book lists (docs/DEFINITIONS.md, "Runs").
-use Rattle.std.specs.Prelude.{◌≡◌, ℕ, List, [], ◌++◌, length, Option, Some, None, string_bytes}
+use Rattle.std.specs.Prelude.{◌≡◌, ℕ, List, [], ◌++◌, length, Option, Some, None, string_bytes, codes, decimal}
 use Rattle.std.specs.List.{flat_map}
 use Rattle.plan_rows.specs.declared.rows.PlanRow.{PlanRow}
 use Rattle.plan_rows.specs.World.{Text, Plan, World, plan_in}
+use Rattle.plan_rows.specs.Names.{plan_kind_text}
 use Rattle.plan_rows.specs.Books.{published_in}
 use Rattle.plan_rows.specs.Tables.{desk_kept, bind_kept, lag_kept}
 use Rattle.plan_store.specs.declared.listing.PlanKey.{PlanKey}
@@ -23,6 +24,11 @@ plan_of key plan = record {
   start = string_bytes plan.start;
   days = string_bytes plan.days;
 }
+
+-- the first words of its line
+abbrev pub plan_front : PlanKey → PlanRow → Text
+plan_front key plan =
+    codes "plan " ++ string_bytes key.desk ++ codes " " ++ decimal key.n ++ codes " " ++ plan_kind_text plan.kind
 
 -- the line of a plan that may be there
 abbrev pub line_of_plan : Option Plan → Text
@@ -51,6 +57,13 @@ plan_lines rows =
 -- the digest of all rows of an office, by those that were listed
 abbrev pub IsDigestOf : RowsByKey → World → List ℕ → Type 0
 IsDigestOf rows w digest = digest ≡ sha256 ((desk_lines rows ++ lines_at w rows.plans.items) ++ plan_lines rows)
+
+-- what is printed of a summary but its digest
+abbrev pub counts_text : Summary → Text
+counts_text summary =
+    codes "desks " ++ decimal summary.desks ++ codes "\npublished " ++ decimal summary.published
+    ++ codes "\nplans " ++ decimal summary.plans ++ codes "\nbinds " ++ decimal summary.binds
+    ++ codes "\nlags " ++ decimal summary.lags
 
 -- the summary by the rows that were listed
 pub record IsSummaryBy (rows : RowsByKey) (digest : List ℕ) (summary : Summary) : Type 0 where

@@ -6,7 +6,7 @@ ghost use Rattle.plan_rows.specs.Names as names;
 ghost use Rattle.plan_rows.specs.Books.{published_in};
 ghost use Rattle.plan_rows.specs.Tables.{desk_kept, bind_kept, lag_kept};
 ghost use Rattle.plan_serve.specs.RowTexts as spec;
-ghost use Rattle.plan_serve.specs.Summing.{plan_of};
+ghost use Rattle.plan_serve.specs.Summing.{plan_of, plan_front};
 
 use plan_rows::{BindRecord, CodeRow, DeskRecord, Kind, LagRecord, PlanKind, PlanRow};
 use plan_store::PlanKey;
@@ -89,14 +89,22 @@ pub(crate) fn office_line(alloc: Global, digest: &[u8; 32]) -> Result<String, Al
     format!(in alloc; "office {digest}\n")
 }
 
+// The first words of the line of a plan.
+fn plan_front(alloc: Global, key: &PlanKey, plan: &PlanRow) -> Result<String, AllocError>
+    ensures { IfOk result (λ text. string_bytes text ≡ plan_front key.now plan.now) }
+{
+    let (desk, n, kind) = (key.desk.as_str(), key.n, plan_kind_text(plan.kind));
+    format!(in alloc; "plan {desk} {n} {kind}")
+}
+
 /// The line of a plan.
 pub(crate) fn plan_line(alloc: Global, key: &PlanKey, plan: &PlanRow) -> Result<String, AllocError>
     ensures { IfOk result (λ line. string_bytes line ≡ spec.plan_line (plan_of key.now plan.now)) }
 {
+    let front = plan_front(alloc, key, plan)?;
     let name = hex::encode_upper(alloc, plan.name.as_str())?;
     let body = hex::encode_upper(alloc, plan.body.as_slice())?;
-    let (desk, n, kind) = (key.desk.as_str(), key.n, plan_kind_text(plan.kind));
-    let (name, body) = (name.as_str(), body.as_str());
+    let (front, name, body) = (front.as_str(), name.as_str(), body.as_str());
     let (start, days) = (plan.start.as_str(), plan.days.as_str());
-    format!(in alloc; "plan {desk} {n} {kind} {name} {body} {start} {days}\n")
+    format!(in alloc; "{front} {name} {body} {start} {days}\n")
 }

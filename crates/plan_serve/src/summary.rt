@@ -6,7 +6,7 @@ ghost use Rattle.plan_store.specs.Listing.{key_in};
 ghost use Rattle.plan_serve.specs.CheckRun.{Takes, Looks};
 ghost use Rattle.plan_serve.specs.RowTexts as spec;
 ghost use Rattle.plan_serve.specs.RowTexts.{IsSummary, text_of};
-ghost use Rattle.plan_serve.specs.Summing.{plan_of, line_at, lines_at, desk_lines, plan_lines, IsDigestOf, IsSummaryBy};
+ghost use Rattle.plan_serve.specs.Summing.{plan_of, line_at, lines_at, desk_lines, plan_lines, IsDigestOf, IsSummaryBy, counts_text};
 
 use crate::lines::{Line, office_line, plan_line};
 use plan_rows::{BookFault, PlanRow};
@@ -148,14 +148,23 @@ pub(crate) fn summary_of<B: Listing>(alloc: Global, book: &mut B) -> Result<Summ
     Ok(summary_by(&rows, digest))
 }
 
+// How many rows there are, as it is printed.
+fn counts_text(alloc: Global, summary: &Summary) -> Result<String, AllocError>
+    ensures { IfOk result (λ text. string_bytes text ≡ counts_text summary.now) }
+{
+    let (desks, published, plans) = (summary.desks, summary.published, summary.plans);
+    let (binds, lags) = (summary.binds, summary.lags);
+    format!(in alloc;
+        "desks {desks}\npublished {published}\nplans {plans}\nbinds {binds}\nlags {lags}"
+    )
+}
+
 /// What is printed of it.
 pub(crate) fn summary_text(alloc: Global, summary: &Summary) -> Result<String, AllocError>
     ensures { IfOk result (λ text. string_bytes text ≡ text_of summary.now) }
 {
+    let counts = counts_text(alloc, summary)?;
     let hex = hex::encode(alloc, summary.digest.as_slice())?;
-    let (desks, published, plans) = (summary.desks, summary.published, summary.plans);
-    let (binds, lags, digest) = (summary.binds, summary.lags, hex.as_str());
-    format!(in alloc;
-        "desks {desks}\npublished {published}\nplans {plans}\nbinds {binds}\nlags {lags}\nsha256 {digest}\n"
-    )
+    let (counts, digest) = (counts.as_str(), hex.as_str());
+    format!(in alloc; "{counts}\nsha256 {digest}\n")
 }
