@@ -1,5 +1,5 @@
 -- What a hasher was given of the rows of an office, step by step.
-use Rattle.std.proofs.Common.{◌≡◌, ◌⊎◌, inl, inr, ℕ, suc, ◌+◌, ◌<◌, take, get_or, Bool, true, false, ◌==◌, List, [], ◌∷◌, ◌++◌, length, map, find, Option, Some, None, Result, Ok, Err, refl, sym, ap, ap₂, subst, ◌∙◌, arith, cond, string_bytes}
+use Rattle.std.proofs.Common.{◌≡◌, ◌⊎◌, inl, inr, ℕ, suc, ◌+◌, ◌<◌, take, get_or, Bool, true, false, ◌==◌, List, [], ◌∷◌, ◌++◌, length, map, find, Option, Some, None, Ok, refl, sym, ap, ap₂, subst, ◌∙◌, arith, cond, string_bytes}
 use Rattle.std.specs.List.{flat_map, AllByRecursion}
 use Rattle.std.proofs.lemmas.Bool.{and_parts, both_ways, cases_Bool, cond-true, cond-false}
 use Rattle.std.proofs.lemmas.Bool.Decides.{nat_tests}
@@ -10,7 +10,6 @@ use Rattle.std.proofs.lemmas.Slice.Eq.{bytes_eq-Decides}
 use Rattle.sha2.specs.declared.Sha256.{Sha256}
 use Rattle.sha2.specs.Hashers.{Holds256}
 use Rattle.sha2.specs.Sha256.{sha256}
-use Rattle.plan_rows.specs.declared.fault.BookFault.{BookFault}
 use Rattle.plan_rows.specs.declared.rows.PlanRow.{PlanRow}
 use Rattle.plan_rows.specs.World.{Text, Plan, World, same_text, is_plan, plan_in}
 use Rattle.plan_rows.specs.Views.{view}
@@ -19,7 +18,6 @@ use Rattle.plan_rows.specs.Rules.{AllDiffer, IsWorld}
 use Rattle.plan_rows.specs.Books.{Shelf, Matches, IsPlanAnswer, published_in}
 use Rattle.plan_rows.specs.Tables.{desk_kept, bind_kept, lag_kept}
 use Rattle.plan_rows.proofs.RuleLemmas.{found_has}
-use Rattle.plan_desk.specs.Deciding.{Quiet}
 use Rattle.plan_desk.proofs.DecidingLemmas.{quiet_self, quiet_then}
 use Rattle.plan_store.specs.declared.listing.PlanKey.{PlanKey}
 use Rattle.plan_store.specs.declared.listing.RowsByKey.{RowsByKey}

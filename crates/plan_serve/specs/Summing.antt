@@ -1,5 +1,6 @@
 -- What a hasher is given of the rows of an office that a book lists (docs/DEFINITIONS.md, "Runs").
-use Rattle.std.specs.Prelude.{◌≡◌, ℕ, List, [], ◌++◌, length, Option, Some, None, string_bytes, codes, decimal}
+use Rattle.std.specs.Prelude.{◌≡◌, ℕ, List, [], ◌++◌, length, Option, Some, None, string_bytes}
+use Rattle.std.specs.Prelude.{codes, decimal}
 use Rattle.std.specs.List.{flat_map}
 use Rattle.plan_rows.specs.declared.rows.PlanRow.{PlanRow}
 use Rattle.plan_rows.specs.World.{Text, Plan, World, plan_in}
@@ -28,7 +29,8 @@ plan_of key plan = record {
 -- the first words of its line
 abbrev pub plan_front : PlanKey → PlanRow → Text
 plan_front key plan =
-    codes "plan " ++ string_bytes key.desk ++ codes " " ++ decimal key.n ++ codes " " ++ plan_kind_text plan.kind
+    codes "plan " ++ string_bytes key.desk ++ codes " " ++ decimal key.n ++ codes " "
+    ++ plan_kind_text plan.kind
 
 -- the line of a plan that may be there
 abbrev pub line_of_plan : Option Plan → Text

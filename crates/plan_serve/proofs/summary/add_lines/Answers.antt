@@ -1,4 +1,4 @@
-use Rattle.std.proofs.Common.{sym, subst, take, ◌∙◌}
+use Rattle.std.proofs.Common.{sym, subst, ◌∙◌}
 use Rattle.std.proofs.lemmas.List.{take_all}
 use Rattle.std.specs.List.{flat_map}
 use Rattle.plan_serve.specs.CheckRun.{Takes}

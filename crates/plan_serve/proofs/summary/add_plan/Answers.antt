@@ -1,4 +1,4 @@
-use Rattle.std.proofs.Common.{◌∙◌, sym, subst, Some}
+use Rattle.std.proofs.Common.{sym, subst}
 use Rattle.plan_rows.specs.Books.{Matches}
 use Rattle.plan_desk.proofs.DecidingLemmas.{quiet_reads}
 use Rattle.plan_serve.specs.CheckRun.{Takes}

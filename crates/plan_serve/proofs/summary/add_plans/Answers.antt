@@ -1,9 +1,8 @@
-use Rattle.std.proofs.Common.{sym, subst, take, refl, Ok}
+use Rattle.std.proofs.Common.{sym, subst, refl}
 use Rattle.std.proofs.lemmas.List.{take_all}
 use Rattle.plan_serve.specs.CheckRun.{Takes}
 use Rattle.plan_serve.specs.Summing.{line_at, lines_at}
 use Rattle.plan_store.specs.Listing.{key_in}
-use Rattle.plan_desk.proofs.DecidingLemmas.{quiet_then}
 use Rattle.plan_serve.proofs.SummaryLemmas.{takes_none, takes_then, lines_next, looks_here, looks_then, looks_as}
 use Rattle.plan_serve.proofs.summary.add_plans.Goals as goal
 

@@ -1,5 +1,5 @@
-use Rattle.std.proofs.Common.{◌≡◌, IfOk, string_bytes, [], ◌∷◌, ap, ap₂, subst, ◌∙◌, refl}
-use Rattle.std.specs.Prelude.{codes, decimal}
+use Rattle.std.proofs.Common.{◌≡◌, IfOk, string_bytes, [], ◌∷◌, ap, ap₂, subst, ◌∙◌}
+use Rattle.std.specs.Prelude.{codes}
 use Rattle.hex.specs.Hex.{encode_lower}
 use Rattle.plan_serve.proofs.LineLemmas.{from_left, turned}
 use Rattle.plan_serve.proofs.summary.summary_text.Goals as goal

@@ -1,4 +1,4 @@
-use Rattle.std.proofs.Common.{◌≡◌, IfOk, string_bytes, List, [], ◌∷◌, ap, subst, ◌∙◌}
+use Rattle.std.proofs.Common.{◌≡◌, IfOk, string_bytes, [], ◌∷◌, ap, subst, ◌∙◌}
 use Rattle.std.specs.Prelude.{codes, decimal}
 use Rattle.plan_serve.proofs.LineLemmas.{from_left, turned}
 use Rattle.plan_serve.proofs.lines.CodeRowLine.line.Goals as goal
