@@ -216,3 +216,13 @@ SELECT 'binds|' || desk || '|' || n || '|' || place || '|' || code FROM binds;
 SELECT 'lags|' || desk || '|' || n || '|' || src || '|' || dst || '|' || lag FROM lags;
 PRAGMA integrity_check;
 """
+
+# The text of all rows whose digest `plan check-office` prints, as docs/SERVICE.md has it.
+ROWS = """
+SELECT 'office ' || office FROM meta;
+SELECT 'published ' || code || ' ' || kind || ' ' || capacity FROM published ORDER BY code;
+SELECT 'desk ' || desk || ' ' || digest || ' ' || next FROM desks ORDER BY desk;
+SELECT 'plan ' || desk || ' ' || n || ' ' || kind || ' ' || hex(name) || ' ' || hex(body) || ' ' || start || ' ' || days FROM plans ORDER BY desk, n;
+SELECT 'bind ' || desk || ' ' || n || ' ' || place || ' ' || code FROM binds ORDER BY desk, n, place;
+SELECT 'lag ' || desk || ' ' || n || ' ' || src || ' ' || dst || ' ' || lag FROM lags ORDER BY desk, n, src, dst;
+"""

@@ -2,13 +2,14 @@
 databases by the sqlite3 shell."""
 
 import contextlib
+import hashlib
 import os
 import shutil
 import socket
 import subprocess
 import time
 
-from exchanges import DUMP, OFFICE_KEY, TOP
+from exchanges import DUMP, OFFICE_KEY, ROWS, TOP
 
 PROGRAM = os.environ.get("PLAN_PROGRAM") or os.path.join(TOP, "crates", "plan", "out", "plan")
 
@@ -137,6 +138,15 @@ def rows(database, room):
     lines = shell.stdout.split("\n")
     same("sqlite3 on the file", (shell.stderr, lines[-2:]), ("", ["ok", ""]))
     return sorted(lines[:-2])
+
+
+def summary_by_shell(database):
+    """What `plan check-office` is to print of a database, by the sqlite3 shell and Python's SHA-256."""
+    tables = ("desks", "published", "plans", "binds", "lags")
+    counts = "".join(f"SELECT '{table} ' || count(*) FROM {table};" for table in tables)
+    told = [told_by_sqlite(database, text) for text in (counts, ROWS)]
+    same("sqlite3 on the file", [shell.stderr for shell in told], ["", ""])
+    return f"{told[0].stdout}sha256 {hashlib.sha256(told[1].stdout.encode()).hexdigest()}\n".encode()
 
 
 def sql(database, text):

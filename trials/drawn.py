@@ -1,6 +1,6 @@
 #!/usr/bin/env python3
 """Tries drawn requests: the program and the model beside it answer the same bytes, and keep the
-same rows. Every run of one seed draws the same requests.
+same rows, of which `plan check-office` says what the sqlite3 shell does. Every run of one seed draws the same requests.
 
     trials/drawn.py                     says nothing where all is well
     trials/drawn.py --cases N --seed S  so many requests, drawn by this seed
@@ -29,6 +29,7 @@ sys.path.insert(0, os.path.join(os.path.dirname(HERE), "clients"))
 from drawing import OFFICE_KEY, Draw, Requests, command
 from exchanges import DUMP, TOP
 from model import run
+from programs import summary_by_shell
 
 PROGRAM = os.environ.get("PLAN_PROGRAM") or os.path.join(TOP, "crates", "plan", "out", "plan")
 # A folder in memory, where there is one: on a disk most of the time goes into waiting for it.
@@ -104,6 +105,11 @@ class Store:
         return sorted(lines[:-2])
 
 
+    def summary(self):
+        """What `plan check-office` prints, and what the sqlite3 shell says of the copy."""
+        return self.run("check-office", self.database), summary_by_shell(os.path.join(self.folder, "copy.db"))
+
+
 def free_port():
     with socket.socket() as taken:
         taken.bind(("127.0.0.1", 0))
@@ -172,6 +178,9 @@ def try_drawn(cases=20000, seed=1, is_verbose=False):
             compare(seed, done, exchanges, found)
             done += size
             compare_rows(seed, done, store.rows(), drawn.office.rows())
+            summary, wanted = store.summary()
+            if summary != wanted:
+                differ(f"seed {seed}, plan check-office after request {done}", summary, wanted)
     tell(is_verbose, f"{done} requests by seed {seed}", drawn.tally)
 
 

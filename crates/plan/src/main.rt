@@ -8,7 +8,7 @@ use clap::Error;
 use clap::error::ErrorKind;
 use plan_cli::{CliFault, check_on_files, explain_run, run_on_file};
 use plan_psplib::StdSink;
-use plan_serve::{ServeFault, init_on_file, replay_on_files, serve_on_port};
+use plan_serve::{ServeFault, check_office_on_file, init_on_file, replay_on_files, serve_on_port};
 use std::process::ExitCode;
 use std::{env, io};
 
@@ -40,10 +40,14 @@ fn office_end(done: Result<(), ServeFault>) -> End {
     }
 }
 
-// Makes an office in a file, or serves it.
+// Makes an office in a file, tests it, or serves it.
 fn do_office_order(rt: &HostRuntime, order: OfficeOrder<'_>) -> Result<(), ServeFault> {
     match order {
         OfficeOrder::Init { database } => init_on_file(rt, database),
+        OfficeOrder::Check { database } => {
+            let mut writer = StdSink::new(io::writer(rt));
+            check_office_on_file(rt, database, &mut writer)
+        }
         OfficeOrder::Replay { database, requests } => {
             let mut writer = StdSink::new(io::writer(rt));
             replay_on_files(rt, database, requests, &mut writer)

@@ -25,6 +25,10 @@ pub enum OfficeOrder<'a> {
     Init {
         database: &'a str,
     },
+    /// How many rows it has, and a digest of them.
+    Check {
+        database: &'a str,
+    },
     /// Its responses to connections, each in a file.
     Replay {
         database: &'a str,
@@ -116,7 +120,7 @@ const DATABASE: Word = (
     "the file in which an office is kept, an SQLite database",
 );
 
-const COMMANDS: [Entry; 14] = [
+const COMMANDS: [Entry; 15] = [
     (
         "cpm",
         "Prints the date table of a project",
@@ -212,6 +216,12 @@ const COMMANDS: [Entry; 14] = [
         "init",
         "Makes an office in a file; its key is the first line of standard input",
         "Example:\n  plan init office.db < office.key",
+        &[DATABASE],
+    ),
+    (
+        "check-office",
+        "Tests every row of an office, and prints how many there are and a digest of them",
+        "Example:\n  plan check-office office.db",
         &[DATABASE],
     ),
     (
@@ -364,6 +374,7 @@ fn office_order<'a>(name: &str, words: &'a ArgMatches<'_>) -> Option<OfficeOrder
     let database = words.get_str("DB")?;
     match name {
         "init" => Some(OfficeOrder::Init { database }),
+        "check-office" => Some(OfficeOrder::Check { database }),
         "replay" => Some(OfficeOrder::Replay {
             database,
             requests: words.get_strs("REQ")?,
@@ -394,7 +405,9 @@ fn file_order<'a>(name: &str, words: &'a ArgMatches<'_>) -> Option<FileOrder<'a>
 pub fn order_of<'a>(matches: &'a ArgMatches<'_>) -> Option<Order<'a>> {
     let (name, words) = matches.subcommand()?;
     match name {
-        "init" | "replay" | "serve" => Some(Order::Office(office_order(name, words)?)),
+        "init" | "check-office" | "replay" | "serve" => Some(Order::Office(office_order(
+            name, words,
+        )?)),
         _ => Some(Order::File(file_order(name, words)?)),
     }
 }

@@ -4,3 +4,6 @@ pub mod ServeLemmas
 pub mod TurnLemmas
 pub mod InitLemmas
 pub mod ReplayLemmas
+pub mod SummaryLemmas
+pub mod CheckLemmas
+pub mod LineLemmas

@@ -7,3 +7,6 @@ pub mod Serve
 pub mod Turns
 pub mod Logs
 pub mod Ports
+pub mod RowTexts
+pub mod Summing
+pub mod CheckRun

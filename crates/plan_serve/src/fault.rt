@@ -1,8 +1,9 @@
 //! Why a command that keeps an office failed.
 
-ghost use Rattle.std.specs.Prelude.{◌≡◌};
+ghost use Rattle.std.specs.Prelude.{◌≡◌, ◌⊎◌};
 ghost use Rattle.plan_serve.specs.Faults.{fault_of};
 
+use plan_rows::BookFault;
 use plan_store::StoreFault;
 use thiserror::Error;
 
@@ -85,5 +86,15 @@ pub(crate) fn told(fault: StoreFault) -> ServeFault
         StoreFault::Version => ServeFault::Version,
         StoreFault::NoMemory => ServeFault::Memory,
         StoreFault::Store => ServeFault::Store,
+    }
+}
+
+/// The fault of a command whose book has a fault.
+pub(crate) fn book_told(fault: BookFault) -> ServeFault
+    ensures { (result ≡ ServeFault.Memory) ⊎ (result ≡ ServeFault.Store) }
+{
+    match fault {
+        BookFault::NoMemory => ServeFault::Memory,
+        BookFault::Store => ServeFault::Store,
     }
 }

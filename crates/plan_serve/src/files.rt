@@ -4,13 +4,14 @@ ghost use Rattle.std.specs.Prelude.{◌≡◌, ◌⊎◌, ◌+◌, ◌≤◌, le
 ghost use Rattle.sqlite.specs.Held.{IsNew};
 ghost use Rattle.plan_psplib.specs.Devices.{most_calls, HasFailed};
 ghost use Rattle.plan_store.specs.declared.fault.StoreFault.TheVariants.{NoMemory, Store};
+ghost use Rattle.plan_serve.specs.CheckRun.{IsPrinted, IsPrintedInPart};
 ghost use Rattle.plan_serve.specs.InitRun.{IsInitFault};
 ghost use Rattle.plan_serve.specs.ReplayRun.{AreAnswered, AreAnsweredInPart};
 ghost use Rattle.plan_serve.specs.Serve.{IsServeFault};
 
 use crate::fault::ServeFault;
 use crate::init::Place;
-use crate::keeping::{Ended, init_at, replay_opened, serve_opened};
+use crate::keeping::{Ended, check_opened, init_at, replay_opened, serve_opened};
 use crate::looking::{look, refusal};
 use crate::requests::read_connection;
 use crate::service::Service;
@@ -163,6 +164,32 @@ pub fn replay_on_files<W: Sink>(
         Err(fault) => return Err(fault),
     };
     replay_at(rt, path, &conns, writer)
+}
+
+/// `plan check-office`: tests every row of the office in the file of this name, and writes how many
+/// there are in each table and a digest of them.
+pub fn check_office_on_file<W: Sink>(
+    rt: &HostRuntime,
+    path: &str,
+    writer: &mut W,
+) -> Result<(), ServeFault>
+    ensures ok { OnOk result (IsPrinted (W.taken writer.old) (W.taken writer.new)) }
+    ensures part { IsErrOf result ServeFault.Output → IsPrintedInPart (W.taken writer.old) (W.taken writer.new) }
+    ensures writes { W.calls writer.new ≤ W.calls writer.old + most_calls }
+    // Nothing is written with any other fault than that of the output.
+    ensures silent { IfErr result (λ e. (e ≡ ServeFault.Output) ⊎ (writer.new ≡ writer.old)) }
+    ensures fine { OnOk result (W.faults writer.new ≡ W.faults writer.old) }
+    ensures output { IsErrOf result ServeFault.Output →
+        HasFailed (W.calls writer.old) (W.calls writer.new) (W.faults writer.old) (W.faults writer.new) }
+{
+    if let Err(fault) = look(rt, path) {
+        return Err(fault);
+    }
+    let opened = SqlBook::open_from(rt, path, Unknown);
+    match closed(check_opened(rt.alloc(), opened, writer)) {
+        Err(ServeFault::Store) => Err(refusal(rt, path, Unknown)),
+        done => done,
+    }
 }
 
 /// `plan serve`: serves so many connections on a port of this machine alone, by the office in a file.

@@ -3,11 +3,13 @@
 ghost use Rattle.std.specs.Prelude.{◌≡◌, ◌≢◌, ◌⊎◌, ◌+◌, ◌≤◌, length, Ok, IfOk, IfErr, IsErrOf, OnOk, MatchResult};
 ghost use Rattle.plan_psplib.specs.Devices.{most_calls, HasFailed};
 ghost use Rattle.plan_serve.specs.Causes.{IsPortCause};
+ghost use Rattle.plan_serve.specs.CheckRun.{ChecksFrom, IsPrinted, IsPrintedInPart};
 ghost use Rattle.plan_serve.specs.InitRun.{IsInitFault};
 ghost use Rattle.plan_serve.specs.ReplayRun.{AreAnswered, AreAnsweredInPart};
 ghost use Rattle.plan_serve.specs.Serve.{IsServeFault};
 ghost use Rattle.plan_serve.specs.Ports.{ServesFrom};
 
+use crate::check_office::check_office_run;
 use crate::fault::{ServeFault, told};
 use crate::init::{Place, init_run};
 use crate::replay::replay_run;
@@ -108,6 +110,30 @@ pub(crate) fn replay_opened<S: Alter + Drop, W: Sink>(
     };
     let (done, book) = replay_over(alloc, book, conns, writer);
     (done, connection_of(book))
+}
+
+/// Writes how many rows the office has that was opened, and a digest of them.
+#[tactic(auto, using(crate::proofs::CheckLemmas::printed, crate::proofs::CheckLemmas::printed_in_part))]
+pub(crate) fn check_opened<S: Alter + Drop, W: Sink>(
+    alloc: Global,
+    opened: Opened<S>,
+    writer: &mut W,
+) -> Ended<S>
+    ensures ok { OnOk result.0 (MatchResult opened (λ book. ChecksFrom ⟦<SqlBook<S> as Book>⟧.shelf book (W.taken writer.old) (W.taken writer.new)) (λ _. ⊥)) }
+    ensures printed { OnOk result.0 (IsPrinted (W.taken writer.old) (W.taken writer.new)) }
+    ensures part { IsErrOf result.0 ServeFault.Output → IsPrintedInPart (W.taken writer.old) (W.taken writer.new) }
+    ensures writes { W.calls writer.new ≤ W.calls writer.old + most_calls }
+    ensures silent { IfErr result.0 (λ e. (e ≡ ServeFault.Output) ⊎ (writer.new ≡ writer.old)) }
+    ensures fine { OnOk result.0 (W.faults writer.new ≡ W.faults writer.old) }
+    ensures output { IsErrOf result.0 ServeFault.Output →
+        HasFailed (W.calls writer.old) (W.calls writer.new) (W.faults writer.old) (W.faults writer.new) }
+{
+    let mut book = match book_of(opened) {
+        Ok(book) => book,
+        Err(fault) => return (Err(fault), None),
+    };
+    let done = check_office_run(alloc, &mut book, writer);
+    (done, Some(book.into_connection()))
 }
 
 // Why nothing can listen on a port, by what the system tells.

@@ -2,12 +2,14 @@
 //! are answered, and connections of a socket are.
 #![tactic(auto)]
 
+mod check_office;
 mod fault;
 mod files;
 mod first_line;
 mod init;
 mod keeping;
 mod key;
+mod lines;
 mod log;
 mod looking;
 mod replay;
@@ -16,10 +18,12 @@ mod room;
 mod service;
 mod side;
 mod socket;
+mod summary;
 mod visitors;
 
+pub use check_office::check_office_run;
 pub use fault::ServeFault;
-pub use files::{init_on_file, replay_on_files, serve_on_port};
+pub use files::{check_office_on_file, init_on_file, replay_on_files, serve_on_port};
 pub use init::{Place, init_run};
 pub use key::read_key;
 pub use replay::replay_run;
@@ -27,4 +31,5 @@ pub use requests::read_connection;
 pub use service::Service;
 pub use side::Side;
 pub use socket::serve_listener;
+pub use summary::Summary;
 pub use visitors::{Visitors, serve_visitors};

@@ -14,6 +14,8 @@ pub mod AskingLemmas
 pub mod QueryLemmas
 pub mod ShownLemmas
 pub mod ReadLemmas
+pub mod ListingMeanings
+pub mod ListingLemmas
 pub mod NumberedLemmas
 pub mod CreateMeanings
 pub mod CreateLemmas

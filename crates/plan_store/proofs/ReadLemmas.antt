@@ -53,16 +53,16 @@ use Rattle.plan_store.proofs.QueryLemmas.{rows_by_number, rows_sorted, sorted_al
 use Rattle.plan_store.proofs.ReadMeanings as means
 
 -- the answer of a query
-read_query : (text : List ℕ) (q : Query) (names : List (List ℕ)) → meaning_of text ≡ Select (alone q) names → (db : Database) (params : Row) (rows : List Row)
+pub read_query : (text : List ℕ) (q : Query) (names : List (List ℕ)) → meaning_of text ≡ Select (alone q) names → (db : Database) (params : Row) (rows : List Row)
     → Reads (meaning_of text) db params rows → IsAnswer q (overlay db.trees []) params rows
 read_query text q names is db params rows h = (subst (λ k. Reads k db params rows) is h).answer Null
 
 -- ---- kinds are told by their texts
 
-same_texts : (a b : List ℕ) → Text a ≡ Text b → a ≡ b
+pub same_texts : (a b : List ℕ) → Text a ≡ Text b → a ≡ b
 same_texts a b e = ap text_in e
 
-same_numbers : (a b : ℕ) → Int (pos a) ≡ Int (pos b) → a ≡ b
+pub same_numbers : (a b : ℕ) → Int (pos a) ≡ Int (pos b) → a ≡ b
 same_numbers a b e = ap number_in e
 
 same_kinds : (a b : Kind) → Text (kind_text a) ≡ Text (kind_text b) → a ≡ b
@@ -124,7 +124,7 @@ filter_both p q (x ∷ xs) =
     elim (p x) as (λ b. filter q (cond b (x ∷ filter p xs) (filter p xs)) ≡ cond (b && q x) (x ∷ filter (λ y. p y && q y) xs) (filter (λ y. p y && q y) xs))
     [ true ↦ ap (λ l. cond (q x) (x ∷ l) l) (filter_both p q xs) | false ↦ filter_both p q xs ]
 
-filter_true : {A : Type 0} (xs : List A) → filter (λ _. true) xs ≡ xs
+pub filter_true : {A : Type 0} (xs : List A) → filter (λ _. true) xs ≡ xs
 filter_true [] = refl
 filter_true (x ∷ xs) = ap (λ l. x ∷ l) (filter_true xs)
 
@@ -154,12 +154,12 @@ then_less Less = refl
 then_less Equal = refl
 then_less Greater = refl
 
-turned : (o : Ordering) → is_gt (ordering_reverse o) ≡ is_lt o
+pub turned : (o : Ordering) → is_gt (ordering_reverse o) ≡ is_lt o
 turned Less = refl
 turned Equal = refl
 turned Greater = refl
 
-then_low : (c : Ordering) (m n : ℤ) → m <ℤ n → is_gt (ordering_then c (int_cmp m n)) ≡ is_gt c
+pub then_low : (c : Ordering) (m n : ℤ) → m <ℤ n → is_gt (ordering_then c (int_cmp m n)) ≡ is_gt c
 then_low c m n low = ap (λ o. is_gt (ordering_then c o)) (Less-from_lt m n low) ∙ then_less c
 
 above : (a b : ℕ) → is_gt (int_cmp (pos a) (pos b)) ≡ nat_lt b a

@@ -15,3 +15,4 @@ pub mod Opening
 pub mod OnDisk
 pub mod Taking
 pub mod Reviewed
+pub mod Listing

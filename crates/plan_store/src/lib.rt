@@ -9,6 +9,7 @@ mod creating;
 mod fault;
 mod layout;
 mod leftover;
+mod listing;
 mod migrating;
 mod numbers;
 mod on_disk;
@@ -25,4 +26,5 @@ mod writing;
 
 pub use fault::StoreFault;
 pub use leftover::Leftover;
+pub use listing::{Listing, PlanKey, RowsByKey};
 pub use sql_book::SqlBook;

@@ -24,8 +24,8 @@ use sqlite::types::ValueRef;
 use sqlite::{Alter, Connection, params};
 use std::alloc::Global;
 
-// All rows of an answer.
-fn list_in<S: Alter, T: FromShown>(
+/// All rows of an answer.
+pub fn list_in<S: Alter, T: FromShown>(
     alloc: Global,
     conn: &mut Connection<S>,
     text: &str,

@@ -18,6 +18,7 @@ use crate::calls::Calls;
 use crate::creating::{is_empty, make_tables};
 use crate::fault::StoreFault;
 use crate::leftover::Leftover;
+use crate::listing::{Listing, RowsByKey, rows_in};
 use crate::reading::{capacity_found, codes_in, desk_found, office_in, plan_any, plans_in};
 use crate::rereading::reread;
 use crate::writing::{
@@ -244,5 +245,11 @@ impl<S: Alter> Book for SqlBook<S> {
     ) -> Result<(), BookFault> {
         let answer = set_lag_any(&mut self.conn, desk, n, from, to, lag);
         self.calls.count(answer)
+    }
+}
+
+impl<S: Alter> Listing for SqlBook<S> {
+    fn list(&mut self) -> Result<RowsByKey, BookFault> {
+        rows_in(self.alloc, &mut self.conn)
     }
 }

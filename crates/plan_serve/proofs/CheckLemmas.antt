@@ -1,0 +1,28 @@
+-- What was written of a summary.
+use Rattle.std.proofs.Common.{◌≡◌, ◌⊎◌, inl, inr, Option, Result, Ok, Err, sym, subst}
+use Rattle.std.specs.Prelude.{OnOk, IsErrOf}
+use Rattle.plan_rows.specs.World.{Text}
+use Rattle.plan_rows.specs.Books.{Shelf}
+use Rattle.plan_desk.specs.Deciding.{Quiet}
+use Rattle.plan_serve.specs.declared.fault.ServeFault.{ServeFault}
+use Rattle.plan_serve.specs.declared.fault.ServeFault.TheVariants as fault
+use Rattle.plan_serve.specs.CheckRun.{Writes, ChecksFrom, IsPrinted, IsPrintedInPart}
+
+module _ {B : Type 0} (shelf : Shelf B) (old new : B) (taken after : Option Text) where
+  -- nothing was written
+  pub none_written : (e : ServeFault) → (e ≡ fault.Memory) ⊎ (e ≡ fault.Store) → after ≡ taken → Writes shelf old new taken after (Err e)
+  none_written e (inl is) same = subst (λ f. Writes shelf old new taken after (Err f)) (sym is) same
+  none_written e (inr is) same = subst (λ f. Writes shelf old new taken after (Err f)) (sym is) same
+
+  -- what was written is that of some summary
+  pub printed : (r : Result (Unit {0}) ServeFault) → Writes shelf old new taken after r → OnOk r (IsPrinted taken after)
+  printed (Ok done) w = (w.0, w.2)
+  printed (Err e) w = tt
+
+  pub printed_in_part : (r : Result (Unit {0}) ServeFault) → Writes shelf old new taken after r → IsErrOf r fault.Output → IsPrintedInPart taken after
+  printed_in_part r w is = let it = subst (Writes shelf old new taken after) is w in (it.0, it.1, it.3, it.4)
+
+  -- what was written whole is that of the book
+  pub checks : (r : Result (Unit {0}) ServeFault) → Quiet shelf old new → Writes shelf old new taken after r → OnOk r (ChecksFrom shelf old taken after)
+  checks (Ok done) quiet w = (new, quiet, w)
+  checks (Err e) quiet w = tt

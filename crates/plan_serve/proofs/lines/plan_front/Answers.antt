@@ -1,0 +1,10 @@
+use Rattle.std.proofs.Common.{◌≡◌, IfOk, string_bytes, [], ◌∷◌, ap, subst, ◌∙◌}
+use Rattle.std.specs.Prelude.{codes, decimal}
+use Rattle.plan_serve.proofs.LineLemmas.{from_left, turned}
+use Rattle.plan_serve.proofs.lines.plan_front.Goals as goal
+
+pub returns : goal.returns
+returns c =
+    subst (λ t. IfOk c.format.result (λ line. string_bytes line ≡ t))
+    (turned (codes "plan ") (c.as_str-desk.result.now ∷ codes " " ∷ decimal c.args.key.now.n ∷ codes " " ∷ c.plan_kind_text-kind.result.now ∷ [])
+    ∙ ap (from_left (codes "plan ")) (λ i. c.as_str-desk.ensures.value i ∷ codes " " ∷ decimal c.args.key.now.n ∷ codes " " ∷ c.plan_kind_text-kind.ensures i ∷ [])) c.format.ensures.ok

@@ -1,0 +1,52 @@
+-- What it is to test an office and print how many rows it has (docs/DEFINITIONS.md, "Runs").
+use Rattle.std.specs.Prelude.{◌≡◌, ℕ, ◌<◌, List, ◌++◌, Option, length, take, Result, Ok, Err, IfOk}
+use Rattle.std.specs.Io.KnownBytes.{Appends}
+use Rattle.sha2.specs.declared.Sha256.{Sha256}
+use Rattle.sha2.specs.Hashers.{Holds256}
+use Rattle.plan_rows.specs.declared.fault.BookFault.{BookFault}
+use Rattle.plan_rows.specs.World.{Text, World}
+use Rattle.plan_rows.specs.Books.{Shelf}
+use Rattle.plan_desk.specs.Deciding.{Quiet}
+use Rattle.plan_serve.specs.declared.summary.Summary.{Summary}
+use Rattle.plan_serve.specs.declared.fault.ServeFault.{ServeFault}
+use Rattle.plan_serve.specs.declared.fault.ServeFault.TheVariants as fault
+use Rattle.plan_serve.specs.RowTexts.{IsSummary, text_of}
+
+-- a hasher has taken a text
+abbrev pub Takes : Sha256 → Sha256 → Text → Type 0
+Takes old new text = (m : List ℕ) → Holds256 old m → Holds256 new (m ++ text)
+
+module _ {B : Type 0} (shelf : Shelf B) (old new : B) where
+  -- something is read of the rows of a book that can be seen, and nothing was written
+  pub record Looks {X : Type 0} (Is : World → X → Type 0) (result : Result X BookFault) : Type 0 where
+    pub quiet : Quiet shelf old new
+    pub found : IfOk result (λ x. shelf.honest new → shelf.stands old → shelf.stands new × Is (shelf.world old) x)
+
+  -- this is the summary of what the book holds
+  abbrev pub IsSummed : Summary → Type 0
+  IsSummed summary = shelf.honest new → shelf.stands old → shelf.stands new × IsSummary (shelf.world old) summary
+
+  -- The summary of the rows was written whole, or a part of it where the output failed; or nothing
+  -- was written, for want of memory or since the store refused.
+  abbrev pub Writes : Option Text → Option Text → Result (Unit {0}) ServeFault → Type 0
+  Writes taken after (Ok _) = (summary : Summary) × IsSummed summary × Appends taken after (text_of summary)
+  Writes taken after (Err fault.Output) =
+      (summary : Summary) × (n : ℕ) × IsSummed summary × (n < length (text_of summary))
+      × Appends taken after (take n (text_of summary))
+  Writes taken after (Err fault.Memory) = after ≡ taken
+  Writes taken after (Err fault.Store) = after ≡ taken
+  Writes taken after (Err e) = ⊥
+
+-- the rows of a book were summed, and the summary written whole
+abbrev pub ChecksFrom : {B : Type 0} → Shelf B → B → Option Text → Option Text → Type 0
+ChecksFrom {B} shelf book taken after =
+    (next : B) × Quiet shelf book next × Writes shelf book next taken after (Ok tt)
+
+-- a summary was written whole, or in part
+abbrev pub IsPrinted : Option Text → Option Text → Type 0
+IsPrinted taken after = (summary : Summary) × Appends taken after (text_of summary)
+
+abbrev pub IsPrintedInPart : Option Text → Option Text → Type 0
+IsPrintedInPart taken after =
+    (summary : Summary) × (n : ℕ) × (n < length (text_of summary))
+    × Appends taken after (take n (text_of summary))
