@@ -7,8 +7,8 @@ function __plan_names
     set -l words (commandline -opc)
     plan names $words[$argv[1]] 2>/dev/null
 end
-complete -c plan -n 'test (count (commandline -opc)) -eq 1' -f -a 'cpm schedule chart days best-project check shop best prove names explain init replay serve help'
-complete -c plan -n '__plan_at 2 help' -f -a 'cpm schedule chart days best-project check shop best prove names explain init replay serve'
+complete -c plan -n 'test (count (commandline -opc)) -eq 1' -f -a 'cpm schedule chart days best-project check shop best prove names explain init check-office replay serve help'
+complete -c plan -n '__plan_at 2 help' -f -a 'cpm schedule chart days best-project check shop best prove names explain init check-office replay serve'
 complete -c plan -n '__plan_at 2 schedule' -f -a 'lft slk spt mts num'
 complete -c plan -n '__plan_at 2 chart days' -f -a 'lft slk spt mts num mwkr fcfs'
 complete -c plan -n '__plan_at 4 chart shop best prove' -f -a '(__plan_names 4)'
