@@ -3,7 +3,7 @@ use Rattle.std.specs.Prelude.{◌≡◌, ℕ, ◌≤◌, List, length, EachIndex
 use Rattle.plan_net.specs.Network.{count_of}
 use Rattle.plan_sgs.specs.Problem.{IsActive, makespan}
 use Rattle.plan_sgs.specs.Instances.{Planned, problem_of}
-use Rattle.plan_sgs.specs.Keys.{word_of}
+use Rattle.plan_sgs.specs.Keys.{rule_text}
 use Rattle.plan_sgs.specs.declared.rule.Rule.{Rule}
 use Rattle.plan_sgs.specs.declared.schedule.Schedule.{Schedule}
 use Rattle.plan_shop.specs.Shop.{JobShop, count_steps}
@@ -17,13 +17,13 @@ use Rattle.plan_gantt.specs.ShopText.{rule_starts}
 -- the starts are those of the active schedule of an instance by the rule of a name
 pub record IsScheduleBy (name : List ℕ) (i : Planned) (starts : List ℕ) : Type 0 where
   pub rule : Rule
-  pub named : name ≡ word_of rule
+  pub named : name ≡ rule_text rule
   pub schedule : IsSchedule i rule starts
 
 -- the starts are those of the active schedule of a shop by the rule of a name, all machines open
 pub record IsShopScheduleBy (name : List ℕ) (s : JobShop) (starts : List ℕ) : Type 0 where
   pub rule : ShopRule
-  pub named : name ≡ shop_names.word_of rule
+  pub named : name ≡ shop_names.rule_text rule
   pub starts_are : starts ≡ rule_starts rule s
   pub active : IsActive (shops.problem_of s) starts
 
@@ -42,7 +42,7 @@ pub record IsMadeBy (rule : Rule) (i : Planned) (schedule : Schedule) : Type 0 w
 
 -- the same, by the rule of a name
 abbrev pub IsMade : List ℕ → Planned → Schedule → Type 0
-IsMade name i schedule = (rule : Rule) × (name ≡ word_of rule) × IsMadeBy rule i schedule
+IsMade name i schedule = (rule : Rule) × (name ≡ rule_text rule) × IsMadeBy rule i schedule
 
 -- the schedule of a shop by a rule, as code keeps it
 pub record IsMadeOfShopBy (rule : ShopRule) (s : JobShop) (schedule : Schedule) : Type 0 where
@@ -54,4 +54,4 @@ pub record IsMadeOfShopBy (rule : ShopRule) (s : JobShop) (schedule : Schedule) 
 -- the same, by the rule of a name
 abbrev pub IsMadeOfShop : List ℕ → JobShop → Schedule → Type 0
 IsMadeOfShop name s schedule =
-    (rule : ShopRule) × (name ≡ shop_names.word_of rule) × IsMadeOfShopBy rule s schedule
+    (rule : ShopRule) × (name ≡ shop_names.rule_text rule) × IsMadeOfShopBy rule s schedule

@@ -16,7 +16,7 @@ use Rattle.plan_orlib.proofs.ShopLemmas.{shop_spelled}
 use Rattle.plan_shop.specs.declared.rule.ShopRule.{ShopRule}
 use Rattle.plan_shop.specs.declared.rule.ShopRule.TheVariants as rule
 use Rattle.plan_shop.specs.declared.fault.ShopFault.TheVariants as shop_fault
-use Rattle.plan_shop.specs.Names.{word_of}
+use Rattle.plan_shop.specs.Names.{rule_text}
 use Rattle.plan_shop.specs.Shop.{IsShop}
 use Rattle.plan_shop.specs.Rules.{spt}
 use Rattle.plan_shop.specs.Laws.{RuleIsActive}
@@ -593,7 +593,7 @@ closed_schedule key open_ = admitted _ key _ _ _ open_ (
 )
 
 -- no rule has this name
-no_such_rule : (r : ShopRule) → codes "lpt" ≡ word_of r → ⊥
+no_such_rule : (r : ShopRule) → codes "lpt" ≡ rule_text r → ⊥
 no_such_rule rule.ShortestTime e = grind (arith, e)
 no_such_rule rule.MostWorkRemaining e = grind (arith, e)
 no_such_rule rule.FirstCome e = grind (arith, e)

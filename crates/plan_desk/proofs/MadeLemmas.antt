@@ -3,7 +3,7 @@ use Rattle.std.proofs.Common.{◌≡◌, ◌⊎◌, inl, inr, ℕ, ◌+◌, ◌�
 use Rattle.std.specs.Prelude.{All, Result, Ok, Err, IfOk, string_bytes}
 use Rattle.plan_sgs.specs.Problem.{IsActive, count, duration, makespan}
 use Rattle.plan_sgs.specs.Instances.{Planned, problem_of}
-use Rattle.plan_sgs.specs.Keys.{word_of, IsRuleSchedule}
+use Rattle.plan_sgs.specs.Keys.{rule_text, IsRuleSchedule}
 use Rattle.plan_sgs.specs.Placing.{AllEndBy}
 use Rattle.plan_sgs.specs.Placing as placing
 use Rattle.plan_sgs.specs.declared.rule.Rule.{Rule}
@@ -32,7 +32,7 @@ use Rattle.plan_desk.specs.PlanValues.{open_in}
 use Rattle.plan_desk.specs.Scheduled.{IsMade, IsMadeOfShop, TellsUnscheduled}
 
 -- the schedule of a rule
-made_by : (i : Planned) (name : Text) (rule : Rule) (s : Schedule) → name ≡ word_of rule → IsRuleSchedule i rule s.starts.items → IsActive (problem_of i) s.starts.items
+made_by : (i : Planned) (name : Text) (rule : Rule) (s : Schedule) → name ≡ rule_text rule → IsRuleSchedule i rule s.starts.items → IsActive (problem_of i) s.starts.items
     → s.makespan ≡ makespan (problem_of i) s.starts.items → AllEndBy (problem_of i) s.starts.items placing.latest_end → s.makespan ≤ placing.latest_end → IsMade i name s
 made_by i name rule s named by active is ends few = record {
   by = record { rule = rule; named = named; schedule = record { scheduled = by; active = active } };
@@ -48,7 +48,7 @@ made_by i name rule s named by active is ends few = record {
 }
 
 -- what the call of a rule answers
-pub made_result : (i : Planned) (name : Text) (rule : Rule) (r : Result Schedule SgsFault) → name ≡ word_of rule
+pub made_result : (i : Planned) (name : Text) (rule : Rule) (r : Result Schedule SgsFault) → name ≡ rule_text rule
     → IfOk r (λ s. IsRuleSchedule i rule s.starts.items) → IfOk r (λ s. IsActive (problem_of i) s.starts.items) → IfOk r (λ s. s.makespan ≡ makespan (problem_of i) s.starts.items)
     → IfOk r (λ s. AllEndBy (problem_of i) s.starts.items placing.latest_end) → IfOk r (λ s. s.makespan ≤ placing.latest_end) → IfOk r (IsMade i name)
 made_result i name rule (Ok s) named by active is ends few = made_by i name rule s named by active is ends few
@@ -71,7 +71,7 @@ shop_ends s starts small active within =
         omega (arith, early, short, lasts)
 
 -- the schedule of a rule for a shop
-pub made_of_shop : (s : JobShop) (usable : List Bool) (name : Text) (rule : ShopRule) (m : Schedule) → IsSmallShop s → name ≡ shop_names.word_of rule
+pub made_of_shop : (s : JobShop) (usable : List Bool) (name : Text) (rule : ShopRule) (m : Schedule) → IsSmallShop s → name ≡ shop_names.rule_text rule
     → NoneIsClosed s.steps usable → m.starts.items ≡ rule_starts rule s → IsActive (shops.problem_of s) m.starts.items
     → m.makespan ≡ makespan (shops.problem_of s) m.starts.items → All (λ t. t ≤ 10000000) m.starts.items → IsMadeOfShop s usable name m
 made_of_shop s usable name rule m small named opened are active is within = record {

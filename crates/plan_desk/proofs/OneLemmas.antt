@@ -155,7 +155,7 @@ closed_told_once s usable x y (m, first, e) (n, second, f) =
     e ∙ ap (λ k. shop_fault_text_of (shop_fault.MachineClosed k)) (shops.closed_once s.steps usable m n first second) ∙ sym f
 
 -- a name is no rule's, or some rule's
-no_rule_not_named : (name line : Text) (rule : ShopRule) → TellsNoRule name line → name ≡ shop_names.word_of rule → ⊥
+no_rule_not_named : (name line : Text) (rule : ShopRule) → TellsNoRule name line → name ≡ shop_names.rule_text rule → ⊥
 no_rule_not_named name line rule (first, refused, e) named = refused.1 rule named
 
 shop_refusal_once : (name : Text) (s : JobShop) (usable : List Bool) → IsUnique (TellsShopRefusal name s usable)

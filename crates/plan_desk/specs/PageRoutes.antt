@@ -5,7 +5,7 @@
 use Rattle.std.specs.Prelude.{◌≡◌, ◌⊎◌, ℕ, Bool, List, length, nat_eq}
 use Rattle.plan_sgs.specs.Problem.{makespan}
 use Rattle.plan_sgs.specs.Instances.{Planned, problem_of}
-use Rattle.plan_sgs.specs.Keys.{word_of}
+use Rattle.plan_sgs.specs.Keys.{rule_text}
 use Rattle.plan_sgs.specs.declared.rule.Rule.{Rule}
 use Rattle.plan_shop.specs.Shop.{JobShop}
 use Rattle.plan_shop.specs.Shop as shops
@@ -44,7 +44,7 @@ Dates v n = of_plan v n (λ plan. by_kind plan.kind
 -- the starts are those of the active schedule of an instance by the rule of a name
 pub record IsScheduleBy (i : Planned) (name : Text) (starts : List ℕ) : Type 0 where
   pub rule : Rule
-  pub named : name ≡ word_of rule
+  pub named : name ≡ rule_text rule
   pub schedule : IsSchedule i rule starts
 
 -- the schedule of a project by the rule of a name, or why there is none: a need that is too much,
@@ -65,13 +65,13 @@ TellsClosed s usable line =
 abbrev pub TellsShopRefusal : Text → JobShop → List Bool → Text → Type 0
 TellsShopRefusal name s usable line =
     TellsNoRule name line
-    ⊎ (((rule : ShopRule) × (name ≡ shop_names.word_of rule)) × TellsClosed s usable line)
+    ⊎ (((rule : ShopRule) × (name ≡ shop_names.rule_text rule)) × TellsClosed s usable line)
 
 -- the starts are those of the active schedule of a shop by the rule of a name, all machines in use
 -- open
 pub record IsShopScheduleBy (s : JobShop) (usable : List Bool) (name : Text) (starts : List ℕ) : Type 0 where
   pub rule : ShopRule
-  pub named : name ≡ shop_names.word_of rule
+  pub named : name ≡ shop_names.rule_text rule
   pub opened : NoneIsClosed s.steps usable
   pub starts_are : starts ≡ rule_starts rule s
   pub active : IsActive (shops.problem_of s) starts

@@ -15,29 +15,11 @@ use plan_rows::{CodeRow, Kind, PlanEntry, PlanKind};
 use std::alloc::{AllocError, Global};
 use std::fmt::Write;
 
-fn kind_text(kind: Kind) -> &'static str
-    ensures { result.now ≡ names.kind_text kind }
-{
-    match kind {
-        Kind::Crew => "crew",
-        Kind::Machine => "machine",
-    }
-}
-
-fn plan_kind_text(kind: PlanKind) -> &'static str
-    ensures { result.now ≡ names.plan_kind_text kind }
-{
-    match kind {
-        PlanKind::Project => "project",
-        PlanKind::Shop => "shop",
-    }
-}
-
 // A published code.
 fn push_code(text: &mut String, code: &str, kind: Kind, capacity: u64) -> Result<(), AllocError>
     ensures { OnOk result (string_bytes text.new ≡ string_bytes text.old ++ spec.code_text code.now kind capacity) }
 {
-    let kind = kind_text(kind);
+    let kind = kind.word();
     write!(
         text,
         "{{\"capacity\":{capacity},\"code\":\"{code}\",\"kind\":\"{kind}\"}}"
@@ -48,7 +30,7 @@ fn push_code(text: &mut String, code: &str, kind: Kind, capacity: u64) -> Result
 fn push_plan(text: &mut String, entry: &PlanEntry) -> Result<(), AllocError>
     ensures { OnOk result (string_bytes text.new ≡ string_bytes text.old ++ texts.text_of_entry entry.now) }
 {
-    let kind = plan_kind_text(entry.kind);
+    let kind = entry.kind.word();
     let n = entry.n;
     write!(text, "{{\"kind\":\"{kind}\",\"n\":{n}}}")
 }

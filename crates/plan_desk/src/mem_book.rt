@@ -102,6 +102,10 @@ impl Book for MemBook {
         Ok(self.tables.plans(self.alloc, desk)?)
     }
 
+    fn count_plans(&mut self, desk: &str) -> Result<usize, BookFault> {
+        Ok(self.tables.plans(self.alloc, desk)?.len())
+    }
+
     fn plan(&mut self, desk: &str, n: u64) -> Result<Option<PlanRow>, BookFault> {
         Ok(self.tables.plan(self.alloc, desk, n)?)
     }

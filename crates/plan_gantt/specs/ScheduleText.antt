@@ -3,7 +3,7 @@
 use Rattle.std.specs.Prelude.{◌≡◌, ◌⊎◌, ℕ, List}
 use Rattle.plan_sgs.specs.Problem.{IsActive, NeedsFit, makespan}
 use Rattle.plan_sgs.specs.Instances.{Planned, problem_of, RefusesInstance}
-use Rattle.plan_sgs.specs.Keys.{word_of, RefusesWord, IsRuleSchedule}
+use Rattle.plan_sgs.specs.Keys.{rule_text, RefusesWord, IsRuleSchedule}
 use Rattle.plan_sgs.specs.declared.rule.Rule.{Rule}
 use Rattle.plan_sgs.specs.declared.fault.SgsFault.{SgsFault}
 use Rattle.plan_gantt.specs.ScheduleTable.{schedule_table_text}
@@ -22,7 +22,7 @@ pub record IsTableOf (i : Planned) (rule : Rule) (text : List ℕ) : Type 0 wher
 
 -- a text is the schedule table of an instance by the rule of a name
 abbrev pub IsScheduleTextOf : List ℕ → Planned → List ℕ → Type 0
-IsScheduleTextOf name i text = (rule : Rule) × (name ≡ word_of rule) × IsTableOf i rule text
+IsScheduleTextOf name i text = (rule : Rule) × (name ≡ rule_text rule) × IsTableOf i rule text
 
 -- a project and capacities are refused for the first need that is too much, or else since no
 -- rule has the name

@@ -5,7 +5,7 @@ use Rattle.plan_sgs.specs.Problem.{IsActive, makespan}
 use Rattle.plan_shop.specs.Shop.{JobShop, problem_of}
 use Rattle.plan_shop.specs.Words.{starts_of}
 use Rattle.plan_shop.specs.Laws.{placed_in}
-use Rattle.plan_shop.specs.Names.{word_of, word_by, RefusesWord}
+use Rattle.plan_shop.specs.Names.{rule_text, word_by, RefusesWord}
 use Rattle.plan_shop.specs.declared.rule.ShopRule.{ShopRule}
 use Rattle.plan_shop.specs.declared.fault.ShopFault.{ShopFault}
 use Rattle.plan_gantt.specs.ShopTable.{shop_table_text}
@@ -22,7 +22,7 @@ pub record IsTableBy (rule : ShopRule) (s : JobShop) (text : List ℕ) : Type 0 
 
 -- a text is the table of a shop by the rule of a name
 abbrev pub IsShopTextOf : List ℕ → JobShop → List ℕ → Type 0
-IsShopTextOf name s text = (rule : ShopRule) × (name ≡ word_of rule) × IsTableBy rule s text
+IsShopTextOf name s text = (rule : ShopRule) × (name ≡ rule_text rule) × IsTableBy rule s text
 
 -- a line tells that no rule has the name
 abbrev pub TellsNoRule : List ℕ → List ℕ → Type 0

@@ -1,6 +1,6 @@
 //! The tables of an office, whatever keeps them.
 
-ghost use Rattle.std.specs.Prelude.{◌≡◌, ℕ, [], Option, Some, None, find, IfSome, IsSome};
+ghost use Rattle.std.specs.Prelude.{◌≡◌, ℕ, [], Option, Some, None, find, length, IfSome, IsSome};
 ghost use Rattle.plan_rows.specs.World.{World, desk_in, plan_in, code_in};
 ghost use Rattle.plan_rows.specs.Views.{view};
 ghost use Rattle.plan_rows.specs.Changes.{apply, Publish, OpenDesk, SetKey, AddPlan, RemovePlan, BindPlace, SetCalendar, SetLag};
@@ -55,6 +55,10 @@ pub trait Book {
     /// The plans of a desk, rising by number.
     fn plans(&mut self, desk: &str) -> Result<Vec<PlanEntry>, BookFault>
         ensures { Reads shelf self.old self.new result (λ rows. ListsPlans (view desk.now (shelf.world self.old)).plans rows.items) };
+
+    /// How many plans a desk has.
+    fn count_plans(&mut self, desk: &str) -> Result<usize, BookFault>
+        ensures { Reads shelf self.old self.new result (λ count. count ≡ length (view desk.now (shelf.world self.old)).plans) };
 
     /// A plan of a desk, with its bound places and its lags.
     fn plan(&mut self, desk: &str, n: u64) -> Result<Option<PlanRow>, BookFault>

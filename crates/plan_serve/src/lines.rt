@@ -2,33 +2,14 @@
 
 ghost use Rattle.std.specs.Prelude.{◌≡◌, IfOk, string_bytes};
 ghost use Rattle.plan_rows.specs.World.{Text};
-ghost use Rattle.plan_rows.specs.Names as names;
 ghost use Rattle.plan_rows.specs.Books.{published_in};
 ghost use Rattle.plan_rows.specs.Tables.{desk_kept, bind_kept, lag_kept};
 ghost use Rattle.plan_serve.specs.RowTexts as spec;
 ghost use Rattle.plan_serve.specs.Summing.{plan_of, plan_front};
 
-use plan_rows::{BindRecord, CodeRow, DeskRecord, Kind, LagRecord, PlanKind, PlanRow};
+use plan_rows::{BindRecord, CodeRow, DeskRecord, LagRecord, PlanRow};
 use plan_store::PlanKey;
 use std::alloc::{AllocError, Global};
-
-fn kind_text(kind: Kind) -> &'static str
-    ensures { result.now ≡ names.kind_text kind }
-{
-    match kind {
-        Kind::Crew => "crew",
-        Kind::Machine => "machine",
-    }
-}
-
-fn plan_kind_text(kind: PlanKind) -> &'static str
-    ensures { result.now ≡ names.plan_kind_text kind }
-{
-    match kind {
-        PlanKind::Project => "project",
-        PlanKind::Shop => "shop",
-    }
-}
 
 /// A row that has a line.
 pub(crate) trait Line {
@@ -44,7 +25,7 @@ impl Line for CodeRow {
     ghost written = { λ row. spec.code_line (published_in row) };
 
     fn line(&self, alloc: Global) -> Result<String, AllocError> {
-        let (code, kind) = (self.code.as_str(), kind_text(self.kind));
+        let (code, kind) = (self.code.as_str(), self.kind.word());
         let capacity = self.capacity;
         format!(in alloc; "published {code} {kind} {capacity}\n")
     }
@@ -93,7 +74,7 @@ pub(crate) fn office_line(alloc: Global, digest: &[u8; 32]) -> Result<String, Al
 fn plan_front(alloc: Global, key: &PlanKey, plan: &PlanRow) -> Result<String, AllocError>
     ensures { IfOk result (λ text. string_bytes text ≡ plan_front key.now plan.now) }
 {
-    let (desk, n, kind) = (key.desk.as_str(), key.n, plan_kind_text(plan.kind));
+    let (desk, n, kind) = (key.desk.as_str(), key.n, plan.kind.word());
     format!(in alloc; "plan {desk} {n} {kind}")
 }
 

@@ -7,7 +7,7 @@ use Rattle.plan_cpm.proofs.OnceLemmas.{dates_once, totals_once}
 use Rattle.plan_sgs.specs.Problem.{Problem, count, IsFeasible, NeedsFit, IsFirstTooMuch}
 use Rattle.plan_sgs.specs.Serial.{serial}
 use Rattle.plan_sgs.specs.Rules.{is_eligible, least_key, rule_list_from, rule_list}
-use Rattle.plan_sgs.specs.Keys.{word_of, IsKeyOf, IsRuleSchedule}
+use Rattle.plan_sgs.specs.Keys.{rule_text, IsKeyOf, IsRuleSchedule}
 use Rattle.plan_sgs.specs.Instances.{Planned, problem_of, RefusesInstance}
 use Rattle.plan_sgs.specs.declared.rule.Rule.{Rule}
 use Rattle.plan_sgs.specs.declared.rule.Rule.TheVariants as rule
@@ -133,7 +133,7 @@ rule_told name =
     (cond (nat_eq (get_or name 0 0) 110) rule.Number
     (cond (nat_eq (get_or name 1 0) 108) rule.Slack rule.ShortestTime)))
 
-told_by_word : (r : Rule) → rule_told (word_of r) ≡ r
+told_by_word : (r : Rule) → rule_told (rule_text r) ≡ r
 unfolding rule_told
 told_by_word rule.LatestFinish = refl
 told_by_word rule.Slack = refl
@@ -142,5 +142,5 @@ told_by_word rule.MostSuccessors = refl
 told_by_word rule.Number = refl
 
 -- a name is that of one rule
-pub rule_once : (name : List ℕ) (r s : Rule) → name ≡ word_of r → name ≡ word_of s → r ≡ s
+pub rule_once : (name : List ℕ) (r s : Rule) → name ≡ rule_text r → name ≡ rule_text s → r ≡ s
 rule_once name r s first second = sym (told_by_word r) ∙ ap rule_told (sym first ∙ second) ∙ told_by_word s

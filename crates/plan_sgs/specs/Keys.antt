@@ -12,16 +12,16 @@ use Rattle.plan_sgs.specs.declared.fault.SgsFault.{SgsFault}
 use Rattle.plan_sgs.specs.declared.fault.SgsFault.TheVariants as fault
 
 -- the name of a rule
-abbrev pub word_of : Rule → List ℕ
-word_of rule.LatestFinish = codes "lft"
-word_of rule.Slack = codes "slk"
-word_of rule.ShortestTime = codes "spt"
-word_of rule.MostSuccessors = codes "mts"
-word_of rule.Number = codes "num"
+abbrev pub rule_text : Rule → List ℕ
+rule_text rule.LatestFinish = codes "lft"
+rule_text rule.Slack = codes "slk"
+rule_text rule.ShortestTime = codes "spt"
+rule_text rule.MostSuccessors = codes "mts"
+rule_text rule.Number = codes "num"
 
 -- a text that is the name of no rule
 abbrev pub RefusesWord : List ℕ → SgsFault → Type 0
-RefusesWord text f = (f ≡ fault.UnknownRule) × ((r : Rule) → text ≡ word_of r → ⊥)
+RefusesWord text f = (f ≡ fault.UnknownRule) × ((r : Rule) → text ≡ rule_text r → ⊥)
 
 -- Numbers for the activities by their places: the less, the sooner a rule takes the activity. Dates are those without
 -- resources, with lags. The most successors come first: more of them make a smaller number.

@@ -1,7 +1,7 @@
 //! Priority rules.
 
 ghost use Rattle.std.specs.Prelude.{◌≡◌, IfOk, IfErr};
-ghost use Rattle.plan_sgs.specs.Keys.{word_of, RefusesWord};
+ghost use Rattle.plan_sgs.specs.Keys.{rule_text, RefusesWord};
 
 use crate::fault::SgsFault;
 
@@ -25,7 +25,7 @@ impl Rule {
     ///
     /// Refused with [`SgsFault::UnknownRule`] where no rule has it.
     pub fn parse(text: &str) -> Result<Rule, SgsFault>
-        ensures ok { IfOk result (λ rule. text.now ≡ word_of rule) }
+        ensures ok { IfOk result (λ rule. text.now ≡ rule_text rule) }
         ensures refused { IfErr result (RefusesWord text.now) }
     {
         match text {

@@ -3,7 +3,7 @@ use Rattle.std.proofs.Common.{ℕ, nat_eq, cond, ◌≡◌, inl, inr, Bool, List
 use Rattle.std.proofs.lemmas.Bool.{cases_order}
 use Rattle.plan_orlib.specs.declared.steps.Step.{Step}
 use Rattle.plan_shop.specs.Docs.{IsFirstClosed, NoneIsClosed}
-use Rattle.plan_shop.specs.Names.{word_of}
+use Rattle.plan_shop.specs.Names.{rule_text}
 use Rattle.plan_shop.specs.declared.rule.ShopRule.{ShopRule}
 use Rattle.plan_shop.specs.declared.rule.ShopRule.TheVariants as rule
 
@@ -25,12 +25,12 @@ rule_told name =
     cond (nat_eq (get_or name 0 0) 115) rule.ShortestTime
     (cond (nat_eq (get_or name 0 0) 109) rule.MostWorkRemaining rule.FirstCome)
 
-told_by_word : (r : ShopRule) → rule_told (word_of r) ≡ r
+told_by_word : (r : ShopRule) → rule_told (rule_text r) ≡ r
 unfolding rule_told
 told_by_word rule.ShortestTime = refl
 told_by_word rule.MostWorkRemaining = refl
 told_by_word rule.FirstCome = refl
 
 -- a name is that of one rule
-pub rule_once : (name : List ℕ) (r s : ShopRule) → name ≡ word_of r → name ≡ word_of s → r ≡ s
+pub rule_once : (name : List ℕ) (r s : ShopRule) → name ≡ rule_text r → name ≡ rule_text s → r ≡ s
 rule_once name r s first second = sym (told_by_word r) ∙ ap rule_told (sym first ∙ second) ∙ told_by_word s

@@ -9,14 +9,14 @@ use Rattle.plan_shop.specs.declared.fault.ShopFault.{ShopFault}
 use Rattle.plan_shop.specs.declared.fault.ShopFault.TheVariants as fault
 
 -- the name of a rule
-abbrev pub word_of : ShopRule → List ℕ
-word_of rule.ShortestTime = codes "spt"
-word_of rule.MostWorkRemaining = codes "mwkr"
-word_of rule.FirstCome = codes "fcfs"
+abbrev pub rule_text : ShopRule → List ℕ
+rule_text rule.ShortestTime = codes "spt"
+rule_text rule.MostWorkRemaining = codes "mwkr"
+rule_text rule.FirstCome = codes "fcfs"
 
 -- a text that is the name of no rule
 abbrev pub RefusesWord : List ℕ → ShopFault → Type 0
-RefusesWord text f = (f ≡ fault.UnknownRule) × ((r : ShopRule) → text ≡ word_of r → ⊥)
+RefusesWord text f = (f ≡ fault.UnknownRule) × ((r : ShopRule) → text ≡ rule_text r → ⊥)
 
 -- how a rule chooses among the jobs that may follow
 abbrev pub chooser_of : ShopRule → JobShop → List Placed → List ℕ → ℕ

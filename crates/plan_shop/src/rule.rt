@@ -1,7 +1,7 @@
 //! Priority rules.
 
 ghost use Rattle.std.specs.Prelude.{◌≡◌, IfOk, IfErr};
-ghost use Rattle.plan_shop.specs.Names.{word_of, RefusesWord};
+ghost use Rattle.plan_shop.specs.Names.{rule_text, RefusesWord};
 
 use crate::fault::ShopFault;
 
@@ -22,7 +22,7 @@ impl ShopRule {
     ///
     /// Refused with [`ShopFault::UnknownRule`] where no rule has it.
     pub fn parse(text: &str) -> Result<ShopRule, ShopFault>
-        ensures ok { IfOk result (λ rule. text.now ≡ word_of rule) }
+        ensures ok { IfOk result (λ rule. text.now ≡ rule_text rule) }
         ensures refused { IfErr result (RefusesWord text.now) }
     {
         match text {

@@ -4,7 +4,7 @@ use Rattle.std.specs.List.{AllByRecursion, AllZip, list_all, list_any}
 use Rattle.std.specs.Ordering.{ordering_then, ordering_reverse}
 use Rattle.std.specs.Cmp.Lexicographic.{slice_cmp}
 use Rattle.std.proofs.lemmas.Cmp.{nat_list_cmp_total}
-use Rattle.std.proofs.lemmas.List.{map-id}
+use Rattle.std.proofs.lemmas.List.{length-map, map-id}
 use Rattle.std.proofs.lemmas.Int.{ints}
 use Rattle.std.proofs.lemmas.Bool.{and_parts}
 use Rattle.std.proofs.lemmas.Bool.Decides.{nat_tests}
@@ -44,7 +44,7 @@ use Rattle.plan_store.specs.Rows.{kind_in, plan_kind_in, text_in, blob_in, numbe
 use Rattle.plan_store.specs.Stores.{world_of, HoldRows}
 use Rattle.plan_store.specs.Running.{meaning_of}
 use Rattle.plan_store.specs.Serving.{Stands}
-use Rattle.plan_store.specs.Shown.{ShowsOffice, ShowsDesk, ShowsCapacity, ShowsCode, ShowsEntry, ShowsBind, ShowsLag, ShowsPlan, IsPlanPart, ListsShown, FirstShown, OfficeShown, AnyShown}
+use Rattle.plan_store.specs.Shown.{ShowsOffice, ShowsDesk, ShowsCapacity, ShowsCode, ShowsEntry, ShowsBind, ShowsLag, ShowsPlan, IsPlanPart, ListsShown, FirstShown, OfficeShown, AnyShown, CountShown}
 use Rattle.plan_store.proofs.QueryForms.{alone, by, is_given}
 use Rattle.plan_store.proofs.EditLemmas.{number_of}
 use Rattle.plan_store.proofs.KeepLemmas.{finds_entry, reads_entries}
@@ -115,6 +115,15 @@ any_among show p (x ∷ xs) =
 module _ {A : Type 0} (written : A → Row) (read : Row → A) (rows : List Row) (it : Keeps written read rows) (p : A → Bool) (show : ℤ × A → Row) where
   pub any_read : (answer : List Row) → answer ≡ map show (filter (λ x. p x.1) it.entries) → nat_lt 0 (length answer) ≡ list_any p (map read rows)
   any_read answer is = ap (λ l. nat_lt 0 (length l)) is ∙ any_among show p it.entries ∙ ap (list_any p) (sym (reads_entries written read it))
+
+-- ---- how many rows there are
+
+module _ {A : Type 0} (written : A → Row) (read : Row → A) (rows : List Row) (it : Keeps written read rows) (p : A → Bool) (show : ℤ × A → Row) where
+  pub rows_counted : (answer : List Row) → answer ≡ map show (filter (λ x. p x.1) it.entries) → length answer ≡ length (filter p (map read rows))
+  rows_counted answer is =
+      let found = filter (λ (x : ℤ × A). p x.1) it.entries in
+      ap length is ∙ length-map show found ∙ sym (length-map (λ (x : ℤ × A). x.1) found)
+      ∙ ap length (sym (filter-map p (λ (x : ℤ × A). x.1) it.entries) ∙ ap (filter p) (sym (reads_entries written read it)))
 
 -- ---- all rows, rising
 
@@ -294,6 +303,14 @@ module _ (s : State) (stands : Stands s) where
       (λ x y shows. λ i. (same_numbers y.from x.1.source (sym shows.source) i, same_numbers y.to x.1.target (sym shows.target) i, same_numbers y.lag x.1.lag (sym shows.lag) i)) cmp lag_before
       (λ x y low. then_both (int_cmp (pos x.1.source) (pos y.1.source)) (int_cmp (pos x.1.target) (pos y.1.target)) x.0 y.0 low ∙ above_both x.1.source y.1.source x.1.target y.1.target) h.0 are all h.2
       ∙ ap (λ l. map arc_of (in_order lag_before l)) (sym (filter_both (is_lag_by desk) (λ row. row.n == n) (map read_lag (s.now.trees 9))))
+
+  pub counted_read : (desk : List ℕ) (count : ℕ) → CountShown means.counted_text s.now (Text desk ∷ []) count → count ≡ length (view desk (world_of s.now.trees)).plans
+  counted_read desk count h =
+      let show = λ (x : ℤ × Plan). number_value x.1.n ∷ [] in
+      let kept = held.plans in
+      let are = rows_by_number written_plan 5 (is_given 1 0 ∷ []) means.counted_query.project (Text desk ∷ []) seen kept.entries kept.are kept.rise
+      (λ x. is_plan_of desk x.1) (owner_tested desk []) show (λ x. refl) h.0 (read_query means.counted_text means.counted_query _ means.counted_is s.now (Text desk ∷ []) h.0 h.1) in
+      h.2 ∙ rows_counted written_plan read_plan (s.now.trees 5) kept (is_plan_of desk) show h.0 are
 
   pub known_read : (code : List ℕ) (any : Bool) → AnyShown means.known_text s.now (Text code ∷ []) any → any ≡ list_any (is_code code) (world_of s.now.trees).published
   known_read code any h =

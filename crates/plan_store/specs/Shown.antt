@@ -80,6 +80,11 @@ abbrev pub OfficeShown : List ℕ → Database → Row → Digest → Type 0
 OfficeShown text db params digest =
     (rows : List Row) × Reads (meaning_of text) db params rows × ShowsOffice rows digest
 
+-- how many rows an answer has
+abbrev pub CountShown : List ℕ → Database → Row → ℕ → Type 0
+CountShown text db params count =
+    (rows : List Row) × Reads (meaning_of text) db params rows × (count ≡ length rows)
+
 abbrev pub AnyShown : List ℕ → Database → Row → Bool → Type 0
 AnyShown text db params any =
     (rows : List Row) × Reads (meaning_of text) db params rows × (any ≡ nat_lt 0 (length rows))

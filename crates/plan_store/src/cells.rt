@@ -55,13 +55,9 @@ fn letters_at(row: &Row, at: usize) -> Result<&[u8], BookFault>
 pub fn kind_at(row: &Row, at: usize) -> Result<Kind, BookFault>
     ensures { IfOk result (λ kind. column row.now at ≡ Text (kind_text kind)) }
 {
-    let text = letters_at(row, at)?;
-    if text == b"crew".as_slice() {
-        Ok(Kind::Crew)
-    } else if text == b"machine".as_slice() {
-        Ok(Kind::Machine)
-    } else {
-        Err(BookFault::Store)
+    match Kind::of_word(letters_at(row, at)?) {
+        Some(kind) => Ok(kind),
+        None => Err(BookFault::Store),
     }
 }
 
@@ -69,13 +65,9 @@ pub fn kind_at(row: &Row, at: usize) -> Result<Kind, BookFault>
 pub fn plan_kind_at(row: &Row, at: usize) -> Result<PlanKind, BookFault>
     ensures { IfOk result (λ kind. column row.now at ≡ Text (plan_kind_text kind)) }
 {
-    let text = letters_at(row, at)?;
-    if text == b"project".as_slice() {
-        Ok(PlanKind::Project)
-    } else if text == b"shop".as_slice() {
-        Ok(PlanKind::Shop)
-    } else {
-        Err(BookFault::Store)
+    match PlanKind::of_word(letters_at(row, at)?) {
+        Some(kind) => Ok(kind),
+        None => Err(BookFault::Store),
     }
 }
 

@@ -1,6 +1,6 @@
 //! What a store holds, read by queries.
 
-ghost use Rattle.std.specs.Prelude.{◌≡◌, ◌∷◌, [], find, map, pos};
+ghost use Rattle.std.specs.Prelude.{◌≡◌, ◌∷◌, [], find, length, map, pos};
 ghost use Rattle.sqlite.specs.Given.{IsPlain};
 ghost use Rattle.sqlite.specs.Listing.{understood, reads_listing};
 ghost use Rattle.sqlite.specs.Values.{bound};
@@ -14,7 +14,7 @@ ghost use Rattle.plan_rows.specs.Books.{Matches, IsDeskAnswer, IsCapacityAnswer,
 ghost use Rattle.plan_store.specs.Tables.{store_schema};
 ghost use Rattle.plan_store.specs.Stores.{world_of};
 ghost use Rattle.plan_store.specs.Serving.{IsReady, Asks};
-ghost use Rattle.plan_store.specs.Shown.{ListsShown, FirstShown, OfficeShown, AnyShown, IsPlanPart};
+ghost use Rattle.plan_store.specs.Shown.{ListsShown, FirstShown, OfficeShown, AnyShown, CountShown, IsPlanPart};
 
 use crate::asking::rows_of;
 use crate::numbers::sql_number;
@@ -145,6 +145,35 @@ pub fn plans_in<S: Alter>(
         alloc,
         conn,
         "SELECT n, kind FROM plans WHERE desk = ?1 ORDER BY n, rowid",
+        params![desk],
+    )
+}
+
+// How many rows an answer has.
+fn count_in<S: Alter>(
+    conn: &mut Connection<S>,
+    text: &str,
+    params: &[ValueRef<'_>],
+) -> Result<usize, BookFault>
+    requires ready { IsReady (state S.Store conn.old) }
+    requires plain { IsPlain (understood store_schema text.now) }
+    requires ours { reads_listing store_schema text.now ≡ false }
+    ensures { Asks (state S.Store conn.old) (state S.Store conn.new) result
+        (CountShown text.now (state S.Store conn.old).now (bound params.now)) }
+{
+    let rows = rows_of(conn, text, params)?;
+    Ok(rows.len())
+}
+
+/// How many plans a desk has: their numbers are read, and no body is.
+pub fn plans_counted<S: Alter>(conn: &mut Connection<S>, desk: &str) -> Result<usize, BookFault>
+    requires ready { IsReady (state S.Store conn.old) }
+    ensures { Asks (state S.Store conn.old) (state S.Store conn.new) result
+        (λ count. count ≡ length (view desk.now (world_of (state S.Store conn.old).now.trees)).plans) }
+{
+    count_in(
+        conn,
+        "SELECT n FROM plans WHERE desk = ?1 ORDER BY rowid",
         params![desk],
     )
 }

@@ -19,7 +19,9 @@ use crate::creating::{is_empty, make_tables};
 use crate::fault::StoreFault;
 use crate::leftover::Leftover;
 use crate::listing::{Listing, RowsByKey, rows_in};
-use crate::reading::{capacity_found, codes_in, desk_found, office_in, plan_any, plans_in};
+use crate::reading::{
+    capacity_found, codes_in, desk_found, office_in, plan_any, plans_counted, plans_in,
+};
 use crate::rereading::reread;
 use crate::writing::{
     add_plan_in, bind_any, open_desk_in, publish_any, remove_any, set_calendar_any, set_key_in,
@@ -197,6 +199,10 @@ impl<S: Alter> Book for SqlBook<S> {
 
     fn plans(&mut self, desk: &str) -> Result<Vec<PlanEntry>, BookFault> {
         plans_in(self.alloc, &mut self.conn, desk)
+    }
+
+    fn count_plans(&mut self, desk: &str) -> Result<usize, BookFault> {
+        plans_counted(&mut self.conn, desk)
     }
 
     fn plan(&mut self, desk: &str, n: u64) -> Result<Option<PlanRow>, BookFault> {

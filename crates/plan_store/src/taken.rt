@@ -58,14 +58,7 @@ fn kind_taken(row: &Row, at: usize) -> Option<Kind>
     requires { at < length row.now }
     ensures { MatchOption result ((kind : _) → column row.now at ≢ Text (kind_text kind)) (λ kind. column row.now at ≡ Text (kind_text kind)) }
 {
-    let text = letters_taken(row, at)?;
-    if text == b"crew".as_slice() {
-        Some(Kind::Crew)
-    } else if text == b"machine".as_slice() {
-        Some(Kind::Machine)
-    } else {
-        None
-    }
+    Kind::of_word(letters_taken(row, at)?)
 }
 
 // What a plan is made of.
@@ -73,14 +66,7 @@ fn plan_kind_taken(row: &Row, at: usize) -> Option<PlanKind>
     requires { at < length row.now }
     ensures { MatchOption result ((kind : _) → column row.now at ≢ Text (plan_kind_text kind)) (λ kind. column row.now at ≡ Text (plan_kind_text kind)) }
 {
-    let text = letters_taken(row, at)?;
-    if text == b"project".as_slice() {
-        Some(PlanKind::Project)
-    } else if text == b"shop".as_slice() {
-        Some(PlanKind::Shop)
-    } else {
-        None
-    }
+    PlanKind::of_word(letters_taken(row, at)?)
 }
 
 // A digest, in 64 lower hexadecimal digits.

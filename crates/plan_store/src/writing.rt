@@ -1,7 +1,6 @@
 //! Changes of what a store holds, each in one transaction.
 
 ghost use Rattle.std.specs.Prelude.{◌≡◌, ◌∷◌, [], ◌++◌};
-ghost use Rattle.plan_rows.specs.Names.{kind_text, plan_kind_text};
 ghost use Rattle.sqlite.specs.Held.{state};
 ghost use Rattle.plan_rows.specs.World.{is_code, is_bind, is_lag};
 ghost use Rattle.plan_rows.specs.Changes.{apply, changed, put, without, Publish, OpenDesk, SetKey, AddPlan, RemovePlan, BindPlace, SetCalendar, SetLag, with_capacity, new_code, with_code, new_bind, with_lag, new_lag};
@@ -14,26 +13,6 @@ use crate::running::transact;
 use plan_rows::{BookFault, Kind, PlanKind};
 use sqlite::types::ValueRef;
 use sqlite::{Alter, Connection, params};
-
-// What a published code stands for, as it is written.
-fn kind_text(kind: Kind) -> &'static str
-    ensures { result.now ≡ kind_text kind }
-{
-    match kind {
-        Kind::Crew => "crew",
-        Kind::Machine => "machine",
-    }
-}
-
-// What a plan is made of, as it is written.
-fn plan_kind_text(kind: PlanKind) -> &'static str
-    ensures { result.now ≡ plan_kind_text kind }
-{
-    match kind {
-        PlanKind::Project => "project",
-        PlanKind::Shop => "shop",
-    }
-}
 
 // Sets the capacity of a published code.
 fn republish<S: Alter>(conn: &mut Connection<S>, code: &str, capacity: u32) -> Result<(), BookFault>
@@ -65,7 +44,7 @@ fn publish_new<S: Alter>(
         conn,
         &[(
             "INSERT INTO published (code, kind, capacity) VALUES (?1, ?2, ?3)",
-            params![code, kind_text(kind), capacity],
+            params![code, kind.word(), capacity],
         )],
     )
 }
@@ -148,7 +127,7 @@ fn add_numbered<'x, S: Alter>(
     ensures { Changes (state S.Store conn.old) (state S.Store conn.new) result (numbered_plan desk.now n kind name.now body.now) }
 {
     let next = number_after(n)?;
-    let given: &[ValueRef<'_>] = params![desk, n, plan_kind_text(kind), name, body, next];
+    let given: &[ValueRef<'_>] = params![desk, n, kind.word(), name, body, next];
     transact(
         conn,
         &[

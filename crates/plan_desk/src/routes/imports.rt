@@ -31,8 +31,7 @@ fn importing<'a, B: Book>(
     let Some(row) = row else {
         return Ok(kept(not_found()));
     };
-    let plans = book.plans(desk)?;
-    let held = plans.as_slice().len();
+    let held = book.count_plans(desk)?;
     if let Some(refusal) = import_refusal(alloc, held, row.next, kind, name, body)? {
         return Ok(kept(refusal));
     }
