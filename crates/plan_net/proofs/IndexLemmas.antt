@@ -1,21 +1,23 @@
 -- The rows beside the arcs: what they say of an arc and of its lag, and what a change of one lag keeps.
-use Rattle.std.proofs.Common.{ℕ, Bool, true, ◌≡◌, ◌≢◌, ◌+◌, ◌-◌, ◌≤◌, ◌<◌, ◌↔◌, ◌⊎◌, inl, inr, List, length, get_or, set, map, sym, ◌∙◌, ap, subst, arith, Vec}
+use Rattle.std.proofs.Common.{ℕ, ◌≡◌, ◌≢◌, ◌+◌, ◌-◌, ◌≤◌, ◌<◌, ◌⊎◌, inl, inr, List, length, get_or, set, map, sym, ◌∙◌, ap, subst, arith, Vec}
 use Rattle.std.specs.declared.alloc.Global.{Global}
 use Rattle.std.specs.List.{Contains, All}
 use Rattle.std.specs.List.Sorted.{IsStrictlyIncreasing}
 use Rattle.std.specs.Vec.{with_item}
 use Rattle.std.proofs.lemmas.List.{length-set, length-map, length-replicate}
-use Rattle.std.proofs.lemmas.List.Elements.{All-weaker, All-replicate, All-contains}
+use Rattle.std.proofs.lemmas.List.Elements.{All-weaker, All-replicate}
 use Rattle.std.proofs.lemmas.Bool.{cases_eq}
 use Rattle.plan_net.specs.Network.{Net, count_of, IsArc, ListsRising, lag_of, lag_beside, lags_with, with_lag, unlagged}
 use Rattle.plan_net.specs.Limits.{HasGoodSize, HasGoodDurations, HasGoodArcs, HasNewArcs, IsGoodArc, IsWithinLimits}
 use Rattle.plan_net.specs.Indexed.{IsIndexed, net_of, row_at, beside, lag_in}
-use Rattle.plan_net.specs.Marks.{AreMarks, AreRowsOf, AreColumnsOf, AreNoLags, IsSquare, mark_at}
+use Rattle.plan_net.specs.Marks.{AreNoLags}
+use Rattle.plan_net.specs.Rows.{AreBeginnings, AreTurned}
 use Rattle.plan_net.specs.declared.arcs.Arcs.TheInside.{Inside}
 use Rattle.plan_net.specs.declared.limits.TheConstants.{LONGEST_LAG}
 use Rattle.plan_net.proofs.RowLemmas.{arc_ends, row_at-read}
-use Rattle.plan_net.proofs.RisingLemmas.{stands_in, rising_later, ListsRising-same}
+use Rattle.plan_net.proofs.RisingLemmas.{stands_in, rising_later}
 use Rattle.plan_net.proofs.MarkLemmas.{row_at-set_same, row_at-set_other}
+use Rattle.plan_net.proofs.PushLemmas.{succs_turned, preds_turned}
 use Rattle.plan_net.proofs.LagLemmas.{lag_beside-map, beside-at, lags-none, lags-set, length-lags_with, All-lags_with}
 
 -- an arc as it stands in the rows of the predecessors
@@ -121,40 +123,15 @@ IsIndexed-set_lag a i j row place w before good ok at is = record {
       ∙ ok.lags row (subst (λ (r : ℕ). r < count_of (net_of a)) same within))
   wide k within (inr other) = ap length (row_at-set_other a.lags.items k row (with_item before place w) other) ∙ ok.lags k within
 
--- the rows that the marks give are those of the arcs
-preds_of_marks : (net : Net) (marks : List (Vec Bool Global)) (rows : List (Vec ℕ Global)) → HasGoodArcs net → AreMarks net.arcs marks → length marks ≡ count_of net → AreRowsOf marks rows → (k : ℕ) → k < count_of net → ListsRising (λ i. IsArc net i (k + 1)) (row_at rows k)
-preds_of_marks net marks rows good known whole are k within =
-    ListsRising-same (λ i. (1 ≤ i) × (i ≤ length marks) × (mark_at marks k (i - 1) ≡ true)) (λ i. IsArc net i (k + 1)) (row_at rows k) same (are.each k (omega (arith, are.whole, whole))) where
-      same : (i : ℕ) → ((1 ≤ i) × (i ≤ length marks) × (mark_at marks k (i - 1) ≡ true)) ↔ IsArc net i (k + 1)
-      same i = (
-        λ here. let back : i - 1 + 1 ≡ i = omega (arith, here.0) in subst (λ (h : ℕ). IsArc net h (k + 1)) back ((known k (i - 1)).0 here.2),
-        λ arc.
-            let ends : IsGoodArc net (i, k + 1) = All-contains (IsGoodArc net) net.arcs (i, k + 1) good arc in
-            let back : i ≡ i - 1 + 1 = omega (arith, ends.0) in
-            (ends.0.0, omega (arith, ends.0.1, whole), (known k (i - 1)).1 (subst (λ (h : ℕ). IsArc net h (k + 1)) back arc)),
-      )
-
-succs_of_marks : (net : Net) (marks : List (Vec Bool Global)) (columns : List (Vec ℕ Global)) → HasGoodArcs net → AreMarks net.arcs marks → length marks ≡ count_of net → AreColumnsOf marks columns → (k : ℕ) → k < count_of net → ListsRising (IsArc net (k + 1)) (row_at columns k)
-succs_of_marks net marks columns good known whole are k within =
-    ListsRising-same (λ j. (1 ≤ j) × (j ≤ length marks) × (mark_at marks (j - 1) k ≡ true)) (IsArc net (k + 1)) (row_at columns k) same (are.each k (omega (arith, are.whole, whole))) where
-      same : (j : ℕ) → ((1 ≤ j) × (j ≤ length marks) × (mark_at marks (j - 1) k ≡ true)) ↔ IsArc net (k + 1) j
-      same j = (
-        λ here. let back : j - 1 + 1 ≡ j = omega (arith, here.0) in subst (λ (h : ℕ). IsArc net (k + 1) h) back ((known (j - 1) k).0 here.2),
-        λ arc.
-            let ends : IsGoodArc net (k + 1, j) = All-contains (IsGoodArc net) net.arcs (k + 1, j) good arc in
-            let back : j ≡ j - 1 + 1 = omega (arith, ends.1) in
-            (ends.1.0, omega (arith, ends.1.1, whole), (known (j - 1) k).1 (subst (λ (h : ℕ). IsArc net (k + 1) h) back arc)),
-      )
-
 -- rows made without lags hold the network without lags
 pub net_of-unlagged : (a : Inside) → AreNoLags a.preds.items a.lags.items → net_of a ≡ unlagged a.durations.items a.arcs.items
 net_of-unlagged a none =
     let net : List ℕ → Net = λ lags. record { durations = a.durations.items; arcs = a.arcs.items; lags = lags } in
     ap net (lags-none a.preds.items a.lags.items a.arcs.items none)
 
--- rows made of the marks of the arcs are in step with them
-pub IsIndexed-made : (a : Inside) (marks : List (Vec Bool Global)) → HasGoodSize (unlagged a.durations.items a.arcs.items) → HasGoodDurations (unlagged a.durations.items a.arcs.items) → HasGoodArcs (unlagged a.durations.items a.arcs.items) → HasNewArcs (unlagged a.durations.items a.arcs.items) → IsSquare (length a.durations.items) marks → AreMarks a.arcs.items marks → AreRowsOf marks a.preds.items → AreColumnsOf marks a.succs.items → AreNoLags a.preds.items a.lags.items → IsIndexed a
-IsIndexed-made a marks size durations arcs new_arcs square known rows columns none = record {
+-- rows of the beginnings of arcs, turned once and turned twice, are in step with the arcs
+pub IsIndexed-made : (a : Inside) (rows : List (Vec ℕ Global)) → HasGoodSize (unlagged a.durations.items a.arcs.items) → HasGoodDurations (unlagged a.durations.items a.arcs.items) → HasGoodArcs (unlagged a.durations.items a.arcs.items) → HasNewArcs (unlagged a.durations.items a.arcs.items) → AreBeginnings (length a.durations.items) a.arcs.items rows → AreTurned rows (length rows) a.succs.items → AreTurned a.succs.items (length a.succs.items) a.preds.items → AreNoLags a.preds.items a.lags.items → IsIndexed a
+IsIndexed-made a rows size durations arcs new_arcs beginnings succs preds none = record {
   limits = record {
     size = size;
     durations = durations;
@@ -162,10 +139,15 @@ IsIndexed-made a marks size durations arcs new_arcs square known rows columns no
     new_arcs = new_arcs;
     lags = (length-map a.arcs.items (lag_in a.preds.items a.lags.items), subst (All (λ w. w ≤ LONGEST_LAG)) (sym (lags-none a.preds.items a.lags.items a.arcs.items none)) (All-replicate (λ w. w ≤ LONGEST_LAG) (length a.arcs.items) 0 (omega arith)));
   };
-  preds_count = rows.whole ∙ square.rows;
-  preds = preds_of_marks (net_of a) marks a.preds.items arcs known square.rows rows;
-  succs_count = columns.whole ∙ square.rows;
-  succs = succs_of_marks (net_of a) marks a.succs.items arcs known square.rows columns;
-  lags_count = none.whole ∙ rows.whole ∙ square.rows;
-  lags = λ k within. ap length (none.each k (omega (arith, none.whole, rows.whole, square.rows))) ∙ length-replicate (length (row_at a.preds.items k)) 0;
-}
+  preds_count = preds.whole ∙ whole;
+  preds = λ k within. preds_turned (net_of a) a.succs.items a.preds.items arcs whole listed preds k;
+  succs_count = whole;
+  succs = λ k within. listed k;
+  lags_count = none.whole ∙ preds.whole ∙ whole;
+  lags = λ k within. ap length (none.each k (omega (arith, none.whole, preds.whole, whole))) ∙ length-replicate (length (row_at a.preds.items k)) 0;
+} where
+  whole : length a.succs.items ≡ count_of (net_of a)
+  whole = succs.whole ∙ beginnings.whole
+
+  listed : (k : ℕ) → ListsRising (IsArc (net_of a) (k + 1)) (row_at a.succs.items k)
+  listed = succs_turned (net_of a) rows a.succs.items arcs beginnings succs

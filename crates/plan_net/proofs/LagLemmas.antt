@@ -55,14 +55,14 @@ joins-other arc i j other = by_case (cases_Bool (joins arc i j)) where
   by_case (inr isnt) = isnt
 
 -- a list that has the element has it in front or behind
-Contains-cons_cases : {X : Type 0} (x y : X) (xs : List X) → Contains (x ∷ xs) y → (x ≡ y) ⊎ Contains xs y
+pub Contains-cons_cases : {X : Type 0} (x y : X) (xs : List X) → Contains (x ∷ xs) y → (x ≡ y) ⊎ Contains xs y
 Contains-cons_cases x y xs (zero, within, is) = inl is
 Contains-cons_cases x y xs (suc k, within, is) = inr (k, omega arith, is)
 
-Contains-behind : {X : Type 0} (x y : X) (xs : List X) → Contains xs y → Contains (x ∷ xs) y
+pub Contains-behind : {X : Type 0} (x y : X) (xs : List X) → Contains xs y → Contains (x ∷ xs) y
 Contains-behind x y xs (k, within, is) = (suc k, omega arith, is)
 
-Contains-front : {X : Type 0} (x : X) (xs : List X) → Contains (x ∷ xs) x
+pub Contains-front : {X : Type 0} (x : X) (xs : List X) → Contains (x ∷ xs) x
 Contains-front x xs = (zero, omega arith, refl)
 
 -- the lag beside an arc, where the lags are what a function gives of the arcs

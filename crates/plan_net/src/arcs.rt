@@ -9,7 +9,8 @@ ghost use Rattle.plan_net.specs.Refusals.{IsFirstFault, IsLagFault, NamesCycle};
 use super::checks::{first_bad_arc, first_bad_duration};
 use super::fault::NetFault;
 use super::limits::{FEWEST_ACTIVITIES, LONGEST_DURATION, LONGEST_LAG, MOST_ACTIVITIES};
-use super::tables::{columns_of, first_double_arc, no_lags, no_marks, place_in, rows_of};
+use super::rows::{rows_by_end, turned};
+use super::tables::{first_double_arc, no_lags, no_marks, place_in};
 use std::alloc::Global;
 use std::marker::Model;
 
@@ -69,8 +70,9 @@ impl Arcs {
         if let Some((i, j)) = first_double_arc(&durations, &arcs, &mut marks) {
             return Err(NetFault::DoubleArc(i, j));
         }
-        let preds = rows_of(alloc, &marks)?;
-        let succs = columns_of(alloc, &marks)?;
+        let beginnings = rows_by_end(alloc, &durations, &arcs)?;
+        let succs = turned(alloc, &beginnings)?;
+        let preds = turned(alloc, &succs)?;
         let lags = no_lags(alloc, &preds)?;
         Ok(Arcs {
             durations,
