@@ -1,24 +1,25 @@
 -- The rows beside the arcs: what they say of an arc and of its lag, and what a change of one lag keeps.
-use Rattle.std.proofs.Common.{ℕ, ◌≡◌, ◌≢◌, ◌+◌, ◌-◌, ◌≤◌, ◌<◌, ◌⊎◌, inl, inr, List, length, get_or, set, map, sym, ◌∙◌, ap, subst, arith, Vec}
+use Rattle.std.proofs.Common.{ℕ, ◌≡◌, ◌≢◌, ◌+◌, ◌-◌, ◌≤◌, ◌<◌, ◌⊎◌, inl, inr, List, length, get_or, set, map, refl, sym, ◌∙◌, ap, subst, arith, Vec}
 use Rattle.std.specs.declared.alloc.Global.{Global}
 use Rattle.std.specs.List.{Contains, All}
 use Rattle.std.specs.List.Sorted.{IsStrictlyIncreasing}
 use Rattle.std.specs.Vec.{with_item}
-use Rattle.std.proofs.lemmas.List.{length-set, length-map, length-replicate}
+use Rattle.std.proofs.lemmas.List.{length-set, length-map, length-replicate, get_or-map}
 use Rattle.std.proofs.lemmas.List.Elements.{All-weaker, All-replicate}
 use Rattle.std.proofs.lemmas.Bool.{cases_eq}
-use Rattle.plan_net.specs.Network.{Net, count_of, IsArc, ListsRising, lag_of, lag_beside, lags_with, with_lag, unlagged}
+use Rattle.plan_net.specs.Network.{Net, count_of, IsActivity, IsArc, ListsRising, lag_of, lag_beside, lags_with, with_lag, unlagged}
 use Rattle.plan_net.specs.Limits.{HasGoodSize, HasGoodDurations, HasGoodArcs, HasNewArcs, IsGoodArc, IsWithinLimits}
 use Rattle.plan_net.specs.Indexed.{IsIndexed, net_of, row_at, beside, lag_in}
 use Rattle.plan_net.specs.Marks.{AreNoLags}
 use Rattle.plan_net.specs.Rows.{AreBeginnings, AreTurned}
 use Rattle.plan_net.specs.declared.arcs.Arcs.TheInside.{Inside}
 use Rattle.plan_net.specs.declared.limits.TheConstants.{LONGEST_LAG}
-use Rattle.plan_net.proofs.RowLemmas.{arc_ends, row_at-read}
+use Rattle.plan_net.proofs.RowLemmas.{arc_ends, row_at-read, within_limits}
 use Rattle.plan_net.proofs.RisingLemmas.{stands_in, rising_later}
+use Rattle.plan_net.proofs.OnceLemmas.{same_entries, rising_once}
 use Rattle.plan_net.proofs.MarkLemmas.{row_at-set_same, row_at-set_other}
 use Rattle.plan_net.proofs.PushLemmas.{succs_turned, preds_turned}
-use Rattle.plan_net.proofs.LagLemmas.{lag_beside-map, beside-at, lags-none, lags-set, length-lags_with, All-lags_with}
+use Rattle.plan_net.proofs.LagLemmas.{lag_of-limit, lag_beside-map, beside-at, lags-none, lags-set, length-lags_with, All-lags_with}
 
 -- an arc as it stands in the rows of the predecessors
 pub record IsPlaceOf (a : Inside) (i j row place : ℕ) : Type 0 where
@@ -71,6 +72,47 @@ lag_at a net i j row place ok same at = subst (λ (n : Net). get_or (row_at a.la
       sym (lag_beside-map (lag_in a.preds.items a.lags.items) a.arcs.items i j (arc_placed a i j row place ok at)
       ∙ ap (λ (k : ℕ). beside (row_at a.preds.items k) (row_at a.lags.items k) i) back
       ∙ beside-at (row_at a.preds.items row) (row_at a.lags.items row) place i at.within at.stands first)
+
+-- in the row of lags of j stand those of the arcs to j
+row_of_lags : (a : Inside) (net : Net) (row j : ℕ) → IsIndexed a → net_of a ≡ net → row + 1 ≡ j → row < length a.preds.items → row_at a.lags.items row ≡ map (λ i. lag_of net i j) (row_at a.preds.items row)
+row_of_lags a net row j ok same of_end within =
+    same_entries (row_at a.lags.items row) (map (λ i. lag_of net i j) (row_at a.preds.items row)) (long ∙ sym (length-map (row_at a.preds.items row) (λ i. lag_of net i j))) each where
+      long : length (row_at a.lags.items row) ≡ length (row_at a.preds.items row)
+      long = ok.lags row (omega (arith, ok.preds_count, within))
+
+      each : (k : ℕ) → k < length (row_at a.lags.items row) → get_or (row_at a.lags.items row) k 0 ≡ get_or (map (λ i. lag_of net i j) (row_at a.preds.items row)) k 0
+      each k lower =
+          let inside : k < length (row_at a.preds.items row) = omega (arith, lower, long) in
+          lag_at a net (get_or (row_at a.preds.items row) k 0) j row k ok same (record { of_end = of_end; row_within = within; within = inside; stands = refl })
+          ∙ sym (get_or-map (λ i. lag_of net i j) (row_at a.preds.items row) k 0 0 inside)
+
+-- which an index reads
+lags_read : (a : Inside) (net : Net) (j : ℕ) (lags : Vec ℕ Global) → IsIndexed a → net_of a ≡ net → IsActivity net j → lags ≡ get_or a.lags.items (j - 1) lags → lags.items ≡ map (λ i. lag_of net i j) (row_at a.preds.items (j - 1))
+lags_read a net j lags ok same activity is =
+    let counted : count_of (net_of a) ≡ count_of net = ap count_of same in
+    sym (row_at-read a.lags.items (j - 1) lags (omega (arith, ok.lags_count, counted, activity)) is)
+    ∙ row_of_lags a net (j - 1) j ok same (omega (arith, activity)) (omega (arith, ok.preds_count, counted, activity))
+
+-- they stand beside each rising list of the predecessors of j
+pub lags_listed : (a : Inside) (net : Net) (j : ℕ) (lags : Vec ℕ Global) → IsIndexed a → net_of a ≡ net → IsActivity net j → lags ≡ get_or a.lags.items (j - 1) lags → (row : List ℕ) → ListsRising (λ i. IsArc net i j) row → lags.items ≡ map (λ i. lag_of net i j) row
+lags_listed a net j lags ok same activity is row listed =
+    lags_read a net j lags ok same activity is ∙ ap (map (λ i. lag_of net i j)) (rising_once (λ i. IsArc net i j) (row_at a.preds.items (j - 1)) row preds listed) where
+      preds : ListsRising (λ i. IsArc net i j) (row_at a.preds.items (j - 1))
+      preds =
+          let back : j - 1 + 1 ≡ j = omega (arith, activity) in
+          let counted : count_of (net_of a) ≡ count_of net = ap count_of same in
+          subst (λ (n : Net). ListsRising (λ i. IsArc n i j) (row_at a.preds.items (j - 1))) same
+          (subst (λ (k : ℕ). ListsRising (λ i. IsArc (net_of a) i k) (row_at a.preds.items (j - 1))) back (ok.preds (j - 1) (omega (arith, counted, activity))))
+
+-- and none of them is above the limit
+pub lags_limited : (a : Inside) (net : Net) (j : ℕ) (lags : Vec ℕ Global) → IsIndexed a → net_of a ≡ net → IsActivity net j → lags ≡ get_or a.lags.items (j - 1) lags → (k : ℕ) → k < length lags.items → get_or lags.items k 0 ≤ LONGEST_LAG
+lags_limited a net j lags ok same activity is k within =
+    let here : lags.items ≡ map (λ i. lag_of net i j) (row_at a.preds.items (j - 1)) = lags_read a net j lags ok same activity is in
+    let long : length lags.items ≡ length (row_at a.preds.items (j - 1)) = ap length here ∙ length-map (row_at a.preds.items (j - 1)) (λ i. lag_of net i j) in
+    let value : get_or lags.items k 0 ≡ lag_of net (get_or (row_at a.preds.items (j - 1)) k 0) j =
+    ap (λ (values : List ℕ). get_or values k 0) here ∙ get_or-map (λ i. lag_of net i j) (row_at a.preds.items (j - 1)) k 0 0 (omega (arith, within, long)) in
+    let limit : lag_of net (get_or (row_at a.preds.items (j - 1)) k 0) j ≤ LONGEST_LAG = lag_of-limit net (get_or (row_at a.preds.items (j - 1)) k 0) j (within_limits a net ok same).lags in
+    omega (arith, value, limit)
 
 -- there is a lag beside each arc
 pub lag_within : (a : Inside) (i j row place : ℕ) → IsIndexed a → IsPlaceOf a i j row place → (row < length a.lags.items) × (place < length (row_at a.lags.items row))

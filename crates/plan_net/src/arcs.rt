@@ -1,7 +1,7 @@
 //! A network within the limits, before the test for a cycle, with its rows of predecessors,
 //! successors and lags.
 
-ghost use Rattle.std.specs.Prelude.{◌≡◌, ℕ, ◌↔◌, ◌≤◌, length, map, slice_index, EachIndex, IfOk, IfErr, OnOk, OnErr, IfSome, IfNone};
+ghost use Rattle.std.specs.Prelude.{◌≡◌, ℕ, List, ◌↔◌, ◌≤◌, length, map, slice_index, EachIndex, IfOk, IfErr, OnOk, OnErr, IfSome, IfNone};
 ghost use Rattle.plan_net.specs.Network.{IsActivity, IsArc, ListsRising, duration_of, count_of, lag_of, unlagged, with_lag};
 ghost use Rattle.plan_net.specs.Limits.{IsWithinLimits, HasGoodSize, HasGoodDurations, HasGoodArcs};
 ghost use Rattle.plan_net.specs.Refusals.{IsFirstFault, IsLagFault, NamesCycle};
@@ -134,6 +134,15 @@ impl Arcs {
             Some((row, place)) => Some(self.lags[row][place]),
             None => None,
         }
+    }
+
+    /// The lags of the arcs to `j`, each at the place of its predecessor.
+    pub fn lags_into(&self, j: u32) -> &[u64]
+        requires { IsActivity self.now j }
+        ensures value { (row : List ℕ) → ListsRising (λ i. IsArc self.now i j) row → result.now ≡ map (λ i. lag_of self.now i j) row }
+        ensures limit { EachIndex result.now (λ k. slice_index result.now k ≤ LONGEST_LAG) }
+    {
+        self.lags[j as usize - 1].as_slice()
     }
 
     /// Gives the arc from `i` to `j` the lag.
