@@ -18,9 +18,10 @@ fn last_before(network: &Network, j: u32, finishes: &[u64]) -> u64
     ensures above { (i : ℕ) → IsArc network.now i j → slice_index finishes.now (i - 1) + lag_of network.now i j ≤ result }
     ensures reached { (result ≡ 0) ⊎ ((i : ℕ) × IsArc network.now i j × (result ≡ slice_index finishes.now (i - 1) + lag_of network.now i j)) }
 {
+    let lags = network.lags_into(j);
     let mut latest = 0u64;
-    'preds: for &i in network.preds(j) {
-        let ready = finishes[i as usize - 1] + network.lag_between(i, j);
+    'preds: for (k, &i) in network.preds(j).iter().enumerate() {
+        let ready = finishes[i as usize - 1] + lags[k];
         latest = latest.max(ready);
     }
     latest
