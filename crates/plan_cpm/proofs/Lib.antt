@@ -1,5 +1,6 @@
 pub mod StepLemmas
 pub mod PassLemmas
+pub mod BackLemmas
 pub mod JoinLemmas
 pub mod DateLemmas
 pub mod BoundLemmas
