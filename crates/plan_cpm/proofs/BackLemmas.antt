@@ -1,7 +1,6 @@
 -- The pass back: what follows each activity is raised as soon as the tail of a successor is known.
-use Rattle.std.proofs.Common.{ℕ, max, ◌≡◌, ◌≢◌, ◌+◌, ◌-◌, ◌≤◌, ◌<◌, ◌⊎◌, inl, inr, List, length, get_or, set, refl, sym, ◌∙◌, ap, subst, arith, below_more, get_or-set_same, get_or-set_other}
-use Rattle.std.proofs.lemmas.List.{length-set}
-use Rattle.std.proofs.lemmas.Bool.{cases_lt, cases_eq}
+use Rattle.std.proofs.Common.{ℕ, ◌≡◌, ◌≢◌, ◌+◌, ◌-◌, ◌≤◌, ◌<◌, ◌⊎◌, inl, inr, List, length, get_or, set, refl, sym, ◌∙◌, subst, arith, get_or-set_same}
+use Rattle.std.proofs.lemmas.Bool.{cases_eq}
 use Rattle.plan_net.specs.Network.{Net, count_of, IsArc, IsActivity, IsGreatest, lag_of, duration_of}
 use Rattle.plan_net.specs.Order.{IsLeastOrder}
 use Rattle.plan_net.specs.Limits.{IsWithinLimits, HasGoodLags}
@@ -11,46 +10,6 @@ use Rattle.plan_net.proofs.CaughtLemmas.{earlier, once_in}
 use Rattle.plan_cpm.specs.Lengths.{IsLengthFrom, RaisesBefore}
 use Rattle.plan_cpm.proofs.StepLemmas.{tail_step}
 use Rattle.plan_cpm.proofs.PassLemmas.{RightBetween, set_apart, succs_done, succs_right}
-
--- what stands for the first n of the items was raised to what f says of each
-pub record IsRaisedBy (Q : ℕ → Type 0) (f : ℕ → ℕ) (items : List ℕ) (n : ℕ) (before after : List ℕ) : Type 0 where
-  pub whole : length after ≡ length before
-  pub kept : (x : ℕ) → get_or before x 0 ≤ get_or after x 0
-  pub raised : (m : ℕ) → m < n → f (get_or items m 0) ≤ get_or after (get_or items m 0 - 1) 0
-  pub reached : (x : ℕ) → (get_or after x 0 ≡ get_or before x 0) ⊎ ((i : ℕ) × Q i × (x ≡ i - 1) × (get_or after x 0 ≡ f i))
-
-pub IsRaisedBy-nil : (Q : ℕ → Type 0) (f : ℕ → ℕ) (items list : List ℕ) → IsRaisedBy Q f items 0 list list
-IsRaisedBy-nil Q f items list = record { whole = refl; kept = λ x. omega arith; raised = λ m lower. absurd (omega (arith, lower)); reached = λ x. inl refl }
-
--- one more of them
-pub IsRaisedBy-more : (Q : ℕ → Type 0) (f : ℕ → ℕ) (items : List ℕ) (n v : ℕ) (before list : List ℕ) → Q (get_or items n 0) → get_or items n 0 - 1 < length list → v ≡ max (get_or list (get_or items n 0 - 1) 0) (f (get_or items n 0)) → IsRaisedBy Q f items n before list → IsRaisedBy Q f items (n + 1) before (set list (get_or items n 0 - 1) v)
-IsRaisedBy-more Q f items n v before list has within is so_far = record {
-  whole = length-set list (get_or items n 0 - 1) v ∙ so_far.whole;
-  kept = λ x. omega (arith, so_far.kept x, higher x (cases_eq x (get_or items n 0 - 1)));
-  raised = below_more (λ m. f (get_or items m 0) ≤ get_or (set list (get_or items n 0 - 1) v) (get_or items m 0 - 1) 0) n
-      (λ m lower. omega (arith, so_far.raised m lower, higher (get_or items m 0 - 1) (cases_eq (get_or items m 0 - 1) (get_or items n 0 - 1))))
-      (omega (arith, here, is));
-  reached = λ x. reached x (cases_eq x (get_or items n 0 - 1));
-} where
-  here : get_or (set list (get_or items n 0 - 1) v) (get_or items n 0 - 1) 0 ≡ v
-  here = get_or-set_same list (get_or items n 0 - 1) v 0 within
-
-  higher : (x : ℕ) → (x ≡ get_or items n 0 - 1) ⊎ (x ≡ get_or items n 0 - 1 → ⊥) → get_or list x 0 ≤ get_or (set list (get_or items n 0 - 1) v) x 0
-  higher x (inl same) = subst (λ (y : ℕ). get_or list y 0 ≤ get_or (set list (get_or items n 0 - 1) v) y 0) (sym same) (omega (arith, here, is))
-  higher x (inr other) = omega (arith, get_or-set_other list (get_or items n 0 - 1) x v 0 other)
-
-  reached : (x : ℕ) → (x ≡ get_or items n 0 - 1) ⊎ (x ≡ get_or items n 0 - 1 → ⊥) → (get_or (set list (get_or items n 0 - 1) v) x 0 ≡ get_or before x 0) ⊎ ((i : ℕ) × Q i × (x ≡ i - 1) × (get_or (set list (get_or items n 0 - 1) v) x 0 ≡ f i))
-  reached x (inr other) = subst (λ (value : ℕ). (value ≡ get_or before x 0) ⊎ ((i : ℕ) × Q i × (x ≡ i - 1) × (value ≡ f i))) (sym (get_or-set_other list (get_or items n 0 - 1) x v 0 other)) (so_far.reached x)
-  reached x (inl same) = by_size (cases_lt (get_or list (get_or items n 0 - 1) 0) (f (get_or items n 0))) where
-    value : get_or (set list (get_or items n 0 - 1) v) x 0 ≡ v
-    value = ap (λ (y : ℕ). get_or (set list (get_or items n 0 - 1) v) y 0) same ∙ here
-
-    by_size : (get_or list (get_or items n 0 - 1) 0 < f (get_or items n 0)) ⊎ (f (get_or items n 0) ≤ get_or list (get_or items n 0 - 1) 0) → (get_or (set list (get_or items n 0 - 1) v) x 0 ≡ get_or before x 0) ⊎ ((i : ℕ) × Q i × (x ≡ i - 1) × (get_or (set list (get_or items n 0 - 1) v) x 0 ≡ f i))
-    by_size (inl more) = inr (get_or items n 0, has, same, omega (arith, value, is, more))
-    by_size (inr enough) =
-        let old : get_or list (get_or items n 0 - 1) 0 ≡ get_or list x 0 = ap (λ (y : ℕ). get_or list y 0) (sym same) in
-        let kept : get_or (set list (get_or items n 0 - 1) v) x 0 ≡ get_or list x 0 = omega (arith, value, is, enough, old) in
-        subst (λ (w : ℕ). (w ≡ get_or before x 0) ⊎ ((i : ℕ) × Q i × (x ≡ i - 1) × (w ≡ f i))) (sym kept) (so_far.reached x)
 
 -- from the place `left` of the order on the tails are done; before it stands for each activity what follows by them
 pub record AreRests (net : Net) (order list : List ℕ) (left : ℕ) : Type 0 where
