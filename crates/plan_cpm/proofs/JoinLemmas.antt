@@ -1,7 +1,6 @@
 -- Paths joined at an activity: what follows for finishes, tails and starts.
-use Rattle.std.proofs.Common.{ℕ, min, ◌≡◌, ◌+◌, ◌-◌, ◌≤◌, ◌<◌, ◌⊎◌, inl, inr, List, [], ◌∷◌, ◌++◌, length, get_or, refl, sym, ap, subst, arith, below_more}
+use Rattle.std.proofs.Common.{ℕ, ◌≡◌, ◌+◌, ◌-◌, ◌≤◌, ◌<◌, ◌⊎◌, inl, inr, List, [], ◌∷◌, ◌++◌, length, get_or, refl, sym, ap, subst, arith, below_more}
 use Rattle.std.proofs.lemmas.List.{get_or_append_left, get_or_push}
-use Rattle.std.proofs.lemmas.Bool.{cases_lt}
 use Rattle.plan_net.specs.Network.{Net, IsArc, IsActivity, IsGreatest, lag_of, duration_of}
 use Rattle.plan_net.specs.Path.{IsWalk, last_of, length_after, path_length}
 use Rattle.plan_net.specs.Limits.{IsWithinLimits}
@@ -61,18 +60,6 @@ finish_at_most_next net finishes duration j v limits are all activity next = by_
       let late = are.greatest k (arc_ends net j k limits arc).1 in
       let after = after_finish net j k (get_or finishes (j - 1) 0) (get_or finishes (k - 1) 0) arc (are.greatest j activity) late in
       omega (arith, is, after)
-
--- a running minimum of starts
-pub next_more : (net : Net) (finishes items : List ℕ) (duration j n least start new : ℕ) → new ≡ min least start → IsArc net j (get_or items n 0) → start + lag_of net j (get_or items n 0) + duration_of net (get_or items n 0) ≡ get_or finishes (get_or items n 0 - 1) 0 → ((m : ℕ) → m < n → least + lag_of net j (get_or items m 0) + duration_of net (get_or items m 0) ≤ get_or finishes (get_or items m 0 - 1) 0) → least ≤ duration → (least ≡ duration) ⊎ ((k : ℕ) × IsArc net j k × (least + lag_of net j k + duration_of net k ≡ get_or finishes (k - 1) 0)) → ((m : ℕ) → m < n + 1 → new + lag_of net j (get_or items m 0) + duration_of net (get_or items m 0) ≤ get_or finishes (get_or items m 0 - 1) 0) × (new ≤ duration) × ((new ≡ duration) ⊎ ((k : ℕ) × IsArc net j k × (new + lag_of net j k + duration_of net k ≡ get_or finishes (k - 1) 0)))
-next_more net finishes items duration j n least start new is arc value below within reached =
-    (below_more (λ m. new + lag_of net j (get_or items m 0) + duration_of net (get_or items m 0) ≤ get_or finishes (get_or items m 0 - 1) 0) n (λ m lower. omega (arith, below m lower)) (omega (arith, value)), omega arith, by_case (cases_lt start least)) where
-      kept : least ≤ start → (least ≡ duration) ⊎ ((k : ℕ) × IsArc net j k × (least + lag_of net j k + duration_of net k ≡ get_or finishes (k - 1) 0)) → (new ≡ duration) ⊎ ((k : ℕ) × IsArc net j k × (new + lag_of net j k + duration_of net k ≡ get_or finishes (k - 1) 0))
-      kept low (inl whole) = inl (omega (arith, is, whole))
-      kept low (inr (k, arc', same)) = inr (k, arc', omega (arith, is, same))
-
-      by_case : (start < least) ⊎ (least ≤ start) → (new ≡ duration) ⊎ ((k : ℕ) × IsArc net j k × (new + lag_of net j k + duration_of net k ≡ get_or finishes (k - 1) 0))
-      by_case (inl lower) = inr (get_or items n 0, arc, omega (arith, is, value))
-      by_case (inr higher) = kept higher reached
 
 -- one more free float goes to the end of the list
 pub IsNextStart-push : (net : Net) (finishes list : List ℕ) (duration k value : ℕ) → length list ≡ k → IsNextStart net finishes duration (k + 1) (get_or finishes k 0 + value) → ((i : ℕ) → i < k → IsNextStart net finishes duration (i + 1) (get_or finishes i 0 + get_or list i 0)) → (i : ℕ) → i < k + 1 → IsNextStart net finishes duration (i + 1) (get_or finishes i 0 + get_or (list ++ value ∷ []) i 0)

@@ -1,6 +1,9 @@
 pub mod StepLemmas
 pub mod PassLemmas
+pub mod MoveLemmas
+pub mod BackLemmas
 pub mod JoinLemmas
+pub mod NextLemmas
 pub mod DateLemmas
 pub mod BoundLemmas
 pub mod ReachLemmas

@@ -26,7 +26,7 @@ order_apart net order least activities k m within inside apart same = distinct (
   ]
 
 -- a number that is set for one activity changes that of no other
-set_apart : (net : Net) (order list : List ℕ) → IsLeastOrder net order → ((k : ℕ) → k < length order → IsActivity net (get_or order k 0)) → (k m v : ℕ) → k < length order → m < length order → k ≢ m → get_or (set list (get_or order m 0 - 1) v) (get_or order k 0 - 1) 0 ≡ get_or list (get_or order k 0 - 1) 0
+pub set_apart : (net : Net) (order list : List ℕ) → IsLeastOrder net order → ((k : ℕ) → k < length order → IsActivity net (get_or order k 0)) → (k m v : ℕ) → k < length order → m < length order → k ≢ m → get_or (set list (get_or order m 0 - 1) v) (get_or order k 0 - 1) 0 ≡ get_or list (get_or order k 0 - 1) 0
 set_apart net order list least activities k m v within inside apart = get_or-set_other list (get_or order m 0 - 1) (get_or order k 0 - 1) v 0 (order_apart net order least activities k m within inside apart)
 
 -- one more number is right

@@ -61,7 +61,3 @@ greatest_more Q f items n latest ready new is here value above reached = (below_
 pub start_bound : (net : Net) (list : List ℕ) (j start most : ℕ) → HasGoodLags net → ((k : ℕ) → get_or list k 0 ≤ most) → (start ≡ 0) ⊎ ((i : ℕ) × IsArc net i j × (start ≡ get_or list (i - 1) 0 + lag_of net i j)) → start ≤ most + 10000
 start_bound net list j start most good bound (inl none) = omega (arith, none)
 start_bound net list j start most good bound (inr (i, arc, is)) = let lag : lag_of net i j ≤ 10000 = lag_of-limit net i j good in omega (arith, is, bound (i - 1), lag)
-
-pub rest_bound : (net : Net) (list : List ℕ) (j rest most : ℕ) → HasGoodLags net → ((k : ℕ) → get_or list k 0 ≤ most) → (rest ≡ 0) ⊎ ((k : ℕ) × IsArc net j k × (rest ≡ lag_of net j k + get_or list (k - 1) 0)) → rest ≤ most + 10000
-rest_bound net list j rest most good bound (inl none) = omega (arith, none)
-rest_bound net list j rest most good bound (inr (k, arc, is)) = let lag : lag_of net j k ≤ 10000 = lag_of-limit net j k good in omega (arith, is, bound (k - 1), lag)

@@ -79,6 +79,18 @@ pub record IsNextStart (net : Net) (finishes : List ℕ) (duration j v : ℕ) : 
   pub within : v ≤ duration
   pub reached : (v ≡ duration) ⊎ ((k : ℕ) × IsArc net j k × (v + lag_of net j k + duration_of net k ≡ slice_index finishes (k - 1)))
 
+-- what stands for each predecessor of k was lowered to what `start` leaves to its end, and nothing else was
+pub record LowersBefore (net : Net) (k start : ℕ) (before after : List ℕ) : Type 0 where
+  pub whole : length after ≡ length before
+  pub kept : (x : ℕ) → slice_index after x ≤ slice_index before x
+  pub lowered : (j : ℕ) → IsArc net j k → slice_index after (j - 1) + lag_of net j k ≤ start
+  pub reached : (x : ℕ) → (slice_index after x ≡ slice_index before x) ⊎ ((j : ℕ) × IsArc net j k × (x ≡ j - 1) × (slice_index after x + lag_of net j k ≡ start))
+
+-- for each activity the least start of a successor less its lag, or the whole duration
+pub record AreNextStarts (net : Net) (finishes : List ℕ) (duration : ℕ) (list : List ℕ) : Type 0 where
+  pub whole : length list ≡ count_of net
+  pub next : (j : ℕ) → IsActivity net j → IsNextStart net finishes duration j (slice_index list (j - 1))
+
 -- each activity's free float
 pub record AreFreeFloats (net : Net) (finishes : List ℕ) (duration : ℕ) (list : List ℕ) : Type 0 where
   pub whole : length list ≡ count_of net

@@ -1,5 +1,5 @@
 -- Greatest lengths of paths (docs/DEFINITIONS.md, "Dates").
-use Rattle.std.specs.Prelude.{ℕ, ◌≡◌, ◌-◌, List, length, slice_index}
+use Rattle.std.specs.Prelude.{ℕ, ◌≡◌, ◌+◌, ◌-◌, ◌≤◌, ◌⊎◌, List, length, slice_index}
 use Rattle.plan_net.specs.Network.{Net, count_of, IsActivity, IsArc, lag_of, IsGreatest}
 use Rattle.plan_net.specs.Path.{IsPath, last_of, path_length}
 
@@ -24,6 +24,13 @@ pub record AreFinishes (net : Net) (list : List ℕ) : Type 0 where
 pub record AreTails (net : Net) (list : List ℕ) : Type 0 where
   pub whole : length list ≡ count_of net
   pub greatest : (j : ℕ) → IsActivity net j → IsGreatest (IsLengthFrom net j) (slice_index list (j - 1))
+
+-- what stands for each predecessor of j was raised to the lag of its arc and `tail`, and nothing else was
+pub record RaisesBefore (net : Net) (j tail : ℕ) (before after : List ℕ) : Type 0 where
+  pub whole : length after ≡ length before
+  pub kept : (x : ℕ) → slice_index before x ≤ slice_index after x
+  pub raised : (i : ℕ) → IsArc net i j → lag_of net i j + tail ≤ slice_index after (i - 1)
+  pub reached : (x : ℕ) → (slice_index after x ≡ slice_index before x) ⊎ ((i : ℕ) × IsArc net i j × (x ≡ i - 1) × (slice_index after x ≡ lag_of net i j + tail))
 
 -- no arc has a lag
 abbrev pub HasNoLag : Net → Type 0

@@ -1,9 +1,9 @@
 //! Free floats, and `dates`, which puts all together.
 
 ghost use Rattle.std.specs.Prelude.{◌≡◌, ℕ, ◌+◌, ◌*◌, ◌-◌, ◌≤◌, ◌<◌, length, sum, IfOk, slice_index, EachIndex, SomeIndex};
-ghost use Rattle.plan_net.specs.Network.{IsActivity, IsArc, IsGreatest, count_of, duration_of, lag_of};
+ghost use Rattle.plan_net.specs.Network.{IsActivity, IsArc, IsGreatest, count_of, lag_of};
 ghost use Rattle.plan_cpm.specs.Lengths.{AreFinishes, HasNoLag, IsLength};
-ghost use Rattle.plan_cpm.specs.Dates.{AreDates, AreFreeFloats, IsNextStart, KeepRecurrences, LeavesTails};
+ghost use Rattle.plan_cpm.specs.Dates.{AreDates, AreFreeFloats, AreNextStarts, KeepRecurrences, LeavesTails, LowersBefore};
 
 use super::passes::{earliest_finishes, tails};
 use super::table::Dates;
@@ -25,29 +25,38 @@ fn greatest(values: &[u64]) -> u64
     most
 }
 
-// What the start of activity `k` leaves to the end of its predecessor `j`.
-fn start_after(network: &Network, j: u32, k: u32, finishes: &[u64]) -> u64
-    requires arc { IsArc network.now j k }
-    requires from { IsActivity network.now j }
-    requires to { IsActivity network.now k }
-    requires finishes { AreFinishes network.now finishes.now }
-    ensures { result + lag_of network.now j k + duration_of network.now k ≡ slice_index finishes.now (k - 1) }
+// Lowers what stands for each predecessor of `k` to what the start of `k` leaves to its end.
+fn lower_before(network: &Network, k: u32, start: u64, nexts: &mut Vec<u64>)
+    requires activity { IsActivity network.now k }
+    requires whole { length nexts.old.items ≡ count_of network.now }
+    requires start { (j : ℕ) → IsArc network.now j k → lag_of network.now j k ≤ start }
+    ensures { LowersBefore network.now k start nexts.old.items nexts.new.items }
 {
-    finishes[k as usize - 1] - network.duration(k) - network.lag_between(j, k)
+    let lags = network.lags_into(k);
+    'preds: for (m, &j) in network.preds(k).iter().enumerate() {
+        let place = j as usize - 1;
+        let end = start - lags[m];
+        nexts[place] = nexts[place].min(end);
+    }
 }
 
-// The least start of a successor, less the arc's lag; the whole duration without successors.
-fn next_start(network: &Network, j: u32, finishes: &[u64], duration: u64) -> u64
-    requires activity { IsActivity network.now j }
+// The least start of a successor, less the arc's lag, for each activity; the whole duration without successors.
+fn next_starts(
+    alloc: Global,
+    network: &Network,
+    finishes: &[u64],
+    duration: u64,
+) -> Result<Vec<u64>, AllocError>
     requires finishes { AreFinishes network.now finishes.now }
-    ensures { IsNextStart network.now finishes.now duration j result }
+    ensures { IfOk result (λ list. AreNextStarts network.now finishes.now duration list.items) }
 {
-    let mut least = duration;
-    'succs: for &k in network.succs(j) {
-        let start = start_after(network, j, k, finishes);
-        least = least.min(start);
+    let mut nexts = vec![in alloc; duration; network.len()]?;
+    'all: for i in 0..network.len() {
+        let k = i as u32 + 1;
+        let start = finishes[i] - network.duration(k);
+        lower_before(network, k, start, &mut nexts);
     }
-    least
+    Ok(nexts)
 }
 
 // The free float of each activity.
@@ -61,10 +70,10 @@ fn free_floats(
     requires duration { IsGreatest (IsLength network.now) duration }
     ensures { IfOk result (λ list. AreFreeFloats network.now finishes.now duration list.items) }
 {
+    let nexts = next_starts(alloc, network, finishes, duration)?;
     let mut list = Vec::new(alloc);
     'all: for k in 0..network.len() {
-        let next = next_start(network, k as u32 + 1, finishes, duration);
-        list.push(next - finishes[k])?;
+        list.push(nexts[k] - finishes[k])?;
     }
     Ok(list)
 }

@@ -2,7 +2,7 @@
 
 ghost use Rattle.std.specs.Prelude.{◌≡◌, ℕ, ◌+◌, ◌-◌, ◌≤◌, ◌⊎◌, length, IfOk, slice_index, EachIndex};
 ghost use Rattle.plan_net.specs.Network.{IsActivity, IsArc, count_of, duration_of, lag_of};
-ghost use Rattle.plan_cpm.specs.Lengths.{AreFinishes, AreTails};
+ghost use Rattle.plan_cpm.specs.Lengths.{AreFinishes, AreTails, RaisesBefore};
 
 use plan_net::Network;
 use std::alloc::{AllocError, Global};
@@ -18,28 +18,13 @@ fn last_before(network: &Network, j: u32, finishes: &[u64]) -> u64
     ensures above { (i : ℕ) → IsArc network.now i j → slice_index finishes.now (i - 1) + lag_of network.now i j ≤ result }
     ensures reached { (result ≡ 0) ⊎ ((i : ℕ) × IsArc network.now i j × (result ≡ slice_index finishes.now (i - 1) + lag_of network.now i j)) }
 {
+    let lags = network.lags_into(j);
     let mut latest = 0u64;
-    'preds: for &i in network.preds(j) {
-        let ready = finishes[i as usize - 1] + network.lag_between(i, j);
+    'preds: for (k, &i) in network.preds(j).iter().enumerate() {
+        let ready = finishes[i as usize - 1] + lags[k];
         latest = latest.max(ready);
     }
     latest
-}
-
-// The greatest tail of a successor and the arc's lag; 0 without successors.
-fn most_after(network: &Network, j: u32, tails: &[u64]) -> u64
-    requires activity { IsActivity network.now j }
-    requires whole { length tails.now ≡ count_of network.now }
-    requires limit { EachIndex tails.now (λ k. slice_index tails.now k ≤ FARTHEST) }
-    ensures above { (k : ℕ) → IsArc network.now j k → lag_of network.now j k + slice_index tails.now (k - 1) ≤ result }
-    ensures reached { (result ≡ 0) ⊎ ((k : ℕ) × IsArc network.now j k × (result ≡ lag_of network.now j k + slice_index tails.now (k - 1))) }
-{
-    let mut most = 0u64;
-    'succs: for &k in network.succs(j) {
-        let rest = network.lag_between(j, k) + tails[k as usize - 1];
-        most = most.max(rest);
-    }
-    most
 }
 
 // The earliest finish of each activity: the greatest length of a path that ends with it.
@@ -54,6 +39,21 @@ pub(crate) fn earliest_finishes(alloc: Global, network: &Network) -> Result<Vec<
     Ok(finishes)
 }
 
+// Raises what follows each predecessor of `j` to the lag of its arc and the tail of `j`.
+fn raise_before(network: &Network, j: u32, tail: u64, rests: &mut Vec<u64>)
+    requires activity { IsActivity network.now j }
+    requires whole { length rests.old.items ≡ count_of network.now }
+    requires limit { tail ≤ FARTHEST }
+    ensures { RaisesBefore network.now j tail rests.old.items rests.new.items }
+{
+    let lags = network.lags_into(j);
+    'preds: for (k, &i) in network.preds(j).iter().enumerate() {
+        let place = i as usize - 1;
+        let rest = lags[k] + tail;
+        rests[place] = rests[place].max(rest);
+    }
+}
+
 /// The tail of each activity: the greatest length of a path that begins with it.
 pub fn tails(alloc: Global, network: &Network) -> Result<Vec<u64>, AllocError>
     ensures { IfOk result (λ list. AreTails network.now list.items) }
@@ -64,8 +64,10 @@ pub fn tails(alloc: Global, network: &Network) -> Result<Vec<u64>, AllocError>
     'back: while left > 0 {
         left -= 1;
         let j = order[left];
-        let rest = most_after(network, j, &tails);
-        tails[j as usize - 1] = network.duration(j) + rest;
+        // what follows `j` stands where its tail will
+        let tail = network.duration(j) + tails[j as usize - 1];
+        tails[j as usize - 1] = tail;
+        raise_before(network, j, tail, &mut tails);
     }
     Ok(tails)
 }

@@ -1,22 +1,25 @@
 -- The rows beside the arcs: what they say of an arc and of its lag, and what a change of one lag keeps.
-use Rattle.std.proofs.Common.{ℕ, Bool, true, ◌≡◌, ◌≢◌, ◌+◌, ◌-◌, ◌≤◌, ◌<◌, ◌↔◌, ◌⊎◌, inl, inr, List, length, get_or, set, map, sym, ◌∙◌, ap, subst, arith, Vec}
+use Rattle.std.proofs.Common.{ℕ, ◌≡◌, ◌≢◌, ◌+◌, ◌-◌, ◌≤◌, ◌<◌, ◌⊎◌, inl, inr, List, length, get_or, set, map, refl, sym, ◌∙◌, ap, subst, arith, Vec}
 use Rattle.std.specs.declared.alloc.Global.{Global}
 use Rattle.std.specs.List.{Contains, All}
 use Rattle.std.specs.List.Sorted.{IsStrictlyIncreasing}
 use Rattle.std.specs.Vec.{with_item}
-use Rattle.std.proofs.lemmas.List.{length-set, length-map, length-replicate}
-use Rattle.std.proofs.lemmas.List.Elements.{All-weaker, All-replicate, All-contains}
+use Rattle.std.proofs.lemmas.List.{length-set, length-map, length-replicate, get_or-map}
+use Rattle.std.proofs.lemmas.List.Elements.{All-weaker, All-replicate}
 use Rattle.std.proofs.lemmas.Bool.{cases_eq}
-use Rattle.plan_net.specs.Network.{Net, count_of, IsArc, ListsRising, lag_of, lag_beside, lags_with, with_lag, unlagged}
+use Rattle.plan_net.specs.Network.{Net, count_of, IsActivity, IsArc, ListsRising, lag_of, lag_beside, lags_with, with_lag, unlagged}
 use Rattle.plan_net.specs.Limits.{HasGoodSize, HasGoodDurations, HasGoodArcs, HasNewArcs, IsGoodArc, IsWithinLimits}
 use Rattle.plan_net.specs.Indexed.{IsIndexed, net_of, row_at, beside, lag_in}
-use Rattle.plan_net.specs.Marks.{AreMarks, AreRowsOf, AreColumnsOf, AreNoLags, IsSquare, mark_at}
+use Rattle.plan_net.specs.Marks.{AreNoLags}
+use Rattle.plan_net.specs.Rows.{AreBeginnings, AreTurned}
 use Rattle.plan_net.specs.declared.arcs.Arcs.TheInside.{Inside}
 use Rattle.plan_net.specs.declared.limits.TheConstants.{LONGEST_LAG}
-use Rattle.plan_net.proofs.RowLemmas.{arc_ends, row_at-read}
-use Rattle.plan_net.proofs.RisingLemmas.{stands_in, rising_later, ListsRising-same}
+use Rattle.plan_net.proofs.RowLemmas.{arc_ends, row_at-read, within_limits}
+use Rattle.plan_net.proofs.RisingLemmas.{stands_in, rising_later}
+use Rattle.plan_net.proofs.OnceLemmas.{same_entries, rising_once}
 use Rattle.plan_net.proofs.MarkLemmas.{row_at-set_same, row_at-set_other}
-use Rattle.plan_net.proofs.LagLemmas.{lag_beside-map, beside-at, lags-none, lags-set, length-lags_with, All-lags_with}
+use Rattle.plan_net.proofs.PushLemmas.{succs_turned, preds_turned}
+use Rattle.plan_net.proofs.LagLemmas.{lag_of-limit, lag_beside-map, beside-at, lags-none, lags-set, length-lags_with, All-lags_with}
 
 -- an arc as it stands in the rows of the predecessors
 pub record IsPlaceOf (a : Inside) (i j row place : ℕ) : Type 0 where
@@ -70,6 +73,47 @@ lag_at a net i j row place ok same at = subst (λ (n : Net). get_or (row_at a.la
       ∙ ap (λ (k : ℕ). beside (row_at a.preds.items k) (row_at a.lags.items k) i) back
       ∙ beside-at (row_at a.preds.items row) (row_at a.lags.items row) place i at.within at.stands first)
 
+-- in the row of lags of j stand those of the arcs to j
+row_of_lags : (a : Inside) (net : Net) (row j : ℕ) → IsIndexed a → net_of a ≡ net → row + 1 ≡ j → row < length a.preds.items → row_at a.lags.items row ≡ map (λ i. lag_of net i j) (row_at a.preds.items row)
+row_of_lags a net row j ok same of_end within =
+    same_entries (row_at a.lags.items row) (map (λ i. lag_of net i j) (row_at a.preds.items row)) (long ∙ sym (length-map (row_at a.preds.items row) (λ i. lag_of net i j))) each where
+      long : length (row_at a.lags.items row) ≡ length (row_at a.preds.items row)
+      long = ok.lags row (omega (arith, ok.preds_count, within))
+
+      each : (k : ℕ) → k < length (row_at a.lags.items row) → get_or (row_at a.lags.items row) k 0 ≡ get_or (map (λ i. lag_of net i j) (row_at a.preds.items row)) k 0
+      each k lower =
+          let inside : k < length (row_at a.preds.items row) = omega (arith, lower, long) in
+          lag_at a net (get_or (row_at a.preds.items row) k 0) j row k ok same (record { of_end = of_end; row_within = within; within = inside; stands = refl })
+          ∙ sym (get_or-map (λ i. lag_of net i j) (row_at a.preds.items row) k 0 0 inside)
+
+-- which an index reads
+lags_read : (a : Inside) (net : Net) (j : ℕ) (lags : Vec ℕ Global) → IsIndexed a → net_of a ≡ net → IsActivity net j → lags ≡ get_or a.lags.items (j - 1) lags → lags.items ≡ map (λ i. lag_of net i j) (row_at a.preds.items (j - 1))
+lags_read a net j lags ok same activity is =
+    let counted : count_of (net_of a) ≡ count_of net = ap count_of same in
+    sym (row_at-read a.lags.items (j - 1) lags (omega (arith, ok.lags_count, counted, activity)) is)
+    ∙ row_of_lags a net (j - 1) j ok same (omega (arith, activity)) (omega (arith, ok.preds_count, counted, activity))
+
+-- they stand beside each rising list of the predecessors of j
+pub lags_listed : (a : Inside) (net : Net) (j : ℕ) (lags : Vec ℕ Global) → IsIndexed a → net_of a ≡ net → IsActivity net j → lags ≡ get_or a.lags.items (j - 1) lags → (row : List ℕ) → ListsRising (λ i. IsArc net i j) row → lags.items ≡ map (λ i. lag_of net i j) row
+lags_listed a net j lags ok same activity is row listed =
+    lags_read a net j lags ok same activity is ∙ ap (map (λ i. lag_of net i j)) (rising_once (λ i. IsArc net i j) (row_at a.preds.items (j - 1)) row preds listed) where
+      preds : ListsRising (λ i. IsArc net i j) (row_at a.preds.items (j - 1))
+      preds =
+          let back : j - 1 + 1 ≡ j = omega (arith, activity) in
+          let counted : count_of (net_of a) ≡ count_of net = ap count_of same in
+          subst (λ (n : Net). ListsRising (λ i. IsArc n i j) (row_at a.preds.items (j - 1))) same
+          (subst (λ (k : ℕ). ListsRising (λ i. IsArc (net_of a) i k) (row_at a.preds.items (j - 1))) back (ok.preds (j - 1) (omega (arith, counted, activity))))
+
+-- and none of them is above the limit
+pub lags_limited : (a : Inside) (net : Net) (j : ℕ) (lags : Vec ℕ Global) → IsIndexed a → net_of a ≡ net → IsActivity net j → lags ≡ get_or a.lags.items (j - 1) lags → (k : ℕ) → k < length lags.items → get_or lags.items k 0 ≤ LONGEST_LAG
+lags_limited a net j lags ok same activity is k within =
+    let here : lags.items ≡ map (λ i. lag_of net i j) (row_at a.preds.items (j - 1)) = lags_read a net j lags ok same activity is in
+    let long : length lags.items ≡ length (row_at a.preds.items (j - 1)) = ap length here ∙ length-map (row_at a.preds.items (j - 1)) (λ i. lag_of net i j) in
+    let value : get_or lags.items k 0 ≡ lag_of net (get_or (row_at a.preds.items (j - 1)) k 0) j =
+    ap (λ (values : List ℕ). get_or values k 0) here ∙ get_or-map (λ i. lag_of net i j) (row_at a.preds.items (j - 1)) k 0 0 (omega (arith, within, long)) in
+    let limit : lag_of net (get_or (row_at a.preds.items (j - 1)) k 0) j ≤ LONGEST_LAG = lag_of-limit net (get_or (row_at a.preds.items (j - 1)) k 0) j (within_limits a net ok same).lags in
+    omega (arith, value, limit)
+
 -- there is a lag beside each arc
 pub lag_within : (a : Inside) (i j row place : ℕ) → IsIndexed a → IsPlaceOf a i j row place → (row < length a.lags.items) × (place < length (row_at a.lags.items row))
 lag_within a i j row place ok at =
@@ -121,40 +165,15 @@ IsIndexed-set_lag a i j row place w before good ok at is = record {
       ∙ ok.lags row (subst (λ (r : ℕ). r < count_of (net_of a)) same within))
   wide k within (inr other) = ap length (row_at-set_other a.lags.items k row (with_item before place w) other) ∙ ok.lags k within
 
--- the rows that the marks give are those of the arcs
-preds_of_marks : (net : Net) (marks : List (Vec Bool Global)) (rows : List (Vec ℕ Global)) → HasGoodArcs net → AreMarks net.arcs marks → length marks ≡ count_of net → AreRowsOf marks rows → (k : ℕ) → k < count_of net → ListsRising (λ i. IsArc net i (k + 1)) (row_at rows k)
-preds_of_marks net marks rows good known whole are k within =
-    ListsRising-same (λ i. (1 ≤ i) × (i ≤ length marks) × (mark_at marks k (i - 1) ≡ true)) (λ i. IsArc net i (k + 1)) (row_at rows k) same (are.each k (omega (arith, are.whole, whole))) where
-      same : (i : ℕ) → ((1 ≤ i) × (i ≤ length marks) × (mark_at marks k (i - 1) ≡ true)) ↔ IsArc net i (k + 1)
-      same i = (
-        λ here. let back : i - 1 + 1 ≡ i = omega (arith, here.0) in subst (λ (h : ℕ). IsArc net h (k + 1)) back ((known k (i - 1)).0 here.2),
-        λ arc.
-            let ends : IsGoodArc net (i, k + 1) = All-contains (IsGoodArc net) net.arcs (i, k + 1) good arc in
-            let back : i ≡ i - 1 + 1 = omega (arith, ends.0) in
-            (ends.0.0, omega (arith, ends.0.1, whole), (known k (i - 1)).1 (subst (λ (h : ℕ). IsArc net h (k + 1)) back arc)),
-      )
-
-succs_of_marks : (net : Net) (marks : List (Vec Bool Global)) (columns : List (Vec ℕ Global)) → HasGoodArcs net → AreMarks net.arcs marks → length marks ≡ count_of net → AreColumnsOf marks columns → (k : ℕ) → k < count_of net → ListsRising (IsArc net (k + 1)) (row_at columns k)
-succs_of_marks net marks columns good known whole are k within =
-    ListsRising-same (λ j. (1 ≤ j) × (j ≤ length marks) × (mark_at marks (j - 1) k ≡ true)) (IsArc net (k + 1)) (row_at columns k) same (are.each k (omega (arith, are.whole, whole))) where
-      same : (j : ℕ) → ((1 ≤ j) × (j ≤ length marks) × (mark_at marks (j - 1) k ≡ true)) ↔ IsArc net (k + 1) j
-      same j = (
-        λ here. let back : j - 1 + 1 ≡ j = omega (arith, here.0) in subst (λ (h : ℕ). IsArc net (k + 1) h) back ((known (j - 1) k).0 here.2),
-        λ arc.
-            let ends : IsGoodArc net (k + 1, j) = All-contains (IsGoodArc net) net.arcs (k + 1, j) good arc in
-            let back : j ≡ j - 1 + 1 = omega (arith, ends.1) in
-            (ends.1.0, omega (arith, ends.1.1, whole), (known (j - 1) k).1 (subst (λ (h : ℕ). IsArc net (k + 1) h) back arc)),
-      )
-
 -- rows made without lags hold the network without lags
 pub net_of-unlagged : (a : Inside) → AreNoLags a.preds.items a.lags.items → net_of a ≡ unlagged a.durations.items a.arcs.items
 net_of-unlagged a none =
     let net : List ℕ → Net = λ lags. record { durations = a.durations.items; arcs = a.arcs.items; lags = lags } in
     ap net (lags-none a.preds.items a.lags.items a.arcs.items none)
 
--- rows made of the marks of the arcs are in step with them
-pub IsIndexed-made : (a : Inside) (marks : List (Vec Bool Global)) → HasGoodSize (unlagged a.durations.items a.arcs.items) → HasGoodDurations (unlagged a.durations.items a.arcs.items) → HasGoodArcs (unlagged a.durations.items a.arcs.items) → HasNewArcs (unlagged a.durations.items a.arcs.items) → IsSquare (length a.durations.items) marks → AreMarks a.arcs.items marks → AreRowsOf marks a.preds.items → AreColumnsOf marks a.succs.items → AreNoLags a.preds.items a.lags.items → IsIndexed a
-IsIndexed-made a marks size durations arcs new_arcs square known rows columns none = record {
+-- rows of the beginnings of arcs, turned once and turned twice, are in step with the arcs
+pub IsIndexed-made : (a : Inside) (rows : List (Vec ℕ Global)) → HasGoodSize (unlagged a.durations.items a.arcs.items) → HasGoodDurations (unlagged a.durations.items a.arcs.items) → HasGoodArcs (unlagged a.durations.items a.arcs.items) → HasNewArcs (unlagged a.durations.items a.arcs.items) → AreBeginnings (length a.durations.items) a.arcs.items rows → AreTurned rows (length rows) a.succs.items → AreTurned a.succs.items (length a.succs.items) a.preds.items → AreNoLags a.preds.items a.lags.items → IsIndexed a
+IsIndexed-made a rows size durations arcs new_arcs beginnings succs preds none = record {
   limits = record {
     size = size;
     durations = durations;
@@ -162,10 +181,15 @@ IsIndexed-made a marks size durations arcs new_arcs square known rows columns no
     new_arcs = new_arcs;
     lags = (length-map a.arcs.items (lag_in a.preds.items a.lags.items), subst (All (λ w. w ≤ LONGEST_LAG)) (sym (lags-none a.preds.items a.lags.items a.arcs.items none)) (All-replicate (λ w. w ≤ LONGEST_LAG) (length a.arcs.items) 0 (omega arith)));
   };
-  preds_count = rows.whole ∙ square.rows;
-  preds = preds_of_marks (net_of a) marks a.preds.items arcs known square.rows rows;
-  succs_count = columns.whole ∙ square.rows;
-  succs = succs_of_marks (net_of a) marks a.succs.items arcs known square.rows columns;
-  lags_count = none.whole ∙ rows.whole ∙ square.rows;
-  lags = λ k within. ap length (none.each k (omega (arith, none.whole, rows.whole, square.rows))) ∙ length-replicate (length (row_at a.preds.items k)) 0;
-}
+  preds_count = preds.whole ∙ whole;
+  preds = λ k within. preds_turned (net_of a) a.succs.items a.preds.items arcs whole listed preds k;
+  succs_count = whole;
+  succs = λ k within. listed k;
+  lags_count = none.whole ∙ preds.whole ∙ whole;
+  lags = λ k within. ap length (none.each k (omega (arith, none.whole, preds.whole, whole))) ∙ length-replicate (length (row_at a.preds.items k)) 0;
+} where
+  whole : length a.succs.items ≡ count_of (net_of a)
+  whole = succs.whole ∙ beginnings.whole
+
+  listed : (k : ℕ) → ListsRising (IsArc (net_of a) (k + 1)) (row_at a.succs.items k)
+  listed = succs_turned (net_of a) rows a.succs.items arcs beginnings succs

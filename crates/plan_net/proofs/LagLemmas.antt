@@ -3,7 +3,7 @@ use Rattle.std.proofs.Common.{ℕ, suc, zero, Bool, true, false, cond, nat_eq, �
 use Rattle.std.specs.declared.alloc.Global.{Global}
 use Rattle.std.specs.List.{Contains, All, slice_get}
 use Rattle.std.specs.Vec.{with_item}
-use Rattle.std.proofs.lemmas.List.{get_or-drop}
+use Rattle.std.proofs.lemmas.List.{get_or-drop, get_or-map, length-map}
 use Rattle.std.proofs.lemmas.List.Elements.{All-cons, All-head, All-tail, All-contains}
 use Rattle.std.proofs.lemmas.Option.{slice_get-get_or}
 use Rattle.std.proofs.lemmas.Bool.{cases_eq, cases_lt, cases_Bool, false≢true, eq-eqb, eqb-true}
@@ -55,14 +55,14 @@ joins-other arc i j other = by_case (cases_Bool (joins arc i j)) where
   by_case (inr isnt) = isnt
 
 -- a list that has the element has it in front or behind
-Contains-cons_cases : {X : Type 0} (x y : X) (xs : List X) → Contains (x ∷ xs) y → (x ≡ y) ⊎ Contains xs y
+pub Contains-cons_cases : {X : Type 0} (x y : X) (xs : List X) → Contains (x ∷ xs) y → (x ≡ y) ⊎ Contains xs y
 Contains-cons_cases x y xs (zero, within, is) = inl is
 Contains-cons_cases x y xs (suc k, within, is) = inr (k, omega arith, is)
 
-Contains-behind : {X : Type 0} (x y : X) (xs : List X) → Contains xs y → Contains (x ∷ xs) y
+pub Contains-behind : {X : Type 0} (x y : X) (xs : List X) → Contains xs y → Contains (x ∷ xs) y
 Contains-behind x y xs (k, within, is) = (suc k, omega arith, is)
 
-Contains-front : {X : Type 0} (x : X) (xs : List X) → Contains (x ∷ xs) x
+pub Contains-front : {X : Type 0} (x : X) (xs : List X) → Contains (x ∷ xs) x
 Contains-front x xs = (zero, omega arith, refl)
 
 -- the lag beside an arc, where the lags are what a function gives of the arcs
@@ -268,6 +268,12 @@ lag_beside-limit (arc ∷ arcs) (lag ∷ lags) most i j all =
 pub lag_of-limit : (net : Net) (i j : ℕ) → HasGoodLags net → lag_of net i j ≤ LONGEST_LAG
 unfolding lag_of
 lag_of-limit net i j good = lag_beside-limit net.arcs net.lags LONGEST_LAG i j good.1
+
+-- what stands in a list of lags beside the predecessors of j
+pub lag_in_place : (net : Net) (j : ℕ) (preds lags : List ℕ) (k : ℕ) → lags ≡ map (λ i. lag_of net i j) preds → k < length preds → (k < length lags) × (get_or lags k 0 ≡ lag_of net (get_or preds k 0) j)
+lag_in_place net j preds lags k beside' within =
+    let long : length lags ≡ length preds = ap length beside' ∙ length-map preds (λ i. lag_of net i j) in
+    (omega (arith, long, within), ap (λ (values : List ℕ). get_or values k 0) beside' ∙ get_or-map (λ i. lag_of net i j) preds k 0 0 within)
 
 -- the lag that was set, and the lags of all other arcs
 pub lag_of-with_lag : (net : Net) (i j w : ℕ) → HasGoodLags net → IsArc net i j → lag_of (with_lag net i j w) i j ≡ w

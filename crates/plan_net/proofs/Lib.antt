@@ -6,6 +6,7 @@ pub mod TrailLemmas
 pub mod RingLemmas
 pub mod CaughtLemmas
 pub mod LagLemmas
+pub mod PushLemmas
 pub mod IndexLemmas
 pub mod PathLemmas
 pub mod SoundLemmas

@@ -1,11 +1,12 @@
--- Rising lists, and the least number of which something holds.
-use Rattle.std.proofs.Common.{ℕ, suc, zero, ◌≡◌, ◌+◌, ◌≤◌, ◌<◌, ◌↔◌, ◌⊎◌, inl, inr, List, [], ◌∷◌, ◌++◌, length, get_or, sym, ◌∙◌, subst, arith}
+-- Rising lists, lists that hold each number once, and the least number of which something holds.
+use Rattle.std.proofs.Common.{ℕ, suc, zero, ◌≡◌, ◌≢◌, ◌+◌, ◌≤◌, ◌<◌, ◌↔◌, ◌⊎◌, inl, inr, List, [], ◌∷◌, ◌++◌, length, get_or, sym, ◌∙◌, subst, arith}
 use Rattle.std.specs.List.{Contains}
 use Rattle.std.specs.List.Sorted.{IsStrictlyIncreasing}
 use Rattle.std.proofs.lemmas.List.{get_or_default, get_or_append_left, get_or_push, length_push}
 use Rattle.std.proofs.lemmas.List.Elements.{Contains-get_or, Contains-push, Contains-push_cases, Contains-append_left}
 use Rattle.std.proofs.lemmas.Bool.{cases_lt}
 use Rattle.plan_net.specs.Network.{IsLeast, ListsRising}
+use Rattle.plan_net.specs.Rows.{HoldsOnce}
 
 -- two numbers that are the least with P are one
 pub least_once : (P : ℕ → Type 0) (a b : ℕ) → IsLeast P a → IsLeast P b → a ≡ b
@@ -18,6 +19,17 @@ place_in list x (k, within, is) = (k, within, get_or_default list k 0 x within �
 -- what stands at a place is an element
 pub stands_in : (list : List ℕ) (x k : ℕ) → k < length list → get_or list k 0 ≡ x → Contains list x
 stands_in list x k within is = subst (Contains list) is (Contains-get_or list k 0 within)
+
+-- a number that a list hasn't goes to its end
+pub HoldsOnce-push : (list : List ℕ) (x : ℕ) → HoldsOnce list → (Contains list x → ⊥) → HoldsOnce (list ++ x ∷ [])
+HoldsOnce-push list x once fresh a b lower within = by_case (cases_lt b (length list)) where
+  by_case : (b < length list) ⊎ (length list ≤ b) → get_or (list ++ x ∷ []) a 0 ≢ get_or (list ++ x ∷ []) b 0
+  by_case (inl earlier) same =
+      once a b lower earlier (sym (get_or_append_left list (x ∷ []) 0 a (omega arith)) ∙ same ∙ get_or_append_left list (x ∷ []) 0 b earlier)
+  by_case (inr higher) same =
+      let last : length list ≡ b = omega (arith, length_push list x) in
+      let inside : a < length list = omega (arith, last) in
+      fresh (stands_in list x a inside (sym (get_or_append_left list (x ∷ []) 0 a inside) ∙ same ∙ get_or_push list x 0 b last))
 
 -- of two places of a rising list the later has the greater number
 pub rising_later : (list : List ℕ) → IsStrictlyIncreasing list → (a b : ℕ) → a < b → b < length list → get_or list a 0 < get_or list b 0

@@ -1,5 +1,5 @@
 -- The walk from predecessor to predecessor: what one step adds.
-use Rattle.std.proofs.Common.{ℕ, suc, zero, Bool, ◌≡◌, ◌≢◌, ◌≤◌, ◌<◌, ◌⊎◌, inl, inr, List, [], ◌∷◌, ◌++◌, length, get_or, sym, ◌∙◌, subst, arith}
+use Rattle.std.proofs.Common.{ℕ, suc, zero, Bool, ◌≡◌, ◌≤◌, ◌<◌, ◌⊎◌, inl, inr, List, [], ◌∷◌, ◌++◌, length, get_or, sym, subst, arith}
 use Rattle.std.specs.List.{Contains}
 use Rattle.std.proofs.lemmas.List.{length_push, get_or_append_left, get_or_push}
 use Rattle.std.proofs.lemmas.Bool.{cases_lt}
@@ -9,7 +9,7 @@ use Rattle.plan_net.specs.Limits.{IsWithinLimits}
 use Rattle.plan_net.specs.Placed.{IsOpen}
 use Rattle.plan_net.specs.Trails.{IsCaughtOpen, IsTrail}
 use Rattle.plan_net.proofs.RowLemmas.{arc_ends}
-use Rattle.plan_net.proofs.RisingLemmas.{stands_in, least_once}
+use Rattle.plan_net.proofs.RisingLemmas.{HoldsOnce-push, least_once}
 
 -- an activity before which is none caught but the open ones
 pub least_before : (net : Net) (placed : List Bool) (at i : ℕ) → IsWithinLimits net → IsCaughtOpen net placed → IsLeast (λ h. IsArc net h at × IsOpen placed h) i → IsLeastCaughtBefore net at i
@@ -19,19 +19,12 @@ least_before net placed at i limits open_ones least =
 -- a step of the walk
 pub IsTrail-push : (net : Net) (trail : List ℕ) (at i : ℕ) → IsTrail net trail at → (Contains trail at → ⊥) → IsLeastCaughtBefore net at i → IsTrail net (trail ++ at ∷ []) i
 IsTrail-push net trail at i walked fresh before = record {
-  once = λ a b lower within. once a b lower within (cases_lt b (length trail));
+  once = HoldsOnce-push trail at walked.once fresh;
   steps = λ k within. steps k within (cases_lt k (length trail));
   next = let more : suc (length trail) ≡ length (trail ++ at ∷ []) = omega (arith, length_push trail at) in subst (λ (n : ℕ). Comes net n i) more (at, walked.next, before);
 } where
   last : (k : ℕ) → length trail ≤ k → k < length (trail ++ at ∷ []) → length trail ≡ k
   last k higher lower = omega (arith, length_push trail at)
-
-  once : (a b : ℕ) → a < b → b < length (trail ++ at ∷ []) → (b < length trail) ⊎ (length trail ≤ b) → get_or (trail ++ at ∷ []) a 0 ≢ get_or (trail ++ at ∷ []) b 0
-  once a b lower within (inl earlier) same =
-      walked.once a b lower earlier (sym (get_or_append_left trail (at ∷ []) 0 a (omega arith)) ∙ same ∙ get_or_append_left trail (at ∷ []) 0 b earlier)
-  once a b lower within (inr higher) same =
-      let inside : a < length trail = omega (arith, last b higher within) in
-      fresh (stands_in trail at a inside (sym (get_or_append_left trail (at ∷ []) 0 a inside) ∙ same ∙ get_or_push trail at 0 b (last b higher within)))
 
   steps : (k : ℕ) → k < length (trail ++ at ∷ []) → (k < length trail) ⊎ (length trail ≤ k) → Comes net k (get_or (trail ++ at ∷ []) k 0)
   steps k within (inl earlier) = subst (Comes net k) (sym (get_or_append_left trail (at ∷ []) 0 k earlier)) (walked.steps k earlier)

@@ -4,11 +4,12 @@ use Rattle.std.specs.List.{Contains}
 use Rattle.std.proofs.lemmas.List.{length-set, length_push, length-replicate, get_or_append_left, get_or_push, get_or-replicate, take-append-le, take_all}
 use Rattle.std.proofs.lemmas.List.Elements.{Contains-push, Contains-push_cases, Contains-append_left}
 use Rattle.std.proofs.lemmas.Bool.{cases_eq, cases_lt, cases_Bool, false≢true}
-use Rattle.plan_net.specs.Network.{Net, count_of, IsActivity, IsLeast}
+use Rattle.plan_net.specs.Network.{Net, count_of, IsActivity, IsArc, IsLeast, ListsRising}
 use Rattle.plan_net.specs.Order.{CanCome}
 use Rattle.plan_net.specs.Limits.{IsWithinLimits}
-use Rattle.plan_net.specs.Placed.{IsPlaced, IsOpen, IsReady, open_count, IsPlacedOrder}
+use Rattle.plan_net.specs.Placed.{IsPlaced, IsOpen, IsReady, open_count, IsPlacedOrder, IsStuckBelow, IsStuckBelowBut}
 use Rattle.plan_net.proofs.RowLemmas.{arc_ends}
+use Rattle.plan_net.proofs.RisingLemmas.{place_in, rising_at_most}
 
 -- marks none of which is set
 pub open_count-replicate : (n : ℕ) → open_count (replicate n false) ≡ n
@@ -121,3 +122,47 @@ IsPlacedOrder-push net order placed j limits turns ready = record {
   least k (inr higher) lower =
       subst (λ (before : List ℕ). IsLeast (CanCome net before) (get_or (order ++ j ∷ []) k 0)) (sym (take-append-le k order (j ∷ []) (omega (arith, last k higher lower)) ∙ take_all k order higher))
       (subst (IsLeast (CanCome net order)) (sym (get_or_push order j 0 k (last k higher lower))) least_now)
+
+-- before the first turn
+pub IsStuckBelow-first : (net : Net) (placed : List Bool) → IsStuckBelow net placed 1
+IsStuckBelow-first net placed h activity lower is_open = absurd (omega (arith, activity, lower))
+
+-- once j is placed, the open activities below it have an open predecessor or are its successors
+pub IsStuckBelowBut-placed : (net : Net) (placed : List Bool) (j : ℕ) → IsWithinLimits net → IsActivity net j → IsStuckBelow net placed j → IsStuckBelowBut net (set placed (j - 1) true) j
+IsStuckBelowBut-placed net placed j limits activity below h activity' lower is_open = by_case (cases_eq pred.0 j) where
+  kept : (i : ℕ) → 1 ≤ i → i ≢ j → get_or (set placed (j - 1) true) (i - 1) false ≡ get_or placed (i - 1) false
+  kept i low other = get_or-set_other placed (j - 1) (i - 1) true false (λ same. other (omega (arith, same, low, activity)))
+
+  pred : (i : ℕ) × IsArc net i h × IsOpen placed i
+  pred = below h activity' lower (sym (kept h activity'.0 (λ same. absurd (omega (arith, same, lower)))) ∙ is_open)
+
+  by_case : (pred.0 ≡ j) ⊎ (pred.0 ≡ j → ⊥) → IsArc net j h ⊎ ((i : ℕ) × IsArc net i h × IsOpen (set placed (j - 1) true) i)
+  by_case (inl same) = inl (subst (λ (i : ℕ). IsArc net i h) same pred.1)
+  by_case (inr other) = inr (pred.0, pred.1, kept pred.0 (arc_ends net pred.0 h limits pred.1).0.0 other ∙ pred.2)
+
+-- none can come up to where the successors of j have an open predecessor
+IsStuckBelow-succs : (net : Net) (placed : List Bool) (j first : ℕ) (succs : List ℕ) → ListsRising (IsArc net j) succs → IsStuckBelowBut net placed j → first ≤ j
+    → ((m : ℕ) → m < length succs → get_or succs m 0 < first → (i : ℕ) × IsArc net i (get_or succs m 0) × IsOpen placed i) → IsStuckBelow net placed first
+IsStuckBelow-succs net placed j first succs listed below low held h activity lower is_open = by_case (below h activity (omega arith) is_open) where
+  by_case : IsArc net j h ⊎ ((i : ℕ) × IsArc net i h × IsOpen placed i) → (i : ℕ) × IsArc net i h × IsOpen placed i
+  by_case (inr pred) = pred
+  by_case (inl arc) =
+      let place = place_in succs h ((listed.exact h).1 arc) in
+      let below' : get_or succs place.0 0 < first = omega (arith, place.2, lower) in
+      subst (λ (k : ℕ). (i : ℕ) × IsArc net i k × IsOpen placed i) place.2 (held place.0 place.1 below')
+
+-- up to one of them, where those before it do
+pub IsStuckBelow-at : (net : Net) (placed : List Bool) (j at : ℕ) (succs : List ℕ) → ListsRising (IsArc net j) succs → IsStuckBelowBut net placed j → at < length succs → get_or succs at 0 < j
+    → ((m : ℕ) → m < at → get_or succs m 0 < j → (i : ℕ) × IsArc net i (get_or succs m 0) × IsOpen placed i) → IsStuckBelow net placed (get_or succs at 0)
+IsStuckBelow-at net placed j at succs listed below within low held = IsStuckBelow-succs net placed j (get_or succs at 0) succs listed below (omega (arith, low)) (λ m inside lower. before m inside lower (cases_lt m at)) where
+  before : (m : ℕ) → m < length succs → get_or succs m 0 < get_or succs at 0 → (m < at) ⊎ (at ≤ m) → (i : ℕ) × IsArc net i (get_or succs m 0) × IsOpen placed i
+  before m inside lower (inl earlier) = held m earlier (omega (arith, lower, low))
+  before m inside lower (inr later) = let up : get_or succs at 0 ≤ get_or succs m 0 = rising_at_most succs listed.rising at m later inside in absurd (omega (arith, up, lower))
+
+-- up to the one behind j, where all below j do
+pub IsStuckBelow-behind : (net : Net) (placed : List Bool) (j : ℕ) (succs : List ℕ) → ListsRising (IsArc net j) succs → IsStuckBelowBut net placed j → IsPlaced placed j
+    → ((m : ℕ) → m < length succs → get_or succs m 0 < j → (i : ℕ) × IsArc net i (get_or succs m 0) × IsOpen placed i) → IsStuckBelow net placed (j + 1)
+IsStuckBelow-behind net placed j succs listed below marked held h activity lower is_open = by_case (cases_lt h j) where
+  by_case : (h < j) ⊎ (j ≤ h) → (i : ℕ) × IsArc net i h × IsOpen placed i
+  by_case (inl before) = IsStuckBelow-succs net placed j j succs listed below (omega arith) held h activity before is_open
+  by_case (inr after) = let same : j ≡ h = omega arith in absurd (false≢true (sym is_open ∙ subst (IsPlaced placed) same marked))

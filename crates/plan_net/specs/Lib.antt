@@ -8,3 +8,4 @@ pub mod Placed
 pub mod Trails
 pub mod Indexed
 pub mod Marks
+pub mod Rows

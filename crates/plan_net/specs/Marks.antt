@@ -1,7 +1,6 @@
 -- Marks for the arcs of a network, in a row for each activity: what the search for double arcs keeps.
-use Rattle.std.specs.Prelude.{ℕ, Bool, true, false, ◌≡◌, ◌-◌, ◌+◌, ◌≤◌, ◌<◌, ◌↔◌, List, length, replicate, slice_index_or, Contains, Vec}
+use Rattle.std.specs.Prelude.{ℕ, Bool, true, false, ◌≡◌, ◌+◌, ◌<◌, ◌↔◌, List, length, replicate, slice_index_or, Contains, Vec}
 use Rattle.std.specs.declared.alloc.Global.{Global}
-use Rattle.plan_net.specs.Network.{ListsRising}
 use Rattle.plan_net.specs.Indexed.{row_at}
 
 -- the mark at a row and a column, both from 0 on
@@ -19,16 +18,6 @@ HasNoMark marks = (row column : ℕ) → mark_at marks row column ≡ false
 -- the marks that are set are those of the arcs, in the row of its end and the column of its beginning
 abbrev pub AreMarks : List (ℕ × ℕ) → List (Vec Bool Global) → Type 0
 AreMarks arcs marks = (row column : ℕ) → mark_at marks row column ≡ true ↔ Contains arcs (column + 1, row + 1)
-
--- row by row the columns, from 1 on, in which a mark is set, rising
-pub record AreRowsOf (marks : List (Vec Bool Global)) (rows : List (Vec ℕ Global)) : Type 0 where
-  pub whole : length rows ≡ length marks
-  pub each : (k : ℕ) → k < length rows → ListsRising (λ i. (1 ≤ i) × (i ≤ length marks) × (mark_at marks k (i - 1) ≡ true)) (row_at rows k)
-
--- column by column the rows, from 1 on, in which a mark is set, rising
-pub record AreColumnsOf (marks : List (Vec Bool Global)) (columns : List (Vec ℕ Global)) : Type 0 where
-  pub whole : length columns ≡ length marks
-  pub each : (k : ℕ) → k < length columns → ListsRising (λ j. (1 ≤ j) × (j ≤ length marks) × (mark_at marks (j - 1) k ≡ true)) (row_at columns k)
 
 -- beside each row one of as many lags, all of them 0
 pub record AreNoLags (rows lags : List (Vec ℕ Global)) : Type 0 where

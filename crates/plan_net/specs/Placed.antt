@@ -1,5 +1,5 @@
 -- Marks on the activities, and the order in which they were set: what the search for an order keeps.
-use Rattle.std.specs.Prelude.{ℕ, Bool, true, false, ◌≡◌, ◌+◌, ◌-◌, ◌<◌, ◌↔◌, List, [], ◌∷◌, length, take, slice_index, slice_index_or, Contains}
+use Rattle.std.specs.Prelude.{ℕ, Bool, true, false, ◌≡◌, ◌+◌, ◌-◌, ◌<◌, ◌↔◌, ◌⊎◌, List, [], ◌∷◌, length, take, slice_index, slice_index_or, Contains}
 use Rattle.plan_net.specs.Network.{Net, count_of, IsActivity, IsArc, IsLeast}
 use Rattle.plan_net.specs.Order.{CanCome}
 
@@ -32,3 +32,13 @@ pub record IsPlacedOrder (net : Net) (order : List ℕ) (placed : List Bool) : T
 -- each open activity has an open predecessor
 abbrev pub IsStuck : Net → List Bool → Type 0
 IsStuck net placed = (j : ℕ) → IsActivity net j → IsOpen placed j → (i : ℕ) × IsArc net i j × IsOpen placed i
+
+-- each open activity below `first` has an open predecessor
+abbrev pub IsStuckBelow : Net → List Bool → ℕ → Type 0
+IsStuckBelow net placed first =
+    (h : ℕ) → IsActivity net h → h < first → IsOpen placed h → (i : ℕ) × IsArc net i h × IsOpen placed i
+
+-- each open activity below j has an open predecessor, or is a successor of j
+abbrev pub IsStuckBelowBut : Net → List Bool → ℕ → Type 0
+IsStuckBelowBut net placed j =
+    (h : ℕ) → IsActivity net h → h < j → IsOpen placed h → IsArc net j h ⊎ ((i : ℕ) × IsArc net i h × IsOpen placed i)

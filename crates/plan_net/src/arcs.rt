@@ -1,7 +1,7 @@
 //! A network within the limits, before the test for a cycle, with its rows of predecessors,
 //! successors and lags.
 
-ghost use Rattle.std.specs.Prelude.{◌≡◌, ℕ, ◌↔◌, ◌≤◌, length, map, slice_index, EachIndex, IfOk, IfErr, OnOk, OnErr, IfSome, IfNone};
+ghost use Rattle.std.specs.Prelude.{◌≡◌, ℕ, List, ◌↔◌, ◌≤◌, length, map, slice_index, EachIndex, IfOk, IfErr, OnOk, OnErr, IfSome, IfNone};
 ghost use Rattle.plan_net.specs.Network.{IsActivity, IsArc, ListsRising, duration_of, count_of, lag_of, unlagged, with_lag};
 ghost use Rattle.plan_net.specs.Limits.{IsWithinLimits, HasGoodSize, HasGoodDurations, HasGoodArcs};
 ghost use Rattle.plan_net.specs.Refusals.{IsFirstFault, IsLagFault, NamesCycle};
@@ -9,7 +9,8 @@ ghost use Rattle.plan_net.specs.Refusals.{IsFirstFault, IsLagFault, NamesCycle};
 use super::checks::{first_bad_arc, first_bad_duration};
 use super::fault::NetFault;
 use super::limits::{FEWEST_ACTIVITIES, LONGEST_DURATION, LONGEST_LAG, MOST_ACTIVITIES};
-use super::tables::{columns_of, first_double_arc, no_lags, no_marks, place_in, rows_of};
+use super::rows::{rows_by_end, turned};
+use super::tables::{first_double_arc, no_lags, no_marks, place_in};
 use std::alloc::Global;
 use std::marker::Model;
 
@@ -69,8 +70,9 @@ impl Arcs {
         if let Some((i, j)) = first_double_arc(&durations, &arcs, &mut marks) {
             return Err(NetFault::DoubleArc(i, j));
         }
-        let preds = rows_of(alloc, &marks)?;
-        let succs = columns_of(alloc, &marks)?;
+        let beginnings = rows_by_end(alloc, &durations, &arcs)?;
+        let succs = turned(alloc, &beginnings)?;
+        let preds = turned(alloc, &succs)?;
         let lags = no_lags(alloc, &preds)?;
         Ok(Arcs {
             durations,
@@ -132,6 +134,15 @@ impl Arcs {
             Some((row, place)) => Some(self.lags[row][place]),
             None => None,
         }
+    }
+
+    /// The lags of the arcs to `j`, each at the place of its predecessor.
+    pub fn lags_into(&self, j: u32) -> &[u64]
+        requires { IsActivity self.now j }
+        ensures value { (row : List ℕ) → ListsRising (λ i. IsArc self.now i j) row → result.now ≡ map (λ i. lag_of self.now i j) row }
+        ensures limit { EachIndex result.now (λ k. slice_index result.now k ≤ LONGEST_LAG) }
+    {
+        self.lags[j as usize - 1].as_slice()
     }
 
     /// Gives the arc from `i` to `j` the lag.

@@ -10,6 +10,7 @@ mod fault;
 mod limits;
 mod network;
 mod order;
+mod rows;
 mod tables;
 
 pub use fault::NetFault;

@@ -1,6 +1,6 @@
 //! `Network`, its facts, and all public calls with their contracts. Begin here.
 
-ghost use Rattle.std.specs.Prelude.{◌≡◌, ℕ, ◌↔◌, ◌≤◌, length, map, IfOk, IfErr, OnOk, OnErr, IfSome, IfNone, slice_index, EachIndex};
+ghost use Rattle.std.specs.Prelude.{◌≡◌, ℕ, List, ◌↔◌, ◌≤◌, length, map, IfOk, IfErr, OnOk, OnErr, IfSome, IfNone, slice_index, EachIndex};
 ghost use Rattle.plan_net.specs.Network.{IsActivity, IsArc, ListsRising, duration_of, count_of, lag_of, unlagged, with_lag};
 ghost use Rattle.plan_net.specs.Order.{IsLeastOrder, IsTopological};
 ghost use Rattle.plan_net.specs.Limits.{IsSound};
@@ -128,6 +128,15 @@ impl Network {
             Some(lag) => lag,
             None => unreachable!(),
         }
+    }
+
+    /// The lags of the arcs to `j`, each at the place that its predecessor has in `preds`.
+    pub fn lags_into(&self, j: u32) -> &[u64]
+        requires { IsActivity self.now j }
+        ensures value { (row : List ℕ) → ListsRising (λ i. IsArc self.now i j) row → result.now ≡ map (λ i. lag_of self.now i j) row }
+        ensures limit { EachIndex result.now (λ k. slice_index result.now k ≤ LONGEST_LAG) }
+    {
+        self.arcs.lags_into(j)
     }
 
     /// Gives the arc from `i` to `j` the lag. Takes no memory.

@@ -2,7 +2,7 @@
 
 ghost use Rattle.std.specs.Prelude.{◌≡◌, ℕ, ◌≤◌, ◌<◌, length, IfOk, IfSome, IfNone};
 ghost use Rattle.plan_net.specs.Network.{IsActivity, IsArc, IsLeast, count_of};
-ghost use Rattle.plan_net.specs.Placed.{IsPlaced, IsOpen, IsReady, IsPlacedOrder, IsStuck};
+ghost use Rattle.plan_net.specs.Placed.{IsPlaced, IsOpen, IsReady, IsPlacedOrder, IsStuck, IsStuckBelow, IsStuckBelowBut};
 
 use super::arcs::Arcs;
 use super::limits::MOST_ACTIVITIES;
@@ -23,14 +23,17 @@ pub fn open_pred(arcs: &Arcs, j: u32, placed: &[bool]) -> Option<u32>
     None
 }
 
-// The least activity that can come, if any can.
-fn least_ready(arcs: &Arcs, placed: &[bool]) -> Option<u32>
-    requires { length placed.now ≡ count_of arcs.now }
+// The least activity that can come, if any can; none below `first` can.
+fn least_ready(arcs: &Arcs, placed: &[bool], first: u32) -> Option<u32>
+    requires whole { length placed.now ≡ count_of arcs.now }
+    requires first { 1 ≤ first }
+    requires below { IsStuckBelow arcs.now placed.now first }
     ensures some { IfSome result (λ j. IsLeast (IsReady arcs.now placed.now) j) }
+    ensures below { IfSome result (IsStuckBelow arcs.now placed.now) }
     ensures none { IfNone result (IsStuck arcs.now placed.now) }
 {
     let count = arcs.len() as u32;
-    'activities: for j in 1..=count {
+    'activities: for j in first..=count {
         if !placed[j as usize - 1] {
             match open_pred(arcs, j, placed) {
                 None => return Some(j),
@@ -41,6 +44,24 @@ fn least_ready(arcs: &Arcs, placed: &[bool]) -> Option<u32>
     None
 }
 
+// Where to go on once `j` is placed: at the least of its successors below it that can come now, else behind it.
+fn next_from(arcs: &Arcs, j: u32, placed: &[bool]) -> u32
+    requires activity { IsActivity arcs.now j }
+    requires whole { length placed.now ≡ count_of arcs.now }
+    requires limit { length placed.now ≤ MOST_ACTIVITIES }
+    requires placed { IsPlaced placed.now j }
+    requires below { IsStuckBelowBut arcs.now placed.now j }
+    ensures first { 1 ≤ result }
+    ensures below { IsStuckBelow arcs.now placed.now result }
+{
+    'succs: for &k in arcs.succs(j) {
+        if k < j && open_pred(arcs, k, placed).is_none() {
+            return k;
+        }
+    }
+    j + 1
+}
+
 /// The activities that can come, in the order in which they come, and their marks.
 pub fn least_order(alloc: Global, arcs: &Arcs) -> Result<(Vec<u32>, Vec<bool>), AllocError>
     ensures order { IfOk result (λ found. IsPlacedOrder arcs.now found.0.items found.1.items) }
@@ -48,9 +69,11 @@ pub fn least_order(alloc: Global, arcs: &Arcs) -> Result<(Vec<u32>, Vec<bool>), 
 {
     let mut order = Vec::new(alloc);
     let mut placed = vec![in alloc; false; arcs.len()]?;
-    'turns: while let Some(j) = least_ready(arcs, &placed) {
+    let mut first = 1;
+    'turns: while let Some(j) = least_ready(arcs, &placed, first) {
         order.push(j)?;
         placed[j as usize - 1] = true;
+        first = next_from(arcs, j, &placed);
     }
     Ok((order, placed))
 }

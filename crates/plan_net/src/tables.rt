@@ -1,15 +1,13 @@
-//! Marks for the arcs, the first double arc, rows read off the marks, the place of an arc in them.
+//! Marks for the arcs, the first double arc, rows of lags, the place of an arc in its row.
 
-ghost use Rattle.std.specs.Prelude.{◌≡◌, ℕ, ◌≤◌, ◌<◌, ◌+◌, ◌-◌, length, slice_index, true, Contains, IfOk, IfSome, IfNone};
+ghost use Rattle.std.specs.Prelude.{◌≡◌, ℕ, ◌≤◌, ◌<◌, ◌+◌, ◌-◌, length, slice_index, Contains, IfOk, IfSome, IfNone};
 ghost use Rattle.std.specs.List.Sorted.{IsStrictlyIncreasing};
-ghost use Rattle.plan_net.specs.Network.{ListsRising, unlagged};
+ghost use Rattle.plan_net.specs.Network.{unlagged};
 ghost use Rattle.plan_net.specs.Limits.{HasGoodArcs, HasNewArcs};
 ghost use Rattle.plan_net.specs.Refusals.{IsFirstDoubleArc};
-ghost use Rattle.plan_net.specs.Placed.{IsPlaced};
-ghost use Rattle.plan_net.specs.Marks.{AreMarks, AreRowsOf, AreColumnsOf, AreNoLags, IsSquare, HasNoMark, mark_at};
+ghost use Rattle.plan_net.specs.Marks.{AreMarks, AreNoLags, IsSquare, HasNoMark};
 ghost use Rattle.plan_net.specs.Indexed.{row_at};
 
-use super::limits::MOST_ACTIVITIES;
 use std::alloc::{AllocError, Global};
 
 /// A table with a row for each activity and a mark in each row for each activity, none set.
@@ -47,63 +45,6 @@ pub fn first_double_arc(
         marks[row][column] = true;
     }
     None
-}
-
-// The numbers from 1 on whose marks are set, rising.
-fn marked(alloc: Global, marks: &[bool]) -> Result<Vec<u32>, AllocError>
-    requires { length marks.now ≤ MOST_ACTIVITIES }
-    ensures { IfOk result (λ list. ListsRising (λ i. (1 ≤ i) × (i ≤ length marks.now) × IsPlaced marks.now i) list.items) }
-{
-    let mut list = Vec::new(alloc);
-    'marks: for (k, &mark) in marks.iter().enumerate() {
-        if mark {
-            list.push(k as u32 + 1)?;
-        }
-    }
-    Ok(list)
-}
-
-// The numbers from 1 on of the rows whose marks in the column are set, rising.
-fn marked_rows(alloc: Global, marks: &[Vec<bool>], column: usize) -> Result<Vec<u32>, AllocError>
-    requires limit { length marks.now ≤ MOST_ACTIVITIES }
-    requires square { IsSquare (length marks.now) marks.now }
-    requires column { column < length marks.now }
-    ensures { IfOk result (λ list. ListsRising (λ j. (1 ≤ j) × (j ≤ length marks.now) × (mark_at marks.now (j - 1) column ≡ true)) list.items) }
-{
-    let mut list = Vec::new(alloc);
-    'marks: for k in 0..marks.len() {
-        if marks[k][column] {
-            list.push(k as u32 + 1)?;
-        }
-    }
-    Ok(list)
-}
-
-/// For each row of marks the columns, from 1 on, in which one is set.
-pub fn rows_of(alloc: Global, marks: &[Vec<bool>]) -> Result<Vec<Vec<u32>>, AllocError>
-    requires limit { length marks.now ≤ MOST_ACTIVITIES }
-    requires square { IsSquare (length marks.now) marks.now }
-    ensures { IfOk result (λ rows. AreRowsOf marks.now rows.items) }
-{
-    let mut rows = Vec::new(alloc);
-    'rows: for k in 0..marks.len() {
-        let row = marked(alloc, &marks[k])?;
-        rows.push(row)?;
-    }
-    Ok(rows)
-}
-
-/// For each column of marks the rows, from 1 on, in which one is set.
-pub fn columns_of(alloc: Global, marks: &[Vec<bool>]) -> Result<Vec<Vec<u32>>, AllocError>
-    requires limit { length marks.now ≤ MOST_ACTIVITIES }
-    requires square { IsSquare (length marks.now) marks.now }
-    ensures { IfOk result (λ columns. AreColumnsOf marks.now columns.items) }
-{
-    let mut columns = Vec::new(alloc);
-    'columns: for k in 0..marks.len() {
-        columns.push(marked_rows(alloc, marks, k)?)?;
-    }
-    Ok(columns)
 }
 
 /// A row of lags 0 beside each row.

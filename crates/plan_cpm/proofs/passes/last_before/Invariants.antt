@@ -5,6 +5,6 @@ use Rattle.plan_cpm.proofs.passes.last_before.Given as goal
 -- `latest` is the greatest of the predecessors so far
 abbrev pub invariant-preds : goal.invariant-preds
 invariant-preds l = record {
-  above : (k : ℕ) → k < l.i-index → get_or l.finishes (get_or l.i-items k 0 - 1) 0 + lag_of l.network (get_or l.i-items k 0) l.j ≤ l.latest;
+  above : (m : ℕ) → m < l.k → get_or l.finishes (get_or l.i-items m 0 - 1) 0 + lag_of l.network (get_or l.i-items m 0) l.j ≤ l.latest;
   reached : (l.latest ≡ 0) ⊎ ((i : ℕ) × IsArc l.network i l.j × (l.latest ≡ get_or l.finishes (i - 1) 0 + lag_of l.network i l.j));
 }

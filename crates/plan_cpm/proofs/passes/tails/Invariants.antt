@@ -1,15 +1,14 @@
 use Rattle.std.proofs.Common.{ℕ, ◌≡◌, ◌*◌, ◌-◌, ◌≤◌, length, get_or}
-use Rattle.plan_net.specs.Network.{count_of, IsGreatest}
-use Rattle.plan_cpm.specs.Lengths.{IsLengthFrom}
-use Rattle.plan_cpm.proofs.PassLemmas.{RightBetween}
+use Rattle.plan_net.specs.Network.{count_of}
+use Rattle.plan_cpm.proofs.BackLemmas.{AreRests}
 use Rattle.plan_cpm.proofs.passes.tails.Given as goal
 
--- the tails of the activities from `left` on are greatest lengths
+-- the tails of the activities from `left` on are greatest lengths, and for the others stands what follows by them
 abbrev pub invariant-back : goal.invariant-back
 invariant-back l = record {
   whole : length l.tails.items ≡ count_of l.network;
   low : l.left ≤ length l.order;
-  done : RightBetween (λ j. IsGreatest (IsLengthFrom l.network j)) l.order l.tails.items l.left (length l.order);
+  rests : AreRests l.network l.order l.tails.items l.left;
   bound : (k : ℕ) → get_or l.tails.items k 0 ≤ 20000 * (length l.order - l.left);
 }
 

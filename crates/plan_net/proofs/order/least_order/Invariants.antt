@@ -1,9 +1,14 @@
-use Rattle.plan_net.specs.Placed.{IsPlacedOrder, open_count}
+use Rattle.std.proofs.Common.{◌≤◌}
+use Rattle.plan_net.specs.Placed.{IsPlacedOrder, IsStuckBelow, open_count}
 use Rattle.plan_net.proofs.order.least_order.Given as goal
 
--- the activities placed so far came as the least that could
+-- the activities placed so far came as the least that could, and none below `first` can come
 abbrev pub invariant-turns : goal.invariant-turns
-invariant-turns l = IsPlacedOrder l.arcs l.order.items l.placed.items
+invariant-turns l = record {
+  order : IsPlacedOrder l.arcs l.order.items l.placed.items;
+  first : 1 ≤ l.first;
+  below : IsStuckBelow l.arcs l.placed.items l.first;
+}
 
 abbrev pub decreases-turns : goal.decreases-turns
 decreases-turns l = open_count l.placed.items
