@@ -1,4 +1,4 @@
--- Marks on activities against lists of places: what may come next by either, and which comes first.
+-- Marks on activities against lists of places: what may come next by either.
 use Rattle.std.proofs.Common.{ℕ, suc, zero, Bool, true, false, cond, ◌≡◌, ◌+◌, ◌-◌, ◌≤◌, ◌<◌, inl, inr, List, [], ◌∷◌, ◌++◌, length, get_or, set, take, replicate, nat_eq, refl, sym, ◌∙◌, ap, subst, arith, get_or-set_same, get_or-set_other}
 use Rattle.std.specs.List.{All}
 use Rattle.std.proofs.lemmas.List.{length-set, length-replicate, get_or-replicate, length-take-le, get_or-take}

@@ -22,7 +22,7 @@ fn can_come(network: &Network, taken: &[bool], j: u32) -> bool
     if j == 0 || j as usize > network.len() || taken[j as usize - 1] {
         return false;
     }
-    open_pred(network, taken, j, 0).is_none()
+    open_pred(network, taken, j).is_none()
 }
 
 /// Whether the numbers are an order of all activities that has each after its predecessors.

@@ -1,11 +1,9 @@
 //! Which activities may come next, while others are taken.
 
-ghost use Rattle.std.specs.Prelude.{◌≡◌, ℕ, ◌-◌, ◌≤◌, ◌<◌, length, slice_index, IfOk, OnOk};
+ghost use Rattle.std.specs.Prelude.{◌≡◌, ℕ, ◌-◌, ◌≤◌, length, slice_index, IfOk, OnOk};
 ghost use Rattle.std.specs.BinaryHeap.{heap_items};
-ghost use Rattle.std.specs.List.Sorted.{IsStrictlyIncreasing};
 ghost use Rattle.plan_net.specs.Network.{IsActivity, IsArc, count_of};
 ghost use Rattle.plan_net.specs.Limits.{IsSound};
-ghost use Rattle.plan_net.specs.Placed.{IsPlaced};
 ghost use Rattle.plan_sgs.specs.Waiting.{WaitsFor, AreInDegrees, Lowers, IsQueue, QueuesFree, Joins};
 
 use plan_net::Network;
@@ -13,36 +11,15 @@ use std::alloc::{AllocError, Global};
 use std::cmp::Reverse;
 use std::collections::BinaryHeap;
 
-// Where a number stands in a rising row, or would stand.
-fn place_of(row: &[u32], number: u32) -> usize
-    requires { IsStrictlyIncreasing row.now }
-    ensures inside { result ≤ length row.now }
-    ensures before { (k : ℕ) → k < result → slice_index row.now k < number }
-    ensures behind { (k : ℕ) → result ≤ k → k < length row.now → number ≤ slice_index row.now k }
-{
-    // A row that has all numbers from 1 on has this one at a place that is known without a search.
-    let guess = (number as usize).saturating_sub(1);
-    if guess < row.len() && row[guess] == number {
-        return guess;
-    }
-    match row.binary_search(&number) {
-        Ok(place) => place,
-        Err(place) => place,
-    }
-}
-
-/// The least predecessor of activity `j` that isn't taken, where those before `after` are.
-pub fn open_pred(network: &Network, taken: &[bool], j: u32, after: u32) -> Option<u32>
+/// The least predecessor of activity `j` that isn't taken.
+pub fn open_pred(network: &Network, taken: &[bool], j: u32) -> Option<u32>
     requires activity { IsActivity network.now j }
     requires whole { length taken.now ≡ count_of network.now }
-    requires before { (i : ℕ) → IsArc network.now i j → i < after → IsPlaced taken.now i }
     ensures { WaitsFor network.now taken.now j result }
 {
-    let preds = network.preds(j);
-    let first = place_of(preds, after);
-    for k in first..preds.len() {
-        if !taken[preds[k] as usize - 1] {
-            return Some(preds[k]);
+    for &i in network.preds(j) {
+        if !taken[i as usize - 1] {
+            return Some(i);
         }
     }
     None
@@ -59,7 +36,7 @@ pub fn first_waits(alloc: Global, network: &Network) -> Result<Vec<usize>, Alloc
     Ok(waits)
 }
 
-/// The activities that wait for none, each with its key.
+/// The activities that wait for none, as they come out: each by its key, and then by its number.
 pub fn first_queue(
     alloc: Global,
     network: &Network,
