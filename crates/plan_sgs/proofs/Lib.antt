@@ -10,7 +10,9 @@ pub mod StepLemmas
 pub mod RunLemmas
 pub mod PlaceLemmas
 pub mod MadeLemmas
-pub mod WaitLemmas
+pub mod CountLemmas
+pub mod OpenLemmas
+pub mod QueueLemmas
 pub mod MarkLemmas
 pub mod TakingLemmas
 pub mod KeyLemmas

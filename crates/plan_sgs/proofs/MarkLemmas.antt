@@ -1,10 +1,9 @@
--- Marks on activities against lists of places: what may come next by either, and which comes first.
-use Rattle.std.proofs.Common.{ℕ, suc, zero, Bool, true, false, cond, ◌≡◌, ◌+◌, ◌-◌, ◌≤◌, ◌<◌, inl, inr, List, [], ◌∷◌, ◌++◌, length, get_or, set, take, replicate, nat_eq, Option, Some, None, refl, sym, ◌∙◌, ap, subst, arith, get_or-set_same, get_or-set_other}
+-- Marks on activities against lists of places: what may come next by either.
+use Rattle.std.proofs.Common.{ℕ, suc, zero, Bool, true, false, cond, ◌≡◌, ◌+◌, ◌-◌, ◌≤◌, ◌<◌, inl, inr, List, [], ◌∷◌, ◌++◌, length, get_or, set, take, replicate, nat_eq, refl, sym, ◌∙◌, ap, subst, arith, get_or-set_same, get_or-set_other}
 use Rattle.std.specs.List.{All}
 use Rattle.std.proofs.lemmas.List.{length-set, length-replicate, get_or-replicate, length-take-le, get_or-take}
-use Rattle.std.proofs.lemmas.Bool.{cases_eq, cases_Bool, both_ways, eqb-true, eq-eqb, cond-true, cond-false}
-use Rattle.std.proofs.lemmas.Option.{none-some}
-use Rattle.plan_net.specs.Network.{Net, IsArc, count_of}
+use Rattle.std.proofs.lemmas.Bool.{cases_eq, cases_Bool, eqb-true, eq-eqb, cond-true, cond-false}
+use Rattle.plan_net.specs.Network.{IsArc, count_of}
 use Rattle.plan_net.specs.Limits.{IsSound}
 use Rattle.plan_net.specs.Order.{IsLeastOrder, IsTopological}
 use Rattle.plan_net.proofs.RowLemmas.{arc_ends}
@@ -12,12 +11,10 @@ use Rattle.plan_net.proofs.RisingLemmas.{place_in}
 use Rattle.plan_sgs.specs.Problem.{count, IsRanked}
 use Rattle.plan_sgs.specs.Rules.{is_member, is_eligible}
 use Rattle.plan_sgs.specs.Instances.{Planned, problem_of}
-use Rattle.plan_sgs.specs.Waiting.{AreMarksOf, AreWaits, IsReleased, CanCome, IsFree, IsFirstFree, WaitsFor}
+use Rattle.plan_sgs.specs.Waiting.{AreMarksOf, IsReleased, CanCome}
 use Rattle.plan_sgs.proofs.InstanceLemmas.{count-problem}
 use Rattle.plan_sgs.proofs.SerialLemmas.{eligible_not, eligible_preds, eligible_from, member_last, member_other}
-use Rattle.plan_sgs.proofs.RuleLemmas.{IsFirstBelow}
 use Rattle.plan_sgs.proofs.BoundedLemmas.{links_from, link_at}
-use Rattle.plan_sgs.proofs.WaitLemmas.{waits_at}
 
 -- no mark is set where nothing is taken
 pub marks_first : (n : ℕ) → AreMarksOf n (replicate n false) []
@@ -59,45 +56,6 @@ pub eligible_can_come : (i : Planned) (marks : List Bool) (taken : List ℕ) (j 
 eligible_can_come i marks taken j sound are low inside eligible =
     let within : j - 1 < count_of i.project.network = omega (arith, inside, count-problem i) in
     ((low, omega (arith, low, within)), are.each (j - 1) within ∙ eligible_not (problem_of i) taken (j - 1) eligible, taken_released i marks taken j sound are (eligible_preds (problem_of i) taken (j - 1) eligible))
-
--- what waits for none is released
-released_from : (net : Net) (marks : List Bool) (j : ℕ) (pred : Option ℕ) → WaitsFor net marks j pred → pred ≡ None → IsReleased net marks j
-released_from net marks j None waits none = waits
-released_from net marks j (Some y) waits none = absurd (none-some y (sym none))
-
--- what is released waits for none
-none_from : (net : Net) (marks : List Bool) (j : ℕ) (pred : Option ℕ) → WaitsFor net marks j pred → IsReleased net marks j → pred ≡ None
-none_from net marks j None waits released = refl
-none_from net marks j (Some y) ((arc, open_now), least) released = absurd (both_ways (get_or marks (y - 1) false) open_now (released y arc))
-
--- a free activity is eligible
-pub free_eligible : (i : Planned) (marks : List Bool) (waits : List (Option ℕ)) (taken : List ℕ) (h : ℕ) → IsSound i.project.network → AreMarksOf (count_of i.project.network) marks taken → AreWaits i.project.network marks waits → h < count_of i.project.network → IsFree marks waits h
-    → is_eligible (problem_of i) taken h ≡ true
-free_eligible i marks waits taken h sound are waiting inside free =
-    let released = released_from i.project.network marks (h + 1) (get_or waits h None) (waits_at i.project.network marks waits waiting h inside) free.1 in
-    let place : h + 1 - 1 ≡ h = omega arith in
-    let preds = released_taken i marks taken (h + 1) sound are (omega arith) released in
-    eligible_from (problem_of i) taken h (sym (are.each h inside) ∙ free.0) (λ k d within to. preds k d within (to ∙ sym place))
-
--- an eligible activity is free
-pub eligible_free : (i : Planned) (marks : List Bool) (waits : List (Option ℕ)) (taken : List ℕ) (h : ℕ) → IsSound i.project.network → AreMarksOf (count_of i.project.network) marks taken → AreWaits i.project.network marks waits → h < count_of i.project.network → is_eligible (problem_of i) taken h ≡ true
-    → IsFree marks waits h
-eligible_free i marks waits taken h sound are waiting inside eligible =
-    let place : h + 1 - 1 ≡ h = omega arith in
-    let preds = eligible_preds (problem_of i) taken h eligible in
-    let released = taken_released i marks taken (h + 1) sound are (λ k d within to. preds k d within (to ∙ place)) in
-    (are.each h inside ∙ eligible_not (problem_of i) taken h eligible, none_from i.project.network marks (h + 1) (get_or waits h None) (waits_at i.project.network marks waits waiting h inside) released)
-
--- the first free activity is the first eligible one
-pub first_free : (i : Planned) (marks : List Bool) (waits : List (Option ℕ)) (keys taken : List ℕ) (h : ℕ) → IsSound i.project.network → AreMarksOf (count_of i.project.network) marks taken → AreWaits i.project.network marks waits → IsFirstFree marks waits keys (count_of i.project.network) h
-    → IsFirstBelow (problem_of i) (λ k. get_or keys k 0) taken (count (problem_of i)) h
-first_free i marks waits keys taken h sound are waiting found = record {
-  inside = omega (arith, found.inside, count-problem i);
-  eligible = free_eligible i marks waits taken h sound are waiting found.inside found.free;
-  first = λ g below is.
-      let within : g < count_of i.project.network = omega (arith, below, count-problem i) in
-      found.first g within (eligible_free i marks waits taken g sound are waiting within is);
-}
 
 -- the place of a number in a list, where it first stands
 pub place_of : List ℕ → ℕ → ℕ

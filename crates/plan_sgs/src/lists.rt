@@ -9,9 +9,10 @@ ghost use Rattle.plan_sgs.specs.Placing.{IsTurnList};
 ghost use Rattle.plan_sgs.specs.Waiting.{CanCome};
 
 use crate::instance::Instance;
-use crate::waiting::{first_waits, next_free, open_pred, wake};
+use crate::waiting::{first_queue, first_waits, lower_waits, open_pred};
 use plan_net::Network;
 use std::alloc::{AllocError, Global};
+use std::cmp::Reverse;
 
 // Whether a number is that of an activity that isn't taken and whose predecessors are.
 fn can_come(network: &Network, taken: &[bool], j: u32) -> bool
@@ -21,7 +22,7 @@ fn can_come(network: &Network, taken: &[bool], j: u32) -> bool
     if j == 0 || j as usize > network.len() || taken[j as usize - 1] {
         return false;
     }
-    open_pred(network, taken, j, 0).is_none()
+    open_pred(network, taken, j).is_none()
 }
 
 /// Whether the numbers are an order of all activities that has each after its predecessors.
@@ -51,16 +52,15 @@ pub fn rule_list(alloc: Global, instance: &Instance, keys: &[u64]) -> Result<Vec
     let network = instance.network();
     // the network's facts, on which the proof rests
     let _order = network.order();
-    let mut taken = vec![in alloc; false; network.len()]?;
-    let mut waits = first_waits(alloc, network, &taken)?;
+    let mut waits = first_waits(alloc, network)?;
+    let mut queue = first_queue(alloc, network, &waits, keys)?;
     let mut list = Vec::new(alloc);
     'turns: for _turn in 0..network.len() {
-        let Some(i) = next_free(&taken, &waits, keys) else {
+        let Some(Reverse((_, j))) = queue.pop() else {
             unreachable!();
         };
-        taken[i] = true;
-        wake(network, &taken, &mut waits, i as u32 + 1);
-        list.push(i as u32 + 1)?;
+        list.push(j)?;
+        lower_waits(network, j, &mut waits, keys, &mut queue)?;
     }
     Ok(list)
 }

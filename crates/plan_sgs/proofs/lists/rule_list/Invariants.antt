@@ -1,6 +1,7 @@
 -- What the rule takes after the entries so far makes its whole list.
+use Rattle.std.specs.BinaryHeap.{heap_items}
 use Rattle.plan_sgs.proofs.TakingLemmas.{IsTaking}
 use Rattle.plan_sgs.proofs.lists.rule_list.Given as goal
 
 abbrev pub invariant-turns : goal.invariant-turns
-invariant-turns l = IsTaking l.instance l.keys l._turn l.list.items l.taken.items l.waits.items
+invariant-turns l = IsTaking l.instance l.keys l._turn l.list.items l.waits.items (heap_items l.queue)

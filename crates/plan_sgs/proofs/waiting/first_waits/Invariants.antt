@@ -1,10 +1,8 @@
--- What the activities so far wait for.
-use Rattle.std.proofs.Common.{ℕ, ◌≡◌, ◌+◌, ◌<◌, length, get_or, None}
-use Rattle.plan_sgs.specs.Waiting.{WaitsFor}
+-- How many of the arcs so far lead to each activity.
+use Rattle.std.proofs.Common.{take}
+use Rattle.plan_net.specs.Network.{count_of}
+use Rattle.plan_sgs.specs.Waiting.{AreInDegrees}
 use Rattle.plan_sgs.proofs.waiting.first_waits.Given as goal
 
-abbrev pub invariant-loop-i : goal.invariant-loop-i
-invariant-loop-i l = record {
-  size : length l.waits.items ≡ l.i;
-  each : (h : ℕ) → h < l.i → WaitsFor l.network l.taken (h + 1) (get_or l.waits.items h None);
-}
+abbrev pub invariant-loop-j : goal.invariant-loop-j
+invariant-loop-j l = AreInDegrees (count_of l.network) (take l.j-index l.j-items) l.waits.items
