@@ -102,6 +102,7 @@ impl Book for MemBook {
         Ok(self.tables.plans(self.alloc, desk)?)
     }
 
+    #[tactic(auto, using(crate::proofs::ImportLemmas::held_are))]
     fn count_plans(&mut self, desk: &str) -> Result<usize, BookFault> {
         Ok(self.tables.plans(self.alloc, desk)?.len())
     }

@@ -122,7 +122,7 @@ module _ {A : Type 0} (written : A → Row) (read : Row → A) (rows : List Row)
   pub rows_counted : (answer : List Row) → answer ≡ map show (filter (λ x. p x.1) it.entries) → length answer ≡ length (filter p (map read rows))
   rows_counted answer is =
       let found = filter (λ (x : ℤ × A). p x.1) it.entries in
-      ap length is ∙ length-map show found ∙ sym (length-map (λ (x : ℤ × A). x.1) found)
+      ap length is ∙ length-map found show ∙ sym (length-map found (λ (x : ℤ × A). x.1))
       ∙ ap length (sym (filter-map p (λ (x : ℤ × A). x.1) it.entries) ∙ ap (filter p) (sym (reads_entries written read it)))
 
 -- ---- all rows, rising

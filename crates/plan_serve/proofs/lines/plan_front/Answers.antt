@@ -6,5 +6,5 @@ use Rattle.plan_serve.proofs.lines.plan_front.Goals as goal
 pub returns : goal.returns
 returns c =
     subst (λ t. IfOk c.format.result (λ line. string_bytes line ≡ t))
-    (turned (codes "plan ") (c.as_str-desk.result.now ∷ codes " " ∷ decimal c.args.key.now.n ∷ codes " " ∷ c.plan_kind_text-kind.result.now ∷ [])
-    ∙ ap (from_left (codes "plan ")) (λ i. c.as_str-desk.ensures.value i ∷ codes " " ∷ decimal c.args.key.now.n ∷ codes " " ∷ c.plan_kind_text-kind.ensures i ∷ [])) c.format.ensures.ok
+    (turned (codes "plan ") (c.as_str-desk.result.now ∷ codes " " ∷ decimal c.args.key.now.n ∷ codes " " ∷ c.word-kind.result.now ∷ [])
+    ∙ ap (from_left (codes "plan ")) (λ i. c.as_str-desk.ensures.value i ∷ codes " " ∷ decimal c.args.key.now.n ∷ codes " " ∷ c.word-kind.ensures i ∷ [])) c.format.ensures.ok
