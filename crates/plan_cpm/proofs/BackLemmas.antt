@@ -11,15 +11,24 @@ use Rattle.plan_cpm.specs.Lengths.{IsLengthFrom, RaisesBefore}
 use Rattle.plan_cpm.proofs.StepLemmas.{tail_step}
 use Rattle.plan_cpm.proofs.PassLemmas.{RightBetween, set_apart, succs_done, succs_right}
 
+-- what stands for the activity at p is 0, or the lag and what stands for one of its successors, from the place `low` on
+abbrev pub IsReachedFrom : Net → List ℕ → List ℕ → ℕ → ℕ → Type 0
+IsReachedFrom net order list low p =
+    (get_or list (get_or order p 0 - 1) 0 ≡ 0)
+    ⊎ ((q : ℕ) × (low ≤ q) × (q < length order) × IsArc net (get_or order p 0) (get_or order q 0)
+    × (get_or list (get_or order p 0 - 1) 0 ≡ lag_of net (get_or order p 0) (get_or order q 0) + get_or list (get_or order q 0 - 1) 0))
+
 -- from the place `left` of the order on the tails are done; before it stands for each activity what follows by them
 pub record AreRests (net : Net) (order list : List ℕ) (left : ℕ) : Type 0 where
   pub done : RightBetween (λ j. IsGreatest (IsLengthFrom net j)) order list left (length order)
-  pub above : (p q : ℕ) → p < left → left ≤ q → q < length order → IsArc net (get_or order p 0) (get_or order q 0) → lag_of net (get_or order p 0) (get_or order q 0) + get_or list (get_or order q 0 - 1) 0 ≤ get_or list (get_or order p 0 - 1) 0
-  pub reached : (p : ℕ) → p < left → (get_or list (get_or order p 0 - 1) 0 ≡ 0)
-      ⊎ ((q : ℕ) × (left ≤ q) × (q < length order) × IsArc net (get_or order p 0) (get_or order q 0) × (get_or list (get_or order p 0 - 1) 0 ≡ lag_of net (get_or order p 0) (get_or order q 0) + get_or list (get_or order q 0 - 1) 0))
+  pub above : (p q : ℕ) → p < left → left ≤ q → q < length order → IsArc net (get_or order p 0) (get_or order q 0)
+      → lag_of net (get_or order p 0) (get_or order q 0) + get_or list (get_or order q 0 - 1) 0 ≤ get_or list (get_or order p 0 - 1) 0
+  pub reached : (p : ℕ) → p < left → IsReachedFrom net order list left p
 
 -- the tail of the activity at m, by what follows it
-tail_at : (net : Net) (order list : List ℕ) (m tail : ℕ) → IsWithinLimits net → IsLeastOrder net order → IsActivity net (get_or order m 0) → m < length order → AreRests net order list (m + 1) → tail ≡ duration_of net (get_or order m 0) + get_or list (get_or order m 0 - 1) 0 → IsGreatest (IsLengthFrom net (get_or order m 0)) tail
+tail_at : (net : Net) (order list : List ℕ) (m tail : ℕ) → IsWithinLimits net → IsLeastOrder net order → IsActivity net (get_or order m 0)
+    → m < length order → AreRests net order list (m + 1) → tail ≡ duration_of net (get_or order m 0) + get_or list (get_or order m 0 - 1) 0
+    → IsGreatest (IsLengthFrom net (get_or order m 0)) tail
 tail_at net order list m tail limits least activity inside rests is =
     subst (IsGreatest (IsLengthFrom net (get_or order m 0))) (sym is)
     (tail_step net (get_or order m 0) (λ k. get_or list (k - 1) 0) (get_or list (get_or order m 0 - 1) 0) activity
@@ -29,20 +38,22 @@ tail_at net order list m tail limits least activity inside rests is =
           succs_done (λ h. IsArc net (get_or order m 0) h → lag_of net (get_or order m 0) h + get_or list (h - 1) 0 ≤ get_or list (get_or order m 0 - 1) 0) net order m limits least inside
           (λ p lower within arc'. rests.above m p (omega arith) lower within arc') k arc arc
 
-      reached : (get_or list (get_or order m 0 - 1) 0 ≡ 0)
-          ⊎ ((q : ℕ) × (m + 1 ≤ q) × (q < length order) × IsArc net (get_or order m 0) (get_or order q 0) × (get_or list (get_or order m 0 - 1) 0 ≡ lag_of net (get_or order m 0) (get_or order q 0) + get_or list (get_or order q 0 - 1) 0))
+      reached : IsReachedFrom net order list (m + 1) m
           → (get_or list (get_or order m 0 - 1) 0 ≡ 0) ⊎ ((k : ℕ) × IsArc net (get_or order m 0) k × (get_or list (get_or order m 0 - 1) 0 ≡ lag_of net (get_or order m 0) k + get_or list (k - 1) 0))
       reached (inl none) = inl none
       reached (inr (q, past, within, arc, value)) = inr (get_or order q 0, arc, value)
 
 -- a predecessor of the activity at m stands at no place from m on
-not_before : (net : Net) (order : List ℕ) → IsLeastOrder net order → (m q : ℕ) → m < length order → m ≤ q → q < length order → IsArc net (get_or order q 0) (get_or order m 0) → ⊥
+not_before : (net : Net) (order : List ℕ) → IsLeastOrder net order → (m q : ℕ) → m < length order → m ≤ q → q < length order
+    → IsArc net (get_or order q 0) (get_or order m 0) → ⊥
 not_before net order least m q inside past within arc =
     let place = earlier net order least.least (get_or order q 0) (get_or order m 0) m arc inside refl in
     once_in net order least.least q place.0 (omega (arith, place.1, past)) within place.2
 
 -- one turn of the pass: the tail at m is set, and what follows its predecessors is raised
-pub AreRests-step : (net : Net) (order list after : List ℕ) (m tail : ℕ) → IsWithinLimits net → IsLeastOrder net order → ((k : ℕ) → k < length order → IsActivity net (get_or order k 0)) → length list ≡ count_of net → m < length order → AreRests net order list (m + 1)
+pub AreRests-step : (net : Net) (order list after : List ℕ) (m tail : ℕ) → IsWithinLimits net → IsLeastOrder net order
+    → ((k : ℕ) → k < length order → IsActivity net (get_or order k 0)) → length list ≡ count_of net → m < length order
+    → AreRests net order list (m + 1)
     → tail ≡ duration_of net (get_or order m 0) + get_or list (get_or order m 0 - 1) 0 → RaisesBefore net (get_or order m 0) tail (set list (get_or order m 0 - 1) tail) after → AreRests net order after m
 AreRests-step net order list after m tail limits least activities whole inside rests is raises = record {
   done = record { right = λ k lower upper within. right k lower within (cases_eq k m) };
@@ -80,7 +91,8 @@ AreRests-step net order list after m tail limits least activities whole inside r
       (subst (IsGreatest (IsLengthFrom net (get_or order m 0))) (sym at_m) (tail_at net order list m tail limits least (activities m inside) inside rests is))
   right q past within (inr other) = subst (IsGreatest (IsLengthFrom net (get_or order q 0))) (sym (behind q past within other)) (rests.done.right q (omega (arith, past, other)) within within)
 
-  above : (p q : ℕ) → p < m → m ≤ q → q < length order → IsArc net (get_or order p 0) (get_or order q 0) → (q ≡ m) ⊎ (q ≡ m → ⊥) → lag_of net (get_or order p 0) (get_or order q 0) + get_or after (get_or order q 0 - 1) 0 ≤ get_or after (get_or order p 0 - 1) 0
+  above : (p q : ℕ) → p < m → m ≤ q → q < length order → IsArc net (get_or order p 0) (get_or order q 0) → (q ≡ m) ⊎ (q ≡ m → ⊥)
+      → lag_of net (get_or order p 0) (get_or order q 0) + get_or after (get_or order q 0 - 1) 0 ≤ get_or after (get_or order p 0 - 1) 0
   above p q lower past within arc (inl same) =
       subst (λ (x : ℕ). lag_of net (get_or order p 0) (get_or order x 0) + get_or after (get_or order x 0 - 1) 0 ≤ get_or after (get_or order p 0 - 1) 0) (sym same)
       (let raised = raises.raised (get_or order p 0) (subst (λ (x : ℕ). IsArc net (get_or order p 0) (get_or order x 0)) same arc) in omega (arith, raised, at_m))
@@ -90,8 +102,7 @@ AreRests-step net order list after m tail limits least activities whole inside r
 
   reached : (p : ℕ) → p < m → (get_or after (get_or order p 0 - 1) 0 ≡ get_or (set list (get_or order m 0 - 1) tail) (get_or order p 0 - 1) 0)
       ⊎ ((i : ℕ) × IsArc net i (get_or order m 0) × (get_or order p 0 - 1 ≡ i - 1) × (get_or after (get_or order p 0 - 1) 0 ≡ lag_of net i (get_or order m 0) + tail))
-      → (get_or after (get_or order p 0 - 1) 0 ≡ 0)
-      ⊎ ((q : ℕ) × (m ≤ q) × (q < length order) × IsArc net (get_or order p 0) (get_or order q 0) × (get_or after (get_or order p 0 - 1) 0 ≡ lag_of net (get_or order p 0) (get_or order q 0) + get_or after (get_or order q 0 - 1) 0))
+      → IsReachedFrom net order after m p
   reached p lower (inr (i, arc, place, value)) =
       let ends = arc_ends net i (get_or order m 0) limits arc in
       let same : i ≡ get_or order p 0 = omega (arith, place, ends.0, activities p (omega (arith, lower, inside))) in
@@ -101,15 +112,14 @@ AreRests-step net order list after m tail limits least activities whole inside r
     old : get_or after (get_or order p 0 - 1) 0 ≡ get_or list (get_or order p 0 - 1) 0
     old = same ∙ apart p (omega (arith, lower, inside)) (λ equal. absurd (omega (arith, equal, lower)))
 
-    from : (get_or list (get_or order p 0 - 1) 0 ≡ 0)
-        ⊎ ((q : ℕ) × (m + 1 ≤ q) × (q < length order) × IsArc net (get_or order p 0) (get_or order q 0) × (get_or list (get_or order p 0 - 1) 0 ≡ lag_of net (get_or order p 0) (get_or order q 0) + get_or list (get_or order q 0 - 1) 0))
-        → (get_or after (get_or order p 0 - 1) 0 ≡ 0)
-        ⊎ ((q : ℕ) × (m ≤ q) × (q < length order) × IsArc net (get_or order p 0) (get_or order q 0) × (get_or after (get_or order p 0 - 1) 0 ≡ lag_of net (get_or order p 0) (get_or order q 0) + get_or after (get_or order q 0 - 1) 0))
+    from : IsReachedFrom net order list (m + 1) p
+        → IsReachedFrom net order after m p
     from (inl none) = inl (old ∙ none)
     from (inr (q, past, within, arc, value)) = inr (q, omega (arith, past), within, arc, omega (arith, old, value, behind q (omega (arith, past)) within (λ equal. absurd (omega (arith, equal, past)))))
 
 -- no number is raised above the greatest lag and the tail
-pub raised_bound : (net : Net) (j tail most high : ℕ) (before after : List ℕ) → HasGoodLags net → RaisesBefore net j tail before after → most ≤ high → 10000 + tail ≤ high → ((x : ℕ) → get_or before x 0 ≤ most) → (x : ℕ) → get_or after x 0 ≤ high
+pub raised_bound : (net : Net) (j tail most high : ℕ) (before after : List ℕ) → HasGoodLags net → RaisesBefore net j tail before after → most ≤ high
+    → 10000 + tail ≤ high → ((x : ℕ) → get_or before x 0 ≤ most) → (x : ℕ) → get_or after x 0 ≤ high
 raised_bound net j tail most high before after good raises low enough bound x = by_case (raises.reached x) where
   by_case : (get_or after x 0 ≡ get_or before x 0) ⊎ ((i : ℕ) × IsArc net i j × (x ≡ i - 1) × (get_or after x 0 ≡ lag_of net i j + tail)) → get_or after x 0 ≤ high
   by_case (inl same) = omega (arith, same, bound x, low)

@@ -15,17 +15,20 @@ pub record AreNextStartsOf (net : Net) (finishes : List ℕ) (duration n : ℕ) 
   pub whole : length list ≡ count_of net
   pub below : (j k : ℕ) → IsArc net j k → k ≤ n → get_or list (j - 1) 0 + lag_of net j k + duration_of net k ≤ get_or finishes (k - 1) 0
   pub within : (x : ℕ) → get_or list x 0 ≤ duration
-  pub reached : (j : ℕ) → IsActivity net j → (get_or list (j - 1) 0 ≡ duration) ⊎ ((k : ℕ) × IsArc net j k × (get_or list (j - 1) 0 + lag_of net j k + duration_of net k ≡ get_or finishes (k - 1) 0))
+  pub reached : (j : ℕ) → IsActivity net j
+      → (get_or list (j - 1) 0 ≡ duration) ⊎ ((k : ℕ) × IsArc net j k × (get_or list (j - 1) 0 + lag_of net j k + duration_of net k ≡ get_or finishes (k - 1) 0))
 
 -- a start leaves room for the lags of the arcs to it
-pub lag_at_most_start : (net : Net) (finishes : List ℕ) (j k start : ℕ) → IsWithinLimits net → AreFinishes net finishes → start + duration_of net k ≡ get_or finishes (k - 1) 0 → IsArc net j k → lag_of net j k ≤ start
+pub lag_at_most_start : (net : Net) (finishes : List ℕ) (j k start : ℕ) → IsWithinLimits net → AreFinishes net finishes
+    → start + duration_of net k ≡ get_or finishes (k - 1) 0 → IsArc net j k → lag_of net j k ≤ start
 lag_at_most_start net finishes j k start limits are is arc =
     let ends = arc_ends net j k limits arc in
     let after = after_finish net j k (get_or finishes (j - 1) 0) (get_or finishes (k - 1) 0) arc (are.greatest j ends.0) (are.greatest k ends.1) in
     omega (arith, is, after)
 
 -- where all predecessors were met, what stands for each was lowered
-pub LowersBefore-from_moved : (net : Net) (k start : ℕ) (items before after : List ℕ) → ListsRising (λ j. IsArc net j k) items → ((j : ℕ) → IsArc net j k → lag_of net j k ≤ start)
+pub LowersBefore-from_moved : (net : Net) (k start : ℕ) (items before after : List ℕ) → ListsRising (λ j. IsArc net j k) items
+    → ((j : ℕ) → IsArc net j k → lag_of net j k ≤ start)
     → AreMoved (λ a b. b ≤ a) (λ j. IsArc net j k) (λ j. start - lag_of net j k) items (length items) before after → LowersBefore net k start before after
 LowersBefore-from_moved net k start items before after listed room moved = record {
   whole = moved.whole;
@@ -39,7 +42,9 @@ LowersBefore-from_moved net k start items before after listed room moved = recor
   reached x (inr (j, arc, place, value)) = inr (j, arc, place, omega (arith, value, room j arc))
 
 -- one more successor is taken in
-pub AreNextStartsOf-more : (net : Net) (finishes list after : List ℕ) (duration n start : ℕ) → IsWithinLimits net → start + duration_of net (n + 1) ≡ get_or finishes n 0 → LowersBefore net (n + 1) start list after → AreNextStartsOf net finishes duration n list → AreNextStartsOf net finishes duration (n + 1) after
+pub AreNextStartsOf-more : (net : Net) (finishes list after : List ℕ) (duration n start : ℕ) → IsWithinLimits net
+    → start + duration_of net (n + 1) ≡ get_or finishes n 0 → LowersBefore net (n + 1) start list after → AreNextStartsOf net finishes duration n list
+    → AreNextStartsOf net finishes duration (n + 1) after
 AreNextStartsOf-more net finishes list after duration n start limits is lowers so_far = record {
   whole = lowers.whole ∙ so_far.whole;
   below = λ j k arc low. below j k arc low (cases_lt n k);
@@ -56,7 +61,8 @@ AreNextStartsOf-more net finishes list after duration n start limits is lowers s
       subst (λ (h : ℕ). get_or after (j - 1) 0 + lag_of net j h + duration_of net h ≤ get_or finishes (h - 1) 0) (sym same)
       (omega (arith, lowers.lowered j (subst (IsArc net j) same arc), here))
 
-  reached : (j : ℕ) → IsActivity net j → (get_or after (j - 1) 0 ≡ get_or list (j - 1) 0) ⊎ ((i : ℕ) × IsArc net i (n + 1) × (j - 1 ≡ i - 1) × (get_or after (j - 1) 0 + lag_of net i (n + 1) ≡ start))
+  reached : (j : ℕ) → IsActivity net j
+      → (get_or after (j - 1) 0 ≡ get_or list (j - 1) 0) ⊎ ((i : ℕ) × IsArc net i (n + 1) × (j - 1 ≡ i - 1) × (get_or after (j - 1) 0 + lag_of net i (n + 1) ≡ start))
       → (get_or after (j - 1) 0 ≡ duration) ⊎ ((k : ℕ) × IsArc net j k × (get_or after (j - 1) 0 + lag_of net j k + duration_of net k ≡ get_or finishes (k - 1) 0))
   reached j activity (inl same) =
       subst (λ (v : ℕ). (v ≡ duration) ⊎ ((k : ℕ) × IsArc net j k × (v + lag_of net j k + duration_of net k ≡ get_or finishes (k - 1) 0))) (sym same) (so_far.reached j activity)
@@ -66,7 +72,8 @@ AreNextStartsOf-more net finishes list after duration n start limits is lowers s
       inr (n + 1, subst (λ (h : ℕ). IsArc net h (n + 1)) same arc, subst (λ (h : ℕ). get_or after (j - 1) 0 + lag_of net h (n + 1) + duration_of net (n + 1) ≡ get_or finishes (n + 1 - 1) 0) same whole)
 
 -- where all successors are taken in
-pub AreNextStarts-whole : (net : Net) (finishes list : List ℕ) (duration : ℕ) → IsWithinLimits net → AreNextStartsOf net finishes duration (count_of net) list → AreNextStarts net finishes duration list
+pub AreNextStarts-whole : (net : Net) (finishes list : List ℕ) (duration : ℕ) → IsWithinLimits net
+    → AreNextStartsOf net finishes duration (count_of net) list → AreNextStarts net finishes duration list
 AreNextStarts-whole net finishes list duration limits are = record {
   whole = are.whole;
   next = λ j activity. record { below = λ k arc. are.below j k arc (arc_ends net j k limits arc).1.1; within = are.within (j - 1); reached = are.reached j activity };
