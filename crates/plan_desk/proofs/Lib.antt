@@ -35,3 +35,5 @@ pub mod PageLemmas
 pub mod BestLemmas
 pub mod DaysLemmas
 pub mod PagedLemmas
+pub mod SomeFileLemmas
+pub mod SomeLemmas

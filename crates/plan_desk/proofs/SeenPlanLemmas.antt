@@ -93,7 +93,8 @@ seen_number v n row seen =
     let there = found_there (has_number found.0) v.plans row found.1 in
     subst (λ k. find (has_number k) v.plans ≡ Some row) (sym (eqb-true row.n found.0 there.1)) found.1
 
-seen_has : (v : View) (n : Text) (row : Plan) → plan_seen v n ≡ Some row → Has v.plans row
+-- and it is among them
+pub seen_has : (v : View) (n : Text) (row : Plan) → plan_seen v n ≡ Some row → Has v.plans row
 seen_has v n row seen = (found_there (has_number row.n) v.plans row (seen_number v n row seen)).0
 
 -- a plan of its number is the plan

@@ -10,6 +10,7 @@ pub mod PageRoutes
 pub mod BestRoutes
 pub mod Decisions
 pub mod Laws
+pub mod SomeDecisions
 pub mod BodyViews
 pub mod Replies
 pub mod RouteRefusals

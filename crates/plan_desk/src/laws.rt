@@ -1,11 +1,18 @@
 //! Laws of the office, for proofs above to cite: functions that do nothing.
 
 ghost use Rattle.plan_desk.specs.Promises.{PagesArePromised};
+ghost use Rattle.plan_desk.specs.SomeDecisions.{SomeDecision};
 ghost use Rattle.plan_desk.specs.Laws.{OneDecision, OrderIsUnseen, AgreeingViewsAreToldAlike, StepsKeepRules, AloneKeepsRules, OutsideIsUnseen, DesksAreApart, ToldIsStory, StoriesAreToldAlike};
 
 /// A view and a request have one reply and one change at most.
 pub fn one_decision()
     ensures { OneDecision }
+{}
+
+/// A request has a reply and a change in each view of an office whose rows keep their rules: without
+/// the key that its call takes on each route, and with it on ten of the sixteen.
+pub fn some_decision()
+    ensures { SomeDecision }
 {}
 
 /// A request that doesn't belong to a desk leaves what the desk sees.

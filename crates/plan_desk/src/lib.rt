@@ -20,7 +20,7 @@ mod routes;
 
 pub use laws::{
     desks_are_apart, one_decision, order_is_unseen, outside_is_unseen, pages_are_promised,
-    steps_keep_rules,
+    some_decision, steps_keep_rules,
 };
 pub use mem_book::MemBook;
 pub use office::Office;

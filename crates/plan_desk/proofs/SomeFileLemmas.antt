@@ -1,0 +1,181 @@
+-- Texts of a calendar and files of shops are either read or refused for something.
+use Rattle.std.proofs.Common.{◌≡◌, ℕ, ◌+◌, ◌-◌, ◌*◌, ◌/◌, ◌%◌, ◌≤◌, inl, inr, ◌⊎◌, Bool, true, false, List, [], ◌∷◌, ◌++◌, get_or, length, map, Result, Ok, Err, refl, sym, ◌∙◌, ap, subst, arith, pos}
+use Rattle.std.specs.Prelude.{◌&&◌, ◌==◌, ℤ}
+use denote.RawPtr.{null_ptr}
+use Rattle.std.specs.List.{list_any}
+use Rattle.std.proofs.lemmas.Bool.{cases_Bool, both_ways, and_parts, and_from, eqb-true, eq-eqb, leb-true, le-leb}
+use Rattle.jiff_core.specs.Calendar.{IsBetween, days_in_month}
+use Rattle.jiff_core.specs.declared.civil.date.Date.{Date}
+use Rattle.jiff_core.proofs.SignedLemmas.{signed_arith}
+use Rattle.jiff_fmt.specs.Text.{year_text, pad2}
+use Rattle.plan_psplib.specs.declared.fault.Fault.{Fault}
+use Rattle.plan_psplib.specs.declared.fault.FileFault.{FileFault}
+use Rattle.plan_psplib.specs.Lines.{last_line}
+use Rattle.plan_psplib.specs.Document.{plain}
+use Rattle.plan_psplib.proofs.GoesLemmas.{then_ok}
+use Rattle.plan_orlib.specs.Instances.{stream_of}
+use Rattle.plan_orlib.specs.Shop.{Shop}
+use Rattle.plan_orlib.specs.Reading.{found_stream, shop}
+use Rattle.plan_orlib.specs.Says.{Says}
+use Rattle.plan_orlib.proofs.ShopLemmas.{shop_spelled}
+use Rattle.plan_orlib.proofs.TextLemmas.{stream_is}
+use Rattle.plan_gantt.specs.FaultText.{file_fault_text_of}
+use Rattle.plan_gantt.specs.FirstFaults.{TellsFirstShopFault}
+use Rattle.plan_gantt.specs.CalendarFaultText.{calendar_fault_text_of}
+use Rattle.plan_calendar.specs.WorkingDay.{Workdays}
+use Rattle.plan_calendar.specs.CalendarText.{IsStartText, HasNoStart, IsMarksText, HasNoMarks, IsCalendar, date_bytes, mark_digit}
+use Rattle.plan_calendar.specs.declared.calendar.CalendarFault.TheVariants as fault
+use Rattle.plan_calendar.proofs.TextLemmas.{natural_year}
+use Rattle.plan_rows.specs.World.{Text, same_text}
+use Rattle.plan_rows.specs.Names.{is_from_to}
+use Rattle.plan_rows.proofs.OwnerLemmas.{text_from_same, same_text_refl}
+use Rattle.plan_desk.specs.PlanRoutes.{TellsTexts}
+
+-- ---- dates
+
+-- the number of the two digits from a place on
+abbrev two_at : Text → ℕ → ℕ
+two_at text k = (get_or text k 0 - 48) * 10 + (get_or text (k + 1) 0 - 48)
+
+abbrev year_in : Text → ℕ
+year_in text = two_at text 0 * 100 + two_at text 2
+
+-- the text is that of the date which its digits give
+abbrev is_start : Text → ℕ → ℕ → ℕ → Bool
+is_start text year month day =
+    same_text text (date_bytes year month day)
+    && (is_from_to 1900 2199 year && (is_from_to 1 12 month && is_from_to 1 (days_in_month (pos year) month) day))
+
+from_to : (least most n : ℕ) → is_from_to least most n ≡ true → (least ≤ n) × (n ≤ most)
+from_to least most n e =
+    let parts = and_parts _ _ e in (leb-true least n parts.0, leb-true n most parts.1)
+
+to_from : (least most n : ℕ) → least ≤ n → n ≤ most → is_from_to least most n ≡ true
+to_from least most n a b = and_from _ _ (le-leb least n a) (le-leb n most b)
+
+start_is : (text : Text) (year month day : ℕ) → is_start text year month day ≡ true → (date : Date) × IsStartText text date
+start_is text year month day e =
+    let spelled = and_parts _ _ e in
+    let year_ok = and_parts _ _ spelled.1 in
+    let month_ok = and_parts _ _ year_ok.1 in
+    let years = from_to 1900 2199 year year_ok.0 in (
+      record {
+        year = pos year;
+        month = month;
+        day = day;
+        year_in = (omega (arith, signed_arith, years.0), omega (arith, signed_arith, years.1));
+        month_in = from_to 1 12 month month_ok.0;
+        day_in = from_to 1 (days_in_month (pos year) month) day month_ok.1;
+      },
+      record {
+        spelled = text_from_same text (date_bytes year month day) spelled.0;
+        year = (omega (arith, signed_arith, years.0), omega (arith, signed_arith, years.1));
+      },
+    )
+
+year_of : (a b c d n : ℕ) → a ≡ 48 + n / 100 / 10 → b ≡ 48 + n / 100 % 10 → c ≡ 48 + n % 100 / 10 → d ≡ 48 + n % 100 % 10
+    → n ≡ ((a - 48) * 10 + (b - 48)) * 100 + ((c - 48) * 10 + (d - 48))
+year_of a b c d n p q r s = omega (arith, p, q, r, s)
+
+two_of : (a b n : ℕ) → a ≡ 48 + n / 10 → b ≡ 48 + n % 10 → n ≡ (a - 48) * 10 + (b - 48)
+two_of a b n p q = omega (arith, p, q)
+
+years_of : (n : ℕ) → IsBetween (pos 1900) (pos 2199) (pos n) → is_from_to 1900 2199 n ≡ true
+years_of n range = to_from 1900 2199 n (omega (arith, signed_arith, range.0)) (omega (arith, signed_arith, range.1))
+
+is_of_start : (text : Text) (date : Date) → IsStartText text date → is_start text (year_in text) (two_at text 5) (two_at text 8) ≡ true
+is_of_start text date start =
+    let natural = natural_year date.year start.year in
+    let n = natural.0 in
+    let spelled : text ≡ date_bytes n date.month date.day =
+    start.spelled ∙ ap (λ (y : ℤ). year_text y ++ 45 ∷ [] ++ pad2 date.month ++ 45 ∷ [] ++ pad2 date.day) natural.1 in
+    let digit : (k : ℕ) → get_or text k 0 ≡ get_or (date_bytes n date.month date.day) k 0 = λ k. ap (λ bytes. get_or bytes k 0) spelled in
+    let of_parts : is_start text n date.month date.day ≡ true =
+    and_from _ _ (subst (λ t. same_text text t ≡ true) spelled (same_text_refl text))
+    (and_from _ _ (years_of n (subst (IsBetween (pos 1900) (pos 2199)) natural.1 start.year))
+    (and_from _ _ (to_from 1 12 date.month date.month_in.0 date.month_in.1)
+    (subst (λ (y : ℤ). is_from_to 1 (days_in_month y date.month) date.day ≡ true) natural.1
+    (to_from 1 (days_in_month date.year date.month) date.day date.day_in.0 date.day_in.1)))) in
+    subst (λ year. is_start text year (two_at text 5) (two_at text 8) ≡ true) (year_of _ _ _ _ n (digit 0) (digit 1) (digit 2) (digit 3))
+    (subst (λ month. is_start text n month (two_at text 8) ≡ true) (two_of _ _ date.month (digit 5) (digit 6))
+    (subst (λ day. is_start text n date.month day ≡ true) (two_of _ _ date.day (digit 8) (digit 9)) of_parts))
+
+some_start : (text : Text) → ((date : Date) × IsStartText text date) ⊎ HasNoStart text
+some_start text = by_test (cases_Bool (is_start text (year_in text) (two_at text 5) (two_at text 8)))
+  where
+    by_test : (is_start text (year_in text) (two_at text 5) (two_at text 8) ≡ true) ⊎ (is_start text (year_in text) (two_at text 5) (two_at text 8) ≡ false)
+        → ((date : Date) × IsStartText text date) ⊎ HasNoStart text
+    by_test (inl is) = inl (start_is text _ _ _ is)
+    by_test (inr not_) = inr (λ date start. both_ways _ not_ (is_of_start text date start))
+
+-- ---- marks of weekdays
+
+abbrev marks_in : Text → List Bool
+marks_in text = map (λ byte. byte == 49) text
+
+read_again : (marks : List Bool) → marks_in (map mark_digit marks) ≡ marks
+read_again [] = refl
+read_again (true ∷ marks) = ap (λ (ms : List Bool). true ∷ ms) (read_again marks)
+read_again (false ∷ marks) = ap (λ (ms : List Bool). false ∷ ms) (read_again marks)
+
+-- the text is that of these marks
+abbrev are_marks : Text → List Bool → Bool
+are_marks text marks = same_text text (map mark_digit marks) && ((length marks == 7) && list_any (λ mark. mark) marks)
+
+marks_are : (text : Text) (marks : List Bool) → are_marks text marks ≡ true → IsMarksText text marks
+marks_are text marks e =
+    let parts = and_parts _ _ e in
+    let week = and_parts _ _ parts.1 in
+    record {
+      spelled = text_from_same text (map mark_digit marks) parts.0;
+      week = record { seven = eqb-true (length marks) 7 week.0; some = week.1 };
+    }
+
+are_of_marks : (text : Text) (marks : List Bool) → IsMarksText text marks → are_marks text (marks_in text) ≡ true
+are_of_marks text marks is =
+    let same : marks_in text ≡ marks = ap marks_in is.spelled ∙ read_again marks in
+    subst (λ ms. are_marks text ms ≡ true) (sym same)
+    (and_from _ _ (subst (λ t. same_text text t ≡ true) is.spelled (same_text_refl text)) (and_from _ _ (eq-eqb _ _ is.week.seven) is.week.some))
+
+some_marks : (text : Text) → ((marks : List Bool) × IsMarksText text marks) ⊎ HasNoMarks text
+some_marks text = by_test (cases_Bool (are_marks text (marks_in text)))
+  where
+    by_test : (are_marks text (marks_in text) ≡ true) ⊎ (are_marks text (marks_in text) ≡ false) → ((marks : List Bool) × IsMarksText text marks) ⊎ HasNoMarks text
+    by_test (inl are) = inl (marks_in text, marks_are text _ are)
+    by_test (inr not_) = inr (λ marks is. both_ways _ not_ (are_of_marks text marks is))
+
+-- two texts are those of a calendar, or a line tells why not
+pub some_texts : (start marks : Text) → ((line : Text) × TellsTexts start marks line) ⊎ ((c : Workdays) × IsCalendar start marks c)
+some_texts start marks = by_parts (some_start start) (some_marks marks)
+  where
+    by_parts : ((date : Date) × IsStartText start date) ⊎ HasNoStart start → ((ms : List Bool) × IsMarksText marks ms) ⊎ HasNoMarks marks
+        → ((line : Text) × TellsTexts start marks line) ⊎ ((c : Workdays) × IsCalendar start marks c)
+    by_parts (inr none) others = inl (calendar_fault_text_of fault.BadDate, (fault.BadDate, none, refl))
+    by_parts (inl date) (inr none) = inl (calendar_fault_text_of fault.BadDays, (fault.BadDays, (date, none), refl))
+    by_parts (inl (date, is)) (inl (ms, are)) = inr (record { start = date; marks = ms }, record { start_text = is; marks_text = are })
+
+-- ---- files of shops
+
+-- what is read is what the file says
+shop_said : (name text : Text) (d : Shop) → shop name text ≡ Ok d → Says name text d
+unfolding shop
+shop_said name text d e =
+    then_ok (plain text) _ d e (λ u good e.
+    then_ok (found_stream (last_line text) (stream_of name text)) _ d e (λ s found e.
+    let spelled = shop_spelled s d e in
+    record { readable = good; stream = (s, stream_is (last_line text) (stream_of name text) s found, spelled.0); limits = spelled.1 }))
+
+-- a fault of a file that is no cycle
+of_fault : (f : Fault) → (told : FileFault) × (f ≡ record { code = told.code; line = told.line }) × (told.cycle.items ≡ [])
+of_fault f =
+    (record { code = f.code; line = f.line; cycle = record { ptr = null_ptr; len = 0; cap = 0; alloc = record { memory = record { seal = tt } }; items = []; ok = (refl, omega arith); small = omega arith } }, refl, refl)
+
+-- a file says a shop of a name, or a line tells why not
+pub some_shop : (name text : Text) → ((line : Text) × TellsFirstShopFault name text line) ⊎ ((d : Shop) × Says name text d)
+some_shop name text = by_read (shop name text) refl
+  where
+    by_read : (read : Result Shop Fault) → shop name text ≡ read → ((line : Text) × TellsFirstShopFault name text line) ⊎ ((d : Shop) × Says name text d)
+    by_read (Ok d) e = inr (d, shop_said name text d e)
+    by_read (Err f) e =
+        let told = of_fault f in
+        inl (file_fault_text_of told.0, (told.0, (e ∙ ap (λ (g : Fault). Err g) told.1, told.2), refl))

@@ -1,0 +1,153 @@
+-- Some decision: a settled request has a reply and a change in each view whose rows keep their rules.
+use Rattle.std.proofs.Common.{◌≡◌, ◌⊎◌, inl, inr, ℕ, Bool, true, false, List, Option, Some, None, refl}
+use Rattle.std.specs.Prelude.{◌||◌, not}
+use Rattle.std.proofs.lemmas.Bool.{both_ways}
+use Rattle.plan_psplib.specs.Project.{Project, SaysProject}
+use Rattle.plan_rows.specs.declared.kinds.PlanKind.{PlanKind}
+use Rattle.plan_rows.specs.declared.kinds.PlanKind.TheVariants as kinds
+use Rattle.plan_rows.specs.World.{Text, Published, Plan}
+use Rattle.plan_rows.specs.Changes.{Change, Keep}
+use Rattle.plan_rows.specs.Plans.{HasPlaces}
+use Rattle.plan_rows.specs.Rules.{IsPlanRow, IsWorld}
+use Rattle.plan_rows.specs.Views.{View, alone}
+use Rattle.plan_desk.specs.Calls.{Call, publish, open_desk, set_key, capacities, plans, import_project, import_shop, remove, bind, set_calendar, set_lag, dates, schedule, chart, days, best, Reply, answer, no_key, admits}
+use Rattle.plan_desk.specs.Decisions.{Answers, IsDecision}
+use Rattle.plan_desk.specs.OfficeRoutes.{Publishes, Opens, SetsKey}
+use Rattle.plan_desk.specs.Outcomes.{Outcome, refuses, tells, makes, unless, given, some, why_or}
+use Rattle.plan_desk.specs.PlanRoutes.{of_plan, by_kind, Imports, ImportsShop, Removes, Binds, Calendars, SetsLag}
+use Rattle.plan_desk.specs.SomeDecisions.{is_settled_call, SomeDecision}
+use Rattle.plan_desk.specs.Stories.{decided}
+use Rattle.plan_desk.proofs.SameLemmas.{all_has}
+use Rattle.plan_desk.proofs.SeenPlanLemmas.{seen_has}
+use Rattle.plan_desk.proofs.SomeFileLemmas.{some_texts, some_shop}
+
+-- the outcome has a reply and a change
+abbrev pub IsAnswered : Outcome → Type 0
+IsAnswered O = (reply : Reply) × (c : Change) × O reply c
+
+-- ---- outcomes
+
+some_refuses : (r : Reply) → IsAnswered (refuses r)
+unfolding refuses
+some_refuses r = (r, Keep, (refl, refl))
+
+some_tells : (text : Text) → IsAnswered (tells text)
+unfolding tells
+some_tells text = (answer 200 text, Keep, (refl, refl))
+
+some_makes : (status : ℕ) (text : Text) (made : Change) → IsAnswered (makes status text made)
+unfolding makes
+some_makes status text made = (answer status text, made, (refl, refl))
+
+some_unless : (b : Bool) (r : Reply) (Rest : Outcome) → IsAnswered Rest → IsAnswered (unless b r Rest)
+unfolding unless
+some_unless true r Rest rest = some_refuses r
+some_unless false r Rest rest = rest
+
+some_given : {A : Type 0} (o : Option A) (r : Reply) (Rest : A → Outcome) → ((x : A) → o ≡ Some x → IsAnswered (Rest x)) → IsAnswered (given o r Rest)
+unfolding given
+some_given None r Rest rest = some_refuses r
+some_given (Some x) r Rest rest = rest x refl
+
+some_some : {A : Type 0} (P : A → Type 0) (Rest : A → Outcome) (x : A) → P x → IsAnswered (Rest x) → IsAnswered (some P Rest)
+unfolding some
+some_some P Rest x holds (reply, c, rest) = (reply, c, (x, holds, rest))
+
+some_why_or : {A : Type 0} (Tells : Text → Type 0) (r : Text → Reply) (P : A → Type 0) (Rest : A → Outcome)
+    → ((line : Text) × Tells line) ⊎ ((x : A) × P x) → ((x : A) → IsAnswered (Rest x)) → IsAnswered (why_or Tells r P Rest)
+unfolding why_or
+some_why_or Tells r P Rest (inl (line, told)) rest = by_line (some_some Tells (λ t. refuses (r t)) line told (some_refuses (r line)))
+  where
+    by_line : IsAnswered (some Tells (λ t. refuses (r t))) → IsAnswered (why_or Tells r P Rest)
+    by_line (reply, c, h) = (reply, c, inl h)
+some_why_or Tells r P Rest (inr (x, holds)) rest = by_value (some_some P Rest x holds (rest x))
+  where
+    by_value : IsAnswered (some P Rest) → IsAnswered (why_or Tells r P Rest)
+    by_value (reply, c, h) = (reply, c, inr h)
+
+some_of_plan : (v : View) (n : Text) (Rest : Plan → Outcome) → IsWorld (alone v) → ((plan : Plan) → IsPlanRow plan → IsAnswered (Rest plan))
+    → IsAnswered (of_plan v n Rest)
+unfolding of_plan
+some_of_plan v n Rest k rest = some_given _ _ _ (λ plan seen. rest plan (all_has IsPlanRow v.plans plan k.plans (seen_has v n plan seen)))
+
+-- ---- the office's calls
+
+some_publishes : (rows : List Published) (body : Text) → IsAnswered (Publishes rows body)
+unfolding Publishes
+some_publishes rows body = some_given _ _ _ (λ b read. some_unless _ _ _ (some_makes _ _ _))
+
+some_opens : (v : View) (body : Text) → IsAnswered (Opens v body)
+unfolding Opens
+some_opens v body = some_given _ _ _ (λ b read. some_unless _ _ _ (some_makes _ _ _))
+
+some_sets_key : (v : View) (desk body : Text) → IsAnswered (SetsKey v desk body)
+unfolding SetsKey
+some_sets_key v desk body = some_unless _ _ _ (some_given _ _ _ (λ key read. some_makes _ _ _))
+
+-- ---- commands on plans
+
+some_imports_shop : (v : View) (name body : Text) → IsAnswered (ImportsShop v name body)
+unfolding ImportsShop Imports
+some_imports_shop v name body =
+    some_given _ _ _ (λ row there. some_unless _ _ _ (some_unless _ _ _
+    (some_why_or _ _ _ _ (some_shop name body) (λ read. some_makes _ _ _))))
+
+some_removes : (v : View) (n : Text) → IsWorld (alone v) → IsAnswered (Removes v n)
+unfolding Removes
+some_removes v n k = some_of_plan _ _ _ k (λ plan keeps. some_makes _ _ _)
+
+some_binds : (v : View) (n body : Text) → IsWorld (alone v) → IsAnswered (Binds v n body)
+unfolding Binds
+some_binds v n body k =
+    some_of_plan _ _ _ k (λ plan keeps. some_some _ _ keeps.reads.0 keeps.reads.1
+    (some_given _ _ _ (λ b read. some_unless _ _ _ (some_unless _ _ _ (some_makes _ _ _)))))
+
+some_calendars : (v : View) (n body : Text) → IsWorld (alone v) → IsAnswered (Calendars v n body)
+unfolding Calendars
+some_calendars v n body k =
+    some_of_plan _ _ _ k (λ plan keeps. some_given _ _ _ (λ b read.
+    some_why_or _ _ _ _ (some_texts b.start b.days) (λ c. some_makes _ _ _)))
+
+-- a plan that is read has a project, or it is a shop's
+some_by_kind : (kind : PlanKind) (name body : Text) (Rest : Project → Outcome) (Other : Outcome) → (count : ℕ) × HasPlaces kind name body count
+    → ((p : Project) → IsAnswered (Rest p)) → IsAnswered Other → IsAnswered (by_kind kind (some (SaysProject body) Rest) Other)
+unfolding by_kind
+some_by_kind kinds.Project name body Rest Other (count, (p, says, e)) rest other = some_some _ _ p says (rest p)
+some_by_kind kinds.Shop name body Rest Other reads rest other = other
+
+some_sets_lag : (v : View) (n body : Text) → IsWorld (alone v) → IsAnswered (SetsLag v n body)
+unfolding SetsLag
+some_sets_lag v n body k =
+    some_of_plan _ _ _ k (λ plan keeps. some_given _ _ _ (λ b read.
+    some_by_kind plan.kind plan.name plan.body _ _ keeps.reads
+    (λ p. some_unless _ _ _ (some_makes _ _ _)) (some_refuses _)))
+
+-- ---- decisions
+
+some_answer : (v : View) (call : Call) → IsWorld (alone v) → is_settled_call call ≡ true → IsAnswered (Answers v call)
+some_answer v (publish body) k settled = some_publishes v.published body
+some_answer v (open_desk body) k settled = some_opens v body
+some_answer v (set_key desk body) k settled = some_sets_key v desk body
+some_answer v (capacities desk) k settled = some_tells _
+some_answer v (plans desk) k settled = some_tells _
+some_answer v (import_project desk body) k settled = absurd (both_ways _ refl settled)
+some_answer v (import_shop desk instance body) k settled = some_imports_shop v instance body
+some_answer v (remove desk n) k settled = some_removes v n k
+some_answer v (bind desk n body) k settled = some_binds v n body k
+some_answer v (set_calendar desk n body) k settled = some_calendars v n body k
+some_answer v (set_lag desk n body) k settled = some_sets_lag v n body k
+some_answer v (dates desk n) k settled = absurd (both_ways _ refl settled)
+some_answer v (schedule desk n rule) k settled = absurd (both_ways _ refl settled)
+some_answer v (chart desk n rule) k settled = absurd (both_ways _ refl settled)
+some_answer v (days desk n rule) k settled = absurd (both_ways _ refl settled)
+some_answer v (best desk n budget) k settled = absurd (both_ways _ refl settled)
+
+-- a refusal, or the answer to an admitted call
+some_decided : (b settled : Bool) (Rest : Outcome) → (settled ≡ true → IsAnswered Rest) → (not b || settled) ≡ true → IsAnswered (decided b Rest)
+some_decided true settled Rest rest is = rest is
+some_decided false settled Rest rest is = (no_key, Keep, (refl, refl))
+
+pub some_decision : SomeDecision
+unfolding SomeDecision IsDecision
+some_decision = λ v r k settled.
+    some_decided (admits v r) (is_settled_call r.call) (Answers v r.call) (λ is. some_answer v r.call k is) settled
