@@ -38,9 +38,10 @@ fn release_of(instance: &Instance, placed: &[Option<u64>], j: u32) -> u64
     ensures limit { result ≤ latest_end + LONGEST_LAG }
 {
     let network = instance.network();
+    let lags = network.lags_into(j);
     let mut from = 0u64;
-    'preds: for &i in network.preds(j) {
-        let ready = end_of(instance, placed, i) + network.lag_between(i, j);
+    'preds: for (k, &i) in network.preds(j).iter().enumerate() {
+        let ready = end_of(instance, placed, i) + lags[k];
         from = from.max(ready);
     }
     from

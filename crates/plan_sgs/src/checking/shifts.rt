@@ -39,10 +39,11 @@ fn release_of(network: &Network, starts: &[u64], j: u32) -> u64
     ensures above { (i : ℕ) → IsArc network.now i j → slice_index starts.now (i - 1) + duration_of network.now i + lag_of network.now i j ≤ result }
     ensures reached { (result ≡ 0) ⊎ ((i : ℕ) × IsArc network.now i j × (result ≡ slice_index starts.now (i - 1) + duration_of network.now i + lag_of network.now i j)) }
 {
+    let lags = network.lags_into(j);
     let mut latest = 0u64;
-    'preds: for &i in network.preds(j) {
+    'preds: for (k, &i) in network.preds(j).iter().enumerate() {
         let end = starts[i as usize - 1] + network.duration(i);
-        latest = latest.max(end + network.lag_between(i, j));
+        latest = latest.max(end + lags[k]);
     }
     latest
 }

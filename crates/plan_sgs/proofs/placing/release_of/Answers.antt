@@ -1,31 +1,35 @@
 -- One more predecessor at each turn.
-use Rattle.std.proofs.Common.{◌≡◌, ◌+◌, ◌-◌, ◌≤◌, get_or, sym, ◌∙◌, ap, subst, arith}
+use Rattle.std.proofs.Common.{ℕ, ◌≡◌, ◌+◌, ◌-◌, ◌≤◌, ◌<◌, length, get_or, sym, ◌∙◌, ap, subst, arith}
 use Rattle.std.proofs.lemmas.List.Elements.{Contains-get_or}
 use Rattle.plan_net.specs.Network.{Net, IsArc, lag_of}
+use Rattle.plan_net.proofs.LagLemmas.{lag_in_place}
 use Rattle.plan_net.proofs.RisingLemmas.{each_of_rising}
 use Rattle.plan_cpm.proofs.StepLemmas.{greatest_more}
 use Rattle.plan_sgs.specs.Serial.{end_of}
 use Rattle.plan_sgs.specs.Instances.{problem_of}
 use Rattle.plan_sgs.proofs.BoundedLemmas.{release_is}
+use Rattle.plan_sgs.proofs.placing.release_of.Goals.{After-preds-i-items}
 use Rattle.plan_sgs.proofs.placing.release_of.Goals as goal
 
-pub lag_between-requires : goal.lag_between-requires
-lag_between-requires c =
-    let items = c.preds-i-items.result.now in
-    (c.preds-i-items.ensures.exact.exact (get_or items c.preds.i-index 0)).0 (Contains-get_or items c.preds.i-index 0 c.preds-test.true)
+-- beside each predecessor stands its lag
+in_place : (c : After-preds-i-items) (k : ℕ) → k < length c.preds-i-items.result.now → (k < length c.lags_into-lags.result.now) × (get_or c.lags_into-lags.result.now k 0 ≡ lag_of c.network-network.result.now (get_or c.preds-i-items.result.now k 0) c.args.j)
+in_place c k = lag_in_place c.network-network.result.now c.args.j c.preds-i-items.result.now c.lags_into-lags.result.now k (c.lags_into-lags.ensures.value c.preds-i-items.result.now c.preds-i-items.ensures.exact)
+
+pub bounds-lags-k : goal.bounds-lags-k
+bounds-lags-k c = (in_place (goal.at.bounds-lags-k c).After-preds-i-items c.preds.k c.preds-test.true).0
 
 pub preds-preserved : goal.preds-preserved
 preds-preserved c =
     let items = c.preds-i-items.result.now in
     let net = c.network-network.ensures.network in
-    let here = get_or items c.preds.i-index 0 in
-    let arc = (c.preds-i-items.ensures.exact.exact (get_or items c.preds.i-index 0)).0 (Contains-get_or items c.preds.i-index 0 c.preds-test.true) in
-    let arc' : IsArc c.args.instance.now.project.network (get_or items c.preds.i-index 0) c.args.j = subst (λ (n : Net). IsArc n (get_or items c.preds.i-index 0) c.args.j) net arc in
-    let lag : c.lag_between.result ≡ lag_of c.args.instance.now.project.network (get_or items c.preds.i-index 0) c.args.j = c.lag_between.ensures.value ∙ ap (λ (n : Net). lag_of n (get_or items c.preds.i-index 0) c.args.j) net in
-    let value : c.end_of.result + c.lag_between.result ≡ end_of (problem_of c.args.instance.now) c.args.placed.now (get_or items c.preds.i-index 0 - 1) + lag_of c.args.instance.now.project.network (get_or items c.preds.i-index 0) c.args.j = omega (arith, lag, c.end_of.ensures.value) in
+    let arc = (c.preds-i-items.ensures.exact.exact (get_or items c.preds.k 0)).0 (Contains-get_or items c.preds.k 0 c.preds-test.true) in
+    let arc' : IsArc c.args.instance.now.project.network (get_or items c.preds.k 0) c.args.j = subst (λ (n : Net). IsArc n (get_or items c.preds.k 0) c.args.j) net arc in
+    let within = in_place (goal.at.preds-preserved c).After-preds-i-items c.preds.k c.preds-test.true in
+    let lag : get_or c.lags_into-lags.result.now c.preds.k 0 ≡ lag_of c.args.instance.now.project.network (get_or items c.preds.k 0) c.args.j = within.1 ∙ ap (λ (n : Net). lag_of n (get_or items c.preds.k 0) c.args.j) net in
+    let value : c.end_of.result + get_or c.lags_into-lags.result.now c.preds.k 0 ≡ end_of (problem_of c.args.instance.now) c.args.placed.now (get_or items c.preds.k 0 - 1) + lag_of c.args.instance.now.project.network (get_or items c.preds.k 0) c.args.j = omega (arith, lag, c.end_of.ensures.value) in
     let more = greatest_more (λ i. IsArc c.args.instance.now.project.network i c.args.j) (λ i. end_of (problem_of c.args.instance.now) c.args.placed.now (i - 1) + lag_of c.args.instance.now.project.network i c.args.j)
-    items c.preds.i-index c.preds.from (c.end_of.result + c.lag_between.result) c.max-from.result c.max-from.ensures arc' value c.preds.invariant.above c.preds.invariant.reached in
-    record { above = more.0; reached = more.1; limit = omega (arith, c.max-from.ensures, c.preds.invariant.limit, c.end_of.ensures.limit, c.lag_between.ensures.limit) }
+    items c.preds.k c.preds.from (c.end_of.result + get_or c.lags_into-lags.result.now c.preds.k 0) c.max-from.result c.max-from.ensures arc' value c.preds.invariant.above c.preds.invariant.reached in
+    record { above = more.0; reached = more.1; limit = omega (arith, c.max-from.ensures, c.preds.invariant.limit, c.end_of.ensures.limit, c.lags_into-lags.ensures.limit c.preds.k within.0) }
 
 pub returns-clause-value : goal.returns-clause-value
 returns-clause-value c =

@@ -7,7 +7,7 @@ use Rattle.plan_sgs.proofs.placing.release_of.Given as goal
 
 abbrev pub invariant-preds : goal.invariant-preds
 invariant-preds l = record {
-  above : (k : ℕ) → k < l.i-index → end_of (problem_of l.instance) l.placed (get_or l.i-items k 0 - 1) + lag_of l.instance.project.network (get_or l.i-items k 0) l.j ≤ l.from;
+  above : (m : ℕ) → m < l.k → end_of (problem_of l.instance) l.placed (get_or l.i-items m 0 - 1) + lag_of l.instance.project.network (get_or l.i-items m 0) l.j ≤ l.from;
   reached : (l.from ≡ 0) ⊎ ((i : ℕ) × IsArc l.instance.project.network i l.j × (l.from ≡ end_of (problem_of l.instance) l.placed (i - 1) + lag_of l.instance.project.network i l.j));
   limit : l.from ≤ 6030000;
 }

@@ -1,25 +1,30 @@
-use Rattle.std.proofs.Common.{◌≡◌, ◌+◌, ◌-◌, ◌≤◌, get_or, arith}
+use Rattle.std.proofs.Common.{ℕ, ◌≡◌, ◌+◌, ◌-◌, ◌≤◌, ◌<◌, length, get_or, arith}
 use Rattle.std.proofs.lemmas.List.Elements.{Contains-get_or}
 use Rattle.plan_net.specs.Network.{IsArc, lag_of, duration_of}
+use Rattle.plan_net.proofs.LagLemmas.{lag_in_place}
 use Rattle.plan_net.proofs.RisingLemmas.{each_of_rising}
 use Rattle.plan_cpm.proofs.StepLemmas.{greatest_more}
+use Rattle.plan_sgs.proofs.checking.shifts.release_of.Goals.{After-preds-i-items}
 use Rattle.plan_sgs.proofs.checking.shifts.release_of.Goals as goal
 
-pub lag_between-requires : goal.lag_between-requires
-lag_between-requires c =
-    let items = c.preds-i-items.result.now in
-    (c.preds-i-items.ensures.exact.exact (get_or items c.preds.i-index 0)).0 (Contains-get_or items c.preds.i-index 0 c.preds-test.true)
+-- beside each predecessor stands its lag
+in_place : (c : After-preds-i-items) (k : ℕ) → k < length c.preds-i-items.result.now → (k < length c.lags_into-lags.result.now) × (get_or c.lags_into-lags.result.now k 0 ≡ lag_of c.args.network.now (get_or c.preds-i-items.result.now k 0) c.args.j)
+in_place c k = lag_in_place c.args.network.now c.args.j c.preds-i-items.result.now c.lags_into-lags.result.now k (c.lags_into-lags.ensures.value c.preds-i-items.result.now c.preds-i-items.ensures.exact)
+
+pub bounds-lags-k : goal.bounds-lags-k
+bounds-lags-k c = (in_place (goal.at.bounds-lags-k c).After-preds-i-items c.preds.k c.preds-test.true).0
 
 pub preds-preserved : goal.preds-preserved
 preds-preserved c =
     let net = c.args.network.now in
     let s = c.args.starts.now in
     let items = c.preds-i-items.result.now in
-    let i = get_or items c.preds.i-index 0 in
-    let arc = (c.preds-i-items.ensures.exact.exact i).0 (Contains-get_or items c.preds.i-index 0 c.preds-test.true) in
-    let ready = get_or s (i - 1) 0 + c.duration.result + c.lag_between.result in
-    let value : ready ≡ get_or s (i - 1) 0 + duration_of net i + lag_of net i c.args.j = omega (arith, c.duration.ensures.value, c.lag_between.ensures.value) in
-    let more = greatest_more (λ h. IsArc net h c.args.j) (λ h. get_or s (h - 1) 0 + duration_of net h + lag_of net h c.args.j) items c.preds.i-index c.preds.latest ready
+    let i = get_or items c.preds.k 0 in
+    let arc = (c.preds-i-items.ensures.exact.exact i).0 (Contains-get_or items c.preds.k 0 c.preds-test.true) in
+    let ready = get_or s (i - 1) 0 + c.duration.result + get_or c.lags_into-lags.result.now c.preds.k 0 in
+    let lag = (in_place (goal.at.preds-preserved c).After-preds-i-items c.preds.k c.preds-test.true).1 in
+    let value : ready ≡ get_or s (i - 1) 0 + duration_of net i + lag_of net i c.args.j = omega (arith, c.duration.ensures.value, lag) in
+    let more = greatest_more (λ h. IsArc net h c.args.j) (λ h. get_or s (h - 1) 0 + duration_of net h + lag_of net h c.args.j) items c.preds.k c.preds.latest ready
     c.max-latest.result c.max-latest.ensures arc value c.preds.invariant.above c.preds.invariant.reached in
     record { above = more.0; reached = more.1 }
 

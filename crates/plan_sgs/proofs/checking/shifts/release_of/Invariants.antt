@@ -5,6 +5,6 @@ use Rattle.plan_sgs.proofs.checking.shifts.release_of.Given as goal
 -- `latest` is the greatest of the predecessors so far
 abbrev pub invariant-preds : goal.invariant-preds
 invariant-preds l = record {
-  above : (m : ℕ) → m < l.i-index → get_or l.starts (get_or l.i-items m 0 - 1) 0 + duration_of l.network (get_or l.i-items m 0) + lag_of l.network (get_or l.i-items m 0) l.j ≤ l.latest;
+  above : (m : ℕ) → m < l.k → get_or l.starts (get_or l.i-items m 0 - 1) 0 + duration_of l.network (get_or l.i-items m 0) + lag_of l.network (get_or l.i-items m 0) l.j ≤ l.latest;
   reached : (l.latest ≡ 0) ⊎ ((i : ℕ) × IsArc l.network i l.j × (l.latest ≡ get_or l.starts (i - 1) 0 + duration_of l.network i + lag_of l.network i l.j));
 }
