@@ -36,4 +36,5 @@ pub mod BestLemmas
 pub mod DaysLemmas
 pub mod PagedLemmas
 pub mod SomeFileLemmas
+pub mod SomeShopLemmas
 pub mod SomeLemmas

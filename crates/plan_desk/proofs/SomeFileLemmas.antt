@@ -1,6 +1,6 @@
--- Texts of a calendar and files of shops are either read or refused for something.
+-- Texts of a calendar and files are either read or refused for something.
 use Rattle.std.proofs.Common.{◌≡◌, ℕ, ◌+◌, ◌-◌, ◌*◌, ◌/◌, ◌%◌, ◌≤◌, inl, inr, ◌⊎◌, Bool, true, false, List, [], ◌∷◌, ◌++◌, get_or, length, map, Result, Ok, Err, refl, sym, ◌∙◌, ap, subst, arith, pos}
-use Rattle.std.specs.Prelude.{◌&&◌, ◌==◌, ℤ}
+use Rattle.std.specs.Prelude.{◌&&◌, ◌==◌, ℤ, is_err}
 use denote.RawPtr.{null_ptr}
 use Rattle.std.specs.List.{list_any}
 use Rattle.std.proofs.lemmas.Bool.{cases_Bool, both_ways, and_parts, and_from, eqb-true, eq-eqb, leb-true, le-leb}
@@ -11,7 +11,7 @@ use Rattle.jiff_fmt.specs.Text.{year_text, pad2}
 use Rattle.plan_psplib.specs.declared.fault.Fault.{Fault}
 use Rattle.plan_psplib.specs.declared.fault.FileFault.{FileFault}
 use Rattle.plan_psplib.specs.Lines.{last_line}
-use Rattle.plan_psplib.specs.Document.{plain}
+use Rattle.plan_psplib.specs.Document.{Document, document, plain}
 use Rattle.plan_psplib.proofs.GoesLemmas.{then_ok}
 use Rattle.plan_orlib.specs.Instances.{stream_of}
 use Rattle.plan_orlib.specs.Shop.{Shop}
@@ -20,7 +20,7 @@ use Rattle.plan_orlib.specs.Says.{Says}
 use Rattle.plan_orlib.proofs.ShopLemmas.{shop_spelled}
 use Rattle.plan_orlib.proofs.TextLemmas.{stream_is}
 use Rattle.plan_gantt.specs.FaultText.{file_fault_text_of}
-use Rattle.plan_gantt.specs.FirstFaults.{TellsFirstShopFault}
+use Rattle.plan_gantt.specs.FirstFaults.{TellsFirstFailing, TellsFirstShopFault}
 use Rattle.plan_gantt.specs.CalendarFaultText.{calendar_fault_text_of}
 use Rattle.plan_calendar.specs.WorkingDay.{Workdays}
 use Rattle.plan_calendar.specs.CalendarText.{IsStartText, HasNoStart, IsMarksText, HasNoMarks, IsCalendar, date_bytes, mark_digit}
@@ -179,3 +179,15 @@ some_shop name text = by_read (shop name text) refl
     by_read (Err f) e =
         let told = of_fault f in
         inl (file_fault_text_of told.0, (told.0, (e ∙ ap (λ (g : Fault). Err g) told.1, told.2), refl))
+
+-- ---- files of projects
+
+-- a line tells why a file is no document
+pub some_fault : (text : Text) → is_err (document text) ≡ true → (line : Text) × TellsFirstFailing text line
+some_fault text fails = by_read (document text) refl fails
+  where
+    by_read : (read : Result Document Fault) → document text ≡ read → is_err read ≡ true → (line : Text) × TellsFirstFailing text line
+    by_read (Ok d) e is = absurd (both_ways _ refl is)
+    by_read (Err f) e is =
+        let told = of_fault f in
+        (file_fault_text_of told.0, (told.0, inl (e ∙ ap (λ (g : Fault). Err g) told.1, told.2), refl))
