@@ -37,4 +37,5 @@ pub mod DaysLemmas
 pub mod PagedLemmas
 pub mod SomeFileLemmas
 pub mod SomeShopLemmas
+pub mod SomeBestLemmas
 pub mod SomeLemmas

@@ -2,6 +2,7 @@
 use Rattle.std.proofs.Common.{◌≡◌, ℕ, ◌+◌, ◌-◌, ◌*◌, ◌/◌, ◌%◌, ◌≤◌, inl, inr, ◌⊎◌, Bool, true, false, List, [], ◌∷◌, ◌++◌, get_or, length, map, Result, Ok, Err, refl, sym, ◌∙◌, ap, subst, arith, pos}
 use Rattle.std.specs.Prelude.{◌&&◌, ◌==◌, ℤ, is_err}
 use denote.RawPtr.{null_ptr}
+use Rattle.std.specs.Global.{Vec}
 use Rattle.std.specs.List.{list_any}
 use Rattle.std.proofs.lemmas.Bool.{cases_Bool, both_ways, and_parts, and_from, eqb-true, eq-eqb, leb-true, le-leb}
 use Rattle.jiff_core.specs.Calendar.{IsBetween, days_in_month}
@@ -165,10 +166,26 @@ shop_said name text d e =
     let spelled = shop_spelled s d e in
     record { readable = good; stream = (s, stream_is (last_line text) (stream_of name text) s found, spelled.0); limits = spelled.1 }))
 
+-- a `Vec` of a few numbers
+pub vec_of : (xs : List ℕ) → length xs ≤ 100 → (v : Vec ℕ) × (v.items ≡ xs)
+vec_of xs few = (
+  record {
+    ptr = null_ptr;
+    len = length xs;
+    cap = length xs;
+    alloc = record { memory = record { seal = tt } };
+    items = xs;
+    ok = (refl, omega arith);
+    small = omega (arith, few);
+  },
+  refl,
+)
+
 -- a fault of a file that is no cycle
 of_fault : (f : Fault) → (told : FileFault) × (f ≡ record { code = told.code; line = told.line }) × (told.cycle.items ≡ [])
 of_fault f =
-    (record { code = f.code; line = f.line; cycle = record { ptr = null_ptr; len = 0; cap = 0; alloc = record { memory = record { seal = tt } }; items = []; ok = (refl, omega arith); small = omega arith } }, refl, refl)
+    let none = vec_of [] (omega arith) in
+    (record { code = f.code; line = f.line; cycle = none.0 }, refl, none.1)
 
 -- a file says a shop of a name, or a line tells why not
 pub some_shop : (name text : Text) → ((line : Text) × TellsFirstShopFault name text line) ⊎ ((d : Shop) × Says name text d)

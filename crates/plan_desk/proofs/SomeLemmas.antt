@@ -13,7 +13,8 @@ use Rattle.plan_rows.specs.Plans.{plan_seen, HasPlaces, open_machines}
 use Rattle.plan_rows.specs.Rules.{IsPlanRow, IsWorld}
 use Rattle.plan_rows.specs.Views.{View, alone}
 use Rattle.plan_desk.specs.Calls.{Call, publish, open_desk, set_key, capacities, plans, import_project, import_shop, remove, bind, set_calendar, set_lag, dates, schedule, chart, days, best, Reply, answer, page, no_key, admits}
-use Rattle.plan_desk.specs.BestRoutes.{Best}
+use Rattle.plan_desk.specs.BestOf.{IsOpenBest}
+use Rattle.plan_desk.specs.BestRoutes.{OfShopBest, Best}
 use Rattle.plan_desk.specs.Decisions.{Answers, IsDecision}
 use Rattle.plan_desk.specs.OfficeRoutes.{Publishes, Opens, SetsKey}
 use Rattle.plan_desk.specs.Outcomes.{Outcome, refuses, tells, shows, makes, unless, given, some, why_or}
@@ -24,6 +25,7 @@ use Rattle.plan_desk.specs.Stories.{decided}
 use Rattle.plan_desk.proofs.SameLemmas.{all_has}
 use Rattle.plan_desk.proofs.SeenPlanLemmas.{seen_has}
 use Rattle.plan_desk.proofs.SomeFileLemmas.{some_texts, some_shop, some_fault}
+use Rattle.plan_desk.proofs.SomeBestLemmas.{some_best_text}
 use Rattle.plan_desk.proofs.SomeShopLemmas.{some_schedule, some_shop_of}
 
 -- the outcome has a reply and a change
@@ -155,8 +157,8 @@ some_of_shop_schedule : (v : View) (plan : Plan) (rule : Text) (Rest : JobShop �
 unfolding OfShopSchedule
 some_of_shop_schedule v plan rule Rest keeps kind rest =
     let read = some_shop_of plan keeps kind in
-    let s = read.0 in
-    some_some _ _ s read.1 (some_why_or _ _ _ _ (some_schedule s (open_machines v plan.n s.machines) rule read.2) (λ starts. rest s starts))
+    let s = read.shop in
+    some_some _ _ s read.said (some_why_or _ _ _ _ (some_schedule s (open_machines v plan.n s.machines) rule read.is) (λ starts. rest s starts))
 
 some_shows : (P : Text → Type 0) (text : Text) → P text → IsAnswered (shows P)
 unfolding shows
@@ -180,9 +182,17 @@ some_days : (v : View) (n rule : Text) → is_none (plan_seen v n) ≡ true → 
 unfolding Days
 some_days v n rule none = some_nowhere _ _ _ none
 
-some_best : (v : View) (n word : Text) → is_none (plan_seen v n) ≡ true → IsAnswered (Best v n word)
+some_shop_best : (v : View) (plan : Plan) (word : Text) → IsPlanRow plan → plan.kind ≡ kinds.Shop → IsAnswered (OfShopBest v plan word)
+unfolding OfShopBest
+some_shop_best v plan word keeps kind =
+    let read = some_shop_of plan keeps kind in
+    let s = read.shop in
+    let IsShown : Text → Type 0 = IsOpenBest word s (open_machines v plan.n s.machines) in
+    some_some _ _ s read.said (some_why_or _ _ IsShown _ (some_best_text s (open_machines v plan.n s.machines) word read.is read.short) (λ text. some_shows _ text refl))
+
+some_best : (v : View) (n word : Text) → IsWorld (alone v) → is_no_project (plan_seen v n) ≡ true → IsAnswered (Best v n word)
 unfolding Best
-some_best v n word none = some_nowhere _ _ _ none
+some_best v n word k none = some_of_shop _ _ _ _ k none (λ plan keeps kind. some_shop_best v plan word keeps kind)
 
 -- ---- decisions
 
@@ -202,7 +212,7 @@ some_answer v (dates desk n) k settled = some_dates v n k settled
 some_answer v (schedule desk n rule) k settled = some_schedules v n rule k settled
 some_answer v (chart desk n rule) k settled = some_charts v n rule k settled
 some_answer v (days desk n rule) k settled = some_days v n rule settled
-some_answer v (best desk n budget) k settled = some_best v n budget settled
+some_answer v (best desk n budget) k settled = some_best v n budget k settled
 
 -- a refusal, or the answer to an admitted call
 some_decided : (b settled : Bool) (Rest : Outcome) → (settled ≡ true → IsAnswered Rest) → (not b || settled) ≡ true → IsAnswered (decided b Rest)

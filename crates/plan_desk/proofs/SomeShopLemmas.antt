@@ -1,6 +1,6 @@
 -- A shop has a schedule by the rule of a name, or a line tells why not.
-use Rattle.std.proofs.Common.{◌≡◌, ℕ, zero, suc, ◌*◌, ◌<◌, inl, inr, ◌⊎◌, Bool, true, false, List, [], ◌∷◌, ◌++◌, length, refl, sym, ap, subst, arith}
-use Rattle.std.specs.Prelude.{◌&&◌, ◌||◌, ◌==◌, not, nat_lt, slice_index_or, Contains}
+use Rattle.std.proofs.Common.{◌≡◌, ℕ, zero, suc, ◌*◌, ◌≤◌, ◌<◌, inl, inr, ◌⊎◌, Bool, true, false, List, [], ◌∷◌, ◌++◌, length, refl, sym, ap, subst, arith}
+use Rattle.std.specs.Prelude.{◌&&◌, ◌||◌, ◌==◌, not, nat_lt, slice_index_or, All, Contains}
 use Rattle.std.specs.List.{list_any}
 use Rattle.std.proofs.lemmas.Bool.{cases_Bool, both_ways, and_parts, and_from, or_cases, not-true, not_from_false, eqb-true, eq-eqb, ltb-true, lt-ltb, cases_order}
 use Rattle.std.specs.List.{AllByRecursion}
@@ -32,7 +32,7 @@ use Rattle.plan_desk.specs.PageRoutes.{TellsShopRefusal, IsShopScheduleBy}
 -- ---- closed machines
 
 -- the least number below one that passes, or none does
-first_below : (p : ℕ → Bool) (n : ℕ)
+pub first_below : (p : ℕ → Bool) (n : ℕ)
     → ((m : ℕ) × (p m ≡ true) × ((h : ℕ) → h < m → p h ≡ false)) ⊎ ((h : ℕ) → h < n → p h ≡ false)
 first_below p zero = inr (λ h less. absurd (omega (arith, less)))
 first_below p (suc n) = by_rest (first_below p n) (cases_Bool (p n))
@@ -83,7 +83,7 @@ is_closed_of : (steps : List Step) (usable : List Bool) (m : ℕ) → IsClosedIn
 is_closed_of steps usable m (inside, shut, used) =
     and_from _ _ (lt-ltb m (length usable) inside) (and_from _ _ (not_from_false (slice_index_or usable m true) shut) (uses steps m used))
 
-some_closed : (steps : List Step) (usable : List Bool) → ((m : ℕ) × IsFirstClosed steps usable m) ⊎ NoneIsClosed steps usable
+pub some_closed : (steps : List Step) (usable : List Bool) → ((m : ℕ) × IsFirstClosed steps usable m) ⊎ NoneIsClosed steps usable
 some_closed steps usable = by_search (first_below (is_closed steps usable) (length usable))
   where
     by_search : ((m : ℕ) × (is_closed steps usable m ≡ true) × ((h : ℕ) → h < m → is_closed steps usable h ≡ false))
@@ -146,33 +146,43 @@ some_schedule s usable name is = by_parts (some_rule name) (some_closed s.steps 
       },
     )
 
-both : (P : Step → Type 0) (xs ys : List Step) → AllByRecursion P xs → AllByRecursion P ys → AllByRecursion P (xs ++ ys)
+-- what holds of the elements of both lists holds of all
+pub both : {A : Type 0} (P : A → Type 0) (xs ys : List A) → AllByRecursion P xs → AllByRecursion P ys → AllByRecursion P (xs ++ ys)
 both P [] ys p q = q
 both P (x ∷ xs) ys p q = (p.0, both P xs ys p.1 q)
 
--- the steps of all jobs are on machines, as many of each job as there are
+-- what holds of the steps of each job holds of all, and each job has as many as there are machines
 flat : (m : ℕ) (jobs : List (List Step)) → AllByRecursion (docs.IsJob m) jobs
-    → (length (flat_steps jobs) ≡ length jobs * m) × AllByRecursion (λ w. w.machine < m) (flat_steps jobs)
+    → (length (flat_steps jobs) ≡ length jobs * m) × AllByRecursion (docs.IsStep m) (flat_steps jobs)
 flat m [] p = (omega arith, tt)
 flat m (row ∷ jobs) p =
-    let rest = flat m jobs p.1 in (
-      omega (arith, length-append row (flat_steps jobs), rest.0, p.0.0),
-      both (λ w. w.machine < m) row (flat_steps jobs) (recursion_from_All (λ (w : Step). w.machine < m) row (λ k d inside. (p.0.1 k d inside).0)) rest.1,
-    )
+    let rest = flat m jobs p.1 in
+    (omega (arith, length-append row (flat_steps jobs), rest.0, p.0.0), both (docs.IsStep m) row (flat_steps jobs) (recursion_from_All (docs.IsStep m) row p.0.1) rest.1)
 
--- the shop of a file is one
-is_shop_of : (doc : docs.Shop) → docs.IsShop doc → IsShop (shop_of doc)
+-- the shop of a file is one, and no step of it lasts longer than 10,000
+is_shop_of : (doc : docs.Shop) → docs.IsShop doc → IsShop (shop_of doc) × All (λ step. step.time ≤ 10000) (flat_steps doc.jobs)
 is_shop_of doc is =
     let steps = flat doc.machines doc.jobs (recursion_from_All (docs.IsJob doc.machines) doc.jobs is.steps) in
-    record {
-      some_machine = omega (arith, is.machines.0);
-      all_steps = steps.0;
-      on_machines = All-from_recursion (λ (w : Step). w.machine < doc.machines) (flat_steps doc.jobs) steps.1;
-    }
+    let all = All-from_recursion (docs.IsStep doc.machines) (flat_steps doc.jobs) steps.1 in (
+      record {
+        some_machine = omega (arith, is.machines.0);
+        all_steps = steps.0;
+        on_machines = λ k d inside. (all k d inside).0;
+      },
+      λ k d inside. (all k d inside).1,
+    )
 
 -- a shop's plan has a shop
-pub some_shop_of : (plan : Plan) → IsPlanRow plan → plan.kind ≡ kinds.Shop → (s : JobShop) × IsShopOf plan s × IsShop s
+pub record SomeShop (plan : Plan) : Type 0 where
+  pub shop : JobShop
+  pub said : IsShopOf plan shop
+  pub is : IsShop shop
+  pub short : All (λ step. step.time ≤ 10000) shop.steps
+
+pub some_shop_of : (plan : Plan) → IsPlanRow plan → plan.kind ≡ kinds.Shop → SomeShop plan
 some_shop_of plan keeps kind = of_reads (subst (λ k. (count : ℕ) × HasPlaces k plan.name plan.body count) kind keeps.reads)
   where
-    of_reads : (count : ℕ) × HasPlaces kinds.Shop plan.name plan.body count → (s : JobShop) × IsShopOf plan s × IsShop s
-    of_reads (count, (doc, says, e)) = (shop_of doc, (doc, says, refl), is_shop_of doc says.limits)
+    of_reads : (count : ℕ) × HasPlaces kinds.Shop plan.name plan.body count → SomeShop plan
+    of_reads (count, (doc, says, e)) =
+        let is = is_shop_of doc says.limits in
+        record { shop = shop_of doc; said = (doc, says, refl); is = is.0; short = is.1 }

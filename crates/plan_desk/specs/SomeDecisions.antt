@@ -29,7 +29,7 @@ is_settled_call v (dates desk n) = is_no_project (plan_seen v n)
 is_settled_call v (schedule desk n rule) = is_no_project (plan_seen v n)
 is_settled_call v (chart desk n rule) = is_no_project (plan_seen v n)
 is_settled_call v (days desk n rule) = is_none (plan_seen v n)
-is_settled_call v (best desk n budget) = is_none (plan_seen v n)
+is_settled_call v (best desk n budget) = is_no_project (plan_seen v n)
 is_settled_call v _ = true
 
 -- a request without the key that its call takes, or with such a call
