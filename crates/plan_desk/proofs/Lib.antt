@@ -38,4 +38,5 @@ pub mod PagedLemmas
 pub mod SomeFileLemmas
 pub mod SomeShopLemmas
 pub mod SomeBestLemmas
+pub mod SomeDaysLemmas
 pub mod SomeLemmas

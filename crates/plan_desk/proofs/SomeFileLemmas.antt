@@ -47,11 +47,11 @@ is_start text year month day =
     same_text text (date_bytes year month day)
     && (is_from_to 1900 2199 year && (is_from_to 1 12 month && is_from_to 1 (days_in_month (pos year) month) day))
 
-from_to : (least most n : ℕ) → is_from_to least most n ≡ true → (least ≤ n) × (n ≤ most)
+pub from_to : (least most n : ℕ) → is_from_to least most n ≡ true → (least ≤ n) × (n ≤ most)
 from_to least most n e =
     let parts = and_parts _ _ e in (leb-true least n parts.0, leb-true n most parts.1)
 
-to_from : (least most n : ℕ) → least ≤ n → n ≤ most → is_from_to least most n ≡ true
+pub to_from : (least most n : ℕ) → least ≤ n → n ≤ most → is_from_to least most n ≡ true
 to_from least most n a b = and_from _ _ (le-leb least n a) (le-leb n most b)
 
 start_is : (text : Text) (year month day : ℕ) → is_start text year month day ≡ true → (date : Date) × IsStartText text date

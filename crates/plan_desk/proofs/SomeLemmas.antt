@@ -1,16 +1,20 @@
 -- Some decision: a settled request has a reply and a change in each view whose rows keep their rules.
 use Rattle.std.proofs.Common.{◌≡◌, ◌⊎◌, inl, inr, ℕ, Bool, true, false, List, Option, Some, None, refl, sym, ap, ◌∙◌}
-use Rattle.std.specs.Prelude.{◌||◌, not, is_none, is_err}
+use Rattle.std.specs.Prelude.{◌||◌, not, is_err, nat_eq, length}
 use Rattle.std.proofs.lemmas.Bool.{both_ways}
 use Rattle.plan_psplib.specs.Document.{document}
 use Rattle.plan_psplib.specs.Project.{Project, SaysProject}
 use Rattle.plan_shop.specs.Shop.{JobShop}
+use Rattle.plan_calendar.specs.CalendarText.{IsCalendar}
+use Rattle.plan_calendar.specs.WorkingDay.{Workdays}
+use Rattle.plan_calendar.specs.declared.calendar.CalendarFault.TheVariants as calendar_fault
+use Rattle.plan_gantt.specs.CalendarFaultText.{calendar_fault_text_of, missing_calendar_text}
 use Rattle.plan_rows.specs.declared.kinds.PlanKind.{PlanKind}
 use Rattle.plan_rows.specs.declared.kinds.PlanKind.TheVariants as kinds
 use Rattle.plan_rows.specs.World.{Text, Published, Plan}
 use Rattle.plan_rows.specs.Changes.{Change, Keep}
 use Rattle.plan_rows.specs.Plans.{plan_seen, HasPlaces, open_machines}
-use Rattle.plan_rows.specs.Rules.{IsPlanRow, IsWorld}
+use Rattle.plan_rows.specs.Rules.{HasCalendar, IsPlanRow, IsWorld}
 use Rattle.plan_rows.specs.Views.{View, alone}
 use Rattle.plan_desk.specs.Calls.{Call, publish, open_desk, set_key, capacities, plans, import_project, import_shop, remove, bind, set_calendar, set_lag, dates, schedule, chart, days, best, Reply, answer, page, no_key, admits}
 use Rattle.plan_desk.specs.BestOf.{IsOpenBest}
@@ -18,14 +22,16 @@ use Rattle.plan_desk.specs.BestRoutes.{OfShopBest, Best}
 use Rattle.plan_desk.specs.Decisions.{Answers, IsDecision}
 use Rattle.plan_desk.specs.OfficeRoutes.{Publishes, Opens, SetsKey}
 use Rattle.plan_desk.specs.Outcomes.{Outcome, refuses, tells, shows, makes, unless, given, some, why_or}
-use Rattle.plan_desk.specs.PageRoutes.{OfShopSchedule, Dates, Schedules, Charts, Days}
+use Rattle.plan_desk.specs.PageRoutes.{OfShopSchedule, TellsBeyond, ShowsDays, OfCalendar, Dates, Schedules, Charts, Days}
 use Rattle.plan_desk.specs.PlanRoutes.{of_plan, by_kind, Imports, ImportsProject, ImportsShop, Removes, Binds, Calendars, SetsLag}
+use Rattle.plan_desk.specs.Refusals.{bad_calendar}
 use Rattle.plan_desk.specs.SomeDecisions.{is_shop, is_no_project, is_settled_call, SomeDecision}
 use Rattle.plan_desk.specs.Stories.{decided}
 use Rattle.plan_desk.proofs.SameLemmas.{all_has}
 use Rattle.plan_desk.proofs.SeenPlanLemmas.{seen_has}
 use Rattle.plan_desk.proofs.SomeFileLemmas.{some_texts, some_shop, some_fault}
 use Rattle.plan_desk.proofs.SomeBestLemmas.{some_best_text}
+use Rattle.plan_desk.proofs.SomeDaysLemmas.{some_shop_table}
 use Rattle.plan_desk.proofs.SomeShopLemmas.{some_schedule, some_shop_of}
 
 -- the outcome has a reply and a change
@@ -50,6 +56,11 @@ some_unless : (b : Bool) (r : Reply) (Rest : Outcome) → IsAnswered Rest → Is
 unfolding unless
 some_unless true r Rest rest = some_refuses r
 some_unless false r Rest rest = rest
+
+some_unless_not : (b : Bool) (r : Reply) (Rest : Outcome) → b ≡ true → IsAnswered (unless b r Rest)
+unfolding unless
+some_unless_not true r Rest holds = some_refuses r
+some_unless_not false r Rest holds = absurd (both_ways false refl holds)
 
 some_given : {A : Type 0} (o : Option A) (r : Reply) (Rest : A → Outcome) → ((x : A) → o ≡ Some x → IsAnswered (Rest x)) → IsAnswered (given o r Rest)
 unfolding given
@@ -137,10 +148,6 @@ some_imports_project v body fails =
 
 -- ---- pages
 
-some_nowhere : (v : View) (n : Text) (Rest : Plan → Outcome) → is_none (plan_seen v n) ≡ true → IsAnswered (of_plan v n Rest)
-unfolding of_plan
-some_nowhere v n Rest none = some_given _ _ _ (λ plan seen. absurd (both_ways _ (ap is_none seen) none))
-
 some_by_shop : (kind : PlanKind) (One Other : Outcome) → is_shop kind ≡ true → (kind ≡ kinds.Shop → IsAnswered Other) → IsAnswered (by_kind kind One Other)
 unfolding by_kind
 some_by_shop kinds.Project One Other is other = absurd (both_ways _ refl is)
@@ -178,9 +185,29 @@ unfolding Charts
 some_charts v n rule k none =
     some_of_shop _ _ _ _ k none (λ plan keeps kind. some_of_shop_schedule _ _ _ _ keeps kind (λ s starts. some_shows _ _ refl))
 
-some_days : (v : View) (n rule : Text) → is_none (plan_seen v n) ≡ true → IsAnswered (Days v n rule)
+-- a table by the plan's calendar, where each calendar has one or a day beyond
+some_of_calendar : (plan : Plan) (IsTable : Workdays → Text → Type 0) (IsBeyond : Workdays → Type 0) → HasCalendar plan.start plan.days
+    → ((c : Workdays) → ((text : Text) × IsTable c text) ⊎ IsBeyond c) → IsAnswered (OfCalendar plan IsTable IsBeyond)
+unfolding OfCalendar
+some_of_calendar plan IsTable IsBeyond calendar table = by_calendar calendar
+  where
+    some_table : (c : Workdays) → IsCalendar plan.start plan.days c → ((text : Text) × IsTable c text) ⊎ IsBeyond c
+        → ((line : Text) × TellsBeyond IsBeyond plan.start plan.days line) ⊎ ((text : Text) × ShowsDays IsTable plan.start plan.days text)
+    some_table c is (inl (text, shown)) = inr (text, (c, is, shown))
+    some_table c is (inr beyond) = inl (calendar_fault_text_of calendar_fault.BeyondCalendar, (c, is, beyond, refl))
+
+    by_calendar : HasCalendar plan.start plan.days
+        → IsAnswered (unless (nat_eq (length plan.start) 0) (bad_calendar missing_calendar_text) (why_or (TellsBeyond IsBeyond plan.start plan.days) bad_calendar
+        (ShowsDays IsTable plan.start plan.days) (λ text. shows (λ shown. shown ≡ text))))
+    by_calendar (inl (none, also)) = some_unless_not _ _ _ (ap (λ text. nat_eq (length text) 0) none)
+    by_calendar (inr (c, is)) =
+        some_unless _ _ _ (some_why_or _ _ (ShowsDays IsTable plan.start plan.days) _ (some_table c is (table c)) (λ text. some_shows _ text refl))
+
+some_days : (v : View) (n rule : Text) → IsWorld (alone v) → is_no_project (plan_seen v n) ≡ true → IsAnswered (Days v n rule)
 unfolding Days
-some_days v n rule none = some_nowhere _ _ _ none
+some_days v n rule k none =
+    some_of_shop _ _ _ _ k none (λ plan keeps kind. some_of_shop_schedule _ _ _ _ keeps kind (λ s starts.
+    some_of_calendar plan _ _ keeps.calendar (λ c. some_shop_table c s starts)))
 
 some_shop_best : (v : View) (plan : Plan) (word : Text) → IsPlanRow plan → plan.kind ≡ kinds.Shop → IsAnswered (OfShopBest v plan word)
 unfolding OfShopBest
@@ -211,7 +238,7 @@ some_answer v (set_lag desk n body) k settled = some_sets_lag v n body k
 some_answer v (dates desk n) k settled = some_dates v n k settled
 some_answer v (schedule desk n rule) k settled = some_schedules v n rule k settled
 some_answer v (chart desk n rule) k settled = some_charts v n rule k settled
-some_answer v (days desk n rule) k settled = some_days v n rule settled
+some_answer v (days desk n rule) k settled = some_days v n rule k settled
 some_answer v (best desk n budget) k settled = some_best v n budget k settled
 
 -- a refusal, or the answer to an admitted call

@@ -1,6 +1,6 @@
 -- A shop has a schedule by the rule of a name, or a line tells why not.
-use Rattle.std.proofs.Common.{◌≡◌, ℕ, zero, suc, ◌*◌, ◌≤◌, ◌<◌, inl, inr, ◌⊎◌, Bool, true, false, List, [], ◌∷◌, ◌++◌, length, refl, sym, ap, subst, arith}
-use Rattle.std.specs.Prelude.{◌&&◌, ◌||◌, ◌==◌, not, nat_lt, slice_index_or, All, Contains}
+use Rattle.std.proofs.Common.{◌≡◌, ℕ, zero, suc, ◌*◌, ◌≤◌, ◌<◌, inl, inr, ◌⊎◌, Bool, true, false, List, [], ◌∷◌, ◌++◌, length, refl, sym, subst, arith}
+use Rattle.std.specs.Prelude.{◌&&◌, ◌==◌, not, nat_lt, slice_index_or, All}
 use Rattle.std.specs.List.{list_any}
 use Rattle.std.proofs.lemmas.Bool.{cases_Bool, both_ways, and_parts, and_from, or_cases, not-true, not_from_false, eqb-true, eq-eqb, ltb-true, lt-ltb, cases_order}
 use Rattle.std.specs.List.{AllByRecursion}
@@ -21,7 +21,6 @@ use Rattle.plan_shop.specs.declared.fault.ShopFault.TheVariants as fault
 use Rattle.plan_shop.proofs.WordCount.{rule_is_active, spt_chooses, mwkr_chooses, fcfs_chooses}
 use Rattle.plan_gantt.specs.ShopText.{rule_starts}
 use Rattle.plan_gantt.specs.ShopFaultText.{shop_fault_text_of}
-use Rattle.plan_rows.specs.declared.kinds.PlanKind.{PlanKind}
 use Rattle.plan_rows.specs.declared.kinds.PlanKind.TheVariants as kinds
 use Rattle.plan_rows.specs.World.{Text, Plan, same_text}
 use Rattle.plan_rows.specs.Plans.{HasPlaces, IsShopOf}

@@ -1,6 +1,6 @@
 -- Requests of which a law says that they have a decision in each view, so that no case of theirs is
 -- forgotten in the definitions (docs/DEFINITIONS.md, "Desks").
-use Rattle.std.specs.Prelude.{◌≡◌, Bool, true, false, ◌||◌, not, Option, Some, None, is_none, is_err}
+use Rattle.std.specs.Prelude.{◌≡◌, Bool, true, false, ◌||◌, not, Option, Some, None, is_err}
 use Rattle.plan_psplib.specs.Document.{document}
 use Rattle.plan_rows.specs.declared.kinds.PlanKind.{PlanKind}
 use Rattle.plan_rows.specs.declared.kinds.PlanKind.TheVariants as kinds
@@ -21,14 +21,14 @@ abbrev pub is_no_project : Option Plan → Bool
 is_no_project None = true
 is_no_project (Some plan) = is_shop plan.kind
 
--- A call whose answer follows from conditions alone. What is left out stands on searches: the cycle
--- of a project, its dates and schedules, working days and best schedules.
+-- A call of which the law speaks. It leaves out what stands on the network of a project: whether it
+-- has a cycle, where a file is imported that is a document, and all pages of a project's plan.
 abbrev pub is_settled_call : View → Call → Bool
 is_settled_call v (import_project desk body) = is_err (document body)
 is_settled_call v (dates desk n) = is_no_project (plan_seen v n)
 is_settled_call v (schedule desk n rule) = is_no_project (plan_seen v n)
 is_settled_call v (chart desk n rule) = is_no_project (plan_seen v n)
-is_settled_call v (days desk n rule) = is_none (plan_seen v n)
+is_settled_call v (days desk n rule) = is_no_project (plan_seen v n)
 is_settled_call v (best desk n budget) = is_no_project (plan_seen v n)
 is_settled_call v _ = true
 
