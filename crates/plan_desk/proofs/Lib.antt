@@ -36,4 +36,7 @@ pub mod BestLemmas
 pub mod DaysLemmas
 pub mod PagedLemmas
 pub mod SomeFileLemmas
+pub mod SomeShopLemmas
+pub mod SomeBestLemmas
+pub mod SomeDaysLemmas
 pub mod SomeLemmas

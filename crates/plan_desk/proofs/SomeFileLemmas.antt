@@ -1,7 +1,8 @@
--- Texts of a calendar and files of shops are either read or refused for something.
+-- Texts of a calendar and files are either read or refused for something.
 use Rattle.std.proofs.Common.{◌≡◌, ℕ, ◌+◌, ◌-◌, ◌*◌, ◌/◌, ◌%◌, ◌≤◌, inl, inr, ◌⊎◌, Bool, true, false, List, [], ◌∷◌, ◌++◌, get_or, length, map, Result, Ok, Err, refl, sym, ◌∙◌, ap, subst, arith, pos}
-use Rattle.std.specs.Prelude.{◌&&◌, ◌==◌, ℤ}
+use Rattle.std.specs.Prelude.{◌&&◌, ◌==◌, ℤ, is_err}
 use denote.RawPtr.{null_ptr}
+use Rattle.std.specs.Global.{Vec}
 use Rattle.std.specs.List.{list_any}
 use Rattle.std.proofs.lemmas.Bool.{cases_Bool, both_ways, and_parts, and_from, eqb-true, eq-eqb, leb-true, le-leb}
 use Rattle.jiff_core.specs.Calendar.{IsBetween, days_in_month}
@@ -11,7 +12,7 @@ use Rattle.jiff_fmt.specs.Text.{year_text, pad2}
 use Rattle.plan_psplib.specs.declared.fault.Fault.{Fault}
 use Rattle.plan_psplib.specs.declared.fault.FileFault.{FileFault}
 use Rattle.plan_psplib.specs.Lines.{last_line}
-use Rattle.plan_psplib.specs.Document.{plain}
+use Rattle.plan_psplib.specs.Document.{Document, document, plain}
 use Rattle.plan_psplib.proofs.GoesLemmas.{then_ok}
 use Rattle.plan_orlib.specs.Instances.{stream_of}
 use Rattle.plan_orlib.specs.Shop.{Shop}
@@ -20,7 +21,7 @@ use Rattle.plan_orlib.specs.Says.{Says}
 use Rattle.plan_orlib.proofs.ShopLemmas.{shop_spelled}
 use Rattle.plan_orlib.proofs.TextLemmas.{stream_is}
 use Rattle.plan_gantt.specs.FaultText.{file_fault_text_of}
-use Rattle.plan_gantt.specs.FirstFaults.{TellsFirstShopFault}
+use Rattle.plan_gantt.specs.FirstFaults.{TellsFirstFailing, TellsFirstShopFault}
 use Rattle.plan_gantt.specs.CalendarFaultText.{calendar_fault_text_of}
 use Rattle.plan_calendar.specs.WorkingDay.{Workdays}
 use Rattle.plan_calendar.specs.CalendarText.{IsStartText, HasNoStart, IsMarksText, HasNoMarks, IsCalendar, date_bytes, mark_digit}
@@ -46,11 +47,11 @@ is_start text year month day =
     same_text text (date_bytes year month day)
     && (is_from_to 1900 2199 year && (is_from_to 1 12 month && is_from_to 1 (days_in_month (pos year) month) day))
 
-from_to : (least most n : ℕ) → is_from_to least most n ≡ true → (least ≤ n) × (n ≤ most)
+pub from_to : (least most n : ℕ) → is_from_to least most n ≡ true → (least ≤ n) × (n ≤ most)
 from_to least most n e =
     let parts = and_parts _ _ e in (leb-true least n parts.0, leb-true n most parts.1)
 
-to_from : (least most n : ℕ) → least ≤ n → n ≤ most → is_from_to least most n ≡ true
+pub to_from : (least most n : ℕ) → least ≤ n → n ≤ most → is_from_to least most n ≡ true
 to_from least most n a b = and_from _ _ (le-leb least n a) (le-leb n most b)
 
 start_is : (text : Text) (year month day : ℕ) → is_start text year month day ≡ true → (date : Date) × IsStartText text date
@@ -165,10 +166,26 @@ shop_said name text d e =
     let spelled = shop_spelled s d e in
     record { readable = good; stream = (s, stream_is (last_line text) (stream_of name text) s found, spelled.0); limits = spelled.1 }))
 
+-- a `Vec` of a few numbers
+pub vec_of : (xs : List ℕ) → length xs ≤ 100 → (v : Vec ℕ) × (v.items ≡ xs)
+vec_of xs few = (
+  record {
+    ptr = null_ptr;
+    len = length xs;
+    cap = length xs;
+    alloc = record { memory = record { seal = tt } };
+    items = xs;
+    ok = (refl, omega arith);
+    small = omega (arith, few);
+  },
+  refl,
+)
+
 -- a fault of a file that is no cycle
 of_fault : (f : Fault) → (told : FileFault) × (f ≡ record { code = told.code; line = told.line }) × (told.cycle.items ≡ [])
 of_fault f =
-    (record { code = f.code; line = f.line; cycle = record { ptr = null_ptr; len = 0; cap = 0; alloc = record { memory = record { seal = tt } }; items = []; ok = (refl, omega arith); small = omega arith } }, refl, refl)
+    let none = vec_of [] (omega arith) in
+    (record { code = f.code; line = f.line; cycle = none.0 }, refl, none.1)
 
 -- a file says a shop of a name, or a line tells why not
 pub some_shop : (name text : Text) → ((line : Text) × TellsFirstShopFault name text line) ⊎ ((d : Shop) × Says name text d)
@@ -179,3 +196,15 @@ some_shop name text = by_read (shop name text) refl
     by_read (Err f) e =
         let told = of_fault f in
         inl (file_fault_text_of told.0, (told.0, (e ∙ ap (λ (g : Fault). Err g) told.1, told.2), refl))
+
+-- ---- files of projects
+
+-- a line tells why a file is no document
+pub some_fault : (text : Text) → is_err (document text) ≡ true → (line : Text) × TellsFirstFailing text line
+some_fault text fails = by_read (document text) refl fails
+  where
+    by_read : (read : Result Document Fault) → document text ≡ read → is_err read ≡ true → (line : Text) × TellsFirstFailing text line
+    by_read (Ok d) e is = absurd (both_ways _ refl is)
+    by_read (Err f) e is =
+        let told = of_fault f in
+        (file_fault_text_of told.0, (told.0, inl (e ∙ ap (λ (g : Fault). Err g) told.1, told.2), refl))

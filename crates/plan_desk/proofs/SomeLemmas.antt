@@ -1,25 +1,38 @@
 -- Some decision: a settled request has a reply and a change in each view whose rows keep their rules.
-use Rattle.std.proofs.Common.{◌≡◌, ◌⊎◌, inl, inr, ℕ, Bool, true, false, List, Option, Some, None, refl}
-use Rattle.std.specs.Prelude.{◌||◌, not}
+use Rattle.std.proofs.Common.{◌≡◌, ◌⊎◌, inl, inr, ℕ, Bool, true, false, List, Option, Some, None, refl, sym, ap, ◌∙◌}
+use Rattle.std.specs.Prelude.{◌||◌, not, is_err, nat_eq, length}
 use Rattle.std.proofs.lemmas.Bool.{both_ways}
+use Rattle.plan_psplib.specs.Document.{document}
 use Rattle.plan_psplib.specs.Project.{Project, SaysProject}
+use Rattle.plan_shop.specs.Shop.{JobShop}
+use Rattle.plan_calendar.specs.CalendarText.{IsCalendar}
+use Rattle.plan_calendar.specs.WorkingDay.{Workdays}
+use Rattle.plan_calendar.specs.declared.calendar.CalendarFault.TheVariants as calendar_fault
+use Rattle.plan_gantt.specs.CalendarFaultText.{calendar_fault_text_of, missing_calendar_text}
 use Rattle.plan_rows.specs.declared.kinds.PlanKind.{PlanKind}
 use Rattle.plan_rows.specs.declared.kinds.PlanKind.TheVariants as kinds
 use Rattle.plan_rows.specs.World.{Text, Published, Plan}
 use Rattle.plan_rows.specs.Changes.{Change, Keep}
-use Rattle.plan_rows.specs.Plans.{HasPlaces}
-use Rattle.plan_rows.specs.Rules.{IsPlanRow, IsWorld}
+use Rattle.plan_rows.specs.Plans.{plan_seen, HasPlaces, open_machines}
+use Rattle.plan_rows.specs.Rules.{HasCalendar, IsPlanRow, IsWorld}
 use Rattle.plan_rows.specs.Views.{View, alone}
-use Rattle.plan_desk.specs.Calls.{Call, publish, open_desk, set_key, capacities, plans, import_project, import_shop, remove, bind, set_calendar, set_lag, dates, schedule, chart, days, best, Reply, answer, no_key, admits}
+use Rattle.plan_desk.specs.Calls.{Call, publish, open_desk, set_key, capacities, plans, import_project, import_shop, remove, bind, set_calendar, set_lag, dates, schedule, chart, days, best, Reply, answer, page, no_key, admits}
+use Rattle.plan_desk.specs.BestOf.{IsOpenBest}
+use Rattle.plan_desk.specs.BestRoutes.{OfShopBest, Best}
 use Rattle.plan_desk.specs.Decisions.{Answers, IsDecision}
 use Rattle.plan_desk.specs.OfficeRoutes.{Publishes, Opens, SetsKey}
-use Rattle.plan_desk.specs.Outcomes.{Outcome, refuses, tells, makes, unless, given, some, why_or}
-use Rattle.plan_desk.specs.PlanRoutes.{of_plan, by_kind, Imports, ImportsShop, Removes, Binds, Calendars, SetsLag}
-use Rattle.plan_desk.specs.SomeDecisions.{is_settled_call, SomeDecision}
+use Rattle.plan_desk.specs.Outcomes.{Outcome, refuses, tells, shows, makes, unless, given, some, why_or}
+use Rattle.plan_desk.specs.PageRoutes.{OfShopSchedule, TellsBeyond, ShowsDays, OfCalendar, Dates, Schedules, Charts, Days}
+use Rattle.plan_desk.specs.PlanRoutes.{of_plan, by_kind, Imports, ImportsProject, ImportsShop, Removes, Binds, Calendars, SetsLag}
+use Rattle.plan_desk.specs.Refusals.{bad_calendar}
+use Rattle.plan_desk.specs.SomeDecisions.{is_shop, is_no_project, is_settled_call, SomeDecision}
 use Rattle.plan_desk.specs.Stories.{decided}
 use Rattle.plan_desk.proofs.SameLemmas.{all_has}
 use Rattle.plan_desk.proofs.SeenPlanLemmas.{seen_has}
-use Rattle.plan_desk.proofs.SomeFileLemmas.{some_texts, some_shop}
+use Rattle.plan_desk.proofs.SomeFileLemmas.{some_texts, some_shop, some_fault}
+use Rattle.plan_desk.proofs.SomeBestLemmas.{some_best_text}
+use Rattle.plan_desk.proofs.SomeDaysLemmas.{some_shop_table}
+use Rattle.plan_desk.proofs.SomeShopLemmas.{some_schedule, some_shop_of}
 
 -- the outcome has a reply and a change
 abbrev pub IsAnswered : Outcome → Type 0
@@ -44,6 +57,11 @@ unfolding unless
 some_unless true r Rest rest = some_refuses r
 some_unless false r Rest rest = rest
 
+some_unless_not : (b : Bool) (r : Reply) (Rest : Outcome) → b ≡ true → IsAnswered (unless b r Rest)
+unfolding unless
+some_unless_not true r Rest holds = some_refuses r
+some_unless_not false r Rest holds = absurd (both_ways false refl holds)
+
 some_given : {A : Type 0} (o : Option A) (r : Reply) (Rest : A → Outcome) → ((x : A) → o ≡ Some x → IsAnswered (Rest x)) → IsAnswered (given o r Rest)
 unfolding given
 some_given None r Rest rest = some_refuses r
@@ -65,10 +83,10 @@ some_why_or Tells r P Rest (inr (x, holds)) rest = by_value (some_some P Rest x 
     by_value : IsAnswered (some P Rest) → IsAnswered (why_or Tells r P Rest)
     by_value (reply, c, h) = (reply, c, inr h)
 
-some_of_plan : (v : View) (n : Text) (Rest : Plan → Outcome) → IsWorld (alone v) → ((plan : Plan) → IsPlanRow plan → IsAnswered (Rest plan))
+some_of_plan : (v : View) (n : Text) (Rest : Plan → Outcome) → IsWorld (alone v) → ((plan : Plan) → plan_seen v n ≡ Some plan → IsPlanRow plan → IsAnswered (Rest plan))
     → IsAnswered (of_plan v n Rest)
 unfolding of_plan
-some_of_plan v n Rest k rest = some_given _ _ _ (λ plan seen. rest plan (all_has IsPlanRow v.plans plan k.plans (seen_has v n plan seen)))
+some_of_plan v n Rest k rest = some_given _ _ _ (λ plan seen. rest plan seen (all_has IsPlanRow v.plans plan k.plans (seen_has v n plan seen)))
 
 -- ---- the office's calls
 
@@ -94,18 +112,18 @@ some_imports_shop v name body =
 
 some_removes : (v : View) (n : Text) → IsWorld (alone v) → IsAnswered (Removes v n)
 unfolding Removes
-some_removes v n k = some_of_plan _ _ _ k (λ plan keeps. some_makes _ _ _)
+some_removes v n k = some_of_plan _ _ _ k (λ plan seen keeps. some_makes _ _ _)
 
 some_binds : (v : View) (n body : Text) → IsWorld (alone v) → IsAnswered (Binds v n body)
 unfolding Binds
 some_binds v n body k =
-    some_of_plan _ _ _ k (λ plan keeps. some_some _ _ keeps.reads.0 keeps.reads.1
+    some_of_plan _ _ _ k (λ plan seen keeps. some_some _ _ keeps.reads.0 keeps.reads.1
     (some_given _ _ _ (λ b read. some_unless _ _ _ (some_unless _ _ _ (some_makes _ _ _)))))
 
 some_calendars : (v : View) (n body : Text) → IsWorld (alone v) → IsAnswered (Calendars v n body)
 unfolding Calendars
 some_calendars v n body k =
-    some_of_plan _ _ _ k (λ plan keeps. some_given _ _ _ (λ b read.
+    some_of_plan _ _ _ k (λ plan seen keeps. some_given _ _ _ (λ b read.
     some_why_or _ _ _ _ (some_texts b.start b.days) (λ c. some_makes _ _ _)))
 
 -- a plan that is read has a project, or it is a shop's
@@ -118,29 +136,110 @@ some_by_kind kinds.Shop name body Rest Other reads rest other = other
 some_sets_lag : (v : View) (n body : Text) → IsWorld (alone v) → IsAnswered (SetsLag v n body)
 unfolding SetsLag
 some_sets_lag v n body k =
-    some_of_plan _ _ _ k (λ plan keeps. some_given _ _ _ (λ b read.
+    some_of_plan _ _ _ k (λ plan seen keeps. some_given _ _ _ (λ b read.
     some_by_kind plan.kind plan.name plan.body _ _ keeps.reads
     (λ p. some_unless _ _ _ (some_makes _ _ _)) (some_refuses _)))
 
+some_imports_project : (v : View) (body : Text) → is_err (document body) ≡ true → IsAnswered (ImportsProject v body)
+unfolding ImportsProject Imports
+some_imports_project v body fails =
+    some_given _ _ _ (λ row there. some_unless _ _ _ (some_unless _ _ _
+    (some_why_or _ _ _ _ (inl (some_fault body fails)) (λ read. some_makes _ _ _))))
+
+-- ---- pages
+
+some_by_shop : (kind : PlanKind) (One Other : Outcome) → is_shop kind ≡ true → (kind ≡ kinds.Shop → IsAnswered Other) → IsAnswered (by_kind kind One Other)
+unfolding by_kind
+some_by_shop kinds.Project One Other is other = absurd (both_ways _ refl is)
+some_by_shop kinds.Shop One Other is other = other refl
+
+-- of a shop's plan, or where there is none
+some_of_shop : (v : View) (n : Text) (One Other : Plan → Outcome) → IsWorld (alone v) → is_no_project (plan_seen v n) ≡ true
+    → ((plan : Plan) → IsPlanRow plan → plan.kind ≡ kinds.Shop → IsAnswered (Other plan)) → IsAnswered (of_plan v n (λ plan. by_kind plan.kind (One plan) (Other plan)))
+some_of_shop v n One Other k none other =
+    some_of_plan _ _ _ k (λ plan seen keeps. some_by_shop plan.kind _ _ (sym (ap is_no_project seen) ∙ none) (other plan keeps))
+
+some_of_shop_schedule : (v : View) (plan : Plan) (rule : Text) (Rest : JobShop → List ℕ → Outcome) → IsPlanRow plan → plan.kind ≡ kinds.Shop
+    → ((s : JobShop) (starts : List ℕ) → IsAnswered (Rest s starts)) → IsAnswered (OfShopSchedule v plan rule Rest)
+unfolding OfShopSchedule
+some_of_shop_schedule v plan rule Rest keeps kind rest =
+    let read = some_shop_of plan keeps kind in
+    let s = read.shop in
+    some_some _ _ s read.said (some_why_or _ _ _ _ (some_schedule s (open_machines v plan.n s.machines) rule read.is) (λ starts. rest s starts))
+
+some_shows : (P : Text → Type 0) (text : Text) → P text → IsAnswered (shows P)
+unfolding shows
+some_shows P text holds = (page text, Keep, (text, holds, refl, refl))
+
+some_dates : (v : View) (n : Text) → IsWorld (alone v) → is_no_project (plan_seen v n) ≡ true → IsAnswered (Dates v n)
+unfolding Dates
+some_dates v n k none = some_of_shop _ _ _ _ k none (λ plan keeps kind. some_refuses _)
+
+some_schedules : (v : View) (n rule : Text) → IsWorld (alone v) → is_no_project (plan_seen v n) ≡ true → IsAnswered (Schedules v n rule)
+unfolding Schedules
+some_schedules v n rule k none =
+    some_of_shop _ _ _ _ k none (λ plan keeps kind. some_of_shop_schedule _ _ _ _ keeps kind (λ s starts. some_shows _ _ refl))
+
+some_charts : (v : View) (n rule : Text) → IsWorld (alone v) → is_no_project (plan_seen v n) ≡ true → IsAnswered (Charts v n rule)
+unfolding Charts
+some_charts v n rule k none =
+    some_of_shop _ _ _ _ k none (λ plan keeps kind. some_of_shop_schedule _ _ _ _ keeps kind (λ s starts. some_shows _ _ refl))
+
+-- a table by the plan's calendar, where each calendar has one or a day beyond
+some_of_calendar : (plan : Plan) (IsTable : Workdays → Text → Type 0) (IsBeyond : Workdays → Type 0) → HasCalendar plan.start plan.days
+    → ((c : Workdays) → ((text : Text) × IsTable c text) ⊎ IsBeyond c) → IsAnswered (OfCalendar plan IsTable IsBeyond)
+unfolding OfCalendar
+some_of_calendar plan IsTable IsBeyond calendar table = by_calendar calendar
+  where
+    some_table : (c : Workdays) → IsCalendar plan.start plan.days c → ((text : Text) × IsTable c text) ⊎ IsBeyond c
+        → ((line : Text) × TellsBeyond IsBeyond plan.start plan.days line) ⊎ ((text : Text) × ShowsDays IsTable plan.start plan.days text)
+    some_table c is (inl (text, shown)) = inr (text, (c, is, shown))
+    some_table c is (inr beyond) = inl (calendar_fault_text_of calendar_fault.BeyondCalendar, (c, is, beyond, refl))
+
+    by_calendar : HasCalendar plan.start plan.days
+        → IsAnswered (unless (nat_eq (length plan.start) 0) (bad_calendar missing_calendar_text) (why_or (TellsBeyond IsBeyond plan.start plan.days) bad_calendar
+        (ShowsDays IsTable plan.start plan.days) (λ text. shows (λ shown. shown ≡ text))))
+    by_calendar (inl (none, also)) = some_unless_not _ _ _ (ap (λ text. nat_eq (length text) 0) none)
+    by_calendar (inr (c, is)) =
+        some_unless _ _ _ (some_why_or _ _ (ShowsDays IsTable plan.start plan.days) _ (some_table c is (table c)) (λ text. some_shows _ text refl))
+
+some_days : (v : View) (n rule : Text) → IsWorld (alone v) → is_no_project (plan_seen v n) ≡ true → IsAnswered (Days v n rule)
+unfolding Days
+some_days v n rule k none =
+    some_of_shop _ _ _ _ k none (λ plan keeps kind. some_of_shop_schedule _ _ _ _ keeps kind (λ s starts.
+    some_of_calendar plan _ _ keeps.calendar (λ c. some_shop_table c s starts)))
+
+some_shop_best : (v : View) (plan : Plan) (word : Text) → IsPlanRow plan → plan.kind ≡ kinds.Shop → IsAnswered (OfShopBest v plan word)
+unfolding OfShopBest
+some_shop_best v plan word keeps kind =
+    let read = some_shop_of plan keeps kind in
+    let s = read.shop in
+    let IsShown : Text → Type 0 = IsOpenBest word s (open_machines v plan.n s.machines) in
+    some_some _ _ s read.said (some_why_or _ _ IsShown _ (some_best_text s (open_machines v plan.n s.machines) word read.is read.short) (λ text. some_shows _ text refl))
+
+some_best : (v : View) (n word : Text) → IsWorld (alone v) → is_no_project (plan_seen v n) ≡ true → IsAnswered (Best v n word)
+unfolding Best
+some_best v n word k none = some_of_shop _ _ _ _ k none (λ plan keeps kind. some_shop_best v plan word keeps kind)
+
 -- ---- decisions
 
-some_answer : (v : View) (call : Call) → IsWorld (alone v) → is_settled_call call ≡ true → IsAnswered (Answers v call)
+some_answer : (v : View) (call : Call) → IsWorld (alone v) → is_settled_call v call ≡ true → IsAnswered (Answers v call)
 some_answer v (publish body) k settled = some_publishes v.published body
 some_answer v (open_desk body) k settled = some_opens v body
 some_answer v (set_key desk body) k settled = some_sets_key v desk body
 some_answer v (capacities desk) k settled = some_tells _
 some_answer v (plans desk) k settled = some_tells _
-some_answer v (import_project desk body) k settled = absurd (both_ways _ refl settled)
+some_answer v (import_project desk body) k settled = some_imports_project v body settled
 some_answer v (import_shop desk instance body) k settled = some_imports_shop v instance body
 some_answer v (remove desk n) k settled = some_removes v n k
 some_answer v (bind desk n body) k settled = some_binds v n body k
 some_answer v (set_calendar desk n body) k settled = some_calendars v n body k
 some_answer v (set_lag desk n body) k settled = some_sets_lag v n body k
-some_answer v (dates desk n) k settled = absurd (both_ways _ refl settled)
-some_answer v (schedule desk n rule) k settled = absurd (both_ways _ refl settled)
-some_answer v (chart desk n rule) k settled = absurd (both_ways _ refl settled)
-some_answer v (days desk n rule) k settled = absurd (both_ways _ refl settled)
-some_answer v (best desk n budget) k settled = absurd (both_ways _ refl settled)
+some_answer v (dates desk n) k settled = some_dates v n k settled
+some_answer v (schedule desk n rule) k settled = some_schedules v n rule k settled
+some_answer v (chart desk n rule) k settled = some_charts v n rule k settled
+some_answer v (days desk n rule) k settled = some_days v n rule k settled
+some_answer v (best desk n budget) k settled = some_best v n budget k settled
 
 -- a refusal, or the answer to an admitted call
 some_decided : (b settled : Bool) (Rest : Outcome) → (settled ≡ true → IsAnswered Rest) → (not b || settled) ≡ true → IsAnswered (decided b Rest)
@@ -150,4 +249,4 @@ some_decided false settled Rest rest is = (no_key, Keep, (refl, refl))
 pub some_decision : SomeDecision
 unfolding SomeDecision IsDecision
 some_decision = λ v r k settled.
-    some_decided (admits v r) (is_settled_call r.call) (Answers v r.call) (λ is. some_answer v r.call k is) settled
+    some_decided (admits v r) (is_settled_call v r.call) (Answers v r.call) (λ is. some_answer v r.call k is) settled
