@@ -1,7 +1,7 @@
 //! The pass forward (earliest finishes) and the pass back (tails). Begin here.
 
 ghost use Rattle.std.specs.Prelude.{◌≡◌, ℕ, ◌+◌, ◌-◌, ◌≤◌, ◌⊎◌, length, IfOk, slice_index, EachIndex};
-ghost use Rattle.plan_net.specs.Network.{IsActivity, IsArc, count_of, duration_of, lag_of};
+ghost use Rattle.plan_net.specs.Network.{IsActivity, IsArc, count_of, lag_of};
 ghost use Rattle.plan_cpm.specs.Lengths.{AreFinishes, AreTails, RaisesBefore};
 
 use plan_net::Network;

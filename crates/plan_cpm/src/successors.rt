@@ -1,6 +1,6 @@
 //! Total successors, by marks united from the end of the order on.
 
-ghost use Rattle.std.specs.Prelude.{◌≡◌, ℕ, ◌≤◌, ◌<◌, ◌+◌, ◌⊎◌, length, true, false, slice_index_or, IfOk};
+ghost use Rattle.std.specs.Prelude.{◌≡◌, ℕ, ◌≤◌, ◌⊎◌, length, true, false, slice_index_or, IfOk};
 ghost use Rattle.plan_net.specs.Network.{IsActivity, count_of};
 ghost use Rattle.plan_net.specs.Placed.{IsPlaced};
 ghost use Rattle.plan_cpm.specs.Successors.{AreTotals, IsCountOf};

@@ -1,6 +1,6 @@
 //! The first bad duration and the first bad arc.
 
-ghost use Rattle.std.specs.Prelude.{◌≡◌, ℕ, ◌≤◌, ◌↔◌, [], length, IfSome, IfNone, IsTrue};
+ghost use Rattle.std.specs.Prelude.{◌≤◌, ◌↔◌, [], length, IfSome, IfNone, IsTrue};
 ghost use Rattle.plan_net.specs.Network.{unlagged};
 ghost use Rattle.plan_net.specs.Limits.{HasGoodArcs, HasGoodDurations};
 ghost use Rattle.plan_net.specs.Refusals.{IsFirstBadArc, IsFirstBadDuration};

@@ -1,6 +1,6 @@
 //! The named cycle: the walk from predecessor to predecessor, the ring that it closes.
 
-ghost use Rattle.std.specs.Prelude.{◌≡◌, ℕ, length, IfOk, Contains, ◌<◌, ◌≤◌, slice_index, EachIndex};
+ghost use Rattle.std.specs.Prelude.{◌≡◌, length, IfOk, Contains, ◌<◌, ◌≤◌, slice_index, EachIndex};
 ghost use Rattle.plan_net.specs.Network.{IsLeast, count_of};
 ghost use Rattle.plan_net.specs.Cycle.{IsCaught, IsNamedCycle};
 ghost use Rattle.plan_net.specs.Placed.{IsStuck};

@@ -1,6 +1,6 @@
 //! `Network`, its facts, and all public calls with their contracts. Begin here.
 
-ghost use Rattle.std.specs.Prelude.{◌≡◌, ℕ, List, ◌↔◌, ◌≤◌, length, map, IfOk, IfErr, OnOk, OnErr, IfSome, IfNone, slice_index, EachIndex};
+ghost use Rattle.std.specs.Prelude.{◌≡◌, ℕ, List, ◌≤◌, map, IfOk, IfErr, OnOk, OnErr, IfSome, IfNone, slice_index, EachIndex};
 ghost use Rattle.plan_net.specs.Network.{IsActivity, IsArc, ListsRising, duration_of, count_of, lag_of, unlagged, with_lag};
 ghost use Rattle.plan_net.specs.Order.{IsLeastOrder, IsTopological};
 ghost use Rattle.plan_net.specs.Limits.{IsSound};

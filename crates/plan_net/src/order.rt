@@ -1,6 +1,6 @@
 //! The least order, and the least activity that is left open.
 
-ghost use Rattle.std.specs.Prelude.{◌≡◌, ℕ, ◌≤◌, ◌<◌, length, IfOk, IfSome, IfNone};
+ghost use Rattle.std.specs.Prelude.{◌≡◌, ℕ, ◌≤◌, length, IfOk, IfSome, IfNone};
 ghost use Rattle.plan_net.specs.Network.{IsActivity, IsArc, IsLeast, count_of};
 ghost use Rattle.plan_net.specs.Placed.{IsPlaced, IsOpen, IsReady, IsPlacedOrder, IsStuck, IsStuckBelow, IsStuckBelowBut};
 

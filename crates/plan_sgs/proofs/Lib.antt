@@ -30,6 +30,7 @@ pub mod FullWordLemmas
 pub mod WorkLemmas
 pub mod WordBoundLemmas
 pub mod ProjectTreeLemmas
+pub mod ProjectWaitLemmas
 pub mod ProjectTurnLemmas
 pub mod ProjectReadLemmas
 pub mod WordRows

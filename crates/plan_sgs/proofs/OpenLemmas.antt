@@ -5,17 +5,9 @@ use Rattle.std.proofs.lemmas.Bool.{cases_eq, cases_Bool, and_parts, eqb-true, eq
 use Rattle.plan_sgs.specs.Problem.{Problem, Link}
 use Rattle.plan_sgs.specs.Rules.{is_member, is_eligible}
 use Rattle.plan_sgs.specs.Instances.{Planned, problem_of, link_of}
-use Rattle.plan_sgs.specs.Waiting.{arcs_between}
+use Rattle.plan_sgs.specs.Waiting.{is_open, open_links, arcs_between}
 use Rattle.plan_sgs.proofs.SerialLemmas.{eligible_not, member_last, member_other}
 use Rattle.plan_sgs.proofs.CountLemmas.{tally, all_fail, count_parted, count_images}
-
--- a link leads to an activity from one that isn't taken
-abbrev pub is_open : List ℕ → ℕ → Link → Bool
-is_open taken h a = nat_eq a.to h && not (is_member a.from taken)
-
--- how many such links there are
-abbrev pub open_links : Problem → List ℕ → ℕ → ℕ
-open_links p taken h = count_by (is_open taken h) p.links
 
 -- how many links lead from one activity to another
 abbrev pub links_between : Problem → ℕ → ℕ → ℕ

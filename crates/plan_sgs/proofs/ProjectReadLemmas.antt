@@ -1,11 +1,8 @@
 -- What the calls of a project's tree read: which activities may follow, whether all are placed, starts and the makespan.
-use Rattle.std.proofs.Common.{ℕ, suc, Bool, true, false, cond, nat_eq, ◌≡◌, ◌+◌, ◌-◌, ◌≤◌, ◌<◌, List, [], ◌∷◌, ◌++◌, length, get_or, map, Option, Some, None, refl, sym, ◌∙◌, ap, subst, arith}
+use Rattle.std.proofs.Common.{ℕ, suc, Bool, true, false, cond, nat_eq, ◌≡◌, ◌+◌, ◌-◌, ◌≤◌, ◌<◌, List, [], ◌∷◌, ◌++◌, length, get_or, map, Option, Some, None, sym, ◌∙◌, ap, arith}
 use Rattle.std.specs.List.{Contains}
-use Rattle.std.specs.Option.{is_some}
 use Rattle.std.proofs.lemmas.List.{append-nil, append_assoc, map-append, get_or_default}
-use Rattle.std.proofs.lemmas.List.Elements.{All-contains, Contains-get_or}
-use Rattle.plan_net.specs.Network.{IsArc, IsActivity, ListsRising}
-use Rattle.plan_net.proofs.RowLemmas.{arc_ends}
+use Rattle.std.proofs.lemmas.List.Elements.{All-contains}
 use Rattle.plan_sgs.specs.Problem.{Problem, duration}
 use Rattle.plan_sgs.specs.Serial.{end_from, end_of, serial, start_or_zero}
 use Rattle.plan_sgs.specs.Rules.{places, is_member, is_eligible, eligible}
@@ -14,58 +11,14 @@ use Rattle.plan_sgs.specs.Placing.{AllEndBy}
 use Rattle.plan_sgs.specs.ProjectWords.{depth_of, placed_by, is_full, starts_by, makespan_by}
 use Rattle.plan_sgs.specs.ProjectTrees.{Standing, end_by}
 use Rattle.plan_sgs.proofs.TotalLemmas.{greatest_same, all_below_at}
-use Rattle.plan_sgs.proofs.BoundedLemmas.{bounded, links_from, link_at}
-use Rattle.plan_sgs.proofs.SerialLemmas.{eligible_not, eligible_preds, eligible_from, taken_placed, placed_inside, start_at}
+use Rattle.plan_sgs.proofs.BoundedLemmas.{bounded}
+use Rattle.plan_sgs.proofs.SerialLemmas.{taken_placed, placed_inside, start_at}
 use Rattle.plan_sgs.proofs.ListLemmas.{place_member}
 use Rattle.plan_sgs.proofs.PlaceLemmas.{all_end}
 use Rattle.plan_sgs.proofs.RunLemmas.{entry_place, length-places}
 use Rattle.plan_sgs.proofs.WordLemmas.{word_turns}
 use Rattle.plan_sgs.proofs.FullWordLemmas.{full_exactly}
 use Rattle.plan_sgs.proofs.ProjectTurnLemmas.{TreeFacts}
-
--- all of a row of predecessors are placed
-abbrev pub AllPlaced : List (Option ℕ) → List ℕ → Type 0
-AllPlaced placed preds = (k : ℕ) → k < length preds → is_some (get_or placed (get_or preds k 0 - 1) None) ≡ true
-
--- an activity that isn't placed, with all its predecessors placed, is eligible
-preds_in : (v : Standing) (placed : List (Option ℕ)) (a : ℕ) (preds : List ℕ) → TreeFacts v placed → IsActivity v.instance.project.network a
-    → ListsRising (λ h. IsArc v.instance.project.network h a) preds
-    → is_some (get_or placed (a - 1) None) ≡ false → AllPlaced placed preds → is_eligible (problem_of v.instance) (places v.word) (a - 1) ≡ true
-preds_in v placed a preds facts activity row none all =
-    eligible_from (problem_of v.instance) (places v.word) (a - 1) (sym (facts.taken (a - 1)) ∙ none)
-    (links_from v.instance (λ l. l.to ≡ a - 1 → is_member l.from (places v.word) ≡ true) (λ x b arc to.
-    let ends = arc_ends v.instance.project.network x b facts.instance.project.network.limits arc in
-    let same : b ≡ a = omega (arith, to, ends.1, activity) in
-    let there = (row.exact x).1 (subst (IsArc v.instance.project.network x) same arc) in
-    let here : get_or preds there.0 0 ≡ x = get_or_default preds there.0 0 x there.1 ∙ there.2 in
-    let is : is_some (get_or placed (x - 1) None) ≡ true = subst (λ (y : ℕ). is_some (get_or placed (y - 1) None) ≡ true) here (all there.0 there.1) in
-    sym (facts.taken (x - 1)) ∙ is))
-
--- and an eligible one has all its predecessors placed
-preds_out : (v : Standing) (placed : List (Option ℕ)) (a : ℕ) (preds : List ℕ) → TreeFacts v placed → ListsRising (λ h. IsArc v.instance.project.network h a) preds
-    → is_eligible (problem_of v.instance) (places v.word) (a - 1) ≡ true → AllPlaced placed preds
-preds_out v placed a preds facts row is k within =
-    let arc : IsArc v.instance.project.network (get_or preds k 0) a = (row.exact (get_or preds k 0)).0 (Contains-get_or preds k 0 within) in
-    let has = link_at v.instance (λ l. l.to ≡ a - 1 → is_member l.from (places v.word) ≡ true) (eligible_preds (problem_of v.instance) (places v.word) (a - 1) is) (get_or preds k 0) a arc refl in
-    facts.taken (get_or preds k 0 - 1) ∙ has
-
--- so the test of the predecessors tells whether it is eligible
-pub eligible_by : (v : Standing) (placed : List (Option ℕ)) (a : ℕ) (preds : List ℕ) (r : Bool) → TreeFacts v placed → IsActivity v.instance.project.network a
-    → ListsRising (λ h. IsArc v.instance.project.network h a) preds
-    → is_some (get_or placed (a - 1) None) ≡ false → (r ≡ true → AllPlaced placed preds) → (AllPlaced placed preds → r ≡ true) → r ≡ is_eligible (problem_of v.instance) (places v.word) (a - 1)
-eligible_by v placed a preds true facts activity row none told tells = sym (preds_in v placed a preds facts activity row none (told refl))
-eligible_by v placed a preds false facts activity row none told tells = by_test (is_eligible (problem_of v.instance) (places v.word) (a - 1)) refl where
-  by_test : (b : Bool) → is_eligible (problem_of v.instance) (places v.word) (a - 1) ≡ b → false ≡ b
-  by_test true is = tells (preds_out v placed a preds facts row is)
-  by_test false is = refl
-
--- what is placed isn't eligible
-pub not_eligible : (v : Standing) (placed : List (Option ℕ)) (a : ℕ) → TreeFacts v placed → is_some (get_or placed (a - 1) None) ≡ true
-    → false ≡ is_eligible (problem_of v.instance) (places v.word) (a - 1)
-not_eligible v placed a facts some = by_test (is_eligible (problem_of v.instance) (places v.word) (a - 1)) refl where
-  by_test : (b : Bool) → is_eligible (problem_of v.instance) (places v.word) (a - 1) ≡ b → false ≡ b
-  by_test true is = sym (eligible_not (problem_of v.instance) (places v.word) (a - 1) is) ∙ sym (facts.taken (a - 1)) ∙ some
-  by_test false is = refl
 
 -- one more that may follow, and one that may not
 pub letters_yes : (p : Problem) (taken : List ℕ) (n : ℕ) (first list after : List ℕ) → list ≡ first ++ map suc (eligible p taken n) → is_eligible p taken n ≡ true

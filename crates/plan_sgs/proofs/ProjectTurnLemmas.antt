@@ -13,8 +13,9 @@ use Rattle.plan_sgs.specs.Rules.{places, takes_in_turn}
 use Rattle.plan_sgs.specs.Instances.{Planned, IsInstance, problem_of}
 use Rattle.plan_sgs.specs.Placing.{EndsBy, Holds}
 use Rattle.plan_sgs.specs.PathTails.{tail_of}
+use Rattle.plan_sgs.specs.Waiting.{Lowers}
 use Rattle.plan_sgs.specs.ProjectWords.{depth_of, placed_by, letters_after, Follows, IsWord, reach_of}
-use Rattle.plan_sgs.specs.ProjectTrees.{Standing, standing, word_of, end_by, reach_by, IsTurn, AreTurns, AreProfiles, IsTree}
+use Rattle.plan_sgs.specs.ProjectTrees.{Standing, standing, word_of, end_by, reach_by, IsTurn, AreTurns, AreProfiles, AreWaits, IsTree}
 use Rattle.plan_sgs.specs.declared.project_tree.Turn.{Turn}
 use Rattle.plan_sgs.proofs.Bounds.{IsBounded, bound_of}
 use Rattle.plan_sgs.proofs.TotalLemmas.{greatest_least, greatest_above}
@@ -28,6 +29,7 @@ use Rattle.plan_sgs.proofs.WordLemmas.{IsLetter, letter_is, word_turns, word_pus
 use Rattle.plan_sgs.proofs.FullWordLemmas.{words_most}
 use Rattle.plan_sgs.proofs.WordBoundLemmas.{word_partial, placed_append}
 use Rattle.plan_sgs.proofs.ProjectTreeLemmas.{tail_read, tail_short}
+use Rattle.plan_sgs.proofs.ProjectWaitLemmas.{waits_push, waits_pop}
 
 -- by when what is placed in turn has ended
 ends_after : (p : Problem) (js taken : List ℕ) (placed : List (Option ℕ)) → IsBounded p → length placed ≡ count p → takes_in_turn p taken js ≡ true → EndsBy p placed (bound_of p taken)
@@ -76,8 +78,8 @@ facts_of i w placed instance word are = subst (TreeFacts (standing i w)) (sym ar
   partial : IsPartial (problem_of i) (placed_by i w) × TakenIs (placed_by i w) (places w)
   partial = word_partial i w instance word
 
-pub tree_facts : (i : Planned) (tails : List ℕ) (least : ℕ) (placed : List (Option ℕ)) (profiles : List Profile) (turns : List Turn) (v : Standing) → standing i (word_of turns) ≡ v
-    → IsTree i tails least placed profiles turns → TreeFacts v placed
+pub tree_facts : (i : Planned) (tails : List ℕ) (least : ℕ) (placed : List (Option ℕ)) (profiles : List Profile) (turns : List Turn) (v : Standing) {waits : List ℕ} → standing i (word_of turns) ≡ v
+    → IsTree i tails least placed waits profiles turns → TreeFacts v placed
 tree_facts i tails least placed profiles turns v is tree = subst (λ (x : Standing). TreeFacts x placed) is (facts_of i (word_of turns) placed tree.instance tree.word tree.placed_are)
 
 -- the turn of a place
@@ -224,42 +226,31 @@ profiles_pop i w a n profiles after are size cut = subst (AreProfiles i w) (sym 
   long = length-take-le n profiles (omega (arith, size, are.enough, length_push w a))
 
 -- a push keeps the tree
-pub tree_push : (i : Planned) (tails : List ℕ) (least : ℕ) (placed : List (Option ℕ)) (profiles made : List Profile) (turns after : List Turn) (turn : Turn) (a start : ℕ)
-    → IsTree i tails least placed profiles turns
+pub tree_push : (i : Planned) (tails : List ℕ) (least : ℕ) (placed : List (Option ℕ)) (profiles made : List Profile) (turns after : List Turn) (turn : Turn) (a start : ℕ) (waits lowered : List ℕ)
+    → IsTree i tails least placed waits profiles turns
     → Contains (letters_after i (word_of turns)) a → AreProfiles i (word_of turns) made → length made ≡ length turns + 1
     → after ≡ turns ++ turn ∷ [] → turn.letter ≡ a → start ≡ earliest (problem_of i) (placed_by i (word_of turns)) (a - 1) → IsTurn i (word_of turns ++ a ∷ []) turn
-    → IsTree i tails least (set placed (a - 1) (Some start)) made after
-tree_push i tails least placed profiles made turns after turn a start tree may are size all letter is here = record {
+    → Lowers i.project.network a waits lowered → IsTree i tails least (set placed (a - 1) (Some start)) lowered made after
+tree_push i tails least placed profiles made turns after turn a start waits lowered tree may are size all letter is here lowers = record {
   instance = tree.instance;
   tails_are = tree.tails_are;
   least_is = tree.least_is;
   word = subst (IsWord i) (sym word) (word_push i [] (word_of turns) a tree.word may);
   placed_are = ap (λ (t : ℕ). set placed (a - 1) (Some t)) is ∙ ap (λ (xs : List (Option ℕ)). set xs (a - 1) (Some (earliest (problem_of i) (placed_by i (word_of turns)) (a - 1)))) tree.placed_are
       ∙ sym (placed_push i (word_of turns) a) ∙ ap (placed_by i) (sym word);
+  waits_are = subst (λ (xs : List ℕ). AreWaits i xs lowered) (sym word) (waits_push i (word_of turns) a waits lowered tree.waits_are may lowers);
   profiles_are = subst (λ (xs : List ℕ). AreProfiles i xs made) (sym word) (profiles_push i (word_of turns) a made are (omega (arith, size, length-map turns (λ (t : Turn). t.letter))));
   turns_are = subst (AreTurns i []) (sym all) (turns_push i [] turns turn tree.turns_are (subst (λ (b : ℕ). IsTurn i (word_of turns ++ b ∷ []) turn) (sym letter) here));
 } where
   word : word_of after ≡ word_of turns ++ a ∷ []
   word = ap (λ (xs : List Turn). word_of xs) all ∙ word_of-push turns turn ∙ ap (λ (b : ℕ). word_of turns ++ b ∷ []) letter
 
--- where a push found no memory, the tree has the profiles that there are
-pub tree_same : (i : Planned) (tails : List ℕ) (least : ℕ) (placed : List (Option ℕ)) (profiles made : List Profile) (turns : List Turn) → IsTree i tails least placed profiles turns
-    → AreProfiles i (word_of turns) made → IsTree i tails least placed made turns
-tree_same i tails least placed profiles made turns tree are = record {
-  instance = tree.instance;
-  tails_are = tree.tails_are;
-  least_is = tree.least_is;
-  word = tree.word;
-  placed_are = tree.placed_are;
-  profiles_are = are;
-  turns_are = tree.turns_are;
-}
-
 -- what the last letter of a word may count on, and the word before it
 pub record IsLast (i : Planned) (u : List ℕ) (placed : List (Option ℕ)) (a : ℕ) : Type 0 where
   pub activity : IsActivity i.project.network a
   pub inside : a - 1 < length placed
   pub word : IsWord i u
+  pub letter : Contains (letters_after i u) a
   pub undone : set placed (a - 1) None ≡ placed_by i u
   pub last : get_or placed (a - 1) None ≡ Some (earliest (problem_of i) (set placed (a - 1) None) (a - 1))
 
@@ -268,6 +259,7 @@ last_is i w u placed a instance is_word are word = record {
   activity = (letter.from_one, omega (arith, letter.from_one, letter.inside, count-problem i));
   inside = inside;
   word = parts.0;
+  letter = parts.1.0;
   undone = undone;
   last = ap (λ (xs : List (Option ℕ)). get_or xs (a - 1) None) pushed ∙ get_or-set_same (placed_by i u) (a - 1) (Some (earliest (problem_of i) (placed_by i u) (a - 1))) None (omega (arith, letter.inside, (word_partial i u instance parts.0).0.size))
       ∙ ap (λ (xs : List (Option ℕ)). Some (earliest (problem_of i) xs (a - 1))) (sym undone);
@@ -293,19 +285,20 @@ last_is i w u placed a instance is_word are word = record {
 
 -- what a pop may count on
 pub can_pop : (i : Planned) (tails : List ℕ) (least : ℕ) (placed : List (Option ℕ)) (profiles : List Profile) (turns whole : List Turn) (turn : Turn)
-    → IsTree i tails least placed profiles whole → whole ≡ turns ++ turn ∷ [] → IsLast i (word_of turns) placed turn.letter
+    → {waits : List ℕ} → IsTree i tails least placed waits profiles whole → whole ≡ turns ++ turn ∷ [] → IsLast i (word_of turns) placed turn.letter
 can_pop i tails least placed profiles turns whole turn tree all =
     last_is i (word_of whole) (word_of turns) placed turn.letter tree.instance tree.word tree.placed_are (ap (λ (xs : List Turn). word_of xs) all ∙ word_of-push turns turn)
 
-pub tree_pop : (i : Planned) (tails : List ℕ) (least : ℕ) (placed : List (Option ℕ)) (profiles after : List Profile) (turns whole : List Turn) (turn : Turn) (n : ℕ)
-    → IsTree i tails least placed profiles whole → whole ≡ turns ++ turn ∷ []
-    → n ≡ length turns + 1 → after ≡ take n profiles → IsTree i tails least (set placed (turn.letter - 1) None) after turns
-tree_pop i tails least placed profiles after turns whole turn n tree all size cut = record {
+pub tree_pop : (i : Planned) (tails : List ℕ) (least : ℕ) (placed : List (Option ℕ)) (profiles after : List Profile) (turns whole : List Turn) (turn : Turn) (n : ℕ) (waits raised : List ℕ)
+    → IsTree i tails least placed waits profiles whole → whole ≡ turns ++ turn ∷ []
+    → n ≡ length turns + 1 → after ≡ take n profiles → Lowers i.project.network turn.letter raised waits → IsTree i tails least (set placed (turn.letter - 1) None) raised after turns
+tree_pop i tails least placed profiles after turns whole turn n waits raised tree all size cut lowers = record {
   instance = tree.instance;
   tails_are = tree.tails_are;
   least_is = tree.least_is;
   word = can.word;
   placed_are = can.undone;
+  waits_are = waits_pop i (word_of turns) turn.letter waits raised (subst (λ (xs : List ℕ). AreWaits i xs waits) word tree.waits_are) can.letter lowers;
   profiles_are = profiles_pop i (word_of turns) turn.letter n profiles after (subst (λ (xs : List ℕ). AreProfiles i xs profiles) word tree.profiles_are) (omega (arith, size, length-map turns (λ (t : Turn). t.letter))) cut;
   turns_are = turns_front i [] turns turn (subst (AreTurns i []) all tree.turns_are);
 } where

@@ -133,6 +133,33 @@ lowered_more row k old now within inside waits lowered = record {
   i : ℕ
   i = get_or row k 0 - 1
 
+-- the next of the row has what it had, and is raised next
+pub raised_more : (row : List ℕ) (k : ℕ) (old now : List ℕ) → IsStrictlyIncreasing row → ((m : ℕ) → m < length row → 1 ≤ get_or row m 0) → k < length row → get_or row k 0 - 1 < length old → AreLowered row k now old
+    → (get_or now (get_or row k 0 - 1) 0 ≡ get_or old (get_or row k 0 - 1) 0) × AreLowered row (k + 1) (set now (get_or row k 0 - 1) (get_or now (get_or row k 0 - 1) 0 + 1)) old
+raised_more row k old now rising from_one within inside raised = (
+  omega (arith, raised.each i inside', row_not_before row rising from_one k within),
+  record {
+    size = raised.size ∙ sym (length-set now i (get_or now i 0 + 1));
+    each = λ h below.
+        let more : times_in_row (take (k + 1) row) h ≡ times_in_row (take k row) h + tally (nat_eq i h) = sum_by_more (λ j. tally (nat_eq (j - 1) h)) row k 0 within in
+        let before = raised.each h (omega (arith, below, length-set now i (get_or now i 0 + 1))) in
+        elim (cases_eq i h) [
+          | inl same ↦
+              let here : get_or (set now i (get_or now i 0 + 1)) h 0 ≡ get_or now i 0 + 1 = subst (λ (m : ℕ). get_or (set now i (get_or now i 0 + 1)) m 0 ≡ get_or now i 0 + 1) same (get_or-set_same now i (get_or now i 0 + 1) 0 inside') in
+              let one : tally (nat_eq i h) ≡ 1 = ap tally (eq-eqb i h same) in
+              omega (arith, here, more, one, before, ap (λ (m : ℕ). get_or now m 0) same)
+          | inr other ↦
+              let none : tally (nat_eq i h) ≡ 0 = ap tally (ne_eqb i h other) in
+              omega (arith, more, none, before, get_or-set_other now i h (get_or now i 0 + 1) 0 (λ same. other (sym same)))
+        ];
+  },
+) where
+  i : ℕ
+  i = get_or row k 0 - 1
+
+  inside' : i < length now
+  inside' = omega (arith, inside, raised.size)
+
 -- no more than before is waited for
 pub lowered_least : (row : List ℕ) (k : ℕ) (old now : List ℕ) → AreLowered row k old now → (h : ℕ) → h < length old → get_or now h 0 ≤ get_or old h 0
 lowered_least row k old now lowered h below = omega (arith, lowered.each h below)

@@ -15,7 +15,7 @@ use Rattle.plan_sgs.specs.Problem.{count}
 use Rattle.plan_sgs.specs.Rules.{places, is_member, is_eligible, takes_in_turn, is_activity_list, rule_list_from, rule_list}
 use Rattle.plan_sgs.specs.Instances.{Planned, IsInstance, problem_of}
 use Rattle.plan_sgs.specs.Placing.{IsTurnList}
-use Rattle.plan_sgs.specs.Waiting.{AreMarksOf, CanCome, Entry, by_key, IsKeyed, IsQueue, AreInDegrees, Lowers, QueuesFree, Joins, times_in}
+use Rattle.plan_sgs.specs.Waiting.{AreMarksOf, CanCome, Entry, by_key, IsKeyed, IsQueue, AreInDegrees, Lowers, QueuesFree, Joins, times_in, open_links}
 use Rattle.plan_sgs.proofs.InstanceLemmas.{count-problem}
 use Rattle.plan_sgs.proofs.SerialLemmas.{taken_count, taken_none, taken_more, list_parts, eligible_not}
 use Rattle.plan_sgs.proofs.ListLemmas.{turn_at, turns_push}
@@ -24,7 +24,7 @@ use Rattle.plan_sgs.proofs.BoundedLemmas.{bounded}
 use Rattle.plan_sgs.proofs.RunLemmas.{entry_place, length-places}
 use Rattle.plan_sgs.proofs.MarkLemmas.{marks_first, marks_set, can_come_eligible, eligible_can_come, order_ranks, rank_in}
 use Rattle.plan_sgs.proofs.CountLemmas.{tally, count_place, between_some}
-use Rattle.plan_sgs.proofs.OpenLemmas.{open_links, eligible_open, open_first, open_more, links_as_arcs, settled_more, queued_more}
+use Rattle.plan_sgs.proofs.OpenLemmas.{eligible_open, open_first, open_more, links_as_arcs, settled_more, queued_more}
 use Rattle.plan_sgs.proofs.QueueLemmas.{popped_keyed, popped_first, times_popped}
 
 -- the first k numbers of a list came in their turns, and are marked

@@ -1,13 +1,16 @@
 -- Where the tree of a project stands, and what it keeps of what its word places
 -- (docs/DEFINITIONS.md, "Words of a project"). Public clauses speak of `Standing` and `standing`
 -- alone.
-use Rattle.std.specs.Prelude.{◌≡◌, ℕ, ◌+◌, ◌≤◌, ◌<◌, List, [], ◌∷◌, ◌++◌, length, get_or, take, map, Option}
+use Rattle.std.specs.Prelude.{◌≡◌, ℕ, ◌+◌, ◌≤◌, ◌<◌, List, [], ◌∷◌, ◌++◌, length, get_or, slice_index, take, map, Option}
+use Rattle.plan_net.specs.Network.{count_of}
 use Rattle.plan_cpm.specs.Lengths.{AreTails}
 use Rattle.plan_profile.specs.declared.profile.Profile.{Profile}
 use Rattle.plan_sgs.specs.Problem.{greatest_below}
 use Rattle.plan_sgs.specs.Serial.{end_of}
+use Rattle.plan_sgs.specs.Rules.{places}
 use Rattle.plan_sgs.specs.Instances.{Planned, IsInstance, problem_of}
 use Rattle.plan_sgs.specs.Placing.{Holds}
+use Rattle.plan_sgs.specs.Waiting.{open_links}
 use Rattle.plan_sgs.specs.ProjectWords.{depth_of, placed_by, IsWord, least_of_all, reach_of}
 use Rattle.plan_sgs.specs.declared.project_tree.Turn.{Turn}
 
@@ -52,13 +55,20 @@ pub record AreProfiles (i : Planned) (w : List ℕ) (profiles : List Profile) : 
   pub held : (k : ℕ) (profile : Profile) → k < length profiles → profile ≡ get_or profiles k profile
       → Holds profile (problem_of i) (placed_by i (take k w))
 
+-- for each activity how many predecessors of it aren't in a word
+pub record AreWaits (i : Planned) (w waits : List ℕ) : Type 0 where
+  pub size : length waits ≡ count_of i.project.network
+  pub each : (h : ℕ) → h < count_of i.project.network
+      → slice_index waits h ≡ open_links (problem_of i) (places w) h
+
 -- all that a tree keeps
 pub record IsTree (i : Planned) (tails : List ℕ) (least : ℕ) (placed : List (Option ℕ))
-    (profiles : List Profile) (turns : List Turn) : Type 0 where
+    (waits : List ℕ) (profiles : List Profile) (turns : List Turn) : Type 0 where
   pub instance : IsInstance i
   pub tails_are : AreTails i.project.network tails
   pub least_is : least ≡ least_of_all i
   pub word : IsWord i (word_of turns)
   pub placed_are : placed ≡ placed_by i (word_of turns)
+  pub waits_are : AreWaits i (word_of turns) waits
   pub profiles_are : AreProfiles i (word_of turns) profiles
   pub turns_are : AreTurns i [] turns

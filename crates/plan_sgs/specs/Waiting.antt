@@ -1,6 +1,6 @@
 -- Which activities may come next, while others are taken: marks on those that are taken, how many predecessors each waits for, and a
 -- queue of those that wait for none. Activities go by their places from 0 on where a list has them. No public clause speaks of these words.
-use Rattle.std.specs.Prelude.{◌≡◌, ℕ, ◌+◌, ◌-◌, ◌≤◌, ◌<◌, Bool, false, cond, ◌&&◌, nat_eq, nat_lt, List, length, get_or, slice_index, count_by, All, Option}
+use Rattle.std.specs.Prelude.{◌≡◌, ℕ, ◌+◌, ◌-◌, ◌≤◌, ◌<◌, Bool, false, cond, not, ◌&&◌, nat_eq, nat_lt, List, length, get_or, slice_index, count_by, All, Option}
 use Rattle.std.specs.Option.{MatchOption}
 use Rattle.std.specs.BinaryHeap.{IsHeap}
 use Rattle.std.specs.Ordering.{nat_cmp, ordering_then}
@@ -8,6 +8,7 @@ use Rattle.std.specs.declared.cmp.Ordering.{Ordering}
 use Rattle.std.specs.declared.cmp.Reverse.{Reverse}
 use Rattle.plan_net.specs.Network.{Net, IsActivity, IsArc, IsLeast}
 use Rattle.plan_net.specs.Placed.{IsPlaced, IsOpen}
+use Rattle.plan_sgs.specs.Problem.{Problem, Link}
 use Rattle.plan_sgs.specs.Rules.{is_member}
 
 -- the marks are those of the activities of a list, by places
@@ -36,6 +37,14 @@ arcs_between arcs g h = count_by (λ arc. nat_eq (arc.0 - 1) g && nat_eq (arc.1 
 pub record Lowers (net : Net) (j : ℕ) (old new : List ℕ) : Type 0 where
   pub size : length new ≡ length old
   pub each : (h : ℕ) → h < length old → slice_index new h + arcs_between net.arcs (j - 1) h ≡ slice_index old h
+
+-- a link leads to an activity from one that isn't taken
+abbrev pub is_open : List ℕ → ℕ → Link → Bool
+is_open taken h a = nat_eq a.to h && not (is_member a.from taken)
+
+-- how many such links there are
+abbrev pub open_links : Problem → List ℕ → ℕ → ℕ
+open_links p taken h = count_by (is_open taken h) p.links
 
 -- an activity in a queue, behind its key
 abbrev pub Entry : Type 0

@@ -1,7 +1,6 @@
 //! Numbers by which the rules choose: the less, the sooner an activity is taken.
 
-ghost use Rattle.std.specs.Prelude.{◌≡◌, length, slice_index, IfOk};
-ghost use Rattle.plan_net.specs.Network.{count_of};
+ghost use Rattle.std.specs.Prelude.{IfOk};
 ghost use Rattle.plan_cpm.specs.Dates.{AreDates};
 ghost use Rattle.plan_cpm.specs.Successors.{AreTotals};
 ghost use Rattle.plan_sgs.specs.Keys.{AreKeysOf};

@@ -1,6 +1,6 @@
 //! Orders of all activities that have each after its predecessors.
 
-ghost use Rattle.std.specs.Prelude.{◌≡◌, ℕ, ◌↔◌, length, slice_index, IsTrue, IfOk};
+ghost use Rattle.std.specs.Prelude.{◌≡◌, ◌↔◌, length, slice_index, IsTrue, IfOk};
 ghost use Rattle.plan_net.specs.Network.{count_of};
 ghost use Rattle.plan_sgs.specs.Problem.{count};
 ghost use Rattle.plan_sgs.specs.Instances.{problem_of};

@@ -1,6 +1,6 @@
 //! Activities placed one after another, each at its earliest start.
 
-ghost use Rattle.std.specs.Prelude.{◌≡◌, ℕ, ◌+◌, ◌-◌, ◌≤◌, length, get_or, set, map, None, Some, IfOk, OnOk};
+ghost use Rattle.std.specs.Prelude.{◌≡◌, ◌+◌, ◌-◌, ◌≤◌, length, get_or, set, map, None, Some, IfOk, OnOk};
 ghost use Rattle.plan_net.specs.Network.{IsActivity};
 ghost use Rattle.plan_profile.specs.Usage.{IsInTime};
 ghost use Rattle.plan_sgs.specs.Problem as problem;
@@ -11,7 +11,7 @@ ghost use Rattle.plan_sgs.specs.Rules.{places};
 
 use crate::instance::Instance;
 use crate::schedule::Schedule;
-use plan_net::{LONGEST_LAG, Network};
+use plan_net::LONGEST_LAG;
 use plan_profile::Profile;
 use std::alloc::{AllocError, Global};
 

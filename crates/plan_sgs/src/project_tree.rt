@@ -13,6 +13,7 @@ mod following;
 use crate::instance::Instance;
 use crate::placing::{earliest_start, profile_with, starts_of};
 use crate::schedule::Schedule;
+use crate::waiting::{first_waits, lower_each, raise_each};
 use bounding::least_of_all;
 use plan_cpm::tails;
 use plan_profile::Profile;
@@ -40,6 +41,7 @@ pub struct ProjectTree<'a> {
     tails: Vec<u64>,
     least: u64,
     placed: Vec<Option<u64>>,
+    waits: Vec<usize>,
     profiles: Vec<Profile>,
     turns: Vec<Turn>,
 }
@@ -52,7 +54,7 @@ impl<'a> Model for ProjectTree<'a> {
     ghost view = { λ t. record { instance = t.instance.now; word = word_of t.turns.items } };
 
     ghost invariant = { λ t. IsTree t.instance.now t.tails.items t.least t.placed.items
-        t.profiles.items t.turns.items };
+        t.waits.items t.profiles.items t.turns.items };
 }
 
 // The start of one letter more. Where there is no profile of the word yet, it is made.
@@ -101,12 +103,14 @@ impl<'a> ProjectTree<'a> {
         let mut profiles = Vec::new(alloc);
         profiles.push(Profile::new(alloc, caps)?)?;
         let placed = vec![in alloc; None; instance.network().len()]?;
+        let waits = first_waits(alloc, instance.network())?;
         let turns = Vec::with_capacity(alloc, instance.network().len())?;
         Ok(ProjectTree {
             instance,
             tails,
             least,
             placed,
+            waits,
             profiles,
             turns,
         })
@@ -158,6 +162,7 @@ impl<'a> ProjectTree<'a> {
             reach: reach.max(start + tail),
         })?;
         self.placed[place] = Some(start);
+        lower_each(self.instance.network(), activity, &mut self.waits);
         Ok(())
     }
 
@@ -172,6 +177,7 @@ impl<'a> ProjectTree<'a> {
         };
         self.profiles.truncate(self.turns.len() + 1);
         self.placed[turn.letter as usize - 1] = None;
+        raise_each(self.instance.network(), turn.letter, &mut self.waits);
     }
 
     /// Whether all activities are placed.

@@ -1,6 +1,6 @@
 //! Which activities may come next, while others are taken.
 
-ghost use Rattle.std.specs.Prelude.{◌≡◌, ℕ, ◌-◌, ◌≤◌, length, slice_index, IfOk, OnOk};
+ghost use Rattle.std.specs.Prelude.{◌≡◌, ℕ, ◌-◌, ◌≤◌, length, slice_index, EachIndex, IfOk, OnOk};
 ghost use Rattle.std.specs.BinaryHeap.{heap_items};
 ghost use Rattle.plan_net.specs.Network.{IsActivity, IsArc, count_of};
 ghost use Rattle.plan_net.specs.Limits.{IsSound};
@@ -34,6 +34,34 @@ pub fn first_waits(alloc: Global, network: &Network) -> Result<Vec<usize>, Alloc
         waits[j as usize - 1] += 1;
     }
     Ok(waits)
+}
+
+/// Takes activity `j` off what its successors wait for.
+pub fn lower_each(network: &Network, j: u32, waits: &mut Vec<usize>)
+    requires sound { IsSound network.now }
+    requires activity { IsActivity network.now j }
+    requires waits { length waits.old.items ≡ count_of network.now }
+    requires waiting { (h : ℕ) → IsArc network.now j h → 1 ≤ slice_index waits.old.items (h - 1) }
+    ensures { Lowers network.now j waits.old.items waits.new.items }
+{
+    for &h in network.succs(j) {
+        waits[h as usize - 1] -= 1;
+    }
+}
+
+/// Puts activity `j` back into what its successors wait for.
+pub fn raise_each(network: &Network, j: u32, waits: &mut Vec<usize>)
+    requires sound { IsSound network.now }
+    requires activity { IsActivity network.now j }
+    requires waits { length waits.old.items ≡ count_of network.now }
+    requires limit { EachIndex waits.old.items (λ k. slice_index waits.old.items k ≤ length network.now.arcs) }
+    ensures { Lowers network.now j waits.new.items waits.old.items }
+{
+    // as many arcs as a list can have, on which the proof rests
+    let _arcs = network.arcs();
+    for &h in network.succs(j) {
+        waits[h as usize - 1] += 1;
+    }
 }
 
 /// The activities that wait for none, as they come out: each by its key, and then by its number.

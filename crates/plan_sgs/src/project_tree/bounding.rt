@@ -1,6 +1,6 @@
 //! The bound of a word.
 
-ghost use Rattle.std.specs.Prelude.{◌≡◌, ◌<◌, ◌≤◌, cond, length, nat_lt};
+ghost use Rattle.std.specs.Prelude.{◌≡◌, ◌<◌, cond, length, nat_lt};
 ghost use Rattle.plan_cpm.specs.Lengths.{AreTails};
 ghost use Rattle.plan_sgs.specs.Instances.{problem_of};
 ghost use Rattle.plan_sgs.specs.PathTails.{longest_of};

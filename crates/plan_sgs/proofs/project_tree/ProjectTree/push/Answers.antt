@@ -1,13 +1,15 @@
 -- One turn more: the letter is placed, and the turn has the greater of what was and what it adds.
 use Rattle.std.proofs.Common.{ℕ, ◌≡◌, ◌+◌, ◌-◌, List, length, Option, ◌++◌, [], ◌∷◌, refl, sym, ap, subst, ◌∙◌, arith}
-use Rattle.plan_net.specs.Network.{Net, count_of, duration_of}
+use Rattle.plan_net.specs.Network.{Net, IsArc, count_of, duration_of}
 use Rattle.plan_sgs.specs.Problem.{duration}
 use Rattle.plan_sgs.specs.Serial.{earliest}
 use Rattle.plan_sgs.specs.Instances.{problem_of}
+use Rattle.plan_sgs.specs.Waiting.{Lowers}
 use Rattle.plan_sgs.specs.ProjectTrees.{Standing, word_of, IsTurn, AreProfiles}
 use Rattle.plan_sgs.specs.declared.project_tree.Turn.{Turn}
 use Rattle.plan_sgs.proofs.PlaceLemmas.{duration_place}
 use Rattle.plan_sgs.proofs.ProjectTurnLemmas.{tree_facts, can_place, may_inside, tail_at, next_turn, tree_push}
+use Rattle.plan_sgs.proofs.ProjectWaitLemmas.{letter_waits}
 use Rattle.plan_sgs.proofs.project_tree.ProjectTree.push.Goals as goal
 
 pub overflow_sub-place : goal.overflow_sub-place
@@ -37,6 +39,17 @@ index_mut-requires c =
     let can = can_place c.args.self.now c.self.inside.placed.items c.args.activity (tree_facts _ _ _ _ _ _ _ c.self.view_is c.self.invariant) c.requires in
     omega (arith, can.inside, c.self.inside.placed.ok.0)
 
+pub lower_each-requires-clause-activity : goal.lower_each-requires-clause-activity
+lower_each-requires-clause-activity c =
+    let can = can_place c.args.self.now c.self.inside.placed.items c.args.activity (tree_facts _ _ _ _ _ _ _ c.self.view_is c.self.invariant) c.requires in
+    (can.activity.0, omega (arith, can.activity.1, ap (λ (v : Standing). count_of v.instance.project.network) c.self.view_is, ap (λ (n : Net). count_of n) c.network-2.ensures.network))
+
+pub lower_each-requires-clause-waiting : goal.lower_each-requires-clause-waiting
+lower_each-requires-clause-waiting c h arc =
+    letter_waits c.self.inside.instance.now (word_of c.self.inside.turns.items) c.args.activity c.self.inside.waits.items c.self.invariant.instance.project.network c.self.invariant.waits_are
+    (may_inside c.self.inside.instance.now (word_of c.self.inside.turns.items) c.args.self.now c.args.activity c.self.view_is c.requires) h
+    (subst (λ (n : Net). IsArc n c.args.activity h) c.network-2.ensures.network arc)
+
 pub invariant_of-self-2 : goal.invariant_of-self-2
 invariant_of-self-2 c =
     let facts = tree_facts _ _ _ _ _ _ _ c.self.view_is c.self.invariant in
@@ -57,7 +70,8 @@ invariant_of-self-2 c =
     let are : AreProfiles c.self.inside.instance.now (word_of c.self.inside.turns.items) c.start_of.new.profiles.items =
     subst (λ (xs : List Turn). AreProfiles c.self.inside.instance.now (word_of xs) c.start_of.new.profiles.items) c.deref-2.ensures.value c.in_ok-start.ensures.profiles in
     tree_push c.self.inside.instance.now c.self.inside.tails.items c.self.inside.least c.self.inside.placed.items c.self.inside.profiles.items c.start_of.new.profiles.items c.self.inside.turns.items c.push.new.self.items
-    (record { letter = c.args.activity; end = c.max.result; reach = c.max-2.result }) c.args.activity c.in_ok-start.start c.self.invariant
+    (record { letter = c.args.activity; end = c.max.result; reach = c.max-2.result }) c.args.activity c.in_ok-start.start c.self.inside.waits.items c.lower_each.new.waits.items c.self.invariant
     (may_inside c.self.inside.instance.now (word_of c.self.inside.turns.items) c.args.self.now c.args.activity c.self.view_is c.requires) are
     (c.in_ok-start.ensures.made ∙ ap (λ (xs : List Turn). length xs + 1) c.deref-2.ensures.value) c.in_ok-push.ensures.items refl
     (inside ∙ ap (λ (xs : List (Option ℕ)). earliest (problem_of c.self.inside.instance.now) xs (c.args.activity - 1)) c.self.invariant.placed_are) here
+    (subst (λ (n : Net). Lowers n c.args.activity c.self.inside.waits.items c.lower_each.new.waits.items) c.network-2.ensures.network c.lower_each.ensures)
