@@ -51,7 +51,8 @@ def try_no_keys(room):
     for text, place in itertools.product(NO_KEYS, (database, there)):
         made = plan("init", place, given=text.encode())
         same(f"plan init {place} by {text!r}", made, fault("K3 key"))
-    same("plan init over an office", plan("init", there, given=b"password"), fault("K1 not ours"))
+    over = plan("init", there, given=b"password")
+    same("plan init over an office", over, fault("K7 office there already"))
     same("a file after a wrong key", os.path.exists(database), False)
     same_rows("the rows of the office", rows(there, room), [f"meta|2|{digest(OFFICE_KEY)}"])
 

@@ -14,6 +14,7 @@ LAG = "INSERT INTO lags (desk, n, src, dst, lag) VALUES ('north', 1, 1, 2, 2);"
 FIRST = file_of("trials/files/first-version.sql").decode()
 SECOND = file_of("trials/files/second-version.sql").decode()
 NOT_OURS, VERSION = fault("K1 not ours"), fault("K2 version")
+TAKEN = fault("K7 office there already")
 
 
 def asked(line, answer, body="", status=200):
@@ -74,7 +75,7 @@ def try_taken(room):
     before = rows(database, room)
     for _ in range(3):
         answered(STORY, database, written(STORY, room))
-    same("plan init over it", plan("init", database, given=KEY.encode()), NOT_OURS)
+    same("plan init over it", plan("init", database, given=KEY.encode()), TAKEN)
     answered(STORY, database, written(STORY, room))
     same_rows("the rows at the end", rows(database, room), before)
 
@@ -211,6 +212,31 @@ def rows_of():
         f"plans|north|2|shop|one|{shop}||", f"plans|north|3|project||{project}||",
         "binds|north|1|1|crew-a", "binds|north|2|0|mill",
     ])
+
+
+def kept_from(database, what, wanted):
+    """No office is made over what is there, which stays as it is."""
+    before = whole(database)
+    same(f"plan init over {what}", plan("init", database, given=KEY.encode()), wanted)
+    same(f"{what} stays", whole(database) == before, True)
+
+
+def try_init_over(room):
+    """No office is made over tables. An office's are told from others, whatever is in them."""
+    for change, wanted in [
+        ("SELECT 1;", TAKEN),
+        ("UPDATE meta SET version = 9;", TAKEN),
+        ("UPDATE published SET capacity = 10001;", TAKEN),
+        ("DELETE FROM meta;", TAKEN),
+        ("DROP TABLE lags;", TAKEN),
+        ("DROP TABLE lags; DROP TABLE binds;", NOT_OURS),
+        ("CREATE TABLE notes (a TEXT);", NOT_OURS),
+        ("CREATE INDEX by_kind ON plans (kind);", NOT_OURS),
+        ("CREATE VIEW crews AS SELECT code FROM published;", NOT_OURS),
+    ]:
+        kept_from(filled(room, change), f"an office after {change}", wanted)
+    kept_from(first(room), "an office of the first version", TAKEN)
+    kept_from(first(room, "DROP TABLE binds;"), "a part of it", NOT_OURS)
 
 
 def try_first_version(room):

@@ -56,6 +56,7 @@ pub(crate) enum Code {
     InUse,
     NotThere,
     NotWritable,
+    OfficeThere,
     NoMemory,
     StoreRefused,
     Input,
@@ -120,6 +121,7 @@ impl Code {
             "K4" => Some(Code::InUse),
             "K5" => Some(Code::NotThere),
             "K6" => Some(Code::NotWritable),
+            "K7" => Some(Code::OfficeThere),
             "E90" => Some(Code::NoMemory),
             "E91" => Some(Code::StoreRefused),
             "I1" => Some(Code::Input),
@@ -263,7 +265,7 @@ impl Code {
                 "E12 ..\nThe calendar is wrong, or none is set, or it ends before the last day: why follows, as E12 G1 date.\nLook up the code that follows, as G1.\n"
             }
             Code::NotOurs => {
-                "K1 not ours\nFor plan init, it has a table, index or view already. Else they aren't just an office's, or a row isn't one that an office has, or the file is empty or shorter than a database.\nCheck the name; drop what was added by hand, or take a backup. If plan 0.2.0 made it, run in sqlite3: ALTER TABLE lags RENAME COLUMN source TO src; ALTER TABLE lags RENAME COLUMN target TO dst;\n"
+                "K1 not ours\nFor plan init, it has tables, indexes or views already, which aren't just an office's. Else they aren't just an office's, or a row isn't one that an office has, or the file is empty or shorter than a database.\nCheck the name; drop what was added by hand, or take a backup. If plan 0.2.0 made it, run in sqlite3: ALTER TABLE lags RENAME COLUMN source TO src; ALTER TABLE lags RENAME COLUMN target TO dst;\n"
             }
             Code::Version => {
                 "K2 version\nThe tables are of a version that this program doesn't know.\nTake the program that wrote them, or a newer one.\n"
@@ -279,6 +281,9 @@ impl Code {
             }
             Code::NotWritable => {
                 "K6 not writable\nThe file of the office, the log beside it (with -wal at its end) or their folder may not be read and written by this user, or the disk is mounted for reading alone.\nGive the folder and the files to the user that serves (chown), or put the office into a folder of its own.\n"
+            }
+            Code::OfficeThere => {
+                "K7 office there already\nFor plan init, it has the tables of an office already, whatever rows and version these have. Nothing was changed.\nServe it by plan serve, or give plan init another name.\n"
             }
             Code::NoMemory => {
                 "E90 memory\nMemory ran out. The file may be in order.\nFree memory and try again.\n"

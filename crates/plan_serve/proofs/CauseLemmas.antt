@@ -20,6 +20,7 @@ file_serves k fault.Output is = absurd is
 file_serves k fault.Locked is = absurd is
 file_serves k fault.Missing is = tt
 file_serves k fault.Denied is = tt
+file_serves k fault.Taken is = absurd is
 file_serves k fault.PortTaken is = absurd is
 file_serves k fault.PortDenied is = absurd is
 
@@ -36,6 +37,7 @@ file_inits k fault.Output is = absurd is
 file_inits k fault.Locked is = absurd is
 file_inits k fault.Missing is = tt
 file_inits k fault.Denied is = tt
+file_inits k fault.Taken is = absurd is
 file_inits k fault.PortTaken is = absurd is
 file_inits k fault.PortDenied is = absurd is
 
@@ -52,6 +54,7 @@ file_silent k fault.Output is e = absurd is
 file_silent k fault.Locked is e = absurd is
 file_silent k fault.Missing is e = absurd cc
 file_silent k fault.Denied is e = absurd cc
+file_silent k fault.Taken is e = absurd is
 file_silent k fault.PortTaken is e = absurd is
 file_silent k fault.PortDenied is e = absurd is
 
@@ -68,5 +71,6 @@ port_serves k fault.Output is = absurd is
 port_serves k fault.Locked is = absurd is
 port_serves k fault.Missing is = absurd is
 port_serves k fault.Denied is = absurd is
+port_serves k fault.Taken is = absurd is
 port_serves k fault.PortTaken is = tt
 port_serves k fault.PortDenied is = tt

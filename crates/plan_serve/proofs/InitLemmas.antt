@@ -1,16 +1,17 @@
 -- Why the tables of a new office weren't made.
-use Rattle.std.proofs.Common.{◌≡◌, ◌≢◌, ◌⊎◌, ◌↔◌, inl, inr, Option, Some, None, Ok, Err, refl, ap}
+use Rattle.std.proofs.Common.{◌≡◌, ◌≢◌, ◌⊎◌, ◌↔◌, inl, inr, Option, Some, None, Ok, Err, refl, sym, ap, subst}
 use Rattle.sqlite_trees.specs.declared.store.Store.{Ghosts}
 use Rattle.sqlite.specs.Held.{Held, state}
 use Rattle.plan_rows.specs.World.{Text, Digest}
 use Rattle.plan_store.specs.declared.fault.StoreFault.{StoreFault}
 use Rattle.plan_store.specs.declared.fault.StoreFault.TheVariants as store
 use Rattle.plan_store.specs.Tables.{no_schema}
+use Rattle.plan_store.specs.Offices.{HasOfficeTables}
 use Rattle.plan_serve.specs.Faults.{fault_of}
 use Rattle.plan_serve.specs.Keys.{ReadsKey, TakesKey}
 use Rattle.plan_serve.specs.declared.fault.ServeFault.{ServeFault}
 use Rattle.plan_serve.specs.declared.fault.ServeFault.TheVariants as fault
-use Rattle.plan_serve.specs.InitRun.{IsLeft, MakesNone, IsInitFault}
+use Rattle.plan_serve.specs.InitRun.{IsTold, IsLeft, MakesNone, IsInitFault}
 
 module _ {S : Type 0} (g : Ghosts S) (Opens : Held S → Type 0) (Refuses : StoreFault → Type 0) (remaining rest : Option Text) (digest : Digest)
     (reads : ReadsKey remaining rest (Ok digest)) where
@@ -25,15 +26,24 @@ module _ {S : Type 0} (g : Ghosts S) (Opens : Held S → Type 0) (Refuses : Stor
   unopened store.Store refuses which = (digest, reads, inl (refuses, refl))
 
   -- a database was opened, and no tables made
-  pub unmade : (conn left : Held S) (fault : StoreFault) → Opens conn → (fault ≡ store.NotOurs) ↔ ((state g conn).now.schema ≢ no_schema) → fault ≢ store.Version
-      → (fault ≡ store.NotOurs → left ≡ conn) → IsLeft (state g conn) (state g left) digest
-      → MakesNone g Opens Refuses remaining rest (fault_of fault) (Some left)
-  unmade conn left store.NotOurs opens ours known same kept = (digest, reads, (conn, ap Some (same refl), opens, ours.0 refl))
-  unmade conn left store.Version opens ours known same kept = absurd (known refl)
-  unmade conn left store.NoMemory opens ours known same kept =
-      inr (digest, reads, (conn, left, refl, opens, (λ used. let e = ours.1 used in absurd cc), kept))
-  unmade conn left store.Store opens ours known same kept =
-      (digest, reads, inr (conn, left, refl, opens, (λ used. let e = ours.1 used in absurd cc), kept))
+  pub unmade : (conn left : Held S) (cause : StoreFault) (told : ServeFault) → Opens conn → (cause ≡ store.NotOurs) ↔ ((state g conn).now.schema ≢ no_schema) → cause ≢ store.Version
+      → (cause ≡ store.NotOurs → left ≡ conn) → IsLeft (state g conn) (state g left) digest → IsTold cause (state g left).now told
+      → MakesNone g Opens Refuses remaining rest told (Some left)
+  unmade conn left cause told opens ours known same kept (inl (taken, foreign, office)) =
+      subst (λ e. MakesNone g Opens Refuses remaining rest e (Some left)) (sym taken)
+      (digest, reads, (conn, ap Some (same foreign), opens, subst (λ c. HasOfficeTables (state g c).now.schema) (same foreign) office))
+  unmade conn left cause told opens ours known same kept (inr (is, none)) =
+      subst (λ e. MakesNone g Opens Refuses remaining rest e (Some left)) (sym is) (as_told cause ours known same none)
+    where
+      as_told : (f : StoreFault) → (f ≡ store.NotOurs) ↔ ((state g conn).now.schema ≢ no_schema) → f ≢ store.Version → (f ≡ store.NotOurs → left ≡ conn)
+          → (f ≡ store.NotOurs → ¬ HasOfficeTables (state g left).now.schema) → MakesNone g Opens Refuses remaining rest (fault_of f) (Some left)
+      as_told store.NotOurs ours known same none =
+          (digest, reads, (conn, ap Some (same refl), opens, ours.0 refl, subst (λ c. ¬ HasOfficeTables (state g c).now.schema) (same refl) (none refl)))
+      as_told store.Version ours known same none = absurd (known refl)
+      as_told store.NoMemory ours known same none =
+          inr (digest, reads, (conn, left, refl, opens, (λ used. let e = ours.1 used in absurd cc), kept))
+      as_told store.Store ours known same none =
+          (digest, reads, inr (conn, left, refl, opens, (λ used. let e = ours.1 used in absurd cc), kept))
 
 -- a key that wasn't read
 pub unread : {S : Type 0} (g : Ghosts S) (Opens : Held S → Type 0) (Refuses : StoreFault → Type 0) (remaining rest : Option Text) (e : ServeFault)
@@ -49,6 +59,7 @@ unread g Opens Refuses remaining rest fault.Output takes = absurd takes
 unread g Opens Refuses remaining rest fault.Locked takes = absurd takes
 unread g Opens Refuses remaining rest fault.Missing takes = absurd takes
 unread g Opens Refuses remaining rest fault.Denied takes = absurd takes
+unread g Opens Refuses remaining rest fault.Taken takes = absurd takes
 unread g Opens Refuses remaining rest fault.PortTaken takes = absurd takes
 unread g Opens Refuses remaining rest fault.PortDenied takes = absurd takes
 
@@ -66,5 +77,6 @@ init_faults g Opens Refuses remaining rest fault.Output back i = absurd i
 init_faults g Opens Refuses remaining rest fault.Locked back i = tt
 init_faults g Opens Refuses remaining rest fault.Missing back i = tt
 init_faults g Opens Refuses remaining rest fault.Denied back i = tt
+init_faults g Opens Refuses remaining rest fault.Taken back i = tt
 init_faults g Opens Refuses remaining rest fault.PortTaken back i = absurd i
 init_faults g Opens Refuses remaining rest fault.PortDenied back i = absurd i

@@ -18,6 +18,7 @@ line_of fault.Output = codes "I3 output"
 line_of fault.Locked = codes "K4 in use"
 line_of fault.Missing = codes "K5 not there"
 line_of fault.Denied = codes "K6 not writable"
+line_of fault.Taken = codes "K7 office there already"
 line_of fault.PortTaken = codes "I4 port in use"
 line_of fault.PortDenied = codes "I5 port denied"
 

@@ -2,18 +2,21 @@
 use Rattle.std.specs.Prelude.{◌≡◌, ◌≢◌, ◌⊎◌, false, IsTrue, Option, Some, None, Result, Ok, Err}
 use Rattle.sqlite_trees.specs.Tree.{Trees}
 use Rattle.sqlite_trees.specs.declared.store.Store.{Ghosts}
+use Rattle.sqlite.specs.Effect.{Database}
 use Rattle.sqlite.specs.State.{State, HasCleanDisk, Survives}
 use Rattle.sqlite.specs.Held.{Held, state}
 use Rattle.plan_rows.specs.World.{Text, Digest, empty_world}
 use Rattle.plan_store.specs.declared.fault.StoreFault.{StoreFault}
 use Rattle.plan_store.specs.declared.fault.StoreFault.TheVariants as store
 use Rattle.plan_store.specs.Tables.{no_schema}
+use Rattle.plan_store.specs.Offices.{HasOfficeTables}
 use Rattle.plan_store.specs.Stores.{world_of}
 use Rattle.plan_store.specs.Serving.{Stands}
 use Rattle.plan_store.specs.SqlBooks.{Counted}
 use Rattle.plan_store.specs.Creating.{IsNewStore}
 use Rattle.plan_serve.specs.declared.fault.ServeFault.{ServeFault}
 use Rattle.plan_serve.specs.declared.fault.ServeFault.TheVariants as fault
+use Rattle.plan_serve.specs.Faults.{fault_of}
 use Rattle.plan_serve.specs.Keys.{ReadsKey}
 
 -- the tables of an office without a row stand, and a crash leaves nothing else
@@ -28,14 +31,27 @@ pub record IsLeft (old new : State) (digest : Digest) : Type 0 where
   pub kept : HasCleanDisk new → IsTrue new.is_open → (new.now ≡ old.now) × (new.committed ≡ old.committed)
   pub crash : Survives old new (IsNewStore digest)
 
+-- what a fault of the store is told as, where this database came back
+abbrev pub IsTold : StoreFault → Database → ServeFault → Type 0
+IsTold cause db told =
+    ((told ≡ fault.Taken) × (cause ≡ store.NotOurs) × HasOfficeTables db.schema)
+    ⊎ ((told ≡ fault_of cause) × (cause ≡ store.NotOurs → ¬ HasOfficeTables db.schema))
+
 module _ {S : Type 0} (g : Ghosts S) (Opens : Held S → Type 0) (Refuses : StoreFault → Type 0) where
   -- a database was opened that has no table
   abbrev pub IsEmptyThere : Type 0
   IsEmptyThere = (conn : Held S) × Opens conn × ((state g conn).now.schema ≡ no_schema)
 
-  -- a database was opened that has some, and its connection comes back untouched
+  -- a database was opened that has the tables of an office, and its connection comes back untouched
+  abbrev pub IsOfficeThere : Option (Held S) → Type 0
+  IsOfficeThere back =
+      (conn : Held S) × (back ≡ Some conn) × Opens conn × HasOfficeTables (state g conn).now.schema
+
+  -- a database was opened that has other tables, and its connection comes back untouched
   abbrev pub IsUsedThere : Option (Held S) → Type 0
-  IsUsedThere back = (conn : Held S) × (back ≡ Some conn) × Opens conn × ((state g conn).now.schema ≢ no_schema)
+  IsUsedThere back =
+      (conn : Held S) × (back ≡ Some conn) × Opens conn × ((state g conn).now.schema ≢ no_schema)
+      × ¬ HasOfficeTables (state g conn).now.schema
 
   -- a database was opened that has none, and stays as it is
   abbrev pub IsLeftThere : Option (Held S) → Digest → Type 0
@@ -44,8 +60,8 @@ module _ {S : Type 0} (g : Ghosts S) (Opens : Held S → Type 0) (Refuses : Stor
       × IsLeft (state g conn) (state g left) digest
 
   -- Why there is no new office, and the connection that comes back, if one was opened: there is no key,
-  -- and no database is opened; or the key is one, and the database can't be opened, has tables, or
-  -- refuses.
+  -- and no database is opened; or the key is one, and the database can't be opened, has an office's
+  -- tables, or others, or refuses.
   abbrev pub MakesNone : Option Text → Option Text → ServeFault → Option (Held S) → Type 0
   MakesNone remaining rest fault.Key back = ReadsKey remaining rest (Err fault.Key) × (back ≡ None)
   MakesNone remaining rest fault.Store back =
@@ -53,6 +69,8 @@ module _ {S : Type 0} (g : Ghosts S) (Opens : Held S → Type 0) (Refuses : Stor
       × ((Refuses store.Store × (back ≡ None)) ⊎ IsLeftThere back digest)
   MakesNone remaining rest fault.NotOurs back =
       (digest : Digest) × ReadsKey remaining rest (Ok digest) × IsUsedThere back
+  MakesNone remaining rest fault.Taken back =
+      (digest : Digest) × ReadsKey remaining rest (Ok digest) × IsOfficeThere back
   MakesNone remaining rest fault.Memory back =
       (back ≡ None) ⊎ ((digest : Digest) × ReadsKey remaining rest (Ok digest) × IsLeftThere back digest)
   MakesNone remaining rest fault.Input back = back ≡ None
@@ -69,6 +87,7 @@ abbrev pub IsInitFault : ServeFault → Type 0
 IsInitFault fault.Key = Unit {0}
 IsInitFault fault.Store = Unit {0}
 IsInitFault fault.NotOurs = Unit {0}
+IsInitFault fault.Taken = Unit {0}
 IsInitFault fault.Memory = Unit {0}
 IsInitFault fault.Input = Unit {0}
 IsInitFault fault.Locked = Unit {0}

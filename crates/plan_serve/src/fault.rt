@@ -16,7 +16,7 @@ pub enum ServeFault {
     /// The store refused.
     #[error("E91 store")]
     Store,
-    /// The database has tables where none may be, or others than those of an office.
+    /// The database has other tables than those of an office.
     #[error("K1 not ours")]
     NotOurs,
     /// The tables are of a version that isn't known.
@@ -43,6 +43,9 @@ pub enum ServeFault {
     /// The file, its log or their folder may not be written.
     #[error("K6 not writable")]
     Denied,
+    /// The database has the tables of an office where none may be.
+    #[error("K7 office there already")]
+    Taken,
     /// Another program listens on the port.
     #[error("I4 port in use")]
     PortTaken,
@@ -71,6 +74,7 @@ impl ServeFault {
             ServeFault::Locked => "K4 in use",
             ServeFault::Missing => "K5 not there",
             ServeFault::Denied => "K6 not writable",
+            ServeFault::Taken => "K7 office there already",
             ServeFault::PortTaken => "I4 port in use",
             ServeFault::PortDenied => "I5 port denied",
         }

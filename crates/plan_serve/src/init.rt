@@ -4,12 +4,12 @@ ghost use Rattle.std.specs.Prelude.{◌≡◌, ◌⊎◌, ◌+◌, ◌≤◌, fa
 ghost use Rattle.sqlite.specs.Held.{Held, state};
 ghost use Rattle.plan_store.specs.declared.fault.StoreFault.{StoreFault};
 ghost use Rattle.plan_store.specs.declared.fault.StoreFault.TheVariants.{NoMemory, Store};
-ghost use Rattle.plan_serve.specs.InitRun.{Inits};
+ghost use Rattle.plan_serve.specs.InitRun.{IsTold, Inits};
 
 use crate::fault::{ServeFault, told};
 use crate::key::read_key;
 use plan_psplib::Source;
-use plan_store::{SqlBook, StoreFault};
+use plan_store::{SqlBook, StoreFault, has_office_tables};
 use sqlite::{Alter, Connection};
 use std::alloc::Global;
 
@@ -30,6 +30,17 @@ pub trait Place: Drop {
         ensures outside { IfOk result (λ conn. (state Self.Kept.Store conn).in_transaction ≡ false) }
         ensures refused { IfErr result (refuses self) }
         ensures which { IfErr result (λ fault. (fault ≡ NoMemory) ⊎ (fault ≡ Store)) };
+}
+
+// The fault of a command whose store has a fault, where its database came back: an office that is there
+// is told from other tables.
+fn told_of<S: Alter>(fault: StoreFault, conn: &Connection<S>) -> ServeFault
+    ensures { IsTold fault (state S.Store conn.now).now result }
+{
+    if fault == StoreFault::NotOurs && has_office_tables(conn) {
+        return ServeFault::Taken;
+    }
+    told(fault)
 }
 
 /// Reads the key of a new office from the first line of a text, and makes its tables in a database
@@ -55,6 +66,6 @@ pub fn init_run<R: Source, P: Place>(
     };
     match SqlBook::create_in(alloc, conn, &digest) {
         Ok(book) => Ok(book),
-        Err((fault, conn)) => Err((told(fault), Some(conn))),
+        Err((fault, conn)) => Err((told_of(fault, &conn), Some(conn))),
     }
 }

@@ -9,6 +9,7 @@ pub mod SqlBooks
 pub mod Creating
 pub mod Querying
 pub mod Layouts
+pub mod Offices
 pub mod Rereading
 pub mod Adopting
 pub mod Opening

@@ -1,0 +1,16 @@
+//! Whether a database has the tables of an office.
+
+ghost use Rattle.std.specs.Prelude.{◌↔◌, IsTrue};
+ghost use Rattle.sqlite.specs.Held.{state};
+ghost use Rattle.plan_store.specs.Offices.{HasOfficeTables};
+
+use crate::layout::layout_of;
+use sqlite::{Alter, Connection};
+
+/// Whether a database has the tables of an office and no other table, index or view. Neither the rows
+/// nor the version that they say are looked at.
+pub fn has_office_tables<S: Alter>(conn: &Connection<S>) -> bool
+    ensures { IsTrue result ↔ HasOfficeTables (state S.Store conn.now).now.schema }
+{
+    layout_of(conn.schema()).is_some()
+}
