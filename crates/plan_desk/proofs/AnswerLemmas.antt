@@ -1,5 +1,5 @@
 -- Lists in JSON, one text after another.
-use Rattle.std.proofs.Common.{◌≡◌, ℕ, zero, suc, ◌+◌, ◌<◌, ◌≤◌, List, [], ◌∷◌, ◌++◌, take, length, get_or, refl, sym, ap, ◌∙◌, subst, arith}
+use Rattle.std.proofs.Common.{◌≡◌, ℕ, suc, ◌+◌, ◌<◌, ◌≤◌, List, [], ◌∷◌, ◌++◌, take, length, get_or, refl, sym, ap, ◌∙◌, arith}
 use Rattle.std.specs.Prelude.{map, codes}
 use Rattle.std.proofs.lemmas.List.{map-append, append_assoc, length-map, length-take-le}
 use Rattle.std.proofs.Math.Seq.{take-suc}

@@ -1,6 +1,6 @@
 -- What is found in a book, step by step, and what is decided by it.
-use Rattle.std.proofs.Common.{◌≡◌, ℕ, suc, ◌+◌, ◌<◌, ◌++◌, take, length, get_or, ◌⊎◌, inl, inr, Bool, true, false, List, [], ◌∷◌, filter, Option, Some, None, Result, Ok, Err, refl, sym, ap, ◌∙◌, subst, arith}
-use Rattle.std.specs.Prelude.{find, option_and_then, map, IfOk, IfErr, OnErr, IsErr, IsErrAnd}
+use Rattle.std.proofs.Common.{◌≡◌, ℕ, suc, ◌+◌, ◌<◌, ◌++◌, take, length, get_or, List, [], ◌∷◌, Option, Some, None, Result, Ok, Err, refl, sym, ap, ◌∙◌, subst, arith}
+use Rattle.std.specs.Prelude.{find, option_and_then, map, IfOk, IfErr, IsErr, IsErrAnd}
 use Rattle.std.specs.List.{AllByRecursion}
 use Rattle.std.proofs.lemmas.Bool.{eqb-true}
 use Rattle.std.proofs.lemmas.List.{map-append}
@@ -14,17 +14,13 @@ use Rattle.plan_rows.specs.declared.fault.BookFault.{BookFault}
 use Rattle.plan_rows.specs.declared.fault.BookFault.TheVariants.{NoMemory, Store}
 use Rattle.plan_desk.specs.declared.finding.FoundPlan.{FoundPlan}
 use Rattle.plan_rows.specs.declared.rows.PlanRow.{PlanRow}
-use Rattle.plan_desk.specs.declared.change.Decision.{Decision}
 use Rattle.plan_rows.specs.World.{Text, Published, Plan, World}
-use Rattle.plan_rows.specs.Views.{View, view, alone}
+use Rattle.plan_rows.specs.Views.{View}
 use Rattle.plan_rows.specs.Plans.{plan_number, plan_seen, has_number}
-use Rattle.plan_desk.specs.Outcomes.{Outcome}
-use Rattle.plan_rows.specs.Rules.{IsWorld}
 use Rattle.plan_rows.specs.Books.{Shelf, Reads, Matches, IsPlanAnswer, bind_in}
-use Rattle.plan_desk.specs.Finding.{IsNumbered, FindsPlan, with_capacity_of, HasCapacities}
-use Rattle.plan_desk.specs.Deciding.{Quiet, Finds, Knows, IsDecided, MakesDecision}
+use Rattle.plan_desk.specs.Finding.{IsNumbered, with_capacity_of, HasCapacities}
+use Rattle.plan_desk.specs.Deciding.{Quiet, Finds, Knows}
 use Rattle.plan_rows.proofs.RuleLemmas.{found_has}
-use Rattle.plan_desk.proofs.AloneLemmas.{alone_keeps_rules}
 
 module _ {B : Type 0} (shelf : Shelf B) where
   pub quiet_self : (a : B) → Quiet shelf a a

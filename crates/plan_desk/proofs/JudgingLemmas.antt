@@ -1,11 +1,11 @@
 -- A request with its key is decided as its call is, and one without is refused.
-use Rattle.std.proofs.Common.{◌≡◌, Bool, true, false, Option, refl, sym, ap, ◌∙◌, subst}
+use Rattle.std.proofs.Common.{◌≡◌, Bool, true, false, refl, sym, ◌∙◌, subst}
 use Rattle.plan_desk.specs.declared.change.Decision.{Decision}
 use Rattle.plan_desk.specs.declared.reply.Reply as whole
 use Rattle.plan_desk.specs.declared.change.Change.TheVariants as made
-use Rattle.plan_rows.specs.World.{Text, World}
+use Rattle.plan_rows.specs.World.{Text}
 use Rattle.plan_rows.specs.Changes.{Change, Keep}
-use Rattle.plan_rows.specs.Views.{View, view}
+use Rattle.plan_rows.specs.Views.{View}
 use Rattle.plan_desk.specs.Calls.{Request, Reply, no_key, admits}
 use Rattle.plan_desk.specs.Stories.{decided}
 use Rattle.plan_desk.specs.Decisions.{Answers, IsDecision}

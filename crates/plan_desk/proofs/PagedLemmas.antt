@@ -1,5 +1,5 @@
 -- A route that makes a page of a plan.
-use Rattle.std.proofs.Common.{◌≡◌, Option, Some, None, Result, Ok, Err, refl, sym, ap, ◌∙◌, subst}
+use Rattle.std.proofs.Common.{◌≡◌, None, Result, Ok, Err, refl, sym, ◌∙◌, subst}
 use Rattle.std.specs.Prelude.{IsErr, IsErrAnd}
 use Rattle.plan_rows.specs.declared.fault.BookFault.{BookFault}
 use Rattle.plan_desk.specs.declared.reply.Reply as whole

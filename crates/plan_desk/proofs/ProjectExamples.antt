@@ -1,6 +1,6 @@
 -- Worked examples of an office on the file of a project, computed from the definitions: imports, binds,
 -- lags, dates, calendars, keys, and a run.
-use Rattle.std.proofs.Common.{◌≡◌, ℕ, zero, suc, ◌∙◌, true, false, Bool, List, [], ◌∷◌, ◌≤◌, ◌<◌, ◌⊎◌, All, Option, Some, None, Ok, Err, codes, length, inl, inr, refl, sym, ap, subst, arith, pos}
+use Rattle.std.proofs.Common.{◌≡◌, ℕ, zero, suc, ◌∙◌, true, false, Bool, List, [], ◌∷◌, ◌≤◌, ◌<◌, ◌⊎◌, All, Option, Some, Ok, Err, codes, inl, inr, refl, sym, ap, subst, arith, pos}
 use Rattle.std.specs.Prelude.{slice_index, nat_eq, ◌-◌, ◌+◌}
 use Rattle.std.specs.List.{list_any, Contains}
 use Rattle.std.proofs.lemmas.Bool.{both_ways}
@@ -38,7 +38,7 @@ use Rattle.plan_calendar.specs.CalendarText.{IsCalendar, HasNoStart, HasNoMarks}
 use Rattle.plan_calendar.proofs.TextLemmas.{same_parts, one_of}
 use Rattle.plan_rows.specs.declared.kinds.Kind.TheVariants.{Crew, Machine}
 use Rattle.plan_desk.specs.declared.reply.ReplyKind.TheVariants.{Plain, Json}
-use Rattle.plan_rows.specs.declared.kinds.PlanKind.TheVariants.{Project, Shop}
+use Rattle.plan_rows.specs.declared.kinds.PlanKind.TheVariants.{Project}
 use Rattle.plan_rows.specs.World.{Text, Plan, World}
 use Rattle.plan_rows.specs.Views.{View, view}
 use Rattle.plan_desk.specs.Bodies.{key_body, bind_body, calendar_body, lag_body}

@@ -1,5 +1,5 @@
 -- Each page shows what it promises.
-use Rattle.std.proofs.Common.{◌≡◌, ◌⊎◌, ℕ, Bool, true, false, List, Option, None, Some, inl, inr, refl, sym, ◌∙◌, ap, subst, arith, codes, length}
+use Rattle.std.proofs.Common.{◌≡◌, ◌⊎◌, ℕ, Bool, true, false, List, Option, None, Some, inl, inr, refl, sym, ◌∙◌, ap, subst, arith, length}
 use Rattle.std.specs.Prelude.{nat_eq}
 use Rattle.plan_sgs.specs.Instances.{Planned}
 use Rattle.plan_shop.specs.Shop.{JobShop}
@@ -15,7 +15,6 @@ use Rattle.plan_shop.specs.Docs.{NoneIsClosed}
 use Rattle.plan_calendar.specs.WorkingDay.{Workdays}
 use Rattle.plan_rows.specs.declared.kinds.PlanKind.{PlanKind}
 use Rattle.plan_rows.specs.declared.kinds.PlanKind.TheVariants.{Project, Shop}
-use Rattle.plan_psplib.specs.Project as files
 use Rattle.plan_rows.specs.World.{Text, Plan}
 use Rattle.plan_rows.specs.Changes.{Change}
 use Rattle.plan_rows.specs.Views.{View}

@@ -1,6 +1,6 @@
 -- What each path through a route decides.
-use Rattle.std.proofs.Common.{◌≡◌, inl, inr, ℕ, Bool, true, false, Option, Some, None, [], List, length, refl, sym, ap, ◌∙◌, subst}
-use Rattle.std.specs.Prelude.{option_map, unwrap_or, is_some, not, string_bytes}
+use Rattle.std.proofs.Common.{◌≡◌, inl, inr, ℕ, true, false, Option, Some, None, [], List, refl, sym, ap, ◌∙◌, subst}
+use Rattle.std.specs.Prelude.{unwrap_or, is_some, not, string_bytes}
 use Rattle.std.proofs.lemmas.Bool.{both_ways, cond-true}
 use Rattle.sha2.specs.Sha256.{sha256}
 use Rattle.plan_desk.specs.declared.change.Change as rows
@@ -10,9 +10,9 @@ use Rattle.plan_desk.specs.declared.reply.Reply as whole
 use Rattle.plan_desk.specs.declared.bodies.DeskBody as read
 use Rattle.plan_desk.specs.BodyViews.{desk_body_in}
 use Rattle.plan_desk.specs.Calls as calls
-use Rattle.plan_rows.specs.World.{Text, Digest, Published, Desk, Plan, World, code_in, desk_in}
+use Rattle.plan_rows.specs.World.{Text, Digest, Published, Plan, World, code_in, desk_in}
 use Rattle.plan_rows.specs.Names.{is_key, key_digest_of}
-use Rattle.plan_rows.specs.Changes.{Change, Keep, Publish, OpenDesk, SetKey, RemovePlan}
+use Rattle.plan_rows.specs.Changes.{Keep, Publish, OpenDesk, SetKey, RemovePlan}
 use Rattle.plan_desk.specs.Calls.{Reply, answer}
 use Rattle.plan_rows.specs.Views.{View, view}
 use Rattle.plan_desk.specs.Bodies.{PublishBody, publish_body, DeskBody, desk_body, desk_named, key_body}

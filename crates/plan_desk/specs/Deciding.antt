@@ -1,5 +1,5 @@
 -- What is decided of a request over a book, and how it is carried out (docs/DEFINITIONS.md, "Books").
-use Rattle.std.specs.Prelude.{◌≡◌, ◌⊎◌, ℕ, ◌+◌, Bool, true, false, [], Option, Some, None, Result, IfOk, IfErr, IfSome, IsSome, OnErr, string_bytes, codes}
+use Rattle.std.specs.Prelude.{◌≡◌, ◌⊎◌, ◌+◌, true, false, Option, Some, None, Result, IfOk, IfErr, IfSome, IsSome, OnErr, string_bytes, codes}
 use Rattle.plan_rows.specs.declared.fault.BookFault.{BookFault}
 use Rattle.plan_rows.specs.declared.fault.BookFault.TheVariants.{NoMemory, Store}
 use Rattle.plan_desk.specs.declared.change.Change as rows

@@ -1,5 +1,5 @@
 -- What is found in a book before a request is decided (docs/DEFINITIONS.md, "Books").
-use Rattle.std.specs.Prelude.{◌≡◌, ℕ, Bool, List, Option, Some, None, map, is_some}
+use Rattle.std.specs.Prelude.{◌≡◌, ℕ, List, Option, Some, None, map}
 use Rattle.plan_desk.specs.declared.finding.FoundPlan.{FoundPlan}
 use Rattle.plan_desk.specs.declared.bound.BoundPlace.{BoundPlace}
 use Rattle.plan_desk.specs.declared.bound.BoundPlan.{BoundPlan}

@@ -1,6 +1,6 @@
 -- What a desk's commands on its plans are answered (docs/DEFINITIONS.md, "Desks"). Each is for a
 -- request with the desk's key.
-use Rattle.std.specs.Prelude.{◌≡◌, ℕ, Bool, not, nat_le, is_some, [], length}
+use Rattle.std.specs.Prelude.{◌≡◌, not, nat_le, is_some, [], length}
 use Rattle.plan_psplib.specs.Project.{Project}
 use Rattle.plan_psplib.specs.Project as files
 use Rattle.plan_orlib.specs.Says.{Says}

@@ -1,6 +1,6 @@
 -- What a route refuses, if anything, as a function or relation of values (docs/DEFINITIONS.md,
 -- "Desks"). Of several refusals the first of their order is answered.
-use Rattle.std.specs.Prelude.{◌≡◌, ◌⊎◌, ◌≤◌, ◌<◌, ℕ, Bool, true, false, if◌then◌else◌, Option, Some, None}
+use Rattle.std.specs.Prelude.{◌≡◌, ◌⊎◌, ◌≤◌, ◌<◌, ℕ, if◌then◌else◌, Option, Some, None}
 use Rattle.plan_psplib.specs.Project.{Project, SaysProject}
 use Rattle.plan_orlib.specs.Shop as docs
 use Rattle.plan_orlib.specs.Says.{Says}

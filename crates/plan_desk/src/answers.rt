@@ -2,11 +2,10 @@
 //! kinds need no escape.
 
 ghost use Rattle.std.specs.Prelude.{◌≡◌, ◌++◌, IfOk, OnOk, string_bytes};
-ghost use Rattle.plan_rows.specs.Names as names;
 ghost use Rattle.plan_desk.specs.Calls as calls;
 ghost use Rattle.plan_desk.specs.JsonTexts as spec;
 ghost use Rattle.plan_desk.specs.Answers as texts;
-ghost use Rattle.plan_desk.specs.BodyViews.{publish_in, bind_body_in, calendar_in, lag_body_in};
+ghost use Rattle.plan_desk.specs.BodyViews.{publish_in, bind_body_in, calendar_in};
 ghost use Rattle.plan_desk.specs.Replies.{reply_of};
 
 use crate::bodies::{BindBody, CalendarBody, LagBody, PublishBody};

@@ -1,6 +1,6 @@
 //! What the JSON bodies of requests say.
 
-ghost use Rattle.std.specs.Prelude.{◌≡◌, ◌≤◌, ℕ, Bool, IfOk, IfSome, option_map, string_bytes, codes};
+ghost use Rattle.std.specs.Prelude.{◌≡◌, ◌≤◌, IfOk, IfSome, option_map, string_bytes, codes};
 ghost use Rattle.plan_rows.specs.Plans as plans;
 ghost use Rattle.serde_json.specs.View.{view};
 ghost use Rattle.plan_desk.specs.Bodies as spec;

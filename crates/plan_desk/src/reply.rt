@@ -1,7 +1,7 @@
 //! Replies as code makes them: refusals, answers and whole texts.
 
 ghost use Rattle.std.specs.Prelude.{◌≡◌, ◌++◌, IfOk, string_bytes, codes};
-ghost use Rattle.plan_desk.specs.declared.reply.ReplyKind.TheVariants.{Plain, Json};
+ghost use Rattle.plan_desk.specs.declared.reply.ReplyKind.TheVariants.{Plain};
 ghost use Rattle.plan_desk.specs.Calls as calls;
 ghost use Rattle.plan_desk.specs.Refusals as refusals;
 ghost use Rattle.plan_desk.specs.Replies.{reply_of};

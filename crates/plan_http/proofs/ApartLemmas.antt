@@ -1,7 +1,6 @@
 -- One desk in a run of connections.
-use Rattle.std.proofs.Common.{◌≡◌, ◌⊎◌, ℕ, suc, ◌+◌, ◌<◌, ◌≤◌, Bool, true, false, List, [], ◌∷◌, ◌++◌, map, length, take, get_or, Option, None, Some, Result, Ok, Err, OnOk, OnErr, inl, inr, refl, sym, ap, ◌∙◌, subst, append_assoc, arith}
+use Rattle.std.proofs.Common.{◌≡◌, ◌⊎◌, true, false, List, [], ◌∷◌, Option, None, Some, inl, inr, refl, sym, ap, ◌∙◌, subst}
 use Rattle.std.proofs.lemmas.Bool.{both_ways, or_cases, and_parts}
-use Rattle.std.proofs.lemmas.List.{take_more, map-append, length-map}
 use Rattle.std.specs.Prelude.{unwrap_or}
 use Rattle.plan_rows.specs.World.{Text, World}
 use Rattle.plan_rows.specs.Changes.{Change, apply}
@@ -12,15 +11,15 @@ use Rattle.plan_desk.specs.Decisions.{IsStep, IsDecision}
 use Rattle.plan_rows.specs.Books.{Shelf}
 use Rattle.plan_rows.proofs.OwnerLemmas.{text_from_same}
 use Rattle.plan_desk.proofs.SeenLemmas.{view_alone, seen}
-use Rattle.plan_http.specs.Judges.{Verdict, asks, fails, Judges}
+use Rattle.plan_http.specs.Judges.{asks, Judges}
 use Rattle.plan_http.specs.Laws.{OneVerdict}
 use Rattle.plan_http.specs.Answers.{Decision, handled, failed, starved, IsOn}
-use Rattle.plan_http.specs.Serving.{Moves, Serving, response_of}
-use Rattle.plan_http.specs.Stories.{belongs_to, IsOutside, IsInside, IsAnswered, AreTold, IsStoryOf, IsWanting}
+use Rattle.plan_http.specs.Serving.{Moves, Serving}
+use Rattle.plan_http.specs.Stories.{belongs_to, IsOutside, AreTold, IsStoryOf}
 use Rattle.plan_http.specs.Isolated.{AreReplies, IsToldAlone, ServingUnseen}
 use Rattle.plan_http.proofs.LawLemmas.{one_verdict}
 use Rattle.plan_http.proofs.StoryLemmas.{story_or_want}
-use Rattle.plan_http.proofs.HeadlineLemmas.{moved_honest, served_honest}
+use Rattle.plan_http.proofs.HeadlineLemmas.{served_honest}
 
 -- ---- a step of an office that has the rows of a desk's view alone
 

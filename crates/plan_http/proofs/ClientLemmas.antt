@@ -1,9 +1,9 @@
 -- What was read of a client, one read behind another.
-use Rattle.std.proofs.Common.{◌≡◌, ℕ, ◌<◌, ◌≤◌, Bool, true, false, List, [], ◌++◌, length, take, Option, None, Some, Result, Ok, Err, IfOk, refl, sym, ap, ◌∙◌, subst, append_assoc, append-nil}
+use Rattle.std.proofs.Common.{◌≡◌, ℕ, ◌<◌, ◌≤◌, Bool, true, false, List, [], ◌++◌, length, take, Option, Some, Result, Ok, Err, IfOk, refl, sym, ap, ◌∙◌, subst, append_assoc, append-nil}
 use Rattle.std.proofs.KnownBytes.{Consumes-nil, Consumes-trans}
-use Rattle.std.specs.Io.KnownBytes.{Consumes, Keeps, IsAtEnd, ReadConsumes}
+use Rattle.std.specs.Io.KnownBytes.{Consumes}
 use Rattle.plan_http.specs.Clients.{Known, Comes, Hears, OfBytes}
-use Rattle.plan_http.specs.Pieces.{Reads, IsSplit, Fills}
+use Rattle.plan_http.specs.Pieces.{Reads, Fills}
 use Rattle.plan_http.proofs.ReadingLemmas.{fills, consumed}
 use borrow.Rule.Slice.PartMut.{put_mid}
 

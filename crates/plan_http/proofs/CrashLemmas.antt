@@ -1,7 +1,7 @@
 -- What a crash may leave after connections that were served.
-use Rattle.std.proofs.Common.{◌≡◌, ◌⊎◌, ℕ, zero, suc, ◌+◌, ◌<◌, Bool, true, false, ◌&&◌, ◌||◌, List, [], ◌∷◌, length, take, drop, filter, Option, None, Some, inl, inr, refl, sym, ap, ◌∙◌, subst, arith}
+use Rattle.std.proofs.Common.{◌≡◌, ◌⊎◌, ℕ, zero, suc, ◌+◌, ◌<◌, true, false, ◌&&◌, ◌||◌, List, [], ◌∷◌, length, take, drop, filter, Option, Some, inl, inr, refl, ap, ◌∙◌, subst, arith}
 use Rattle.std.proofs.lemmas.Bool.{cases_Bool, both_ways}
-use Rattle.std.specs.Prelude.{if◌then◌else◌, nat_lt, option_map, slice_get}
+use Rattle.std.specs.Prelude.{if◌then◌else◌, nat_lt}
 use Rattle.std.specs.List.{list_any}
 use Rattle.plan_rows.specs.World.{Text, World}
 use Rattle.plan_rows.specs.Changes.{apply}
@@ -16,9 +16,9 @@ use Rattle.plan_http.specs.Judges.{asks, Judges}
 use Rattle.plan_http.specs.Answers.{Decision, handled, failed, starved, IsOn}
 use Rattle.plan_http.specs.Serving.{Moves, Serving}
 use Rattle.plan_http.specs.Clients.{Known, OfBytes}
-use Rattle.plan_http.specs.Crashes.{accepts, IsAcceptedAt, WouldMake, LeavesOne, LeavesRefused, LastAccepted, LeavesRun, ComesAfter}
+use Rattle.plan_http.specs.Crashes.{accepts, IsAcceptedAt, WouldMake, LeavesOne, LeavesRefused, LeavesRun, ComesAfter}
 use Rattle.plan_http.proofs.ClientLemmas.{of_bytes_map}
-use Rattle.plan_http.proofs.HeadlineLemmas.{moved_honest, served_honest}
+use Rattle.plan_http.proofs.HeadlineLemmas.{served_honest}
 
 -- a step that accepts no command leaves the rows
 unaccepted_keeps : (w : World) (r : Request) (reply : Reply) (after : World) → is_accepted r reply ≡ false → IsStep w r reply after → after ≡ w

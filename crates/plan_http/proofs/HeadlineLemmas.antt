@@ -2,7 +2,7 @@
 use Rattle.std.proofs.Common.{◌≡◌, ◌⊎◌, ℕ, zero, suc, ◌≤◌, List, [], ◌∷◌, ◌++◌, map, length, take, Result, Ok, Err, OnOk, OnErr, inl, inr, refl, sym, ap, ◌∙◌, subst, arith}
 use Rattle.std.proofs.lemmas.List.{length-map}
 use Rattle.plan_rows.specs.World.{Text, World}
-use Rattle.plan_rows.specs.Views.{View, view, alone, Agree}
+use Rattle.plan_rows.specs.Views.{View, view, alone}
 use Rattle.plan_desk.specs.Calls.{Request, Reply, subject}
 use Rattle.plan_desk.specs.Stories.{IsWant}
 use Rattle.plan_desk.specs.Decisions.{IsStep, IsRealStep, IsDecision}
@@ -14,13 +14,12 @@ use Rattle.plan_desk.specs.Deciding.{Handled}
 use Rattle.plan_desk.proofs.AloneLemmas.{alone_keeps_rules}
 use Rattle.plan_desk.proofs.PromiseLemmas.{pages_are_promised}
 use Rattle.plan_http.specs.declared.runs.RunFault.{RunFault}
-use Rattle.plan_http.specs.Judges.{asks, Judges}
-use Rattle.plan_http.specs.Answers.{Decision, handled, failed, starved, IsOn}
+use Rattle.plan_http.specs.Answers.{Decision, handled, failed, starved}
 use Rattle.plan_http.specs.Serving.{Moves, Serving, Stops, IsRunOf, response_of}
 use Rattle.plan_http.specs.Served.{IsMove, AreServed}
 use Rattle.plan_http.specs.Stories.{IsInside, IsAnswered, AreTold, IsStoryOf}
 use Rattle.plan_http.specs.Isolated.{IsToldAlone}
-use Rattle.plan_http.specs.Headline.{answered_of, ArePromised, HasStory, IsToldOrWanting, Alike, ApartRunsAreAlike}
+use Rattle.plan_http.specs.Headline.{answered_of, ArePromised, IsToldOrWanting, ApartRunsAreAlike}
 use Rattle.plan_http.proofs.StoryLemmas.{connections_are_apart, connections_are_told_alike}
 
 module _ {B : Type 0} (shelf : Shelf B) where

@@ -1,5 +1,5 @@
 -- From connections to requests, and back.
-use Rattle.std.proofs.Common.{◌≡◌, ◌⊎◌, Bool, true, false, List, [], ◌∷◌, map, Option, None, Some, inl, inr, refl, sym, ap, ◌∙◌, subst}
+use Rattle.std.proofs.Common.{◌≡◌, ◌⊎◌, Bool, true, List, [], ◌∷◌, map, Option, inl, inr, refl, sym, ap, ◌∙◌, subst}
 use Rattle.plan_rows.specs.World.{Text, World}
 use Rattle.plan_rows.specs.Views.{View, view, alone, Agree}
 use Rattle.plan_desk.specs.Calls.{Request, Reply}
@@ -11,14 +11,13 @@ use Rattle.plan_desk.specs.Laws.{DesksAreApart, AgreeingViewsAreToldAlike}
 use Rattle.plan_desk.proofs.LawLemmas.{desks_are_apart}
 use Rattle.plan_desk.proofs.OrderLemmas.{agreeing_views_are_told_alike}
 use Rattle.plan_http.specs.declared.checks.Check.{Check}
-use Rattle.plan_http.specs.declared.checks.Check.TheVariants.{Message}
 use Rattle.plan_http.specs.Head.{after_head}
 use Rattle.plan_http.specs.Judges.{Verdict, asks, fails, judged, Judges, MayWant}
 use Rattle.plan_http.specs.Laws.{OneVerdict}
 use Rattle.plan_http.specs.Answers.{Decision, handled, failed, starved, IsOn, no_memory}
 use Rattle.plan_http.specs.Serving.{response_of}
 use Rattle.plan_http.specs.Served.{IsMove, AreServed}
-use Rattle.plan_http.specs.Stories.{belongs_to, IsWantText, IsOutside, IsInside, IsAnswered, AreTold, IsStoryOf, IsWanting}
+use Rattle.plan_http.specs.Stories.{IsWantText, IsInside, IsAnswered, AreTold, IsStoryOf, IsWanting}
 use Rattle.plan_http.proofs.LawLemmas.{one_verdict}
 
 -- a response is that of a reply to a request, or both are for want

@@ -6,7 +6,7 @@ use Rattle.plan_desk.specs.Calls.{Request, Reply}
 use Rattle.plan_desk.specs.Stories.{belongs, IsWant}
 use Rattle.plan_desk.specs.Decisions.{IsStep}
 use Rattle.plan_http.specs.Judges.{Verdict, asks, fails, Judges}
-use Rattle.plan_http.specs.Answers.{Decision, handled, starved}
+use Rattle.plan_http.specs.Answers.{handled, starved}
 use Rattle.plan_http.specs.Serving.{response_of}
 
 -- a connection belongs to the desk's story where it spells a request of it

@@ -1,6 +1,6 @@
 //! The checks on a connection's bytes, and those between the head and the body.
 
-ghost use Rattle.std.specs.Prelude.{◌≡◌, ◌≤◌, ℕ, None, Some, All, MatchResult, length, map, codes};
+ghost use Rattle.std.specs.Prelude.{◌≡◌, ◌≤◌, None, Some, All, MatchResult, length, map, codes};
 ghost use Rattle.httparse.specs.Spans.{IsHeaderWithin, header_bytes};
 ghost use Rattle.plan_http.specs.Fields as spec;
 ghost use Rattle.plan_http.specs.Checks.{first_failing, head_checks, lengths_in};

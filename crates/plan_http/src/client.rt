@@ -65,8 +65,6 @@ impl<R: Source + Drop> Listening<R> {
 }
 
 impl<R: Source + Drop> Client for Listening<R> {
-    ghost use Rattle.plan_http.specs.Clients.{Known};
-
     ghost calls = { λ client. R.calls client.source };
 
     ghost faults = { λ client. R.faults client.source };

@@ -1,6 +1,6 @@
 //! The fields of a head, by their names.
 
-ghost use Rattle.std.specs.Prelude.{◌≡◌, ◌≤◌, ◌+◌, ◌∷◌, [], List, ℕ, All, MatchOption, option_map, length, map};
+ghost use Rattle.std.specs.Prelude.{◌≡◌, ◌∷◌, [], List, ℕ, All, MatchOption, option_map, length, map};
 ghost use Rattle.httparse.specs.Spans.{IsHeaderWithin, header_bytes};
 ghost use Rattle.plan_http.specs.Fields.{has_name, values_of, only_of};
 

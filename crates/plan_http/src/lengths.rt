@@ -1,6 +1,6 @@
 //! The length of a body: numbers with any count of digits.
 
-ghost use Rattle.std.specs.Prelude.{◌≡◌, ◌≤◌, ℕ, true, false, All, MatchOption, length, map, min, nat_eq};
+ghost use Rattle.std.specs.Prelude.{◌≡◌, ◌≤◌, true, false, All, MatchOption, length, map, min, nat_eq};
 ghost use Rattle.std.specs.List.{list_all};
 ghost use Rattle.std.specs.Char.{is_ascii_digit as is_digit};
 ghost use Rattle.std.specs.Str.Parse.{digits_value};

@@ -5,7 +5,7 @@ ghost use Rattle.std.specs.List.{list_any};
 ghost use Rattle.matchit.specs.Seek.{first};
 ghost use Rattle.plan_http.specs.Routes as spec;
 
-use matchit::{InsertError, Router};
+use matchit::Router;
 use std::alloc::{AllocError, Global};
 use std::marker::Model;
 

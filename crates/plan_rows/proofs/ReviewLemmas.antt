@@ -10,22 +10,21 @@ use Rattle.std.proofs.lemmas.Iterator.Adapters.{position_from-zero}
 use Rattle.plan_net.specs.Network.{Net, joins}
 use Rattle.plan_psplib.specs.Project.{Project, SaysProject}
 use Rattle.plan_psplib.proofs.OnceLemmas.{project_once}
-use Rattle.plan_rows.specs.declared.kinds.PlanKind.{PlanKind}
 use Rattle.plan_rows.specs.declared.kinds.PlanKind.TheVariants as kinds
 use Rattle.plan_rows.specs.declared.row_tests.files.PlanFile.{PlanFile}
 use Rattle.plan_rows.specs.declared.row_tests.beside.PlanSeen.{PlanSeen}
 use Rattle.plan_rows.specs.declared.tables.records.LagRecord.{LagRecord}
-use Rattle.plan_rows.specs.World.{Text, Plan, Lag, World, same_text, is_plan, is_plan_of, is_bind, is_lag, plan_in}
+use Rattle.plan_rows.specs.World.{Text, Plan, Lag, World, same_text, is_plan, is_plan_of, plan_in}
 use Rattle.plan_rows.specs.Names.{is_from_to, is_digest}
-use Rattle.plan_rows.specs.Plans.{HasPlaces, has_arc}
+use Rattle.plan_rows.specs.Plans.{has_arc}
 use Rattle.plan_rows.specs.Rules.{AllDiffer, IsThereAnd, IsPlanRow, IsOwned, IsLagRow, IsWorld, is_desk_row}
-use Rattle.plan_rows.specs.Tables.{head_of, plan_kept, plan_seen, lag_kept}
+use Rattle.plan_rows.specs.Tables.{head_of, head_seen, lag_kept}
 use Rattle.plan_rows.specs.RowTests.{Tells, GivesFile, RowKey, HeldKey, shown_key, same_key, KeysDiffer, RowsAreGood}
-use Rattle.plan_rows.specs.Reviewing.{holds_key, has_row, is_arc_key, lag_key_of, owner_key_of, is_owner, arc_key, HasArc, SomeHasArc, AreOnArcs, IsStruck, IsStruckBy, IsLeft, SomeLeft, IsSeen, AreSeen, key_at}
+use Rattle.plan_rows.specs.Reviewing.{holds_key, has_row, is_arc_key, lag_key_of, is_owner, arc_key, HasArc, SomeHasArc, AreOnArcs, IsStruck, IsStruckBy, IsLeft, SomeLeft, IsSeen, AreSeen, key_at}
 use Rattle.plan_rows.proofs.KeyLemmas.{one_plan_key, one_plan}
 use Rattle.plan_rows.proofs.KeyedLemmas.{same_key_swap, plan_key, lag_key}
 use Rattle.plan_rows.proofs.OwnerLemmas.{text_from_same, same_text_refl}
-use Rattle.plan_rows.proofs.RowTestLemmas.{tells_same, take_all, differ_seen, differ_under}
+use Rattle.plan_rows.proofs.RowTestLemmas.{tells_same, differ_seen, differ_under}
 use Rattle.plan_rows.proofs.RowLemmas.{all_weaker}
 use Rattle.plan_rows.proofs.RuleLemmas.{all_both, found_has}
 use Rattle.plan_rows.proofs.TableLemmas.{none_at, find_at_place, find_none_at}
@@ -264,43 +263,43 @@ seen_good [] seen are = tt
 seen_good (plan ∷ plans) [] are = absurd are
 seen_good (plan ∷ plans) (one ∷ seen) are = (are.0.row, seen_good plans seen are.1)
 
-heads : (plans : List Plan) (seen : List PlanSeen) → AreSeen plans seen → map plan_seen seen ≡ map head_of plans
+heads : (plans : List Plan) (seen : List PlanSeen) → AreSeen plans seen → map head_seen seen ≡ map head_of plans
 heads [] [] are = refl
 heads [] (one ∷ seen) are = absurd are
 heads (plan ∷ plans) [] are = absurd are
 heads (plan ∷ plans) (one ∷ seen) are = ap₂ ◌∷◌ are.0.head (heads plans seen are.1)
 
 -- plans differ where what is kept of them does
-pub seen_apart : (plans : List Plan) (seen : List PlanSeen) → AreSeen plans seen → (b : Bool) → Tells b (AllDiffer (λ x y. is_plan x.desk x.n y) (map plan_seen seen)) → Tells b (AllDiffer (λ x y. is_plan x.desk x.n y) plans)
+pub seen_apart : (plans : List Plan) (seen : List PlanSeen) → AreSeen plans seen → (b : Bool) → Tells b (AllDiffer (λ x y. is_plan x.desk x.n y) (map head_seen seen)) → Tells b (AllDiffer (λ x y. is_plan x.desk x.n y) plans)
 seen_apart plans seen are b t =
     tells_same (differ_under head_of (λ x y. is_plan x.desk x.n y) plans) (differ_seen head_of (λ x y. is_plan x.desk x.n y) plans) b
     (subst (λ l. Tells b (AllDiffer (λ x y. is_plan x.desk x.n y) l)) (heads plans seen are) t)
 
 -- a desk has as many plans as are kept of it
-pub seen_count : (desk : Text) (plans : List Plan) (seen : List PlanSeen) → AreSeen plans seen → length (filter (λ row. is_plan_of desk (plan_seen row)) seen) ≡ length (filter (is_plan_of desk) plans)
+pub seen_count : (desk : Text) (plans : List Plan) (seen : List PlanSeen) → AreSeen plans seen → length (filter (λ row. is_plan_of desk (head_seen row)) seen) ≡ length (filter (is_plan_of desk) plans)
 seen_count desk plans seen are =
-    sym (length-filter-map plan_seen (is_plan_of desk) seen) ∙ ap (λ l. length (filter (is_plan_of desk) l)) (heads plans seen are) ∙ length-filter-map head_of (is_plan_of desk) plans
+    sym (length-filter-map head_seen (is_plan_of desk) seen) ∙ ap (λ l. length (filter (is_plan_of desk) l)) (heads plans seen are) ∙ length-filter-map head_of (is_plan_of desk) plans
 
 -- a rule of keys holds of plans where it holds of what is kept of them
-pub seen_owned : (w : World) (plans : List Plan) (seen : List PlanSeen) → AreSeen plans seen → (b : Bool) → Tells b (AllByRecursion (λ row. IsOwned w (plan_seen row)) seen) → Tells b (AllByRecursion (IsOwned w) plans)
+pub seen_owned : (w : World) (plans : List Plan) (seen : List PlanSeen) → AreSeen plans seen → (b : Bool) → Tells b (AllByRecursion (λ row. IsOwned w (head_seen row)) seen) → Tells b (AllByRecursion (IsOwned w) plans)
 seen_owned w plans seen are b t =
     tells_same (map_all head_of (IsOwned w) plans) (all_map head_of (IsOwned w) plans) b
     (subst (λ l. Tells b (AllByRecursion (IsOwned w) l)) (heads plans seen are)
-    (tells_same (all_map plan_seen (IsOwned w) seen) (map_all plan_seen (IsOwned w) seen) b t))
+    (tells_same (all_map head_seen (IsOwned w) seen) (map_all head_seen (IsOwned w) seen) b t))
 
 -- they stand at the same places
-seen_from : (desk : Text) (n j : ℕ) (plans : List Plan) (seen : List PlanSeen) → AreSeen plans seen → position_from (λ row. is_plan desk n (plan_seen row)) j seen ≡ position_from (is_plan desk n) j plans
+seen_from : (desk : Text) (n j : ℕ) (plans : List Plan) (seen : List PlanSeen) → AreSeen plans seen → position_from (λ row. is_plan desk n (head_seen row)) j seen ≡ position_from (is_plan desk n) j plans
 seen_from desk n j [] [] are = refl
 seen_from desk n j [] (one ∷ seen) are = absurd are
 seen_from desk n j (plan ∷ plans) [] are = absurd are
 seen_from desk n j (plan ∷ plans) (one ∷ seen) are = ap₂ (λ b o. cond b (Some j) o) (ap (is_plan desk n) are.0.head) (seen_from desk n (j + 1) plans seen are.1)
 
-seen_place : (desk : Text) (n : ℕ) (plans : List Plan) (seen : List PlanSeen) → AreSeen plans seen → position (λ row. is_plan desk n (plan_seen row)) seen ≡ position (is_plan desk n) plans
+seen_place : (desk : Text) (n : ℕ) (plans : List Plan) (seen : List PlanSeen) → AreSeen plans seen → position (λ row. is_plan desk n (head_seen row)) seen ≡ position (is_plan desk n) plans
 seen_place desk n plans seen are =
-    position_from-zero (λ row. is_plan desk n (plan_seen row)) seen ∙ seen_from desk n 0 plans seen are ∙ sym (position_from-zero (is_plan desk n) plans)
+    position_from-zero (λ row. is_plan desk n (head_seen row)) seen ∙ seen_from desk n 0 plans seen are ∙ sym (position_from-zero (is_plan desk n) plans)
 
 -- where none is kept there is none
-pub none_seen : (desk : Text) (n : ℕ) (plans : List Plan) (seen : List PlanSeen) → AreSeen plans seen → position (λ row. is_plan desk n (plan_seen row)) seen ≡ None → find (is_plan desk n) plans ≡ None
+pub none_seen : (desk : Text) (n : ℕ) (plans : List Plan) (seen : List PlanSeen) → AreSeen plans seen → position (λ row. is_plan desk n (head_seen row)) seen ≡ None → find (is_plan desk n) plans ≡ None
 none_seen desk n plans seen are e = subst (λ l. find (is_plan desk n) l ≡ None) (map-id plans) (find_none_at (λ x. x) (is_plan desk n) plans (sym (seen_place desk n plans seen are) ∙ e))
 
 seen_at : (plans : List Plan) (seen : List PlanSeen) (i : ℕ) (d : Plan) (e : PlanSeen) → AreSeen plans seen → i < length seen → IsSeen (get_or plans i d) (get_or seen i e)
@@ -311,15 +310,15 @@ seen_at (plan ∷ plans) (one ∷ seen) zero d e are low = are.0
 seen_at (plan ∷ plans) (one ∷ seen) (suc i) d e are low = seen_at plans seen i d e are.1 (omega (arith, low))
 
 -- and where one is kept there is its plan
-pub one_seen : (desk : Text) (n : ℕ) (plans : List Plan) (seen : List PlanSeen) (i : ℕ) (row : PlanSeen) → AreSeen plans seen → position (λ r. is_plan desk n (plan_seen r)) seen ≡ Some i → row ≡ get_or seen i row
+pub one_seen : (desk : Text) (n : ℕ) (plans : List Plan) (seen : List PlanSeen) (i : ℕ) (row : PlanSeen) → AreSeen plans seen → position (λ r. is_plan desk n (head_seen r)) seen ≡ Some i → row ≡ get_or seen i row
     → (plan : Plan) × (find (is_plan desk n) plans ≡ Some plan) × IsSeen plan row
 one_seen desk n plans seen i row are e is =
     let there = sym (seen_place desk n plans seen are) ∙ e in
-    let plan = get_or plans i (plan_seen row) in
-    let low = (position-Some (λ r. is_plan desk n (plan_seen r)) seen i row e).0 in (
+    let plan = get_or plans i (head_seen row) in
+    let low = (position-Some (λ r. is_plan desk n (head_seen r)) seen i row e).0 in (
       plan,
-      subst (λ l. find (is_plan desk n) l ≡ Some plan) (map-id plans) (find_at_place (λ x. x) (is_plan desk n) plans i (plan_seen row) there),
-      subst (IsSeen plan) (sym is) (seen_at plans seen i (plan_seen row) row are low),
+      subst (λ l. find (is_plan desk n) l ≡ Some plan) (map-id plans) (find_at_place (λ x. x) (is_plan desk n) plans i (head_seen row) there),
+      subst (IsSeen plan) (sym is) (seen_at plans seen i (head_seen row) row are low),
     )
 
 -- ---- all tables

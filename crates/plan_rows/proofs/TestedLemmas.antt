@@ -1,9 +1,8 @@
 -- Rows tested beside the other tables: what a search and the file of a plan tell of them.
-use Rattle.std.proofs.Common.{◌≡◌, ℕ, zero, suc, ◌<◌, ◌≤◌, Bool, true, false, List, [], ◌∷◌, ◌++◌, length, map, filter, take, get_or, Option, Some, None, refl, sym, ap, ◌∙◌, subst, arith}
-use Rattle.std.specs.Prelude.{find, nat_lt, nat_le}
-use Rattle.std.specs.List.{position, AllByRecursion}
+use Rattle.std.proofs.Common.{◌≡◌, ℕ, zero, suc, ◌<◌, ◌≤◌, Bool, true, false, List, [], ◌∷◌, length, map, filter, get_or, Option, Some, None, refl, sym, ap, ◌∙◌, subst, arith}
+use Rattle.std.specs.Prelude.{nat_lt, nat_le}
+use Rattle.std.specs.List.{AllByRecursion}
 use Rattle.std.proofs.lemmas.Bool.{cases_Bool, both_ways, ltb-true, leb-true, lt-ltb, le-leb}
-use Rattle.std.proofs.lemmas.List.Quantifiers.{position-Some}
 use Rattle.plan_net.specs.Network.{Net}
 use Rattle.plan_psplib.specs.Project.{Project, SaysProject}
 use Rattle.plan_psplib.proofs.OnceLemmas.{project_once}
@@ -11,16 +10,11 @@ use Rattle.plan_orlib.proofs.OnceLemmas.{shop_once}
 use Rattle.plan_rows.specs.declared.kinds.PlanKind.{PlanKind}
 use Rattle.plan_rows.specs.declared.kinds.PlanKind.TheVariants as kinds
 use Rattle.plan_rows.specs.declared.row_tests.files.PlanFile.{PlanFile}
-use Rattle.plan_rows.specs.World.{Text, Plan, Bind, Lag, World, same_kind, takes, is_plan_of, code_in}
-use Rattle.plan_rows.specs.Names.{is_from_to, is_digest}
+use Rattle.plan_rows.specs.World.{Text, Plan, Bind, World, same_kind, takes, code_in}
 use Rattle.plan_rows.specs.Plans.{HasPlaces, is_place}
-use Rattle.plan_rows.specs.Plans.{has_arc}
-use Rattle.plan_rows.specs.Rules.{IsThereAnd, IsPlanRow, IsWorld, is_desk_row}
+use Rattle.plan_rows.specs.Rules.{IsThereAnd}
 use Rattle.plan_rows.specs.RowTests.{Tells, GivesFile}
-use Rattle.plan_rows.proofs.RowLemmas.{all_weaker}
-use Rattle.plan_rows.proofs.RuleLemmas.{all_both}
-use Rattle.plan_rows.proofs.TableLemmas.{find_at_place}
-use Rattle.plan_rows.proofs.RowTestLemmas.{tells_same, tells_true, tells_false, has_places, take_all}
+use Rattle.plan_rows.proofs.RowTestLemmas.{tells_same, tells_true, tells_false}
 
 -- ---- tests
 

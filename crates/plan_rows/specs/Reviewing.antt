@@ -7,7 +7,7 @@ use Rattle.plan_rows.specs.declared.kinds.PlanKind.TheVariants as kinds
 use Rattle.plan_rows.specs.declared.row_tests.beside.PlanSeen.{PlanSeen}
 use Rattle.plan_rows.specs.declared.row_tests.review.Review.{Review}
 use Rattle.plan_rows.specs.declared.tables.records.LagRecord.{LagRecord}
-use Rattle.plan_rows.specs.Tables.{head_of, lag_kept, plan_seen}
+use Rattle.plan_rows.specs.Tables.{head_of, lag_kept, head_seen}
 use Rattle.plan_rows.specs.World.{Text, Lag, Plan, is_plan}
 use Rattle.plan_rows.specs.Plans.{HasPlaces, has_arc}
 use Rattle.plan_rows.specs.Rules.{IsPlanRow}
@@ -89,7 +89,7 @@ SomeLeft key keys (row ∷ rows) = IsLeft keys (key row) ⊎ SomeLeft key keys r
 -- a plan that keeps the rules of rows, and what is kept of it
 pub record IsSeen (plan : Plan) (seen : PlanSeen) : Type 0 where
   pub row : IsPlanRow plan
-  pub head : plan_seen seen ≡ head_of plan
+  pub head : head_seen seen ≡ head_of plan
   pub places : HasPlaces plan.kind plan.name plan.body seen.places
 
 abbrev pub AreSeen : List Plan → List PlanSeen → Type 0

@@ -1,5 +1,5 @@
 -- What the tests of rows answer (docs/DEFINITIONS.md, "Books").
-use Rattle.std.specs.Prelude.{◌≡◌, ◌≤◌, ◌&&◌, ◌==◌, ℕ, Bool, true, List, [], ◌∷◌, length, filter, unwrap_or, Option, Some, None}
+use Rattle.std.specs.Prelude.{◌≡◌, ◌≤◌, ◌&&◌, ◌==◌, ℕ, Bool, true, List, length, filter, unwrap_or, Option, Some, None}
 use Rattle.std.specs.Bool.{MatchBool}
 use Rattle.std.specs.Option.{MatchOption}
 use Rattle.std.specs.List.{AllByRecursion, position}
@@ -15,7 +15,7 @@ use Rattle.plan_rows.specs.declared.row_tests.places.Places.{Places}
 use Rattle.plan_rows.specs.declared.row_tests.beside.Beside.{Beside}
 use Rattle.plan_rows.specs.declared.row_tests.beside.PlanSeen.{PlanSeen}
 use Rattle.plan_rows.specs.Books.{published_in}
-use Rattle.plan_rows.specs.Tables.{desk_kept, plan_seen}
+use Rattle.plan_rows.specs.Tables.{desk_kept, head_seen}
 use Rattle.plan_rows.specs.World.{Text, Desk, Plan, World, same_text, is_plan_of, is_plan, is_bind, is_lag}
 use Rattle.plan_rows.specs.Names.{is_from_to}
 use Rattle.plan_rows.specs.Rules.{AllDiffer, IsPlanRow, IsOwned, IsBindRow, HasName, HasCalendar, is_desk_row, is_published_row}
@@ -63,13 +63,13 @@ AreFirst key places rows = (q : HeldKey) →
 -- a map of desks to how many plans they have
 abbrev pub AreCounts : {S : Type 0} → HashMap (Bor Text) ℕ S → List PlanSeen → Type 0
 AreCounts counts rows = (q : Bor Text) →
-    unwrap_or (get_by (λ k. same_text q.now k.now) counts) 0 ≡ length (filter (λ row. is_plan_of q.now (plan_seen row)) rows)
+    unwrap_or (get_by (λ k. same_text q.now k.now) counts) 0 ≡ length (filter (λ row. is_plan_of q.now (head_seen row)) rows)
 
 -- where rows stand by their keys, and how many plans each desk has
 pub record ArePlaces (o : Beside) (seen : List PlanSeen) (p : Places) : Type 0 where
   pub codes : AreFirst (λ row. ((published_in row).code, 0, 0, 0)) p.codes o.published.now
   pub desks : AreFirst (λ row. ((desk_kept row).desk, 0, 0, 0)) p.desks o.desks.now
-  pub plans : AreFirst (λ row. ((plan_seen row).desk, (plan_seen row).n, 0, 0)) p.plans seen
+  pub plans : AreFirst (λ row. ((head_seen row).desk, (head_seen row).n, 0, 0)) p.plans seen
   pub counts : AreCounts p.counts seen
 
 -- the rows of each table have their keys once

@@ -66,9 +66,9 @@ head_of plan = record {
   days = [];
 }
 
--- what is left of a plan
-abbrev pub plan_seen : PlanSeen → Plan
-plan_seen row = record {
+-- the head of a plan, as it was seen
+abbrev pub head_seen : PlanSeen → Plan
+head_seen row = record {
   desk = string_bytes row.desk;
   n = row.n;
   kind = row.kind;

@@ -1,6 +1,6 @@
 //! The texts that name things: desks and codes, keys, and the numbers of plans.
 
-ghost use Rattle.std.specs.Prelude.{◌≡◌, Some, None, Option, option_map};
+ghost use Rattle.std.specs.Prelude.{◌≡◌, option_map};
 ghost use Rattle.std.specs.List.{list_all};
 ghost use Rattle.plan_rows.specs.Names as spec;
 ghost use Rattle.plan_rows.specs.Plans as plans;

@@ -1,27 +1,24 @@
 -- Which tables are taken, and why others aren't.
-use Rattle.std.proofs.Common.{◌≡◌, ◌≢◌, ◌⊎◌, inl, inr, ℕ, ℤ, pos, List, [], ◌∷◌, length, Option, Some, None, Result, Ok, Err, IsTrue, false, refl, sym, ap, subst, ◌∙◌, arith}
+use Rattle.std.proofs.Common.{◌≡◌, ◌≢◌, ◌⊎◌, inl, inr, ℕ, ℤ, pos, List, [], ◌∷◌, length, Result, Ok, Err, IsTrue, false, refl, sym, ap, subst, ◌∙◌, arith}
 use Rattle.sqlite_value.specs.declared.value.Value.{Value}
-use Rattle.sqlite_value.specs.declared.value.Value.TheVariants.{Null, Int, Real, Text, Blob}
+use Rattle.sqlite_value.specs.declared.value.Value.TheVariants.{Int}
 use Rattle.sqlite_value.specs.Order.{Row, column}
 use Rattle.sqlite_trees.specs.Tree.{Trees}
-use Rattle.sqlite_trees.specs.View.{IsClean}
 use Rattle.sqlite_trees.specs.declared.store.Store.{Ghosts}
 use Rattle.sqlite_schema.specs.declared.schema.Schema.{Schema}
 use Rattle.sqlite.specs.Effect.{Database}
 use Rattle.sqlite.specs.State.{State, HasCleanDisk}
 use Rattle.sqlite.specs.Held.{Held, state}
-use Rattle.plan_rows.specs.declared.fault.BookFault.{BookFault}
 use Rattle.plan_store.specs.declared.fault.StoreFault.{StoreFault}
 use Rattle.plan_store.specs.declared.fault.StoreFault.TheVariants.{NotOurs, Version, NoMemory, Store}
 use Rattle.plan_store.specs.declared.layout.Layout.{Layout}
 use Rattle.plan_store.specs.declared.layout.Layout.TheVariants.{First, Second}
 use Rattle.plan_store.specs.declared.leftover.Leftover.TheVariants as left
-use Rattle.plan_store.specs.Stores.{world_of, IsStore}
-use Rattle.plan_store.specs.Layouts.{schema_of, meta_at, IsOfficeAt}
-use Rattle.plan_store.specs.Rereading.{IsReread, IsStoreOf}
-use Rattle.plan_store.specs.Opening.{IsLaid, Looks, SaysVersion}
-use Rattle.plan_store.specs.Serving.{Stands}
-use Rattle.plan_store.specs.Adopting.{version_of, other_version, IsOffice, IsOfUnknownVersion, IsTaken, IsMigrated, IsCause, Takes, IsWhole, IsRefused}
+use Rattle.plan_store.specs.Stores.{IsStore}
+use Rattle.plan_store.specs.Layouts.{schema_of, IsOfficeAt}
+use Rattle.plan_store.specs.Rereading.{IsStoreOf}
+use Rattle.plan_store.specs.Opening.{IsLaid}
+use Rattle.plan_store.specs.Adopting.{version_of, other_version, IsTaken, IsMigrated, IsCause, Takes, IsWhole, IsRefused}
 
 -- ---- tables have one layout and say one version
 

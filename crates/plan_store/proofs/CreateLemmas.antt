@@ -1,7 +1,6 @@
 -- What the statements that make a store leave.
-use Rattle.std.proofs.Common.{◌≡◌, ◌≢◌, ◌⊎◌, inl, inr, ℕ, ℤ, pos, Bool, true, false, List, [], ◌∷◌, map, Option, Some, None, Ok, Err, Result, OnOk, OnErr, IfErr, IsTrue, refl, sym, ap, ap₂, subst, ◌∙◌, arith}
+use Rattle.std.proofs.Common.{◌≡◌, ◌≢◌, ℕ, pos, true, false, List, [], ◌∷◌, map, None, Ok, Err, Result, IsTrue, refl, sym, ap, subst, ◌∙◌}
 use Rattle.std.specs.List.{AllByRecursion}
-use Rattle.sqlite_value.specs.declared.value.Value.TheVariants.{Null, Int, Text}
 use Rattle.sqlite_value.specs.Order.{Row}
 use Rattle.sqlite_trees.specs.Tree.{Trees, put_row}
 use Rattle.sqlite_trees.specs.declared.store.Store.{Ghosts}
@@ -10,10 +9,8 @@ use Rattle.sqlite_schema.specs.declared.schema.Schema.{Schema}
 use Rattle.sqlite_schema.specs.declared.schema.Table.{Table}
 use Rattle.sqlite_schema.specs.declared.command.Command.TheVariants.{CreateTable, Insert}
 use Rattle.sqlite_schema.specs.declared.command.Source.TheVariants.{Values}
-use Rattle.sqlite_resolve.specs.Compile.{table_defined_by}
-use Rattle.sqlite_resolve.specs.declared.error.CompileError.{CompileError}
 use Rattle.sqlite_rules.specs.declared.error.Rowids.TheVariants.{Chosen}
-use Rattle.sqlite_rules.specs.Edit.{Edit, edit_of, edited, taken_by, with_rowid}
+use Rattle.sqlite_rules.specs.Edit.{edit_of, edited, with_rowid}
 use Rattle.sqlite_catalog.specs.Change.{created, next_tree, KeepsRows}
 use Rattle.sqlite.specs.Effect.{Database, IsDatabase}
 use Rattle.sqlite.specs.Listing.{understood}
@@ -25,15 +22,15 @@ use Rattle.sqlite.proofs.Callers.{statement_of, runs_as, one_step}
 use Rattle.sqlite.proofs.StateLemmas.{survives_weaker}
 use Rattle.plan_rows.specs.Names.{is_digest}
 use Rattle.plan_rows.specs.Rules.{IsWorld}
-use Rattle.plan_rows.specs.World.{Digest, World, empty_world}
+use Rattle.plan_rows.specs.World.{Digest, empty_world}
 use Rattle.plan_store.specs.declared.fault.StoreFault.{StoreFault}
 use Rattle.plan_store.specs.declared.fault.StoreFault.TheVariants.{NotOurs, Version}
 use Rattle.plan_store.specs.Tables.{no_schema, meta, store_schema}
 use Rattle.plan_store.specs.Kept.{Keeps}
 use Rattle.plan_store.specs.Rows.{digest_value, meta_row, office_in}
-use Rattle.plan_store.specs.Stores.{world_of, HoldRows, IsStore}
+use Rattle.plan_store.specs.Stores.{world_of, IsStore}
 use Rattle.plan_store.specs.Running.{Statement, LeavesAll, MayMake}
-use Rattle.plan_store.specs.Serving.{Stands, IsStoreLeft}
+use Rattle.plan_store.specs.Serving.{IsStoreLeft}
 use Rattle.plan_store.specs.Creating.{IsNewStore, Creates}
 use Rattle.plan_store.proofs.EditLemmas.{cast_int, cast_null}
 use Rattle.plan_store.proofs.EffectLemmas.{went, same_value}

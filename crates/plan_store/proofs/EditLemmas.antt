@@ -1,15 +1,14 @@
 -- What an edit makes of the rows of a table, as a list of numbers and of what was written.
-use Rattle.std.proofs.Common.{◌≡◌, ℕ, ℤ, pos, ◌+ℤ◌, ◌<ℤ◌, Bool, true, false, not, cond, List, [], ◌∷◌, ◌++◌, map, filter, fold, drop, IsPermutation, refl, sym, ap, ap₂, subst, ◌∙◌, arith, int_eq, int_cmp, Less, Equal, Greater}
+use Rattle.std.proofs.Common.{◌≡◌, ℤ, pos, ◌+ℤ◌, ◌<ℤ◌, Bool, true, false, not, cond, List, [], ◌∷◌, ◌++◌, map, filter, fold, drop, IsPermutation, refl, sym, ap, ap₂, ◌∙◌, arith, int_cmp, Greater}
 use Rattle.std.specs.List.{AllByRecursion}
 use Rattle.std.specs.Ordering.{match_ordering}
 use Rattle.std.proofs.lemmas.Int.{ints}
 use Rattle.sqlite_value.specs.declared.value.Value.{Value}
 use Rattle.sqlite_value.specs.declared.value.Value.TheVariants.{Null, Int}
 use Rattle.sqlite_value.specs.Order.{Row}
-use Rattle.sqlite_trees.specs.Tree.{Trees, rowid, put_row, without_rowid}
+use Rattle.sqlite_trees.specs.Tree.{Trees, rowid, put_row}
 use Rattle.sqlite_trees.proofs.ListLemmas.{along_permutation}
 use Rattle.sqlite_schema.specs.declared.schema.Kind.TheVariants.{Integer}
-use Rattle.sqlite_schema.specs.declared.schema.Column.{Column}
 use Rattle.sqlite_schema.specs.declared.schema.Table.{Table}
 use Rattle.sqlite_sql.specs.Ops.{unary}
 use Rattle.sqlite_rules.specs.declared.error.Rowids.TheVariants.{Chosen, Given}
@@ -18,7 +17,7 @@ use Rattle.sqlite_rules.specs.Edit.{id_in, next_rowid, numbered, with_rowid, wit
 use Rattle.sqlite_rules.specs.Calls.{ids_of}
 use Rattle.sqlite_keyed.specs.Keyed.{IsKeyedBy, insert_by, next_key}
 use Rattle.sqlite_keyed.specs.Lists.{update_where, delete_where, without_key}
-use Rattle.sqlite_keyed.proofs.ListLemmas.{map-map, all_map, all-filter, all_weaker}
+use Rattle.sqlite_keyed.proofs.ListLemmas.{map-map, all_map, all-filter}
 use Rattle.sqlite_keyed.proofs.KeyedLemmas.{Less-from_lt}
 use Rattle.sqlite_keyed.proofs.SliceLemmas.{insert_next}
 use Rattle.sqlite_keyed.proofs.WriteLemmas.{removes_delete}

@@ -1,19 +1,18 @@
 -- What a statement that writes leaves in the trees.
-use Rattle.std.proofs.Common.{◌≡◌, ◌≢◌, ◌⊎◌, inl, inr, ◌≤◌, ℕ, ℤ, pos, negsuc, ◌/◌, Bool, true, false, cond, List, [], ◌∷◌, ◌++◌, length, map, filter, drop, flat_map, IsPermutation, Option, Some, None, Ok, Err, Result, refl, sym, ap, ap₂, subst, ◌∙◌, arith}
+use Rattle.std.proofs.Common.{◌≡◌, ◌≢◌, ◌⊎◌, inl, inr, ◌≤◌, ℕ, ℤ, ◌/◌, Bool, List, [], ◌∷◌, ◌++◌, length, map, filter, IsPermutation, Option, None, Ok, Err, Result, refl, sym, ap, subst, ◌∙◌, arith}
 use Rattle.std.specs.List.{list_all}
 use Rattle.std.proofs.lemmas.List.{length-map}
 use Rattle.std.proofs.lemmas.List.Sorted.{IsPermutation-map, length_permutation}
 use Rattle.sqlite_value.specs.declared.value.Value.TheVariants.{Null, Int}
 use Rattle.sqlite_value.specs.Order.{Row}
 use Rattle.sqlite_trees.specs.Tree.{Trees, rowid}
-use Rattle.sqlite_sql.specs.Term.{Term, Env, lit, col, eval_all, holds}
-use Rattle.sqlite_sql.specs.Query.{Query, inner, end, IsAnswer, Output, output, page, matches}
+use Rattle.sqlite_sql.specs.Term.{Term, col, eval_all, holds}
+use Rattle.sqlite_sql.specs.Query.{Query, IsAnswer, Output, output}
 use Rattle.sqlite_sql.specs.Program.{overlay}
 use Rattle.sqlite_schema.specs.declared.schema.Keys.TheVariants.{Enforced}
 use Rattle.sqlite_schema.specs.declared.schema.Column.{Column}
 use Rattle.sqlite_schema.specs.declared.schema.Table.{Table}
 use Rattle.sqlite_schema.specs.declared.schema.Schema.{Schema}
-use Rattle.sqlite_schema.specs.declared.command.Command.{Command}
 use Rattle.sqlite_schema.specs.declared.command.Command.TheVariants.{Insert, Update, Delete}
 use Rattle.sqlite_schema.specs.declared.command.Source.TheVariants.{Values}
 use Rattle.sqlite_rules.specs.declared.error.Rowids.TheVariants.{Chosen, Given}
@@ -23,13 +22,13 @@ use Rattle.sqlite_rules.specs.Cast.{cast_all}
 use Rattle.sqlite_rules.specs.Edit.{Edit, id_in, edit_of, edited, taken_by, IsNoIndex, Applies}
 use Rattle.sqlite.specs.declared.run.Mode.{Mode}
 use Rattle.sqlite.specs.Effect.{Database, value_rows}
-use Rattle.sqlite.specs.Does.{Tally, Does, OnRows, Concludes}
+use Rattle.sqlite.specs.Does.{Tally, OnRows, Concludes}
 use Rattle.sqlite.specs.Rows.{Task, Written, stamped}
 use Rattle.sqlite.proofs.Callers.{one_step}
 use Rattle.sqlite_keyed.specs.Keyed.{IsKeyedBy, next_key}
 use Rattle.sqlite_keyed.specs.Lists.{update_where, delete_where}
 use Rattle.sqlite_keyed.proofs.ListLemmas.{map-map}
-use Rattle.sqlite_typed.proofs.AnswerLemmas.{Source, at_end, last_table, matches_are}
+use Rattle.sqlite_typed.proofs.AnswerLemmas.{at_end, last_table, matches_are}
 use Rattle.plan_store.specs.Kept.{row_at}
 use Rattle.plan_store.specs.Tables.{keyed_table}
 use Rattle.plan_store.proofs.QueryForms.{of_table, alone}

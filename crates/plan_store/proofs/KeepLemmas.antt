@@ -1,12 +1,12 @@
 -- A table that keeps a list of rows, after each kind of write.
-use Rattle.std.proofs.Common.{◌≡◌, ◌≤◌, ℤ, ◌<ℤ◌, Bool, true, false, not, cond, List, [], ◌∷◌, ◌++◌, length, map, filter, find, Option, Some, None, option_map, refl, sym, ap, ap₂, subst, ◌∙◌, arith}
-use Rattle.std.specs.List.{AllByRecursion, list_any}
+use Rattle.std.proofs.Common.{◌≡◌, ◌≤◌, ℤ, Bool, true, false, not, cond, List, [], ◌∷◌, ◌++◌, length, map, filter, find, Some, option_map, refl, sym, ap, ap₂, subst, ◌∙◌, arith}
+use Rattle.std.specs.List.{AllByRecursion}
 use Rattle.std.proofs.lemmas.List.{map-append}
 use Rattle.std.proofs.lemmas.Bool.{both_ways}
 use Rattle.sqlite_value.specs.Order.{Row}
-use Rattle.sqlite_keyed.specs.Keyed.{IsKeyedBy, insert_by, next_key}
+use Rattle.sqlite_keyed.specs.Keyed.{IsKeyedBy, next_key}
 use Rattle.sqlite_keyed.specs.Lists.{update_where, delete_where}
-use Rattle.sqlite_keyed.proofs.ListLemmas.{map-map, all-filter, filter-map}
+use Rattle.sqlite_keyed.proofs.ListLemmas.{all-filter, filter-map}
 use Rattle.sqlite_trees.proofs.ListLemmas.{all-append}
 use Rattle.sqlite_keyed.proofs.KeyedLemmas.{IsKeyedBy-insert_by, IsKeyedBy-update_where, IsKeyedBy-delete_where}
 use Rattle.sqlite_keyed.proofs.SliceLemmas.{insert_next}

@@ -1,5 +1,5 @@
 -- What each query answers that lists a table of the office.
-use Rattle.std.proofs.Common.{◌≡◌, ◌<ℤ◌, ℕ, ℤ, pos, Bool, true, false, ◌==◌, nat_lt, List, [], ◌∷◌, map, Ok, Result, refl, sym, ap, ap₂, ◌∙◌, string_bytes, Ordering, Less, Equal, Greater, is_gt, is_lt, int_cmp, nat_cmp, arith}
+use Rattle.std.proofs.Common.{◌≡◌, ◌<ℤ◌, ℕ, ℤ, pos, true, false, ◌==◌, nat_lt, List, [], ◌∷◌, map, refl, sym, ap, ◌∙◌, string_bytes, Ordering, Less, Equal, Greater, is_gt, is_lt, int_cmp, nat_cmp, arith}
 use Rattle.std.specs.Ordering.{ordering_then, ordering_reverse}
 use Rattle.std.specs.Cmp.Lexicographic.{slice_cmp}
 use Rattle.std.proofs.lemmas.Cmp.{nat_list_cmp_total}
@@ -11,7 +11,6 @@ use Rattle.sqlite_value.specs.Order.{Row}
 use Rattle.sqlite_value.proofs.OrderLemmas.{value_cmp-Int, value_cmp-Text}
 use Rattle.sqlite_trees.specs.Tree.{Trees}
 use Rattle.sqlite_sql.specs.Program.{overlay}
-use Rattle.sqlite.specs.Effect.{Database}
 use Rattle.sqlite.specs.State.{State}
 use Rattle.sqlite_keyed.proofs.ListLemmas.{map-map}
 use Rattle.sqlite_typed.proofs.AnswerLemmas.{no_tie, no_tie_after}

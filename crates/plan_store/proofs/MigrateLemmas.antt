@@ -1,7 +1,5 @@
 -- What the statements that bring tables of the first version to the second leave.
-use Rattle.std.proofs.Common.{◌≡◌, ◌≢◌, ◌≤◌, ℕ, ℤ, pos, Bool, true, false, List, [], ◌∷◌, length, map, filter, drop, ◌⊎◌, inl, inr, Option, Some, None, Result, Ok, Err, IsPermutation, IsTrue, refl, sym, ap, ap₂, subst, ◌∙◌, arith, codes, int_eq}
-use Rattle.std.specs.List.{AllByRecursion, list_all}
-use Rattle.std.proofs.lemmas.List.{length-map}
+use Rattle.std.proofs.Common.{◌≡◌, ◌≢◌, ℕ, ℤ, pos, Bool, true, false, List, [], ◌∷◌, map, filter, ◌⊎◌, inl, inr, Option, None, Result, Ok, Err, IsTrue, refl, sym, ap, subst, ◌∙◌, arith, codes, int_eq}
 use Rattle.sqlite_value.specs.declared.value.Value.TheVariants.{Null, Int}
 use Rattle.sqlite_value.specs.declared.keys.Collation.TheVariants.{Binary}
 use Rattle.sqlite_value.specs.Order.{Row}
@@ -9,16 +7,15 @@ use Rattle.sqlite_trees.specs.Tree.{Trees}
 use Rattle.sqlite_trees.specs.declared.store.Store.{Ghosts}
 use Rattle.sqlite_sql.specs.declared.ops.BinaryOp.TheVariants.{Compare}
 use Rattle.sqlite_sql.specs.declared.ops.CompareOp.TheVariants.{Eq}
-use Rattle.sqlite_sql.specs.Term.{Term, lit, col, op2, eval_all, holds}
+use Rattle.sqlite_sql.specs.Term.{Term, lit, col, op2}
 use Rattle.sqlite_sql.specs.Query.{Query}
 use Rattle.sqlite_sql.specs.Program.{overlay}
 use Rattle.sqlite_schema.specs.declared.schema.Keys.TheVariants.{Enforced}
-use Rattle.sqlite_schema.specs.declared.schema.Table.{Table}
 use Rattle.sqlite_schema.specs.declared.command.Command.TheVariants.{Update}
 use Rattle.sqlite_rules.specs.declared.error.Rowids.TheVariants.{Given}
 use Rattle.sqlite_rules.specs.Calls.{ids_of}
 use Rattle.sqlite_rules.specs.Cast.{cast_all}
-use Rattle.sqlite_rules.specs.Edit.{Edit, edit_of, edited, taken_by, IsNoIndex}
+use Rattle.sqlite_rules.specs.Edit.{edit_of, IsNoIndex}
 use Rattle.sqlite.specs.declared.run.Mode.{Mode}
 use Rattle.sqlite.specs.Effect.{Database, IsDatabase}
 use Rattle.sqlite.specs.Does.{Tally, Does, OnRows}
@@ -30,12 +27,12 @@ use Rattle.sqlite.proofs.Callers.{IsPlain, command_of, statement_of, runs_as, on
 use Rattle.sqlite_tied.specs.Compute.{everything}
 use Rattle.sqlite_keyed.specs.Keyed.{IsKeyedBy}
 use Rattle.sqlite_typed.proofs.TestLemmas.{last_term, at_ints}
-use Rattle.plan_rows.specs.World.{Digest, World}
+use Rattle.plan_rows.specs.World.{Digest}
 use Rattle.plan_rows.specs.Rules.{IsWorld}
 use Rattle.plan_store.specs.declared.layout.Layout.TheVariants.{First}
 use Rattle.plan_store.specs.Tables.{meta, store_schema}
-use Rattle.plan_store.specs.Kept.{row_at, Keeps}
-use Rattle.plan_store.specs.Rows.{digest_value, meta_row, office_in, written_code, read_code, written_desk, read_desk, written_plan, read_plan, written_bind, read_bind, written_lag, read_lag}
+use Rattle.plan_store.specs.Kept.{Keeps}
+use Rattle.plan_store.specs.Rows.{digest_value, meta_row, office_in, written_code, read_code, written_desk, read_desk, written_plan, read_plan, written_bind, read_bind, read_lag}
 use Rattle.plan_store.specs.Stores.{world_of, IsStore}
 use Rattle.plan_store.specs.Layouts.{meta_at, world_in, IsOfficeAt}
 use Rattle.plan_store.specs.Running.{Statement, LeavesAll, MayMake}
@@ -43,7 +40,7 @@ use Rattle.plan_store.specs.Serving.{IsStoreLeft}
 use Rattle.plan_store.specs.Adopting.{Takes, IsMigrated}
 use Rattle.plan_store.specs.declared.fault.StoreFault.{StoreFault}
 use Rattle.plan_store.specs.declared.fault.StoreFault.TheVariants.{NotOurs, Version, NoMemory, Store}
-use Rattle.plan_store.proofs.EditLemmas.{number_of, at_number, changed_row, rows_updated, cast_int, cast_null}
+use Rattle.plan_store.proofs.EditLemmas.{number_of, changed_row, rows_updated, cast_int, cast_null}
 use Rattle.plan_store.proofs.EffectLemmas.{Sets, went, same_value, few_alike, rows_shown}
 use Rattle.plan_store.proofs.QueryForms.{of_table, alone}
 use Rattle.plan_store.proofs.CodecLemmas.{digest_back}

@@ -1,5 +1,5 @@
 -- From the rows that were read to what the tables are.
-use Rattle.std.proofs.Common.{◌≡◌, ℤ, Bool, true, false, List, [], ◌∷◌, Option, Some, None, Ok, Err, Result, IsTrue, IfOk, IsUtf8, refl, sym, ap, subst, ◌∙◌, map}
+use Rattle.std.proofs.Common.{◌≡◌, ℤ, Bool, true, false, List, [], ◌∷◌, Some, None, Ok, Result, IsTrue, IfOk, IsUtf8, refl, sym, ap, subst, ◌∙◌}
 use Rattle.std.specs.List.{AllByRecursion}
 use Rattle.sqlite_keyed.proofs.ListLemmas.{all_weaker, all_both}
 use Rattle.sqlite_trees.specs.Tree.{Trees}

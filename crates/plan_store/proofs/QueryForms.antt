@@ -1,5 +1,5 @@
 -- Queries of one table, and of the terms that we use.
-use Rattle.std.proofs.Common.{ℕ, pos, negsuc, List, [], ◌∷◌, None, false}
+use Rattle.std.proofs.Common.{ℕ, pos, negsuc, List, [], None, false}
 use Rattle.sqlite_value.specs.declared.value.Value.TheVariants.{Int}
 use Rattle.sqlite_value.specs.declared.keys.Collation.TheVariants.{Binary}
 use Rattle.sqlite_value.specs.declared.keys.Key.{Key}

@@ -1,21 +1,16 @@
 -- The rows that a query of one table shows, in the order that it asks for.
-use Rattle.std.proofs.Common.{◌≡◌, ℕ, ℤ, ◌<ℤ◌, pos, Bool, true, false, cond, ◌||◌, ◌&&◌, ◌==◌, nat_lt, List, [], ◌∷◌, map, filter, IsPermutation, refl, sym, ap, ap₂, subst, ◌∙◌, arith, Ordering, Less, Equal, Greater, is_gt, is_lt, is_eq, int_cmp, nat_cmp}
+use Rattle.std.proofs.Common.{◌≡◌, ℕ, ℤ, ◌<ℤ◌, Bool, true, false, cond, List, [], ◌∷◌, map, filter, refl, sym, ap, ◌∙◌, Ordering, Less, is_gt, int_cmp}
 use Rattle.std.specs.List.{AllByRecursion, list_all}
-use Rattle.std.specs.Ordering.{ordering_then, ordering_reverse}
-use Rattle.std.specs.Cmp.Lexicographic.{slice_cmp}
-use Rattle.std.proofs.lemmas.Cmp.{nat_list_cmp_total}
 use Rattle.std.proofs.lemmas.List.{map-id}
-use Rattle.sqlite_value.specs.declared.value.Value.TheVariants.{Int, Text}
 use Rattle.sqlite_value.specs.Order.{Row}
-use Rattle.sqlite_value.proofs.OrderLemmas.{value_cmp-Int, value_cmp-Text}
+use Rattle.sqlite_value.proofs.OrderLemmas.{value_cmp-Int}
 use Rattle.sqlite_trees.specs.Tree.{Trees}
 use Rattle.sqlite_sql.specs.Term.{Term, eval_all, holds}
 use Rattle.sqlite_sql.specs.Query.{IsAnswer, output, output_cmp}
 use Rattle.sqlite_keyed.specs.Keyed.{IsKeyedBy}
 use Rattle.sqlite_keyed.specs.Lists.{sort_by, insert_sorted}
-use Rattle.sqlite_keyed.proofs.KeyedLemmas.{Less-from_lt}
-use Rattle.sqlite_typed.proofs.AnswerLemmas.{at_end, last_table, answer_by_keys, answer_sorted, IsNoTie, no_tie, no_tie_after}
-use Rattle.sqlite_typed.proofs.TestLemmas.{then_key, last_key}
+use Rattle.sqlite_typed.proofs.AnswerLemmas.{at_end, last_table, answer_by_keys, answer_sorted, IsNoTie}
+use Rattle.sqlite_typed.proofs.TestLemmas.{last_key}
 use Rattle.plan_rows.specs.Plans.{put_in_order, in_order}
 use Rattle.plan_store.specs.Kept.{row_at}
 use Rattle.plan_store.proofs.QueryForms.{of_table, by}

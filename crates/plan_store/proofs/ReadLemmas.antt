@@ -1,6 +1,6 @@
 -- What each query answers of the office that the tables hold.
-use Rattle.std.proofs.Common.{◌≡◌, ◌<ℤ◌, ℕ, ℤ, pos, Bool, true, false, ◌&&◌, ◌||◌, ◌==◌, nat_lt, cond, List, [], ◌∷◌, length, map, filter, find, slice_get, Option, Some, None, IfSome, option_map, refl, sym, ap, ap₂, subst, ◌∙◌, codes, string_bytes, Ordering, Less, Equal, Greater, is_gt, is_lt, int_cmp, nat_cmp, arith}
-use Rattle.std.specs.List.{AllByRecursion, AllZip, list_all, list_any}
+use Rattle.std.proofs.Common.{◌≡◌, ◌<ℤ◌, ℕ, ℤ, pos, Bool, true, false, ◌&&◌, ◌||◌, ◌==◌, nat_lt, cond, List, [], ◌∷◌, length, map, filter, find, slice_get, Option, Some, None, IfSome, option_map, refl, sym, ap, ap₂, subst, ◌∙◌, string_bytes, Ordering, Less, Equal, Greater, is_gt, is_lt, int_cmp, nat_cmp, arith}
+use Rattle.std.specs.List.{AllByRecursion, AllZip, list_any}
 use Rattle.std.specs.Ordering.{ordering_then, ordering_reverse}
 use Rattle.std.specs.Cmp.Lexicographic.{slice_cmp}
 use Rattle.std.proofs.lemmas.Cmp.{nat_list_cmp_total}
@@ -8,7 +8,6 @@ use Rattle.std.proofs.lemmas.List.{length-map, map-id}
 use Rattle.std.proofs.lemmas.Int.{ints}
 use Rattle.std.proofs.lemmas.Bool.{and_parts}
 use Rattle.std.proofs.lemmas.Bool.Decides.{nat_tests}
-use Rattle.sqlite_value.specs.declared.value.Value.{Value}
 use Rattle.sqlite_value.specs.declared.value.Value.TheVariants.{Null, Int, Text, Blob}
 use Rattle.sqlite_value.specs.Order.{Row, column}
 use Rattle.sqlite_value.proofs.OrderLemmas.{value_cmp-Int, value_cmp-Text}
@@ -18,9 +17,8 @@ use Rattle.sqlite_sql.specs.Query.{Query, IsAnswer}
 use Rattle.sqlite_schema.specs.declared.command.Command.TheVariants.{Select}
 use Rattle.sqlite.specs.Effect.{Database, Reads}
 use Rattle.sqlite.specs.State.{State}
-use Rattle.sqlite_keyed.specs.Keyed.{IsKeyedBy}
 use Rattle.sqlite_keyed.specs.Lists.{sort_by}
-use Rattle.sqlite_keyed.proofs.ListLemmas.{slice_get-filter, map-map, filter-map, ascending-filter}
+use Rattle.sqlite_keyed.proofs.ListLemmas.{map-map, filter-map, ascending-filter}
 use Rattle.sqlite_keyed.proofs.KeyedLemmas.{Less-from_lt}
 use Rattle.sqlite_typed.proofs.AnswerLemmas.{no_tie, no_tie_after}
 use Rattle.sqlite_typed.proofs.TestLemmas.{then_key, last_key}
@@ -40,15 +38,14 @@ use Rattle.plan_rows.specs.Plans.{in_order, bind_before, lag_before, place_of, a
 use Rattle.plan_rows.specs.Books.{Matches, IsPlanAnswer, IsDeskAnswer, IsCapacityAnswer, ListsCodes, ListsPlans, published_in, entry_in, entry_of, bind_in, lag_in}
 use Rattle.plan_store.specs.declared.shown.PlanPart.{PlanPart}
 use Rattle.plan_store.specs.Kept.{row_at, Keeps}
-use Rattle.plan_store.specs.Rows.{kind_in, plan_kind_in, text_in, blob_in, number_in, digest_in, digest_value, number_value, written_code, read_code, written_desk, read_desk, written_plan, read_plan, written_bind, read_bind, written_lag, read_lag, office_in, meta_row}
+use Rattle.plan_store.specs.Rows.{kind_in, plan_kind_in, text_in, blob_in, number_in, digest_in, digest_value, number_value, written_code, read_code, written_desk, read_desk, written_plan, read_plan, written_bind, read_bind, written_lag, read_lag, office_in}
 use Rattle.plan_store.specs.Stores.{world_of, HoldRows}
 use Rattle.plan_store.specs.Running.{meaning_of}
 use Rattle.plan_store.specs.Serving.{Stands}
-use Rattle.plan_store.specs.Shown.{ShowsOffice, ShowsDesk, ShowsCapacity, ShowsCode, ShowsEntry, ShowsBind, ShowsLag, ShowsPlan, IsPlanPart, ListsShown, FirstShown, OfficeShown, AnyShown, CountShown}
+use Rattle.plan_store.specs.Shown.{ShowsDesk, ShowsCapacity, ShowsCode, ShowsEntry, ShowsBind, ShowsLag, ShowsPlan, IsPlanPart, ListsShown, FirstShown, OfficeShown, AnyShown, CountShown}
 use Rattle.plan_store.proofs.QueryForms.{alone, by, is_given}
-use Rattle.plan_store.proofs.EditLemmas.{number_of}
 use Rattle.plan_store.proofs.KeepLemmas.{finds_entry, reads_entries}
-use Rattle.plan_store.proofs.CodecLemmas.{kind_back, plan_kind_back, texts_tested, numbers_tested, code_tested, desk_tested, plan_tested, owner_tested, bind_of_tested, bind_tested, lag_of_tested, lag_tested}
+use Rattle.plan_store.proofs.CodecLemmas.{kind_back, plan_kind_back, code_tested, desk_tested, plan_tested, owner_tested, bind_of_tested, bind_tested, lag_of_tested, lag_tested}
 use Rattle.plan_store.proofs.QueryLemmas.{rows_by_number, rows_sorted, sorted_alike}
 use Rattle.plan_store.proofs.ReadMeanings as means
 

@@ -1,5 +1,5 @@
 -- Tables that are read again are those of before, and their rows stand in order.
-use Rattle.std.proofs.Common.{◌≡◌, ◌≤◌, ℕ, Bool, true, false, List, IsTrue, refl, sym, ap, ap₂, subst, ◌∙◌, arith}
+use Rattle.std.proofs.Common.{◌≡◌, ◌≤◌, Bool, true, false, IsTrue, refl, sym, ap, subst, ◌∙◌, arith}
 use Rattle.std.specs.List.{AllByRecursion}
 use Rattle.sqlite_trees.specs.Tree.{Trees}
 use Rattle.sqlite_trees.specs.View.{View, doubt, IsClean, IsQuiet, IsRolledBack, IsShaped, IsOrdered}
@@ -12,7 +12,7 @@ use Rattle.sqlite_catalog.proofs.LayoutLemmas.{objects_rise}
 use Rattle.sqlite_catalog.proofs.ReadLemmas.{lists_once, shaped_of}
 use Rattle.sqlite_keyed.proofs.ListLemmas.{all_weaker}
 use Rattle.sqlite.specs.Effect.{Database}
-use Rattle.sqlite.specs.State.{State, HasCleanDisk, IsLive, Opens}
+use Rattle.sqlite.specs.State.{HasCleanDisk, IsLive, Opens}
 use Rattle.sqlite.specs.Held.{Held, state}
 use Rattle.plan_store.specs.Layouts.{AreNumbered}
 use Rattle.plan_store.specs.Rereading.{IsReread, IsStoreOf}

@@ -1,6 +1,5 @@
 -- From what the statements of a transaction make to what a call does.
-use Rattle.std.proofs.Common.{◌≡◌, ◌⊎◌, inl, inr, ℕ, true, false, List, [], ◌∷◌, Ok, Err, Result, OnOk, OnErr, IsTrue, refl, sym, ap, subst, ◌∙◌, arith}
-use Rattle.sqlite_value.specs.Order.{Row}
+use Rattle.std.proofs.Common.{◌≡◌, inl, inr, ℕ, true, false, List, [], ◌∷◌, Ok, Err, Result, IsTrue, sym, ap, subst, ◌∙◌, arith}
 use Rattle.sqlite_trees.specs.declared.store.Store.{Ghosts}
 use Rattle.sqlite_trees.specs.Tree.{Trees}
 use Rattle.sqlite.specs.Effect.{Database}
@@ -9,10 +8,9 @@ use Rattle.sqlite.specs.Held.{Held, state}
 use Rattle.plan_rows.specs.declared.fault.BookFault.{BookFault}
 use Rattle.plan_rows.specs.World.{World}
 use Rattle.plan_rows.specs.Rules.{IsWorld}
-use Rattle.plan_store.specs.Tables.{store_schema}
 use Rattle.plan_store.specs.Stores.{world_of, IsStore}
 use Rattle.plan_store.specs.Running.{Statement, LeavesAll, MayMake, Makes}
-use Rattle.plan_store.specs.Serving.{Stands, IsReady, IsStoreLeft, IsKept, Asks, Changes}
+use Rattle.plan_store.specs.Serving.{Stands, IsReady, IsStoreLeft, IsKept, Changes}
 use Rattle.plan_store.proofs.StepLemmas.{Steps}
 
 pub store_left : (db : Database) → IsStore db → IsStoreLeft db.trees

@@ -1,7 +1,6 @@
 -- What one statement makes of the office that the tables hold.
-use Rattle.std.proofs.Common.{◌≡◌, ◌≤◌, ℕ, ℤ, Bool, true, List, [], ◌∷◌, ◌++◌, map, Ok, IsTrue, refl, ap, ◌∙◌}
-use Rattle.sqlite_value.specs.Order.{Row}
-use Rattle.sqlite.specs.Effect.{Database, IsDatabase}
+use Rattle.std.proofs.Common.{◌≡◌, ℤ, Bool, [], ◌∷◌, ◌++◌, IsTrue, ap, ◌∙◌}
+use Rattle.sqlite.specs.Effect.{IsDatabase}
 use Rattle.sqlite.specs.State.{State}
 use Rattle.plan_rows.specs.World.{Published, Desk, Plan, Bind, Lag, World}
 use Rattle.plan_rows.specs.Changes.{changed, without}
@@ -9,7 +8,6 @@ use Rattle.plan_store.specs.Tables.{store_schema}
 use Rattle.plan_store.specs.Kept.{row_at}
 use Rattle.plan_store.specs.Rows.{written_code, read_code, written_desk, read_desk, written_plan, read_plan, written_bind, read_bind, written_lag, read_lag}
 use Rattle.plan_store.specs.Stores.{world_of, HoldRows}
-use Rattle.plan_store.proofs.EditLemmas.{at_number}
 use Rattle.plan_store.proofs.EffectLemmas.{Sets}
 use Rattle.plan_store.proofs.KeepLemmas.{with_row, with_change, with_none, keeps_row, reads_row, keeps_change, reads_change, keeps_others, reads_others}
 use Rattle.plan_store.proofs.TableLemmas.{code_rows, code_world, desk_rows, desk_world, plan_rows, plan_world, bind_rows, bind_world, lag_rows, lag_world}

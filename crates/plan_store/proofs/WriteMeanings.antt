@@ -1,5 +1,5 @@
 -- What each statement that writes means under the schema of a store.
-use Rattle.std.proofs.Common.{◌≡◌, ℕ, pos, List, [], ◌∷◌, codes, false, refl}
+use Rattle.std.proofs.Common.{◌≡◌, ℕ, pos, List, [], ◌∷◌, codes, refl}
 use Rattle.sqlite_value.specs.declared.value.Value.TheVariants.{Null, Int, Text}
 use Rattle.sqlite_sql.specs.Term.{Term, lit, col}
 use Rattle.sqlite_sql.specs.Query.{Query}
@@ -9,7 +9,7 @@ use Rattle.sqlite.specs.Listing.{understood}
 use Rattle.sqlite.proofs.Callers.{IsPlain, command_of}
 use Rattle.sqlite_tied.specs.Compute.{everything}
 use Rattle.plan_store.specs.Tables.{store_schema}
-use Rattle.plan_store.proofs.QueryForms.{of_table, alone, is_given, by}
+use Rattle.plan_store.proofs.QueryForms.{of_table, alone, is_given}
 
 abbrev pub publish_text : List ℕ
 publish_text = codes "INSERT INTO published (code, kind, capacity) VALUES (?1, ?2, ?3)"

@@ -3,7 +3,6 @@ use Rattle.std.specs.Prelude.{◌≡◌, ℕ, pos, Bool, nat_lt, length, string_
 use Rattle.sqlite_value.specs.declared.value.Value.TheVariants.{Int, Text, Blob}
 use Rattle.sqlite_value.specs.Order.{Row, column}
 use Rattle.plan_rows.specs.declared.kinds.Kind.{Kind}
-use Rattle.plan_rows.specs.declared.kinds.PlanKind.{PlanKind}
 use Rattle.plan_rows.specs.declared.rows.DeskRow.{DeskRow}
 use Rattle.plan_rows.specs.declared.rows.CodeRow.{CodeRow}
 use Rattle.plan_rows.specs.declared.rows.PlanEntry.{PlanEntry}

@@ -1,6 +1,6 @@
 -- What contracts see of a book in SQL (docs/DEFINITIONS.md, "Tables").
-use Rattle.std.specs.Prelude.{◌≡◌, ℕ, IsTrue, Some, refl}
-use Rattle.std.proofs.Common.{sym, subst, ap, ◌∙◌}
+use Rattle.std.specs.Prelude.{ℕ, IsTrue, Some, refl}
+use Rattle.std.proofs.Common.{sym, subst, ap}
 use Rattle.std.specs.Coded.{Coded, code_by, coded×, coded_ℕ}
 use Rattle.sqlite_trees.specs.declared.store.Store.{Ghosts}
 use Rattle.sqlite.specs.Effect.{Database}
@@ -8,7 +8,7 @@ use Rattle.sqlite.specs.State.{State, HasCleanDisk}
 use Rattle.sqlite.specs.Held.{Held, held_code, state}
 use Rattle.plan_rows.specs.Books.{Shelf}
 use Rattle.plan_store.specs.Stores.{world_of, IsStore}
-use Rattle.plan_store.specs.Serving.{Stands, IsStoreLeft, may_leave}
+use Rattle.plan_store.specs.Serving.{Stands, may_leave}
 
 -- A book is seen as its connection, and how many writing calls were made and refused
 pub record Counted (S : Type 0) : Type 0 where

@@ -9,17 +9,16 @@ use Rattle.sqlite_trees.specs.Tree.{Trees}
 use Rattle.sqlite.specs.Effect.{Database, Reads}
 use Rattle.plan_rows.specs.declared.rows.CodeRow.{CodeRow}
 use Rattle.plan_rows.specs.declared.tables.records.DeskRecord.{DeskRecord}
-use Rattle.plan_rows.specs.declared.tables.records.PlanRecord.{PlanRecord}
 use Rattle.plan_rows.specs.declared.tables.records.BindRecord.{BindRecord}
 use Rattle.plan_rows.specs.declared.tables.records.LagRecord.{LagRecord}
 use Rattle.plan_rows.specs.Books.{published_in}
-use Rattle.plan_rows.specs.Tables.{desk_kept, plan_kept, bind_kept, lag_kept}
+use Rattle.plan_rows.specs.Tables.{desk_kept, bind_kept, lag_kept}
 use Rattle.plan_rows.specs.World.{Digest, Published, Desk, Plan, Bind, Lag}
 use Rattle.plan_rows.specs.Names.{is_digest}
 use Rattle.plan_store.specs.declared.layout.Layout.{Layout}
 use Rattle.plan_store.specs.declared.layout.Layout.TheVariants.{First, Second}
 use Rattle.plan_store.specs.Kept.{Keeps}
-use Rattle.plan_store.specs.Rows.{number_value, digest_value, written_code, read_code, written_desk, read_desk, written_plan, read_plan, written_bind, read_bind, written_lag, read_lag}
+use Rattle.plan_store.specs.Rows.{number_value, digest_value, written_code, read_code, written_desk, read_desk, written_bind, read_bind, written_lag, read_lag}
 use Rattle.plan_store.specs.Querying.{meaning_under}
 use Rattle.plan_store.specs.Layouts.{schema_of, meta_at}
 

@@ -1,6 +1,6 @@
 //! The tables of a new store.
 
-ghost use Rattle.std.specs.Prelude.{◌≡◌, ◌↔◌, false, IsTrue, OnErr, IfErr};
+ghost use Rattle.std.specs.Prelude.{◌≡◌, ◌↔◌, false, IsTrue};
 ghost use Rattle.sqlite.specs.Held.{state};
 ghost use Rattle.plan_store.specs.Tables.{no_schema};
 ghost use Rattle.plan_store.specs.Creating.{Creates};

@@ -1,6 +1,5 @@
 //! Testing the tables of a store that is there.
 
-ghost use Rattle.std.specs.Prelude.{◌≡◌};
 ghost use Rattle.sqlite.specs.State.{HasCleanDisk};
 ghost use Rattle.sqlite.specs.Held.{state};
 ghost use Rattle.plan_store.specs.Opening.{IsReadable, Looks, HoldsOthers, IsJudged, SaysVersion};

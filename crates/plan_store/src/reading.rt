@@ -1,6 +1,6 @@
 //! What a store holds, read by queries.
 
-ghost use Rattle.std.specs.Prelude.{◌≡◌, ◌∷◌, [], find, length, map, pos};
+ghost use Rattle.std.specs.Prelude.{◌≡◌, find, length, map};
 ghost use Rattle.sqlite.specs.Given.{IsPlain};
 ghost use Rattle.sqlite.specs.Listing.{understood, reads_listing};
 ghost use Rattle.sqlite.specs.Values.{bound};

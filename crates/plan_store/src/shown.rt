@@ -1,6 +1,6 @@
 //! Rows that queries show, as a book answers them.
 
-ghost use Rattle.std.specs.Prelude.{◌≡◌, slice_get, IfOk};
+ghost use Rattle.std.specs.Prelude.{slice_get, IfOk};
 ghost use Rattle.std.specs.List.{AllZip};
 ghost use Rattle.sqlite_value.specs.Order.{Row as Shown};
 ghost use Rattle.plan_rows.specs.Books.{Matches};

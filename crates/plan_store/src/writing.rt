@@ -1,10 +1,9 @@
 //! Changes of what a store holds, each in one transaction.
 
-ghost use Rattle.std.specs.Prelude.{◌≡◌, ◌∷◌, [], ◌++◌};
+ghost use Rattle.std.specs.Prelude.{◌∷◌, [], ◌++◌};
 ghost use Rattle.sqlite.specs.Held.{state};
 ghost use Rattle.plan_rows.specs.World.{is_code, is_bind, is_lag};
 ghost use Rattle.plan_rows.specs.Changes.{apply, changed, put, without, Publish, OpenDesk, SetKey, AddPlan, RemovePlan, BindPlace, SetCalendar, SetLag, with_capacity, new_code, with_code, new_bind, with_lag, new_lag};
-ghost use Rattle.plan_store.specs.Stores.{world_of};
 ghost use Rattle.plan_store.specs.Serving.{IsReady, Changes, IsKept, numbered_plan};
 
 use crate::numbers::{digits_of, number_after, sql_number};

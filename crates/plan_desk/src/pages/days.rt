@@ -1,7 +1,6 @@
 //! The page of a schedule's working days.
 
 ghost use Rattle.std.specs.Prelude.{◌≡◌, IfOk, IfErr, IsErrOf, string_bytes};
-ghost use Rattle.plan_gantt.specs.declared.days.DaysFault.TheVariants.{BeyondCalendar};
 ghost use Rattle.plan_rows.specs.declared.fault.BookFault.TheVariants.{Store};
 ghost use Rattle.plan_rows.specs.Changes.{Keep};
 ghost use Rattle.plan_rows.specs.Rules.{HasCalendar};

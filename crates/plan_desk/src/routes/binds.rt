@@ -1,6 +1,6 @@
 //! The commands on the places, the calendar and the arcs of a plan.
 
-ghost use Rattle.std.specs.Prelude.{◌≡◌, ℕ, IfOk, IfErr, Option, option_map};
+ghost use Rattle.std.specs.Prelude.{◌≡◌, ℕ, IfOk, IfErr, option_map};
 ghost use Rattle.plan_rows.specs.declared.fault.BookFault.TheVariants.{Store};
 ghost use Rattle.plan_rows.specs.World as world;
 ghost use Rattle.plan_rows.specs.Views.{view};

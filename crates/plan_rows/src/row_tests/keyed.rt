@@ -4,7 +4,7 @@ ghost use Rattle.std.specs.Prelude.{◌≡◌, List, IfOk};
 ghost use Rattle.plan_rows.specs.World.{Plan};
 ghost use Rattle.plan_rows.specs.Rules.{AllDiffer};
 ghost use Rattle.plan_rows.specs.Books.{published_in};
-ghost use Rattle.plan_rows.specs.Tables.{world_beside, desk_kept, plan_seen, bind_kept, lag_kept};
+ghost use Rattle.plan_rows.specs.Tables.{world_beside, desk_kept, head_seen, bind_kept, lag_kept};
 ghost use Rattle.plan_rows.specs.RowTests.{Tells, KeysDiffer, RowKey, same_key};
 ghost use Rattle.plan_rows.specs.Reviewing.{AreKeys, AreSeen};
 
@@ -41,7 +41,7 @@ impl Keyed for DeskRecord {
 }
 
 impl Keyed for PlanSeen {
-    ghost key_of = { λ row. ((plan_seen row).desk, (plan_seen row).n, 0, 0) };
+    ghost key_of = { λ row. ((head_seen row).desk, (head_seen row).n, 0, 0) };
 
     fn key(&self) -> (&str, u64, u64, u64) {
         (self.desk.as_str(), self.n, 0, 0)

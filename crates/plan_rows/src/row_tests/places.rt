@@ -6,7 +6,7 @@ ghost use Rattle.plan_rows.specs.declared.row_tests.beside.Beside.{Beside as Oth
 ghost use Rattle.plan_rows.specs.declared.row_tests.beside.PlanSeen.{PlanSeen as Seen};
 ghost use Rattle.plan_rows.specs.World.{is_code, is_desk, is_plan, is_plan_of};
 ghost use Rattle.plan_rows.specs.Books.{published_in};
-ghost use Rattle.plan_rows.specs.Tables.{desk_kept, plan_seen};
+ghost use Rattle.plan_rows.specs.Tables.{desk_kept, head_seen};
 ghost use Rattle.plan_rows.specs.RowTests.{AreFirst, AreCounts, ArePlaces};
 
 use crate::row_tests::beside::{Beside, PlanSeen};
@@ -90,7 +90,7 @@ impl<'a> Places<'a> {
     /// The place of a plan.
     pub fn plan_at(&self, desk: &str, n: u64) -> Option<usize>
         ensures { (o : Others) (seen : List Seen) → ArePlaces o seen self.now
-            → result ≡ position (λ row. is_plan desk.now n (plan_seen row)) seen }
+            → result ≡ position (λ row. is_plan desk.now n (head_seen row)) seen }
     {
         self.plans.get(&(desk, n, 0, 0)).copied()
     }
@@ -98,7 +98,7 @@ impl<'a> Places<'a> {
     /// How many plans a desk has.
     pub fn count_plans(&self, desk: &str) -> usize
         ensures { (o : Others) (seen : List Seen) → ArePlaces o seen self.now
-            → result ≡ length (filter (λ row. is_plan_of desk.now (plan_seen row)) seen) }
+            → result ≡ length (filter (λ row. is_plan_of desk.now (head_seen row)) seen) }
     {
         self.counts.get(desk).copied().unwrap_or(0usize)
     }

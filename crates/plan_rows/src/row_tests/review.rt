@@ -6,7 +6,7 @@ ghost use Rattle.std.specs.Bool.{MatchBool};
 ghost use Rattle.std.specs.List.{AllByRecursion, position};
 ghost use Rattle.plan_rows.specs.World.{Plan};
 ghost use Rattle.plan_rows.specs.Rules.{IsPlanRow, IsWorld};
-ghost use Rattle.plan_rows.specs.Tables.{world_beside, head_of, plan_kept, plan_seen};
+ghost use Rattle.plan_rows.specs.Tables.{world_beside, head_of, plan_kept, head_seen};
 ghost use Rattle.plan_rows.specs.RowTests.{Tells, GivesFile, HeldKey, AreFirst};
 ghost use Rattle.plan_rows.specs.Reviewing.{holds_key, has_row, is_arc_key, key_at};
 ghost use Rattle.plan_rows.specs.Reviewing.{lag_key_of, is_owner, owner_key_of};
@@ -124,7 +124,7 @@ fn are_struck(pending: &HashSet<(&str, u64, u64, u64)>, rows: &[LagRecord]) -> b
 
 // What is kept of a plan that has so many places.
 fn seen(alloc: Global, row: &PlanRecord, places: u64) -> Result<PlanSeen, AllocError>
-    ensures head { IfOk result (λ seen. plan_seen seen ≡ head_of (plan_kept row.now)) }
+    ensures head { IfOk result (λ seen. head_seen seen ≡ head_of (plan_kept row.now)) }
     ensures places { IfOk result (λ seen. seen.places ≡ places) }
 {
     Ok(PlanSeen {

@@ -9,7 +9,7 @@ ghost use Rattle.plan_rows.specs.Plans as plans;
 ghost use Rattle.plan_rows.specs.Names.{is_from_to};
 ghost use Rattle.plan_rows.specs.Rules as rules;
 ghost use Rattle.plan_rows.specs.Books.{published_in};
-ghost use Rattle.plan_rows.specs.Tables.{world_beside, desk_kept, plan_seen, bind_kept, lag_kept};
+ghost use Rattle.plan_rows.specs.Tables.{world_beside, desk_kept, head_seen, bind_kept, lag_kept};
 ghost use Rattle.plan_rows.specs.RowTests.{Tells, ArePlaces, IsDeskOf, RowsAreGood};
 ghost use Rattle.plan_rows.specs.Reviewing.{AreSeen};
 
@@ -58,7 +58,7 @@ impl Tested for DeskRecord {
 }
 
 impl Tested for PlanSeen {
-    ghost keeps = { λ w row. rules.IsOwned w (plan_seen row) };
+    ghost keeps = { λ w row. rules.IsOwned w (head_seen row) };
 
     fn is_good(&self, beside: &Beside<'_>, _plans: &[PlanSeen], places: &Places<'_>) -> bool {
         match places.desk_at(self.desk.as_str()) {

@@ -1,6 +1,6 @@
 //! What the tables answer.
 
-ghost use Rattle.std.specs.Prelude.{◌≡◌, find, map, string_bytes, IfOk};
+ghost use Rattle.std.specs.Prelude.{◌≡◌, find, string_bytes, IfOk};
 ghost use Rattle.plan_rows.specs.World.{desk_in, code_in};
 ghost use Rattle.plan_rows.specs.Views.{view};
 ghost use Rattle.plan_rows.specs.Plans.{has_number};

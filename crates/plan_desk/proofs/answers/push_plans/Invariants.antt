@@ -1,6 +1,6 @@
 use Rattle.std.proofs.Common.{◌≡◌, ◌++◌, take}
 use Rattle.std.specs.String.{string_bytes}
-use Rattle.plan_desk.specs.Answers.{texts_of_codes, texts_of_entries}
+use Rattle.plan_desk.specs.Answers.{texts_of_entries}
 use Rattle.plan_desk.proofs.answers.push_plans.Given as goal
 
 -- the texts of the rows so far stand behind the text

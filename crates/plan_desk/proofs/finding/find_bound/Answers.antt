@@ -1,4 +1,4 @@
-use Rattle.std.proofs.Common.{subst, Some}
+use Rattle.std.proofs.Common.{subst}
 use Rattle.plan_rows.specs.Views.{view}
 use Rattle.plan_desk.specs.Finding.{FindsPlan, HasCapacities}
 use Rattle.plan_desk.proofs.DecidingLemmas.{found_more, bound_there}

@@ -1,4 +1,4 @@
-use Rattle.std.proofs.Common.{◌≡◌, ap, sym, map, subst, take, refl, arith, ◌∙◌, ◌+◌}
+use Rattle.std.proofs.Common.{ap, sym, map, subst, take, ◌+◌}
 use Rattle.std.proofs.lemmas.List.{take_all}
 use Rattle.plan_desk.specs.Pages.{bound_in}
 use Rattle.plan_desk.specs.Finding.{HasCapacities}

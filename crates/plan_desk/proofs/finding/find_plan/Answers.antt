@@ -1,9 +1,9 @@
-use Rattle.std.proofs.Common.{sym, ap, ◌∙◌, subst, Some, None}
+use Rattle.std.proofs.Common.{sym, ap, ◌∙◌, subst, None}
 use Rattle.plan_rows.specs.Views.{view}
-use Rattle.plan_rows.specs.Books.{Matches, IsPlanAnswer}
+use Rattle.plan_rows.specs.Books.{Matches}
 use Rattle.plan_desk.specs.Finding.{FindsPlan}
 use Rattle.plan_rows.specs.Plans.{plan_number}
-use Rattle.plan_desk.proofs.DecidingLemmas.{found_by, failed_by, plan_there, plan_missing}
+use Rattle.plan_desk.proofs.DecidingLemmas.{found_by, plan_there, plan_missing}
 use Rattle.plan_desk.proofs.finding.find_plan.Goals as goal
 
 pub returns-in-Some-2 : goal.returns-in-Some-2

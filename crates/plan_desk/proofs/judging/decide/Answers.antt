@@ -1,5 +1,4 @@
 use Rattle.std.proofs.Common.{sym, subst, []}
-use Rattle.std.specs.Prelude.{string_bytes}
 use Rattle.plan_rows.specs.Views.{view}
 use Rattle.plan_desk.specs.Outcomes.{tells}
 use Rattle.plan_desk.specs.JsonTexts.{codes_text}

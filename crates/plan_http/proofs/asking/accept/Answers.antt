@@ -1,7 +1,5 @@
-use Rattle.std.proofs.Common.{◌≡◌, ◌<◌, ap, sym, ◌∙◌, subst, bytes_eq, codes, length, map, take}
-use Rattle.httparse.specs.Spans.{header_bytes}
+use Rattle.std.proofs.Common.{◌<◌, ap, sym, ◌∙◌, subst, bytes_eq, codes, length}
 use Rattle.plan_http.specs.Head.{after_head}
-use Rattle.plan_http.specs.Judges.{length_of, fields_of}
 use Rattle.plan_http.proofs.ClientLemmas.{reads_map}
 use Rattle.plan_http.proofs.JudgingLemmas.{after_split, short_told, request_told, may_want}
 use Rattle.plan_http.proofs.asking.accept.Goals as goal

@@ -1,4 +1,4 @@
-use Rattle.std.proofs.Common.{◌≡◌, ap, sym, ◌∙◌, bytes_eq, codes}
+use Rattle.std.proofs.Common.{ap, sym, ◌∙◌, bytes_eq, codes}
 use Rattle.plan_http.specs.Checks.{first_failing}
 use Rattle.plan_http.proofs.ClientLemmas.{reads_none, reads_map}
 use Rattle.plan_http.proofs.JudgingLemmas.{checks_at, length_at, head_told}

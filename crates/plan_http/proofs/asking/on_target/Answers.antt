@@ -1,4 +1,4 @@
-use Rattle.std.proofs.Common.{◌≡◌, ℕ, Bool, true, false, not, List, Option, None, Some, ap, sym, ◌∙◌, bytes_eq, codes}
+use Rattle.std.proofs.Common.{◌≡◌, true, false, not, None, Some, ap, sym, ◌∙◌, bytes_eq, codes}
 use Rattle.plan_http.specs.declared.checks.Check.TheVariants.{Route, Method}
 use Rattle.plan_http.specs.Head.{after_head}
 use Rattle.plan_http.specs.Routes.{route_of, method_of}

@@ -1,4 +1,4 @@
-use Rattle.std.proofs.Common.{◌≡◌, ◌<◌, ◌≤◌, length, inl, inr, refl}
+use Rattle.std.proofs.Common.{◌<◌, ◌≤◌, length, inl, inr, refl}
 use Rattle.plan_http.proofs.ClientLemmas.{reads_map}
 use Rattle.plan_http.proofs.BodyLemmas.{left_behind}
 use Rattle.plan_http.proofs.asking.refuse.Goals as goal

@@ -1,6 +1,5 @@
-use Rattle.std.proofs.Common.{◌≡◌, ◌+◌, ◌<◌, ◌∙◌, length, take, nat_eq, refl, arith}
+use Rattle.std.proofs.Common.{◌+◌, ◌<◌, ◌∙◌, take, nat_eq, refl, arith}
 use Rattle.std.proofs.lemmas.List.{length-take-le}
-use Rattle.std.proofs.lemmas.Bool.Decides.{nat_tests}
 use Rattle.plan_http.proofs.ClientLemmas.{reads_then}
 use Rattle.plan_http.proofs.ReadingLemmas.{nothing_more, came_some}
 use Rattle.plan_http.proofs.head.read_head.Goals as goal

@@ -1,5 +1,4 @@
-use Rattle.std.proofs.Common.{length, map, drop, vec_items, ap, subst, List}
-use Rattle.plan_rows.specs.World.{Text}
+use Rattle.std.proofs.Common.{length, map, drop, vec_items, ap, subst}
 use Rattle.plan_http.specs.Isolated.{IsApart}
 use Rattle.plan_http.proofs.HeadlineLemmas.{run_of, as_many, unmapped}
 use Rattle.plan_http.proofs.headline.make_run.Goals as goal

@@ -1,4 +1,4 @@
-use Rattle.std.proofs.Common.{◌≡◌, Some, true, false, ap, ◌∙◌}
+use Rattle.std.proofs.Common.{◌≡◌, Some, false, ap, ◌∙◌}
 use Rattle.plan_http.specs.Clients.{Known}
 use Rattle.plan_http.proofs.ServingLemmas.{decided, replied}
 use Rattle.plan_http.proofs.runs.response_to.Goals as goal

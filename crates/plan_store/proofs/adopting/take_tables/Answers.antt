@@ -1,4 +1,4 @@
-use Rattle.std.proofs.Common.{refl, sym, ◌∙◌, Err}
+use Rattle.std.proofs.Common.{refl, ◌∙◌, Err}
 use Rattle.sqlite.specs.Held.{state}
 use Rattle.plan_store.specs.declared.fault.StoreFault.TheVariants.{NotOurs}
 use Rattle.plan_store.proofs.AdoptLemmas.{refuses, no_layout, takes_after}

@@ -1,5 +1,4 @@
 use Rattle.std.proofs.Common.{refl, Ok, Err}
-use Rattle.sqlite.specs.Held.{state}
 use Rattle.plan_store.proofs.MigrateLemmas.{migrated_all, migrated_none}
 use Rattle.plan_store.proofs.migrating.migrate.Goals as goal
 

@@ -10,7 +10,7 @@ use Rattle.plan_rows.specs.Books.{published_in}
 use Rattle.plan_rows.specs.Tables.{world_beside, desk_kept, bind_kept, lag_kept}
 use Rattle.plan_rows.specs.World.{Digest, Plan, World}
 use Rattle.plan_store.specs.declared.taking.OtherRows.{OtherRows}
-use Rattle.plan_store.specs.Opening.{IsJudged, world_others}
+use Rattle.plan_store.specs.Opening.{world_others}
 use Rattle.plan_store.specs.Reviewed.{ReviewsPlans}
 use Rattle.plan_store.proofs.OpeningLemmas.{judged, told, untold, looks_nowhere}
 use Rattle.plan_store.proofs.LookingLemmas.{looks_again}

@@ -3,7 +3,6 @@ use Rattle.sqlite.specs.Held.{state}
 use Rattle.plan_rows.specs.Books.{Matches, IsPlanAnswer}
 use Rattle.plan_rows.specs.Plans.{has_number}
 use Rattle.plan_rows.specs.Views.{view}
-use Rattle.plan_rows.specs.World.{plan_in}
 use Rattle.std.proofs.Common.{find}
 use Rattle.plan_store.specs.Stores.{world_of}
 use Rattle.plan_store.proofs.AskingLemmas.{asks_map}

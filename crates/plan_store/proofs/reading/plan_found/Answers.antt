@@ -1,6 +1,5 @@
-use Rattle.std.proofs.Common.{◌≡◌, refl, sym, ap, subst, ◌∙◌, Ok, Some, map}
+use Rattle.std.proofs.Common.{refl, ap, subst, ◌∙◌, Ok, Some}
 use Rattle.sqlite.specs.Effect.{Database}
-use Rattle.sqlite.specs.State.{State}
 use Rattle.sqlite.specs.Held.{state}
 use Rattle.plan_rows.specs.Books.{Matches}
 use Rattle.plan_rows.specs.World.{plan_in}

@@ -1,5 +1,4 @@
-use Rattle.std.proofs.Common.{rules, ◌≡◌, false, true, sym, refl}
-use Rattle.sqlite.specs.Held.{state}
+use Rattle.std.proofs.Common.{sym, refl}
 use Rattle.plan_store.proofs.RereadLemmas.{read_again, left_over}
 use Rattle.plan_store.proofs.rereading.reread.Goals as goal
 

@@ -1,4 +1,4 @@
-use Rattle.std.proofs.Common.{◌≡◌, ◌∙◌, true, false, refl, sym, ap, subst, option_copied}
+use Rattle.std.proofs.Common.{◌∙◌, refl, sym, ap, subst, option_copied}
 use Rattle.plan_store.specs.declared.reviewing.Next.TheVariants.{Good, Bad, End}
 use Rattle.plan_store.specs.Reviewed.{ReviewsRow, ComesNext}
 use Rattle.plan_store.proofs.reviewing.review_at.Goals as goal

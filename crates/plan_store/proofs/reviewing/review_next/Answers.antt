@@ -1,10 +1,6 @@
-use Rattle.std.proofs.Common.{◌≡◌, inl, inr, List, Ok, IfOk}
-use Rattle.sqlite.specs.State.{HasCleanDisk, IsUnchanged}
+use Rattle.std.proofs.Common.{inl, inr}
 use Rattle.sqlite.specs.Held.{state}
 use Rattle.sqlite.specs.Given.{row_if}
-use Rattle.plan_rows.specs.World.{Plan}
-use Rattle.plan_store.specs.Reviewed.{Reviews}
-use Rattle.plan_store.proofs.AskingLemmas.{if_ok}
 use Rattle.plan_store.proofs.ReviewedLemmas.{unchanged_stays, stays_leaves, undone_leaves, next_told, good_reviewed, if_all_ok}
 use Rattle.plan_store.proofs.reviewing.review_next.Goals as goal
 

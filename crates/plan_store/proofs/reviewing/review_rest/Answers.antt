@@ -1,7 +1,6 @@
-use Rattle.std.proofs.Common.{◌≡◌, ◌∙◌, [], false, refl, sym, ap, subst, arith, Ok, Some}
-use Rattle.sqlite.specs.State.{HasCleanDisk, IsUnchanged}
+use Rattle.std.proofs.Common.{◌∙◌, [], refl, ap, subst, arith, Ok}
+use Rattle.sqlite.specs.State.{HasCleanDisk}
 use Rattle.sqlite.specs.Held.{state}
-use Rattle.plan_store.specs.declared.reviewing.Next.TheVariants.{Good, Bad, End}
 use Rattle.plan_store.specs.Reviewed.{Reviews}
 use Rattle.plan_store.proofs.TransactionLemmas.{survives_itself, survives_on}
 use Rattle.plan_store.proofs.ReviewedLemmas.{stays_itself, unchanged_stays, stays_then, stays_leaves, leaves_then, gone_none, gone_more, gone_bad, gone_all}

@@ -1,5 +1,4 @@
 use Rattle.std.proofs.Common.{◌≡◌, ◌∙◌, [], rules, sym, subst}
-use Rattle.sqlite.specs.State.{State, HasCleanDisk, Survives, CommitsShowing, FailsToQuery}
 use Rattle.sqlite.specs.Given.{IsRefused}
 use Rattle.sqlite.specs.Held.{state}
 use Rattle.plan_store.specs.Querying.{Queries}

@@ -1,7 +1,7 @@
-use Rattle.std.proofs.Common.{rules, ◌≡◌, map, IsTrue, true, OnOk, sym, subst, arith, refl}
+use Rattle.std.proofs.Common.{rules, ◌≡◌, map, IsTrue, OnOk, subst, arith, refl}
 use Rattle.sqlite.specs.State.{HasCleanDisk, Survives}
 use Rattle.sqlite.specs.Held.{state}
-use Rattle.plan_store.specs.Running.{said, RanAll, LeavesAll, MayMake}
+use Rattle.plan_store.specs.Running.{said, LeavesAll, MayMake}
 use Rattle.plan_store.proofs.TransactionLemmas.{committed_all, survives_all, on_ok}
 use Rattle.plan_store.proofs.running.run_all.Goals as goal
 

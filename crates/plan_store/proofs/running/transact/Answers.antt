@@ -1,5 +1,4 @@
 use Rattle.std.proofs.Common.{map, refl, Ok, Err}
-use Rattle.sqlite.specs.Held.{state}
 use Rattle.plan_store.specs.Running.{said}
 use Rattle.plan_store.proofs.ServingLemmas.{made_changes, refused_changes}
 use Rattle.plan_store.proofs.running.transact.Goals as goal

@@ -1,6 +1,6 @@
-use Rattle.std.proofs.Common.{◌≡◌, Ok, Some, IsTrue, sym, subst, ap, ◌∙◌}
+use Rattle.std.proofs.Common.{Some, IsTrue, sym, subst, ap, ◌∙◌}
 use Rattle.sqlite.specs.Effect.{Database}
-use Rattle.sqlite.specs.State.{State, HasCleanDisk}
+use Rattle.sqlite.specs.State.{HasCleanDisk}
 use Rattle.sqlite.specs.Held.{state}
 use Rattle.plan_rows.specs.Books.{Matches, IsDeskAnswer}
 use Rattle.plan_rows.specs.Changes.{apply, AddPlan}

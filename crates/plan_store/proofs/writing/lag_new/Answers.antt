@@ -1,9 +1,8 @@
 use Rattle.std.proofs.Common.{[], ◌∷◌}
-use Rattle.sqlite_value.specs.declared.value.Value.TheVariants.{Text, Blob}
+use Rattle.sqlite_value.specs.declared.value.Value.TheVariants.{Text}
 use Rattle.sqlite.specs.Held.{state}
-use Rattle.plan_rows.specs.Names.{kind_text, plan_kind_text}
-use Rattle.plan_rows.specs.Changes.{new_code, new_bind, new_lag}
-use Rattle.plan_store.specs.Rows.{number_value, digest_value}
+use Rattle.plan_rows.specs.Changes.{new_lag}
+use Rattle.plan_store.specs.Rows.{number_value}
 use Rattle.plan_store.proofs.ServingLemmas.{one_makes, begun}
 use Rattle.plan_store.proofs.StatementLemmas.{sets_lag}
 use Rattle.plan_store.proofs.WriteMeanings.{set_lag_text}

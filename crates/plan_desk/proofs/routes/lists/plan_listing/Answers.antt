@@ -1,8 +1,8 @@
-use Rattle.std.proofs.Common.{sym, ap, ◌∙◌}
+use Rattle.std.proofs.Common.{ap, ◌∙◌}
 use Rattle.plan_rows.specs.Views.{view}
 use Rattle.plan_desk.specs.Calls.{answer}
 use Rattle.plan_desk.specs.Outcomes.{tells}
-use Rattle.plan_desk.specs.JsonTexts.{codes_text, plans_text}
+use Rattle.plan_desk.specs.JsonTexts.{plans_text}
 use Rattle.plan_desk.proofs.DecidingLemmas.{found_by}
 use Rattle.plan_desk.proofs.RouteLemmas.{decides_kept, tells_so}
 use Rattle.plan_desk.proofs.AnswerLemmas.{listed_plans}

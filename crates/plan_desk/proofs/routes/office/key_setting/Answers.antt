@@ -1,9 +1,8 @@
-use Rattle.std.proofs.Common.{◌≡◌, subst, refl, ap, sym, ◌∙◌, None, Some, true, false}
-use Rattle.std.specs.Prelude.{option_map, string_bytes, is_some, not}
+use Rattle.std.proofs.Common.{◌≡◌, refl, ap, sym, ◌∙◌, Some}
+use Rattle.std.specs.Prelude.{option_map, string_bytes}
 use Rattle.plan_rows.specs.Names.{key_digest_of}
 use Rattle.plan_rows.specs.Views.{view}
 use Rattle.plan_desk.specs.Bodies.{key_body}
-use Rattle.plan_rows.specs.World.{desk_in}
 use Rattle.plan_desk.specs.OfficeRoutes.{SetsKey}
 use Rattle.plan_desk.proofs.FitLemmas.{key_says}
 use Rattle.plan_desk.proofs.DecidingLemmas.{found_by}

@@ -1,4 +1,4 @@
-use Rattle.std.proofs.Common.{◌≡◌, subst, refl, ap, sym, ◌∙◌, inl, inr, None, Some, []}
+use Rattle.std.proofs.Common.{◌≡◌, ap, sym, ◌∙◌, Some, []}
 use Rattle.std.specs.Prelude.{option_map, unwrap_or}
 use Rattle.sha2.specs.Sha256.{sha256}
 use Rattle.plan_rows.specs.Names.{key_digest_of}
@@ -6,7 +6,7 @@ use Rattle.plan_rows.specs.Views.{view}
 use Rattle.plan_desk.specs.BodyViews.{desk_body_in}
 use Rattle.plan_desk.specs.Bodies.{desk_body, desk_named}
 use Rattle.plan_desk.specs.OfficeRoutes.{Opens}
-use Rattle.plan_desk.proofs.FitLemmas.{desk_says, desk_key_says}
+use Rattle.plan_desk.proofs.FitLemmas.{desk_key_says}
 use Rattle.plan_desk.proofs.DecidingLemmas.{found_at_once, found_by}
 use Rattle.plan_desk.proofs.RouteLemmas.{decides_kept, has_digest, digest_of_key, opened, opens_nothing, opens_there, opens_by}
 use Rattle.plan_desk.proofs.routes.office.opening.Goals as goal

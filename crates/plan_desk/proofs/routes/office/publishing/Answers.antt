@@ -1,4 +1,4 @@
-use Rattle.std.proofs.Common.{◌≡◌, subst, refl, ap, sym, ◌∙◌, None, Some, []}
+use Rattle.std.proofs.Common.{◌≡◌, refl, ap, sym, ◌∙◌, Some, []}
 use Rattle.std.specs.Prelude.{option_map}
 use Rattle.plan_rows.specs.Views.{view}
 use Rattle.plan_desk.specs.BodyViews.{publish_in}

@@ -1,4 +1,4 @@
-use Rattle.std.proofs.Common.{◌≡◌, ◌&&◌, true, false, not, sym, ap, ◌∙◌, string_bytes}
+use Rattle.std.proofs.Common.{◌&&◌, false, not, sym, ap, ◌∙◌, string_bytes}
 use Rattle.plan_rows.specs.declared.tables.records.LagRecord.{LagRecord}
 use Rattle.plan_rows.specs.Tables.{plan_kept}
 use Rattle.plan_rows.specs.RowTests.{shown_key}

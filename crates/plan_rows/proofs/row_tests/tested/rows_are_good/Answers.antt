@@ -1,5 +1,5 @@
 use Rattle.std.proofs.Common.{◌≡◌, true, refl}
-use Rattle.plan_rows.specs.Rules.{IsOwned, IsBindRow, is_published_row}
+use Rattle.plan_rows.specs.Rules.{IsBindRow, is_published_row}
 use Rattle.plan_rows.specs.Names.{is_from_to}
 use Rattle.plan_rows.specs.Books.{published_in}
 use Rattle.plan_rows.specs.Tables.{world_beside, desk_kept, bind_kept, lag_kept}

@@ -1,4 +1,4 @@
-use Rattle.std.proofs.Common.{◌≡◌, ◌∙◌, ◌++◌, ◌∷◌, [], arith, ap, subst, map, take}
+use Rattle.std.proofs.Common.{◌∙◌, ◌++◌, ◌∷◌, [], arith, ap, subst, map, take}
 use Rattle.plan_rows.specs.Rules.{IsPlanRow}
 use Rattle.plan_rows.specs.Tables.{plan_kept}
 use Rattle.plan_rows.specs.Reviewing.{HasReviewed}

@@ -4,7 +4,7 @@ use Rattle.plan_rows.specs.World.{Plan, is_plan, code_in, same_kind, takes}
 use Rattle.plan_rows.specs.Plans.{is_place}
 use Rattle.plan_rows.specs.Rules.{IsThereAnd}
 use Rattle.plan_rows.specs.RowTests.{Tells}
-use Rattle.plan_rows.specs.Tables.{world_beside, plan_seen, bind_kept}
+use Rattle.plan_rows.specs.Tables.{world_beside, head_seen, bind_kept}
 use Rattle.plan_rows.proofs.TestedLemmas.{IsBindOf, tells_there, there_none, there_untold, misplaced, tells_bind}
 use Rattle.plan_rows.proofs.ReviewLemmas.{one_seen, none_seen, found_below}
 use Rattle.plan_rows.proofs.row_tests.tested.BindRecordTested.is_good.Goals as goal
@@ -17,13 +17,13 @@ returns-in_default c = λ known are.
 
 pub offset_bounds-plans-at : goal.offset_bounds-plans-at
 offset_bounds-plans-at c =
-    let low = found_below (λ row. is_plan (string_bytes c.args.self.now.desk) c.args.self.now.n (plan_seen row)) c.args.plans.now c.in-Some.at
+    let low = found_below (λ row. is_plan (string_bytes c.args.self.now.desk) c.args.self.now.n (head_seen row)) c.args.plans.now c.in-Some.at
     (rw c.as_str.ensures.value at (sym (c.plan_at.ensures c.args.beside.now c.args.plans.now c.requires.places) ∙ c.in-Some.is)) in
     omega (arith, low)
 
 pub bounds-plans-at : goal.bounds-plans-at
 bounds-plans-at c =
-    found_below (λ row. is_plan (string_bytes c.args.self.now.desk) c.args.self.now.n (plan_seen row)) c.args.plans.now c.in-Some.at
+    found_below (λ row. is_plan (string_bytes c.args.self.now.desk) c.args.self.now.n (head_seen row)) c.args.plans.now c.in-Some.at
     (rw c.as_str.ensures.value at (sym (c.plan_at.ensures c.args.beside.now c.args.plans.now c.requires.places) ∙ c.in-Some.is))
 
 pub returns-then-not-is_place : goal.returns-then-not-is_place
