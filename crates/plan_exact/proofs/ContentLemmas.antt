@@ -1,6 +1,5 @@
 -- What the solution of a project depends on.
-use Rattle.std.proofs.Common.{◌≡◌, ℕ, List, sym, ap, subst}
-use Rattle.plan_sgs.specs.Problem.{makespan}
+use Rattle.std.proofs.Common.{◌≡◌, ℕ, List, sym, subst}
 use Rattle.plan_sgs.specs.Instances.{Planned, problem_of}
 use Rattle.plan_sgs.specs.ProjectWords.{letters_after, is_full, makespan_by, least_of_all, bound_of}
 use Rattle.plan_exact.specs.Memos.{Content, content_of}

@@ -17,7 +17,7 @@ use Rattle.plan_exact.specs.Visited.{IsTakenFrom}
 use Rattle.plan_exact.specs.Answers.{Outcome, outcome, outcome_of, letters_of, is_optimal}
 use Rattle.plan_exact.specs.ProjectTrees.{CountedProject, project_tree, TreeHasProjectWords, FoundIsShortestProject}
 use Rattle.plan_exact.specs.Solutions.{IsBudget}
-use Rattle.plan_exact.specs.ProjectSolutions.{HasFewActivities, project_outcome, starts_or, IsInitial, IsScheduleBy, IsFoundFrom, IsProjectSolution}
+use Rattle.plan_exact.specs.ProjectSolutions.{HasFewActivities, project_outcome, starts_or, IsInitial, IsProjectSolution}
 use Rattle.plan_exact.specs.declared.solving.Solved.{Solved}
 use Rattle.plan_exact.specs.declared.answer.Answer.{Answer}
 use Rattle.plan_exact.specs.declared.answer.Kind.TheVariants.{Optimal}

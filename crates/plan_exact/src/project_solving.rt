@@ -4,7 +4,6 @@ ghost use Rattle.std.specs.Prelude.{◌≡◌, IfOk, IfErr};
 ghost use Rattle.plan_sgs.specs.Problem.{IsActive, IsShortest, makespan};
 ghost use Rattle.plan_sgs.specs.Instances.{IsInstance, problem_of};
 ghost use Rattle.plan_sgs.specs.Rules.{IsNumberedList};
-ghost use Rattle.plan_sgs.specs.declared.rule.Rule.TheVariants as rule;
 ghost use Rattle.plan_exact.specs.Solutions.{IsBudget};
 ghost use Rattle.plan_exact.specs.ProjectSolutions as spec;
 ghost use Rattle.plan_exact.specs.declared.answer.Kind.TheVariants.{Optimal};

@@ -1,7 +1,6 @@
 //! What a memo is asked: all that a best schedule depends on.
 
-ghost use Rattle.std.specs.Prelude.{◌≡◌, List, map, IfOk};
-ghost use Rattle.plan_net.specs.Limits.{IsSound};
+ghost use Rattle.std.specs.Prelude.{◌≡◌, map, IfOk};
 ghost use Rattle.plan_shop.specs.Shop.{IsShop};
 ghost use Rattle.plan_sgs.specs.Instances.{IsInstance};
 ghost use Rattle.plan_exact.specs.Memos.{asked_of_shop, asked_of_project, asked_by};

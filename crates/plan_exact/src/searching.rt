@@ -1,7 +1,7 @@
 //! The search: depth first, in the order of the letters, with one list for the letters of all words
 //! on the way.
 
-ghost use Rattle.std.specs.Prelude.{◌≡◌, ◌≢◌, ℕ, ◌+◌, ◌-◌, ◌<◌, ◌≤◌, List, [], ◌∷◌, ◌++◌, length, Contains, IfOk, OnOk, IsTrue, false};
+ghost use Rattle.std.specs.Prelude.{◌≡◌, ◌+◌, ◌<◌, ◌≤◌, [], Contains, IfOk, OnOk};
 ghost use Rattle.plan_exact.specs.Words.{IsWord};
 ghost use Rattle.plan_exact.specs.Answers.{outcome, outcome_of};
 ghost use Rattle.plan_exact.specs.Explored.{after_word, explored_from, children_explored, child_explored, outcome_so_far, standing_of, KeepsLists};

@@ -1,7 +1,6 @@
 -- Of the best text of a project there is only one, and no text where there is a line that tells why not.
 use Rattle.std.proofs.Common.{ℕ, ◌≡◌, inl, inr, List, ◌++◌, refl, sym, ◌∙◌, ap, subst, arith}
 use Rattle.plan_sgs.specs.Instances.{Planned, problem_of}
-use Rattle.plan_sgs.specs.declared.fault.SgsFault.{SgsFault}
 use Rattle.plan_sgs.proofs.OnceLemmas.{feasible_fits, refusal_once, fit_not_refused}
 use Rattle.plan_exact.specs.declared.answer.Kind.{Kind}
 use Rattle.plan_exact.specs.declared.solving.Solved.{Solved}
@@ -14,7 +13,7 @@ use Rattle.plan_gantt.specs.ScheduleTable.{schedule_table_text}
 use Rattle.plan_gantt.specs.ScheduleFaultText.{schedule_fault_text_of}
 use Rattle.plan_gantt.specs.BestText.{kind_line}
 use Rattle.plan_gantt.specs.ExactFaultText.{exact_fault_text_of}
-use Rattle.plan_gantt.specs.ProjectBestText.{best_project_text_of, IsBestProjectBy, IsBestProjectTextOf, RefusesBestProject, TellsNoBestProject, TellsBestProjectRefusal}
+use Rattle.plan_gantt.specs.ProjectBestText.{best_project_text_of, IsBestProjectBy, IsBestProjectTextOf, RefusesBestProject, TellsBestProjectRefusal}
 
 -- answers that say the same have one text
 best_project_line_once : (i : Planned) (a b : Solved) → SolvedAlike a b → best_project_text_of i a ≡ best_project_text_of i b

@@ -1,6 +1,6 @@
 //! Numbers right in their columns, and lines of them.
 
-ghost use Rattle.std.specs.Prelude.{◌≡◌, ◌-◌, ◌++◌, OnOk, length, replicate, string_bytes};
+ghost use Rattle.std.specs.Prelude.{◌≡◌, ◌++◌, OnOk, replicate, string_bytes};
 ghost use Rattle.plan_gantt.specs.Column.{column, number_column, number_columns, number_row};
 
 use std::alloc::AllocError;

@@ -1,6 +1,6 @@
 //! The date table.
 
-ghost use Rattle.std.specs.Prelude.{◌≡◌, ◌++◌, ◌==◌, length, IfOk, OnOk, string_bytes};
+ghost use Rattle.std.specs.Prelude.{◌≡◌, ◌++◌, length, IfOk, OnOk, string_bytes};
 ghost use Rattle.plan_net.specs.Network.{IsActivity, count_of};
 ghost use Rattle.plan_gantt.specs.Column.{number_columns};
 ghost use Rattle.plan_gantt.specs.DateTable.{dates_of, line_end, date_line, date_table_text};

@@ -1,6 +1,6 @@
 //! The table of a shop's schedule.
 
-ghost use Rattle.std.specs.Prelude.{◌≡◌, ◌+◌, ◌++◌, ◌≤◌, ◌<◌, length, slice_index, EachIndex, IfOk, OnOk, string_bytes};
+ghost use Rattle.std.specs.Prelude.{◌≡◌, ◌++◌, ◌≤◌, ◌<◌, length, slice_index, EachIndex, IfOk, OnOk, string_bytes};
 ghost use Rattle.plan_shop.specs.Shop.{count_steps};
 ghost use Rattle.plan_gantt.specs.Limits.{latest_start};
 ghost use Rattle.plan_gantt.specs.ShopTable.{shop_line, shop_table_text};

@@ -1,7 +1,7 @@
 -- Steps of one machine take turns, so that their times lie between the least head and the end by
 -- the least tail.
 use Rattle.std.proofs.Common.{◌≡◌, ℕ, zero, suc, ◌+◌, ◌-◌, ◌≤◌, ◌<◌, ◌⊎◌, inl, inr, List, Vec, [], ◌∷◌, Bool, true, false, ◌&&◌, ◌||◌, nat_le, nat_lt, nat_eq, cond, length, get_or, Contains, refl, sym, ◌∙◌, ap, subst, arith}
-use Rattle.std.specs.List.{All, AllPairs, filter, sum_by}
+use Rattle.std.specs.List.{All, filter, sum_by}
 use Rattle.std.specs.declared.alloc.Global.{Global}
 use Rattle.std.proofs.lemmas.List.Kept.{AllPairs-filter}
 use Rattle.std.proofs.lemmas.List.Elements.{All-filter, All-weaker, All-contains_itself, recursion_from_All}
@@ -11,8 +11,8 @@ use Rattle.std.proofs.lemmas.List.{get_or_default}
 use Rattle.std.proofs.lemmas.Bool.{leb-true, ltb-true, eqb-true, le-leb, lt-ltb, eq-eqb, and_parts, and_from, or_cases, or_left, or_right, cond-true, cond-false, false_from_ne_true}
 use Rattle.plan_shop.proofs.NumberLemmas.{InOrder, in_order_from}
 use Rattle.plan_shop.proofs.Span.{IsClear, span}
-use Rattle.plan_prove.specs.Graphs.{time_in, IsBefore, KeepsClique, IsKept}
-use Rattle.plan_prove.specs.States.{Holds, IsRefuted, is_ranked, ranked, IsRankedAfter, IsClique}
+use Rattle.plan_prove.specs.Graphs.{time_in, KeepsClique}
+use Rattle.plan_prove.specs.States.{IsRefuted, is_ranked, ranked, IsRankedAfter, IsClique}
 use Rattle.plan_prove.specs.declared.graph.Graph.{Graph}
 use Rattle.plan_prove.specs.declared.state.State.{State}
 use Rattle.plan_prove.specs.declared.cliques.Rank.{Rank}

@@ -1,5 +1,5 @@
 -- The graph of a shop is kept by all its feasible starts, so what is refuted of the graph is of the shop.
-use Rattle.std.proofs.Common.{◌≡◌, ℕ, suc, ◌+◌, ◌≤◌, ◌<◌, inl, inr, List, [], ◌∷◌, ◌++◌, Some, Vec, Bool, true, false, nat_eq, nat_lt, cond, ◌⊎◌, add-one, Contains, length, get_or, map, take, ap, sym, ◌∙◌, subst, arith}
+use Rattle.std.proofs.Common.{◌≡◌, ℕ, suc, ◌+◌, ◌≤◌, ◌<◌, inl, inr, List, [], ◌∷◌, ◌++◌, Some, Vec, true, false, nat_eq, nat_lt, add-one, Contains, length, get_or, map, take, ap, sym, ◌∙◌, subst, arith}
 use Rattle.std.specs.List.{All, AllPairs}
 use Rattle.std.specs.declared.alloc.Global.{Global}
 use Rattle.plan_shop.proofs.NumberLemmas.{there_passes, those_rise}

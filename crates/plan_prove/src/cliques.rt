@@ -1,6 +1,6 @@
 //! What the steps of one machine say together: they take turns, so that their times add up.
 
-ghost use Rattle.std.specs.Prelude.{◌≡◌, ◌<◌, ◌≤◌, ◌+◌, ◌⊎◌, ℕ, false, IfSome, get_or};
+ghost use Rattle.std.specs.Prelude.{◌≡◌, ◌≤◌, ◌+◌, ◌⊎◌, false, IfSome, get_or};
 ghost use Rattle.plan_prove.specs.Graphs.{time_in};
 ghost use Rattle.plan_prove.specs.States as spec;
 

@@ -1,8 +1,7 @@
 //! What follows from what is known: heads and tails along arcs, and sides of pairs that leave no
 //! room.
 
-ghost use Rattle.std.specs.Prelude.{◌≡◌, ◌<◌, ◌≤◌, ℕ, List, false, true, length, get_or, slice_index, IfSome, IfNone};
-ghost use Rattle.plan_prove.specs.Graphs.{IsBefore};
+ghost use Rattle.std.specs.Prelude.{◌<◌, length, IfNone};
 ghost use Rattle.plan_prove.specs.States as spec;
 
 use crate::cliques::machines_leave_room;

@@ -1,6 +1,6 @@
 //! The disjunctive graph of a shop.
 
-ghost use Rattle.std.specs.Prelude.{◌≡◌, ◌<◌, ◌+◌, ◌*◌, ◌≤◌, ◌↔◌, ℕ, suc, length, slice_index, All, IfOk, OnOk, IsTrue};
+ghost use Rattle.std.specs.Prelude.{◌≡◌, ◌<◌, ◌≤◌, ◌↔◌, All, IfOk, OnOk, IsTrue};
 ghost use Rattle.plan_shop.specs.Shop as flat;
 ghost use Rattle.plan_shop.specs.Shop.{IsShop};
 ghost use Rattle.plan_shop.specs.Docs.{IsSmallShop};

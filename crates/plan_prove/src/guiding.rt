@@ -1,8 +1,6 @@
 //! The active schedule that follows a list of starts.
 
-ghost use Rattle.std.specs.Prelude.{◌≡◌, IfOk, IfSome, length, ◌<◌, ◌≤◌, Contains};
-ghost use Rattle.plan_sgs.specs.Problem.{IsActive, makespan};
-ghost use Rattle.plan_shop.specs.Shop.{count_steps, problem_of};
+ghost use Rattle.std.specs.Prelude.{IfOk, IfSome, ◌≤◌, Contains};
 ghost use Rattle.plan_prove.specs.Proofs.{IsActiveSchedule};
 
 use crate::state::{at, raise};

@@ -1,6 +1,6 @@
 //! The search: whether any schedule stays below a limit.
 
-ghost use Rattle.std.specs.Prelude.{◌≡◌, ◌<◌, ◌≤◌, ℕ, List, length, All, IfOk, IfNone};
+ghost use Rattle.std.specs.Prelude.{◌≡◌, ◌<◌, ◌≤◌, length, IfOk, IfNone};
 ghost use Rattle.plan_prove.specs.Graphs.{NoneIsBelow};
 ghost use Rattle.plan_prove.specs.States as spec;
 ghost use Rattle.plan_prove.specs.declared.refuting.Outcome.TheVariants.{Refuted};

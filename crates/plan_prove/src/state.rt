@@ -1,6 +1,6 @@
 //! What a search knows of the schedules that it still looks for.
 
-ghost use Rattle.std.specs.Prelude.{◌≡◌, ◌<◌, ◌≤◌, ◌^◌, ℕ, length, replicate, get_or, slice_index, IfOk, IfSome, IfNone};
+ghost use Rattle.std.specs.Prelude.{◌≡◌, ◌<◌, ◌≤◌, ◌^◌, get_or, slice_index, IfSome, IfNone};
 ghost use Rattle.plan_prove.specs.States as spec;
 ghost use Rattle.plan_prove.specs.declared.state.Side.TheVariants.{Open};
 
@@ -49,7 +49,7 @@ pub fn side_at(sides: &[Side], place: usize) -> Side
 }
 
 impl State {
-    ghost use Rattle.std.specs.Prelude.{◌≡◌, ◌<◌, ◌≤◌, IfOk, IfSome, IfNone};
+    ghost use Rattle.std.specs.Prelude.{IfOk};
     ghost use Rattle.plan_prove.specs.States as spec;
 
     /// The state in which nothing is known.

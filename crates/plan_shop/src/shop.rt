@@ -1,7 +1,6 @@
 //! Job shops in flat order.
 
-ghost use Rattle.std.specs.Prelude.{◌≡◌, ◌≤◌, ◌<◌, ◌*◌, ◌↔◌, Some, length, slice_get, IfOk, IfErr, IfSome, IfNone, IsTrue};
-ghost use Rattle.plan_orlib.specs.Shop as docs;
+ghost use Rattle.std.specs.Prelude.{◌≡◌, ◌≤◌, ◌<◌, ◌↔◌, Some, length, slice_get, IfOk, IfErr, IfSome, IfNone, IsTrue};
 ghost use Rattle.plan_shop.specs.Docs as spec;
 
 use crate::fault::ShopFault;

@@ -1,8 +1,6 @@
 //! The tree of a shop's words.
 
-ghost use Rattle.std.specs.Prelude.{◌≡◌, ℕ, ◌+◌, ◌-◌, ◌≤◌, ◌<◌, [], ◌∷◌, ◌++◌, true, length, cond, nat_lt, Contains, IfOk, OnOk, OnErr, IsTrue};
-ghost use Rattle.plan_shop.specs.Words as words;
-ghost use Rattle.plan_shop.specs.Shop as flat;
+ghost use Rattle.std.specs.Prelude.{◌≡◌, ◌<◌, length, cond, nat_lt, IfOk};
 ghost use Rattle.plan_shop.specs.Bound.{tail_of};
 ghost use Rattle.plan_shop.specs.Trees.{AreTails};
 
@@ -83,7 +81,7 @@ fn tails(alloc: Global, shop: &Shop) -> Result<Vec<u64>, AllocError>
 }
 
 impl<'a> ShopTree<'a> {
-    ghost use Rattle.std.specs.Prelude.{◌≡◌, ℕ, ◌+◌, ◌-◌, ◌≤◌, ◌<◌, List, [], ◌∷◌, ◌++◌, true, length, max, Contains, IfOk, IsOk, OnOk, OnErr, IsTrue};
+    ghost use Rattle.std.specs.Prelude.{◌≡◌, ℕ, ◌≤◌, ◌<◌, List, [], ◌∷◌, ◌++◌, true, length, max, Contains, IfOk, IsOk, OnOk, OnErr};
     ghost use Rattle.plan_shop.specs.Words as words;
     ghost use Rattle.plan_shop.specs.Shop as flat;
     ghost use Rattle.plan_shop.specs.Trees as spec;

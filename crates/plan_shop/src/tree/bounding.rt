@@ -1,6 +1,6 @@
 //! The bound of a word.
 
-ghost use Rattle.std.specs.Prelude.{◌≡◌, ◌+◌, ◌*◌, ◌≤◌, ◌<◌, suc, cond, nat_eq};
+ghost use Rattle.std.specs.Prelude.{◌≡◌, ◌+◌, ◌*◌, ◌<◌, suc, cond, nat_eq};
 ghost use Rattle.plan_sgs.specs.Problem.{greatest_below};
 ghost use Rattle.plan_shop.specs.Bound as bounds;
 ghost use Rattle.plan_shop.specs.Trees as spec;

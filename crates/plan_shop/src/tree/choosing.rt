@@ -1,6 +1,6 @@
 //! The letter that a rule chooses, and the schedule of a full word.
 
-ghost use Rattle.std.specs.Prelude.{◌≡◌, ◌<◌, All, true, length, IfOk, MatchOption};
+ghost use Rattle.std.specs.Prelude.{◌≡◌, ◌<◌, All, true, IfOk, MatchOption};
 ghost use Rattle.plan_profile.specs.Usage.{IsInTime};
 ghost use Rattle.plan_shop.specs.Names as names;
 ghost use Rattle.plan_shop.specs.Rules as rules;

@@ -1,8 +1,7 @@
 //! The letters that may follow.
 
-ghost use Rattle.std.specs.Prelude.{◌≡◌, ◌+◌, ◌<◌, ◌&&◌, true, [], ◌∷◌, ◌++◌, map, nat_eq, nat_lt, IfSome, IfNone, OnOk};
+ghost use Rattle.std.specs.Prelude.{◌≡◌, ◌<◌, [], ◌∷◌, ◌++◌, IfSome, IfNone, OnOk};
 ghost use Rattle.plan_shop.specs.Words as words;
-ghost use Rattle.plan_shop.specs.Shop as flat;
 ghost use Rattle.plan_shop.specs.Trees as spec;
 
 use crate::tree::ShopTree;

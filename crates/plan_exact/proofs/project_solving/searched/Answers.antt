@@ -1,11 +1,8 @@
-use Rattle.std.proofs.Common.{◌≡◌, List, ℕ, Option, Some, None, ap, sym, ◌∙◌, subst}
-use Rattle.plan_sgs.specs.Problem.{makespan}
-use Rattle.plan_sgs.specs.Instances.{problem_of}
-use Rattle.plan_sgs.specs.Placing.{AllEndBy, latest_end}
+use Rattle.std.proofs.Common.{◌≡◌, List, ℕ, Some, None, ap, sym, ◌∙◌, subst}
 use Rattle.plan_sgs.specs.declared.schedule.Schedule.{Schedule}
 use Rattle.plan_exact.specs.Answers.{Outcome, outcome_of, letters_of}
 use Rattle.plan_exact.specs.ProjectTrees.{CountedProject}
-use Rattle.plan_exact.specs.ProjectSolutions.{project_outcome, starts_or}
+use Rattle.plan_exact.specs.ProjectSolutions.{starts_or}
 use Rattle.plan_exact.proofs.ProjectSolutionLemmas.{IsMadeOf, search_is_outcome, answered_is_list, solution_of_answer}
 use Rattle.plan_exact.proofs.project_solving.searched.Goals.{in-Some+in_ok-schedule-in-Some, in-None}
 use Rattle.plan_exact.proofs.project_solving.searched.Goals as goal
