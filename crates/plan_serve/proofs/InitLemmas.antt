@@ -8,10 +8,11 @@ use Rattle.plan_store.specs.declared.fault.StoreFault.TheVariants as store
 use Rattle.plan_store.specs.Tables.{no_schema}
 use Rattle.plan_store.specs.Offices.{HasOfficeTables}
 use Rattle.plan_serve.specs.Faults.{fault_of}
-use Rattle.plan_serve.specs.Keys.{ReadsKey, TakesKey}
+use Rattle.plan_store.specs.SqlBooks.{Counted}
+use Rattle.plan_serve.specs.Keys.{ReadsKey, TakesKey, first_line}
 use Rattle.plan_serve.specs.declared.fault.ServeFault.{ServeFault}
 use Rattle.plan_serve.specs.declared.fault.ServeFault.TheVariants as fault
-use Rattle.plan_serve.specs.InitRun.{IsTold, IsLeft, MakesNone, IsInitFault}
+use Rattle.plan_serve.specs.InitRun.{IsTold, IsLeft, MakesNone, Inits, HasMade, IsInitFault}
 
 module _ {S : Type 0} (g : Ghosts S) (Opens : Held S → Type 0) (Refuses : StoreFault → Type 0) (remaining rest : Option Text) (digest : Digest)
     (reads : ReadsKey remaining rest (Ok digest)) where
@@ -80,3 +81,9 @@ init_faults g Opens Refuses remaining rest fault.Denied back i = tt
 init_faults g Opens Refuses remaining rest fault.Taken back i = tt
 init_faults g Opens Refuses remaining rest fault.PortTaken back i = absurd i
 init_faults g Opens Refuses remaining rest fault.PortDenied back i = absurd i
+
+-- the tables of a new office were made
+pub has_made : {S : Type 0} (g : Ghosts S) (Opens : Held S → Type 0) (Refuses : StoreFault → Type 0) (remaining rest : Option Text) (book : Counted S)
+    → Inits g Opens Refuses remaining rest (Ok book) → HasMade g Opens
+has_made g Opens Refuses remaining rest book (digest, reads, empty, office) =
+    (digest, (first_line reads.0, reads.2), empty, (book.conn, office))

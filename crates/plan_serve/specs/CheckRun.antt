@@ -1,12 +1,16 @@
 -- What it is to test an office and print how many rows it has (docs/DEFINITIONS.md, "Runs").
 use Rattle.std.specs.Prelude.{◌≡◌, ℕ, ◌<◌, List, ◌++◌, Option, length, take, Result, Ok, Err, IfOk}
 use Rattle.std.specs.Io.KnownBytes.{Appends}
+use Rattle.sqlite_disk.specs.declared.start.Start as start
+use Rattle.sqlite_trees.specs.declared.store.Store.{Ghosts}
 use Rattle.sha2.specs.declared.Sha256.{Sha256}
 use Rattle.sha2.specs.Hashers.{Holds256}
 use Rattle.plan_rows.specs.declared.fault.BookFault.{BookFault}
 use Rattle.plan_rows.specs.World.{Text, World}
 use Rattle.plan_rows.specs.Books.{Shelf}
 use Rattle.plan_desk.specs.Deciding.{Quiet}
+use Rattle.plan_store.specs.SqlBooks.{Counted, sql_shelf}
+use Rattle.plan_store.specs.OnDisk.{IsTakenFrom}
 use Rattle.plan_serve.specs.declared.summary.Summary.{Summary}
 use Rattle.plan_serve.specs.declared.fault.ServeFault.{ServeFault}
 use Rattle.plan_serve.specs.declared.fault.ServeFault.TheVariants as fault
@@ -41,6 +45,11 @@ module _ {B : Type 0} (shelf : Shelf B) (old new : B) where
 abbrev pub ChecksFrom : {B : Type 0} → Shelf B → B → Option Text → Option Text → Type 0
 ChecksFrom {B} shelf book taken after =
     (next : B) × Quiet shelf book next × Writes shelf book next taken after (Ok tt)
+
+-- the tables that files held were taken, their rows summed, and the summary written whole
+abbrev pub ChecksOnFiles : {F S : Type 0} → start.Ghosts F → Ghosts S → Option Text → Option Text → Type 0
+ChecksOnFiles {F} {S} first g taken after =
+    (book : Counted S) × IsTakenFrom first book.conn g × ChecksFrom (sql_shelf g) book taken after
 
 -- a summary was written whole, or in part
 abbrev pub IsPrinted : Option Text → Option Text → Type 0

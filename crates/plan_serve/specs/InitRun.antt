@@ -1,10 +1,13 @@
 -- What it is to make the tables of a new office (docs/DEFINITIONS.md, "Runs").
 use Rattle.std.specs.Prelude.{◌≡◌, ◌≢◌, ◌⊎◌, false, IsTrue, Option, Some, None, Result, Ok, Err}
+use Rattle.sqlite_disk.specs.declared.start.Start as start
+use Rattle.sqlite_wal.specs.Files.{image_at}
 use Rattle.sqlite_trees.specs.Tree.{Trees}
 use Rattle.sqlite_trees.specs.declared.store.Store.{Ghosts}
 use Rattle.sqlite.specs.Effect.{Database}
 use Rattle.sqlite.specs.State.{State, HasCleanDisk, Survives}
-use Rattle.sqlite.specs.Held.{Held, state}
+use Rattle.sqlite.specs.Start.{FindsIn}
+use Rattle.sqlite.specs.Held.{Held, state, IsNew}
 use Rattle.plan_rows.specs.World.{Text, Digest, empty_world}
 use Rattle.plan_store.specs.declared.fault.StoreFault.{StoreFault}
 use Rattle.plan_store.specs.declared.fault.StoreFault.TheVariants as store
@@ -17,7 +20,7 @@ use Rattle.plan_store.specs.Creating.{IsNewStore}
 use Rattle.plan_serve.specs.declared.fault.ServeFault.{ServeFault}
 use Rattle.plan_serve.specs.declared.fault.ServeFault.TheVariants as fault
 use Rattle.plan_serve.specs.Faults.{fault_of}
-use Rattle.plan_serve.specs.Keys.{ReadsKey}
+use Rattle.plan_serve.specs.Keys.{ReadsKey, IsDigestOfKey}
 
 -- the tables of an office without a row stand, and a crash leaves nothing else
 pub record IsNewOffice (s : State) (digest : Digest) : Type 0 where
@@ -37,11 +40,27 @@ IsTold cause db told =
     ((told ≡ fault.Taken) × (cause ≡ store.NotOurs) × HasOfficeTables db.schema)
     ⊎ ((told ≡ fault_of cause) × (cause ≡ store.NotOurs → ¬ HasOfficeTables db.schema))
 
-module _ {S : Type 0} (g : Ghosts S) (Opens : Held S → Type 0) (Refuses : StoreFault → Type 0) where
+-- a connection that was opened new, with what the files held
+abbrev pub IsOpenedFrom : {F S : Type 0} → start.Ghosts F → Ghosts S → Held S → Type 0
+IsOpenedFrom first g conn =
+    IsNew conn × (HasCleanDisk (state g conn) → FindsIn (image_at first) (state g conn))
+
+module _ {S : Type 0} (g : Ghosts S) (Opens : Held S → Type 0) where
   -- a database was opened that has no table
   abbrev pub IsEmptyThere : Type 0
   IsEmptyThere = (conn : Held S) × Opens conn × ((state g conn).now.schema ≡ no_schema)
 
+  -- a database was opened that had no table, and has those of a new office, with the digest of some key
+  abbrev pub HasMade : Type 0
+  HasMade =
+      (digest : Digest) × IsDigestOfKey digest × IsEmptyThere
+      × ((after : Held S) × IsNewOffice (state g after) digest)
+
+-- the same of a database that files held
+abbrev pub InitsOnFiles : {F S : Type 0} → start.Ghosts F → Ghosts S → Type 0
+InitsOnFiles first g = HasMade g (IsOpenedFrom first g)
+
+module _ {S : Type 0} (g : Ghosts S) (Opens : Held S → Type 0) (Refuses : StoreFault → Type 0) where
   -- a database was opened that has the tables of an office, and its connection comes back untouched
   abbrev pub IsOfficeThere : Option (Held S) → Type 0
   IsOfficeThere back =
@@ -79,7 +98,8 @@ module _ {S : Type 0} (g : Ghosts S) (Opens : Held S → Type 0) (Refuses : Stor
   -- the tables of a new office are made, with the digest of the key that was read, or none is
   abbrev pub Inits : Option Text → Option Text → Result (Counted S) (ServeFault × Option (Held S)) → Type 0
   Inits remaining rest (Ok book) =
-      (digest : Digest) × ReadsKey remaining rest (Ok digest) × IsEmptyThere × IsNewOffice (state g book.conn) digest
+      (digest : Digest) × ReadsKey remaining rest (Ok digest) × IsEmptyThere g Opens
+      × IsNewOffice (state g book.conn) digest
   Inits remaining rest (Err e) = MakesNone remaining rest e.0 e.1
 
 -- why the tables of a new office aren't made

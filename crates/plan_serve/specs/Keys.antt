@@ -21,6 +21,10 @@ without_return text =
 unfoldable pub first_line : Text → Text
 first_line text = without_return (before_first is_line_feed text)
 
+-- the digest of some key
+abbrev pub IsDigestOfKey : Digest → Type 0
+IsDigestOfKey digest = (key : Text) × (key_digest_of key ≡ Some digest)
+
 -- the digest of the key in the first line of a text, or that there is none
 abbrev pub SaysKey : Text → Result Digest ServeFault → Type 0
 SaysKey text (Ok digest) = key_digest_of (first_line text) ≡ Some digest

@@ -1,12 +1,12 @@
 //! The commands on files, and on a port.
 
 ghost use Rattle.std.specs.Prelude.{◌≡◌, ◌⊎◌, ◌+◌, ◌≤◌, length, IfOk, IfErr, IsErrOf, OnOk};
-ghost use Rattle.sqlite.specs.Held.{IsNew};
 ghost use Rattle.plan_psplib.specs.Devices.{most_calls, HasFailed};
 ghost use Rattle.plan_store.specs.declared.fault.StoreFault.TheVariants.{NoMemory, Store};
-ghost use Rattle.plan_serve.specs.CheckRun.{IsPrinted, IsPrintedInPart};
-ghost use Rattle.plan_serve.specs.InitRun.{IsInitFault};
-ghost use Rattle.plan_serve.specs.ReplayRun.{AreAnswered, AreAnsweredInPart};
+ghost use Rattle.plan_serve.specs.CheckRun.{ChecksOnFiles, IsPrinted, IsPrintedInPart};
+ghost use Rattle.plan_serve.specs.InitRun.{IsOpenedFrom, InitsOnFiles, IsInitFault};
+ghost use Rattle.plan_serve.specs.ReplayRun.{AreAnswered, AreAnsweredInPart, ReplaysOnFiles};
+ghost use Rattle.plan_serve.specs.Ports.{ServesOnFiles};
 ghost use Rattle.plan_serve.specs.Serve.{IsServeFault};
 
 use crate::fault::ServeFault;
@@ -17,32 +17,35 @@ use crate::requests::read_connection;
 use crate::service::Service;
 use plan_psplib::{Sink, StdSource};
 use plan_store::{SqlBook, StoreFault};
-use sqlite::{Connection, Error, ErrorCode, Unknown};
-use sqlite_std_file::File;
-use sqlite_store::FileStore;
+use sqlite::{Connection, Error, ErrorCode, FileFrom, FileStore, Start, Unknown};
+use sqlite_trees::store::Store;
 use std::alloc::Global;
 use std::fs;
 use std::io::{self, ErrorKind};
 
+// What a database in a file is kept in.
+type Kept<F> = FileStore<FileFrom<F>>;
+
 // A database in a file, by its name.
 #[derive(Drop)]
-struct InFile<'a> {
+struct InFile<'a, F: Start> {
     rt: &'a HostRuntime,
     path: &'a str,
+    start: F,
 }
 
-impl<'a> Place for InFile<'a> {
-    type Kept = FileStore<File>;
+impl<'a, F: Start> Place for InFile<'a, F> {
+    type Kept = Kept<F>;
 
-    // Its connections are new ones.
-    ghost opens = { λ _ conn. IsNew conn };
+    // Its connections are new ones, with what the files held.
+    ghost opens = { λ _ conn. IsOpenedFrom F.Start ⟦<Kept<F> as Store>⟧ conn };
 
     ghost refuses = { λ _ fault. (fault ≡ NoMemory) ⊎ (fault ≡ Store) };
 
-    fn connect(self, _alloc: Global) -> Result<Connection<FileStore<File>>, StoreFault> {
-        match Connection::open(self.rt, self.path) {
+    fn connect(self, _alloc: Global) -> Result<Connection<Kept<F>>, StoreFault> {
+        match Connection::open_from(self.rt, self.path, false, self.start) {
             Ok(conn) => Ok(conn),
-            Err(Error::SqliteFailure(ErrorCode::OutOfMemory)) => Err(StoreFault::NoMemory),
+            Err((Error::SqliteFailure(ErrorCode::OutOfMemory), _)) => Err(StoreFault::NoMemory),
             Err(_) => Err(StoreFault::Store),
         }
     }
@@ -50,7 +53,7 @@ impl<'a> Place for InFile<'a> {
 
 // The outcome of a command, once the database that is open is closed, with its log copied into it. Where
 // that fails the log stays beside it, and nothing is lost.
-fn closed(ended: Ended<FileStore<File>>) -> Result<(), ServeFault>
+fn closed<F: Start>(ended: Ended<Kept<F>>) -> Result<(), ServeFault>
     ensures { result ≡ ended.0 }
 {
     let (done, conn) = ended;
@@ -73,10 +76,19 @@ fn open_fault(error: &io::Error) -> ServeFault
 /// `plan init`: makes the tables of an office in the file of this name, by the key that is the first
 /// line of standard input.
 pub fn init_on_file(rt: &HostRuntime, path: &str) -> Result<(), ServeFault>
-    ensures { IfErr result IsInitFault }
+    ensures made { OnOk result (InitsOnFiles ⟦<Unknown as Start>⟧ ⟦<Kept<Unknown> as Store>⟧) }
+    ensures which { IfErr result IsInitFault }
+{
+    init_from(rt, path, Unknown)
+}
+
+/// The same, where the start stands for what the files hold.
+pub fn init_from<F: Start>(rt: &HostRuntime, path: &str, start: F) -> Result<(), ServeFault>
+    ensures made { OnOk result (InitsOnFiles F.Start ⟦<Kept<F> as Store>⟧) }
+    ensures which { IfErr result IsInitFault }
 {
     let mut input = StdSource::new(rt.reader());
-    match closed(init_at(rt.alloc(), &mut input, InFile { rt, path })) {
+    match closed(init_at(rt.alloc(), &mut input, InFile { rt, path, start })) {
         Err(ServeFault::Store) => Err(refusal(rt, path, Unknown)),
         done => done,
     }
@@ -117,12 +129,14 @@ fn read_all(rt: &HostRuntime, paths: &[&str]) -> Result<Vec<Vec<u8>>, ServeFault
 }
 
 // Serves connections by the office in the file of this name, and writes the responses.
-fn replay_at<W: Sink>(
+fn replay_at<F: Start, W: Sink>(
     rt: &HostRuntime,
     path: &str,
+    start: F,
     conns: &[Vec<u8>],
     writer: &mut W,
 ) -> Result<(), ServeFault>
+    ensures replays { OnOk result (ReplaysOnFiles F.Start ⟦<Kept<F> as Store>⟧ (length conns.now) (W.taken writer.old) (W.taken writer.new)) }
     ensures ok { OnOk result (AreAnswered (length conns.now) (W.taken writer.old) (W.taken writer.new)) }
     ensures part { IsErrOf result ServeFault.Output → AreAnsweredInPart (length conns.now) (W.taken writer.old) (W.taken writer.new) }
     ensures writes { W.calls writer.new ≤ W.calls writer.old + most_calls }
@@ -134,7 +148,7 @@ fn replay_at<W: Sink>(
     if let Err(fault) = look(rt, path) {
         return Err(fault);
     }
-    let opened = SqlBook::open_from(rt, path, Unknown);
+    let opened = SqlBook::open_from(rt, path, start);
     match closed(replay_opened(rt.alloc(), opened, conns, writer)) {
         Err(ServeFault::Store) => Err(refusal(rt, path, Unknown)),
         done => done,
@@ -149,6 +163,29 @@ pub fn replay_on_files<W: Sink>(
     requests: &[&str],
     writer: &mut W,
 ) -> Result<(), ServeFault>
+    ensures replays { OnOk result (ReplaysOnFiles ⟦<Unknown as Start>⟧ ⟦<Kept<Unknown> as Store>⟧ (length requests.now) (W.taken writer.old) (W.taken writer.new)) }
+    // What is written is a response for each file, or a part of these, or nothing.
+    ensures ok { OnOk result (AreAnswered (length requests.now) (W.taken writer.old) (W.taken writer.new)) }
+    ensures part { IsErrOf result ServeFault.Output → AreAnsweredInPart (length requests.now) (W.taken writer.old) (W.taken writer.new) }
+    ensures writes { W.calls writer.new ≤ W.calls writer.old + most_calls }
+    // Nothing is written with any other fault than that of the output.
+    ensures quiet { IfErr result (λ e. (e ≡ ServeFault.Output) ⊎ (writer.new ≡ writer.old)) }
+    ensures fine { OnOk result (W.faults writer.new ≡ W.faults writer.old) }
+    ensures output { IsErrOf result ServeFault.Output →
+        HasFailed (W.calls writer.old) (W.calls writer.new) (W.faults writer.old) (W.faults writer.new) }
+{
+    replay_from(rt, path, Unknown, requests, writer)
+}
+
+/// The same, where the start stands for what the files hold.
+pub fn replay_from<F: Start, W: Sink>(
+    rt: &HostRuntime,
+    path: &str,
+    start: F,
+    requests: &[&str],
+    writer: &mut W,
+) -> Result<(), ServeFault>
+    ensures replays { OnOk result (ReplaysOnFiles F.Start ⟦<Kept<F> as Store>⟧ (length requests.now) (W.taken writer.old) (W.taken writer.new)) }
     // What is written is a response for each file, or a part of these, or nothing.
     ensures ok { OnOk result (AreAnswered (length requests.now) (W.taken writer.old) (W.taken writer.new)) }
     ensures part { IsErrOf result ServeFault.Output → AreAnsweredInPart (length requests.now) (W.taken writer.old) (W.taken writer.new) }
@@ -163,7 +200,7 @@ pub fn replay_on_files<W: Sink>(
         Ok(conns) => conns,
         Err(fault) => return Err(fault),
     };
-    replay_at(rt, path, &conns, writer)
+    replay_at(rt, path, start, &conns, writer)
 }
 
 /// `plan check-office`: tests every row of the office in the file of this name, and writes how many
@@ -173,6 +210,27 @@ pub fn check_office_on_file<W: Sink>(
     path: &str,
     writer: &mut W,
 ) -> Result<(), ServeFault>
+    ensures checks { OnOk result (ChecksOnFiles ⟦<Unknown as Start>⟧ ⟦<Kept<Unknown> as Store>⟧ (W.taken writer.old) (W.taken writer.new)) }
+    ensures ok { OnOk result (IsPrinted (W.taken writer.old) (W.taken writer.new)) }
+    ensures part { IsErrOf result ServeFault.Output → IsPrintedInPart (W.taken writer.old) (W.taken writer.new) }
+    ensures writes { W.calls writer.new ≤ W.calls writer.old + most_calls }
+    // Nothing is written with any other fault than that of the output.
+    ensures silent { IfErr result (λ e. (e ≡ ServeFault.Output) ⊎ (writer.new ≡ writer.old)) }
+    ensures fine { OnOk result (W.faults writer.new ≡ W.faults writer.old) }
+    ensures output { IsErrOf result ServeFault.Output →
+        HasFailed (W.calls writer.old) (W.calls writer.new) (W.faults writer.old) (W.faults writer.new) }
+{
+    check_office_from(rt, path, Unknown, writer)
+}
+
+/// The same, where the start stands for what the files hold.
+pub fn check_office_from<F: Start, W: Sink>(
+    rt: &HostRuntime,
+    path: &str,
+    start: F,
+    writer: &mut W,
+) -> Result<(), ServeFault>
+    ensures checks { OnOk result (ChecksOnFiles F.Start ⟦<Kept<F> as Store>⟧ (W.taken writer.old) (W.taken writer.new)) }
     ensures ok { OnOk result (IsPrinted (W.taken writer.old) (W.taken writer.new)) }
     ensures part { IsErrOf result ServeFault.Output → IsPrintedInPart (W.taken writer.old) (W.taken writer.new) }
     ensures writes { W.calls writer.new ≤ W.calls writer.old + most_calls }
@@ -185,7 +243,7 @@ pub fn check_office_on_file<W: Sink>(
     if let Err(fault) = look(rt, path) {
         return Err(fault);
     }
-    let opened = SqlBook::open_from(rt, path, Unknown);
+    let opened = SqlBook::open_from(rt, path, start);
     match closed(check_opened(rt.alloc(), opened, writer)) {
         Err(ServeFault::Store) => Err(refusal(rt, path, Unknown)),
         done => done,
@@ -195,13 +253,26 @@ pub fn check_office_on_file<W: Sink>(
 /// `plan serve`: serves so many connections on a port of this machine alone, by the office in a file.
 /// The office is opened before the port.
 pub fn serve_on_port(rt: &HostRuntime, service: &Service<'_>) -> Result<(), ServeFault>
-    ensures { IfErr result IsServeFault }
+    ensures served { OnOk result (ServesOnFiles ⟦<Unknown as Start>⟧ ⟦<Kept<Unknown> as Store>⟧ service.now.count) }
+    ensures which { IfErr result IsServeFault }
+{
+    serve_from(rt, service, Unknown)
+}
+
+/// The same, where the start stands for what the files hold.
+pub fn serve_from<F: Start>(
+    rt: &HostRuntime,
+    service: &Service<'_>,
+    start: F,
+) -> Result<(), ServeFault>
+    ensures served { OnOk result (ServesOnFiles F.Start ⟦<Kept<F> as Store>⟧ service.now.count) }
+    ensures which { IfErr result IsServeFault }
 {
     let path = service.database;
     if let Err(fault) = look(rt, path) {
         return Err(fault);
     }
-    let opened = SqlBook::open_from(rt, path, Unknown);
+    let opened = SqlBook::open_from(rt, path, start);
     match closed(serve_opened(rt, opened, service)) {
         Err(ServeFault::Store) => Err(refusal(rt, path, Unknown)),
         done => done,

@@ -1,11 +1,11 @@
 //! The commands on an office wherever its database is.
 
-ghost use Rattle.std.specs.Prelude.{◌≡◌, ◌≢◌, ◌⊎◌, ◌+◌, ◌≤◌, length, Ok, IfOk, IfErr, IsErrOf, OnOk, MatchResult};
+ghost use Rattle.std.specs.Prelude.{◌≡◌, ◌≢◌, ◌⊎◌, ◌+◌, ◌≤◌, length, map, vec_items, Ok, IfOk, IfErr, IsErrOf, OnOk, MatchResult};
 ghost use Rattle.plan_psplib.specs.Devices.{most_calls, HasFailed};
 ghost use Rattle.plan_serve.specs.Causes.{IsPortCause};
 ghost use Rattle.plan_serve.specs.CheckRun.{ChecksFrom, IsPrinted, IsPrintedInPart};
-ghost use Rattle.plan_serve.specs.InitRun.{IsInitFault};
-ghost use Rattle.plan_serve.specs.ReplayRun.{AreAnswered, AreAnsweredInPart};
+ghost use Rattle.plan_serve.specs.InitRun.{HasMade, IsInitFault};
+ghost use Rattle.plan_serve.specs.ReplayRun.{AreAnswered, AreAnsweredInPart, ReplaysFrom};
 ghost use Rattle.plan_serve.specs.Serve.{IsServeFault};
 ghost use Rattle.plan_serve.specs.Ports.{ServesFrom};
 
@@ -36,7 +36,8 @@ pub(crate) fn init_at<R: Source, P: Place>(
     reader: &mut R,
     place: P,
 ) -> Ended<P::Kept>
-    ensures { IfErr result.0 IsInitFault }
+    ensures made { OnOk result.0 (HasMade P.Kept.Store (P.opens place)) }
+    ensures which { IfErr result.0 IsInitFault }
 {
     match init_run(alloc, reader, place) {
         Ok(book) => (Ok(()), Some(book.into_connection())),
@@ -67,12 +68,14 @@ fn connection_of<S: Alter + Drop>(book: Option<SqlBook<S>>) -> Option<Connection
 
 // Serves connections by an office over a book, and writes the responses. The book comes back, unless
 // memory runs out before the first.
+#[tactic(auto, using(crate::proofs::ReplayLemmas::replays))]
 fn replay_over<B: Book + Drop, W: Sink>(
     alloc: Global,
     book: B,
     conns: &[Vec<u8>],
     writer: &mut W,
 ) -> (Result<(), ServeFault>, Option<B>)
+    ensures replays { OnOk result.0 (ReplaysFrom B.shelf book (map vec_items conns.now) (W.taken writer.old) (W.taken writer.new)) }
     ensures ok { OnOk result.0 (AreAnswered (length conns.now) (W.taken writer.old) (W.taken writer.new)) }
     ensures part { IsErrOf result.0 ServeFault.Output → AreAnsweredInPart (length conns.now) (W.taken writer.old) (W.taken writer.new) }
     ensures writes { W.calls writer.new ≤ W.calls writer.old + most_calls }
@@ -96,6 +99,7 @@ pub(crate) fn replay_opened<S: Alter + Drop, W: Sink>(
     conns: &[Vec<u8>],
     writer: &mut W,
 ) -> Ended<S>
+    ensures replays { OnOk result.0 (MatchResult opened (λ book. ReplaysFrom ⟦<SqlBook<S> as Book>⟧.shelf book (map vec_items conns.now) (W.taken writer.old) (W.taken writer.new)) (λ _. ⊥)) }
     ensures ok { OnOk result.0 (AreAnswered (length conns.now) (W.taken writer.old) (W.taken writer.new)) }
     ensures part { IsErrOf result.0 ServeFault.Output → AreAnsweredInPart (length conns.now) (W.taken writer.old) (W.taken writer.new) }
     ensures writes { W.calls writer.new ≤ W.calls writer.old + most_calls }

@@ -23,7 +23,10 @@ mod visitors;
 
 pub use check_office::check_office_run;
 pub use fault::ServeFault;
-pub use files::{check_office_on_file, init_on_file, replay_on_files, serve_on_port};
+pub use files::{
+    check_office_from, check_office_on_file, init_from, init_on_file, replay_from, replay_on_files,
+    serve_from, serve_on_port,
+};
 pub use init::{Place, init_run};
 pub use key::read_key;
 pub use replay::replay_run;
