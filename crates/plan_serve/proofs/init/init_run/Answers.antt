@@ -1,4 +1,4 @@
-use Rattle.std.proofs.Common.{subst, sym, Some, None}
+use Rattle.std.proofs.Common.{subst, sym, None}
 use Rattle.plan_serve.specs.InitRun.{MakesNone}
 use Rattle.plan_serve.proofs.InitLemmas.{unread, unopened, unmade}
 use Rattle.plan_serve.proofs.init.init_run.Goals as goal

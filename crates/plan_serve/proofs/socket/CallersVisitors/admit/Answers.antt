@@ -1,4 +1,4 @@
-use Rattle.std.proofs.Common.{◌≡◌, []}
+use Rattle.std.proofs.Common.{◌≡◌}
 use Rattle.plan_serve.proofs.TurnLemmas.{counted_ok, fresh_sides}
 use Rattle.plan_serve.proofs.socket.CallersVisitors.admit.Goals as goal
 
