@@ -1,5 +1,5 @@
 -- The rows beside the arcs: what they say of an arc and of its lag, and what a change of one lag keeps.
-use Rattle.std.proofs.Common.{ℕ, ◌≡◌, ◌≢◌, ◌+◌, ◌-◌, ◌≤◌, ◌<◌, ◌⊎◌, inl, inr, List, length, get_or, set, map, refl, sym, ◌∙◌, ap, subst, arith, Vec}
+use Rattle.std.proofs.Common.{ℕ, ◌≡◌, ◌≢◌, ◌+◌, ◌-◌, ◌≤◌, ◌<◌, ◌↔◌, ◌⊎◌, inl, inr, List, [], length, get_or, set, map, refl, sym, ◌∙◌, ap, subst, arith, Vec}
 use Rattle.std.specs.declared.alloc.Global.{Global}
 use Rattle.std.specs.List.{Contains, All}
 use Rattle.std.specs.List.Sorted.{IsStrictlyIncreasing}
@@ -18,7 +18,10 @@ use Rattle.plan_net.proofs.RowLemmas.{arc_ends, row_at-read, within_limits}
 use Rattle.plan_net.proofs.RisingLemmas.{stands_in, rising_later}
 use Rattle.plan_net.proofs.OnceLemmas.{same_entries, rising_once}
 use Rattle.plan_net.proofs.MarkLemmas.{row_at-set_same, row_at-set_other}
+use Rattle.plan_net.specs.Successors.{AreRows, arcs_of_rows, rows_in}
 use Rattle.plan_net.proofs.PushLemmas.{succs_turned, preds_turned}
+use Rattle.plan_net.proofs.SuccessorLemmas.{IsWithinLimits-rows, AreBeginnings-rows}
+use Rattle.plan_net.proofs.RisingLemmas.{ListsRising-same}
 use Rattle.plan_net.proofs.LagLemmas.{lag_of-limit, lag_beside-map, beside-at, lags-none, lags-set, length-lags_with, All-lags_with}
 
 -- an arc as it stands in the rows of the predecessors
@@ -171,25 +174,50 @@ net_of-unlagged a none =
     let net : List ℕ → Net = λ lags. record { durations = a.durations.items; arcs = a.arcs.items; lags = lags } in
     ap net (lags-none a.preds.items a.lags.items a.arcs.items none)
 
+-- rows that list the predecessors and the successors are in step with the arcs
+IsIndexed-listed : (a : Inside) → IsWithinLimits (unlagged a.durations.items a.arcs.items) → length a.preds.items ≡ count_of (net_of a) → ((k : ℕ) → ListsRising (λ i. IsArc (net_of a) i (k + 1)) (row_at a.preds.items k)) → length a.succs.items ≡ count_of (net_of a) → ((k : ℕ) → ListsRising (IsArc (net_of a) (k + 1)) (row_at a.succs.items k)) → AreNoLags a.preds.items a.lags.items → IsIndexed a
+IsIndexed-listed a limits preds_count preds succs_count succs none = record {
+  limits = subst IsWithinLimits (sym (net_of-unlagged a none)) limits;
+  preds_count = preds_count;
+  preds = λ k within. preds k;
+  succs_count = succs_count;
+  succs = λ k within. succs k;
+  lags_count = none.whole ∙ preds_count;
+  lags = λ k within. ap length (none.each k (omega (arith, none.whole, preds_count, within))) ∙ length-replicate (length (row_at a.preds.items k)) 0;
+}
+
+-- the network of good durations, and of new arcs between activities, is within the limits
+IsWithinLimits-unlagged : (durations : List ℕ) (arcs : List (ℕ × ℕ)) → HasGoodSize (unlagged durations arcs) → HasGoodDurations (unlagged durations arcs) → HasGoodArcs (unlagged durations arcs) → HasNewArcs (unlagged durations arcs) → IsWithinLimits (unlagged durations arcs)
+IsWithinLimits-unlagged durations arcs size good inside new_arcs = record {
+  size = size;
+  durations = good;
+  arcs = inside;
+  new_arcs = new_arcs;
+  lags = (length-replicate (length arcs) 0, All-replicate (λ w. w ≤ LONGEST_LAG) (length arcs) 0 (omega arith));
+}
+
 -- rows of the beginnings of arcs, turned once and turned twice, are in step with the arcs
 pub IsIndexed-made : (a : Inside) (rows : List (Vec ℕ Global)) → HasGoodSize (unlagged a.durations.items a.arcs.items) → HasGoodDurations (unlagged a.durations.items a.arcs.items) → HasGoodArcs (unlagged a.durations.items a.arcs.items) → HasNewArcs (unlagged a.durations.items a.arcs.items) → AreBeginnings (length a.durations.items) a.arcs.items rows → AreTurned rows (length rows) a.succs.items → AreTurned a.succs.items (length a.succs.items) a.preds.items → AreNoLags a.preds.items a.lags.items → IsIndexed a
-IsIndexed-made a rows size durations arcs new_arcs beginnings succs preds none = record {
-  limits = record {
-    size = size;
-    durations = durations;
-    arcs = arcs;
-    new_arcs = new_arcs;
-    lags = (length-map a.arcs.items (lag_in a.preds.items a.lags.items), subst (All (λ w. w ≤ LONGEST_LAG)) (sym (lags-none a.preds.items a.lags.items a.arcs.items none)) (All-replicate (λ w. w ≤ LONGEST_LAG) (length a.arcs.items) 0 (omega arith)));
-  };
-  preds_count = preds.whole ∙ whole;
-  preds = λ k within. preds_turned (net_of a) a.succs.items a.preds.items arcs whole listed preds k;
-  succs_count = whole;
-  succs = λ k within. listed k;
-  lags_count = none.whole ∙ preds.whole ∙ whole;
-  lags = λ k within. ap length (none.each k (omega (arith, none.whole, preds.whole, whole))) ∙ length-replicate (length (row_at a.preds.items k)) 0;
-} where
-  whole : length a.succs.items ≡ count_of (net_of a)
-  whole = succs.whole ∙ beginnings.whole
+IsIndexed-made a rows size durations arcs new_arcs beginnings succs preds none =
+    IsIndexed-listed a (IsWithinLimits-unlagged a.durations.items a.arcs.items size durations arcs new_arcs) (preds.whole ∙ whole) (preds_turned (net_of a) a.succs.items a.preds.items arcs whole listed preds) whole listed none where
+      whole : length a.succs.items ≡ count_of (net_of a)
+      whole = succs.whole ∙ beginnings.whole
 
-  listed : (k : ℕ) → ListsRising (IsArc (net_of a) (k + 1)) (row_at a.succs.items k)
-  listed = succs_turned (net_of a) rows a.succs.items arcs beginnings succs
+      listed : (k : ℕ) → ListsRising (IsArc (net_of a) (k + 1)) (row_at a.succs.items k)
+      listed = succs_turned (net_of a) rows a.succs.items arcs beginnings succs
+
+-- rows of successors, turned once and turned twice, are in step with their arcs
+pub IsIndexed-rows : (a : Inside) (lists : List (Vec ℕ Global)) → HasGoodSize (unlagged a.durations.items []) → HasGoodDurations (unlagged a.durations.items []) → AreRows (length a.durations.items) (rows_in lists) → a.arcs.items ≡ arcs_of_rows 1 (rows_in lists)
+    → AreTurned lists (length lists) a.preds.items → AreTurned a.preds.items (length a.preds.items) a.succs.items → AreNoLags a.preds.items a.lags.items → IsIndexed a
+IsIndexed-rows a lists size durations are same preds succs none =
+    IsIndexed-listed a limits beginnings.whole listed (succs.whole ∙ beginnings.whole) (succs_turned (net_of a) a.preds.items a.succs.items limits.arcs beginnings succs) none where
+      limits : IsWithinLimits (unlagged a.durations.items a.arcs.items)
+      limits = subst (λ (arcs : List (ℕ × ℕ)). IsWithinLimits (unlagged a.durations.items arcs)) (sym same) (IsWithinLimits-rows a.durations.items (rows_in lists) size durations are)
+
+      beginnings : AreBeginnings (length a.durations.items) a.arcs.items a.preds.items
+      beginnings = subst (λ (arcs : List (ℕ × ℕ)). AreBeginnings (length a.durations.items) arcs a.preds.items) (sym same) (AreBeginnings-rows (length a.durations.items) lists a.preds.items are preds)
+
+      listed : (k : ℕ) → ListsRising (λ i. IsArc (net_of a) i (k + 1)) (row_at a.preds.items k)
+      listed k = ListsRising-same (λ i. (1 ≤ i) × (i ≤ length lists) × Contains (row_at lists (i - 1)) (k + 1)) (λ i. IsArc (net_of a) i (k + 1)) (row_at a.preds.items k) (same_arcs k) (preds.each k) where
+        same_arcs : (k : ℕ) (i : ℕ) → ((1 ≤ i) × (i ≤ length lists) × Contains (row_at lists (i - 1)) (k + 1)) ↔ IsArc (net_of a) i (k + 1)
+        same_arcs k i = (λ here. (beginnings.each k i).0 (((preds.each k).exact i).1 here), λ arc. ((preds.each k).exact i).0 ((beginnings.each k i).1 arc))

@@ -7,6 +7,7 @@ pub mod RingLemmas
 pub mod CaughtLemmas
 pub mod LagLemmas
 pub mod PushLemmas
+pub mod SuccessorLemmas
 pub mod IndexLemmas
 pub mod PathLemmas
 pub mod SoundLemmas

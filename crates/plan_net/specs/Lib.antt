@@ -1,4 +1,5 @@
 pub mod Network
+pub mod Successors
 pub mod Path
 pub mod Order
 pub mod Cycle

@@ -34,6 +34,12 @@ IsFirstFault net (Cycle members) =
 IsFirstFault net (NoArc i j) = ⊥
 IsFirstFault net (BadLag i j) = ⊥
 
+-- a cycle, or want of memory
+abbrev pub IsCycleOrMemory : NetFault → Type 0
+IsCycleOrMemory (Cycle members) = Unit {0}
+IsCycleOrMemory NoMemory = Unit {0}
+IsCycleOrMemory _ = ⊥
+
 -- the fault is the first one of a change of the lag from i to j to w
 abbrev pub IsLagFault : Net → ℕ → ℕ → ℕ → NetFault → Type 0
 IsLagFault net i j w NoMemory = ⊥

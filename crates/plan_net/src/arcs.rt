@@ -1,17 +1,18 @@
 //! A network within the limits, before the test for a cycle, with its rows of predecessors,
 //! successors and lags.
 
-ghost use Rattle.std.specs.Prelude.{◌≡◌, ℕ, List, ◌≤◌, map, slice_index, EachIndex, IfOk, IfErr, OnOk, OnErr, IfSome, IfNone};
+ghost use Rattle.std.specs.Prelude.{◌≡◌, ℕ, List, ◌≤◌, [], length, map, slice_index, EachIndex, IfOk, IfErr, OnOk, OnErr, IfSome, IfNone};
 ghost use Rattle.plan_net.specs.Network.{IsActivity, IsArc, ListsRising, duration_of, count_of, lag_of, unlagged, with_lag};
+ghost use Rattle.plan_net.specs.Successors.{AreRows, arcs_of_rows, rows_in};
 ghost use Rattle.plan_net.specs.Limits.{IsWithinLimits, HasGoodSize, HasGoodDurations, HasGoodArcs};
 ghost use Rattle.plan_net.specs.Refusals.{IsFirstFault, IsLagFault, NamesCycle};
 
 use super::checks::{first_bad_arc, first_bad_duration};
 use super::fault::NetFault;
 use super::limits::{FEWEST_ACTIVITIES, LONGEST_DURATION, LONGEST_LAG, MOST_ACTIVITIES};
-use super::rows::{rows_by_end, turned};
+use super::rows::{arcs_of_rows, rows_by_end, turned};
 use super::tables::{first_double_arc, no_lags, no_marks, place_in};
-use std::alloc::Global;
+use std::alloc::{AllocError, Global};
 use std::marker::Model;
 
 /// An activity network within the limits, with the rising rows of predecessors and successors.
@@ -73,6 +74,31 @@ impl Arcs {
         let beginnings = rows_by_end(alloc, &durations, &arcs)?;
         let succs = turned(alloc, &beginnings)?;
         let preds = turned(alloc, &succs)?;
+        let lags = no_lags(alloc, &preds)?;
+        Ok(Arcs {
+            durations,
+            arcs,
+            preds,
+            succs,
+            lags,
+        })
+    }
+
+    /// The network without lags of these durations and of the arcs of these rows of successors.
+    pub fn of_rows(
+        alloc: Global,
+        durations: Vec<u64>,
+        rows: &[Vec<u32>],
+    ) -> Result<Self, AllocError>
+        requires size { HasGoodSize (unlagged durations.items []) }
+        requires durations { HasGoodDurations (unlagged durations.items []) }
+        requires rows { AreRows (length durations.items) (rows_in rows.now) }
+        ensures made { IfOk result (λ made. made ≡ unlagged durations.items (arcs_of_rows 1 (rows_in rows.now))) }
+        ensures limits { IfOk result IsWithinLimits }
+    {
+        let arcs = arcs_of_rows(alloc, rows)?;
+        let preds = turned(alloc, rows)?;
+        let succs = turned(alloc, &preds)?;
         let lags = no_lags(alloc, &preds)?;
         Ok(Arcs {
             durations,

@@ -1,10 +1,11 @@
 //! `Network`, its facts, and all public calls with their contracts. Begin here.
 
-ghost use Rattle.std.specs.Prelude.{◌≡◌, ℕ, List, ◌≤◌, map, IfOk, IfErr, OnOk, OnErr, IfSome, IfNone, slice_index, EachIndex};
+ghost use Rattle.std.specs.Prelude.{◌≡◌, ℕ, List, ◌≤◌, [], length, map, IfOk, IfErr, OnOk, OnErr, IfSome, IfNone, slice_index, EachIndex};
 ghost use Rattle.plan_net.specs.Network.{IsActivity, IsArc, ListsRising, duration_of, count_of, lag_of, unlagged, with_lag};
 ghost use Rattle.plan_net.specs.Order.{IsLeastOrder, IsTopological};
-ghost use Rattle.plan_net.specs.Limits.{IsSound};
-ghost use Rattle.plan_net.specs.Refusals.{IsFirstFault, IsLagFault, NamesCycle};
+ghost use Rattle.plan_net.specs.Successors.{AreRows, arcs_of_rows, rows_in};
+ghost use Rattle.plan_net.specs.Limits.{IsSound, IsWithinLimits, HasGoodSize, HasGoodDurations};
+ghost use Rattle.plan_net.specs.Refusals.{IsFirstFault, IsCycleOrMemory, IsLagFault, NamesCycle};
 
 use super::arcs::Arcs;
 use super::cycle::named_cycle;
@@ -36,6 +37,21 @@ impl Model for Network {
     ghost invariant = { λ a. IsSound a.arcs × IsLeastOrder a.arcs a.order.items };
 }
 
+// The network of these arcs, unless they have a cycle.
+fn ordered(alloc: Global, arcs: Arcs) -> Result<Network, NetFault>
+    requires { IsWithinLimits arcs }
+    ensures accepted { IfOk result (λ net. (net ≡ arcs) × IsSound net) }
+    ensures refused { IfErr result (IsFirstFault arcs) }
+    ensures cycle { IfErr result (NamesCycle arcs) }
+    ensures only { IfErr result IsCycleOrMemory }
+{
+    let (order, placed) = least_order(alloc, &arcs)?;
+    match first_open(&placed) {
+        None => Ok(Network { arcs, order }),
+        Some(first) => Err(NetFault::Cycle(named_cycle(alloc, &arcs, &placed, first)?)),
+    }
+}
+
 impl Network {
     /// The network of these durations and arcs, all lags 0.
     ///
@@ -49,11 +65,25 @@ impl Network {
         ensures cycle { IfErr result (NamesCycle (unlagged durations.items arcs.items)) }
     {
         let arcs = Arcs::new(alloc, durations, arcs)?;
-        let (order, placed) = least_order(alloc, &arcs)?;
-        match first_open(&placed) {
-            None => Ok(Network { arcs, order }),
-            Some(first) => Err(NetFault::Cycle(named_cycle(alloc, &arcs, &placed, first)?)),
-        }
+        ordered(alloc, arcs)
+    }
+
+    /// The network of these durations and rows of successors, all lags 0: the row at place `k` has the
+    /// successors of activity `k + 1`. The arcs are those of the rows, one row behind another.
+    ///
+    /// The limits are the caller's, so it is refused with [`NetFault::Cycle`] alone, or with
+    /// [`NetFault::NoMemory`] in place of any answer.
+    pub fn of_rows(alloc: Global, durations: Vec<u64>, rows: &[Vec<u32>]) -> Result<Self, NetFault>
+        requires size { HasGoodSize (unlagged durations.items []) }
+        requires durations { HasGoodDurations (unlagged durations.items []) }
+        requires rows { AreRows (length durations.items) (rows_in rows.now) }
+        ensures accepted { IfOk result (λ net. (net ≡ unlagged durations.items (arcs_of_rows 1 (rows_in rows.now))) × IsSound net) }
+        ensures refused { IfErr result (IsFirstFault (unlagged durations.items (arcs_of_rows 1 (rows_in rows.now)))) }
+        ensures cycle { IfErr result (NamesCycle (unlagged durations.items (arcs_of_rows 1 (rows_in rows.now)))) }
+        ensures only { IfErr result IsCycleOrMemory }
+    {
+        let arcs = Arcs::of_rows(alloc, durations, rows)?;
+        ordered(alloc, arcs)
     }
 
     /// How many activities there are, from 2 to 502.

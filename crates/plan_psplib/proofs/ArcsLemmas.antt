@@ -5,8 +5,9 @@ use Rattle.std.specs.List.{AllByRecursion, IsDistinct}
 use Rattle.plan_psplib.specs.declared.fault.FileCode.TheVariants as code
 use Rattle.plan_psplib.specs.Streams.{Stream}
 use Rattle.plan_psplib.specs.Reading.{LineNumber, check, number_at, expect_at, end_at}
-use Rattle.plan_psplib.specs.Precedence.{is_among, job_at, successor_at, successors_at, precedence_row_at, precedence_rows_at, precedence, arcs_from}
-use Rattle.plan_psplib.specs.Says.{SpellsArcs, IsRow, precedence_numbers, arcs_of_rows}
+use Rattle.plan_psplib.specs.Precedence.{is_among, job_at, successor_at, successors_at, precedence_row_at, precedence_rows_at, precedence}
+use Rattle.plan_net.specs.Successors.{arcs_from, arcs_of_rows, IsRow}
+use Rattle.plan_psplib.specs.Says.{SpellsArcs, precedence_numbers}
 use Rattle.plan_psplib.proofs.GoesLemmas.{Goes, goes_append, goes_split, goes_spells, spells_goes, then_ok, ok_bind, same_ok, check_ok, ok_check, between_true, true_between, number_goes, goes_number, expect_goes, goes_expect, end_none, none_end}
 
 true_not : (b : Bool) → not b ≡ true → b ≡ false
@@ -198,3 +199,7 @@ precedence_read n s arcs h =
     let read : precedence_rows_at n n 1 [] s ≡ Ok (arcs_of_rows 1 rows, a.0) = ap (λ more. precedence_rows_at n more 1 [] s) (sym h.1) ∙ goes_rows n 1 [] rows s a.0 a.1 (are_rows n rows h.2) in
     ok_bind (precedence_rows_at n n 1 [] s) _ (arcs_of_rows 1 rows, a.0) arcs read
     (ok_bind (end_at a.0) _ tt arcs (none_end a.0 a.2) (ap (λ (xs : List (ℕ × ℕ)). Ok xs) (sym h.4)))
+
+-- the row that is read of a job is a row
+pub row_is_row : (n job : ℕ) (s t : Stream) (row : List ℕ) → precedence_row_at n job s ≡ Ok (row, t) → IsRow n row
+row_is_row n job s t row e = (new_is_row n [] row (row_goes n job s (row, t) e).1).1

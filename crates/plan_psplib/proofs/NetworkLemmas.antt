@@ -1,11 +1,10 @@
--- A document that a text says makes a network: it is within the limits, and no arc stands twice.
-use Rattle.std.proofs.Common.{◌≡◌, ◌≢◌, ℕ, zero, suc, ◌+◌, ◌-◌, ◌≤◌, ◌<◌, Bool, true, false, List, [], ◌∷◌, ◌++◌, Some, length, map, take, get_or, slice_index, refl, sym, ap, ◌∙◌, subst, ◌⊎◌, inl, inr, arith}
-use Rattle.std.specs.Prelude.{nat_eq, slice_get, Contains, All}
-use Rattle.std.specs.List.{AllByRecursion, IsDistinct}
-use Rattle.std.proofs.lemmas.Bool.{eq-eqb}
+-- A document that a text says: what its network is refused for, and its project.
+use Rattle.std.proofs.Common.{◌≡◌, ℕ, zero, suc, ◌-◌, ◌≤◌, ◌<◌, List, [], ◌∷◌, Some, length, map, get_or, slice_index, refl, sym, ap, ◌∙◌, subst, ◌⊎◌, inl, inr, arith}
+use Rattle.std.specs.Prelude.{slice_get, All}
+use Rattle.std.specs.List.{AllByRecursion}
 use Rattle.std.proofs.lemmas.List.Elements.{All-from_recursion, recursion_from_All}
 use Rattle.std.proofs.lemmas.List.Sums.{sum_by-take-le}
-use Rattle.plan_net.specs.Network.{Net, count_of}
+use Rattle.plan_net.specs.Network.{Net, count_of, unlagged}
 use Rattle.plan_net.specs.Limits.{HasGoodSize, HasGoodDurations, IsSound}
 use Rattle.plan_net.specs.Cycle.{IsNamedCycle}
 use Rattle.plan_net.specs.Refusals.{IsFirstFault}
@@ -13,91 +12,23 @@ use Rattle.plan_net.specs.declared.fault.NetFault.{NetFault}
 use Rattle.plan_net.specs.declared.fault.NetFault.TheVariants as nets
 use Rattle.plan_psplib.specs.declared.fault.FileFault.{FileFault}
 use Rattle.plan_psplib.specs.Faults.{IsWantOfMemory}
-use Rattle.plan_psplib.specs.Precedence.{arcs_from}
 use Rattle.plan_psplib.specs.Requests.{greatest}
 use Rattle.plan_psplib.specs.Document.{Document}
-use Rattle.plan_psplib.specs.Says.{Says, IsNeeds, IsRow, arcs_of_rows}
-use Rattle.plan_psplib.specs.Project.{AreAmounts, IsProject, network_of, IsCycleOrMemory, TellsOf, NamesCycleOf}
+use Rattle.plan_psplib.specs.Says.{Says, IsNeeds}
+use Rattle.plan_psplib.specs.Project.{AreAmounts, IsProject, network_of, TellsOf, NamesCycleOf}
 
 all_along : {A : Type 0} (P Q : A → Type 0) → ((x : A) → P x → Q x) → (xs : List A) → AllByRecursion P xs → AllByRecursion Q xs
 all_along P Q f [] h = tt
 all_along P Q f (x ∷ xs) h = (f x h.0, all_along P Q f xs h.1)
-
-all_append : {A : Type 0} (P : A → Type 0) (xs ys : List A) → AllByRecursion P xs → AllByRecursion P ys → AllByRecursion P (xs ++ ys)
-all_append P [] ys h k = k
-all_append P (x ∷ xs) ys h k = (h.0, all_append P xs ys h.1 k)
 
 all_get : {A : Type 0} (P : A → Type 0) (xs : List A) (k : ℕ) (x : A) → AllByRecursion P xs → slice_get xs k ≡ Some x → P x
 all_get P [] k x h e = absurd (cc)
 all_get P (y ∷ xs) zero x h e = let same : y ≡ x = cc in subst P same h.0
 all_get P (y ∷ xs) (suc k) x h e = all_get P xs k x h.1 e
 
--- ---- no arc stands twice
-
-abbrev NoRepeat : List (ℕ × ℕ) → Type 0
-NoRepeat [] = Unit {0}
-NoRepeat (arc ∷ arcs) = AllByRecursion (λ other. other ≢ arc) arcs × NoRepeat arcs
-
-no_earlier : (arcs : List (ℕ × ℕ)) (k : ℕ) (arc : ℕ × ℕ) → NoRepeat arcs → slice_get arcs k ≡ Some arc → Contains (take k arcs) arc → ⊥
-no_earlier [] k arc h e earlier = absurd (cc)
-no_earlier (first ∷ arcs) zero arc h e (m, below, is) = absurd (omega (arith, below))
-no_earlier (first ∷ arcs) (suc k) arc h e (zero, below, is) = all_get (λ other. other ≢ first) arcs k arc h.0 e (sym is)
-no_earlier (first ∷ arcs) (suc k) arc h e (suc m, below, is) = no_earlier arcs k arc h.1 e (m, omega (arith, below), is)
-
-no_repeat-append : (xs ys : List (ℕ × ℕ)) → NoRepeat xs → NoRepeat ys → AllByRecursion (λ x. AllByRecursion (λ y. y ≢ x) ys) xs → NoRepeat (xs ++ ys)
-no_repeat-append [] ys h k apart = k
-no_repeat-append (x ∷ xs) ys h k apart = (all_append (λ y. y ≢ x) xs ys h.0 apart.0, no_repeat-append xs ys h.1 k apart.1)
-
-not_both : (b : Bool) → b ≡ true → b ≡ false → ⊥
-not_both true p q = cc
-not_both false p q = cc
-
-other_target : (job x : ℕ) (row : List ℕ) → AllByRecursion (λ y. nat_eq x y ≡ false) row → AllByRecursion (λ (arc : ℕ × ℕ). arc ≢ (job, x)) (arcs_from job row)
-other_target job x [] h = tt
-other_target job x (y ∷ row) h =
-    let differs : (job, y) ≢ (job, x) = λ e. not_both (nat_eq x y) (eq-eqb x y (sym (ap (λ (arc : ℕ × ℕ). arc.1) e))) h.0 in
-    (differs, other_target job x row h.1)
-
-row_repeats_none : (job : ℕ) (row : List ℕ) → IsDistinct nat_eq row → NoRepeat (arcs_from job row)
-unfolding IsDistinct
-row_repeats_none job [] h = tt
-row_repeats_none job (x ∷ row) h = (other_target job x row h.0, row_repeats_none job row h.1)
-
-all_from : (P : ℕ × ℕ → Type 0) (job : ℕ) → ((j : ℕ) → P (job, j)) → (row : List ℕ) → AllByRecursion P (arcs_from job row)
-all_from P job f [] = tt
-all_from P job f (j ∷ row) = (f j, all_from P job f row)
-
--- the arcs of later rows begin at later jobs
-later_sources : (low job : ℕ) (rows : List (List ℕ)) → low ≤ job → AllByRecursion (λ (arc : ℕ × ℕ). low ≤ arc.0) (arcs_of_rows job rows)
-later_sources low job [] below = tt
-later_sources low job (row ∷ rows) below =
-    all_append (λ (arc : ℕ × ℕ). low ≤ arc.0) (arcs_from job row) (arcs_of_rows (job + 1) rows) (all_from (λ (arc : ℕ × ℕ). low ≤ arc.0) job (λ j. below) row) (later_sources low (job + 1) rows (omega (arith, below)))
-
-rows_repeat_none : (n job : ℕ) (rows : List (List ℕ)) → AllByRecursion (IsRow n) rows → NoRepeat (arcs_of_rows job rows)
-rows_repeat_none n job [] h = tt
-rows_repeat_none n job (row ∷ rows) h =
-    let later = later_sources (job + 1) (job + 1) rows (omega arith) in
-    let apart : (j : ℕ) → AllByRecursion (λ (y : ℕ × ℕ). y ≢ (job, j)) (arcs_of_rows (job + 1) rows) = λ j. all_along (λ (y : ℕ × ℕ). job + 1 ≤ y.0) (λ (y : ℕ × ℕ). y ≢ (job, j)) (λ y from e. let same = ap (λ (arc : ℕ × ℕ). arc.0) e in absurd (omega (arith, from, same))) (arcs_of_rows (job + 1) rows) later in
-    no_repeat-append (arcs_from job row) (arcs_of_rows (job + 1) rows) (row_repeats_none job row h.0.1) (rows_repeat_none n (job + 1) rows h.1)
-    (all_from (λ (x : ℕ × ℕ). AllByRecursion (λ (y : ℕ × ℕ). y ≢ x) (arcs_of_rows (job + 1) rows)) job apart row)
-
--- ---- both ends of each arc are jobs
-
-abbrev IsInside : ℕ → ℕ × ℕ → Type 0
-IsInside n arc = ((1 ≤ arc.0) × (arc.0 ≤ n)) × ((1 ≤ arc.1) × (arc.1 ≤ n))
-
-row_inside : (n job : ℕ) (row : List ℕ) → 1 ≤ job → job ≤ n → AllByRecursion (λ j. (1 ≤ j) × (j ≤ n)) row → AllByRecursion (IsInside n) (arcs_from job row)
-row_inside n job [] low high h = tt
-row_inside n job (j ∷ row) low high h = (((low, high), h.0), row_inside n job row low high h.1)
-
-rows_inside : (n job : ℕ) (rows : List (List ℕ)) → 1 ≤ job → job + length rows ≤ n + 1 → AllByRecursion (IsRow n) rows → AllByRecursion (IsInside n) (arcs_of_rows job rows)
-rows_inside n job [] low high h = tt
-rows_inside n job (row ∷ rows) low high h =
-    all_append (IsInside n) (arcs_from job row) (arcs_of_rows (job + 1) rows) (row_inside n job row low (omega (arith, high)) h.0.0) (rows_inside n (job + 1) rows (omega (arith, low)) (omega (arith, high)) h.1)
-
 -- ---- the network of a document
 
-size_good : (text : List ℕ) (d : Document) → Says text d → HasGoodSize (network_of d)
+pub size_good : (text : List ℕ) (d : Document) → Says text d → HasGoodSize (unlagged d.requests.durations [])
 size_good text d says = says.jobs_fit
 
 small_get : (xs : List ℕ) (k : ℕ) → AllByRecursion (λ x. x ≤ greatest) xs → slice_index xs k ≤ greatest
@@ -105,36 +36,11 @@ small_get [] k h = omega arith
 small_get (x ∷ xs) zero h = h.0
 small_get (x ∷ xs) (suc k) h = small_get xs k h.1
 
-durations_good : (text : List ℕ) (d : Document) → Says text d → HasGoodDurations (network_of d)
+pub durations_good : (text : List ℕ) (d : Document) → Says text d → HasGoodDurations (unlagged d.requests.durations [])
 durations_good text d says j active =
     let part = sum_by-take-le (λ n. n) d.requests.durations j in
     let total = says.total_fits in
     (small_get d.requests.durations (j - 1) says.durations_fit, omega (arith, part, total))
-
-arcs_inside : (text : List ℕ) (d : Document) → Says text d → AllByRecursion (IsInside (length d.requests.durations)) d.arcs
-arcs_inside text d says =
-    let rows = says.precedence.3 in
-    let n = length d.requests.durations in
-    let count = rows.1 in
-    let P : List (ℕ × ℕ) → Type 0 = λ arcs. AllByRecursion (IsInside n) arcs in
-    subst P (sym rows.4) (rows_inside n 1 rows.0 (omega arith) (omega (arith, count)) rows.2)
-
-arcs_new : (text : List ℕ) (d : Document) → Says text d → NoRepeat d.arcs
-arcs_new text d says =
-    let rows = says.precedence.3 in
-    let P : List (ℕ × ℕ) → Type 0 = λ arcs. NoRepeat arcs in
-    subst P (sym rows.4) (rows_repeat_none (length d.requests.durations) 1 rows.0 rows.2)
-
--- the network of a document that a text says has no fault but a cycle
-pub only_cycle : (text : List ℕ) (d : Document) (fault : NetFault) → Says text d → IsFirstFault (network_of d) fault → IsCycleOrMemory fault
-only_cycle text d nets.NoMemory says h = tt
-only_cycle text d nets.Size says h = h (size_good text d says)
-only_cycle text d (nets.BadDuration j) says h = h.1.1 (durations_good text d says j h.1.0)
-only_cycle text d (nets.BadArc i j) says h = h.2.2 (all_get (IsInside (length d.requests.durations)) d.arcs h.2.0 (i, j) (arcs_inside text d says) h.2.1)
-only_cycle text d (nets.DoubleArc i j) says h = no_earlier d.arcs h.3.0 (i, j) (arcs_new text d says) h.3.1 h.3.2
-only_cycle text d (nets.Cycle members) says h = tt
-only_cycle text d (nets.NoArc i j) says h = h
-only_cycle text d (nets.BadLag i j) says h = h
 
 -- what is told of it is want of memory, or the cycle that is named
 pub told : (d : Document) (net : NetFault) (fault : FileFault) → IsFirstFault (network_of d) net → TellsOf net d.precedence_line fault → IsWantOfMemory fault ⊎ NamesCycleOf d fault

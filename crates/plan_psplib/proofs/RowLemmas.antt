@@ -1,11 +1,15 @@
 -- The loops over the successors of a row, and over the rows of the precedence section.
-use Rattle.std.proofs.Common.{◌≡◌, ℕ, suc, Bool, ◌-◌, ◌+◌, ◌≤◌, ◌<◌, List, [], ◌∷◌, ◌++◌, Result, Ok, length, take, drop, refl, sym, arith}
+use Rattle.std.proofs.Common.{◌≡◌, ℕ, suc, Bool, ◌-◌, ◌+◌, ◌≤◌, ◌<◌, List, [], ◌∷◌, ◌++◌, Result, Ok, length, take, drop, refl, sym, ap, ◌∙◌, arith, Vec}
 use Rattle.std.proofs.lemmas.Grind.{common_steps}
 use Rattle.plan_psplib.specs.declared.fault.Fault.{Fault}
 use Rattle.plan_psplib.specs.declared.fault.ReadError.{ReadError}
 use Rattle.plan_psplib.specs.Streams.{Stream}
 use Rattle.plan_psplib.specs.Reading.{◌>>=◌, Fails}
-use Rattle.plan_psplib.specs.Precedence.{successor_at, successors_at, precedence_row_at, precedence_rows_at, arcs_from}
+use Rattle.plan_psplib.specs.Precedence.{successor_at, successors_at, precedence_row_at, precedence_rows_at}
+use Rattle.std.specs.List.{AllByRecursion}
+use Rattle.std.specs.declared.alloc.Global.{Global}
+use Rattle.plan_net.specs.Successors.{arcs_from, arcs_of_rows, IsRow, rows_in}
+use Rattle.plan_net.proofs.SuccessorLemmas.{arcs_of_rows-push}
 use Rattle.plan_psplib.proofs.LoopLemmas.{goes_on, fails, is_done}
 
 -- a slice that a `Vec` lent whole comes back whole
@@ -66,3 +70,15 @@ module _ (n : ℕ) where
   pub rows_done : (count i job : ℕ) (arcs : List (ℕ × ℕ)) (s : Stream) (total : Result (List (ℕ × ℕ) × Stream) Fault) → count ≤ i → precedence_rows_at n (count - i) job arcs s ≡ total → total ≡ Ok (arcs, s)
   unfolding precedence_rows_at
   rows_done count i job arcs s total past whole = sym (is_done other_rows one_row behind_row rows-suc count i (job, arcs, s) total past whole)
+
+-- of what is read behind a row
+pub rows_behind : (n : ℕ) (done : ℕ) (lists : List (Vec ℕ Global)) (list : Vec ℕ Global) (s : Stream) (total : Result (List (ℕ × ℕ) × Stream) Fault) (more : ℕ) → length lists ≡ done → precedence_rows_at n more (done + 1 + 1) (arcs_of_rows 1 (rows_in lists) ++ arcs_from (done + 1) list.items) s ≡ total → precedence_rows_at n more (done + 1 + 1) (arcs_of_rows 1 (rows_in (lists ++ list ∷ []))) s ≡ total
+rows_behind n done lists list s total more count e =
+    let next : 1 + length lists ≡ done + 1 = omega (arith, count) in
+    let same = arcs_of_rows-push 1 lists list ∙ ap (λ (job : ℕ). arcs_of_rows 1 (rows_in lists) ++ arcs_from job list.items) next in
+    ap (λ (arcs : List (ℕ × ℕ)). precedence_rows_at n more (done + 1 + 1) arcs s) same ∙ e
+
+-- one row more, of rows that are rows
+pub each_push : (n : ℕ) (lists : List (Vec ℕ Global)) (list : Vec ℕ Global) → AllByRecursion (IsRow n) (rows_in lists) → IsRow n list.items → AllByRecursion (IsRow n) (rows_in (lists ++ list ∷ []))
+each_push n [] list h row = (row, tt)
+each_push n (first ∷ lists) list h row = (h.0, each_push n lists list h.1 row)

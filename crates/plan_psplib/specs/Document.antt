@@ -5,6 +5,7 @@ use Rattle.std.specs.Option.{option_map}
 use Rattle.plan_psplib.specs.declared.fault.FileCode.TheVariants as code
 use Rattle.plan_psplib.specs.declared.fault.Fault.{Fault}
 use Rattle.plan_psplib.specs.declared.document.Document as declared
+use Rattle.plan_net.specs.Successors.{arcs_of_rows, rows_in}
 use Rattle.plan_psplib.specs.Lines.{is_line_feed, last_line}
 use Rattle.plan_psplib.specs.Streams.{Stream}
 use Rattle.plan_psplib.specs.Sections.{kept_lines, head_of, section, precedence_title, requests_title, availabilities_title}
@@ -56,7 +57,7 @@ pub record Document : Type 0 where
 
 -- the same, as the program keeps it
 abbrev pub document_of : declared.Document → Document
-document_of d = record { requests = requests_of d.requests; arcs = d.arcs.items; available = d.available.items; precedence_line = d.precedence_line }
+document_of d = record { requests = requests_of d.requests; arcs = arcs_of_rows 1 (rows_in d.rows.items); available = d.available.items; precedence_line = d.precedence_line }
 
 -- the document of a text, or the first check that fails
 unfoldable pub document : List ℕ → Result Document Fault

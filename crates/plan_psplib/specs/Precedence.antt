@@ -1,6 +1,7 @@
 -- The precedence section (docs/DEFINITIONS.md, "Files").
-use Rattle.std.specs.Prelude.{◌≡◌, ℕ, zero, suc, ◌+◌, ◌<◌, ◌==◌, ◌&&◌, Bool, false, length, slice_index_or, List, [], ◌∷◌, ◌++◌, Result, Ok, map, nat_le, not}
+use Rattle.std.specs.Prelude.{◌≡◌, ℕ, zero, suc, ◌+◌, ◌<◌, ◌==◌, ◌&&◌, Bool, false, length, slice_index_or, List, [], ◌∷◌, ◌++◌, Result, Ok, nat_le, not}
 use Rattle.std.specs.List.{list_any}
+use Rattle.plan_net.specs.Successors.{arcs_from}
 use Rattle.plan_psplib.specs.declared.fault.FileCode.TheVariants as code
 use Rattle.plan_psplib.specs.declared.fault.Fault.{Fault}
 use Rattle.plan_psplib.specs.Streams.{Stream}
@@ -38,10 +39,6 @@ precedence_row_at n job s = do
   count ← expect_at 1 code.Modes modes
   successors ← number_at count
   successors_at n successors.0.value [] successors.1
-
--- the arcs of a job's row
-abbrev pub arcs_from : ℕ → List ℕ → List (ℕ × ℕ)
-arcs_from job successors = map (λ successor. (job, successor)) successors
 
 -- the rows of so many jobs from one on, behind the arcs of the rows before
 unfoldable pub precedence_rows_at : ℕ → ℕ → ℕ → List (ℕ × ℕ) → Stream → Result (List (ℕ × ℕ) × Stream) Fault

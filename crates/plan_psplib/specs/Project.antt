@@ -60,12 +60,6 @@ IsFirstFailing text fault =
 abbrev pub IsSaid : Document → Type 0
 IsSaid d = (text : List ℕ) × Says text d
 
--- a network is refused for a cycle, or for want of memory
-abbrev pub IsCycleOrMemory : NetFault → Type 0
-IsCycleOrMemory (nets.Cycle members) = Unit {0}
-IsCycleOrMemory nets.NoMemory = Unit {0}
-IsCycleOrMemory _ = ⊥
-
 -- a text is refused for what its network is refused for; a cycle is told at this line
 abbrev pub TellsOf : NetFault → ℕ → FileFault → Type 0
 TellsOf (nets.Cycle members) line fault = (fault.code ≡ code.Cycle) × (fault.line ≡ line) × (fault.cycle.items ≡ members.items)

@@ -1,11 +1,11 @@
 -- What an `.sm` text says, apart from the order in which it is read (docs/DEFINITIONS.md, "Files").
-use Rattle.std.specs.Prelude.{◌≡◌, ◌≢◌, ℕ, ◌+◌, ◌≤◌, List, [], ◌∷◌, ◌++◌, Some, All, codes, length, map, nat_eq, sum}
-use Rattle.std.specs.List.{AllByRecursion, IsDistinct}
+use Rattle.std.specs.Prelude.{◌≡◌, ◌≢◌, ℕ, ◌+◌, ◌≤◌, List, [], ◌∷◌, ◌++◌, Some, All, codes, length, map, sum}
+use Rattle.std.specs.List.{AllByRecursion}
 use Rattle.plan_psplib.specs.Lines.{NumberedLine}
 use Rattle.plan_psplib.specs.Numbers.{number}
 use Rattle.plan_psplib.specs.Streams.{LineWord, Stream}
 use Rattle.plan_psplib.specs.Sections.{kept_lines, head_of, section, key_line, value_word, precedence_title, requests_title, availabilities_title}
-use Rattle.plan_psplib.specs.Precedence.{arcs_from}
+use Rattle.plan_net.specs.Successors.{arcs_of_rows, IsRow}
 use Rattle.plan_psplib.specs.Requests.{greatest, greatest_total}
 use Rattle.plan_psplib.specs.Document.{Document, longest_text}
 
@@ -17,15 +17,6 @@ Spells words numbers = map (λ word. number word.text) words ≡ map Some number
 abbrev pub precedence_numbers : ℕ → List (List ℕ) → List ℕ
 precedence_numbers job [] = []
 precedence_numbers job (row ∷ rows) = (job ∷ 1 ∷ length row ∷ row) ++ precedence_numbers (job + 1) rows
-
--- the arcs of the rows from a job on
-abbrev pub arcs_of_rows : ℕ → List (List ℕ) → List (ℕ × ℕ)
-arcs_of_rows job [] = []
-arcs_of_rows job (row ∷ rows) = arcs_from job row ++ arcs_of_rows (job + 1) rows
-
--- a row names jobs of 1 to n, none of them twice
-abbrev pub IsRow : ℕ → List ℕ → Type 0
-IsRow n row = AllByRecursion (λ job. (1 ≤ job) × (job ≤ n)) row × IsDistinct nat_eq row
 
 -- the words are the rows of n jobs, which give these arcs
 abbrev pub SpellsArcs : ℕ → List LineWord → List (ℕ × ℕ) → Type 0

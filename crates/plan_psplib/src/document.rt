@@ -1,6 +1,7 @@
 //! An `.sm` text as a document, before its arcs are tested for a cycle.
 
 ghost use Rattle.std.specs.Prelude.{◌≡◌, ◌≤◌, Ok, Err, IfOk, MatchResult, length, count_by};
+ghost use Rattle.plan_net.specs.Successors.{AreRows, rows_in};
 ghost use Rattle.plan_psplib.specs.declared.fault.Fault.{Fault};
 ghost use Rattle.plan_psplib.specs.declared.fault.ReadError.TheVariants as errors;
 ghost use Rattle.plan_psplib.specs.Lines.{is_line_feed};
@@ -24,7 +25,7 @@ pub const LONGEST_TEXT: usize = 1_048_576;
 #[derive(Drop)]
 pub struct Document {
     pub requests: Requests,
-    pub arcs: Vec<(u32, u32)>,
+    pub rows: Vec<Vec<u32>>,
     pub available: Vec<u64>,
     pub precedence_line: u64,
 }
@@ -36,6 +37,8 @@ pub fn read_document(alloc: Global, text: &[u8]) -> Result<Document, ReadError>
     ensures found { IfOk result (λ d. Says text.now (spec.document_of d)) }
     // What the text says is read, unless memory runs out.
     ensures only { (d : spec.Document) → Says text.now d → Gives spec.document_of result (Ok d) }
+    // The rows of its arcs are those of its jobs.
+    ensures rows { IfOk result (λ d. AreRows (length d.requests.durations.items) (rows_in d.rows.items)) }
     // What fails before the first section is read is refused before any memory is taken.
     ensures early { (f : Fault) → spec.opened text.now ≡ Err f → MatchResult result (λ _. ⊥) (λ e. e ≡ errors.Fault f) }
 {
@@ -46,6 +49,7 @@ pub fn read_document(alloc: Global, text: &[u8]) -> Result<Document, ReadError>
 #[tactic(auto, unfolding(crate::specs::Document::document, crate::specs::Document::opened))]
 fn sections_of(alloc: Global, text: &[u8]) -> Result<Document, ReadError>
     ensures exact { Gives spec.document_of result (spec.document text.now) }
+    ensures rows { IfOk result (λ d. AreRows (length d.requests.durations.items) (rows_in d.rows.items)) }
     ensures early { (f : Fault) → spec.opened text.now ≡ Err f → MatchResult result (λ _. ⊥) (λ e. e ≡ errors.Fault f) }
 {
     check_text(text)?;
@@ -54,14 +58,14 @@ fn sections_of(alloc: Global, text: &[u8]) -> Result<Document, ReadError>
     let sizes = head_sizes(text, last)?;
     let mut words = found_section(outline.precedence, last)?;
     let precedence_line = words.last();
-    let arcs = precedence(alloc, &mut words, sizes.jobs)?;
+    let rows = precedence(alloc, &mut words, sizes.jobs)?;
     let mut words = found_section(outline.requests, last)?;
     let requests = read_requests(alloc, &mut words, sizes.jobs, sizes.resources)?;
     let mut words = found_section(outline.availabilities, last)?;
     let available = availabilities(alloc, &mut words, sizes.resources)?;
     Ok(Document {
         requests,
-        arcs,
+        rows,
         available,
         precedence_line,
     })

@@ -1,6 +1,7 @@
 //! The precedence section of an `.sm` text.
 
-ghost use Rattle.std.specs.Prelude.{◌≡◌, ◌<◌, ◌≤◌, ◌++◌, ◌∷◌, List, ℕ, [], length, IfOk, OnOk};
+ghost use Rattle.std.specs.Prelude.{◌≡◌, ◌<◌, ◌≤◌, ◌++◌, ◌∷◌, List, ℕ, [], length, IfOk};
+ghost use Rattle.plan_net.specs.Successors.{AreRows, arcs_of_rows, rows_in};
 ghost use Rattle.plan_psplib.specs.Reading.{Gives, Reads, line_number};
 ghost use Rattle.plan_psplib.specs.Precedence as spec;
 
@@ -8,47 +9,38 @@ use crate::fault::{Fault, FileCode, ReadError};
 use crate::reading::{LineNumber, end, expect, next_number};
 use crate::sections::Section;
 use crate::streams::StreamWords;
-use std::alloc::{AllocError, Global};
+use std::alloc::Global;
 
-/// The arcs that the section gives, in the order in which it names them.
+/// The rows of successors that the section gives, a row for each job.
 #[tactic(auto, unfolding(crate::specs::Precedence::precedence))]
 pub fn precedence(
     alloc: Global,
     words: &mut StreamWords<'_, Section>,
     jobs: u32,
-) -> Result<Vec<(u32, u32)>, ReadError>
-    ensures { Gives (λ arcs. arcs.items) result (spec.precedence jobs words.old) }
+) -> Result<Vec<Vec<u32>>, ReadError>
+    ensures exact { Gives (λ rows. arcs_of_rows 1 (rows_in rows.items)) result (spec.precedence jobs words.old) }
+    ensures rows { IfOk result (λ rows. AreRows jobs (rows_in rows.items)) }
 {
-    let arcs = precedence_rows(alloc, words, jobs)?;
+    let rows = precedence_rows(alloc, words, jobs)?;
     end(words)?;
-    Ok(arcs)
+    Ok(rows)
 }
 
-// The arcs of the rows of all jobs.
+// The rows of all jobs.
 fn precedence_rows(
     alloc: Global,
     words: &mut StreamWords<'_, Section>,
     jobs: u32,
-) -> Result<Vec<(u32, u32)>, ReadError>
-    ensures { Gives (λ arcs. (arcs.items, words.new)) result (spec.precedence_rows_at jobs jobs 1 [] words.old) }
+) -> Result<Vec<Vec<u32>>, ReadError>
+    ensures exact { Gives (λ rows. (arcs_of_rows 1 (rows_in rows.items), words.new)) result (spec.precedence_rows_at jobs jobs 1 [] words.old) }
+    ensures rows { IfOk result (λ rows. AreRows jobs (rows_in rows.items)) }
 {
-    let mut arcs = Vec::new(alloc);
+    let mut rows = Vec::with_capacity(alloc, jobs as usize)?;
     for done in 0..jobs {
-        let job = done + 1;
-        let successors = precedence_row(alloc, words, jobs, job)?;
-        push_arcs(&mut arcs, job, &successors)?;
+        let row = precedence_row(alloc, words, jobs, done + 1)?;
+        rows.push(row)?;
     }
-    Ok(arcs)
-}
-
-// Adds an arc from a job to each of its successors.
-fn push_arcs(arcs: &mut Vec<(u32, u32)>, job: u32, successors: &[u32]) -> Result<(), AllocError>
-    ensures { OnOk result (arcs.new.items ≡ arcs.old.items ++ spec.arcs_from job successors.now) }
-{
-    for &successor in successors {
-        arcs.push((job, successor))?;
-    }
-    Ok(())
+    Ok(rows)
 }
 
 // The successors in the row of a job.
@@ -77,7 +69,7 @@ fn successors(
     ensures { Gives (λ row. (row.items, words.new)) result (spec.successors_at jobs count [] words.old) }
 {
     let mut marks = vec![in alloc; false; jobs as usize + 1]?;
-    let mut found = Vec::new(alloc);
+    let mut found = Vec::with_capacity(alloc, count.min(u64::from(jobs)) as usize)?;
     for _ in 0..count {
         let job = successor(words, jobs, &mut marks)?;
         found.push(job)?;

@@ -2,7 +2,8 @@
 
 ghost use Rattle.std.specs.Prelude.{◌≡◌, ◌⊎◌, ◌-◌, ◌≤◌, Some, Err, IfOk, IfErr, OnOk, OnErr, MatchResult, length, map, slice_get};
 ghost use Rattle.plan_net.specs.Network.{IsActivity, IsArc, with_lag};
-ghost use Rattle.plan_net.specs.Refusals.{IsLagFault};
+ghost use Rattle.plan_net.specs.Refusals.{IsCycleOrMemory, IsLagFault};
+ghost use Rattle.plan_net.specs.Successors.{AreRows, rows_in};
 ghost use Rattle.plan_psplib.specs.declared.fault.Fault.{Fault};
 ghost use Rattle.plan_psplib.specs.declared.fault.ReadError.TheVariants as errors;
 ghost use Rattle.plan_psplib.specs.Document.{Document as Said, document_of, opened};
@@ -105,18 +106,19 @@ pub fn read_sm(alloc: Global, text: &[u8]) -> Result<ProjectDoc, FileFault>
 
 // The project of a document that some text says, unless its arcs have a cycle.
 fn project_of(alloc: Global, document: Document) -> Result<ProjectDoc, FileFault>
-    requires { spec.IsSaid (document_of document) }
+    requires said { spec.IsSaid (document_of document) }
+    requires rows { AreRows (length document.requests.durations.items) (rows_in document.rows.items) }
     ensures { MatchResult result
         (λ project. spec.IsProject project × (project ≡ spec.project_of (document_of document)))
         (λ fault. IsWantOfMemory fault ⊎ spec.NamesCycleOf (document_of document) fault) }
 {
     let Document {
         requests,
-        arcs,
+        rows,
         available,
         precedence_line,
     } = document;
-    match Network::new(alloc, requests.durations, arcs) {
+    match Network::of_rows(alloc, requests.durations, &rows) {
         Ok(network) => Ok(ProjectDoc {
             network,
             needs: requests.needs,
@@ -128,7 +130,7 @@ fn project_of(alloc: Global, document: Document) -> Result<ProjectDoc, FileFault
 
 // What a text is refused for whose network is refused for a cycle, or for want of memory.
 fn refusal(alloc: Global, fault: NetFault, precedence_line: u64) -> FileFault
-    requires { spec.IsCycleOrMemory fault }
+    requires { IsCycleOrMemory fault }
     ensures { spec.TellsOf fault precedence_line result }
 {
     match fault {
