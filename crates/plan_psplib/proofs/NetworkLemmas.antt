@@ -3,21 +3,24 @@ use Rattle.std.proofs.Common.{◌≡◌, ◌≢◌, ℕ, zero, suc, ◌+◌, ◌
 use Rattle.std.specs.Prelude.{nat_eq, slice_get, Contains, All}
 use Rattle.std.specs.List.{AllByRecursion, IsDistinct}
 use Rattle.std.proofs.lemmas.Bool.{eq-eqb}
-use Rattle.std.proofs.lemmas.List.Elements.{All-from_recursion, recursion_from_All}
+use Rattle.std.proofs.lemmas.List.{length-replicate}
+use Rattle.std.proofs.lemmas.List.Elements.{All-from_recursion, recursion_from_All, All-replicate}
 use Rattle.std.proofs.lemmas.List.Sums.{sum_by-take-le}
 use Rattle.plan_net.specs.Network.{Net, count_of}
-use Rattle.plan_net.specs.Limits.{HasGoodSize, HasGoodDurations, IsSound}
+use Rattle.plan_net.specs.Limits.{HasGoodSize, HasGoodDurations, HasNewArcs, IsWithinLimits, IsSound}
+use Rattle.plan_net.specs.Order.{IsLeastOrder}
 use Rattle.plan_net.specs.Cycle.{IsNamedCycle}
 use Rattle.plan_net.specs.Refusals.{IsFirstFault}
 use Rattle.plan_net.specs.declared.fault.NetFault.{NetFault}
 use Rattle.plan_net.specs.declared.fault.NetFault.TheVariants as nets
+use Rattle.plan_net.proofs.SomeOrderLemmas.{SomeCycle, some_order}
 use Rattle.plan_psplib.specs.declared.fault.FileFault.{FileFault}
 use Rattle.plan_psplib.specs.Faults.{IsWantOfMemory}
 use Rattle.plan_psplib.specs.Precedence.{arcs_from}
 use Rattle.plan_psplib.specs.Requests.{greatest}
 use Rattle.plan_psplib.specs.Document.{Document}
 use Rattle.plan_psplib.specs.Says.{Says, IsNeeds, IsRow, arcs_of_rows}
-use Rattle.plan_psplib.specs.Project.{AreAmounts, IsProject, network_of, IsCycleOrMemory, TellsOf, NamesCycleOf}
+use Rattle.plan_psplib.specs.Project.{AreAmounts, IsProject, SaysProject, network_of, project_of, IsCycleOrMemory, TellsOf, NamesCycleOf}
 
 all_along : {A : Type 0} (P Q : A → Type 0) → ((x : A) → P x → Q x) → (xs : List A) → AllByRecursion P xs → AllByRecursion Q xs
 all_along P Q f [] h = tt
@@ -175,3 +178,27 @@ pub row_good : {X : Type 0} (P : List ℕ → Type 0) (items : X → List ℕ) (
 row_good P items rows k row n count below is all =
     let same = rows_count items rows in
     all_get P (map items rows) k (items row) (recursion_from_All P (map items rows) all) (get_row items rows k row (omega (arith, same, count, below)) is)
+
+-- ---- its order, or its cycle
+
+new_arcs : (text : List ℕ) (d : Document) → Says text d → HasNewArcs (network_of d)
+new_arcs text d says k inside arc there earlier = no_earlier d.arcs k arc (arcs_new text d says) there earlier
+
+-- the network of a document that a text says is within the limits
+pub network_within_limits : (text : List ℕ) (d : Document) → Says text d → IsWithinLimits (network_of d)
+network_within_limits text d says = record {
+  size = size_good text d says;
+  durations = durations_good text d says;
+  arcs = All-from_recursion (IsInside (length d.requests.durations)) d.arcs (arcs_inside text d says);
+  new_arcs = new_arcs text d says;
+  lags = (length-replicate (length d.arcs) 0, All-replicate (λ w. w ≤ 10000) (length d.arcs) 0 (omega arith));
+}
+
+-- a text that says a document says its project, or a cycle of it is named
+pub project_or_cycle : (text : List ℕ) (d : Document) → Says text d → SaysProject text (project_of d) ⊎ SomeCycle (network_of d)
+project_or_cycle text d says = by_order (some_order (network_of d) (network_within_limits text d says))
+  where
+    by_order : (IsSound (network_of d) × ((order : List ℕ) × IsLeastOrder (network_of d) order)) ⊎ SomeCycle (network_of d)
+        → SaysProject text (project_of d) ⊎ SomeCycle (network_of d)
+    by_order (inl ordered) = inl (d, says, refl, project_good text d (network_of d) says refl ordered.0)
+    by_order (inr cycle) = inr cycle
