@@ -8,3 +8,5 @@ pub mod DateLemmas
 pub mod BoundLemmas
 pub mod ReachLemmas
 pub mod OnceLemmas
+pub mod SomeDateLemmas
+pub mod SomeTotalLemmas

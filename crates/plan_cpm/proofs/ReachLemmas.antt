@@ -14,21 +14,21 @@ use Rattle.plan_cpm.specs.Reached.{Leads, IsReach, IsReachSoFar}
 use Rattle.plan_cpm.proofs.DateLemmas.{last_activity}
 
 -- paths lead to activities
-led_to : (net : Net) (j k : ℕ) → IsWithinLimits net → Leads net j k → IsActivity net k
+pub led_to : (net : Net) (j k : ℕ) → IsWithinLimits net → Leads net j k → IsActivity net k
 led_to net j k limits (others, path, some, ends) = subst (IsActivity net) ends (last_activity net j others limits path.0 path.1)
 
 -- an arc leads to its end
-arc_leads : (net : Net) (j k : ℕ) → IsActivity net j → IsArc net j k → Leads net j k
+pub arc_leads : (net : Net) (j k : ℕ) → IsActivity net j → IsArc net j k → Leads net j k
 arc_leads net j k activity arc = (k ∷ [], (activity, (arc, tt)), omega arith, refl)
 
 -- where a path leads, those from there lead too
-leads_on : (net : Net) (j k h : ℕ) → Leads net j k → Leads net k h → Leads net j h
+pub leads_on : (net : Net) (j k h : ℕ) → Leads net j k → Leads net k h → Leads net j h
 leads_on net j k h (first, path, some, ends) (second, path', some', ends') =
     let on : IsWalk net (last_of j first) second = subst (λ (x : ℕ). IsWalk net x second) (sym ends) path'.1 in
     (first ++ second, (path.0, IsWalk-append net j first second path.1 on), omega (arith, length-append first second), last_of-append j first second ∙ (ap (λ (x : ℕ). last_of x second) ends ∙ ends'))
 
 -- a path leads over a successor
-leads_via : (net : Net) (j h : ℕ) → IsWithinLimits net → Leads net j h → (k : ℕ) × IsArc net j k × ((k ≡ h) ⊎ Leads net k h)
+pub leads_via : (net : Net) (j h : ℕ) → IsWithinLimits net → Leads net j h → (k : ℕ) × IsArc net j k × ((k ≡ h) ⊎ Leads net k h)
 leads_via net j h limits ([], path, some, ends) = absurd (omega arith)
 leads_via net j h limits (k ∷ [], path, some, ends) = (k, path.1.0, inl ends)
 leads_via net j h limits (k ∷ g ∷ others, path, some, ends) = (k, path.1.0, inr (g ∷ others, ((arc_ends net j k limits path.1.0).1, path.1.1), omega arith, ends))

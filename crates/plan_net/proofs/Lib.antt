@@ -12,3 +12,5 @@ pub mod IndexLemmas
 pub mod PathLemmas
 pub mod SoundLemmas
 pub mod OnceLemmas
+pub mod SearchLemmas
+pub mod SomeOrderLemmas

@@ -5,17 +5,20 @@ use Rattle.std.specs.List.{AllByRecursion}
 use Rattle.std.proofs.lemmas.List.Elements.{All-from_recursion, recursion_from_All}
 use Rattle.std.proofs.lemmas.List.Sums.{sum_by-take-le}
 use Rattle.plan_net.specs.Network.{Net, count_of, unlagged}
-use Rattle.plan_net.specs.Limits.{HasGoodSize, HasGoodDurations, IsSound}
+use Rattle.plan_net.specs.Limits.{HasGoodSize, HasGoodDurations, IsWithinLimits, IsSound}
+use Rattle.plan_net.specs.Order.{IsLeastOrder}
 use Rattle.plan_net.specs.Cycle.{IsNamedCycle}
 use Rattle.plan_net.specs.Refusals.{IsFirstFault}
 use Rattle.plan_net.specs.declared.fault.NetFault.{NetFault}
 use Rattle.plan_net.specs.declared.fault.NetFault.TheVariants as nets
+use Rattle.plan_net.proofs.SuccessorLemmas.{IsWithinLimits-rows}
+use Rattle.plan_net.proofs.SomeOrderLemmas.{SomeCycle, some_order}
 use Rattle.plan_psplib.specs.declared.fault.FileFault.{FileFault}
 use Rattle.plan_psplib.specs.Faults.{IsWantOfMemory}
 use Rattle.plan_psplib.specs.Requests.{greatest}
 use Rattle.plan_psplib.specs.Document.{Document}
 use Rattle.plan_psplib.specs.Says.{Says, IsNeeds}
-use Rattle.plan_psplib.specs.Project.{AreAmounts, IsProject, network_of, TellsOf, NamesCycleOf}
+use Rattle.plan_psplib.specs.Project.{AreAmounts, IsProject, SaysProject, network_of, project_of, TellsOf, NamesCycleOf}
 
 all_along : {A : Type 0} (P Q : A → Type 0) → ((x : A) → P x → Q x) → (xs : List A) → AllByRecursion P xs → AllByRecursion Q xs
 all_along P Q f [] h = tt
@@ -81,3 +84,21 @@ pub row_good : {X : Type 0} (P : List ℕ → Type 0) (items : X → List ℕ) (
 row_good P items rows k row n count below is all =
     let same = rows_count items rows in
     all_get P (map items rows) k (items row) (recursion_from_All P (map items rows) all) (get_row items rows k row (omega (arith, same, count, below)) is)
+
+-- ---- its order, or its cycle
+
+-- the network of a document that a text says is within the limits
+pub network_within_limits : (text : List ℕ) (d : Document) → Says text d → IsWithinLimits (network_of d)
+network_within_limits text d says =
+    let rows = says.precedence.3 in
+    let within = IsWithinLimits-rows d.requests.durations rows.0 (size_good text d says) (durations_good text d says) (record { whole = rows.1; each = rows.2 }) in
+    subst (λ (arcs : List (ℕ × ℕ)). IsWithinLimits (unlagged d.requests.durations arcs)) (sym rows.4) within
+
+-- a text that says a document says its project, or a cycle of it is named
+pub project_or_cycle : (text : List ℕ) (d : Document) → Says text d → SaysProject text (project_of d) ⊎ SomeCycle (network_of d)
+project_or_cycle text d says = by_order (some_order (network_of d) (network_within_limits text d says))
+  where
+    by_order : (IsSound (network_of d) × ((order : List ℕ) × IsLeastOrder (network_of d) order)) ⊎ SomeCycle (network_of d)
+        → SaysProject text (project_of d) ⊎ SomeCycle (network_of d)
+    by_order (inl ordered) = inl (d, says, refl, project_good text d (network_of d) says refl ordered.0)
+    by_order (inr cycle) = inr cycle

@@ -37,3 +37,4 @@ pub mod WordRows
 pub mod CheckRows
 pub mod OnceLemmas
 mod Bounds
+pub mod SomeScheduleLemmas
