@@ -39,4 +39,5 @@ pub mod SomeFileLemmas
 pub mod SomeShopLemmas
 pub mod SomeBestLemmas
 pub mod SomeDaysLemmas
+pub mod SomeProjectLemmas
 pub mod SomeLemmas

@@ -52,7 +52,7 @@ is_of_budget word n (range, spelled) =
     and_from _ _ (and_from _ _ (le-leb 1 n range.0) (le-leb n 200000 range.1)) (subst (λ t. same_text word t ≡ true) spelled (same_text_refl word))
 
 -- a word spells a budget below a limit that all budgets are below, or none
-budget_below : (word : Text) (limit : ℕ) → 200000 < limit → ((n : ℕ) × IsBudgetText word n) ⊎ ((n : ℕ) → IsBudgetText word n → ⊥)
+pub budget_below : (word : Text) (limit : ℕ) → 200000 < limit → ((n : ℕ) × IsBudgetText word n) ⊎ ((n : ℕ) → IsBudgetText word n → ⊥)
 budget_below word limit all = by_search (first_below (is_budget_text word) limit)
   where
     by_search : ((m : ℕ) × (is_budget_text word m ≡ true) × ((h : ℕ) → h < m → is_budget_text word h ≡ false))
@@ -116,7 +116,7 @@ all_in_table P (suc n) f each = both P (table n f) (f n ∷ []) (all_in_table P 
 
 -- ---- best schedules
 
-kind_of : (optimal : Bool) → (kind : Kind) × (is_optimal kind ≡ optimal)
+pub kind_of : (optimal : Bool) → (kind : Kind) × (is_optimal kind ≡ optimal)
 kind_of true = (Optimal, refl)
 kind_of false = (Budget, refl)
 

@@ -7,10 +7,12 @@ use Rattle.jiff_core.specs.Date.{epoch_day}
 use Rattle.jiff_core.specs.declared.civil.date.Date.{Date}
 use Rattle.jiff_core.proofs.SignedLemmas.{signed_arith, one_part}
 use Rattle.jiff.specs.Words.{date_text}
+use Rattle.plan_net.specs.Network.{Net, count_of}
 use Rattle.plan_shop.specs.Shop.{JobShop, count_steps}
 use Rattle.plan_calendar.specs.WorkingDay.{Workdays, IsWorkingDay, IsBeyond, is_marked, marked_days}
-use Rattle.plan_gantt.specs.Column.{column}
-use Rattle.plan_gantt.specs.CalendarTable.{IsDaysText, AreDaysLines, ShowsBeyond, HasDayBeyond}
+use Rattle.plan_gantt.specs.Charts.{activity_interval}
+use Rattle.plan_gantt.specs.Column.{column, number_column}
+use Rattle.plan_gantt.specs.CalendarTable.{IsDaysText, AreDaysLines, ShowsBeyond, HasDayBeyond, activity_days_heading, IsCalendarTable, HasActivityBeyond}
 use Rattle.plan_gantt.specs.ShopCharts.{IsShopCalendarTable, HasStepBeyond, step_front, step_interval, step_days_heading}
 use Rattle.plan_gantt.specs.declared.interval.Interval.{Interval}
 use Rattle.plan_rows.specs.World.{Text}
@@ -218,6 +220,15 @@ some_lines c front interval (suc n) = by_parts (some_lines c front interval n) (
     by_parts (inl (before, are)) (inl (days, show)) =
         let line = front (suc n) ++ days ++ codes "\n" in
         inl (before ++ line, (before, line, are, (days, show, refl), refl))
+
+-- the activities of a project have a table, or a day of one is beyond
+pub some_activity_table : (c : Workdays) (net : Net) (starts : List ℕ) → ((text : Text) × IsCalendarTable c net starts text) ⊎ HasActivityBeyond c net starts
+some_activity_table c net starts = by_lines (some_lines c (λ j. number_column 4 j) (activity_interval net starts) (count_of net))
+  where
+    by_lines : ((text : Text) × AreDaysLines c (λ j. number_column 4 j) (activity_interval net starts) (count_of net) text) ⊎ IsLineBeyond c (activity_interval net starts) (count_of net)
+        → ((text : Text) × IsCalendarTable c net starts text) ⊎ HasActivityBeyond c net starts
+    by_lines (inl (lines, are)) = inl (activity_days_heading ++ lines, (lines, are, refl))
+    by_lines (inr (j, least, most, beyond)) = inr (j, (least, most), beyond)
 
 -- the steps of a shop have a table, or a day of one is beyond
 pub some_shop_table : (c : Workdays) (s : JobShop) (starts : List ℕ) → ((text : Text) × IsShopCalendarTable c s starts text) ⊎ HasStepBeyond c s starts

@@ -1,6 +1,6 @@
 -- Texts of a calendar and files are either read or refused for something.
 use Rattle.std.proofs.Common.{◌≡◌, ℕ, ◌+◌, ◌-◌, ◌*◌, ◌/◌, ◌%◌, ◌≤◌, inl, inr, ◌⊎◌, Bool, true, false, List, [], ◌∷◌, ◌++◌, get_or, length, map, Result, Ok, Err, refl, sym, ◌∙◌, ap, subst, arith, pos}
-use Rattle.std.specs.Prelude.{◌&&◌, ◌==◌, ℤ, is_err}
+use Rattle.std.specs.Prelude.{◌&&◌, ◌==◌, ℤ}
 use denote.RawPtr.{null_ptr}
 use Rattle.std.specs.Global.{Vec}
 use Rattle.std.specs.List.{list_any}
@@ -9,15 +9,22 @@ use Rattle.jiff_core.specs.Calendar.{IsBetween, days_in_month}
 use Rattle.jiff_core.specs.declared.civil.date.Date.{Date}
 use Rattle.jiff_core.proofs.SignedLemmas.{signed_arith}
 use Rattle.jiff_fmt.specs.Text.{year_text, pad2}
+use Rattle.plan_net.specs.Cycle.{IsNamedCycle}
+use Rattle.plan_net.proofs.SomeOrderLemmas.{SomeCycle}
 use Rattle.plan_psplib.specs.declared.fault.Fault.{Fault}
+use Rattle.plan_psplib.specs.declared.fault.FileCode.TheVariants as code
 use Rattle.plan_psplib.specs.declared.fault.FileFault.{FileFault}
 use Rattle.plan_psplib.specs.Lines.{last_line}
 use Rattle.plan_psplib.specs.Document.{Document, document, plain}
+use Rattle.plan_psplib.specs.Project.{Project, SaysProject, network_of, project_of}
+use Rattle.plan_psplib.specs.Says.{Says}
 use Rattle.plan_psplib.proofs.GoesLemmas.{then_ok}
+use Rattle.plan_psplib.proofs.NetworkLemmas.{project_or_cycle}
+use Rattle.plan_psplib.proofs.SaysLemmas.{document_said}
 use Rattle.plan_orlib.specs.Instances.{stream_of}
 use Rattle.plan_orlib.specs.Shop.{Shop}
 use Rattle.plan_orlib.specs.Reading.{found_stream, shop}
-use Rattle.plan_orlib.specs.Says.{Says}
+use Rattle.plan_orlib.specs.Says.{Says as SaysShop}
 use Rattle.plan_orlib.proofs.ShopLemmas.{shop_spelled}
 use Rattle.plan_orlib.proofs.TextLemmas.{stream_is}
 use Rattle.plan_gantt.specs.FaultText.{file_fault_text_of}
@@ -158,7 +165,7 @@ some_texts start marks = by_parts (some_start start) (some_marks marks)
 -- ---- files of shops
 
 -- what is read is what the file says
-shop_said : (name text : Text) (d : Shop) → shop name text ≡ Ok d → Says name text d
+shop_said : (name text : Text) (d : Shop) → shop name text ≡ Ok d → SaysShop name text d
 unfolding shop
 shop_said name text d e =
     then_ok (plain text) _ d e (λ u good e.
@@ -166,8 +173,8 @@ shop_said name text d e =
     let spelled = shop_spelled s d e in
     record { readable = good; stream = (s, stream_is (last_line text) (stream_of name text) s found, spelled.0); limits = spelled.1 }))
 
--- a `Vec` of a few numbers
-pub vec_of : (xs : List ℕ) → length xs ≤ 100 → (v : Vec ℕ) × (v.items ≡ xs)
+-- a `Vec` of up to 1,000 numbers
+pub vec_of : (xs : List ℕ) → length xs ≤ 1000 → (v : Vec ℕ) × (v.items ≡ xs)
 vec_of xs few = (
   record {
     ptr = null_ptr;
@@ -188,10 +195,10 @@ of_fault f =
     (record { code = f.code; line = f.line; cycle = none.0 }, refl, none.1)
 
 -- a file says a shop of a name, or a line tells why not
-pub some_shop : (name text : Text) → ((line : Text) × TellsFirstShopFault name text line) ⊎ ((d : Shop) × Says name text d)
+pub some_shop : (name text : Text) → ((line : Text) × TellsFirstShopFault name text line) ⊎ ((d : Shop) × SaysShop name text d)
 some_shop name text = by_read (shop name text) refl
   where
-    by_read : (read : Result Shop Fault) → shop name text ≡ read → ((line : Text) × TellsFirstShopFault name text line) ⊎ ((d : Shop) × Says name text d)
+    by_read : (read : Result Shop Fault) → shop name text ≡ read → ((line : Text) × TellsFirstShopFault name text line) ⊎ ((d : Shop) × SaysShop name text d)
     by_read (Ok d) e = inr (d, shop_said name text d e)
     by_read (Err f) e =
         let told = of_fault f in
@@ -199,12 +206,25 @@ some_shop name text = by_read (shop name text) refl
 
 -- ---- files of projects
 
--- a line tells why a file is no document
-pub some_fault : (text : Text) → is_err (document text) ≡ true → (line : Text) × TellsFirstFailing text line
-some_fault text fails = by_read (document text) refl fails
+-- a line tells the cycle of a document
+some_cycle : (text : Text) (d : Document) → document text ≡ Ok d → Says text d → SomeCycle (network_of d) → (line : Text) × TellsFirstFailing text line
+some_cycle text d e says (members, named, short) =
+    let kept = vec_of members (omega (arith, short, says.jobs_fit)) in
+    let told : FileFault = record { code = code.Cycle; line = d.precedence_line; cycle = kept.0 } in
+    let named' : IsNamedCycle (network_of d) kept.0.items = subst (IsNamedCycle (network_of d)) (sym kept.1) named in
+    (file_fault_text_of told, (told, inr (d, e, (refl, refl, named')), refl))
+
+-- a file says a project, or a line tells why not
+pub some_project : (text : Text) → ((line : Text) × TellsFirstFailing text line) ⊎ ((p : Project) × SaysProject text p)
+some_project text = by_read (document text) refl
   where
-    by_read : (read : Result Document Fault) → document text ≡ read → is_err read ≡ true → (line : Text) × TellsFirstFailing text line
-    by_read (Ok d) e is = absurd (both_ways _ refl is)
-    by_read (Err f) e is =
+    by_network : (d : Document) → document text ≡ Ok d → Says text d → SaysProject text (project_of d) ⊎ SomeCycle (network_of d)
+        → ((line : Text) × TellsFirstFailing text line) ⊎ ((p : Project) × SaysProject text p)
+    by_network d e says (inl project) = inr (project_of d, project)
+    by_network d e says (inr cycle) = inl (some_cycle text d e says cycle)
+
+    by_read : (read : Result Document Fault) → document text ≡ read → ((line : Text) × TellsFirstFailing text line) ⊎ ((p : Project) × SaysProject text p)
+    by_read (Ok d) e = let says = document_said text d e in by_network d e says (project_or_cycle text d says)
+    by_read (Err f) e =
         let told = of_fault f in
-        (file_fault_text_of told.0, (told.0, inl (e ∙ ap (λ (g : Fault). Err g) told.1, told.2), refl))
+        inl (file_fault_text_of told.0, (told.0, inl (e ∙ ap (λ (g : Fault). Err g) told.1, told.2), refl))

@@ -1,37 +1,40 @@
--- Some decision: a settled request has a reply and a change in each view whose rows keep their rules.
-use Rattle.std.proofs.Common.{◌≡◌, ◌⊎◌, inl, inr, ℕ, Bool, true, false, List, Option, Some, None, refl, sym, ap, ◌∙◌}
-use Rattle.std.specs.Prelude.{◌||◌, not, is_err, nat_eq, length}
+-- Some decision: each request has a reply and a change in each view whose rows keep their rules.
+use Rattle.std.proofs.Common.{◌≡◌, ◌⊎◌, inl, inr, ℕ, Bool, true, false, List, Option, Some, None, refl, ap}
+use Rattle.std.specs.Prelude.{nat_eq, length}
 use Rattle.std.proofs.lemmas.Bool.{both_ways}
-use Rattle.plan_psplib.specs.Document.{document}
+use Rattle.plan_cpm.proofs.SomeDateLemmas.{some_dates as some_table_of}
 use Rattle.plan_psplib.specs.Project.{Project, SaysProject}
+use Rattle.plan_sgs.specs.Instances.{Planned}
 use Rattle.plan_shop.specs.Shop.{JobShop}
 use Rattle.plan_calendar.specs.CalendarText.{IsCalendar}
 use Rattle.plan_calendar.specs.WorkingDay.{Workdays}
 use Rattle.plan_calendar.specs.declared.calendar.CalendarFault.TheVariants as calendar_fault
 use Rattle.plan_gantt.specs.CalendarFaultText.{calendar_fault_text_of, missing_calendar_text}
+use Rattle.plan_gantt.specs.DateTable.{IsDateText, date_table_text}
 use Rattle.plan_rows.specs.declared.kinds.PlanKind.{PlanKind}
 use Rattle.plan_rows.specs.declared.kinds.PlanKind.TheVariants as kinds
 use Rattle.plan_rows.specs.World.{Text, Published, Plan}
 use Rattle.plan_rows.specs.Changes.{Change, Keep}
-use Rattle.plan_rows.specs.Plans.{plan_seen, HasPlaces, open_machines}
+use Rattle.plan_rows.specs.Plans.{plan_seen, HasPlaces, IsProjectOf, bound_project, open_machines}
 use Rattle.plan_rows.specs.Rules.{HasCalendar, IsPlanRow, IsWorld}
 use Rattle.plan_rows.specs.Views.{View, alone}
 use Rattle.plan_desk.specs.Calls.{Call, publish, open_desk, set_key, capacities, plans, import_project, import_shop, remove, bind, set_calendar, set_lag, dates, schedule, chart, days, best, Reply, answer, page, no_key, admits}
 use Rattle.plan_desk.specs.BestOf.{IsOpenBest}
-use Rattle.plan_desk.specs.BestRoutes.{OfShopBest, Best}
+use Rattle.plan_desk.specs.BestRoutes.{OfProjectBest, OfShopBest, Best}
 use Rattle.plan_desk.specs.Decisions.{Answers, IsDecision}
 use Rattle.plan_desk.specs.OfficeRoutes.{Publishes, Opens, SetsKey}
 use Rattle.plan_desk.specs.Outcomes.{Outcome, refuses, tells, shows, makes, unless, given, some, why_or}
-use Rattle.plan_desk.specs.PageRoutes.{OfShopSchedule, TellsBeyond, ShowsDays, OfCalendar, Dates, Schedules, Charts, Days}
+use Rattle.plan_desk.specs.PageRoutes.{OfSchedule, OfShopSchedule, TellsBeyond, ShowsDays, OfCalendar, Dates, Schedules, Charts, Days}
 use Rattle.plan_desk.specs.PlanRoutes.{of_plan, by_kind, Imports, ImportsProject, ImportsShop, Removes, Binds, Calendars, SetsLag}
 use Rattle.plan_desk.specs.Refusals.{bad_calendar}
-use Rattle.plan_desk.specs.SomeDecisions.{is_shop, is_no_project, is_settled_call, SomeDecision}
+use Rattle.plan_desk.specs.SomeDecisions.{SomeDecision}
 use Rattle.plan_desk.specs.Stories.{decided}
 use Rattle.plan_desk.proofs.SameLemmas.{all_has}
 use Rattle.plan_desk.proofs.SeenPlanLemmas.{seen_has}
-use Rattle.plan_desk.proofs.SomeFileLemmas.{some_texts, some_shop, some_fault}
+use Rattle.plan_desk.proofs.SomeFileLemmas.{some_texts, some_shop, some_project}
 use Rattle.plan_desk.proofs.SomeBestLemmas.{some_best_text}
-use Rattle.plan_desk.proofs.SomeDaysLemmas.{some_shop_table}
+use Rattle.plan_desk.proofs.SomeDaysLemmas.{some_activity_table, some_shop_table}
+use Rattle.plan_desk.proofs.SomeProjectLemmas.{some_project_of, some_project_schedule, some_project_best}
 use Rattle.plan_desk.proofs.SomeShopLemmas.{some_schedule, some_shop_of}
 
 -- the outcome has a reply and a change
@@ -140,24 +143,37 @@ some_sets_lag v n body k =
     some_by_kind plan.kind plan.name plan.body _ _ keeps.reads
     (λ p. some_unless _ _ _ (some_makes _ _ _)) (some_refuses _)))
 
-some_imports_project : (v : View) (body : Text) → is_err (document body) ≡ true → IsAnswered (ImportsProject v body)
+some_imports_project : (v : View) (body : Text) → IsAnswered (ImportsProject v body)
 unfolding ImportsProject Imports
-some_imports_project v body fails =
+some_imports_project v body =
     some_given _ _ _ (λ row there. some_unless _ _ _ (some_unless _ _ _
-    (some_why_or _ _ _ _ (inl (some_fault body fails)) (λ read. some_makes _ _ _))))
+    (some_why_or _ _ _ _ (some_project body) (λ read. some_makes _ _ _))))
 
 -- ---- pages
 
-some_by_shop : (kind : PlanKind) (One Other : Outcome) → is_shop kind ≡ true → (kind ≡ kinds.Shop → IsAnswered Other) → IsAnswered (by_kind kind One Other)
-unfolding by_kind
-some_by_shop kinds.Project One Other is other = absurd (both_ways _ refl is)
-some_by_shop kinds.Shop One Other is other = other refl
+some_shows : (P : Text → Type 0) (text : Text) → P text → IsAnswered (shows P)
+unfolding shows
+some_shows P text holds = (page text, Keep, (text, holds, refl, refl))
 
--- of a shop's plan, or where there is none
-some_of_shop : (v : View) (n : Text) (One Other : Plan → Outcome) → IsWorld (alone v) → is_no_project (plan_seen v n) ≡ true
+some_by : (kind : PlanKind) (One Other : Outcome) → (kind ≡ kinds.Project → IsAnswered One) → (kind ≡ kinds.Shop → IsAnswered Other) → IsAnswered (by_kind kind One Other)
+unfolding by_kind
+some_by kinds.Project One Other one other = one refl
+some_by kinds.Shop One Other one other = other refl
+
+-- of a plan that there may be, by its kind
+some_of_kind : (v : View) (n : Text) (One Other : Plan → Outcome) → IsWorld (alone v)
+    → ((plan : Plan) → IsPlanRow plan → plan.kind ≡ kinds.Project → IsAnswered (One plan))
     → ((plan : Plan) → IsPlanRow plan → plan.kind ≡ kinds.Shop → IsAnswered (Other plan)) → IsAnswered (of_plan v n (λ plan. by_kind plan.kind (One plan) (Other plan)))
-some_of_shop v n One Other k none other =
-    some_of_plan _ _ _ k (λ plan seen keeps. some_by_shop plan.kind _ _ (sym (ap is_no_project seen) ∙ none) (other plan keeps))
+some_of_kind v n One Other k one other =
+    some_of_plan _ _ _ k (λ plan seen keeps. some_by plan.kind _ _ (one plan keeps) (other plan keeps))
+
+some_of_schedule : (v : View) (plan : Plan) (rule : Text) (Rest : Planned → List ℕ → Outcome) → IsWorld (alone v) → IsPlanRow plan → plan.kind ≡ kinds.Project
+    → ((i : Planned) (starts : List ℕ) → IsAnswered (Rest i starts)) → IsAnswered (OfSchedule v plan rule Rest)
+unfolding OfSchedule
+some_of_schedule v plan rule Rest k keeps kind rest =
+    let made = some_project_of v plan k keeps kind in
+    let p = made.project in
+    some_some _ _ p made.said (some_why_or _ _ _ _ (some_project_schedule v plan p rule made.is) (λ starts. rest (bound_project v plan p) starts))
 
 some_of_shop_schedule : (v : View) (plan : Plan) (rule : Text) (Rest : JobShop → List ℕ → Outcome) → IsPlanRow plan → plan.kind ≡ kinds.Shop
     → ((s : JobShop) (starts : List ℕ) → IsAnswered (Rest s starts)) → IsAnswered (OfShopSchedule v plan rule Rest)
@@ -167,23 +183,30 @@ some_of_shop_schedule v plan rule Rest keeps kind rest =
     let s = read.shop in
     some_some _ _ s read.said (some_why_or _ _ _ _ (some_schedule s (open_machines v plan.n s.machines) rule read.is) (λ starts. rest s starts))
 
-some_shows : (P : Text → Type 0) (text : Text) → P text → IsAnswered (shows P)
-unfolding shows
-some_shows P text holds = (page text, Keep, (text, holds, refl, refl))
+some_project_dates : (v : View) (plan : Plan) → IsWorld (alone v) → IsPlanRow plan → plan.kind ≡ kinds.Project → IsAnswered (some (IsProjectOf v plan) (λ p. shows (IsDateText p.network)))
+some_project_dates v plan k keeps kind =
+    let made = some_project_of v plan k keeps kind in
+    let p = made.project in
+    let dates = some_table_of p.network made.is.network in
+    some_some _ _ p made.said (some_shows _ (date_table_text p.network dates.0) (dates.0, dates.1, refl))
 
-some_dates : (v : View) (n : Text) → IsWorld (alone v) → is_no_project (plan_seen v n) ≡ true → IsAnswered (Dates v n)
+some_dates : (v : View) (n : Text) → IsWorld (alone v) → IsAnswered (Dates v n)
 unfolding Dates
-some_dates v n k none = some_of_shop _ _ _ _ k none (λ plan keeps kind. some_refuses _)
+some_dates v n k = some_of_kind _ _ _ _ k (λ plan keeps kind. some_project_dates v plan k keeps kind) (λ plan keeps kind. some_refuses _)
 
-some_schedules : (v : View) (n rule : Text) → IsWorld (alone v) → is_no_project (plan_seen v n) ≡ true → IsAnswered (Schedules v n rule)
+some_schedules : (v : View) (n rule : Text) → IsWorld (alone v) → IsAnswered (Schedules v n rule)
 unfolding Schedules
-some_schedules v n rule k none =
-    some_of_shop _ _ _ _ k none (λ plan keeps kind. some_of_shop_schedule _ _ _ _ keeps kind (λ s starts. some_shows _ _ refl))
+some_schedules v n rule k =
+    some_of_kind _ _ _ _ k
+    (λ plan keeps kind. some_of_schedule _ _ _ _ k keeps kind (λ i starts. some_shows _ _ refl))
+    (λ plan keeps kind. some_of_shop_schedule _ _ _ _ keeps kind (λ s starts. some_shows _ _ refl))
 
-some_charts : (v : View) (n rule : Text) → IsWorld (alone v) → is_no_project (plan_seen v n) ≡ true → IsAnswered (Charts v n rule)
+some_charts : (v : View) (n rule : Text) → IsWorld (alone v) → IsAnswered (Charts v n rule)
 unfolding Charts
-some_charts v n rule k none =
-    some_of_shop _ _ _ _ k none (λ plan keeps kind. some_of_shop_schedule _ _ _ _ keeps kind (λ s starts. some_shows _ _ refl))
+some_charts v n rule k =
+    some_of_kind _ _ _ _ k
+    (λ plan keeps kind. some_of_schedule _ _ _ _ k keeps kind (λ i starts. some_shows _ _ refl))
+    (λ plan keeps kind. some_of_shop_schedule _ _ _ _ keeps kind (λ s starts. some_shows _ _ refl))
 
 -- a table by the plan's calendar, where each calendar has one or a day beyond
 some_of_calendar : (plan : Plan) (IsTable : Workdays → Text → Type 0) (IsBeyond : Workdays → Type 0) → HasCalendar plan.start plan.days
@@ -203,11 +226,21 @@ some_of_calendar plan IsTable IsBeyond calendar table = by_calendar calendar
     by_calendar (inr (c, is)) =
         some_unless _ _ _ (some_why_or _ _ (ShowsDays IsTable plan.start plan.days) _ (some_table c is (table c)) (λ text. some_shows _ text refl))
 
-some_days : (v : View) (n rule : Text) → IsWorld (alone v) → is_no_project (plan_seen v n) ≡ true → IsAnswered (Days v n rule)
+some_days : (v : View) (n rule : Text) → IsWorld (alone v) → IsAnswered (Days v n rule)
 unfolding Days
-some_days v n rule k none =
-    some_of_shop _ _ _ _ k none (λ plan keeps kind. some_of_shop_schedule _ _ _ _ keeps kind (λ s starts.
+some_days v n rule k =
+    some_of_kind _ _ _ _ k
+    (λ plan keeps kind. some_of_schedule _ _ _ _ k keeps kind (λ i starts.
+    some_of_calendar plan _ _ keeps.calendar (λ c. some_activity_table c i.project.network starts)))
+    (λ plan keeps kind. some_of_shop_schedule _ _ _ _ keeps kind (λ s starts.
     some_of_calendar plan _ _ keeps.calendar (λ c. some_shop_table c s starts)))
+
+some_of_best : (v : View) (plan : Plan) (word : Text) → IsWorld (alone v) → IsPlanRow plan → plan.kind ≡ kinds.Project → IsAnswered (OfProjectBest v plan word)
+unfolding OfProjectBest
+some_of_best v plan word k keeps kind =
+    let made = some_project_of v plan k keeps kind in
+    let p = made.project in
+    some_some _ _ p made.said (some_why_or _ _ _ _ (some_project_best v plan p word made.is) (λ text. some_shows _ text refl))
 
 some_shop_best : (v : View) (plan : Plan) (word : Text) → IsPlanRow plan → plan.kind ≡ kinds.Shop → IsAnswered (OfShopBest v plan word)
 unfolding OfShopBest
@@ -217,36 +250,36 @@ some_shop_best v plan word keeps kind =
     let IsShown : Text → Type 0 = IsOpenBest word s (open_machines v plan.n s.machines) in
     some_some _ _ s read.said (some_why_or _ _ IsShown _ (some_best_text s (open_machines v plan.n s.machines) word read.is read.short) (λ text. some_shows _ text refl))
 
-some_best : (v : View) (n word : Text) → IsWorld (alone v) → is_no_project (plan_seen v n) ≡ true → IsAnswered (Best v n word)
+some_best : (v : View) (n word : Text) → IsWorld (alone v) → IsAnswered (Best v n word)
 unfolding Best
-some_best v n word k none = some_of_shop _ _ _ _ k none (λ plan keeps kind. some_shop_best v plan word keeps kind)
+some_best v n word k =
+    some_of_kind _ _ _ _ k (λ plan keeps kind. some_of_best v plan word k keeps kind) (λ plan keeps kind. some_shop_best v plan word keeps kind)
 
 -- ---- decisions
 
-some_answer : (v : View) (call : Call) → IsWorld (alone v) → is_settled_call v call ≡ true → IsAnswered (Answers v call)
-some_answer v (publish body) k settled = some_publishes v.published body
-some_answer v (open_desk body) k settled = some_opens v body
-some_answer v (set_key desk body) k settled = some_sets_key v desk body
-some_answer v (capacities desk) k settled = some_tells _
-some_answer v (plans desk) k settled = some_tells _
-some_answer v (import_project desk body) k settled = some_imports_project v body settled
-some_answer v (import_shop desk instance body) k settled = some_imports_shop v instance body
-some_answer v (remove desk n) k settled = some_removes v n k
-some_answer v (bind desk n body) k settled = some_binds v n body k
-some_answer v (set_calendar desk n body) k settled = some_calendars v n body k
-some_answer v (set_lag desk n body) k settled = some_sets_lag v n body k
-some_answer v (dates desk n) k settled = some_dates v n k settled
-some_answer v (schedule desk n rule) k settled = some_schedules v n rule k settled
-some_answer v (chart desk n rule) k settled = some_charts v n rule k settled
-some_answer v (days desk n rule) k settled = some_days v n rule k settled
-some_answer v (best desk n budget) k settled = some_best v n budget k settled
+some_answer : (v : View) (call : Call) → IsWorld (alone v) → IsAnswered (Answers v call)
+some_answer v (publish body) k = some_publishes v.published body
+some_answer v (open_desk body) k = some_opens v body
+some_answer v (set_key desk body) k = some_sets_key v desk body
+some_answer v (capacities desk) k = some_tells _
+some_answer v (plans desk) k = some_tells _
+some_answer v (import_project desk body) k = some_imports_project v body
+some_answer v (import_shop desk instance body) k = some_imports_shop v instance body
+some_answer v (remove desk n) k = some_removes v n k
+some_answer v (bind desk n body) k = some_binds v n body k
+some_answer v (set_calendar desk n body) k = some_calendars v n body k
+some_answer v (set_lag desk n body) k = some_sets_lag v n body k
+some_answer v (dates desk n) k = some_dates v n k
+some_answer v (schedule desk n rule) k = some_schedules v n rule k
+some_answer v (chart desk n rule) k = some_charts v n rule k
+some_answer v (days desk n rule) k = some_days v n rule k
+some_answer v (best desk n budget) k = some_best v n budget k
 
 -- a refusal, or the answer to an admitted call
-some_decided : (b settled : Bool) (Rest : Outcome) → (settled ≡ true → IsAnswered Rest) → (not b || settled) ≡ true → IsAnswered (decided b Rest)
-some_decided true settled Rest rest is = rest is
-some_decided false settled Rest rest is = (no_key, Keep, (refl, refl))
+some_decided : (b : Bool) (Rest : Outcome) → IsAnswered Rest → IsAnswered (decided b Rest)
+some_decided true Rest rest = rest
+some_decided false Rest rest = (no_key, Keep, (refl, refl))
 
 pub some_decision : SomeDecision
 unfolding SomeDecision IsDecision
-some_decision = λ v r k settled.
-    some_decided (admits v r) (is_settled_call v r.call) (Answers v r.call) (λ is. some_answer v r.call k is) settled
+some_decision = λ v r k. some_decided (admits v r) (Answers v r.call) (some_answer v r.call k)

@@ -9,9 +9,7 @@ pub fn one_decision()
     ensures { OneDecision }
 {}
 
-/// A request has a reply and a change in each view of an office whose rows keep their rules: without
-/// the key that its call takes on each route; with it on each but the import of a project whose file
-/// is a document, and the pages of a project's plan.
+/// Each request has a reply and a change in each view of an office whose rows keep their rules.
 pub fn some_decision()
     ensures { SomeDecision }
 {}
