@@ -1,5 +1,5 @@
 -- A sound network has dates: the greatest lengths of paths, along its order and back, and the floats that they leave.
-use Rattle.std.proofs.Common.{ℕ, suc, zero, ◌≡◌, ◌≢◌, ◌+◌, ◌-◌, ◌≤◌, ◌<◌, ◌⊎◌, inl, inr, List, [], ◌∷◌, ◌++◌, length, get_or, set, replicate, refl, sym, ◌∙◌, ap, subst, arith, below_more}
+use Rattle.std.proofs.Common.{ℕ, suc, zero, ◌≡◌, ◌+◌, ◌-◌, ◌≤◌, ◌<◌, ◌⊎◌, inl, inr, List, [], ◌∷◌, ◌++◌, length, get_or, set, replicate, refl, sym, ◌∙◌, ap, subst, arith}
 use Rattle.std.specs.List.{Contains}
 use Rattle.std.proofs.lemmas.List.{length-set, length-replicate, length_push, get_or_append_left, get_or_push}
 use Rattle.std.proofs.lemmas.List.Elements.{Contains-append_right}
@@ -15,7 +15,7 @@ use Rattle.plan_cpm.specs.Dates.{DateTable, AreDates, AreFreeFloats, IsNextStart
 use Rattle.plan_cpm.proofs.StepLemmas.{finish_step, tail_step}
 use Rattle.plan_cpm.proofs.PassLemmas.{RightBetween, RightBetween-set, preds_right, succs_right, each_right}
 use Rattle.plan_cpm.proofs.JoinLemmas.{after_finish, finish_at_most_next}
-use Rattle.plan_cpm.proofs.DateLemmas.{AreParts, duration_greatest, AreDates-from_parts}
+use Rattle.plan_cpm.proofs.DateLemmas.{duration_greatest, AreDates-from_parts}
 
 -- ---- the greatest and the least over arcs
 

@@ -1,10 +1,10 @@
 -- An instance has a schedule by each rule, or a need is too much; and the schedule of each full word ends in time.
-use Rattle.std.proofs.Common.{ℕ, zero, suc, ◌≡◌, ◌+◌, ◌-◌, ◌≤◌, ◌<◌, ◌⊎◌, inl, inr, List, length, get_or, refl, sym, ◌∙◌, subst, arith}
+use Rattle.std.proofs.Common.{ℕ, suc, ◌≡◌, ◌+◌, ◌-◌, ◌≤◌, ◌<◌, ◌⊎◌, inl, inr, List, length, get_or, refl, sym, subst, arith}
 use Rattle.std.proofs.lemmas.Bool.{cases_lt, cases_order}
 use Rattle.plan_net.specs.Network.{Net, count_of, duration_of, IsLeast}
 use Rattle.plan_net.specs.Limits.{IsSound}
 use Rattle.plan_net.proofs.SearchLemmas.{Decided, least_below}
-use Rattle.plan_cpm.specs.Dates.{DateTable, AreDates, late_finish_of, total_float_of}
+use Rattle.plan_cpm.specs.Dates.{late_finish_of, total_float_of}
 use Rattle.plan_cpm.specs.Successors.{AreTotals}
 use Rattle.plan_cpm.proofs.SomeDateLemmas.{some_dates}
 use Rattle.plan_cpm.proofs.SomeTotalLemmas.{some_totals}
@@ -14,7 +14,7 @@ use Rattle.plan_sgs.specs.Rules.{rule_list}
 use Rattle.plan_sgs.specs.Instances.{Planned, IsInstance, problem_of, RefusesInstance}
 use Rattle.plan_sgs.specs.Keys.{IsKeyOf, IsRuleSchedule}
 use Rattle.plan_sgs.specs.Placing.{AllEndBy, latest_end}
-use Rattle.plan_sgs.specs.ProjectWords.{placed_by, starts_by, IsWord}
+use Rattle.plan_sgs.specs.ProjectWords.{placed_by, starts_by}
 use Rattle.plan_sgs.specs.ProjectLaws.{IsFullWord, rule_word, RuleWordIsFull, ProjectFullIsActive}
 use Rattle.plan_sgs.specs.declared.rule.Rule.{Rule}
 use Rattle.plan_sgs.specs.declared.rule.Rule.TheVariants as rule
