@@ -1,172 +1,179 @@
 -- Steps of one machine take turns, so that their times lie between the least head and the end by
 -- the least tail.
-use Rattle.std.proofs.Common.{◌≡◌, ℕ, zero, suc, ◌+◌, ◌-◌, ◌≤◌, ◌<◌, ◌⊎◌, inl, inr, List, Vec, [], ◌∷◌, Bool, true, false, ◌&&◌, ◌||◌, nat_le, nat_lt, nat_eq, cond, length, get_or, Contains, refl, sym, ◌∙◌, ap, subst, arith}
-use Rattle.std.specs.List.{All, filter, sum_by}
+use Rattle.std.proofs.Common.{◌≡◌, ◌∙◌, ℕ, suc, ◌+◌, ◌-◌, ◌≤◌, ◌<◌, ◌⊎◌, inl, inr, List, Vec, [], ◌∷◌, true, ◌&&◌, not, nat_le, nat_eq, length, get_or, Contains, sym, subst, arith}
+use Rattle.std.specs.List.{All, AllByRecursion, sum_by}
 use Rattle.std.specs.declared.alloc.Global.{Global}
 use Rattle.std.proofs.lemmas.List.Kept.{AllPairs-filter}
-use Rattle.std.proofs.lemmas.List.Elements.{All-filter, All-weaker, All-contains_itself, recursion_from_All}
-use Rattle.std.proofs.lemmas.List.Elements.{filter_passes}
+use Rattle.std.proofs.lemmas.List.Elements.{All-filter, All-contains_itself, recursion_from_All, filter_passes}
 use Rattle.std.proofs.lemmas.List.Sums.{sum_by-cons}
-use Rattle.std.proofs.lemmas.List.{get_or_default}
-use Rattle.std.proofs.lemmas.Bool.{leb-true, ltb-true, eqb-true, le-leb, lt-ltb, eq-eqb, and_parts, and_from, or_cases, or_left, or_right, cond-true, cond-false, false_from_ne_true}
+use Rattle.std.proofs.lemmas.Bool.{cases_lt, leb-true, le-leb, not-true, not_from_false, eqb-true, eq-eqb, and_parts, and_from, false≢true, false_from_ne_true}
 use Rattle.plan_shop.proofs.NumberLemmas.{InOrder, in_order_from}
 use Rattle.plan_shop.proofs.Span.{IsClear, span}
-use Rattle.plan_prove.specs.Graphs.{time_in, KeepsClique}
-use Rattle.plan_prove.specs.States.{IsRefuted, is_ranked, ranked, IsRankedAfter, IsClique}
+use Rattle.plan_prove.specs.Graphs.{time_in, IsBefore, KeepsClique}
+use Rattle.plan_prove.specs.States.{IsRefuted, StartsFrom, Leaves, is_other, others_of, Fill, IsBehind, IsAhead, IsClique}
 use Rattle.plan_prove.specs.declared.graph.Graph.{Graph}
 use Rattle.plan_prove.specs.declared.state.State.{State}
-use Rattle.plan_prove.specs.declared.cliques.Rank.{Rank}
+use Rattle.plan_prove.specs.declared.edges.Others.{Others}
 
--- a step comes up to a rank in the order of falling tails
-abbrev pub ComesBy : State → ℕ → ℕ → ℕ → Type 0
-ComesBy state tail step x = (tail < get_or state.tails.items x 0) ⊎ ((tail ≡ get_or state.tails.items x 0) × (x ≤ step))
+-- what it is to be one of the others
+pub record IsOther (state : State) (others : Others) (x : ℕ) : Type 0 where
+  pub another : x ≡ others.but → ⊥
+  pub head : others.head ≤ get_or state.heads.items x 0
+  pub tail : others.tail ≤ get_or state.tails.items x 0
 
--- what it is to be ranked
-pub ranked_parts : (state : State) (head tail step x : ℕ) → is_ranked state head tail step x ≡ true → (head ≤ get_or state.heads.items x 0) × ComesBy state tail step x
-ranked_parts state head tail step x passes =
-    let late = nat_le head (get_or state.heads.items x 0) in
-    let above = nat_lt tail (get_or state.tails.items x 0) in
-    let same = nat_eq tail (get_or state.tails.items x 0) in
-    let both = and_parts late (above || (same && nat_le x step)) passes in (
-      leb-true head (get_or state.heads.items x 0) both.0,
-      elim (or_cases above (same && nat_le x step) both.1) [
-        | inl greater ↦ inl (ltb-true tail (get_or state.tails.items x 0) greater)
-        | inr equal ↦
-            let parts = and_parts same (nat_le x step) equal in
-            inr (eqb-true tail (get_or state.tails.items x 0) parts.0, leb-true x step parts.1)
-      ],
+pub other_parts : (state : State) (others : Others) (x : ℕ) → is_other state others x ≡ true → IsOther state others x
+other_parts state others x passes =
+    let unlike = not (nat_eq x others.but) in
+    let late = nat_le others.head (get_or state.heads.items x 0) in
+    let long = nat_le others.tail (get_or state.tails.items x 0) in
+    let outer = and_parts (unlike && late) long passes in
+    let inner = and_parts unlike late outer.0 in
+    record {
+      another = λ same. false≢true (sym (not-true (nat_eq x others.but) inner.0) ∙ eq-eqb x others.but same);
+      head = leb-true others.head (get_or state.heads.items x 0) inner.1;
+      tail = leb-true others.tail (get_or state.tails.items x 0) outer.1;
+    }
+
+pub other_from : (state : State) (others : Others) (x : ℕ) → IsOther state others x → is_other state others x ≡ true
+other_from state others x is =
+    let unlike = not (nat_eq x others.but) in
+    let late = nat_le others.head (get_or state.heads.items x 0) in
+    let long = nat_le others.tail (get_or state.tails.items x 0) in
+    and_from (unlike && late) long
+    (and_from unlike late (not_from_false (nat_eq x others.but) (false_from_ne_true (nat_eq x others.but) (λ same. is.another (eqb-true x others.but same))))
+    (le-leb others.head (get_or state.heads.items x 0) is.head))
+    (le-leb others.tail (get_or state.tails.items x 0) is.tail)
+
+-- a fact of each of the others
+pub each_other : (P : ℕ → Type 0) (state : State) (others : Others) (clique : Vec ℕ Global) → ((z : ℕ) → Contains clique.items z → is_other state others z ≡ true → P z) → All P (others_of state others clique.items)
+each_other P state others clique each k d below =
+    let zs = others_of state others clique.items in
+    each (get_or zs k d)
+    (All-filter (is_other state others) (Contains clique.items) clique.items (All-contains_itself clique.items) k d below)
+    (filter_passes (is_other state others) clique.items k d below)
+
+-- of two steps of a clique one ends before the other starts
+pub either_first : (g : Graph) (starts : List ℕ) (clique : Vec ℕ Global) (x y : ℕ) → KeepsClique g starts clique → Contains clique.items x → Contains clique.items y → (x ≡ y → ⊥) → IsBefore g starts x y ⊎ IsBefore g starts y x
+either_first g starts clique x y kept in_x in_y unlike = elim (cases_lt x y) [
+  | inl less ↦ kept.apart x y in_x in_y less
+  | inr least ↦ elim (kept.apart y x in_y in_x (omega (arith, least, unlike))) [
+    | inl before ↦ inr before
+    | inr after ↦ inl after
+  ]
+]
+
+-- the others of a clique take turns
+others_in_order : (g : Graph) (state : State) (others : Others) (clique : Vec ℕ Global) (starts : List ℕ) → KeepsClique g starts clique
+    → InOrder (IsClear (λ x. get_or starts x 0) (time_in g)) (others_of state others clique.items)
+others_in_order g state others clique starts kept =
+    in_order_from (IsClear (λ x. get_or starts x 0) (time_in g)) (Contains clique.items) kept.apart (others_of state others clique.items)
+    (AllPairs-filter (λ x y. x < y) (is_other state others) clique.items kept.rising)
+    (All-filter (is_other state others) (Contains clique.items) clique.items (All-contains_itself clique.items))
+
+-- where the others and the step beside them all start late and end early they don't fill the time
+filled : (g : Graph) (limit start rest : ℕ) (state : State) (others : Others) (clique : Vec ℕ Global) (starts : List ℕ) → KeepsClique g starts clique → Contains clique.items others.but
+    → Fill g limit state clique others start rest
+    → start ≤ get_or starts others.but 0 → get_or starts others.but 0 + time_in g others.but + rest < limit
+    → ((z : ℕ) → is_other state others z ≡ true → start ≤ get_or starts z 0)
+    → ((z : ℕ) → is_other state others z ≡ true → get_or starts z 0 + time_in g z + rest < limit) → ⊥
+filled g limit start rest state others clique starts kept there fill late early all_late all_early =
+    let R = IsClear (λ x. get_or starts x 0) (time_in g) in
+    let zs : List ℕ = others_of state others clique.items in
+    let but : ℕ = others.but in
+    let clear : All (R but) zs = each_other (R but) state others clique (λ z in_z passes. either_first g starts clique but z kept there in_z (λ same. (other_parts state others z passes).another (sym same))) in
+    let order : InOrder R (but ∷ zs) = (recursion_from_All (R but) zs clear, others_in_order g state others clique starts kept) in
+    let from : AllByRecursion (λ z. start ≤ get_or starts z 0) (but ∷ zs) =
+    (late, recursion_from_All (λ z. start ≤ get_or starts z 0) zs (each_other (λ z. start ≤ get_or starts z 0) state others clique (λ z in_z passes. all_late z passes))) in
+    let until : AllByRecursion (λ z. get_or starts z 0 + time_in g z ≤ limit - suc rest) (but ∷ zs) = (
+      omega (arith, early),
+      recursion_from_All (λ z. get_or starts z 0 + time_in g z ≤ limit - suc rest) zs
+          (each_other (λ z. get_or starts z 0 + time_in g z ≤ limit - suc rest) state others clique (λ z in_z passes. omega (arith, all_early z passes))),
+    ) in
+    let all : start + sum_by (time_in g) (but ∷ zs) ≤ limit - suc rest =
+    span (λ x. get_or starts x 0) (time_in g) start (limit - suc rest) (but ∷ zs) (omega (arith, late, early)) order from until in
+    absurd (omega (arith, all, early, fill, sum_by-cons (time_in g) but zs))
+
+-- steps of a clique that fill the time between their least head and their least tail refute
+pub fill_refutes : (g : Graph) (limit start rest : ℕ) (state : State) (others : Others) (clique : Vec ℕ Global) → IsClique g clique → Contains clique.items others.but
+    → start ≤ others.head → start ≤ get_or state.heads.items others.but 0 → rest ≤ others.tail → rest ≤ get_or state.tails.items others.but 0
+    → Fill g limit state clique others start rest → IsRefuted g limit state
+fill_refutes g limit start rest state others clique is there low early short long fill starts h =
+    filled g limit start rest state others clique starts (is starts h.kept) there fill
+    (omega (arith, early, h.heads others.but)) (omega (arith, long, h.tails others.but))
+    (λ z passes. omega (arith, low, (other_parts state others z passes).head, h.heads z))
+    (λ z passes. omega (arith, short, (other_parts state others z passes).tail, h.tails z))
+
+-- where they fill it up to the least tail of the others, none of these is the last
+pub fill_behind : (g : Graph) (limit start : ℕ) (state : State) (others : Others) (clique : Vec ℕ Global) → IsClique g clique → Contains clique.items others.but
+    → start ≤ others.head → start ≤ get_or state.heads.items others.but 0 → Fill g limit state clique others start others.tail → IsBehind g limit state clique others
+fill_behind g limit start state others clique is there low early fill x in_x other starts h =
+    elim (either_first g starts clique x others.but (is starts h.kept) in_x there (other_parts state others x other).another) [
+      | inl before ↦ before
+      | inr after ↦ absurd (filled g limit start others.tail state others clique starts (is starts h.kept) there fill
+          (omega (arith, early, h.heads others.but)) (omega (arith, after, (other_parts state others x other).tail, h.tails x))
+          (λ z passes. omega (arith, low, (other_parts state others z passes).head, h.heads z))
+          (λ z passes. omega (arith, (other_parts state others z passes).tail, h.tails z)))
+    ]
+
+-- where they fill it from the least head of the others on, none of these is the first
+pub fill_ahead : (g : Graph) (limit rest : ℕ) (state : State) (others : Others) (clique : Vec ℕ Global) → IsClique g clique → Contains clique.items others.but
+    → rest ≤ others.tail → rest ≤ get_or state.tails.items others.but 0 → Fill g limit state clique others others.head rest → IsAhead g limit state clique others
+fill_ahead g limit rest state others clique is there short long fill x in_x other starts h =
+    elim (either_first g starts clique x others.but (is starts h.kept) in_x there (other_parts state others x other).another) [
+      | inr before ↦ before
+      | inl after ↦ absurd (filled g limit others.head rest state others clique starts (is starts h.kept) there fill
+          (omega (arith, after, (other_parts state others x other).head, h.heads x)) (omega (arith, long, h.tails others.but))
+          (λ z passes. omega (arith, (other_parts state others z passes).head, h.heads z))
+          (λ z passes. omega (arith, short, (other_parts state others z passes).tail, h.tails z)))
+    ]
+
+-- steps that take turns last no longer together than from a start to an end between which they are
+between : (g : Graph) (starts : List ℕ) (start end : ℕ) (zs : List ℕ) → InOrder (IsClear (λ x. get_or starts x 0) (time_in g)) zs → All (λ z. start ≤ get_or starts z 0) zs
+    → All (λ z. get_or starts z 0 + time_in g z ≤ end) zs → 0 < sum_by (time_in g) zs → start + sum_by (time_in g) zs ≤ end
+between g starts start end [] order late early some = absurd (omega (arith, some))
+between g starts start end (z ∷ zs) order late early some =
+    let first : start ≤ get_or starts z 0 = late 0 0 (omega arith) in
+    let last : get_or starts z 0 + time_in g z ≤ end = early 0 0 (omega arith) in
+    span (λ x. get_or starts x 0) (time_in g) start end (z ∷ zs) (omega (arith, first, last)) order
+    (recursion_from_All (λ y. start ≤ get_or starts y 0) (z ∷ zs) late) (recursion_from_All (λ y. get_or starts y 0 + time_in g y ≤ end) (z ∷ zs) early)
+
+-- others that start later and leave more are others too
+other_of_more : (state : State) (others last : Others) (z : ℕ) → last.but ≡ others.but → others.head ≤ last.head → others.tail ≤ last.tail → is_other state last z ≡ true → is_other state others z ≡ true
+other_of_more state others last z same later longer passes =
+    let is : IsOther state last z = other_parts state last z passes in
+    other_from state others z (record { another = λ e. is.another (omega (arith, e, same)); head = omega (arith, later, is.head); tail = omega (arith, longer, is.tail) })
+
+-- a step that goes behind others starts when the last of them ends, or later
+pub behind_starts : (g : Graph) (limit times value : ℕ) (state : State) (others last : Others) (clique : Vec ℕ Global) → IsClique g clique → IsBehind g limit state clique others
+    → last.but ≡ others.but → others.head ≤ last.head → others.tail ≤ last.tail → times ≤ sum_by (time_in g) (others_of state last clique.items) → 0 < times
+    → value ≤ last.head + times → StartsFrom g limit state others.but value
+behind_starts g limit times value state others last clique is behind same later longer most some small starts h =
+    let zs : List ℕ = others_of state last clique.items in
+    let late : All (λ z. last.head ≤ get_or starts z 0) zs =
+    each_other (λ z. last.head ≤ get_or starts z 0) state last clique (λ z in_z passes. omega (arith, (other_parts state last z passes).head, h.heads z)) in
+    let early : All (λ z. get_or starts z 0 + time_in g z ≤ get_or starts others.but 0) zs =
+    each_other (λ z. get_or starts z 0 + time_in g z ≤ get_or starts others.but 0) state last clique
+    (λ z in_z passes. behind z in_z (other_of_more state others last z same later longer passes) starts h) in
+    omega (arith, small, most, between g starts last.head (get_or starts others.but 0) zs (others_in_order g state last clique starts (is starts h.kept)) late early (omega (arith, most, some)))
+
+-- a step that goes ahead of others leaves what they take up to the limit, or more
+pub ahead_leaves : (g : Graph) (limit times value : ℕ) (state : State) (others last : Others) (clique : Vec ℕ Global) → IsClique g clique → IsAhead g limit state clique others
+    → last.but ≡ others.but → others.head ≤ last.head → others.tail ≤ last.tail → times ≤ sum_by (time_in g) (others_of state last clique.items) → 0 < times
+    → value ≤ last.tail + times → Leaves g limit state others.but value
+ahead_leaves g limit times value state others last clique is ahead same later longer most some small starts h =
+    let zs : List ℕ = others_of state last clique.items in
+    let late : All (λ z. get_or starts others.but 0 + time_in g others.but ≤ get_or starts z 0) zs =
+    each_other (λ z. get_or starts others.but 0 + time_in g others.but ≤ get_or starts z 0) state last clique
+    (λ z in_z passes. ahead z in_z (other_of_more state others last z same later longer passes) starts h) in
+    let early : All (λ z. get_or starts z 0 + time_in g z ≤ limit - suc last.tail) zs =
+    each_other (λ z. get_or starts z 0 + time_in g z ≤ limit - suc last.tail) state last clique (λ z in_z passes. omega (arith, (other_parts state last z passes).tail, h.tails z)) in
+    omega (
+      arith,
+      small,
+      most,
+      some,
+      between g starts (get_or starts others.but 0 + time_in g others.but) (limit - suc last.tail) zs (others_in_order g state last clique starts (is starts h.kept)) late early (omega (arith, most, some)),
     )
-
-pub ranked_from : (state : State) (head tail step x : ℕ) → head ≤ get_or state.heads.items x 0 → ComesBy state tail step x → is_ranked state head tail step x ≡ true
-ranked_from state head tail step x starts comes =
-    let late = nat_le head (get_or state.heads.items x 0) in
-    let above = nat_lt tail (get_or state.tails.items x 0) in
-    let same = nat_eq tail (get_or state.tails.items x 0) in
-    and_from late (above || (same && nat_le x step)) (le-leb head (get_or state.heads.items x 0) starts) (elim comes [
-      | inl greater ↦ or_left above (same && nat_le x step) (lt-ltb tail (get_or state.tails.items x 0) greater)
-      | inr (equal, up_to) ↦
-          or_right above (same && nat_le x step) (and_from same (nat_le x step) (eq-eqb tail (get_or state.tails.items x 0) equal) (le-leb x step up_to))
-    ])
-
--- the sum of a list whose first may be left out
-sum_first : (f : ℕ → ℕ) (b : Bool) (x : ℕ) (xs : List ℕ) → sum_by f (cond b (x ∷ xs) xs) ≡ cond b (f x) 0 + sum_by f xs
-sum_first f true x xs = sum_by-cons f x xs
-sum_first f false x xs = omega (arith, cond-false false (f x) 0 refl)
-
--- what is added where one test passes is added where a weaker one does
-cond_grows : (b c : Bool) (n : ℕ) → (b ≡ true → c ≡ true) → cond b n 0 ≤ cond c n 0
-cond_grows true c n more = omega (arith, cond-true c n 0 (more refl))
-cond_grows false c n more = omega arith
-
--- more pass a weaker test
-sum_grows : (f : ℕ → ℕ) (p q : ℕ → Bool) → ((y : ℕ) → p y ≡ true → q y ≡ true) → (xs : List ℕ) → sum_by f (filter p xs) ≤ sum_by f (filter q xs)
-sum_grows f p q more [] = omega arith
-sum_grows f p q more (x ∷ xs) =
-    let one : sum_by f (filter p (x ∷ xs)) ≡ cond (p x) (f x) 0 + sum_by f (filter p xs) = sum_first f (p x) x (filter p xs) in
-    let other : sum_by f (filter q (x ∷ xs)) ≡ cond (q x) (f x) 0 + sum_by f (filter q xs) = sum_first f (q x) x (filter q xs) in
-    omega (arith, one, other, cond_grows (p x) (q x) (f x) (more x), sum_grows f p q more xs)
-
--- and one more that passes it alone
-sum_beyond : (f : ℕ → ℕ) (p q : ℕ → Bool) → ((y : ℕ) → p y ≡ true → q y ≡ true) → (xs : List ℕ) (k : ℕ) → k < length xs → p (get_or xs k 0) ≡ false → q (get_or xs k 0) ≡ true
-    → sum_by f (filter p xs) + f (get_or xs k 0) ≤ sum_by f (filter q xs)
-sum_beyond f p q more [] k below fails passes = absurd (omega (arith, below))
-sum_beyond f p q more (x ∷ xs) zero below fails passes =
-    let one : sum_by f (filter p (x ∷ xs)) ≡ cond (p x) (f x) 0 + sum_by f (filter p xs) = sum_first f (p x) x (filter p xs) in
-    let other : sum_by f (filter q (x ∷ xs)) ≡ cond (q x) (f x) 0 + sum_by f (filter q xs) = sum_first f (q x) x (filter q xs) in
-    omega (arith, one, other, cond-false (p x) (f x) 0 fails, cond-true (q x) (f x) 0 passes, sum_grows f p q more xs)
-sum_beyond f p q more (x ∷ xs) (suc k) below fails passes =
-    let one : sum_by f (filter p (x ∷ xs)) ≡ cond (p x) (f x) 0 + sum_by f (filter p xs) = sum_first f (p x) x (filter p xs) in
-    let other : sum_by f (filter q (x ∷ xs)) ≡ cond (q x) (f x) 0 + sum_by f (filter q xs) = sum_first f (q x) x (filter q xs) in
-    omega (arith, one, other, cond_grows (p x) (q x) (f x) (more x), sum_beyond f p q more xs k (omega (arith, below)) fails passes)
-
--- the times of those up to a rank, where that comes after another one: no less, and by the time of
--- its own step more where that is late
-pub rank_grows : (g : Graph) (state : State) (head times new : ℕ) (last rank : Rank) (steps : List ℕ) → IsRankedAfter state steps last rank
-    → times ≤ sum_by (time_in g) (ranked state head last.tail last.step steps)
-    → (new ≡ times) ⊎ ((head ≤ get_or state.heads.items rank.step 0) × (new ≤ times + time_in g rank.step))
-    → new ≤ sum_by (time_in g) (ranked state head rank.tail rank.step steps)
-rank_grows g state head times new last rank steps is most how = elim how [
-  | inl same ↦ omega (arith, same, most, sum_grows (time_in g) p q more steps)
-  | inr (late, added) ↦
-      let k = is.there.0 in
-      let here : get_or steps k 0 ≡ rank.step = at_zero steps k rank.step is.there.1 is.there.2 in
-      let fails : p (get_or steps k 0) ≡ false = false_from_ne_true (p (get_or steps k 0)) (λ passes. not_yet (subst (λ x. p x ≡ true) here passes)) in
-      let passes : q (get_or steps k 0) ≡ true = subst (λ x. q x ≡ true) (sym here) (ranked_from state head rank.tail rank.step rank.step late (inr (is.tail, omega arith))) in
-      omega (arith, added, most, sum_beyond (time_in g) p q more steps k is.there.1 fails passes, ap (time_in g) here)
-] where
-  p : ℕ → Bool
-  p = is_ranked state head last.tail last.step
-
-  q : ℕ → Bool
-  q = is_ranked state head rank.tail rank.step
-
-  at_zero : (xs : List ℕ) (k x : ℕ) → k < length xs → get_or xs k x ≡ x → get_or xs k 0 ≡ x
-  at_zero xs k x below here = get_or_default xs k 0 x below ∙ here
-
-  more : (y : ℕ) → p y ≡ true → q y ≡ true
-  more y passes =
-      let parts = ranked_parts state head last.tail last.step y passes in
-      ranked_from state head rank.tail rank.step y parts.0 (elim parts.1 [
-        | inl greater ↦ elim is.after [
-          | inl less ↦ inl (omega (arith, greater, less))
-          | inr (same, after) ↦ inl (omega (arith, greater, same))
-        ]
-        | inr (equal, up_to) ↦ elim is.after [
-          | inl less ↦ inl (omega (arith, equal, less))
-          | inr (same, after) ↦ inr (omega (arith, equal, same), omega (arith, up_to, after))
-        ]
-      ])
-
-  not_yet : p rank.step ≡ true → ⊥
-  not_yet passes =
-      let parts = ranked_parts state head last.tail last.step rank.step passes in
-      absurd (elim parts.1 [
-        | inl greater ↦ elim is.after [
-          | inl less ↦ omega (arith, greater, less, is.tail)
-          | inr (same, after) ↦ omega (arith, greater, same, is.tail)
-        ]
-        | inr (equal, up_to) ↦ elim is.after [
-          | inl less ↦ omega (arith, equal, less, is.tail)
-          | inr (same, after) ↦ omega (arith, up_to, after)
-        ]
-      ])
-
--- steps that take turns, of which each starts at a head or later and leaves a tail, leave no room
-pub no_room : (g : Graph) (limit head tail : ℕ) (starts zs : List ℕ) → InOrder (IsClear (λ x. get_or starts x 0) (time_in g)) zs
-    → All (λ z. head ≤ get_or starts z 0) zs → All (λ z. get_or starts z 0 + time_in g z + tail < limit) zs → 0 < sum_by (time_in g) zs → head + sum_by (time_in g) zs + tail < limit
-no_room g limit head tail starts [] order late early some = absurd (omega (arith, some))
-no_room g limit head tail starts (z ∷ zs) order late early some =
-    let first : head ≤ get_or starts z 0 = late 0 0 (omega arith) in
-    let last : get_or starts z 0 + time_in g z + tail < limit = early 0 0 (omega arith) in
-    let all : head + sum_by (time_in g) (z ∷ zs) ≤ limit - suc tail =
-    span (λ x. get_or starts x 0) (time_in g) head (limit - suc tail) (z ∷ zs) (omega (arith, first, last)) order
-    (recursion_from_All (λ y. head ≤ get_or starts y 0) (z ∷ zs) late)
-    (recursion_from_All (λ y. get_or starts y 0 + time_in g y ≤ limit - suc tail) (z ∷ zs)
-    (All-weaker (λ y. get_or starts y 0 + time_in g y + tail < limit) (λ y. get_or starts y 0 + time_in g y ≤ limit - suc tail) (λ y l. omega (arith, l)) (z ∷ zs) early)) in
-    omega (arith, all, last)
-
--- a clique whose times up to a rank reach the limit refutes
-pub clique_refutes : (g : Graph) (limit head times end : ℕ) (rank : Rank) (state : State) (clique : Vec ℕ Global) → IsClique g clique
-    → times ≤ sum_by (time_in g) (ranked state head rank.tail rank.step clique.items) → 0 < times → end ≤ head + times + rank.tail → limit ≤ end → IsRefuted g limit state
-clique_refutes g limit head times end rank state clique is most some small reached starts h =
-    let kept : KeepsClique g starts clique = is starts h.kept in
-    let p = is_ranked state head rank.tail rank.step in
-    let zs : List ℕ = ranked state head rank.tail rank.step clique.items in
-    let order : InOrder (IsClear (λ x. get_or starts x 0) (time_in g)) zs =
-    in_order_from (IsClear (λ x. get_or starts x 0) (time_in g)) (Contains clique.items) kept.apart zs
-    (AllPairs-filter (λ x y. x < y) p clique.items kept.rising)
-    (All-filter p (Contains clique.items) clique.items (All-contains_itself clique.items)) in
-    let passes : All (λ z. p z ≡ true) zs = filter_passes p clique.items in
-    let late : All (λ z. head ≤ get_or starts z 0) zs =
-    All-weaker (λ z. p z ≡ true) (λ z. head ≤ get_or starts z 0) (λ z pass. omega (arith, (ranked_parts state head rank.tail rank.step z pass).0, h.heads z)) zs passes in
-    let early : All (λ z. get_or starts z 0 + time_in g z + rank.tail < limit) zs =
-    All-weaker (λ z. p z ≡ true) (λ z. get_or starts z 0 + time_in g z + rank.tail < limit)
-    (λ z pass. omega (arith, at_least state rank z (ranked_parts state head rank.tail rank.step z pass).1, h.tails z)) zs passes in
-    omega (arith, no_room g limit head rank.tail starts zs order late early (omega (arith, most, some)), most, small, reached)
-  where
-    at_least : (state : State) (rank : Rank) (z : ℕ) → ComesBy state rank.tail rank.step z → rank.tail ≤ get_or state.tails.items z 0
-    at_least state rank z (inl greater) = omega (arith, greater)
-    at_least state rank z (inr (equal, up_to)) = omega (arith, equal)
 
 -- those of a graph are cliques
 pub clique_there : (g : Graph) (k : ℕ) (clique : Vec ℕ Global) → k < length g.cliques.items → clique ≡ get_or g.cliques.items k clique → IsClique g clique

@@ -5,7 +5,7 @@ use Rattle.std.specs.Prelude.{IfNone}
 use Rattle.std.proofs.lemmas.List.{get_or_default, get_or_append_left, get_or_at, length_push}
 use Rattle.std.proofs.lemmas.List.Elements.{All-push}
 use Rattle.plan_prove.specs.Graphs.{time_in, KeepsApart, IsKept, NoneIsBelow}
-use Rattle.plan_prove.specs.States.{GoesBefore, Deduces, Follows, IsRaised, KeepsSide, Holds, IsRefuted, IsRoot, IsWithSide, Covers}
+use Rattle.plan_prove.specs.States.{GoesBefore, StartsFrom, Leaves, Deduces, Follows, IsRaised, KeepsSide, Holds, IsRefuted, IsRoot, IsWithSide, Covers}
 use Rattle.plan_prove.specs.declared.graph.Pair.{Pair}
 use Rattle.plan_prove.specs.declared.graph.Graph.{Graph}
 use Rattle.plan_prove.specs.declared.state.Side.{Side}
@@ -124,3 +124,29 @@ root_refuted g limit root is refuted starts kept below = refuted starts (record 
   tails = λ x. omega (arith, is.tails x, below x);
   sides = λ k p inside. subst (λ (v : Side). KeepsSide g starts (get_or g.pairs.items k p) v) (sym (is.sides k)) tt;
 })
+
+-- the head of a step that starts there or later may be raised
+pub head_raised : (g : Graph) (limit : ℕ) (old new : State) (x head : ℕ) → StartsFrom g limit old x head
+    → IsRaised old.heads.items new.heads.items x head → new.tails.items ≡ old.tails.items → new.sides.items ≡ old.sides.items → Follows g limit old new
+head_raised g limit old new x head late heads tails sides starts h = record {
+  kept = h.kept;
+  heads = λ z. elim (heads z) [
+    | inl less ↦ omega (arith, less, h.heads z)
+    | inr (at, most) ↦ omega (arith, most, late starts h, ap (λ i. get_or starts i 0) at)
+  ];
+  tails = λ z. subst (λ (xs : List ℕ). get_or starts z 0 + get_or g.times.items z 0 + get_or xs z 0 < limit) (sym tails) (h.tails z);
+  sides = λ k p inside. subst (λ (vs : List Side). KeepsSide g starts (get_or g.pairs.items k p) (get_or vs k Open)) (sym sides) (h.sides k p inside);
+}
+
+-- and the tail of one that leaves that much or more
+pub tail_raised : (g : Graph) (limit : ℕ) (old new : State) (x tail : ℕ) → Leaves g limit old x tail
+    → IsRaised old.tails.items new.tails.items x tail → new.heads.items ≡ old.heads.items → new.sides.items ≡ old.sides.items → Follows g limit old new
+tail_raised g limit old new x tail leaves tails heads sides starts h = record {
+  kept = h.kept;
+  heads = λ z. subst (λ (xs : List ℕ). get_or xs z 0 ≤ get_or starts z 0) (sym heads) (h.heads z);
+  tails = λ z. elim (tails z) [
+    | inl less ↦ omega (arith, less, h.tails z)
+    | inr (at, most) ↦ omega (arith, most, leaves starts h, ap (λ i. get_or starts i 0) at, ap (λ i. time_in g i) at)
+  ];
+  sides = λ k p inside. subst (λ (vs : List Side). KeepsSide g starts (get_or g.pairs.items k p) (get_or vs k Open)) (sym sides) (h.sides k p inside);
+}

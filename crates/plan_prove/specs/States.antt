@@ -1,6 +1,6 @@
 -- What a search knows of the schedules that it still looks for, and what follows from what
 -- (docs/DEFINITIONS.md, "Proofs of optima").
-use Rattle.std.specs.Prelude.{◌≡◌, ℕ, ◌+◌, ◌≤◌, ◌<◌, ◌⊎◌, ◌&&◌, ◌||◌, nat_le, nat_lt, nat_eq, filter, Contains, Bool, List, Vec, Option, Some, None, get_or, length, All}
+use Rattle.std.specs.Prelude.{◌≡◌, ℕ, ◌+◌, ◌≤◌, ◌<◌, ◌⊎◌, ◌&&◌, not, nat_le, nat_eq, filter, sum_by, Contains, Bool, true, List, Vec, Option, Some, None, get_or, length, All}
 use Rattle.std.specs.declared.alloc.Global.{Global}
 use Rattle.plan_prove.specs.Graphs.{time_in, IsBefore, KeepsClique, IsKept}
 use Rattle.plan_prove.specs.declared.graph.Pair.{Pair}
@@ -8,7 +8,7 @@ use Rattle.plan_prove.specs.declared.graph.Graph.{Graph}
 use Rattle.plan_prove.specs.declared.state.Side.{Side}
 use Rattle.plan_prove.specs.declared.state.Side.TheVariants.{Open, First, Second}
 use Rattle.plan_prove.specs.declared.state.State.{State}
-use Rattle.plan_prove.specs.declared.cliques.Rank.{Rank}
+use Rattle.plan_prove.specs.declared.edges.Others.{Others}
 
 -- the side of a pair that is taken
 abbrev pub KeepsSide : Graph → List ℕ → Pair → Side → Type 0
@@ -70,23 +70,35 @@ pub record IsWithSide (old new : State) (place : ℕ) (side : Side) : Type 0 whe
 abbrev pub Covers : Graph → ℕ → List State → List State → State → Type 0
 Covers g limit new old state = All (IsRefuted g limit) new → All (IsRefuted g limit) old × IsRefuted g limit state
 
--- a step starts at a head or later, and its tail is greater than another one, or the same where its
--- number is at most another one
-abbrev pub is_ranked : State → ℕ → ℕ → ℕ → ℕ → Bool
-is_ranked state head tail step x = nat_le head (get_or state.heads.items x 0)
-    && (nat_lt tail (get_or state.tails.items x 0) || (nat_eq tail (get_or state.tails.items x 0) && nat_le x step))
-
--- those of some steps: in the order of falling tails, and of rising numbers where tails are the
--- same, those up to one
-abbrev pub ranked : State → ℕ → ℕ → ℕ → List ℕ → List ℕ
-ranked state head tail step steps = filter (is_ranked state head tail step) steps
-
--- the rank of one of some steps, which comes after another rank in that order
-pub record IsRankedAfter (state : State) (steps : List ℕ) (last rank : Rank) : Type 0 where
-  pub there : Contains steps rank.step
-  pub tail : rank.tail ≡ get_or state.tails.items rank.step 0
-  pub after : (rank.tail < last.tail) ⊎ ((rank.tail ≡ last.tail) × (last.step < rank.step))
-
 -- no two of some steps overlap where a graph is kept
 abbrev pub IsClique : Graph → Vec ℕ Global → Type 0
 IsClique g clique = (starts : List ℕ) → IsKept g starts → KeepsClique g starts clique
+
+-- a step starts at a time or later in all that the state holds of
+abbrev pub StartsFrom : Graph → ℕ → State → ℕ → ℕ → Type 0
+StartsFrom g limit state x head = (starts : List ℕ) → Holds g limit state starts → head ≤ get_or starts x 0
+
+-- and it ends that much before the limit or more
+abbrev pub Leaves : Graph → ℕ → State → ℕ → ℕ → Type 0
+Leaves g limit state x tail = (starts : List ℕ) → Holds g limit state starts → get_or starts x 0 + time_in g x + tail < limit
+
+-- a step is one of the others
+abbrev pub is_other : State → Others → ℕ → Bool
+is_other state others x = (not (nat_eq x others.but) && nat_le others.head (get_or state.heads.items x 0)) && nat_le others.tail (get_or state.tails.items x 0)
+
+-- those of some steps
+abbrev pub others_of : State → Others → List ℕ → List ℕ
+others_of state others steps = filter (is_other state others) steps
+
+-- the others of a clique and the step beside them take the time from a start on up to a rest before
+-- the limit, or more
+abbrev pub Fill : Graph → ℕ → State → Vec ℕ Global → Others → ℕ → ℕ → Type 0
+Fill g limit state clique others start rest = limit ≤ start + (time_in g others.but + sum_by (time_in g) (others_of state others clique.items)) + rest
+
+-- the step goes behind each of the others of a clique
+abbrev pub IsBehind : Graph → ℕ → State → Vec ℕ Global → Others → Type 0
+IsBehind g limit state clique others = (x : ℕ) → Contains clique.items x → is_other state others x ≡ true → GoesBefore g limit state x others.but
+
+-- the step goes ahead of each of the others of a clique
+abbrev pub IsAhead : Graph → ℕ → State → Vec ℕ Global → Others → Type 0
+IsAhead g limit state clique others = (x : ℕ) → Contains clique.items x → is_other state others x ≡ true → GoesBefore g limit state others.but x

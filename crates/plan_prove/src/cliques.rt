@@ -1,111 +1,157 @@
-//! What the steps of one machine say together: they take turns, so that their times add up.
+//! What the steps of each machine say together.
 
-ghost use Rattle.std.specs.Prelude.{◌≡◌, ◌≤◌, ◌+◌, ◌⊎◌, false, IfSome, get_or};
-ghost use Rattle.plan_prove.specs.Graphs.{time_in};
+ghost use Rattle.std.specs.Prelude.{◌<◌, length, IsTrue};
 ghost use Rattle.plan_prove.specs.States as spec;
 
+use crate::edges::{go_ahead, go_behind, leave_none};
 use crate::graph::Graph;
 use crate::queue::Queue;
-use crate::state::{State, at};
+use crate::state::State;
 
-/// The tail of a step, and its number.
-#[derive(Clone, Copy, Drop)]
-pub struct Rank {
-    pub tail: u64,
-    pub step: u32,
-}
-
-// The rank of the step at a place of a clique, where it comes after another one: with a less tail,
-// or with the same and a greater number.
-fn next_rank(state: &State, clique: &Vec<u32>, place: u32, last: Rank) -> Option<Rank>
-    ensures { IfSome result (spec.IsRankedAfter state.now clique.now.items last) }
+// Raises the head of a step of a clique, where a hint says that it goes behind others.
+fn behind_at(
+    graph: &Graph,
+    limit: u32,
+    state: &mut State,
+    queue: &mut Queue,
+    clique: &Vec<u32>,
+    place: usize,
+) -> Option<bool>
+    requires { spec.IsClique graph.now clique.now }
+    ensures { spec.Deduces graph.now limit state.old state.new result }
 {
-    if place as usize >= clique.len() {
-        return None;
+    match queue.behind(place) {
+        Some(hint) => go_behind(graph, limit, state, queue, clique, hint),
+        None => Some(false),
     }
-    let step = clique[place as usize];
-    let tail = at(&state.tails, step);
-    if tail < last.tail {
-        return Some(Rank { tail, step });
-    }
-    if tail == last.tail && last.step < step {
-        return Some(Rank { tail, step });
-    }
-    None
 }
 
-// Times with that of a step, where it starts at a head or later. A sum beyond all limits may be
-// less.
-fn grown(graph: &Graph, state: &State, head: u64, step: u32, times: u64) -> u64
-    ensures { (result ≡ times) ⊎ ((head ≤ get_or state.now.heads.items step 0) × (result ≤ times + time_in graph.now step)) }
+// Raises the heads of the steps of a clique that go behind others.
+fn all_behind(
+    graph: &Graph,
+    limit: u32,
+    state: &mut State,
+    queue: &mut Queue,
+    clique: &Vec<u32>,
+) -> Option<bool>
+    requires { spec.IsClique graph.now clique.now }
+    ensures { spec.Deduces graph.now limit state.old state.new result }
 {
-    if head <= at(&state.heads, step) {
-        times.saturating_add(at(&graph.times, step))
-    } else {
-        times
+    let mut later = false;
+    for place in 0..clique.len() {
+        let has_risen = behind_at(graph, limit, state, queue, clique, place)?;
+        later = later | has_risen;
+    }
+    Some(later)
+}
+
+// Raises the tail of a step of a clique, where a hint says that it goes ahead of others.
+fn ahead_at(
+    graph: &Graph,
+    limit: u32,
+    state: &mut State,
+    queue: &mut Queue,
+    clique: &Vec<u32>,
+    place: usize,
+) -> Option<bool>
+    requires { spec.IsClique graph.now clique.now }
+    ensures { spec.Deduces graph.now limit state.old state.new result }
+{
+    match queue.ahead(place) {
+        Some(hint) => go_ahead(graph, limit, state, queue, clique, hint),
+        None => Some(false),
     }
 }
 
-// Whether the steps of a clique that start at a head or later leave room below the limit. They are
-// summed in the order of their tails, the greatest first, and with each the sum and its tail are
-// compared. Where the order given is another one what comes after that is left out.
-fn leave_room_from(
+// Raises the tails of the steps of a clique that go ahead of others.
+fn all_ahead(
+    graph: &Graph,
+    limit: u32,
+    state: &mut State,
+    queue: &mut Queue,
+    clique: &Vec<u32>,
+) -> Option<bool>
+    requires { spec.IsClique graph.now clique.now }
+    ensures { spec.Deduces graph.now limit state.old state.new result }
+{
+    let mut longer = false;
+    for place in 0..clique.len() {
+        let has_risen = ahead_at(graph, limit, state, queue, clique, place)?;
+        longer = longer | has_risen;
+    }
+    Some(longer)
+}
+
+// Whether the steps of a machine leave no room below the limit, as far as it is seen.
+fn leaves_none(
     graph: &Graph,
     limit: u32,
     state: &State,
+    queue: &mut Queue,
     clique: &Vec<u32>,
-    order: &[u32],
-    head: u64,
+    machine: usize,
 ) -> bool
     requires { spec.IsClique graph.now clique.now }
-    ensures { (result ≡ false) → spec.IsRefuted graph.now limit state.now }
+    ensures { IsTrue result → spec.IsRefuted graph.now limit state.now }
 {
-    let mut times: u64 = 0;
-    let mut last = Rank {
-        tail: u64::MAX,
-        step: 0,
-    };
-    for place in order {
-        let Some(rank) = next_rank(state, clique, *place, last) else {
-            return true;
-        };
-        times = grown(graph, state, head, rank.step, times);
-        let end = head.saturating_add(times).saturating_add(rank.tail);
-        if times > 0 && end >= limit as u64 {
-            return false;
-        }
-        last = rank;
+    match queue.look(limit, state, clique, machine) {
+        Some(hint) => leave_none(graph, limit, state, clique, hint),
+        None => false,
     }
-    true
 }
 
-// The same from the head of each step of a clique on.
-fn leave_room(graph: &Graph, limit: u32, state: &State, clique: &Vec<u32>, order: &[u32]) -> bool
-    requires { spec.IsClique graph.now clique.now }
-    ensures { (result ≡ false) → spec.IsRefuted graph.now limit state.now }
+// What the steps of a machine say together.
+fn bound_machine(
+    graph: &Graph,
+    limit: u32,
+    state: &mut State,
+    queue: &mut Queue,
+    machine: usize,
+) -> Option<bool>
+    requires { machine < length graph.now.cliques.items }
+    ensures { spec.Deduces graph.now limit state.old state.new result }
 {
-    for step in clique {
-        let head = at(&state.heads, *step);
-        if !leave_room_from(graph, limit, state, clique, order, head) {
-            return false;
-        }
+    let clique = &graph.cliques[machine];
+    if leaves_none(graph, limit, state, queue, clique, machine) {
+        return None;
     }
-    true
+    let later = all_behind(graph, limit, state, queue, clique)?;
+    let longer = all_ahead(graph, limit, state, queue, clique)?;
+    Some(later | longer)
 }
 
-/// Whether the machines that are to be bounded leave room below the limit, by the heads, times and
-/// tails of their steps (Carlier 1982, by sets of steps).
-pub fn machines_leave_room(graph: &Graph, limit: u32, state: &State, queue: &mut Queue) -> bool
-    ensures { (result ≡ false) → spec.IsRefuted graph.now limit state.now }
+// The same where the machine is to be bounded.
+fn bound_stale(
+    graph: &Graph,
+    limit: u32,
+    state: &mut State,
+    queue: &mut Queue,
+    machine: usize,
+) -> Option<bool>
+    requires { machine < length graph.now.cliques.items }
+    ensures { spec.Deduces graph.now limit state.old state.new result }
+{
+    if queue.take_stale(machine) {
+        bound_machine(graph, limit, state, queue, machine)
+    } else {
+        Some(false)
+    }
+}
+
+/// What the machines say that are to be bounded, up to the first that says something.
+pub fn bound_machines(
+    graph: &Graph,
+    limit: u32,
+    state: &mut State,
+    queue: &mut Queue,
+) -> Option<bool>
+    ensures { spec.Deduces graph.now limit state.old state.new result }
 {
     for machine in 0..graph.cliques.len() {
-        if queue.take_stale(machine) {
-            let clique = &graph.cliques[machine];
-            queue.sort(state, clique, machine);
-            if !leave_room(graph, limit, state, clique, queue.order(machine)) {
-                return false;
-            }
+        let has_risen = bound_stale(graph, limit, state, queue, machine)?;
+        if has_risen {
+            return Some(true);
         }
     }
-    true
+    Some(false)
 }

@@ -4,26 +4,17 @@
 ghost use Rattle.std.specs.Prelude.{◌<◌, length, IfNone};
 ghost use Rattle.plan_prove.specs.States as spec;
 
-use crate::cliques::machines_leave_room;
+use crate::cliques::bound_machines;
 use crate::graph::{Graph, Pair};
 use crate::queue::Queue;
+use crate::raising::span;
 use crate::state::{Side, State, at, raise, side_at, take_side};
 
 /// The most steps that are looked at in one node.
 const MOST_TURNS: u32 = 1_000_000;
 
-// The head, the time and the tail of a step together; `None` where they leave no room below the
-// limit.
-fn span(graph: &Graph, limit: u32, state: &State, step: u32) -> Option<u64>
-    ensures { IfNone result (spec.IsRefuted graph.now limit state.now) }
-{
-    let span = at(&state.heads, step) + at(&graph.times, step) + at(&state.tails, step);
-    if span < limit as u64 {
-        Some(span)
-    } else {
-        None
-    }
-}
+/// How often the machines are looked at in one node, at most.
+const MOST_ROUNDS: u32 = 1_000_000;
 
 // One step ends before another starts: what that says of the head of the one and the tail of the
 // other.
@@ -181,15 +172,25 @@ fn propagate(graph: &Graph, limit: u32, state: &mut State, queue: &mut Queue) ->
     Some(false)
 }
 
+// What the arcs and pairs say, and then the machines up to the first that says something.
+fn advance(graph: &Graph, limit: u32, state: &mut State, queue: &mut Queue) -> Option<bool>
+    ensures { spec.Deduces graph.now limit state.old state.new result }
+{
+    propagate(graph, limit, state, queue)?;
+    let has_risen = bound_machines(graph, limit, state, queue)?;
+    Some(has_risen)
+}
+
 /// All that follows from a state by arcs, pairs and machines, for the steps that wait; `None` where
 /// no schedule is left.
 pub fn deduce(graph: &Graph, limit: u32, state: &mut State, queue: &mut Queue) -> Option<bool>
     ensures { spec.Deduces graph.now limit state.old state.new result }
 {
-    let settled = propagate(graph, limit, state, queue)?;
-    if machines_leave_room(graph, limit, state, queue) {
-        Some(settled)
-    } else {
-        None
+    for _round in 0..MOST_ROUNDS {
+        let has_risen = advance(graph, limit, state, queue)?;
+        if !has_risen {
+            return Some(true);
+        }
     }
+    Some(false)
 }

@@ -4,12 +4,15 @@
 mod branching;
 mod cliques;
 mod deducing;
+mod edges;
 mod fault;
+mod finding;
 mod graph;
 mod guiding;
 mod nodes;
 mod proving;
 mod queue;
+mod raising;
 mod refuting;
 mod state;
 

@@ -1,5 +1,6 @@
 //! What a search has to look at again: steps, and machines.
 
+use crate::finding::{Finder, Hint};
 use crate::graph::{Graph, Pair};
 use crate::state::{State, at};
 use std::alloc::{AllocError, Global};
@@ -16,7 +17,7 @@ pub struct Queue {
     back: usize,
     waits: Vec<bool>,
     stale: Vec<bool>,
-    orders: Vec<Vec<u32>>,
+    finder: Finder,
     weights: Vec<u32>,
 }
 
@@ -29,56 +30,6 @@ fn following(place: usize, length: usize) -> usize {
     }
 }
 
-// Whether the step at one place of a clique comes before that at another: with a greater tail, or
-// with the same and a less number.
-fn is_before(state: &State, clique: &[u32], one: u32, other: u32) -> bool {
-    let (one, other) = (at(clique, one) as u32, at(clique, other) as u32);
-    let (tail, than) = (at(&state.tails, one), at(&state.tails, other));
-    than < tail || tail == than && one < other
-}
-
-// Moves what stands at a place forward until it isn't before what precedes it.
-fn sink(state: &State, clique: &[u32], order: &mut Vec<u32>, from: usize) {
-    let mut place = from;
-    for _move in 0..from {
-        if place == 0 || place >= order.len() {
-            break;
-        }
-        if !is_before(state, clique, order[place], order[place - 1]) {
-            break;
-        }
-        order.swap(place - 1, place);
-        place -= 1;
-    }
-}
-
-// Sorts the places of a clique.
-fn sort(state: &State, clique: &[u32], order: &mut Vec<u32>) {
-    for from in 1..order.len() {
-        sink(state, clique, order, from);
-    }
-}
-
-// The places of a list, rising.
-fn places(alloc: Global, list: &[u32]) -> Result<Vec<u32>, AllocError> {
-    let mut places = Vec::new(alloc);
-    let mut place: u32 = 0;
-    for _item in list {
-        places.push(place)?;
-        place = place.saturating_add(1);
-    }
-    Ok(places)
-}
-
-// The places of each clique, rising.
-fn orders(alloc: Global, graph: &Graph) -> Result<Vec<Vec<u32>>, AllocError> {
-    let mut orders = Vec::new(alloc);
-    for clique in &graph.cliques {
-        orders.push(places(alloc, clique)?)?;
-    }
-    Ok(orders)
-}
-
 impl Queue {
     /// An empty queue for the steps of a graph.
     pub fn new(alloc: Global, graph: &Graph) -> Result<Queue, AllocError> {
@@ -89,7 +40,7 @@ impl Queue {
             back: 0,
             waits: vec![in alloc; false; steps]?,
             stale: vec![in alloc; false; graph.cliques.len()]?,
-            orders: orders(alloc, graph)?,
+            finder: Finder::new(alloc, graph)?,
             weights: vec![in alloc; 1; graph.pairs.len()]?,
         })
     }
@@ -143,19 +94,25 @@ impl Queue {
         false
     }
 
-    /// Sorts the places of a machine's clique by falling tails.
-    pub fn sort(&mut self, state: &State, clique: &[u32], machine: usize) {
-        if let Some(order) = self.orders.get_mut(machine) {
-            sort(state, clique, order);
-        }
+    /// Looks for hints for the steps of a machine; answers one of a set that leaves no room.
+    pub fn look(
+        &mut self,
+        limit: u32,
+        state: &State,
+        clique: &[u32],
+        machine: usize,
+    ) -> Option<Hint> {
+        self.finder.look(limit, state, clique, machine)
     }
 
-    /// The places of a machine's clique, as they were last sorted.
-    pub fn order(&self, machine: usize) -> &[u32] {
-        match self.orders.get(machine) {
-            Some(order) => order,
-            None => &[],
-        }
+    /// The hint that a step goes behind others, by its place in the clique.
+    pub fn behind(&self, place: usize) -> Option<Hint> {
+        self.finder.behind(place)
+    }
+
+    /// The same of a step that goes ahead of others, seen from the end.
+    pub fn ahead(&self, place: usize) -> Option<Hint> {
+        self.finder.ahead(place)
     }
 
     // Leaves no machine to be bounded.

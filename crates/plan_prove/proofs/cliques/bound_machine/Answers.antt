@@ -1,0 +1,17 @@
+use Rattle.plan_prove.proofs.CliqueLemmas.{clique_there}
+use Rattle.plan_prove.proofs.StateLemmas.{none_after}
+use Rattle.plan_prove.proofs.cliques.bound_machine.Goals as goal
+
+pub leaves_none-requires : goal.leaves_none-requires
+leaves_none-requires c = clique_there c.args.graph.now c.args.machine c.index-clique.result.now c.requires c.index-clique.ensures
+
+pub all_behind-requires : goal.all_behind-requires
+all_behind-requires c = clique_there c.args.graph.now c.args.machine c.index-clique.result.now c.requires c.index-clique.ensures
+
+pub all_ahead-requires : goal.all_ahead-requires
+all_ahead-requires c = clique_there c.args.graph.now c.args.machine c.index-clique.result.now c.requires c.index-clique.ensures
+
+pub returns-in_err-longer : goal.returns-in_err-longer
+returns-in_err-longer c =
+    none_after c.args.graph.now c.args.limit c.args.state.now c.all_behind.new.state c.all_ahead.new.state c.all_ahead.result c.from_residual-in_err-longer.result
+    c.in_err-longer.was c.from_residual-in_err-longer.ensures c.in_ok-later.ensures c.all_ahead.ensures

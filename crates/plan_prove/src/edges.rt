@@ -1,0 +1,182 @@
+//! What the steps of one machine say together, since they take turns: that they leave no room, and
+//! that one of them goes behind others, or ahead of them (edge finding: Carlier and Pinson 1989).
+
+ghost use Rattle.std.specs.Prelude.{◌≡◌, ◌≤◌, ◌<◌, ◌+◌, IfSome, IsTrue, Contains, sum_by};
+ghost use Rattle.plan_prove.specs.Graphs.{time_in};
+ghost use Rattle.plan_prove.specs.States as spec;
+
+use crate::finding::Hint;
+use crate::graph::Graph;
+use crate::queue::Queue;
+use crate::raising::{raise_head, raise_tail};
+use crate::state::{State, at};
+
+/// All steps of a clique but one that start at a head or later and leave a tail or more.
+#[derive(Clone, Copy, Drop)]
+pub struct Others {
+    pub head: u64,
+    pub tail: u64,
+    pub but: u32,
+}
+
+// The step at a place of a clique.
+fn step_at(clique: &Vec<u32>, place: u32) -> Option<u32>
+    ensures { IfSome result (Contains clique.now.items) }
+{
+    if (place as usize) < clique.len() {
+        Some(clique[place as usize])
+    } else {
+        None
+    }
+}
+
+// Whether a step is one of the others.
+fn is_other(state: &State, others: Others, step: u32) -> bool
+    ensures { result ≡ spec.is_other state.now others step }
+{
+    step != others.but
+        && others.head <= at(&state.heads, step)
+        && others.tail <= at(&state.tails, step)
+}
+
+// The times of the others of a clique. A sum beyond all limits may be less.
+fn load(graph: &Graph, state: &State, clique: &Vec<u32>, others: Others) -> u64
+    ensures { result ≤ sum_by (time_in graph.now) (spec.others_of state.now others clique.now.items) }
+{
+    let mut times: u64 = 0;
+    for step in clique {
+        if is_other(state, others, *step) {
+            times = times.saturating_add(at(&graph.times, *step));
+        }
+    }
+    times
+}
+
+// Whether the others and the step beside them fill the time from a start on up to a rest before the
+// limit.
+fn fill(
+    graph: &Graph,
+    limit: u32,
+    state: &State,
+    clique: &Vec<u32>,
+    others: Others,
+    start: u64,
+    rest: u64,
+) -> bool
+    ensures { IsTrue result → spec.Fill graph.now limit state.now clique.now others start rest }
+{
+    let times = load(graph, state, clique, others).saturating_add(at(&graph.times, others.but));
+    start.saturating_add(times).saturating_add(rest) >= limit as u64
+}
+
+// Whether the step goes behind all others, since none of these can be the last.
+fn is_behind(graph: &Graph, limit: u32, state: &State, clique: &Vec<u32>, others: Others) -> bool
+    requires clique { spec.IsClique graph.now clique.now }
+    requires there { Contains clique.now.items others.but }
+    ensures { IsTrue result → spec.IsBehind graph.now limit state.now clique.now others }
+{
+    let start = others.head.min(at(&state.heads, others.but));
+    fill(graph, limit, state, clique, others, start, others.tail)
+}
+
+// Whether the step goes ahead of all others, since none of these can be the first.
+fn is_ahead(graph: &Graph, limit: u32, state: &State, clique: &Vec<u32>, others: Others) -> bool
+    requires clique { spec.IsClique graph.now clique.now }
+    requires there { Contains clique.now.items others.but }
+    ensures { IsTrue result → spec.IsAhead graph.now limit state.now clique.now others }
+{
+    let rest = others.tail.min(at(&state.tails, others.but));
+    fill(graph, limit, state, clique, others, others.head, rest)
+}
+
+/// Whether steps of a clique leave no room below the limit.
+pub fn leave_none(graph: &Graph, limit: u32, state: &State, clique: &Vec<u32>, hint: Hint) -> bool
+    requires { spec.IsClique graph.now clique.now }
+    ensures { IsTrue result → spec.IsRefuted graph.now limit state.now }
+{
+    let Some(but) = step_at(clique, hint.place) else {
+        return false;
+    };
+    let (head, tail) = (hint.near as u64, hint.far as u64);
+    let start = head.min(at(&state.heads, but));
+    let rest = tail.min(at(&state.tails, but));
+    fill(
+        graph,
+        limit,
+        state,
+        clique,
+        Others { head, tail, but },
+        start,
+        rest,
+    )
+}
+
+/// Raises the head of a step to the end of others, where it goes behind them.
+pub fn go_behind(
+    graph: &Graph,
+    limit: u32,
+    state: &mut State,
+    queue: &mut Queue,
+    clique: &Vec<u32>,
+    hint: Hint,
+) -> Option<bool>
+    requires { spec.IsClique graph.now clique.now }
+    ensures { spec.Deduces graph.now limit state.old state.new result }
+{
+    let Some(but) = step_at(clique, hint.place) else {
+        return Some(false);
+    };
+    let (head, tail, from) = (hint.near as u64, hint.far as u64, hint.from as u64);
+    let times = load(
+        graph,
+        state,
+        clique,
+        Others {
+            head: from,
+            tail,
+            but,
+        },
+    );
+    if from < head || times == 0 {
+        return Some(false);
+    }
+    if !is_behind(graph, limit, state, clique, Others { head, tail, but }) {
+        return Some(false);
+    }
+    raise_head(graph, limit, state, queue, but, from.saturating_add(times))
+}
+
+/// Raises the tail of a step to what others leave, where it goes ahead of them.
+pub fn go_ahead(
+    graph: &Graph,
+    limit: u32,
+    state: &mut State,
+    queue: &mut Queue,
+    clique: &Vec<u32>,
+    hint: Hint,
+) -> Option<bool>
+    requires { spec.IsClique graph.now clique.now }
+    ensures { spec.Deduces graph.now limit state.old state.new result }
+{
+    let Some(but) = step_at(clique, hint.place) else {
+        return Some(false);
+    };
+    let (tail, head, from) = (hint.near as u64, hint.far as u64, hint.from as u64);
+    let times = load(
+        graph,
+        state,
+        clique,
+        Others {
+            head,
+            tail: from,
+            but,
+        },
+    );
+    if from < tail || times == 0 {
+        return Some(false);
+    }
+    if !is_ahead(graph, limit, state, clique, Others { head, tail, but }) {
+        return Some(false);
+    }
+    raise_tail(graph, limit, state, queue, but, from.saturating_add(times))
+}
