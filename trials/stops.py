@@ -15,12 +15,12 @@ import os
 import random
 import socket
 import tempfile
-import time
 
 from damage import office_of
 from disks import Disk, calls_in, content_of, library, put
 from exchanges import Exchange, digest, file_of, refusal
-from programs import DONE, Server, Wrong, fault, plan, received, rows, same, sql, told_by_sqlite
+from programs import DONE, Server, Wrong, connect, fault, plan, received, rows, same, sql
+from programs import told_by_sqlite
 from stores import FIRST, KEY, ROWS, rows_of
 from story import same_rows
 
@@ -50,7 +50,7 @@ REQUESTS = [
 class Making:
     """`plan init`, where nothing is."""
 
-    name, answer, renews = "plan init", DONE, True
+    name, answer, answers, renews = "plan init", DONE, 0, True
 
     def run(self, database, environment=None):
         return plan("init", database, given=KEY.encode(), env=environment)
@@ -63,12 +63,15 @@ class Making:
 
     def go_on(self, database, is_done):
         """The program goes on with what is left: it makes the office that isn't there."""
-        same("plan init again", DONE if is_done else self.run(database), DONE)
+        again = plan("check-office", database)[0] if is_done else self.run(database)[0]
+        same("the status of plan check-office or plan init again", again, 0)
 
 
 class Asking:
     """An office is opened, and is asked by one request; it is renewed where opening brings it to
     the second version."""
+
+    answers = 1
 
     def __init__(self, exchange, answer, renews=False):
         self.name = f"{exchange.method} {exchange.path}"
@@ -84,7 +87,7 @@ class Asking:
         """By `plan serve`, which answers before it closes its files."""
         server = Server(database, 1, env=environment)
         try:
-            with heard(server) as connection:
+            with connect(server.port) as connection:
                 connection.sendall(self.sent)
                 connection.shutdown(socket.SHUT_WR)
                 out = received(connection)
@@ -102,15 +105,6 @@ class Asking:
         same("the status of plan check-office", plan("check-office", database)[0], 0)
 
 
-def heard(server):
-    """A connection to a server that begins to listen."""
-    for _ in range(20000):
-        with contextlib.suppress(ConnectionRefusedError):
-            return socket.create_connection(("127.0.0.1", server.port), timeout=20)
-        time.sleep(0.001)
-    raise Wrong("no server answers")
-
-
 def tables_in(database):
     """All that the sqlite3 shell finds in a file and its log; None where it finds a fault."""
     shell = told_by_sqlite(database, ".dump\nPRAGMA integrity_check;\n")
@@ -118,10 +112,11 @@ def tables_in(database):
 
 
 class Bench:
-    """A folder for files, and the program behind disk.c."""
+    """A folder for files, and the program behind disk.c, which is loaded from a folder of its own:
+    a folder in memory may be one from which nothing is loaded."""
 
-    def __init__(self, room):
-        self.room, self.built = os.path.realpath(room), library(room)
+    def __init__(self, room, loaded):
+        self.room, self.built = os.path.realpath(room), library(loaded)
 
     @contextlib.contextmanager
     def files(self, content):
@@ -153,7 +148,10 @@ class Run:
             answer = work.answering(database, bench.behind(database))
             same(f"the answer to {work.name}", answer, work.answer)
             self.calls = list(calls_in(database + ".calls"))
+            told = [call for call in self.calls if call.kind == "answer"]
+            same(f"the answers of {work.name}", len(told), work.answers)
             self.left = content_of(database)
+            same(f"the files by the calls of {work.name}", whole_by(self.calls, content), self.left)
             same_rows(f"the rows behind {work.name}", rows(database, bench.room), wanted)
         self.before, self.after = bench.tables(content), bench.tables(self.left)
 
@@ -180,6 +178,7 @@ class Run:
         """What stops leave, each with what it is and whether the answer was on its way."""
         disk, is_answered = Disk(self.content), False
         for number, call in enumerate([*self.calls, None]):
+            is_answered |= call is None
             for content in disk.left(draw):
                 yield content, f"{self.work.name}, stopped behind call {number}", is_answered
             if call is not None and call.kind == "write":
@@ -213,18 +212,24 @@ class Run:
             is_answered = answer == self.work.answer
             if not is_answered and answer not in STORE_FAULTS:
                 raise Wrong(f"the answer is {answer!r}")
-            lost = synced_by(calls, self.content)
+            lost = disk_with(calls, self.content).synced
             if lost != kept:
                 self.judge(lost, is_answered)
             return any(call.kind == "failed" for call in calls), self.judge(kept, is_answered)
 
 
-def synced_by(calls, content):
-    """Of files on which calls are made what is synced at the end."""
+def disk_with(calls, content):
+    """A disk on which calls were made."""
     disk = Disk(content)
     for call in calls:
         disk.make(call)
-    return disk.synced
+    return disk
+
+
+def whole_by(calls, content):
+    """Files on which calls were made."""
+    disk = disk_with(calls, content)
+    return {name: disk.whole(name) for name in content}
 
 
 # How a call fails: what disk.c is told, and whether that is another way for a write alone.
@@ -246,17 +251,18 @@ def named(what):
 
 def runs(room):
     """All works, one after another, each done without a stop."""
-    bench, none = Bench(room), {"db": b"", "log": b""}
-    yield Run(bench, Making(), none, [f"meta|2|{digest(KEY)}"])
-    with bench.files(none) as database:
-        sql(database, FIRST + ROWS)
-        content = content_of(database)
-    model = office_of(rows_of())
-    for exchange in (LISTING, *REQUESTS):
-        work = Asking(exchange, model.answer(exchange.request()), exchange is LISTING)
-        run = Run(bench, work, content, model.rows())
-        content = run.left
-        yield run
+    with tempfile.TemporaryDirectory() as loaded:
+        bench, none = Bench(room, loaded), {"db": b"", "log": b""}
+        yield Run(bench, Making(), none, [f"meta|2|{digest(KEY)}"])
+        with bench.files(none) as database:
+            sql(database, FIRST + ROWS)
+            content = content_of(database)
+        model = office_of(rows_of())
+        for exchange in (LISTING, *REQUESTS):
+            work = Asking(exchange, model.answer(exchange.request()), exchange is LISTING)
+            run = Run(bench, work, content, model.rows())
+            content = run.left
+            yield run
 
 
 def each(function, given):
