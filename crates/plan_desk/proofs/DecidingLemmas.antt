@@ -1,6 +1,6 @@
 -- What is found in a book, step by step, and what is decided by it.
-use Rattle.std.proofs.Common.{◌≡◌, ℕ, suc, ◌+◌, ◌<◌, ◌++◌, take, length, get_or, List, [], ◌∷◌, Option, Some, None, Result, Ok, Err, refl, sym, ap, ◌∙◌, subst, arith}
-use Rattle.std.specs.Prelude.{find, option_and_then, map, IfOk, IfErr, IsErr, IsErrAnd}
+use Rattle.std.proofs.Common.{◌≡◌, ◌⊎◌, inl, inr, ℕ, suc, ◌+◌, ◌<◌, ◌≤◌, ◌++◌, take, length, get_or, List, [], ◌∷◌, Option, Some, None, Result, Ok, Err, refl, sym, ap, ◌∙◌, subst, arith}
+use Rattle.std.specs.Prelude.{find, option_and_then, map, IfOk, IfErr, OnOk, IsErr, IsErrAnd}
 use Rattle.std.specs.List.{AllByRecursion}
 use Rattle.std.proofs.lemmas.Bool.{eqb-true}
 use Rattle.std.proofs.lemmas.List.{map-append}
@@ -17,12 +17,22 @@ use Rattle.plan_rows.specs.declared.rows.PlanRow.{PlanRow}
 use Rattle.plan_rows.specs.World.{Text, Published, Plan, World}
 use Rattle.plan_rows.specs.Views.{View}
 use Rattle.plan_rows.specs.Plans.{plan_number, plan_seen, has_number}
-use Rattle.plan_rows.specs.Books.{Shelf, Reads, Matches, IsPlanAnswer, bind_in}
+use Rattle.plan_rows.specs.Books.{Shelf, MoreFaults, Reads, Matches, IsPlanAnswer, bind_in}
 use Rattle.plan_desk.specs.Finding.{IsNumbered, with_capacity_of, HasCapacities}
 use Rattle.plan_desk.specs.Deciding.{Quiet, Finds, Knows}
 use Rattle.plan_rows.proofs.RuleLemmas.{found_has}
 
 module _ {B : Type 0} (shelf : Shelf B) where
+  -- only a counted fault shuts the tables
+  abbrev pub Closes : B → B → Type 0
+  Closes a b = shelf.stands a → shelf.stands b ⊎ MoreFaults (shelf.faults a) (shelf.faults b)
+
+  pub closes_then : (a b c : B) → shelf.faults a ≤ shelf.faults b → shelf.faults b ≤ shelf.faults c → Closes a b → Closes b c → Closes a c
+  closes_then a b c one two first second s = elim (first s) [
+    | inl still ↦ elim (second still) [ inl last ↦ inl last | inr fault ↦ inr (omega (arith, one, fault)) ]
+    | inr fault ↦ inr (omega (arith, two, fault))
+  ]
+
   pub quiet_self : (a : B) → Quiet shelf a a
   quiet_self a = record {
     honesty = λ h. h;
@@ -31,6 +41,8 @@ module _ {B : Type 0} (shelf : Shelf B) where
     crash = λ h w left. left;
     made = refl;
     refused = refl;
+    counts = omega arith;
+    closes = λ h s. inl s;
   }
 
   pub quiet_then : (a b c : B) → Quiet shelf a b → Quiet shelf b c → Quiet shelf a c
@@ -41,6 +53,8 @@ module _ {B : Type 0} (shelf : Shelf B) where
     crash = λ h w left. q.crash (r.honesty h) w (r.crash h w left);
     made = r.made ∙ q.made;
     refused = r.refused ∙ q.refused;
+    counts = omega (arith, q.counts, r.counts);
+    closes = λ h. closes_then a b c q.counts r.counts (q.closes (r.honesty h)) (r.closes h);
   }
 
   pub quiet_reads : {X : Type 0} (a b : B) (result : Result X BookFault) (Is : X → Type 0) → Reads shelf a b result Is → Quiet shelf a b
@@ -51,6 +65,8 @@ module _ {B : Type 0} (shelf : Shelf B) where
     crash = r.crash;
     made = r.made;
     refused = r.refused;
+    counts = r.counts;
+    closes = r.closes;
   }
 
   -- what was found, by what was read
@@ -60,15 +76,18 @@ module _ {B : Type 0} (shelf : Shelf B) where
     quiet = quiet_reads a b _ P r;
     found = λ h s. let answer = r.answer h in (answer.0, then answer.1);
     blamed = tt;
+    told = r.told;
+    wanted = tt;
+    denied = tt;
   }
 
   -- nothing was read
   pub found_at_once : {Y : Type 0} (Is : World → Y → Type 0) (a : B) (y : Y) → ((w : World) → Is w y) → Finds shelf a a Is (Ok y)
-  found_at_once Is a y is = record { quiet = quiet_self a; found = λ h s. (s, is (shelf.world a)); blamed = tt }
+  found_at_once Is a y is = record { quiet = quiet_self a; found = λ h s. (s, is (shelf.world a)); blamed = tt; told = refl; wanted = tt; denied = tt }
 
   -- what is known without a read
   pub found_known : {Y : Type 0} (Is : World → Y → Type 0) (a : B) (y : Y) → Knows shelf a (λ w. Is w y) → Finds shelf a a Is (Ok y)
-  found_known Is a y is = record { quiet = quiet_self a; found = λ h s. (s, is h s); blamed = tt }
+  found_known Is a y is = record { quiet = quiet_self a; found = λ h s. (s, is h s); blamed = tt; told = refl; wanted = tt; denied = tt }
 
   -- what was found is known
   pub known_then : {Y : Type 0} (Is : World → Y → Type 0) (a b : B) (y : Y) → Finds shelf a b Is (Ok y) → Knows shelf b (λ w. Is w y)
@@ -77,11 +96,25 @@ module _ {B : Type 0} (shelf : Shelf B) where
   -- a read that failed
   pub failed_by : {X Y : Type 0} (Is : World → Y → Type 0) (P : X → Type 0) (a b : B) (fault : BookFault) → Reads shelf a b (Err fault) P
       → Finds shelf a b Is (Err fault)
-  failed_by Is P a b fault r = record { quiet = quiet_reads a b _ P r; found = tt; blamed = λ is h s. r.store is }
+  failed_by Is P a b fault r = record {
+    quiet = quiet_reads a b _ P r;
+    found = tt;
+    blamed = λ is h s. r.store is;
+    told = tt;
+    wanted = r.wanted;
+    denied = λ is h s. r.denied is;
+  }
 
   -- want of memory between two calls
-  pub failed_here : {Y : Type 0} (Is : World → Y → Type 0) (a b : B) → Quiet shelf a b → Finds shelf a b Is (Err NoMemory)
-  failed_here Is a b q = record { quiet = q; found = tt; blamed = λ is h s. absurd (memory_is_no_store is) }
+  pub failed_here : {Y : Type 0} (Is : World → Y → Type 0) (a b : B) → Quiet shelf a b → shelf.denials b ≡ shelf.denials a → Finds shelf a b Is (Err NoMemory)
+  failed_here Is a b q told = record {
+    quiet = q;
+    found = tt;
+    blamed = λ is h s. absurd (memory_is_no_store is);
+    told = tt;
+    wanted = λ is. told;
+    denied = λ is h s. absurd (memory_is_no_store is);
+  }
     where
       IsMemory : BookFault → Type 0
       IsMemory NoMemory = Unit {0}
@@ -96,10 +129,10 @@ module _ {B : Type 0} (shelf : Shelf B) where
   failed_as Is P a b fault (Ok y) r h = absurd h.1
   failed_as Is P a b fault (Err handed) r h = subst (λ f. Finds shelf a b Is (Err f)) (sym h.1) (failed_by Is P a b fault r)
 
-  pub short_of_memory : {Y : Type 0} (Is : World → Y → Type 0) (a b : B) (result : Result Y BookFault) → Quiet shelf a b
+  pub short_of_memory : {Y : Type 0} (Is : World → Y → Type 0) (a b : B) (result : Result Y BookFault) → Quiet shelf a b → shelf.denials b ≡ shelf.denials a
       → IsErr result × IsErrAnd result (λ handed. handed ≡ NoMemory) → Finds shelf a b Is result
-  short_of_memory Is a b (Ok y) q h = absurd h.1
-  short_of_memory Is a b (Err handed) q h = subst (λ f. Finds shelf a b Is (Err f)) (sym h.1) (failed_here Is a b q)
+  short_of_memory Is a b (Ok y) q told h = absurd h.1
+  short_of_memory Is a b (Err handed) q told h = subst (λ f. Finds shelf a b Is (Err f)) (sym h.1) (failed_here Is a b q told)
 
   -- what is found, and then what is found by it
   pub found_then : {X Y : Type 0} (Is : World → X → Type 0) (And : World → Y → Type 0) (Both : World → Y → Type 0) (a b c : B) (x : X) (result : Result Y BookFault)
@@ -108,6 +141,9 @@ module _ {B : Type 0} (shelf : Shelf B) where
     quiet = quiet_then a b c f.quiet g.quiet;
     found = by_result result g.quiet g.found;
     blamed = by_fault result g.quiet g.blamed;
+    told = by_told result g.told;
+    wanted = by_want result g.wanted;
+    denied = by_denial result g.quiet g.denied;
   }
     where
       by_result : (r : Result Y BookFault) → Quiet shelf b c → IfOk r (λ y. shelf.honest c → shelf.stands b → shelf.stands c × And (shelf.world b) y)
@@ -123,12 +159,25 @@ module _ {B : Type 0} (shelf : Shelf B) where
       by_fault (Ok y) q blamed = tt
       by_fault (Err fault) q blamed = λ is h s. blamed is h (f.found (q.honesty h) s).0
 
+      by_told : (r : Result Y BookFault) → OnOk r (shelf.denials c ≡ shelf.denials b) → OnOk r (shelf.denials c ≡ shelf.denials a)
+      by_told (Ok y) told = told ∙ f.told
+      by_told (Err fault) told = tt
+
+      by_want : (r : Result Y BookFault) → IfErr r (λ fault. fault ≡ NoMemory → shelf.denials c ≡ shelf.denials b) → IfErr r (λ fault. fault ≡ NoMemory → shelf.denials c ≡ shelf.denials a)
+      by_want (Ok y) wanted = tt
+      by_want (Err fault) wanted = λ is. wanted is ∙ f.told
+
+      by_denial : (r : Result Y BookFault) → Quiet shelf b c → IfErr r (λ fault. fault ≡ Store → shelf.honest c → shelf.stands b → shelf.denials c ≡ shelf.denials b + 1)
+          → IfErr r (λ fault. fault ≡ Store → shelf.honest c → shelf.stands a → shelf.denials c ≡ shelf.denials a + 1)
+      by_denial (Ok y) q denied = tt
+      by_denial (Err fault) q denied = λ is h s. denied is h (f.found (q.honesty h) s).0 ∙ ap (λ n. n + 1) f.told
+
   -- what is found, and then one more thing
   pub found_more : {X Z Y : Type 0} (Is : World → X → Type 0) (And : World → Z → Type 0) (Both : World → Y → Type 0) (a b c : B) (x : X) (z : Z) (y : Y)
       → Finds shelf a b Is (Ok x) → Finds shelf b c And (Ok z) → ((w : World) → Is w x → And w z → Both w y) → Finds shelf a c Both (Ok y)
   found_more {Y = Y} Is And Both a b c x z y f g both =
       found_then Is Then Both a b c x (Ok y) f
-      (record { quiet = g.quiet; found = λ h s. let rest = g.found h s in (rest.0, (refl, rest.1)); blamed = tt })
+      (record { quiet = g.quiet; found = λ h s. let rest = g.found h s in (rest.0, (refl, rest.1)); blamed = tt; told = g.told; wanted = tt; denied = tt })
       (λ w other is this. subst (Both w) (sym this.0) (both w is this.1))
     where
       Then : World → Y → Type 0
@@ -141,13 +190,16 @@ module _ {B : Type 0} (shelf : Shelf B) where
     quiet = f.quiet;
     found = λ h s. let first = f.found h s in (first.0, then (shelf.world a) first.1);
     blamed = tt;
+    told = f.told;
+    wanted = tt;
+    denied = tt;
   }
 
   -- what is found means another thing
   pub found_so : {X : Type 0} (Is And : World → X → Type 0) (a b : B) (result : Result X BookFault)
       → Finds shelf a b Is result → ((w : World) (x : X) → Is w x → And w x) → Finds shelf a b And result
   found_so Is And a b (Ok x) f then = found_other Is And a b x x f (λ w is. then w x is)
-  found_so Is And a b (Err fault) f then = record { quiet = f.quiet; found = tt; blamed = f.blamed }
+  found_so Is And a b (Err fault) f then = record { quiet = f.quiet; found = tt; blamed = f.blamed; told = tt; wanted = f.wanted; denied = f.denied }
 
   -- what isn't found
   pub lost : {X Y : Type 0} (Is : World → X → Type 0) (And : World → Y → Type 0) (a b : B) (fault : BookFault) (result : Result Y BookFault)
@@ -157,6 +209,9 @@ module _ {B : Type 0} (shelf : Shelf B) where
     quiet = f.quiet;
     found = tt;
     blamed = λ is honest stands. f.blamed (sym h.1 ∙ is) honest stands;
+    told = tt;
+    wanted = λ is. f.wanted (sym h.1 ∙ is);
+    denied = λ is honest stands. f.denied (sym h.1 ∙ is) honest stands;
   }
 
   -- what isn't found after something was

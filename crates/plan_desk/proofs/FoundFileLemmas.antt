@@ -67,4 +67,9 @@ module _ {B : Type 0} (shelf : Shelf B) where
     blamed = λ is honest stands.
         let has = found_has_places desk text (shelf.world a) found (whole a stands) (f.found honest stands).1 in
         absurd (blamed (sym h.1 ∙ is) has.0 has.1);
+    told = tt;
+    wanted = λ is. f.told;
+    denied = λ is honest stands.
+        let has = found_has_places desk text (shelf.world a) found (whole a stands) (f.found honest stands).1 in
+        absurd (blamed (sym h.1 ∙ is) has.0 has.1);
   }

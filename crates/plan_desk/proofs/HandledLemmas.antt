@@ -1,7 +1,7 @@
 -- A request that was judged and carried out is handled.
-use Rattle.std.proofs.Common.{◌≡◌, ◌+◌, ◌⊎◌, inl, inr, true, false, ◌&&◌, Option, Some, Ok, Err, refl, sym, ap, ◌∙◌, subst}
+use Rattle.std.proofs.Common.{◌≡◌, ◌+◌, ◌≤◌, ◌⊎◌, inl, inr, arith, true, false, ◌&&◌, Option, Some, Ok, Err, refl, sym, ap, ◌∙◌, subst}
 use Rattle.std.proofs.lemmas.Bool.{both_ways}
-use Rattle.std.specs.Prelude.{nat_lt}
+use Rattle.std.specs.Prelude.{nat_lt, Result, IsErr, IsErrAnd, MatchResult}
 use Rattle.plan_rows.specs.declared.fault.BookFault.{BookFault}
 use Rattle.plan_rows.specs.declared.fault.BookFault.TheVariants.{NoMemory, Store}
 use Rattle.plan_desk.specs.declared.change.Decision.{Decision}
@@ -16,7 +16,7 @@ use Rattle.plan_desk.specs.Replies.{reply_of}
 use Rattle.plan_desk.specs.Deciding.{Quiet, Finds, CarriesOut, Handled, IsDecided, Allows, change_in, owner_of, want_of}
 use Rattle.plan_rows.specs.Rules.{IsWorld}
 use Rattle.plan_desk.proofs.FitLemmas.{decision_allows}
-use Rattle.plan_desk.proofs.DecidingLemmas.{quiet_then}
+use Rattle.plan_desk.proofs.DecidingLemmas.{Closes, closes_then, quiet_then}
 use Rattle.plan_desk.proofs.SortedLemmas.{IsMade, is_keep, Keeps, Makes, sorted_decision, want_unaccepted}
 use Rattle.plan_desk.specs.Laws.{OutsideIsUnseen}
 use Rattle.plan_desk.proofs.LawLemmas.{outside_is_unseen}
@@ -48,6 +48,11 @@ store_is : (fault : BookFault) → want_of fault ≡ want_of Store → fault ≡
 store_is NoMemory e = absurd (both_ways true (ap (λ (x : Reply). nat_lt x.status 505) e) refl)
 store_is Store e = refl
 
+-- a refusal that isn't of the store is for want of memory
+memory_is : (fault : BookFault) → (want_of fault ≡ want_of Store → ⊥) → fault ≡ NoMemory
+memory_is NoMemory other = refl
+memory_is Store other = absurd (other refl)
+
 -- the parts of a handled request that follow from its step
 module _ {B : Type 0} (shelf : Shelf B) (r : Request) where
   abbrev Step : B → B → Reply → Type 0
@@ -64,8 +69,9 @@ module _ {B : Type 0} (shelf : Shelf B) (r : Request) where
 
   -- nothing was written, and the request was refused for want
   pub wanted_quietly : (a c : B) (fault : BookFault) → Quiet shelf a c → (fault ≡ Store → shelf.honest c → shelf.stands a → shelf.can_refuse)
+      → (fault ≡ NoMemory → shelf.denials c ≡ shelf.denials a) → (fault ≡ Store → shelf.honest c → shelf.stands a → shelf.denials c ≡ shelf.denials a + 1)
       → Handled shelf a c r (want_of fault)
-  wanted_quietly a c fault q blamed = record {
+  wanted_quietly a c fault q blamed wanted denied = record {
     honesty = q.honesty;
     stood = q.stood;
     step = step;
@@ -75,11 +81,21 @@ module _ {B : Type 0} (shelf : Shelf B) (r : Request) where
     refused = λ h refused. inl q.refused;
     crash = λ h refused left may. inl (q.crash h left may);
     store = λ is h s. blamed (store_is fault is) h s;
+    denied = λ is h s. denied (store_is fault is) h s;
+    told = λ other. wanted (memory_is fault other);
+    counts = q.counts;
+    closes = q.closes;
     outside = outside_of a c (want_of fault) step;
   }
     where
       step : shelf.honest c → Step a c (want_of fault)
       step h = inr (want_is fault, λ s. q.same h s)
+
+  -- a fault that is handed on
+  pub wanted_at_once : {X Y : Type 0} (Is : World → X → Type 0) (P : Y → Type 0) (a c : B) (fault : BookFault) (result : Result Y BookFault) → Finds shelf a c Is (Err fault)
+      → IsErr result × IsErrAnd result (λ handed. handed ≡ fault) → MatchResult result P (λ handed. Handled shelf a c r (want_of handed))
+  wanted_at_once Is P a c fault (Ok y) f h = absurd h.1
+  wanted_at_once Is P a c fault (Err handed) f h = subst (λ k. Handled shelf a c r (want_of k)) (sym h.1) (wanted_quietly a c fault f.quiet f.blamed f.wanted f.denied)
 
   -- how a change was carried out
   record Wrote (b c : B) (s : Text) (change : Change) : Type 0 where
@@ -89,6 +105,9 @@ module _ {B : Type 0} (shelf : Shelf B) (r : Request) where
     changed : shelf.honest c → shelf.stands c × (shelf.world c ≡ apply s change (shelf.world b))
     durable : shelf.honest c → (left : Option World) → shelf.may_leave c left → left ≡ Some (shelf.world c)
     counted : (shelf.made c ≡ shelf.made b + 1) × (shelf.refused c ≡ shelf.refused b)
+    told : shelf.denials c ≡ shelf.denials b
+    counts : shelf.faults b ≤ shelf.faults c
+    closes : shelf.honest c → Closes shelf b c
 
   record Refused (b c : B) (s : Text) (change : Change) (fault : BookFault) : Type 0 where
     made : IsMade change
@@ -99,6 +118,10 @@ module _ {B : Type 0} (shelf : Shelf B) (r : Request) where
         → shelf.may_leave b left ⊎ (shelf.stands b × (left ≡ Some (apply s change (shelf.world b))))
     store : fault ≡ Store → shelf.can_refuse
     counted : (shelf.made c ≡ shelf.made b) × (shelf.refused c ≡ shelf.refused b + 1)
+    wanted : fault ≡ NoMemory → shelf.denials c ≡ shelf.denials b
+    denied : fault ≡ Store → shelf.denials c ≡ shelf.denials b + 1
+    counts : shelf.faults b ≤ shelf.faults c
+    closes : shelf.honest c → Closes shelf b c
 
   wrote : {X : Type 0} (b c : B) (s : Text) (change : Change) (x : X) → IsMade change → Writes shelf b c (Ok x) (apply s change) → Wrote b c s change
   wrote b c s change x made w = record {
@@ -108,6 +131,9 @@ module _ {B : Type 0} (shelf : Shelf B) (r : Request) where
     changed = w.changed;
     durable = w.durable;
     counted = w.counted;
+    told = w.told;
+    counts = w.counts;
+    closes = w.closes;
   }
 
   refused_write : (X : Type 0) (b c : B) (s : Text) (change : Change) (fault : BookFault) → IsMade change → Writes {B = B} shelf b c {X = X} (Err fault) (apply s change)
@@ -120,14 +146,22 @@ module _ {B : Type 0} (shelf : Shelf B) (r : Request) where
     crash = w.crash;
     store = w.store;
     counted = w.refusal;
+    wanted = w.wanted;
+    denied = w.denied;
+    counts = w.counts;
+    closes = w.closes;
   }
 
   something : (c : Change) → is_keep c ≡ false → IsMade c
   something c is keeps = both_ways _ is (ap is_keep keeps)
 
+  -- nothing was to be changed, and nothing was
+  abbrev Kept : B → B → Change → Type 0
+  Kept b c change = (change ≡ Keep) × Quiet shelf b c × (shelf.stands b → shelf.stands c) × (shelf.denials c ≡ shelf.denials b)
+
   carried : {X : Type 0} (b c : B) (s : Text) (change : Change) (x : X) → CarriesOut shelf b c s change (Ok x)
-      → ((change ≡ Keep) × Quiet shelf b c × (shelf.stands b → shelf.stands c)) ⊎ Wrote b c s change
-  carried b c s Keep x h = inl (refl, h.0, h.1)
+      → Kept b c change ⊎ Wrote b c s change
+  carried b c s Keep x h = inl (refl, h.0, h.1, h.3)
   carried b c s (Publish code kind capacity) x h = inr (wrote b c s _ x (something _ refl) h)
   carried b c s (OpenDesk digest) x h = inr (wrote b c s _ x (something _ refl) h)
   carried b c s (SetKey digest) x h = inr (wrote b c s _ x (something _ refl) h)
@@ -152,14 +186,16 @@ module _ {B : Type 0} (shelf : Shelf B) (r : Request) where
   pub record Judged (a b : B) (reply : Reply) (c : Change) : Type 0 where
     pub quiet : Quiet shelf a b
     pub stands : shelf.honest b → shelf.stands b
+    pub told : shelf.denials b ≡ shelf.denials a
     pub decided : shelf.honest b → IsDecision (view (subject r) (shelf.world a)) r reply c
 
   fine_is_no_want : (reply : Reply) → nat_lt reply.status 500 ≡ true → reply ≡ want_of Store → ⊥
   fine_is_no_want reply fine is = both_ways _ (ap (λ (x : Reply). nat_lt x.status 500) is) fine
 
   -- nothing was to be changed
-  handled_quietly : (a b c : B) (reply : Reply) → Judged a b reply Keep → Quiet shelf b c → (shelf.stands b → shelf.stands c) → Handled shelf a c r reply
-  handled_quietly a b c reply j q still = record {
+  handled_quietly : (a b c : B) (reply : Reply) → Judged a b reply Keep → Quiet shelf b c → (shelf.stands b → shelf.stands c)
+      → shelf.denials c ≡ shelf.denials b → Handled shelf a c r reply
+  handled_quietly a b c reply j q still told = record {
     honesty = whole.honesty;
     stood = whole.stood;
     step = step;
@@ -169,6 +205,10 @@ module _ {B : Type 0} (shelf : Shelf B) (r : Request) where
     refused = λ h refused. inl whole.refused;
     crash = λ h refused left may. inl (whole.crash h left may);
     store = λ is h s. absurd (fine_is_no_want reply (sorted h).1 is);
+    denied = λ is h s. absurd (fine_is_no_want reply (sorted h).1 is);
+    told = λ other. told ∙ j.told;
+    counts = whole.counts;
+    closes = whole.closes;
     outside = outside_of a c reply step;
   }
     where
@@ -203,6 +243,10 @@ module _ {B : Type 0} (shelf : Shelf B) (r : Request) where
     refused = λ h refused. absurd (both_ways _ refused (accepted h));
     crash = λ h refused. absurd (both_ways _ refused (accepted h));
     store = λ is h stands. absurd (fine_is_no_want reply (sorted h).1 is);
+    denied = λ is h stands. absurd (fine_is_no_want reply (sorted h).1 is);
+    told = λ other. w.told ∙ j.told;
+    counts = omega (arith, j.quiet.counts, w.counts);
+    closes = λ h. closes_then shelf a b c j.quiet.counts w.counts (j.quiet.closes (w.honesty h)) (w.closes h);
     outside = outside_of a c reply step;
   }
     where
@@ -239,6 +283,10 @@ module _ {B : Type 0} (shelf : Shelf B) (r : Request) where
     refused = λ h refused. inr (want_is fault, command h, counted);
     crash = λ h refused left may. by_crash h left (w.crash h left may);
     store = λ is h stands. w.store (store_is fault is);
+    denied = λ is h stands. w.denied (store_is fault is) ∙ ap (λ n. n + 1) j.told;
+    told = λ other. w.wanted (memory_is fault other) ∙ j.told;
+    counts = omega (arith, j.quiet.counts, w.counts);
+    closes = λ h. closes_then shelf a b c j.quiet.counts w.counts (j.quiet.closes (w.honesty h)) (w.closes h);
     outside = outside_of a c (want_of fault) step;
   }
     where
@@ -287,6 +335,7 @@ module _ {B : Type 0} (shelf : Shelf B) (r : Request) where
   judged_by path a b d f stands = record {
     quiet = f.quiet;
     stands = stands;
+    told = f.told;
     decided = λ h. (f.found h (f.quiet.stood h (stands h))).1.answer;
   }
 
@@ -302,9 +351,9 @@ module _ {B : Type 0} (shelf : Shelf B) (r : Request) where
       judged : Judged a b (reply_of d.reply) (change_in d.change)
       judged = judged_by path a b d f stands
 
-      by_case : ((change_in d.change ≡ Keep) × Quiet shelf b c × (shelf.stands b → shelf.stands c)) ⊎ Wrote b c (owner_of path d.change) (change_in d.change)
+      by_case : Kept b c (change_in d.change) ⊎ Wrote b c (owner_of path d.change) (change_in d.change)
           → Handled shelf a c r (reply_of d.reply)
-      by_case (inl (keeps, q, still)) = handled_quietly a b c (reply_of d.reply) (subst (Judged a b (reply_of d.reply)) keeps judged) q still
+      by_case (inl (keeps, q, still, told)) = handled_quietly a b c (reply_of d.reply) (subst (Judged a b (reply_of d.reply)) keeps judged) q still told
       by_case (inr w) = handled_made a b c (reply_of d.reply) (owner_of path d.change) (change_in d.change) judged w
           (λ honest. owner_is _ (change_in d.change) w.made (owned_by path a b d f stands honest))
 

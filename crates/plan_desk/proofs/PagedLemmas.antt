@@ -55,6 +55,12 @@ module _ {B : Type 0} (shelf : Shelf B) (desk text : Text) (IsSeen : View → Te
         let first = f.found honest stands in
         absurd (page.blamed (sym h.1 ∙ is) (view desk (shelf.world a)) text (seen (shelf.world a) first.1)
         (rules_alone desk (shelf.world a) (subst IsWorld (f.quiet.same honest first.0) (whole first.0))));
+    told = tt;
+    wanted = λ is. f.told;
+    denied = λ is honest stands.
+        let first = f.found honest stands in
+        absurd (page.blamed (sym h.1 ∙ is) (view desk (shelf.world a)) text (seen (shelf.world a) first.1)
+        (rules_alone desk (shelf.world a) (subst IsWorld (f.quiet.same honest first.0) (whole first.0))));
   }
 
 -- ---- no plan of the number

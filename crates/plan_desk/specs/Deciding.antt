@@ -1,5 +1,5 @@
 -- What is decided of a request over a book, and how it is carried out (docs/DEFINITIONS.md, "Books").
-use Rattle.std.specs.Prelude.{◌≡◌, ◌⊎◌, ◌+◌, true, false, Option, Some, None, Result, IfOk, IfErr, IfSome, IsSome, OnErr, string_bytes, codes}
+use Rattle.std.specs.Prelude.{◌≡◌, ◌⊎◌, ◌+◌, ◌≤◌, true, false, Option, Some, None, Result, IfOk, IfErr, IfSome, IsSome, OnOk, OnErr, string_bytes, codes}
 use Rattle.plan_rows.specs.declared.fault.BookFault.{BookFault}
 use Rattle.plan_rows.specs.declared.fault.BookFault.TheVariants.{NoMemory, Store}
 use Rattle.plan_desk.specs.declared.change.Change as rows
@@ -18,7 +18,7 @@ use Rattle.plan_desk.specs.Outcomes.{Outcome}
 use Rattle.plan_rows.specs.Rules.{IsWorld}
 use Rattle.plan_desk.specs.Replies.{reply_of}
 use Rattle.plan_rows.specs.declared.rows.DeskRow.{DeskRow}
-use Rattle.plan_rows.specs.Books.{Shelf, Writes, Matches, IsDeskAnswer}
+use Rattle.plan_rows.specs.Books.{Shelf, MoreFaults, Writes, Matches, IsDeskAnswer}
 
 -- the change that it stands for
 abbrev pub change_in : rows.Change → Change
@@ -104,16 +104,27 @@ module _ {B : Type 0} (shelf : Shelf B) (old new : B) where
     pub crash : shelf.honest new → (w : Option World) → shelf.may_leave new w → shelf.may_leave old w
     pub made : shelf.made new ≡ shelf.made old
     pub refused : shelf.refused new ≡ shelf.refused old
+    -- only a counted fault shuts the tables
+    pub counts : shelf.faults old ≤ shelf.faults new
+    pub closes : shelf.honest new → shelf.stands old
+        → shelf.stands new ⊎ MoreFaults (shelf.faults old) (shelf.faults new)
 
   -- something is known of what the tables hold, and nothing was written
   pub record Finds {X : Type 0} (Is : World → X → Type 0) (result : Result X BookFault) : Type 0 where
     pub quiet : Quiet
     pub found : IfOk result (λ x. shelf.honest new → shelf.stands old → shelf.stands new × Is (shelf.world old) x)
     pub blamed : IfErr result (λ fault. fault ≡ Store → shelf.honest new → shelf.stands old → shelf.can_refuse)
+    -- it is the store that refused where the book said so, and nowhere else
+    pub told : OnOk result (shelf.denials new ≡ shelf.denials old)
+    pub wanted : IfErr result (λ fault. fault ≡ NoMemory → shelf.denials new ≡ shelf.denials old)
+    pub denied : IfErr result (λ fault. fault ≡ Store → shelf.honest new → shelf.stands old
+        → shelf.denials new ≡ shelf.denials old + 1)
 
   -- nothing was written where nothing is to change, else one writing call was made
   abbrev pub CarriesOut : {X : Type 0} → Text → Change → Result X BookFault → Type 0
-  CarriesOut s Keep result = Quiet × (shelf.stands old → shelf.stands new) × OnErr result ⊥
+  CarriesOut s Keep result =
+      Quiet × (shelf.stands old → shelf.stands new) × OnErr result ⊥
+      × (shelf.denials new ≡ shelf.denials old)
   CarriesOut s (Publish code kind capacity) result = Writes shelf old new result (apply s (Publish code kind capacity))
   CarriesOut s (OpenDesk digest) result = Writes shelf old new result (apply s (OpenDesk digest))
   CarriesOut s (SetKey digest) result = Writes shelf old new result (apply s (SetKey digest))
@@ -146,6 +157,14 @@ module _ {B : Type 0} (shelf : Shelf B) (old new : B) where
         × ((other : Reply) × (after : World) × IsStep (shelf.world old) r other after × (left ≡ Some after)))
     -- the store is blamed only where it can refuse
     pub store : reply ≡ want_of Store → shelf.honest new → shelf.stands old → shelf.can_refuse
+    -- and only where one call of the book was refused by it; no other reply hides such a refusal
+    pub denied : reply ≡ want_of Store → shelf.honest new → shelf.stands old
+        → shelf.denials new ≡ shelf.denials old + 1
+    pub told : (reply ≡ want_of Store → ⊥) → shelf.denials new ≡ shelf.denials old
+    -- only a counted fault of the disk shuts the tables
+    pub counts : shelf.faults old ≤ shelf.faults new
+    pub closes : shelf.honest new → shelf.stands old
+        → shelf.stands new ⊎ MoreFaults (shelf.faults old) (shelf.faults new)
     -- a desk doesn't see a request that isn't of its story
     pub outside : shelf.honest new → shelf.stands new → (desk : Text) → belongs desk (view desk (shelf.world old)) r ≡ false
         → view desk (shelf.world new) ≡ view desk (shelf.world old)

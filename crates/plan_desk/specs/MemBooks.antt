@@ -11,7 +11,8 @@ use Rattle.plan_desk.specs.Whole.{whole_of}
 abbrev pub memory_world : MemBook → World
 memory_world book = world_kept book.tables
 
--- it can always be seen, never refuses but for want of memory, and a crash leaves what it holds
+-- it can always be seen, never refuses but for want of memory, has no disk that could fail, and a
+-- crash leaves what it holds
 abbrev pub memory_shelf : Shelf MemBook
 memory_shelf = record {
   world = memory_world;
@@ -21,6 +22,8 @@ memory_shelf = record {
   may_leave = λ book w. w ≡ Some (memory_world book);
   made = λ book. book.calls.made;
   refused = λ book. book.calls.refused;
+  denials = λ _. 0;
+  faults = λ _. 0;
 }
 
 -- it keeps the rules of rows

@@ -58,14 +58,16 @@ impl MemBook {
 }
 
 impl Book for MemBook {
-    ghost use Rattle.std.specs.Prelude.{refl};
-    ghost use Rattle.plan_desk.specs.MemBooks.{memory_shelf, memory_whole};
+    ghost use Rattle.std.specs.Prelude.{Some, refl};
+    ghost use Rattle.plan_desk.specs.MemBooks.{memory_shelf, memory_whole, memory_world};
 
     ghost shelf = { memory_shelf };
 
     ghost whole = { λ book _. memory_whole book };
 
     ghost now_may = { λ book _. refl };
+
+    ghost leaves = { λ book _ none. none (Some (memory_world book)) refl };
 
     fn office(&mut self) -> Result<[u8; 32], BookFault> {
         Ok(self.tables.office)

@@ -1,5 +1,5 @@
 -- What a crash may leave after connections that were served.
-use Rattle.std.proofs.Common.{◌≡◌, ◌⊎◌, ℕ, zero, suc, ◌+◌, ◌<◌, true, false, ◌&&◌, ◌||◌, List, [], ◌∷◌, length, take, drop, filter, Option, Some, inl, inr, refl, ap, ◌∙◌, subst, arith}
+use Rattle.std.proofs.Common.{◌≡◌, ◌⊎◌, ℕ, zero, suc, ◌+◌, ◌<◌, ◌≤◌, true, false, ◌&&◌, ◌||◌, List, [], ◌∷◌, length, take, drop, filter, Option, Some, inl, inr, refl, sym, ap, ◌∙◌, subst, arith}
 use Rattle.std.proofs.lemmas.Bool.{cases_Bool, both_ways}
 use Rattle.std.specs.Prelude.{if◌then◌else◌, nat_lt}
 use Rattle.std.specs.List.{list_any}
@@ -12,6 +12,7 @@ use Rattle.plan_desk.specs.Decisions.{IsStep, IsDecision}
 use Rattle.plan_rows.specs.Books.{Shelf}
 use Rattle.plan_desk.specs.Deciding.{Handled}
 use Rattle.plan_desk.proofs.SortedLemmas.{Keeps, Makes, sorted_decision}
+use Rattle.plan_desk.proofs.DecidingLemmas.{Closes, closes_then}
 use Rattle.plan_http.specs.Judges.{asks, Judges}
 use Rattle.plan_http.specs.Answers.{Decision, handled, failed, starved, IsOn}
 use Rattle.plan_http.specs.Serving.{Moves, Serving}
@@ -55,6 +56,34 @@ module _ {B : Type 0} (shelf : Shelf B) where
   served_stood old new (bytes ∷ conns) [] h honest stands = absurd h
   served_stood old new (bytes ∷ conns) (d ∷ decisions) (middle, is_on, moves, rest) honest stands =
       moved_stood old middle d moves (served_honest shelf middle new conns decisions rest honest) (served_stood middle new conns decisions rest honest stands)
+
+  -- and only a counted fault shuts them
+  moved_counts : (old new : B) (d : Decision) → Moves shelf old new d → shelf.faults old ≤ shelf.faults new
+  moved_counts old new (handled r reply) h = h.counts
+  moved_counts old new (failed check allow is_head) h = let same : shelf.faults new ≡ shelf.faults old = ap shelf.faults h in omega (arith, same)
+  moved_counts old new starved h = let same : shelf.faults new ≡ shelf.faults old = ap shelf.faults h in omega (arith, same)
+
+  moved_closes : (old new : B) (d : Decision) → Moves shelf old new d → shelf.honest new → Closes shelf old new
+  moved_closes old new (handled r reply) h honest = h.closes honest
+  moved_closes old new (failed check allow is_head) h honest = λ stands. inl (subst shelf.stands (sym h) stands)
+  moved_closes old new starved h honest = λ stands. inl (subst shelf.stands (sym h) stands)
+
+  pub run_counts : (old new : B) (conns : List Text) (decisions : List Decision) → Serving shelf old conns decisions new → shelf.faults old ≤ shelf.faults new
+  run_counts old new [] [] h = let same : shelf.faults new ≡ shelf.faults old = ap shelf.faults h in omega (arith, same)
+  run_counts old new [] (d ∷ decisions) h = absurd h
+  run_counts old new (bytes ∷ conns) [] h = absurd h
+  run_counts old new (bytes ∷ conns) (d ∷ decisions) (middle, is_on, moves, rest) =
+      let one = moved_counts old middle d moves in
+      let more = run_counts middle new conns decisions rest in
+      omega (arith, one, more)
+
+  pub run_closes : (old new : B) (conns : List Text) (decisions : List Decision) → Serving shelf old conns decisions new → shelf.honest new → Closes shelf old new
+  run_closes old new [] [] h honest = λ stands. inl (subst shelf.stands (sym h) stands)
+  run_closes old new [] (d ∷ decisions) h honest = absurd h
+  run_closes old new (bytes ∷ conns) [] h honest = absurd h
+  run_closes old new (bytes ∷ conns) (d ∷ decisions) (middle, is_on, moves, rest) honest =
+      closes_then shelf old middle new (moved_counts old middle d moves) (run_counts middle new conns decisions rest)
+      (moved_closes old middle d moves (served_honest shelf middle new conns decisions rest honest)) (run_closes middle new conns decisions rest honest)
 
   -- no decision but one that accepts a command changes the rows
   moved_same : (old new : B) (d : Decision) → Moves shelf old new d → accepts d ≡ false → shelf.honest new → shelf.stands new → shelf.world new ≡ shelf.world old

@@ -11,7 +11,7 @@ use Rattle.plan_http.specs.Crashes.{Outlasts}
 use Rattle.plan_http.specs.Stories.{AreTold}
 use Rattle.plan_http.specs.Isolated.{IsApart}
 use Rattle.plan_http.proofs.RunLemmas.{served_more}
-use Rattle.plan_http.proofs.CrashLemmas.{run_made, run_left, nothing_lost}
+use Rattle.plan_http.proofs.CrashLemmas.{run_made, run_left, run_counts, run_closes, nothing_lost}
 use Rattle.plan_http.proofs.ApartLemmas.{told_alone, serving_unseen}
 use Rattle.plan_http.proofs.HeadlineLemmas.{take_all, one_each, taken_length, ran_whole, ran_short, told_in_run}
 
@@ -107,6 +107,8 @@ module _ {B : Type 0} (shelf : Shelf B) where
         leaves = λ honest left may. run_left shelf old new served d.decisions d.served honest left may;
         kept = λ honest left may place accepted.
             nothing_lost shelf old new served d.decisions left (run_left shelf old new served d.decisions d.served honest left may) place accepted;
+        counts = run_counts shelf old new served d.decisions d.served;
+        closes = run_closes shelf old new served d.decisions d.served;
       }
 
   -- what a desk is told in a run

@@ -5,7 +5,7 @@ use Rattle.plan_rows.specs.World.{Text, World}
 use Rattle.plan_desk.specs.Calls.{Request, Reply, writes, is_accepted}
 use Rattle.plan_desk.specs.Stories.{IsWant}
 use Rattle.plan_desk.specs.Decisions.{IsStep}
-use Rattle.plan_rows.specs.Books.{Shelf}
+use Rattle.plan_rows.specs.Books.{Shelf, MoreFaults}
 use Rattle.plan_desk.specs.Deciding.{Handled}
 use Rattle.plan_http.specs.Clients.{Known, OfBytes}
 use Rattle.plan_http.specs.Judges.{asks, Judges}
@@ -100,3 +100,7 @@ module _ {B : Type 0} (shelf : Shelf B) where
     pub kept : shelf.honest new → (left : Option World) → shelf.may_leave new left
         → (place : ℕ) → IsAcceptedAt decisions place
         → ComesAfter old new (take (length decisions) conns) decisions place left
+    -- only a counted fault of the disk shuts the tables
+    pub counts : shelf.faults old ≤ shelf.faults new
+    pub closes : shelf.honest new → shelf.stands old
+        → shelf.stands new ⊎ MoreFaults (shelf.faults old) (shelf.faults new)

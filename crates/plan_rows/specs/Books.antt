@@ -1,7 +1,7 @@
 -- What the calls of a book promise, whatever keeps its tables (docs/DEFINITIONS.md, "Books").
-use Rattle.std.specs.Prelude.{◌≡◌, ◌⊎◌, ℕ, ◌+◌, List, Option, Some, None, Result, IfOk, IfErr, OnOk, OnErr, map, string_bytes}
+use Rattle.std.specs.Prelude.{◌≡◌, ◌⊎◌, ℕ, ◌+◌, ◌-◌, ◌^◌, ◌≤◌, min, List, Option, Some, None, Result, IfOk, IfErr, OnOk, OnErr, map, string_bytes}
 use Rattle.plan_rows.specs.declared.fault.BookFault.{BookFault}
-use Rattle.plan_rows.specs.declared.fault.BookFault.TheVariants.{Store}
+use Rattle.plan_rows.specs.declared.fault.BookFault.TheVariants.{NoMemory, Store}
 use Rattle.plan_rows.specs.declared.kinds.Kind.{Kind}
 use Rattle.plan_rows.specs.declared.kinds.PlanKind.{PlanKind}
 use Rattle.plan_rows.specs.declared.rows.DeskRow.{DeskRow}
@@ -30,6 +30,14 @@ pub record Shelf (B : Type 0) : Type 1 where
   -- how many writing calls were made, and how many were refused
   pub made : B → ℕ
   pub refused : B → ℕ
+  -- how many calls, reading or writing, were answered that the store refused
+  pub denials : B → ℕ
+  -- how many times the disk failed or refused
+  pub faults : B → ℕ
+
+-- a count of faults rose, unless it is at the top of 64 bits
+abbrev pub MoreFaults : ℕ → ℕ → Type 0
+MoreFaults old new = min (old + 1) (2 ^ 64 - 1) ≤ new
 
 module _ {B : Type 0} (shelf : Shelf B) (old new : B) where
   -- a call that reads: its answer is true of the tables, which stay, and it adds nothing to what a
@@ -43,6 +51,13 @@ module _ {B : Type 0} (shelf : Shelf B) (old new : B) where
     pub store : IfErr result (λ fault. fault ≡ Store → shelf.can_refuse)
     pub made : shelf.made new ≡ shelf.made old
     pub refused : shelf.refused new ≡ shelf.refused old
+    -- no fault is forgotten, and only a counted one shuts the tables
+    pub counts : shelf.faults old ≤ shelf.faults new
+    pub closes : shelf.honest new → shelf.stands old → shelf.stands new ⊎ MoreFaults (shelf.faults old) (shelf.faults new)
+    -- a refusal of the store is counted, and nothing else is counted as one
+    pub told : OnOk result (shelf.denials new ≡ shelf.denials old)
+    pub wanted : IfErr result (λ fault. fault ≡ NoMemory → shelf.denials new ≡ shelf.denials old)
+    pub denied : IfErr result (λ fault. fault ≡ Store → shelf.denials new ≡ shelf.denials old + 1)
 
   -- a call that writes: where it is made, the tables are changed, and a crash leaves them alone; where
   -- it is refused, they are as they were, and a crash may leave the change besides
@@ -57,6 +72,11 @@ module _ {B : Type 0} (shelf : Shelf B) (old new : B) where
     pub store : IfErr result (λ fault. fault ≡ Store → shelf.can_refuse)
     pub counted : OnOk result ((shelf.made new ≡ shelf.made old + 1) × (shelf.refused new ≡ shelf.refused old))
     pub refusal : OnErr result ((shelf.made new ≡ shelf.made old) × (shelf.refused new ≡ shelf.refused old + 1))
+    pub counts : shelf.faults old ≤ shelf.faults new
+    pub closes : shelf.honest new → shelf.stands old → shelf.stands new ⊎ MoreFaults (shelf.faults old) (shelf.faults new)
+    pub told : OnOk result (shelf.denials new ≡ shelf.denials old)
+    pub wanted : IfErr result (λ fault. fault ≡ NoMemory → shelf.denials new ≡ shelf.denials old)
+    pub denied : IfErr result (λ fault. fault ≡ Store → shelf.denials new ≡ shelf.denials old + 1)
 
 -- an answer matches a row that is there, or there is neither
 abbrev pub Matches : {A X : Type 0} → (A → X → Type 0) → Option A → Option X → Type 0

@@ -1,7 +1,7 @@
 //! The tables of an office, whatever keeps them.
 
-ghost use Rattle.std.specs.Prelude.{◌≡◌, [], Some, None, find, length, IfSome, IsSome};
-ghost use Rattle.plan_rows.specs.World.{desk_in, plan_in, code_in};
+ghost use Rattle.std.specs.Prelude.{◌≡◌, [], Option, Some, None, find, length, IfSome, IsSome};
+ghost use Rattle.plan_rows.specs.World.{World, desk_in, plan_in, code_in};
 ghost use Rattle.plan_rows.specs.Views.{view};
 ghost use Rattle.plan_rows.specs.Changes.{apply, Publish, OpenDesk, SetKey, AddPlan, RemovePlan, BindPlace, SetCalendar, SetLag};
 ghost use Rattle.plan_rows.specs.Plans.{has_number};
@@ -107,4 +107,7 @@ pub trait Book {
 
     /// A crash may leave what the tables hold.
     ghost now_may: { (book : Self) → shelf.stands book → shelf.may_leave book (Some (shelf.world book)) };
+
+    /// A crash leaves something, also of tables that a fault has shut.
+    ghost leaves: { (book : Self) → shelf.honest book → ((w : Option World) → shelf.may_leave book w → ⊥) → ⊥ };
 }

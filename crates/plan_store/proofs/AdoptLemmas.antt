@@ -18,7 +18,7 @@ use Rattle.plan_store.specs.Stores.{IsStore}
 use Rattle.plan_store.specs.Layouts.{schema_of, IsOfficeAt}
 use Rattle.plan_store.specs.Rereading.{IsStoreOf}
 use Rattle.plan_store.specs.Opening.{IsLaid}
-use Rattle.plan_store.specs.Adopting.{version_of, other_version, IsTaken, IsMigrated, IsCause, Takes, IsWhole, IsRefused}
+use Rattle.plan_store.specs.Adopting.{version_of, other_version, IsTaken, IsMigrated, IsCause, IsOpenAfter, Takes, IsWhole, IsRefused}
 
 -- ---- tables have one layout and say one version
 
@@ -66,8 +66,14 @@ crossed layout db it = (
 
 -- ---- taking
 
-pub refuses : (s : State) (r : Result (Unit {0}) StoreFault) (fault : StoreFault) → r ≡ Err fault → s.in_transaction ≡ false → (HasCleanDisk s → IsCause fault s.now) → Takes s s r
-refuses s r fault is outside why = subst (Takes s s) (sym is) (record {
+open_after : (s : State) (fault : StoreFault) → (HasCleanDisk s → IsTrue s.is_open) → IsOpenAfter fault s
+open_after s NotOurs live = live
+open_after s Version live = live
+open_after s NoMemory live = tt
+open_after s Store live = tt
+
+pub refuses : (s : State) (r : Result (Unit {0}) StoreFault) (fault : StoreFault) → r ≡ Err fault → s.in_transaction ≡ false → (HasCleanDisk s → IsTrue s.is_open) → (HasCleanDisk s → IsCause fault s.now) → Takes s s r
+refuses s r fault is outside live why = subst (Takes s s) (sym is) (record {
   outside = outside;
   honesty = λ clean. clean;
   taken = tt;
@@ -75,6 +81,7 @@ refuses s r fault is outside why = subst (Takes s s) (sym is) (record {
   cause = why;
   kept = λ clean live. refl;
   crash = λ clean trees may. inl may;
+  is_open = open_after s fault live;
 })
 
 store_at : (db : Database) → IsOfficeAt Second (pos 2) db → IsStore db
@@ -95,7 +102,12 @@ takes_second s r is outside laid office settled = subst (Takes s s) (sym is) (re
   cause = tt;
   kept = tt;
   crash = tt;
+  is_open = tt;
 })
+
+-- the same of tables that are laid out
+pub refuses_laid : (layout : Layout) (s : State) (r : Result (Unit {0}) StoreFault) (fault : StoreFault) → r ≡ Err fault → s.in_transaction ≡ false → (HasCleanDisk s → IsLaid layout s) → (HasCleanDisk s → IsCause fault s.now) → Takes s s r
+refuses_laid layout s r fault is outside laid = refuses s r fault is outside (λ clean. (laid clean).in_order.is_open)
 
 -- tables that were only looked at, and then taken or not
 module _ (old mid new : State) (clean_before : HasCleanDisk mid → HasCleanDisk old) (same : HasCleanDisk mid → mid.now ≡ old.now) (before : HasCleanDisk mid → (trees : Trees) → mid.may_leave trees → old.may_leave trees) where
@@ -108,6 +120,7 @@ module _ (old mid new : State) (clean_before : HasCleanDisk mid → HasCleanDisk
     cause = tt;
     kept = tt;
     crash = tt;
+    is_open = tt;
   }
   takes_after (Err fault) it = record {
     outside = it.outside;
@@ -117,6 +130,7 @@ module _ (old mid new : State) (clean_before : HasCleanDisk mid → HasCleanDisk
     cause = λ clean. subst (IsCause fault) (same (it.honesty clean)) (it.cause clean);
     kept = λ clean live. it.kept clean live ∙ same (it.honesty clean);
     crash = λ clean trees may. left clean trees (it.crash clean trees may);
+    is_open = it.is_open;
   }
     where
       left : HasCleanDisk new → (trees : Trees) → mid.may_leave trees ⊎ ((fault ≢ NotOurs) × (fault ≢ Version) × IsMigrated mid.now trees)
@@ -144,6 +158,7 @@ module _ {S : Type 0} (g : Ghosts S) (old : State) where
     honesty = it.honesty;
     cause = λ clean. no_cause fault old.now ours known;
     whole = whole_store store fault ours known;
+    is_open = tt;
     kept = λ clean live. (it.same clean live).1;
     crash = λ clean trees found. inl (it.crash clean trees found);
   }
@@ -161,6 +176,7 @@ module _ {S : Type 0} (g : Ghosts S) (old : State) where
         honesty = it.honesty;
         cause = it.cause;
         whole = whole_connection conn fault;
+        is_open = it.is_open;
         kept = (it.outside, it.kept);
         crash = it.crash;
       }

@@ -10,8 +10,10 @@ use Rattle.sqlite.proofs.Callers.{IsPlain, reads_as, never_commits}
 use Rattle.plan_rows.specs.declared.fault.BookFault.{BookFault}
 use Rattle.plan_rows.specs.World.{World}
 use Rattle.plan_store.specs.Stores.{world_of, IsStore}
+use Rattle.plan_store.specs.Enduring.{Endures}
 use Rattle.plan_store.specs.Querying.{meaning_under, IsAtRest, Queries}
 use Rattle.plan_store.specs.Serving.{Stands, IsReady, Asks, Changes}
+use Rattle.plan_store.proofs.EnduringLemmas.{endures_then}
 
 -- what a statement that reads, or that failed, leaves of a connection
 abbrev pub Rests : State → State → Type 0
@@ -38,13 +40,14 @@ module _ (old new : State) (rest : IsAtRest old) (honesty : HasCleanDisk new →
   }
 
   pub queries : {X : Type 0} (r : Result X BookFault) (Is : X → Type 0) → new.in_transaction ≡ false
-      → IfOk r (λ x. HasCleanDisk new → IsTrue new.is_open × Is x) → (HasCleanDisk new → (trees : Trees) → new.may_leave trees → old.may_leave trees) → Queries old new r Is
-  queries r Is outside answer crash = record {
+      → IfOk r (λ x. HasCleanDisk new → IsTrue new.is_open × Is x) → (HasCleanDisk new → (trees : Trees) → new.may_leave trees → old.may_leave trees) → Endures old new → Queries old new r Is
+  queries r Is outside answer crash endures = record {
     rest = at_rest outside;
     honesty = honesty;
     same = λ clean live. let it = stays clean live in (it.0, it.1);
     answer = answer;
     crash = crash;
+    endures = endures;
   }
 
 -- two queries, one after another
@@ -59,6 +62,7 @@ queries_then a b c r Is q Other out Last one two answer = record {
       (early.0, late.1 ∙ early.1);
   answer = answer;
   crash = λ clean trees may. one.crash (two.honesty clean) trees (two.crash clean trees may);
+  endures = endures_then a b c two.honesty one.endures two.endures;
 }
 
 -- a store that stands is at rest
@@ -81,12 +85,13 @@ asks_from old new ready r Is Other f it = record {
       let live = (it.same clean (h clean).0).0 in
       ((h clean).0, f x (ready.stands (it.honesty clean) live) (h clean).1)) it.answer;
   crash = it.crash;
+  endures = it.endures;
 }
 
 -- what is made of an answer
 pub asks_again : (old new : State) {X Y : Type 0} (r : Result X BookFault) (Is : X → Type 0) (q : Result Y BookFault) (Other : Y → Type 0) → Asks old new r Is
     → IfOk q (λ y. HasCleanDisk new → IsTrue new.is_open × Other y) → Asks old new q Other
-asks_again old new r Is q Other it answer = record { ready = it.ready; honesty = it.honesty; same = it.same; answer = answer; crash = it.crash }
+asks_again old new r Is q Other it answer = record { ready = it.ready; honesty = it.honesty; same = it.same; answer = answer; crash = it.crash; endures = it.endures }
 
 -- two calls that read, one after another
 pub asks_then : (a b c : State) {X Y Z : Type 0} (r : Result X BookFault) (Is : X → Type 0) (q : Result Y BookFault) (Other : Y → Type 0) (out : Result Z BookFault) (Last : Z → Type 0)
@@ -100,6 +105,7 @@ asks_then a b c r Is q Other out Last one two answer = record {
       (early.0, late.1 ∙ early.1);
   answer = answer;
   crash = λ clean trees may. one.crash (two.honesty clean) trees (two.crash clean trees may);
+  endures = endures_then a b c two.honesty one.endures two.endures;
 }
 
 -- a call that reads, and then one that changes
@@ -115,6 +121,7 @@ asks_then_changes a b c r Is (Ok done) change one two = record {
   same = tt;
   durable = two.durable;
   crash = tt;
+  endures = endures_then a b c two.honesty one.endures two.endures;
 }
 asks_then_changes a b c r Is (Err fault) change one two = record {
   ready = two.ready;
@@ -129,6 +136,7 @@ asks_then_changes a b c r Is (Err fault) change one two = record {
         let early = one.same (two.honesty clean) made.0 in
         inr (early.0, made.1, made.2 ∙ ap (λ (d : Database). change (world_of d.trees)) early.1)
   ];
+  endures = endures_then a b c two.honesty one.endures two.endures;
 }
 
 -- a call that read and went no further
@@ -142,6 +150,7 @@ asks_then_fails old new r Is fault change it q is = subst (λ k. Changes old new
   same = λ clean live. (it.same clean live).1;
   durable = tt;
   crash = λ clean trees may. inl (it.crash clean trees may);
+  endures = it.endures;
 })
 
 -- ---- a query

@@ -9,6 +9,7 @@ pub mod CodecLemmas
 pub mod TableLemmas
 pub mod StepLemmas
 pub mod StatementLemmas
+pub mod EnduringLemmas
 pub mod ServingLemmas
 pub mod AskingLemmas
 pub mod QueryLemmas

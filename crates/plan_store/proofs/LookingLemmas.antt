@@ -9,6 +9,7 @@ use Rattle.plan_store.specs.Querying.{IsAtRest, Queries}
 use Rattle.plan_store.specs.Layouts.{schema_of, AreInOrder}
 use Rattle.plan_store.specs.Opening.{IsLaid, IsReadable, Looks}
 use Rattle.plan_store.proofs.AskingLemmas.{if_ok}
+use Rattle.plan_store.proofs.EnduringLemmas.{endures_then}
 
 module _ (layout : Layout) where
   -- tables that are laid out are at rest
@@ -41,12 +42,13 @@ module _ (layout : Layout) where
         let live = (it.same clean (h clean).0).0 in
         ((h clean).0, f x (ready.laid (it.honesty clean) live) (h clean).1)) it.answer;
     crash = it.crash;
+    endures = it.endures;
   }
 
   -- what is made of an answer
   pub looks_again : (old new : State) {X Y : Type 0} (r : Result X BookFault) (Is : X → Type 0) (q : Result Y BookFault) (Other : Y → Type 0)
       → Looks layout old new r Is → IfOk q (λ y. HasCleanDisk new → IsTrue new.is_open × Other y) → Looks layout old new q Other
-  looks_again old new r Is q Other it answer = record { ready = it.ready; honesty = it.honesty; same = it.same; answer = answer; crash = it.crash }
+  looks_again old new r Is q Other it answer = record { ready = it.ready; honesty = it.honesty; same = it.same; answer = answer; crash = it.crash; endures = it.endures }
 
   -- what is known of an answer, said otherwise
   pub looks_map : (old new : State) → IsReadable layout old → {X : Type 0} (r : Result X BookFault) (Is Other : X → Type 0) → ((x : X) → IsLaid layout old → Is x → Other x)
@@ -67,6 +69,7 @@ module _ (layout : Layout) where
         (early.0, late.1 ∙ early.1);
     answer = answer;
     crash = λ clean trees may. one.crash (two.honesty clean) trees (two.crash clean trees may);
+    endures = endures_then a b c two.honesty one.endures two.endures;
   }
 
   -- what two calls answer, one after another, of the same tables

@@ -199,6 +199,7 @@ module _ {S : Type 0} (g : Ghosts S) (old new : Held S) (first : HasCleanDisk (s
     cause = tt;
     kept = tt;
     crash = tt;
+    is_open = tt;
   })
 
   no_cause : (fault : StoreFault) (db : Database) → fault ≢ NotOurs → fault ≢ Version → Rattle.plan_store.specs.Adopting.IsCause fault db
@@ -206,6 +207,12 @@ module _ {S : Type 0} (g : Ghosts S) (old new : Held S) (first : HasCleanDisk (s
   no_cause Version db ours known = absurd (known refl)
   no_cause NoMemory db ours known = tt
   no_cause Store db ours known = tt
+
+  no_other : (fault : StoreFault) → fault ≢ NotOurs → fault ≢ Version → Rattle.plan_store.specs.Adopting.IsOpenAfter fault (state g new)
+  no_other NotOurs ours known = absurd (ours refl)
+  no_other Version ours known = absurd (known refl)
+  no_other NoMemory ours known = tt
+  no_other Store ours known = tt
 
   pub migrated_none : (IsTrue (state g old).is_open → (state g old).now ≡ (state g old).committed)
       → (HasCleanDisk (state g new) → IsTrue (state g new).is_open → IsTrue (state g old).is_open × ((state g new).now ≡ (state g old).committed) × ((state g new).committed ≡ (state g old).committed))
@@ -218,6 +225,7 @@ module _ {S : Type 0} (g : Ghosts S) (old new : Held S) (first : HasCleanDisk (s
     cause = λ clean. no_cause fault (state g old).now ours known;
     kept = λ clean live. let it = neither clean live in it.1 ∙ sym (settled it.0);
     crash = λ clean trees may. left clean trees (survives.crash clean trees may);
+    is_open = no_other fault ours known;
   })
     where
       left : HasCleanDisk (state g new) → (trees : Trees) → (state g old).may_leave trees ⊎ MayMake g migration old trees

@@ -23,6 +23,7 @@ use Rattle.plan_store.specs.Reviewed.{IsGoodPlan, ReviewsPlans}
 use Rattle.plan_store.specs.Opening.{IsLaid, IsReadable, Looks, HoldsOthers, IsJudged, world_others}
 use Rattle.plan_store.proofs.HoldsLemmas.{plans_hold}
 use Rattle.plan_store.proofs.LookingLemmas.{looks_again}
+use Rattle.plan_store.proofs.EnduringLemmas.{endures_itself}
 
 -- both layouts have the same plans and the same office
 same_office : (layout : Layout) (trees : Trees) → (world_in layout trees).office ≡ (world_of trees).office
@@ -77,4 +78,4 @@ module _ (layout : Layout) (old new : State) (ready : IsReadable layout old) whe
 
 -- nothing was asked
 pub looks_nowhere : (layout : Layout) (s : State) → IsReadable layout s → {X : Type 0} (r : Result X BookFault) (Is : X → Type 0) → IfOk r (λ x. HasCleanDisk s → IsTrue s.is_open × Is x) → Looks layout s s r Is
-looks_nowhere layout s ready r Is answer = record { ready = ready; honesty = λ clean. clean; same = λ clean live. (live, refl); answer = answer; crash = λ clean trees may. may }
+looks_nowhere layout s ready r Is answer = record { ready = ready; honesty = λ clean. clean; same = λ clean live. (live, refl); answer = answer; crash = λ clean trees may. may; endures = endures_itself s }

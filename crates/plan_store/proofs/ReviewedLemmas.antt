@@ -27,6 +27,8 @@ use Rattle.plan_store.specs.declared.reviewing.Next.{Next}
 use Rattle.plan_store.specs.declared.reviewing.Next.TheVariants.{Good, Bad, End}
 use Rattle.plan_store.specs.Rows.{written_plan, read_plan}
 use Rattle.plan_store.specs.Taking.{HoldsPlan, TakesRow}
+use Rattle.plan_store.specs.Enduring.{Endures}
+use Rattle.plan_store.proofs.EnduringLemmas.{endures_then, endures_by}
 use Rattle.plan_store.specs.Querying.{meaning_under, IsQueryUnder, IsAtRest, Queries}
 use Rattle.plan_store.specs.Reviewed.{TakesGood, ReviewsRow, ComesNext, Stays, Leaves, Goes, Reviews, ReviewsRows, ReviewsRest, ReviewsPlans}
 use Rattle.plan_store.proofs.CodecLemmas.{plan_back}
@@ -88,8 +90,8 @@ module _ (old new : State) (rest : IsAtRest old) (honesty : HasCleanDisk new →
 
   -- rows that were read one at a time
   pub queries_by : {X : Type 0} (r : Result X BookFault) (Is : X → Type 0) → new.in_transaction ≡ false → IfOk r (λ x. HasCleanDisk new → IsTrue new.is_open × Is x)
-      → (HasCleanDisk new → (trees : Trees) → new.may_leave trees → old.may_leave trees) → Queries old new r Is
-  queries_by r Is outside answer crash = record {
+      → (HasCleanDisk new → (trees : Trees) → new.may_leave trees → old.may_leave trees) → Endures old new → Queries old new r Is
+  queries_by r Is outside answer crash endures = record {
     rest = record {
       outside = outside;
       settled = λ clean live. let same = stayed clean live in same.1 ∙ rest.settled (honesty clean) same.0 ∙ sym same.2;
@@ -98,6 +100,7 @@ module _ (old new : State) (rest : IsAtRest old) (honesty : HasCleanDisk new →
     same = λ clean live. let it = stayed clean live in (it.0, it.1);
     answer = answer;
     crash = crash;
+    endures = endures;
   }
 
 -- ---- the rows so far
@@ -232,6 +235,7 @@ module _ {S : Type 0} (g : Ghosts S) (old mid new : Held S) (rest : IsAtRest (st
         ]
         | inr none ↦ absurd none
       ])
+      (endures_then (state g old) (state g mid) (state g new) late (endures_by (state g old) (state g mid) _ one) (endures_by (state g mid) (state g new) _ two))
 
   -- it was refused
   pub rows_refused : (error : Error) → (HasCleanDisk (state g mid) → FailsToQuery text [] (state g old) (state g mid) error) → (old.in_transaction ≡ false → mid.in_transaction ≡ false)
@@ -243,3 +247,4 @@ module _ {S : Type 0} (g : Ghosts S) (old mid new : Held S) (rest : IsAtRest (st
         | inl first ↦ first
         | inr made ↦ absurd (never_commits text [] (state g old) trees (query (early clean)).plain made)
       ])
+      (endures_by (state g old) (state g mid) _ one)

@@ -12,6 +12,7 @@ use Rattle.plan_store.specs.Stores.{world_of, IsStore}
 use Rattle.plan_store.specs.Running.{Statement, LeavesAll, MayMake, Makes}
 use Rattle.plan_store.specs.Serving.{Stands, IsReady, IsStoreLeft, IsKept, Changes}
 use Rattle.plan_store.proofs.StepLemmas.{Steps}
+use Rattle.plan_store.proofs.EnduringLemmas.{endures_by}
 
 pub store_left : (db : Database) → IsStore db → IsStoreLeft db.trees
 store_left db it = subst IsStore (λ i. record { schema = it.schema i; trees = db.trees }) it
@@ -111,6 +112,7 @@ module _ {S : Type 0} (g : Ghosts S) (old : Held S) (ready : IsReady (state g ol
       same = tt;
       durable = λ clean trees may. let it = made clean in settled trees it.0 may ∙ sym (ap (λ (d : Database). d.trees) it.1);
       crash = tt;
+      endures = endures_by (state g old) (state g new) _ survives;
     })
 
     -- where it is refused, they are as they were, and a crash may leave the change
@@ -141,6 +143,7 @@ module _ {S : Type 0} (g : Ghosts S) (old : Held S) (ready : IsReady (state g ol
                 let it = makes (was_clean clean) made.0 made.1 in
                 inr (it.0, subst IsStoreLeft (sym made.2) (store_left made.0 it.1), ap world_of made.2 ∙ it.2)
           ];
+          endures = endures_by (state g old) (state g new) _ survives;
         })
 
 -- a change said otherwise
@@ -154,6 +157,7 @@ module _ (old new : State) (f h : World → World) (same : HasCleanDisk old → 
     same = tt;
     durable = it.durable;
     crash = tt;
+    endures = it.endures;
   }
   changes_as (Err fault) it = record {
     ready = it.ready;
@@ -163,4 +167,5 @@ module _ (old new : State) (f h : World → World) (same : HasCleanDisk old → 
     same = it.same;
     durable = tt;
     crash = λ clean trees may. elim (it.crash clean trees may) [ inl before ↦ inl before | inr made ↦ inr (made.0, made.1, made.2 ∙ same (it.honesty clean) made.0) ];
+    endures = it.endures;
   }

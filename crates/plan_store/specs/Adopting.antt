@@ -54,6 +54,12 @@ IsCause NotOurs db = ¬ IsOffice db × ¬ IsOfUnknownVersion db
 IsCause Version db = IsOfUnknownVersion db
 IsCause _ db = Unit {0}
 
+-- tables that aren't an office's, or of no known version, were seen to the end: they are open
+abbrev pub IsOpenAfter : StoreFault → State → Type 0
+IsOpenAfter NotOurs s = HasCleanDisk s → IsTrue s.is_open
+IsOpenAfter Version s = HasCleanDisk s → IsTrue s.is_open
+IsOpenAfter _ s = Unit {0}
+
 -- The tables are taken, and a crash leaves them and nothing else; or they stay as they are, and a
 -- crash may leave what it might before, or migrated tables, if there is no other cause.
 pub record Takes (old new : State) {X : Type 0} (result : Result X StoreFault) : Type 0 where
@@ -66,6 +72,7 @@ pub record Takes (old new : State) {X : Type 0} (result : Result X StoreFault) :
   pub kept : OnErr result (HasCleanDisk new → IsTrue new.is_open → new.now ≡ old.now)
   pub crash : IfErr result (λ fault. HasCleanDisk new → (trees : Trees) → new.may_leave trees
       → old.may_leave trees ⊎ ((fault ≢ NotOurs) × (fault ≢ Version) × IsMigrated old.now trees))
+  pub is_open : IfErr result (λ fault. IsOpenAfter fault new)
 
 -- ---- what is handed back
 
@@ -89,6 +96,11 @@ module _ {S : Type 0} (g : Ghosts S) where
   HasTables (left.Store store) db =
       IsClean (g.view store) → IsTrue (g.view store).is_open → (g.view store).trees ≡ db.trees
 
+  -- a connection that comes back for another cause than want of memory or the store is open
+  abbrev pub IsOpenLeft : StoreFault → Leftover S → Type 0
+  IsOpenLeft fault (left.Connection conn) = IsOpenAfter fault (state g conn)
+  IsOpenLeft fault (left.Store store) = Unit {0}
+
   -- what a crash may leave
   abbrev pub may_be_left : Leftover S → Trees → Type 0
   may_be_left (left.Connection conn) = (state g conn).may_leave
@@ -99,6 +111,7 @@ module _ {S : Type 0} (g : Ghosts S) where
     pub honesty : IsHonest leftover → HasCleanDisk old
     pub cause : IsHonest leftover → IsCause fault old.now
     pub whole : IsWhole fault leftover
+    pub is_open : IsOpenLeft fault leftover
     pub kept : HasTables leftover old.now
     pub crash : IsHonest leftover → (trees : Trees) → may_be_left leftover trees
         → old.may_leave trees ⊎ ((fault ≢ NotOurs) × (fault ≢ Version) × IsMigrated old.now trees)

@@ -3,6 +3,8 @@ pub mod Kept
 pub mod Rows
 pub mod Stores
 pub mod Running
+pub mod Enduring
+pub mod Faults
 pub mod Serving
 pub mod Shown
 pub mod SqlBooks

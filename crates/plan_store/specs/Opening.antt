@@ -10,6 +10,7 @@ use Rattle.plan_rows.specs.Tables.{desk_kept, bind_kept, lag_kept}
 use Rattle.plan_rows.specs.World.{Plan, World}
 use Rattle.plan_store.specs.declared.taking.OtherRows.{OtherRows}
 use Rattle.plan_store.specs.declared.layout.Layout.{Layout}
+use Rattle.plan_store.specs.Enduring.{Endures}
 use Rattle.plan_store.specs.Kept.{Keeps}
 use Rattle.plan_store.specs.Rows.{read_code, written_code, read_desk, written_desk, read_bind, written_bind}
 use Rattle.plan_store.specs.Layouts.{schema_of, meta_at, world_in, KeepsLags, IsOfficeAt}
@@ -32,6 +33,7 @@ pub record Looks (layout : Layout) (old new : State) {X : Type 0} (result : Resu
   pub same : HasCleanDisk new → IsTrue new.is_open → IsTrue old.is_open × (new.now ≡ old.now)
   pub answer : IfOk result (λ x. HasCleanDisk new → IsTrue new.is_open × Is x)
   pub crash : HasCleanDisk new → (trees : Trees) → new.may_leave trees → old.may_leave trees
+  pub endures : Endures old new
 
 -- the rows of all tables, where these are the plans
 abbrev pub world_others : OtherRows → List Plan → World

@@ -8,6 +8,7 @@ use Rattle.sqlite.specs.Listing.{understood, reads_listing}
 use Rattle.sqlite.specs.State.{State, HasCleanDisk}
 use Rattle.sqlite.proofs.Callers.{command_of}
 use Rattle.plan_rows.specs.declared.fault.BookFault.{BookFault}
+use Rattle.plan_store.specs.Enduring.{Endures}
 
 -- what a text means under a schema
 abbrev pub meaning_under : Schema → List ℕ → Command
@@ -30,3 +31,4 @@ pub record Queries (old new : State) {X : Type 0} (result : Result X BookFault) 
   pub same : HasCleanDisk new → IsTrue new.is_open → IsTrue old.is_open × (new.now ≡ old.now)
   pub answer : IfOk result (λ x. HasCleanDisk new → IsTrue new.is_open × Is x)
   pub crash : HasCleanDisk new → (trees : Trees) → new.may_leave trees → old.may_leave trees
+  pub endures : Endures old new

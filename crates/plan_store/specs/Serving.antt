@@ -9,6 +9,7 @@ use Rattle.plan_rows.specs.Changes.{changed, new_plan}
 use Rattle.plan_rows.specs.World.{Text, World, is_desk}
 use Rattle.plan_rows.specs.Rules.{IsWorld}
 use Rattle.plan_store.specs.Tables.{store_schema}
+use Rattle.plan_store.specs.Enduring.{Endures}
 use Rattle.plan_store.specs.Stores.{world_of, IsStore}
 
 -- a store that is open, outside a transaction, with nothing left to commit
@@ -40,6 +41,7 @@ module _ (old new : State) where
     pub same : HasCleanDisk new → IsTrue new.is_open → IsTrue old.is_open × (new.now ≡ old.now)
     pub answer : IfOk result (λ x. HasCleanDisk new → IsTrue new.is_open × Is x)
     pub crash : HasCleanDisk new → (trees : Trees) → new.may_leave trees → old.may_leave trees
+    pub endures : Endures old new
 
   -- The change is made whole and stays after a crash; or it isn't made, and a crash may leave it.
   pub record Changes {X : Type 0} (result : Result X BookFault) (change : World → World) : Type 0 where
@@ -54,6 +56,7 @@ module _ (old new : State) where
     pub crash : OnErr result (HasCleanDisk new → (trees : Trees) → new.may_leave trees
         → old.may_leave trees ⊎ (IsTrue old.is_open × IsStoreLeft trees
         × (world_of trees ≡ change (world_of old.now.trees))))
+    pub endures : Endures old new
 
 -- Tables after a change keep the rules of rows, as far as they can be seen.
 abbrev pub IsKept : State → (World → World) → Type 0

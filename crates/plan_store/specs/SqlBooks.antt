@@ -1,26 +1,30 @@
 -- What contracts see of a book in SQL (docs/DEFINITIONS.md, "Tables").
 use Rattle.std.specs.Prelude.{ℕ, IsTrue, Some, refl}
 use Rattle.std.proofs.Common.{sym, subst, ap}
+use Rattle.std.proofs.Math.Logic.{∥∥₁_elim}
 use Rattle.std.specs.Coded.{Coded, code_by, coded×, coded_ℕ}
+use Rattle.sqlite_trees.specs.Tree.{Trees}
 use Rattle.sqlite_trees.specs.declared.store.Store.{Ghosts}
 use Rattle.sqlite.specs.Effect.{Database}
 use Rattle.sqlite.specs.State.{State, HasCleanDisk}
 use Rattle.sqlite.specs.Held.{Held, held_code, state}
 use Rattle.plan_rows.specs.Books.{Shelf}
 use Rattle.plan_store.specs.Stores.{world_of, IsStore}
-use Rattle.plan_store.specs.Serving.{Stands, may_leave}
+use Rattle.plan_store.specs.Serving.{Stands, IsStoreLeft, may_leave}
 
--- A book is seen as its connection, and how many writing calls were made and refused
+-- A book is seen as its connection, how many writing calls were made and refused, and how many
+-- calls the store refused.
 pub record Counted (S : Type 0) : Type 0 where
   pub conn : Held S
   pub made : ℕ
   pub refused : ℕ
+  pub denials : ℕ
 
 abbrev pub book_code : {S : Type 0} → Coded S → Coded (Counted S)
 book_code {S} store =
-    code_by (Held S × (ℕ × ℕ)) (coded× (held_code store) (coded× coded_ℕ coded_ℕ))
-    (λ b. (b.conn, (b.made, b.refused)))
-    (λ p. record { conn = p.0; made = p.1.0; refused = p.1.1 }) (λ _. refl)
+    code_by (Held S × (ℕ × (ℕ × ℕ))) (coded× (held_code store) (coded× coded_ℕ (coded× coded_ℕ coded_ℕ)))
+    (λ b. (b.conn, (b.made, (b.refused, b.denials))))
+    (λ p. record { conn = p.0; made = p.1.0; refused = p.1.1.0; denials = p.1.1.1 }) (λ _. refl)
 
 -- It may refuse, and stands as long as its store is open.
 abbrev pub sql_shelf : {S : Type 0} → Ghosts S → Shelf (Counted S)
@@ -32,6 +36,8 @@ sql_shelf {S} g = record {
   may_leave = λ book. may_leave (state g book.conn);
   made = λ book. book.made;
   refused = λ book. book.refused;
+  denials = λ book. book.denials;
+  faults = λ book. (state g book.conn).faults;
 }
 
 -- a crash may leave what the tables hold
@@ -40,3 +46,10 @@ pub sql_now_may : (s : State) → Stands s → (IsTrue s.is_open → s.may_leave
 sql_now_may s stands stays =
     let left = subst IsStore (λ i. record { schema = stands.store.schema i; trees = s.now.trees }) stands.store in
     (s.now.trees, subst s.may_leave (sym (ap (λ (d : Database). d.trees) stands.settled)) (stays stands.is_open), left, refl)
+
+-- trees that may be left are those of a store, or they aren't
+pub sql_leaves : (left : Trees → Type 0) → ∥ ((trees : Trees) × left trees) ∥₁
+    → ((trees : Trees) → left trees → IsStoreLeft trees → ⊥)
+    → ((trees : Trees) → left trees → ¬ IsStoreLeft trees → ⊥) → ⊥
+sql_leaves left some ours others = ∥∥₁_elim some (λ x y. absurd x)
+    (λ it. others it.0 it.1 (λ store. ours it.0 it.1 store))

@@ -1,13 +1,14 @@
-//! How often a book in SQL was written to, and how often it refused.
+//! How often a book in SQL was written to, and how often it or its store refused.
 
-ghost use Rattle.std.specs.Prelude.{◌≡◌, ◌+◌, ℕ, OnOk, OnErr, if◌then◌else◌};
+ghost use Rattle.std.specs.Prelude.{◌≡◌, ◌+◌, ℕ, IfErr, OnOk, OnErr, if◌then◌else◌};
 ghost use Rattle.std.specs.Borrow.{ftrue};
+ghost use Rattle.plan_rows.specs.declared.fault.BookFault.TheVariants.{NoMemory, Store};
 
 use plan_rows::BookFault;
 use std::marker::Model;
 
-/// The writing calls of one book, and those of them that it refused. Contracts alone see these
-/// numbers: it takes no bytes, and nothing can overflow.
+/// The calls of one book, and those of them that were refused. Contracts alone see these numbers: it
+/// takes no bytes, and nothing can overflow.
 #[derive(Drop)]
 pub struct Calls {
     pub ghost made: { ℕ },
@@ -35,6 +36,19 @@ impl Calls {
             ((self.new.made ≡ self.old.made) × (self.new.refused ≡ self.old.refused + 1)) }
     {
         *self = self.with_call(answer.is_ok());
+        answer
+    }
+
+    /// Counts a call as refused where the store refused it, and as made where it answered anything
+    /// else.
+    pub fn note<X>(&mut self, answer: Result<X, BookFault>) -> Result<X, BookFault>
+        ensures answer { result ≡ answer }
+        ensures told { OnOk result (self.new.refused ≡ self.old.refused) }
+        ensures wanted { IfErr result (λ fault. fault ≡ NoMemory → self.new.refused ≡ self.old.refused) }
+        ensures denied { IfErr result (λ fault. fault ≡ Store → self.new.refused ≡ self.old.refused + 1) }
+    {
+        let is_denied = matches!(&answer, Err(BookFault::Store));
+        *self = self.with_call(!is_denied);
         answer
     }
 

@@ -1,7 +1,8 @@
 //! Faults of a store, and faults of a connection as faults of a book.
 
-ghost use Rattle.std.specs.Prelude.{◌≢◌};
+ghost use Rattle.std.specs.Prelude.{◌≡◌, ◌≢◌};
 ghost use Rattle.plan_store.specs.declared.fault.StoreFault.TheVariants.{NotOurs, Version};
+ghost use Rattle.plan_store.specs.Faults.{book_fault, making_fault};
 
 use plan_rows::BookFault;
 use sqlite::{Error, ErrorCode};
@@ -26,7 +27,9 @@ pub enum StoreFault {
 }
 
 // Want of memory is told as such, and all else is the store's.
-pub(crate) fn fault_of(error: &Error) -> BookFault {
+pub(crate) fn fault_of(error: &Error) -> BookFault
+    ensures { result ≡ book_fault error.now }
+{
     match error {
         Error::SqliteFailure(ErrorCode::OutOfMemory) => BookFault::NoMemory,
         _ => BookFault::Store,
@@ -37,6 +40,7 @@ pub(crate) fn fault_of(error: &Error) -> BookFault {
 pub(crate) fn store_fault_of(error: &Error) -> StoreFault
     ensures ours { result ≢ NotOurs }
     ensures known { result ≢ Version }
+    ensures told { result ≡ making_fault (book_fault error.now) }
 {
     match error {
         Error::SqliteFailure(ErrorCode::OutOfMemory) => StoreFault::NoMemory,

@@ -38,7 +38,10 @@ use std::marker::Model;
 pub struct SqlBook<S: Alter> {
     alloc: Global,
     conn: Connection<S>,
+    // the writing calls
     calls: Calls,
+    // all calls, by whether the store refused them
+    denials: Calls,
 }
 
 impl<S: Alter> Model for SqlBook<S> {
@@ -50,7 +53,12 @@ impl<S: Alter> Model for SqlBook<S> {
 
     ghost coded = { book_code S.code };
 
-    ghost view = { λ b. record { conn = b.conn; made = b.calls.made; refused = b.calls.refused } };
+    ghost view = { λ b. record {
+      conn = b.conn;
+      made = b.calls.made;
+      refused = b.calls.refused;
+      denials = b.denials.refused;
+    } };
 
     ghost invariant = { λ b. IsReady (state S.Store b.conn) };
 }
@@ -87,6 +95,7 @@ impl<S: Alter> SqlBook<S> {
                 alloc,
                 conn,
                 calls: Calls::new(),
+                denials: Calls::new(),
             }),
             Err(fault) => Err((fault, conn)),
         }
@@ -101,6 +110,7 @@ impl<S: Alter> SqlBook<S> {
             alloc: _,
             conn,
             calls: _,
+            denials: _,
         } = self;
         conn
     }
@@ -132,6 +142,7 @@ impl<S: Alter + Drop> SqlBook<S> {
                 alloc,
                 conn,
                 calls: Calls::new(),
+                denials: Calls::new(),
             }),
             Err(fault) => Err((fault, Leftover::Connection(conn))),
         }
@@ -158,7 +169,9 @@ impl SqlBook<MemStore> {
 }
 
 impl<S: Alter> Book for SqlBook<S> {
-    ghost use Rattle.plan_store.specs.SqlBooks.{sql_shelf, sql_now_may};
+    ghost use Rattle.std.specs.Prelude.{Some, None, refl};
+    ghost use Rattle.plan_store.specs.Stores.{world_of};
+    ghost use Rattle.plan_store.specs.SqlBooks.{sql_shelf, sql_now_may, sql_leaves};
 
     ghost shelf = { sql_shelf S.Store };
 
@@ -166,47 +179,61 @@ impl<S: Alter> Book for SqlBook<S> {
 
     ghost now_may = { λ book stands. sql_now_may _ stands (S.Store.stays book.conn.store) };
 
+    ghost leaves = { λ book clean none. sql_leaves _ (S.Store.survives book.conn.store clean)
+        (λ trees may store. none (Some (world_of trees)) (trees, may, store, refl))
+        (λ trees may other. none None (trees, may, other)) };
+
     fn office(&mut self) -> Result<[u8; 32], BookFault> {
-        office_in(&mut self.conn)
+        let answer = office_in(&mut self.conn);
+        self.denials.note(answer)
     }
 
     fn desk(&mut self, name: &str) -> Result<Option<DeskRow>, BookFault> {
-        desk_found(&mut self.conn, name)
+        let answer = desk_found(&mut self.conn, name);
+        self.denials.note(answer)
     }
 
     fn open_desk(&mut self, name: &str, digest: &[u8; 32]) -> Result<(), BookFault> {
         let answer = open_desk_in(&mut self.conn, name, digest);
-        self.calls.count(answer)
+        let counted = self.calls.count(answer);
+        self.denials.note(counted)
     }
 
     fn set_key(&mut self, name: &str, digest: &[u8; 32]) -> Result<(), BookFault> {
         let answer = set_key_in(&mut self.conn, name, digest);
-        self.calls.count(answer)
+        let counted = self.calls.count(answer);
+        self.denials.note(counted)
     }
 
     fn publish(&mut self, code: &str, kind: Kind, capacity: u64) -> Result<(), BookFault> {
         let answer = publish_any(&mut self.conn, code, kind, capacity);
-        self.calls.count(answer)
+        let counted = self.calls.count(answer);
+        self.denials.note(counted)
     }
 
     fn capacity(&mut self, code: &str) -> Result<Option<(Kind, u64)>, BookFault> {
-        capacity_found(&mut self.conn, code)
+        let answer = capacity_found(&mut self.conn, code);
+        self.denials.note(answer)
     }
 
     fn capacities(&mut self) -> Result<Vec<CodeRow>, BookFault> {
-        codes_in(self.alloc, &mut self.conn)
+        let answer = codes_in(self.alloc, &mut self.conn);
+        self.denials.note(answer)
     }
 
     fn plans(&mut self, desk: &str) -> Result<Vec<PlanEntry>, BookFault> {
-        plans_in(self.alloc, &mut self.conn, desk)
+        let answer = plans_in(self.alloc, &mut self.conn, desk);
+        self.denials.note(answer)
     }
 
     fn count_plans(&mut self, desk: &str) -> Result<usize, BookFault> {
-        plans_counted(&mut self.conn, desk)
+        let answer = plans_counted(&mut self.conn, desk);
+        self.denials.note(answer)
     }
 
     fn plan(&mut self, desk: &str, n: u64) -> Result<Option<PlanRow>, BookFault> {
-        plan_any(self.alloc, &mut self.conn, desk, n)
+        let answer = plan_any(self.alloc, &mut self.conn, desk, n);
+        self.denials.note(answer)
     }
 
     fn add_plan(
@@ -217,17 +244,20 @@ impl<S: Alter> Book for SqlBook<S> {
         body: &[u8],
     ) -> Result<(), BookFault> {
         let answer = add_plan_in(&mut self.conn, desk, kind, name, body);
-        self.calls.count(answer)
+        let counted = self.calls.count(answer);
+        self.denials.note(counted)
     }
 
     fn remove_plan(&mut self, desk: &str, n: u64) -> Result<(), BookFault> {
         let answer = remove_any(&mut self.conn, desk, n);
-        self.calls.count(answer)
+        let counted = self.calls.count(answer);
+        self.denials.note(counted)
     }
 
     fn bind(&mut self, desk: &str, n: u64, place: u64, code: &str) -> Result<(), BookFault> {
         let answer = bind_any(&mut self.conn, desk, n, place, code);
-        self.calls.count(answer)
+        let counted = self.calls.count(answer);
+        self.denials.note(counted)
     }
 
     fn set_calendar(
@@ -238,7 +268,8 @@ impl<S: Alter> Book for SqlBook<S> {
         days: &str,
     ) -> Result<(), BookFault> {
         let answer = set_calendar_any(&mut self.conn, desk, n, start, days);
-        self.calls.count(answer)
+        let counted = self.calls.count(answer);
+        self.denials.note(counted)
     }
 
     fn set_lag(
@@ -250,12 +281,14 @@ impl<S: Alter> Book for SqlBook<S> {
         lag: u64,
     ) -> Result<(), BookFault> {
         let answer = set_lag_any(&mut self.conn, desk, n, from, to, lag);
-        self.calls.count(answer)
+        let counted = self.calls.count(answer);
+        self.denials.note(counted)
     }
 }
 
 impl<S: Alter> Listing for SqlBook<S> {
     fn list(&mut self) -> Result<RowsByKey, BookFault> {
-        rows_in(self.alloc, &mut self.conn)
+        let answer = rows_in(self.alloc, &mut self.conn);
+        self.denials.note(answer)
     }
 }

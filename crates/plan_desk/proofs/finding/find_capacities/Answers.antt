@@ -1,4 +1,4 @@
-use Rattle.std.proofs.Common.{ap, sym, map, subst, take, ◌+◌}
+use Rattle.std.proofs.Common.{ap, sym, map, subst, take, ◌+◌, ◌∙◌}
 use Rattle.std.proofs.lemmas.List.{take_all}
 use Rattle.plan_desk.specs.Pages.{bound_in}
 use Rattle.plan_desk.specs.Finding.{HasCapacities}
@@ -16,6 +16,7 @@ pub returns-in_err-push : goal.returns-in_err-push
 returns-in_err-push g c =
     short_of_memory g.B.Book.shelf _ c.args.book.now c.find_capacity.new.book _
     (quiet_then g.B.Book.shelf _ c.all.book _ c.all.invariant.quiet c.find_capacity.ensures.quiet)
+    (c.in_ok-place.ensures.told ∙ c.all.invariant.told)
     c.from_residual-in_err-push.ensures
 
 pub all-preserved : goal.all-preserved

@@ -1,7 +1,7 @@
 use Rattle.std.proofs.Common.{sym, subst, Ok}
 use Rattle.plan_desk.specs.Deciding.{CarriesOut, Allows, change_in, owner_of}
 use Rattle.plan_desk.specs.Requests.{call_in, request_in, path_of}
-use Rattle.plan_desk.proofs.HandledLemmas.{judged_allows, handled_fully, wanted_on}
+use Rattle.plan_desk.proofs.HandledLemmas.{judged_allows, handled_fully, wanted_at_once, wanted_on}
 use Rattle.plan_desk.proofs.office.answer.Goals as goal
 
 pub carry_out-requires : goal.carry_out-requires
@@ -10,6 +10,10 @@ carry_out-requires g c =
     subst (λ path. g.B.Book.shelf.honest c.judge.new.book → g.B.Book.shelf.stands c.judge.new.book → Allows (owner_of path d.change) (g.B.Book.shelf.world c.judge.new.book) (change_in d.change))
     (sym c.path.ensures)
     (judged_allows g.B.Book.shelf (request_in c.args.request.now) (path_of (call_in c.args.request.now.call)) c.args.book.now c.judge.new.book d c.in_ok-decision.ensures.found (g.met.B.Book.whole c.judge.new.book))
+
+pub returns-in_err-decision : goal.returns-in_err-decision
+returns-in_err-decision g c =
+    wanted_at_once g.B.Book.shelf (request_in c.args.request.now) _ _ c.args.book.now c.judge.new.book _ _ c.in_err-decision.ensures.found c.from_residual.ensures
 
 pub returns-in-Err : goal.returns-in-Err
 returns-in-Err g c =

@@ -3,6 +3,7 @@ use Rattle.sqlite.specs.Values.{bound}
 use Rattle.sqlite.specs.State.{HasCleanDisk}
 use Rattle.sqlite.specs.Held.{state}
 use Rattle.plan_store.proofs.AskingLemmas.{queries, query_failed, query_shown, query_commits_nothing}
+use Rattle.plan_store.proofs.EnduringLemmas.{endures_by}
 use Rattle.plan_store.proofs.asking.shown.Goals as goal
 
 pub returns-in-Ok : goal.returns-in-Ok
@@ -17,6 +18,7 @@ returns-in-Ok g c =
       | inl before ↦ before
       | inr made ↦ absurd (query_commits_nothing c.args.statement.now.text (bound c.args.params.now) old new (c.requires.plain (was clean)) trees made)
     ])
+    (endures_by old new _ did.survives)
 
 pub returns-in-Err : goal.returns-in-Err
 returns-in-Err g c =
@@ -30,3 +32,4 @@ returns-in-Err g c =
       | inl before ↦ before
       | inr made ↦ absurd (query_commits_nothing c.args.statement.now.text (bound c.args.params.now) old new (c.requires.plain (was clean)) trees made)
     ])
+    (endures_by old new _ did.survives)

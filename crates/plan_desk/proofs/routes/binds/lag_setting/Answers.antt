@@ -7,7 +7,7 @@ use Rattle.plan_desk.specs.Replies.{reply_of}
 use Rattle.plan_desk.specs.RouteRefusals.{lag_refusal_of}
 use Rattle.plan_desk.specs.PlanRoutes.{SetsLag}
 use Rattle.plan_desk.specs.Finding.{FindsPlan}
-use Rattle.plan_desk.proofs.DecidingLemmas.{found_other}
+use Rattle.plan_desk.proofs.DecidingLemmas.{found_other, short_of_memory}
 use Rattle.plan_desk.proofs.RouteLemmas.{decides_kept, decides_made}
 use Rattle.plan_desk.proofs.FoundFileLemmas.{unread}
 use Rattle.plan_desk.proofs.BindLemmas.{sets_lag_nowhere, sets_lag_nothing, sets_lag_not, sets_lag_so}
@@ -56,6 +56,10 @@ returns-in-Some-lag_refusal g c =
     (sets_lag_not (view desk w) text body c.in-Some.found c.in_ok-project.project (lag_body_in c.in-Some-2.body) (reply_of c.in-Some-lag_refusal.refusal)
     (subst (FindsPlan (view desk w) text) c.in-Some.is is) c.in_ok-project.ensures.said says
     (ap (lag_refusal_of (Some (lag_body_in c.in-Some-2.body))) (sym c.as_ref.ensures.value) ∙ refused)))
+
+pub returns-in_err-lag_answer : goal.returns-in_err-lag_answer
+returns-in_err-lag_answer g c =
+    short_of_memory g.B.Book.shelf _ c.args.book.now c.find_plan.new.book _ c.in_ok-found.ensures.quiet c.in_ok-found.ensures.told c.from_residual-in_err-lag_answer.ensures
 
 pub returns : goal.returns
 returns g c =

@@ -1,0 +1,15 @@
+use Rattle.std.proofs.Common.{◌≡◌, length, refl, subst}
+use Rattle.plan_rows.specs.Views.{view}
+use Rattle.plan_rows.specs.Books.{Reads}
+use Rattle.plan_store.specs.SqlBooks.{Counted, sql_shelf}
+use Rattle.plan_store.proofs.BookLemmas.{reads_from}
+use Rattle.plan_store.proofs.sql_book.SqlBookBook.count_plans.Goals as goal
+
+pub returns : goal.returns
+returns g c =
+    let at = c.self.inside in
+    let was : Counted g.row.S.Denot = record { conn = at.conn; made = at.calls.made; refused = at.calls.refused; denials = at.denials.refused } in
+    let now : Counted g.row.S.Denot = record { conn = c.plans_counted-answer.new.conn; made = at.calls.made; refused = at.calls.refused; denials = c.note.new.self.refused } in
+    subst (λ old. Reads (sql_shelf g.S.Store) old now c.note.result (λ count. count ≡ length (view c.args.desk.now ((sql_shelf g.S.Store).world old)).plans)) c.self.view_is
+    (reads_from g.S.Store was now c.self.invariant c.plans_counted-answer.result c.note.result _ c.note.ensures.answer c.plans_counted-answer.ensures refl refl
+    (record { told = c.note.ensures.told; wanted = c.note.ensures.wanted; denied = c.note.ensures.denied }))

@@ -1,0 +1,14 @@
+use Rattle.std.proofs.Common.{◌≡◌, refl, subst}
+use Rattle.plan_rows.specs.Books.{Reads}
+use Rattle.plan_store.specs.SqlBooks.{Counted, sql_shelf}
+use Rattle.plan_store.proofs.BookLemmas.{reads_from}
+use Rattle.plan_store.proofs.sql_book.SqlBookBook.office.Goals as goal
+
+pub returns : goal.returns
+returns g c =
+    let at = c.self.inside in
+    let was : Counted g.row.S.Denot = record { conn = at.conn; made = at.calls.made; refused = at.calls.refused; denials = at.denials.refused } in
+    let now : Counted g.row.S.Denot = record { conn = c.office_in-answer.new.conn; made = at.calls.made; refused = at.calls.refused; denials = c.note.new.self.refused } in
+    subst (λ old. Reads (sql_shelf g.S.Store) old now c.note.result (λ digest. digest ≡ ((sql_shelf g.S.Store).world old).office)) c.self.view_is
+    (reads_from g.S.Store was now c.self.invariant c.office_in-answer.result c.note.result _ c.note.ensures.answer c.office_in-answer.ensures refl refl
+    (record { told = c.note.ensures.told; wanted = c.note.ensures.wanted; denied = c.note.ensures.denied }))

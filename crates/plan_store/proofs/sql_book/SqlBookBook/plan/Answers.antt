@@ -1,0 +1,17 @@
+use Rattle.std.proofs.Common.{refl, subst}
+use Rattle.std.specs.Prelude.{find}
+use Rattle.plan_rows.specs.Views.{view}
+use Rattle.plan_rows.specs.Plans.{has_number}
+use Rattle.plan_rows.specs.Books.{Reads, Matches, IsPlanAnswer}
+use Rattle.plan_store.specs.SqlBooks.{Counted, sql_shelf}
+use Rattle.plan_store.proofs.BookLemmas.{reads_from}
+use Rattle.plan_store.proofs.sql_book.SqlBookBook.plan.Goals as goal
+
+pub returns : goal.returns
+returns g c =
+    let at = c.self.inside in
+    let was : Counted g.row.S.Denot = record { conn = at.conn; made = at.calls.made; refused = at.calls.refused; denials = at.denials.refused } in
+    let now : Counted g.row.S.Denot = record { conn = c.plan_any-answer.new.conn; made = at.calls.made; refused = at.calls.refused; denials = c.note.new.self.refused } in
+    subst (λ old. Reads (sql_shelf g.S.Store) old now c.note.result (Matches (IsPlanAnswer (view c.args.desk.now ((sql_shelf g.S.Store).world old))) (find (has_number c.args.n) (view c.args.desk.now ((sql_shelf g.S.Store).world old)).plans))) c.self.view_is
+    (reads_from g.S.Store was now c.self.invariant c.plan_any-answer.result c.note.result _ c.note.ensures.answer c.plan_any-answer.ensures refl refl
+    (record { told = c.note.ensures.told; wanted = c.note.ensures.wanted; denied = c.note.ensures.denied }))

@@ -1,0 +1,10 @@
+-- What each call on a connection keeps of it, whatever it answers (docs/DEFINITIONS.md, "Tables").
+use Rattle.std.specs.Prelude.{◌⊎◌, ◌≤◌, IsTrue}
+use Rattle.sqlite_disk.specs.Disk.{MoreFaults}
+use Rattle.sqlite.specs.State.{State, HasCleanDisk}
+
+-- no fault of the disk is forgotten, and only a counted one shuts the store
+pub record Endures (old new : State) : Type 0 where
+  pub counts : old.faults ≤ new.faults
+  pub closes : HasCleanDisk new → IsTrue old.is_open
+      → IsTrue new.is_open ⊎ MoreFaults old.faults new.faults
