@@ -1,6 +1,6 @@
 -- Steps of one machine take turns, so that their times lie between the least head and the end by
 -- the least tail.
-use Rattle.std.proofs.Common.{◌≡◌, ◌∙◌, ℕ, suc, ◌+◌, ◌-◌, ◌≤◌, ◌<◌, ◌⊎◌, inl, inr, List, Vec, [], ◌∷◌, true, ◌&&◌, not, nat_le, nat_eq, length, get_or, Contains, sym, subst, arith}
+use Rattle.std.proofs.Common.{◌≡◌, ◌∙◌, ℕ, suc, ◌+◌, ◌-◌, ◌≤◌, ◌<◌, ◌⊎◌, inl, inr, List, Vec, [], ◌∷◌, true, ◌&&◌, not, nat_le, nat_eq, length, get_or, Contains, refl, sym, subst, arith}
 use Rattle.std.specs.List.{All, AllByRecursion, sum_by}
 use Rattle.std.specs.declared.alloc.Global.{Global}
 use Rattle.std.proofs.lemmas.List.Kept.{AllPairs-filter}
@@ -10,8 +10,10 @@ use Rattle.std.proofs.lemmas.Bool.{cases_lt, leb-true, le-leb, not-true, not_fro
 use Rattle.plan_shop.proofs.NumberLemmas.{InOrder, in_order_from}
 use Rattle.plan_shop.proofs.Span.{IsClear, span}
 use Rattle.plan_prove.specs.Graphs.{time_in, IsBefore, KeepsClique}
-use Rattle.plan_prove.specs.States.{IsRefuted, StartsFrom, Leaves, is_other, others_of, Fill, IsBehind, IsAhead, IsClique}
+use Rattle.plan_prove.specs.States.{IsRefuted, StartsFrom, Leaves, StaysAway, is_other, others_from, others_of, Fill, IsBehind, IsAhead, GoesBeyond, IsClique}
 use Rattle.plan_prove.specs.declared.graph.Graph.{Graph}
+use Rattle.plan_prove.specs.declared.state.End.{End}
+use Rattle.plan_prove.specs.declared.state.End.TheVariants.{Start, Finish}
 use Rattle.plan_prove.specs.declared.state.State.{State}
 use Rattle.plan_prove.specs.declared.edges.Others.{Others}
 
@@ -174,6 +176,22 @@ ahead_leaves g limit times value state others last clique is ahead same later lo
       some,
       between g starts (get_or starts others.but 0 + time_in g others.but) (limit - suc last.tail) zs (others_in_order g state last clique starts (is starts h.kept)) late early (omega (arith, most, some)),
     )
+
+-- what goes behind others goes beyond them from the start, and what goes ahead of them from the finish
+pub beyond_from_start : (g : Graph) (limit : ℕ) (state : State) (clique : Vec ℕ Global) (end : End) (others : Others) → end ≡ Start → IsBehind g limit state clique others → GoesBeyond g limit state clique end others
+beyond_from_start g limit state clique end others is behind = subst (λ (e : End). GoesBeyond g limit state clique e others) (sym is) behind
+
+pub beyond_from_finish : (g : Graph) (limit : ℕ) (state : State) (clique : Vec ℕ Global) (end : End) (others : Others) → end ≡ Finish → IsAhead g limit state clique others → GoesBeyond g limit state clique end others
+beyond_from_finish g limit state clique end others is ahead = subst (λ (e : End). GoesBeyond g limit state clique e others) (sym is) ahead
+
+-- a step that goes beyond others stays as far away from an end as the others take it
+pub beyond_away : (g : Graph) (limit : ℕ) (end : End) (near far from but times value : ℕ) (state : State) (clique : Vec ℕ Global) → IsClique g clique
+    → GoesBeyond g limit state clique end (others_from end near far but) → near ≤ from → times ≤ sum_by (time_in g) (others_of state (others_from end from far but) clique.items) → 0 < times
+    → value ≤ from + times → StaysAway g limit state end but value
+beyond_away g limit Start near far from but times value state clique is beyond later most some small =
+    behind_starts g limit times value state (others_from Start near far but) (others_from Start from far but) clique is beyond refl later (omega arith) most some small
+beyond_away g limit Finish near far from but times value state clique is beyond later most some small =
+    ahead_leaves g limit times value state (others_from Finish near far but) (others_from Finish from far but) clique is beyond refl (omega arith) later most some small
 
 -- those of a graph are cliques
 pub clique_there : (g : Graph) (k : ℕ) (clique : Vec ℕ Global) → k < length g.cliques.items → clique ≡ get_or g.cliques.items k clique → IsClique g clique

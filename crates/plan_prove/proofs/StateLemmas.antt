@@ -1,16 +1,19 @@
 -- What holds of a state when a side of a pair is taken, and how states that are refuted refute others.
-use Rattle.std.proofs.Common.{◌≡◌, ℕ, Bool, Option, Some, None, ◌+◌, ◌≤◌, ◌<◌, inl, inr, List, [], ◌∷◌, ◌++◌, length, get_or, ap, sym, ◌∙◌, refl, subst, arith}
+use Rattle.std.proofs.Common.{◌≡◌, ℕ, Bool, Option, Some, None, ◌+◌, ◌-◌, ◌≤◌, ◌<◌, inl, inr, List, [], ◌∷◌, ◌++◌, length, get_or, ap, sym, ◌∙◌, refl, subst, arith}
 use Rattle.std.specs.List.{All}
 use Rattle.std.specs.Prelude.{IfNone}
 use Rattle.std.proofs.lemmas.List.{get_or_default, get_or_append_left, get_or_at, length_push}
 use Rattle.std.proofs.lemmas.List.Elements.{All-push}
 use Rattle.plan_prove.specs.Graphs.{time_in, KeepsApart, IsKept, NoneIsBelow}
-use Rattle.plan_prove.specs.States.{GoesBefore, StartsFrom, Leaves, Deduces, Follows, IsRaised, KeepsSide, Holds, IsRefuted, IsRoot, IsWithSide, Covers}
+use Rattle.plan_prove.specs.States.{GoesBefore, NotBefore, StaysAway, RaisesEnd, IsKnown, StartsFrom, Leaves, Deduces, Follows, IsRaised, KeepsSide, Holds, IsRefuted, IsRoot, IsWithSide, Covers}
 use Rattle.plan_prove.specs.declared.graph.Pair.{Pair}
 use Rattle.plan_prove.specs.declared.graph.Graph.{Graph}
 use Rattle.plan_prove.specs.declared.state.Side.{Side}
 use Rattle.plan_prove.specs.declared.state.Side.TheVariants.{Open, First, Second}
+use Rattle.plan_prove.specs.declared.state.End.{End}
+use Rattle.plan_prove.specs.declared.state.End.TheVariants.{Start, Finish}
 use Rattle.plan_prove.specs.declared.state.State.{State}
+use Rattle.plan_prove.specs.declared.known.Known.{Known}
 
 -- a pair keeps the side that the state has taken
 pub side_kept : (g : Graph) (limit : ℕ) (state : State) (k : ℕ) (p : Pair) (side : Side) (starts : List ℕ) → k < length g.pairs.items → p ≡ get_or g.pairs.items k p
@@ -150,3 +153,37 @@ tail_raised g limit old new x tail leaves tails heads sides starts h = record {
   ];
   sides = λ k p inside. subst (λ (vs : List Side). KeepsSide g starts (get_or g.pairs.items k p) (get_or vs k Open)) (sym sides) (h.sides k p inside);
 }
+
+-- the head or the tail of a step that stays that far away from an end may be raised
+pub end_raised : (g : Graph) (limit : ℕ) (old new : State) (end : End) (x value : ℕ) → StaysAway g limit old end x value → RaisesEnd old new end x value → Follows g limit old new
+end_raised g limit old new Start x value away rises = head_raised g limit old new x value away rises.raised rises.tails rises.sides
+end_raised g limit old new Finish x value away rises = tail_raised g limit old new x value away rises.raised rises.heads rises.sides
+
+-- no step stays away from an end by the limit
+pub end_refuted : (g : Graph) (limit : ℕ) (state : State) (end : End) (x value : ℕ) → StaysAway g limit state end x value → limit ≤ value → IsRefuted g limit state
+end_refuted g limit state Start x value away great starts h = absurd (omega (arith, great, away starts h, h.tails x))
+end_refuted g limit state Finish x value away great starts h = absurd (omega (arith, great, away starts h))
+
+-- where there is no room for one step before another, it doesn't go before it
+pub no_room : (g : Graph) (limit : ℕ) (state : State) (x y : ℕ) (one other : Known) → IsKnown g state x one → IsKnown g state y other
+    → limit - (one.head + one.time + (other.time + other.tail)) ≤ 0 → NotBefore g limit state x y
+no_room g limit state x y one other is_one is_other none starts h before =
+    absurd (omega (arith, none, before, is_one.head, is_one.time, is_other.time, is_other.tail, h.heads x, h.tails y))
+
+-- where one step of a pair doesn't go before the other, this goes before it
+pub first_goes : (g : Graph) (limit : ℕ) (state : State) (k : ℕ) (p : Pair) → k < length g.pairs.items → p ≡ get_or g.pairs.items k p → NotBefore g limit state p.second p.first → GoesBefore g limit state p.first p.second
+first_goes g limit state k p below there never starts h = elim (other_side g starts k p below there h.kept) [
+  | inl before ↦ before
+  | inr after ↦ absurd (never starts h after)
+]
+
+pub second_goes : (g : Graph) (limit : ℕ) (state : State) (k : ℕ) (p : Pair) → k < length g.pairs.items → p ≡ get_or g.pairs.items k p → NotBefore g limit state p.first p.second → GoesBefore g limit state p.second p.first
+second_goes g limit state k p below there never starts h = elim (other_side g starts k p below there h.kept) [
+  | inl before ↦ absurd (never starts h before)
+  | inr after ↦ after
+]
+
+-- a side that is kept by all that a state holds of may be taken after a deduction
+pub side_follows : (g : Graph) (limit : ℕ) (old mid new : State) (k : ℕ) (p : Pair) (side : Side) → k < length g.pairs.items → p ≡ get_or g.pairs.items k p
+    → ((starts : List ℕ) → Holds g limit old starts → KeepsSide g starts p side) → Follows g limit old mid → IsWithSide mid new k side → Follows g limit old new
+side_follows g limit old mid new k p side below there keeps follows is starts h = side_taken g limit mid new k p side starts below there is (keeps starts h) (follows starts h)

@@ -7,7 +7,10 @@ use Rattle.plan_prove.specs.declared.graph.Pair.{Pair}
 use Rattle.plan_prove.specs.declared.graph.Graph.{Graph}
 use Rattle.plan_prove.specs.declared.state.Side.{Side}
 use Rattle.plan_prove.specs.declared.state.Side.TheVariants.{Open, First, Second}
+use Rattle.plan_prove.specs.declared.state.End.{End}
+use Rattle.plan_prove.specs.declared.state.End.TheVariants.{Start, Finish}
 use Rattle.plan_prove.specs.declared.state.State.{State}
+use Rattle.plan_prove.specs.declared.known.Known.{Known}
 use Rattle.plan_prove.specs.declared.edges.Others.{Others}
 
 -- the side of a pair that is taken
@@ -56,6 +59,28 @@ pub record IsRoot (state : State) : Type 0 where
 abbrev pub IsRaised : List ℕ → List ℕ → ℕ → ℕ → Type 0
 IsRaised old new place value = (x : ℕ) → (get_or new x 0 ≤ get_or old x 0) ⊎ ((x ≡ place) × (get_or new x 0 ≤ value))
 
+-- a head has risen, or a tail, and all else is as before
+pub record HeadRises (old new : State) (x value : ℕ) : Type 0 where
+  pub raised : IsRaised old.heads.items new.heads.items x value
+  pub tails : new.tails.items ≡ old.tails.items
+  pub sides : new.sides.items ≡ old.sides.items
+
+pub record TailRises (old new : State) (x value : ℕ) : Type 0 where
+  pub raised : IsRaised old.tails.items new.tails.items x value
+  pub heads : new.heads.items ≡ old.heads.items
+  pub sides : new.sides.items ≡ old.sides.items
+
+-- the one or the other, by the end from which it counts
+abbrev pub RaisesEnd : State → State → End → ℕ → ℕ → Type 0
+RaisesEnd old new Start x value = HeadRises old new x value
+RaisesEnd old new Finish x value = TailRises old new x value
+
+-- what a state says of a step
+pub record IsKnown (g : Graph) (state : State) (x : ℕ) (known : Known) : Type 0 where
+  pub head : known.head ≡ get_or state.heads.items x 0
+  pub time : known.time ≡ time_in g x
+  pub tail : known.tail ≡ get_or state.tails.items x 0
+
 -- all sides are those of before, but at one place, where it may be another
 abbrev pub TakesSide : List Side → List Side → ℕ → Side → Type 0
 TakesSide old new place side = (k : ℕ) → (get_or new k Open ≡ get_or old k Open) ⊎ ((k ≡ place) × (get_or new k Open ≡ side))
@@ -82,6 +107,16 @@ StartsFrom g limit state x head = (starts : List ℕ) → Holds g limit state st
 abbrev pub Leaves : Graph → ℕ → State → ℕ → ℕ → Type 0
 Leaves g limit state x tail = (starts : List ℕ) → Holds g limit state starts → get_or starts x 0 + time_in g x + tail < limit
 
+-- the one or the other, by the end that it stays away from
+abbrev pub StaysAway : Graph → ℕ → State → End → ℕ → ℕ → Type 0
+StaysAway g limit state Start x value = StartsFrom g limit state x value
+StaysAway g limit state Finish x value = Leaves g limit state x value
+
+-- the others that are so near and so far, seen from an end
+abbrev pub others_from : End → ℕ → ℕ → ℕ → Others
+others_from Start near far but = record { head = near; tail = far; but = but }
+others_from Finish near far but = record { head = far; tail = near; but = but }
+
 -- a step is one of the others
 abbrev pub is_other : State → Others → ℕ → Bool
 is_other state others x = (not (nat_eq x others.but) && nat_le others.head (get_or state.heads.items x 0)) && nat_le others.tail (get_or state.tails.items x 0)
@@ -102,3 +137,8 @@ IsBehind g limit state clique others = (x : ℕ) → Contains clique.items x →
 -- the step goes ahead of each of the others of a clique
 abbrev pub IsAhead : Graph → ℕ → State → Vec ℕ Global → Others → Type 0
 IsAhead g limit state clique others = (x : ℕ) → Contains clique.items x → is_other state others x ≡ true → GoesBefore g limit state others.but x
+
+-- the one or the other, seen from an end
+abbrev pub GoesBeyond : Graph → ℕ → State → Vec ℕ Global → End → Others → Type 0
+GoesBeyond g limit state clique Start others = IsBehind g limit state clique others
+GoesBeyond g limit state clique Finish others = IsAhead g limit state clique others

@@ -3,83 +3,49 @@
 ghost use Rattle.std.specs.Prelude.{◌<◌, length, IsTrue};
 ghost use Rattle.plan_prove.specs.States as spec;
 
-use crate::edges::{go_ahead, go_behind, leave_none};
+use crate::edges::{go_beyond, leave_none};
 use crate::graph::Graph;
 use crate::queue::Queue;
-use crate::state::State;
+use crate::state::{End, State};
 
-// Raises the head of a step of a clique, where a hint says that it goes behind others.
-fn behind_at(
+// Raises the head or the tail of a step of a clique, where a hint says that it goes beyond others.
+fn raise_at(
     graph: &Graph,
     limit: u32,
     state: &mut State,
     queue: &mut Queue,
     clique: &Vec<u32>,
+    end: End,
     place: usize,
 ) -> Option<bool>
     requires { spec.IsClique graph.now clique.now }
     ensures { spec.Deduces graph.now limit state.old state.new result }
 {
-    match queue.behind(place) {
-        Some(hint) => go_behind(graph, limit, state, queue, clique, hint),
+    match queue.hint(end, place) {
+        Some(hint) => go_beyond(graph, limit, state, queue, clique, end, hint),
         None => Some(false),
     }
 }
 
-// Raises the heads of the steps of a clique that go behind others.
-fn all_behind(
+// Raises the heads of the steps of a clique that go behind others, or the tails of those that go
+// ahead of them.
+fn raise_all(
     graph: &Graph,
     limit: u32,
     state: &mut State,
     queue: &mut Queue,
     clique: &Vec<u32>,
+    end: End,
 ) -> Option<bool>
     requires { spec.IsClique graph.now clique.now }
     ensures { spec.Deduces graph.now limit state.old state.new result }
 {
-    let mut later = false;
+    let mut any = false;
     for place in 0..clique.len() {
-        let has_risen = behind_at(graph, limit, state, queue, clique, place)?;
-        later = later | has_risen;
+        let has_risen = raise_at(graph, limit, state, queue, clique, end, place)?;
+        any = any | has_risen;
     }
-    Some(later)
-}
-
-// Raises the tail of a step of a clique, where a hint says that it goes ahead of others.
-fn ahead_at(
-    graph: &Graph,
-    limit: u32,
-    state: &mut State,
-    queue: &mut Queue,
-    clique: &Vec<u32>,
-    place: usize,
-) -> Option<bool>
-    requires { spec.IsClique graph.now clique.now }
-    ensures { spec.Deduces graph.now limit state.old state.new result }
-{
-    match queue.ahead(place) {
-        Some(hint) => go_ahead(graph, limit, state, queue, clique, hint),
-        None => Some(false),
-    }
-}
-
-// Raises the tails of the steps of a clique that go ahead of others.
-fn all_ahead(
-    graph: &Graph,
-    limit: u32,
-    state: &mut State,
-    queue: &mut Queue,
-    clique: &Vec<u32>,
-) -> Option<bool>
-    requires { spec.IsClique graph.now clique.now }
-    ensures { spec.Deduces graph.now limit state.old state.new result }
-{
-    let mut longer = false;
-    for place in 0..clique.len() {
-        let has_risen = ahead_at(graph, limit, state, queue, clique, place)?;
-        longer = longer | has_risen;
-    }
-    Some(longer)
+    Some(any)
 }
 
 // Whether the steps of a machine leave no room below the limit, as far as it is seen.
@@ -115,8 +81,8 @@ fn bound_machine(
     if leaves_none(graph, limit, state, queue, clique, machine) {
         return None;
     }
-    let later = all_behind(graph, limit, state, queue, clique)?;
-    let longer = all_ahead(graph, limit, state, queue, clique)?;
+    let later = raise_all(graph, limit, state, queue, clique, End::Start)?;
+    let longer = raise_all(graph, limit, state, queue, clique, End::Finish)?;
     Some(later | longer)
 }
 

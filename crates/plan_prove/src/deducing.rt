@@ -1,11 +1,12 @@
 //! What follows from what is known: heads and tails along arcs, and sides of pairs that leave no
 //! room.
 
-ghost use Rattle.std.specs.Prelude.{◌<◌, length, IfNone};
+ghost use Rattle.std.specs.Prelude.{◌<◌, length};
 ghost use Rattle.plan_prove.specs.States as spec;
 
 use crate::cliques::bound_machines;
 use crate::graph::{Graph, Pair};
+use crate::known::{known_of, room};
 use crate::queue::Queue;
 use crate::raising::span;
 use crate::state::{Side, State, at, raise, side_at, take_side};
@@ -16,9 +17,9 @@ const MOST_TURNS: u32 = 1_000_000;
 /// How often the machines are looked at in one node, at most.
 const MOST_ROUNDS: u32 = 1_000_000;
 
-// One step ends before another starts: what that says of the head of the one and the tail of the
-// other.
-fn follow(
+// One step ends before another starts: raises the head of the other and the tail of the one.
+#[inline(never)]
+fn part(
     graph: &Graph,
     limit: u32,
     state: &mut State,
@@ -33,9 +34,6 @@ fn follow(
     let tail = at(&graph.times, second) + at(&state.tails, second);
     let later = raise(&mut state.heads, second, head, limit)?;
     let longer = raise(&mut state.tails, first, tail, limit)?;
-    if !later && !longer {
-        return Some(false);
-    }
     queue.note(second, later);
     queue.note(first, longer);
     span(graph, limit, state, first)?;
@@ -43,49 +41,29 @@ fn follow(
     Some(true)
 }
 
-/// How much room is left below the limit where one step goes before another; `None` where there is
-/// none.
-pub fn room(graph: &Graph, limit: u32, state: &State, first: u32, second: u32) -> Option<u64>
-    ensures { IfNone result (spec.NotBefore graph.now limit state.now first second) }
-{
-    let needed = at(&state.heads, first)
-        + at(&graph.times, first)
-        + at(&graph.times, second)
-        + at(&state.tails, second);
-    if needed < limit as u64 {
-        Some(limit as u64 - needed)
-    } else {
-        None
-    }
-}
-
-// Takes the side of a pair that is open, where it is the only one with room.
-fn decide(graph: &Graph, limit: u32, state: &mut State, place: usize) -> Option<bool>
-    requires { place < length graph.now.pairs.items }
+// The same where they aren't that far apart.
+#[inline]
+fn follow(
+    graph: &Graph,
+    limit: u32,
+    state: &mut State,
+    queue: &mut Queue,
+    first: u32,
+    second: u32,
+) -> Option<bool>
+    requires { spec.GoesBefore graph.now limit state.old first second }
     ensures { spec.Deduces graph.now limit state.old state.new result }
 {
-    let Pair { first, second } = graph.pairs[place];
-    if side_at(&state.sides, place) != Side::Open {
+    let one = known_of(graph, state, first);
+    let other = known_of(graph, state, second);
+    if one.end() <= other.head as u64 && other.rest() <= one.tail as u64 {
         return Some(false);
     }
-    let forth = room(graph, limit, state, first, second);
-    let back = room(graph, limit, state, second, first);
-    match (forth, back) {
-        (Some(_), Some(_)) => Some(false),
-        (Some(_), None) => {
-            take_side(&mut state.sides, place, Side::First);
-            Some(true)
-        }
-        (None, Some(_)) => {
-            take_side(&mut state.sides, place, Side::Second);
-            Some(true)
-        }
-        (None, None) => None,
-    }
+    part(graph, limit, state, queue, first, second)
 }
 
-// What a pair says that is decided.
-fn keep(
+// What a pair says that is open: it takes the side that is the only one with room.
+fn decide(
     graph: &Graph,
     limit: u32,
     state: &mut State,
@@ -96,10 +74,23 @@ fn keep(
     ensures { spec.Deduces graph.now limit state.old state.new result }
 {
     let Pair { first, second } = graph.pairs[place];
-    match side_at(&state.sides, place) {
-        Side::Open => Some(false),
-        Side::First => follow(graph, limit, state, queue, first, second),
-        Side::Second => follow(graph, limit, state, queue, second, first),
+    let one = known_of(graph, state, first);
+    let other = known_of(graph, state, second);
+    let forth = room(limit, one, other);
+    let back = room(limit, other, one);
+    match (forth > 0, back > 0) {
+        (true, true) => Some(false),
+        (true, false) => {
+            follow(graph, limit, state, queue, first, second)?;
+            take_side(&mut state.sides, place, Side::First);
+            Some(true)
+        }
+        (false, true) => {
+            follow(graph, limit, state, queue, second, first)?;
+            take_side(&mut state.sides, place, Side::Second);
+            Some(true)
+        }
+        (false, false) => None,
     }
 }
 
@@ -114,9 +105,12 @@ fn settle(
     requires { place < length graph.now.pairs.items }
     ensures { spec.Deduces graph.now limit state.old state.new result }
 {
-    decide(graph, limit, state, place)?;
-    let kept = keep(graph, limit, state, queue, place)?;
-    Some(kept)
+    let Pair { first, second } = graph.pairs[place];
+    match side_at(&state.sides, place) {
+        Side::Open => decide(graph, limit, state, queue, place),
+        Side::First => follow(graph, limit, state, queue, first, second),
+        Side::Second => follow(graph, limit, state, queue, second, first),
+    }
 }
 
 // What a rule says: an arc by its place, or a pair by its place behind all arcs.

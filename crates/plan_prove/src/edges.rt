@@ -8,8 +8,8 @@ ghost use Rattle.plan_prove.specs.States as spec;
 use crate::finding::Hint;
 use crate::graph::Graph;
 use crate::queue::Queue;
-use crate::raising::{raise_head, raise_tail};
-use crate::state::{State, at};
+use crate::raising::raise_end;
+use crate::state::{End, State, at};
 
 /// All steps of a clique but one that start at a head or later and leave a tail or more.
 #[derive(Clone, Copy, Drop)]
@@ -69,24 +69,49 @@ fn fill(
     start.saturating_add(times).saturating_add(rest) >= limit as u64
 }
 
-// Whether the step goes behind all others, since none of these can be the last.
-fn is_behind(graph: &Graph, limit: u32, state: &State, clique: &Vec<u32>, others: Others) -> bool
-    requires clique { spec.IsClique graph.now clique.now }
-    requires there { Contains clique.now.items others.but }
-    ensures { IsTrue result → spec.IsBehind graph.now limit state.now clique.now others }
+// The others that are so near and so far, seen from an end.
+fn others_from(end: End, near: u64, far: u64, but: u32) -> Others
+    ensures value { result ≡ spec.others_from end near far but }
+    ensures but { result.but ≡ but }
 {
-    let start = others.head.min(at(&state.heads, others.but));
-    fill(graph, limit, state, clique, others, start, others.tail)
+    match end {
+        End::Start => Others {
+            head: near,
+            tail: far,
+            but,
+        },
+        End::Finish => Others {
+            head: far,
+            tail: near,
+            but,
+        },
+    }
 }
 
-// Whether the step goes ahead of all others, since none of these can be the first.
-fn is_ahead(graph: &Graph, limit: u32, state: &State, clique: &Vec<u32>, others: Others) -> bool
+// Whether a step goes behind all others, since none of these can be the last; or ahead of them, since
+// none can be the first.
+fn is_beyond(
+    graph: &Graph,
+    limit: u32,
+    state: &State,
+    clique: &Vec<u32>,
+    end: End,
+    others: Others,
+) -> bool
     requires clique { spec.IsClique graph.now clique.now }
     requires there { Contains clique.now.items others.but }
-    ensures { IsTrue result → spec.IsAhead graph.now limit state.now clique.now others }
+    ensures { IsTrue result → spec.GoesBeyond graph.now limit state.now clique.now end others }
 {
-    let rest = others.tail.min(at(&state.tails, others.but));
-    fill(graph, limit, state, clique, others, others.head, rest)
+    match end {
+        End::Start => {
+            let start = others.head.min(at(&state.heads, others.but));
+            fill(graph, limit, state, clique, others, start, others.tail)
+        }
+        End::Finish => {
+            let rest = others.tail.min(at(&state.tails, others.but));
+            fill(graph, limit, state, clique, others, others.head, rest)
+        }
+    }
 }
 
 /// Whether steps of a clique leave no room below the limit.
@@ -111,13 +136,15 @@ pub fn leave_none(graph: &Graph, limit: u32, state: &State, clique: &Vec<u32>, h
     )
 }
 
-/// Raises the head of a step to the end of others, where it goes behind them.
-pub fn go_behind(
+/// Raises the head of a step to the end of others, where it goes behind them; or its tail to what they
+/// leave, where it goes ahead of them.
+pub fn go_beyond(
     graph: &Graph,
     limit: u32,
     state: &mut State,
     queue: &mut Queue,
     clique: &Vec<u32>,
+    end: End,
     hint: Hint,
 ) -> Option<bool>
     requires { spec.IsClique graph.now clique.now }
@@ -126,57 +153,16 @@ pub fn go_behind(
     let Some(but) = step_at(clique, hint.place) else {
         return Some(false);
     };
-    let (head, tail, from) = (hint.near as u64, hint.far as u64, hint.from as u64);
-    let times = load(
-        graph,
-        state,
-        clique,
-        Others {
-            head: from,
-            tail,
-            but,
-        },
-    );
-    if from < head || times == 0 {
+    let (near, far, from) = (hint.near as u64, hint.far as u64, hint.from as u64);
+    let last = others_from(end, from, far, but);
+    let times = load(graph, state, clique, last);
+    if from < near || times == 0 {
         return Some(false);
     }
-    if !is_behind(graph, limit, state, clique, Others { head, tail, but }) {
+    let others = others_from(end, near, far, but);
+    if !is_beyond(graph, limit, state, clique, end, others) {
         return Some(false);
     }
-    raise_head(graph, limit, state, queue, but, from.saturating_add(times))
-}
-
-/// Raises the tail of a step to what others leave, where it goes ahead of them.
-pub fn go_ahead(
-    graph: &Graph,
-    limit: u32,
-    state: &mut State,
-    queue: &mut Queue,
-    clique: &Vec<u32>,
-    hint: Hint,
-) -> Option<bool>
-    requires { spec.IsClique graph.now clique.now }
-    ensures { spec.Deduces graph.now limit state.old state.new result }
-{
-    let Some(but) = step_at(clique, hint.place) else {
-        return Some(false);
-    };
-    let (tail, head, from) = (hint.near as u64, hint.far as u64, hint.from as u64);
-    let times = load(
-        graph,
-        state,
-        clique,
-        Others {
-            head,
-            tail: from,
-            but,
-        },
-    );
-    if from < tail || times == 0 {
-        return Some(false);
-    }
-    if !is_ahead(graph, limit, state, clique, Others { head, tail, but }) {
-        return Some(false);
-    }
-    raise_tail(graph, limit, state, queue, but, from.saturating_add(times))
+    let value = from.saturating_add(times);
+    raise_end(graph, limit, state, queue, end, but, value)
 }

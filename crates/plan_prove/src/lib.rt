@@ -9,6 +9,7 @@ mod fault;
 mod finding;
 mod graph;
 mod guiding;
+mod known;
 mod nodes;
 mod proving;
 mod queue;

@@ -2,7 +2,7 @@
 
 use crate::finding::{Finder, Hint};
 use crate::graph::{Graph, Pair};
-use crate::state::{State, at};
+use crate::state::{End, State, at};
 use std::alloc::{AllocError, Global};
 
 /// The steps whose head or tail has risen, first come first served and none twice; and the machines
@@ -105,14 +105,10 @@ impl Queue {
         self.finder.look(limit, state, clique, machine)
     }
 
-    /// The hint that a step goes behind others, by its place in the clique.
-    pub fn behind(&self, place: usize) -> Option<Hint> {
-        self.finder.behind(place)
-    }
-
-    /// The same of a step that goes ahead of others, seen from the end.
-    pub fn ahead(&self, place: usize) -> Option<Hint> {
-        self.finder.ahead(place)
+    /// The hint that a step goes behind others by its place in the clique, or ahead of them, seen
+    /// from the finish.
+    pub fn hint(&self, end: End, place: usize) -> Option<Hint> {
+        self.finder.hint(end, place)
     }
 
     // Leaves no machine to be bounded.

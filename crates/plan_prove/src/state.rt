@@ -15,6 +15,13 @@ pub enum Side {
     Second,
 }
 
+/// From which end of a schedule times count: heads from its start, tails from its finish.
+#[derive(Debug, Clone, Copy, Drop)]
+pub enum End {
+    Start,
+    Finish,
+}
+
 /// Of the schedules that are still looked for: before when no step starts (its head), how much
 /// there is at least between its end and the bound on the makespan (its tail), and which pairs are
 /// decided. Beside them, for the search alone, the place of the pair that was decided last; behind
@@ -49,7 +56,7 @@ pub fn side_at(sides: &[Side], place: usize) -> Side
 }
 
 impl State {
-    ghost use Rattle.std.specs.Prelude.{IfOk};
+    ghost use Rattle.std.specs.Prelude.{◌≤◌, IfOk, IfSome, IfNone};
     ghost use Rattle.plan_prove.specs.States as spec;
 
     /// The state in which nothing is known.
@@ -63,6 +70,18 @@ impl State {
             sides: vec![in alloc; Side::Open; graph.pairs.len()]?,
             last: graph.pairs.len(),
         })
+    }
+
+    /// Raises the head or the tail of a step, where it is less; `Some(true)` where it was, `None`
+    /// where the new one isn't below the limit.
+    pub fn raise(&mut self, end: End, step: u32, value: u64, limit: u32) -> Option<bool>
+        ensures some { IfSome result (λ _. spec.RaisesEnd self.old self.new end step value) }
+        ensures none { IfNone result (limit ≤ value) }
+    {
+        match end {
+            End::Start => raise(&mut self.heads, step, value, limit),
+            End::Finish => raise(&mut self.tails, step, value, limit),
+        }
     }
 
     /// The state with a side of a pair taken.

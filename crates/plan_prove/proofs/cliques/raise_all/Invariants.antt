@@ -1,5 +1,5 @@
 use Rattle.plan_prove.specs.States.{Follows}
-use Rattle.plan_prove.proofs.cliques.all_ahead.Given as goal
+use Rattle.plan_prove.proofs.cliques.raise_all.Given as goal
 
 -- the state follows from the first one
 abbrev pub invariant-loop-place : goal.invariant-loop-place

@@ -3,7 +3,7 @@ use Rattle.std.specs.Prelude.{IfNone}
 use Rattle.plan_prove.specs.States.{IsRefuted}
 use Rattle.plan_prove.specs.declared.state.State.{State}
 use Rattle.plan_prove.proofs.StateLemmas.{followed, none_left}
-use Rattle.plan_prove.proofs.deducing.follow.Goals as goal
+use Rattle.plan_prove.proofs.deducing.part.Goals as goal
 
 pub returns-in_err-span : goal.returns-in_err-span
 returns-in_err-span c =

@@ -1,7 +1,0 @@
-use Rattle.std.proofs.Common.{◌<◌, length}
-use Rattle.std.specs.Prelude.{IfSome}
-use Rattle.plan_prove.proofs.branching.choose.Given as goal
-
--- the choice so far is one of the pairs
-abbrev pub invariant-loop-place : goal.invariant-loop-place
-invariant-loop-place l = IfSome l.best (λ choice. choice.place < length l.graph.pairs.items)

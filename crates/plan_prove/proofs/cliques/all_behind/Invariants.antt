@@ -1,6 +1,0 @@
-use Rattle.plan_prove.specs.States.{Follows}
-use Rattle.plan_prove.proofs.cliques.all_behind.Given as goal
-
--- the state follows from the first one
-abbrev pub invariant-loop-place : goal.invariant-loop-place
-invariant-loop-place l = Follows l.graph l.limit l.fn.state l.state
