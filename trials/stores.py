@@ -121,6 +121,25 @@ def try_no_tables(room):
     refused(database, room, "no table", NOT_OURS)
 
 
+# 30 desks more, of 100 plans each, with the key of the others.
+MANY = """WITH RECURSIVE tens(k) AS (SELECT 10 UNION ALL SELECT k + 1 FROM tens WHERE k < 39)
+INSERT INTO desks SELECT 'desk-' || k, digest, 101 FROM desks, tens WHERE desk = 'south';
+WITH RECURSIVE numbers(i) AS (SELECT 1 UNION ALL SELECT i + 1 FROM numbers WHERE i < 100)
+INSERT INTO plans SELECT d.desk, i, kind, name, body, start, days FROM desks d, numbers, plans p
+WHERE d.desk LIKE 'desk-%' AND p.desk = 'north' AND p.n = 3;"""
+
+
+def try_many(room):
+    """A store of 3,003 plans is opened; a wrong row behind all others is seen."""
+    database = filled(room, MANY)
+    entries = ",".join(f'{{"kind":"project","n":{n}}}' for n in range(1, 101))
+    listing = f'{{"plans":[{entries}]}}\n'
+    story = STORY + [asked("GET /desks/desk-39/plans", listing)]
+    answered(story, database, written(story, room))
+    last = "UPDATE plans SET body = x'00' WHERE desk = 'desk-39' AND n = 100;"
+    refused(filled(room, MANY + last), room, last, NOT_OURS)
+
+
 def try_spent(room):
     """Spent numbers stay spent, also where fewer than a hundred plans are there."""
     database = filled(room, "UPDATE desks SET next = 1000001 WHERE desk = 'north';")
