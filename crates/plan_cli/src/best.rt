@@ -19,7 +19,7 @@ use plan_shop::Shop;
 use std::alloc::Global;
 
 // What a refusal of a search says for people.
-pub(crate) fn told(alloc: Global, fault: &ExactFault) -> CliFault
+pub(crate) fn exact_refusal(alloc: Global, fault: &ExactFault) -> CliFault
     ensures { Refuses (spec.TellsSolving fault.now) result }
 {
     if matches!(fault, ExactFault::NoMemory) {
@@ -35,7 +35,7 @@ fn solved_text(alloc: Global, budget: u64, shop: &Shop) -> Result<String, CliFau
 {
     match solve_shop(alloc, shop, budget) {
         Ok(solved) => Ok(best_text(alloc, shop, &solved)?),
-        Err(fault) => Err(told(alloc, &fault)),
+        Err(fault) => Err(exact_refusal(alloc, &fault)),
     }
 }
 

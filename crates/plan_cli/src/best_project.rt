@@ -7,11 +7,11 @@ ghost use Rattle.plan_cli.specs.Run.{ReadsFront, Refuses, Writes};
 ghost use Rattle.plan_cli.specs.ScheduleRun.{as_available};
 ghost use Rattle.plan_cli.specs.BestProjectRun as spec;
 
-use crate::best::told;
+use crate::best::exact_refusal;
 use crate::fault::CliFault;
 use crate::reading::read_project;
 use crate::running::run_task;
-use crate::scheduled::told as told_schedule;
+use crate::scheduled::schedule_refusal;
 use crate::tasks::Task;
 use plan_exact::{parse_budget, solve_project};
 use plan_gantt::best_project_text;
@@ -26,7 +26,7 @@ fn solved_text(alloc: Global, budget: u64, instance: &Instance) -> Result<String
 {
     match solve_project(alloc, instance, budget) {
         Ok(solved) => Ok(best_project_text(alloc, instance, &solved)?),
-        Err(fault) => Err(told(alloc, &fault)),
+        Err(fault) => Err(exact_refusal(alloc, &fault)),
     }
 }
 
@@ -50,7 +50,7 @@ fn project_text(alloc: Global, budget: &str, project: &ProjectDoc) -> Result<Str
 {
     match Instance::of_project(project, project.avail()) {
         Ok(instance) => instance_text(alloc, budget, &instance),
-        Err(fault) => Err(told_schedule(alloc, &fault)),
+        Err(fault) => Err(schedule_refusal(alloc, &fault)),
     }
 }
 

@@ -10,7 +10,7 @@ ghost use Rattle.plan_cli.specs.CheckRun as spec;
 use crate::fault::CliFault;
 use crate::reading::read_project;
 use crate::running::run_task;
-use crate::scheduled::told;
+use crate::scheduled::schedule_refusal;
 use crate::starts::read_starts;
 use crate::tasks::Task;
 use plan_psplib::{ProjectDoc, Sink, Source};
@@ -78,7 +78,7 @@ fn project_text(alloc: Global, listed: &[u8], project: &ProjectDoc) -> Result<St
 {
     match Instance::of_project(project, project.avail()) {
         Ok(instance) => instance_text(alloc, listed, &instance),
-        Err(fault) => Err(told(alloc, &fault)),
+        Err(fault) => Err(schedule_refusal(alloc, &fault)),
     }
 }
 

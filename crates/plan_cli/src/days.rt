@@ -30,7 +30,7 @@ use plan_shop::Shop;
 use std::alloc::Global;
 
 // What a fault of a calendar says for people.
-fn told(alloc: Global, fault: CalendarFault) -> CliFault
+fn calendar_refusal(alloc: Global, fault: CalendarFault) -> CliFault
     ensures { Refuses (spec.TellsCalendarFault fault) result }
 {
     refusal_by(calendar_fault_text(fault).to_string(alloc))
@@ -43,17 +43,17 @@ fn calendar_of(alloc: Global, start: &str, marks: &str) -> Result<Calendar, CliF
 {
     match Calendar::new(start, marks) {
         Ok(calendar) => Ok(calendar),
-        Err(fault) => Err(told(alloc, fault)),
+        Err(fault) => Err(calendar_refusal(alloc, fault)),
     }
 }
 
 // What a refusal of a table of days says for people.
-fn told_days(alloc: Global, fault: DaysFault) -> CliFault
+fn days_refusal(alloc: Global, fault: DaysFault) -> CliFault
     ensures { Refuses (spec.TellsDaysFault fault) result }
 {
     match fault {
         DaysFault::NoMemory => CliFault::Memory,
-        DaysFault::BeyondCalendar => told(alloc, CalendarFault::BeyondCalendar),
+        DaysFault::BeyondCalendar => calendar_refusal(alloc, CalendarFault::BeyondCalendar),
     }
 }
 
@@ -70,7 +70,7 @@ fn table(
 {
     match calendar_table(alloc, network, &schedule.starts, calendar) {
         Ok(text) => Ok(text),
-        Err(fault) => Err(told_days(alloc, fault)),
+        Err(fault) => Err(days_refusal(alloc, fault)),
     }
 }
 
@@ -129,7 +129,7 @@ fn table_of_shop(
 {
     match shop_calendar_table(alloc, shop, &schedule.starts, calendar) {
         Ok(text) => Ok(text),
-        Err(fault) => Err(told_days(alloc, fault)),
+        Err(fault) => Err(days_refusal(alloc, fault)),
     }
 }
 

@@ -6,7 +6,7 @@ ghost use Rattle.plan_cli.specs.Run.{ReadsFront, Refuses, Writes};
 ghost use Rattle.plan_cli.specs.NamesRun as spec;
 
 use crate::fault::CliFault;
-use crate::reading::told;
+use crate::reading::file_refusal;
 use crate::running::run_task;
 use crate::tasks::Task;
 use plan_orlib::names;
@@ -32,7 +32,7 @@ pub(crate) fn names_text(alloc: Global, file: &[u8]) -> Result<Vec<u8>, CliFault
 {
     match names(alloc, file) {
         Ok(names) => Ok(name_lines(alloc, &names)?),
-        Err(fault) => Err(told(alloc, &fault)),
+        Err(fault) => Err(file_refusal(alloc, &fault)),
     }
 }
 

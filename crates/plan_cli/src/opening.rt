@@ -7,7 +7,7 @@ ghost use Rattle.plan_gantt.specs.FirstFaults.{TellsFirstShopFault};
 ghost use Rattle.plan_cli.specs.Run.{Refuses};
 
 use crate::fault::CliFault;
-use crate::reading::told;
+use crate::reading::file_refusal;
 use plan_orlib::{ShopDoc, read_shop};
 use plan_shop::{Shop, ShopFault};
 use std::alloc::Global;
@@ -19,7 +19,7 @@ pub(crate) fn read_instance(alloc: Global, instance: &str, file: &[u8]) -> Resul
 {
     match read_shop(alloc, file, instance.as_bytes()) {
         Ok(doc) => Ok(doc),
-        Err(fault) => Err(told(alloc, &fault)),
+        Err(fault) => Err(file_refusal(alloc, &fault)),
     }
 }
 

@@ -33,7 +33,7 @@ pub fn read_file<R: Source>(alloc: Global, reader: &mut R) -> Result<Vec<u8>, Cl
 }
 
 /// What a file's fault says for people.
-pub fn told(alloc: Global, fault: &FileFault) -> CliFault
+pub fn file_refusal(alloc: Global, fault: &FileFault) -> CliFault
     ensures { Refuses (Tells fault.now) result }
 {
     if fault.code == FileCode::Memory {
@@ -49,6 +49,6 @@ pub fn read_project(alloc: Global, file: &[u8]) -> Result<ProjectDoc, CliFault>
 {
     match read_sm(alloc, file) {
         Ok(project) => Ok(project),
-        Err(fault) => Err(told(alloc, &fault)),
+        Err(fault) => Err(file_refusal(alloc, &fault)),
     }
 }

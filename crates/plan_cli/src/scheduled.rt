@@ -19,7 +19,7 @@ use plan_shop::{Shop, ShopFault, ShopRule, giffler};
 use std::alloc::Global;
 
 /// What a fault of a schedule says for people.
-pub(crate) fn told(alloc: Global, fault: &SgsFault) -> CliFault
+pub(crate) fn schedule_refusal(alloc: Global, fault: &SgsFault) -> CliFault
     ensures { Refuses (TellsSchedule fault.now) result }
 {
     refusal_by(schedule_fault_text(alloc, fault))
@@ -47,16 +47,16 @@ pub(crate) fn schedule_by(
 {
     let instance = match Instance::of_project(project, project.avail()) {
         Ok(instance) => instance,
-        Err(fault) => return Err(told(alloc, &fault)),
+        Err(fault) => return Err(schedule_refusal(alloc, &fault)),
     };
     match Rule::parse(name) {
         Ok(rule) => made(alloc, &instance, rule),
-        Err(fault) => Err(told(alloc, &fault)),
+        Err(fault) => Err(schedule_refusal(alloc, &fault)),
     }
 }
 
 // What a fault of a shop says for people.
-fn told_of_shop(alloc: Global, fault: &ShopFault) -> CliFault
+fn shop_refusal(alloc: Global, fault: &ShopFault) -> CliFault
     ensures { Refuses (TellsShop fault.now) result }
 {
     if matches!(fault, ShopFault::NoMemory) {
@@ -90,7 +90,7 @@ pub(crate) fn shop_schedule_by(
 {
     let rule = match ShopRule::parse(name) {
         Ok(rule) => rule,
-        Err(fault) => return Err(told_of_shop(alloc, &fault)),
+        Err(fault) => return Err(shop_refusal(alloc, &fault)),
     };
     let shop = open_shop(alloc, doc)?;
     let schedule = made_of_shop(alloc, &shop, rule)?;

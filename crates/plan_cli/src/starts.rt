@@ -71,7 +71,7 @@ fn read_all(alloc: Global, count: usize, text: &[u8]) -> Result<Vec<u64>, ReadEr
 }
 
 // What a fault of a text of starts says for people.
-fn told(alloc: Global, fault: &FileFault) -> CliFault
+fn starts_refusal(alloc: Global, fault: &FileFault) -> CliFault
     ensures { Refuses (spec.TellsStarts fault.now) result }
 {
     if fault.code == FileCode::Memory {
@@ -98,6 +98,6 @@ pub(crate) fn read_starts(alloc: Global, count: usize, text: &[u8]) -> Result<Ve
 {
     match read_all(alloc, count, text) {
         Ok(starts) => Ok(starts),
-        Err(error) => Err(told(alloc, &FileFault::of(alloc, error))),
+        Err(error) => Err(starts_refusal(alloc, &FileFault::of(alloc, error))),
     }
 }

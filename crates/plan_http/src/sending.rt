@@ -23,11 +23,12 @@ fn join(room: &mut [u8; 4096], first: &[u8], second: &[u8]) -> usize
     count
 }
 
-// A front of what is left of two texts, behind so many bytes.
+// A front of what is left of two texts, behind so many bytes; not empty, where some are left.
 fn rest_of<'a>(first: &'a [u8], second: &'a [u8], sent: usize) -> &'a [u8]
     requires { sent ≤ length first.now + length second.now }
     ensures front { result.now ≡ take (length result.now) (drop sent (first.now ++ second.now)) }
     ensures within { sent + length result.now ≤ length first.now + length second.now }
+    ensures some { sent < length first.now + length second.now → 0 < length result.now }
 {
     if sent < first.len() {
         return &first[sent..];

@@ -2,4 +2,4 @@ use Rattle.plan_cli.proofs.RunLemmas.{told_not_plain}
 use Rattle.plan_cli.proofs.names.names_text.Goals as goal
 
 pub returns-in-Err-clause-refused : goal.returns-in-Err-clause-refused
-returns-in-Err-clause-refused c = told_not_plain c.args.file.now c.in-Err.fault c.told.result c.in-Err.ensures.refused c.told.ensures
+returns-in-Err-clause-refused c = told_not_plain c.args.file.now c.in-Err.fault c.file_refusal.result c.in-Err.ensures.refused c.file_refusal.ensures

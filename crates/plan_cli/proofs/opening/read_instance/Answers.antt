@@ -9,4 +9,4 @@ returns-in-Err-clause-refused c =
     let instance = c.args.instance.now in
     let file = c.args.file.now in
     let failing = subst (λ (name : List ℕ). IsWantOfMemory c.in-Err.fault ⊎ reading.FailsWith (reading.shop name file) c.in-Err.fault) c.as_bytes.ensures.value c.in-Err.ensures.refused in
-    told_no_shop instance file c.in-Err.fault c.told.result failing c.told.ensures
+    told_no_shop instance file c.in-Err.fault c.file_refusal.result failing c.file_refusal.ensures

@@ -6,7 +6,7 @@ returns-in-Ok-clause-said c = starts_said c.args.count c.args.text.now c.in-Ok.s
 
 pub returns-in-Err-clause-refused : goal.returns-in-Err-clause-refused
 returns-in-Err-clause-refused c =
-    told_no_starts c.args.count c.args.text.now c.in-Err.error c.of.result c.told.result c.in-Err.ensures c.of.ensures c.told.ensures
+    told_no_starts c.args.count c.args.text.now c.in-Err.error c.of.result c.starts_refusal.result c.in-Err.ensures c.of.ensures c.starts_refusal.ensures
 
 pub returns-in-Ok-clause-only : goal.returns-in-Ok-clause-only
 returns-in-Ok-clause-only c = λ starts says.
@@ -14,4 +14,4 @@ returns-in-Ok-clause-only c = λ starts says.
 
 pub returns-in-Err-clause-only : goal.returns-in-Err-clause-only
 returns-in-Err-clause-only c = λ starts says.
-    unread_starts c.args.count c.args.text.now starts c.in-Err.error c.of.result c.told.result says c.in-Err.ensures c.of.ensures c.told.ensures
+    unread_starts c.args.count c.args.text.now starts c.in-Err.error c.of.result c.starts_refusal.result says c.in-Err.ensures c.of.ensures c.starts_refusal.ensures
