@@ -14,8 +14,10 @@ use Rattle.plan_shop.specs.Shop.{JobShop, machine_of, those_below, idle, count_s
 use Rattle.plan_shop.specs.Laws.{IsChained, IsApart, ArcsAreNeighbours, CapacitiesKeepApart}
 use Rattle.plan_shop.proofs.ShopBasics.{arcs_are_neighbours, capacities_keep_apart, count_is, duration_is}
 use Rattle.plan_prove.specs.Graphs.{time_in, KeepsArc, KeepsApart, KeepsClique, IsKept, IsBelow, NoneIsBelow, IsArcOf, IsPairOf, lasts_on, IsCliqueOf, IsGraphOf}
-use Rattle.plan_prove.specs.Proofs.{IsLowerBound}
+use Rattle.plan_prove.specs.Proofs.{IsLowerBound, IsProofOf, IsSearchOf}
 use Rattle.plan_prove.specs.declared.graph.Graph.{Graph}
+use Rattle.plan_prove.specs.declared.proving.Proof.{Proof}
+use Rattle.plan_prove.specs.declared.searching.Search.{Search}
 
 -- the times of the graph are those of the shop
 pub time_is : (s : JobShop) (g : Graph) → IsGraphOf s g → (x : ℕ) → time_in g x ≡ time_of s x
@@ -109,3 +111,10 @@ lasting_more s m x before new is lasts pushed = rw add-one
 pub lasting_same : (s : JobShop) (m x : ℕ) (before new : List ℕ) → before ≡ those_below x (lasts_on s m) → lasts_on s m x ≡ false → new ≡ before → new ≡ those_below (x + 1) (lasts_on s m)
 lasting_same s m x before new is lasts same = rw add-one
     (same ∙ is ∙ sym (ap (λ (xs : List ℕ). those_below x (lasts_on s m) ++ xs) (cond-false (lasts_on s m x) (x ∷ []) [] lasts) ∙ append-nil (those_below x (lasts_on s m))))
+
+-- a search that has the graph and the proof of another is one of the same shop
+pub same_search : (s : JobShop) (old new : Search) → new.graph ≡ old.graph → new.proof ≡ old.proof → IsSearchOf s old → IsSearchOf s new
+same_search s old new graph proof is = record {
+  graph = subst (λ (g : Graph). IsGraphOf s g) (sym graph) is.graph;
+  proof = subst (λ (p : Proof). IsProofOf s p) (sym proof) is.proof;
+}

@@ -6,6 +6,8 @@ use Rattle.plan_shop.specs.Shop.{JobShop, problem_of}
 use Rattle.plan_prove.specs.declared.fault.ProveFault.{ProveFault}
 use Rattle.plan_prove.specs.declared.fault.ProveFault.TheVariants.{NoMemory, BadNodes}
 use Rattle.plan_prove.specs.declared.proving.Proof.{Proof}
+use Rattle.plan_prove.specs.declared.searching.Search.{Search}
+use Rattle.plan_prove.specs.Graphs.{IsGraphOf}
 
 -- no feasible schedule of a shop has a makespan below a number
 abbrev pub IsLowerBound : JobShop → ℕ → Type 0
@@ -21,6 +23,11 @@ pub record IsActiveSchedule (s : JobShop) (schedule : Schedule) : Type 0 where
 pub record IsProofOf (s : JobShop) (proof : Proof) : Type 0 where
   pub schedule : IsActiveSchedule s proof.schedule
   pub lower : IsLowerBound s proof.lower
+
+-- a search of a shop's graph, with what is proved of the shop so far
+pub record IsSearchOf (s : JobShop) (search : Search) : Type 0 where
+  pub graph : IsGraphOf s search.graph
+  pub proof : IsProofOf s search.proof
 
 -- how many nodes may be allowed
 abbrev pub IsNodeLimit : ℕ → Type 0

@@ -15,6 +15,7 @@ mod proving;
 mod queue;
 mod raising;
 mod refuting;
+mod searching;
 mod state;
 
 pub use fault::ProveFault;
