@@ -58,6 +58,23 @@ file_silent k fault.Taken is e = absurd is
 file_silent k fault.PortTaken is e = absurd is
 file_silent k fault.PortDenied is e = absurd is
 
+-- it isn't that another program has the file open
+pub file_free : (k : ErrorKind) (f : ServeFault) → IsFileCause k f → f ≢ fault.Locked
+file_free k fault.Memory is e = absurd cc
+file_free k fault.Store is e = absurd cc
+file_free k fault.NotOurs is e = absurd is
+file_free k fault.Version is e = absurd is
+file_free k fault.Key is e = absurd is
+file_free k fault.Input is e = absurd is
+file_free k fault.Socket is e = absurd is
+file_free k fault.Output is e = absurd is
+file_free k fault.Locked is e = absurd is
+file_free k fault.Missing is e = absurd cc
+file_free k fault.Denied is e = absurd cc
+file_free k fault.Taken is e = absurd is
+file_free k fault.PortTaken is e = absurd is
+file_free k fault.PortDenied is e = absurd is
+
 -- nothing is served
 pub port_serves : (k : ErrorKind) (f : ServeFault) → IsPortCause k f → IsServeFault f
 port_serves k fault.Memory is = tt

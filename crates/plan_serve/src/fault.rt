@@ -1,6 +1,6 @@
 //! Why a command that keeps an office failed.
 
-ghost use Rattle.std.specs.Prelude.{◌≡◌, ◌⊎◌};
+ghost use Rattle.std.specs.Prelude.{◌≡◌, ◌⊎◌, ◌↔◌};
 ghost use Rattle.plan_serve.specs.Faults.{fault_of};
 
 use plan_rows::BookFault;
@@ -95,7 +95,8 @@ pub(crate) fn told(fault: StoreFault) -> ServeFault
 
 /// The fault of a command whose book has a fault.
 pub(crate) fn book_told(fault: BookFault) -> ServeFault
-    ensures { (result ≡ ServeFault.Memory) ⊎ (result ≡ ServeFault.Store) }
+    ensures which { (result ≡ ServeFault.Memory) ⊎ (result ≡ ServeFault.Store) }
+    ensures memory { (result ≡ ServeFault.Memory) ↔ (fault ≡ BookFault.NoMemory) }
 {
     match fault {
         BookFault::NoMemory => ServeFault::Memory,

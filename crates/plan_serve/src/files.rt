@@ -1,6 +1,7 @@
 //! The commands on files, and on a port.
 
-ghost use Rattle.std.specs.Prelude.{◌≡◌, ◌⊎◌, ◌+◌, ◌≤◌, length, IfOk, IfErr, IsErrOf, OnOk};
+ghost use Rattle.std.specs.Prelude.{◌≡◌, ◌⊎◌, ◌↔◌, ◌+◌, ◌≤◌, length, IfOk, IfErr, IsErrOf, OnOk};
+ghost use Rattle.std.specs.IoError.{error_kind};
 ghost use Rattle.plan_psplib.specs.Devices.{most_calls, HasFailed};
 ghost use Rattle.plan_store.specs.declared.fault.StoreFault.TheVariants.{NoMemory, Store};
 ghost use Rattle.plan_serve.specs.CheckRun.{ChecksOnFiles, IsPrinted, IsPrintedInPart};
@@ -65,7 +66,8 @@ fn closed<F: Start>(ended: Ended<Kept<F>>) -> Result<(), ServeFault>
 
 // Why a file can't be opened.
 fn open_fault(error: &io::Error) -> ServeFault
-    ensures { (result ≡ ServeFault.Memory) ⊎ (result ≡ ServeFault.Input) }
+    ensures which { (result ≡ ServeFault.Memory) ⊎ (result ≡ ServeFault.Input) }
+    ensures memory { (result ≡ ServeFault.Memory) ↔ (error_kind error.now ≡ ErrorKind.OutOfMemory) }
 {
     if error.kind() == ErrorKind::OutOfMemory {
         return ServeFault::Memory;

@@ -32,10 +32,12 @@ fn file_fault(kind: ErrorKind) -> ServeFault
 
 /// Tells why no office is at a name where a look at it says so: nothing is there, it can't be reached,
 /// or it is shorter than any database. Nothing is opened, so nothing is made or grows.
-#[tactic(auto, using(crate::proofs::CauseLemmas::file_serves, crate::proofs::CauseLemmas::file_silent))]
+#[tactic(auto, using(crate::proofs::CauseLemmas::file_serves, crate::proofs::CauseLemmas::file_silent, crate::proofs::CauseLemmas::file_free))]
 pub(crate) fn look(rt: &HostRuntime, path: &str) -> Result<(), ServeFault>
     ensures which { IfErr result IsServeFault }
     ensures silent { IfErr result (λ e. e ≢ ServeFault.Output) }
+    // It doesn't tell whether another program has it open.
+    ensures free { IfErr result (λ e. e ≢ ServeFault.Locked) }
 {
     match fs::metadata(rt, path) {
         Ok(found) if found.is_file() && found.len() < SHORTEST => Err(ServeFault::NotOurs),

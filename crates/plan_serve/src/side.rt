@@ -1,6 +1,6 @@
 //! The two sides of a connection of a socket, and how long each may take.
 
-ghost use Rattle.std.specs.Prelude.{◌≡◌, ◌*◌, ◌≤◌, [], false, IfOk};
+ghost use Rattle.std.specs.Prelude.{◌≡◌, ◌*◌, ◌≤◌, [], false, IfOk, IfSome};
 ghost use Rattle.std.specs.Duration.{as_nanos};
 ghost use Rattle.std.specs.Io.{ReadsAtMost, WritesAtMost};
 
@@ -36,6 +36,7 @@ impl<'a> Timer<'a> {
         ensures within { IfOk result (λ left. as_nanos left ≤ self.old.patience * 1_000_000_000) }
         ensures some { IfOk result (λ left. 1_000_000 ≤ as_nanos left) }
         ensures same { self.new.patience ≡ self.old.patience }
+        ensures begun { IfSome self.old.start (λ start. self.new.start ≡ Some start) }
     {
         let now = Instant::now(self.rt)?;
         let start = self.start.unwrap_or(now);

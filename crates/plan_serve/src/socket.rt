@@ -1,6 +1,6 @@
 //! Connections of a socket.
 
-ghost use Rattle.std.specs.Prelude.{◌≡◌, ◌⊎◌, ◌↔◌, ◌+◌, ◌≤◌, [], false, List, length, IsTrue, IfOk, OnOk, IsErrOf, IfErr};
+ghost use Rattle.std.specs.Prelude.{◌≡◌, ◌⊎◌, ◌↔◌, ◌+◌, ◌<◌, ◌≤◌, [], false, List, length, IsTrue, IfOk, OnOk, IsErrOf, IfErr};
 ghost use Rattle.plan_http.specs.Answers.{Decision};
 ghost use Rattle.plan_serve.specs.Serve.{MovedBy};
 ghost use Rattle.plan_serve.specs.Turns.{Turn, Runs};
@@ -67,6 +67,7 @@ impl<'a> Door<'a> {
     // Pauses after a failure, longer after each in a row; after the last the door is closed.
     fn pause(&mut self) -> Seen
         ensures counted { self.new.failures ≤ self.old.failures + 1 }
+        ensures all { self.old.failures < MOST_FAILURES → self.new.failures ≡ self.old.failures + 1 }
     {
         let pause = PAUSE << self.failures.min(MOST_DOUBLINGS);
         thread::sleep(self.rt, Duration::from_millis(pause));
@@ -78,7 +79,9 @@ impl<'a> Door<'a> {
     }
 
     // Takes in one that came.
-    fn welcome(&mut self, stream: TcpStream) -> Seen {
+    fn welcome(&mut self, stream: TcpStream) -> Seen
+        ensures again { self.new.failures ≡ 0 }
+    {
         self.failures = 0;
         if self.room.enter(self.rt, stream) {
             return Seen::Nobody;
