@@ -8,7 +8,7 @@ ghost use Rattle.plan_orlib.specs.Says.{Says};
 ghost use Rattle.plan_rows.specs.Plans.{lagged_by};
 ghost use Rattle.plan_rows.specs.Books.{lag_in};
 ghost use Rattle.plan_desk.specs.PlanValues.{IsProjectIn, HasProject, TakesLags};
-ghost use Rattle.plan_rows.specs.declared.fault.BookFault.TheVariants.{Store};
+ghost use Rattle.plan_rows.specs.declared.fault.BookFault.TheVariants.{NoMemory, Store};
 
 use plan_orlib::{ShopDoc, read_shop};
 use plan_psplib::{FileCode, FileFault, ProjectDoc, read_sm};
@@ -17,7 +17,8 @@ use std::alloc::Global;
 
 // Want of memory, or a body that no plan of a sound store has.
 fn unread(fault: FileFault) -> BookFault
-    ensures { result ≡ Store → IsWantOfMemory fault → ⊥ }
+    ensures blamed { result ≡ Store → IsWantOfMemory fault → ⊥ }
+    ensures wanted { result ≡ NoMemory → fault.code ≡ FileCode.Memory }
 {
     if fault.code == FileCode::Memory {
         BookFault::NoMemory

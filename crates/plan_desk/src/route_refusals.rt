@@ -1,6 +1,6 @@
 //! What each route refuses, in the order of its refusals.
 
-ghost use Rattle.std.specs.Prelude.{◌≡◌, ◌⊎◌, IfOk, IfNone, IfSome, option_map};
+ghost use Rattle.std.specs.Prelude.{◌≡◌, ◌⊎◌, ◌≤◌, IfOk, IfNone, IfSome, IsOk, option_map};
 ghost use Rattle.plan_psplib.specs.Faults.{IsWantOfMemory};
 ghost use Rattle.plan_gantt.specs.FaultText.{file_fault_text_of};
 ghost use Rattle.plan_rows.specs.Plans as plans;
@@ -70,7 +70,9 @@ pub(crate) fn import_refusal(
     name: &str,
     body: &[u8],
 ) -> Result<Option<Reply>, AllocError>
-    ensures { IfOk result (λ refusal. spec.IsImportRefusal held next kind name.now body.now (option_map reply_of refusal)) }
+    ensures told { IfOk result (λ refusal. spec.IsImportRefusal held next kind name.now body.now (option_map reply_of refusal)) }
+    // What is told before the file is read takes no memory.
+    ensures early { (100 ≤ held) ⊎ (1000001 ≤ next) → IsOk result }
 {
     if held >= MOST_PLANS {
         return Ok(Some(many_plans()));

@@ -1,6 +1,6 @@
 //! The values of a row that a query shows. A value of another kind is the store's fault.
 
-ghost use Rattle.std.specs.Prelude.{◌≡◌, pos, string_bytes, IfOk};
+ghost use Rattle.std.specs.Prelude.{◌≡◌, ◌<◌, ◌^◌, ℕ, length, pos, string_bytes, IfOk, IfErr};
 ghost use Rattle.sqlite_value.specs.declared.value.Value.TheVariants.{Int, Text, Blob};
 ghost use Rattle.sqlite_value.specs.Order.{column};
 ghost use Rattle.plan_rows.specs.Names.{kind_text, plan_kind_text};
@@ -13,7 +13,9 @@ use sqlite::types::ValueRef;
 
 /// A number.
 pub fn number_at(row: &Row, at: usize) -> Result<u64, BookFault>
-    ensures { IfOk result (λ n. column row.now at ≡ Int (pos n)) }
+    ensures shown { IfOk result (λ n. column row.now at ≡ Int (pos n)) }
+    // A number that is there is no fault of the store.
+    ensures blamed { IfErr result (λ fault. fault ≡ BookFault.Store → at < length row.now → (n : ℕ) → n < 2 ^ 64 → column row.now at ≡ Int (pos n) → ⊥) }
 {
     match row.get(at) {
         Ok(number) => Ok(number),

@@ -1,6 +1,6 @@
 //! Numbers and digests as SQL takes them.
 
-ghost use Rattle.std.specs.Prelude.{◌≡◌, ◌+◌, nat_lt, true, IfOk};
+ghost use Rattle.std.specs.Prelude.{◌≡◌, ◌+◌, ◌≤◌, ◌^◌, nat_lt, true, IfOk, IfErr};
 ghost use Rattle.std.specs.List.{list_all};
 ghost use Rattle.hex.specs.Hex.{encode_lower};
 ghost use Rattle.plan_rows.specs.Names.{is_digest};
@@ -9,7 +9,8 @@ use plan_rows::BookFault;
 
 /// A number that SQL can hold. All numbers of an office are below 2^31.
 pub fn sql_number(number: u64) -> Result<u32, BookFault>
-    ensures { IfOk result (λ n. n ≡ number) }
+    ensures same { IfOk result (λ n. n ≡ number) }
+    ensures blamed { IfErr result (λ fault. (fault ≡ BookFault.Store) × (2 ^ 32 ≤ number)) }
 {
     match u32::try_from(number) {
         Ok(number) => Ok(number),
@@ -19,7 +20,8 @@ pub fn sql_number(number: u64) -> Result<u32, BookFault>
 
 /// The number after this one.
 pub fn number_after(number: u32) -> Result<u32, BookFault>
-    ensures { IfOk result (λ n. n ≡ number + 1) }
+    ensures next { IfOk result (λ n. n ≡ number + 1) }
+    ensures blamed { IfErr result (λ fault. (fault ≡ BookFault.Store) × (2 ^ 32 ≤ number + 1)) }
 {
     match number.checked_add(1) {
         Some(next) => Ok(next),

@@ -50,6 +50,9 @@ fn files_at<F: Start>(
 
 // How the files are kept: as the kit does, but for the pages. The log begins at a random number.
 fn options(rt: &HostRuntime) -> Result<Options, StoreFault>
+    // The log is copied back as often as the kit does it, so it doesn't grow for ever.
+    ensures log { IfOk result (λ options. options.checkpoint_frames ≡ 1000) }
+    ensures pages { IfOk result (λ options. options.cache_pages ≡ 256) }
     ensures ours { IfErr result (λ fault. fault ≢ NotOurs) }
     ensures known { IfErr result (λ fault. fault ≢ Version) }
 {

@@ -3,4 +3,4 @@ use Rattle.plan_desk.proofs.plan_files.said_project.Goals as goal
 
 pub returns-in-Err-clause-blamed : goal.returns-in-Err-clause-blamed
 returns-in-Err-clause-blamed c blamed p says =
-    c.unread.ensures blamed (refused_for_memory c.args.body.now p c.in-Err.fault says c.in-Err.ensures.refused)
+    c.unread.ensures.blamed blamed (refused_for_memory c.args.body.now p c.in-Err.fault says c.in-Err.ensures.refused)

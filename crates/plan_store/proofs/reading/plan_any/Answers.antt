@@ -16,4 +16,4 @@ returns g c =
     let w = world_of old.now.trees in
     let desk = c.args.desk.now in
     asks_map old new c.requires.ready c.plan_found.result _ _
-    (λ x stands h. subst (λ o. Matches (IsPlanAnswer (view desk w)) o x) (found_in_view w desk c.in_ok-n.n ∙ ap (λ k. find (has_number k) (view desk w).plans) c.in_ok-n.ensures) h) c.plan_found.ensures
+    (λ x stands h. subst (λ o. Matches (IsPlanAnswer (view desk w)) o x) (found_in_view w desk c.in_ok-n.n ∙ ap (λ k. find (has_number k) (view desk w).plans) c.in_ok-n.ensures.same) h) c.plan_found.ensures

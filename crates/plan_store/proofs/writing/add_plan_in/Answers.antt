@@ -23,7 +23,7 @@ add_numbered-requires-clause-kept g c clean live =
     let early = first.honesty clean in
     let rules = (c.requires.ready.stands early back.0).store.rules in
     let told : Matches IsDeskAnswer (desk_in (world_of old.now.trees) desk) (Some c.in-Some.row) = subst (Matches IsDeskAnswer (desk_in (world_of old.now.trees) desk)) c.in-Some.is (first.answer clean).1 in
-    let is = numbered_is_next desk c.in_ok-n.n (world_of old.now.trees) rules.desks_differ c.in-Some.row told (sym c.in_ok-n.ensures) c.args.kind c.args.name.now c.args.body.now in
+    let is = numbered_is_next desk c.in_ok-n.n (world_of old.now.trees) rules.desks_differ c.in-Some.row told (sym c.in_ok-n.ensures.same) c.args.kind c.args.name.now c.args.body.now in
     subst (λ (d : Database). IsWorld (numbered_plan desk c.in_ok-n.n c.args.kind c.args.name.now c.args.body.now (world_of d.trees))) (sym back.1) (subst IsWorld (sym is) (c.requires.kept early back.0))
 
 pub returns : goal.returns
@@ -40,7 +40,7 @@ returns g c =
     let back = first.same clean live in
     let rules = (c.requires.ready.stands (first.honesty clean) back.0).store.rules in
     let told : Matches IsDeskAnswer (desk_in (world_of old.now.trees) desk) (Some c.in-Some.row) = subst (Matches IsDeskAnswer (desk_in (world_of old.now.trees) desk)) c.in-Some.is (first.answer clean).1 in
-    let is = numbered_is_next desk c.in_ok-n.n (world_of old.now.trees) rules.desks_differ c.in-Some.row told (sym c.in_ok-n.ensures) kind name body in
+    let is = numbered_is_next desk c.in_ok-n.n (world_of old.now.trees) rules.desks_differ c.in-Some.row told (sym c.in_ok-n.ensures.same) kind name body in
     ap (λ (d : Database). numbered_plan desk c.in_ok-n.n kind name body (world_of d.trees)) back.1 ∙ is ∙ sym (ap (λ (d : Database). apply desk (AddPlan kind name body) (world_of d.trees)) back.1) in
     asks_then_changes old mid new _ _ c.add_numbered.result (apply desk (AddPlan kind name body)) first
     (changes_as mid new (numbered_plan desk c.in_ok-n.n kind name body) (apply desk (AddPlan kind name body)) same c.add_numbered.result c.add_numbered.ensures)

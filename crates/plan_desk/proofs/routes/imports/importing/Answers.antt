@@ -36,7 +36,7 @@ returns-in-Some-2 g c =
     (file_not_kept c.args.kind (view desk w) name body c.in-Some.row _ (reply_of c.in-Some-2.refusal)
     (desk_answered w desk c.in-Some.row (subst (Matches IsDeskAnswer (desk_in w desk)) c.in-Some.is is))
     held
-    (subst (λ o. IsImportRefusal (c.in_ok-held.held) c.in-Some.row.next c.args.kind name body (option_map reply_of o)) c.in-Some-2.is c.in_ok-refusal.ensures)))
+    (subst (λ o. IsImportRefusal (c.in_ok-held.held) c.in-Some.row.next c.args.kind name body (option_map reply_of o)) c.in-Some-2.is c.in_ok-refusal.ensures.told)))
 
 pub returns : goal.returns
 returns g c =
@@ -52,4 +52,4 @@ returns g c =
     (file_kept c.args.kind (view desk w) name body c.in-Some.row _
     (desk_answered w desk c.in-Some.row (subst (Matches IsDeskAnswer (desk_in w desk)) c.in-Some.is is))
     held
-    (subst (λ o. IsImportRefusal (c.in_ok-held.held) c.in-Some.row.next c.args.kind name body (option_map reply_of o)) c.in_default-2.is c.in_ok-refusal.ensures)))
+    (subst (λ o. IsImportRefusal (c.in_ok-held.held) c.in-Some.row.next c.args.kind name body (option_map reply_of o)) c.in_default-2.is c.in_ok-refusal.ensures.told)))
