@@ -49,6 +49,18 @@ def owner_of(trait, argument, name):
     return "".join(words) + "::"
 
 
+def body_of(lines, head, indent):
+    """The first line of the body of a function; none where it is empty or left out."""
+    for k in range(head, len(lines)):
+        line = lines[k].rstrip()
+        if line.endswith(("{}", ";")):
+            return None
+        is_clause = line.lstrip().startswith(("ensures", "requires"))
+        if line == indent + "{" or line.endswith("{") and not is_clause:
+            return k + 1
+    return None
+
+
 def functions_of(file, lines):
     """The functions of a file that have a body of their own lines."""
     found, owner, k = [], "", 0
@@ -59,14 +71,11 @@ def functions_of(file, lines):
         elif lines[k].startswith("}"):
             owner = ""
         head = HEAD.match(lines[k])
-        if head:
-            indent = head.group(1)
-            end = next((j for j in range(k, len(lines)) if lines[j] == indent + "}"), None)
-            if end is not None and not lines[k].rstrip().endswith((";", "{}")):
-                opened = [j for j in range(k, end) if lines[j] == indent + "{"]
-                body = opened[0] if opened else next(j for j in range(k, end + 1) if lines[j].rstrip().endswith("{"))
-                found.append(Function(file, (owner if indent else "") + head.group(2), k, body + 1, end))
-                k = end
+        body = head and body_of(lines, k, head.group(1))
+        if body:
+            end = next(j for j in range(body, len(lines)) if lines[j] == head.group(1) + "}")
+            found.append(Function(file, (owner if head.group(1) else "") + head.group(2), k, body, end))
+            k = end
         k += 1
     return found
 
