@@ -2,7 +2,7 @@
 use Rattle.std.proofs.Common.{◌≡◌, ◌⊎◌, inl, inr, Bool, true, false, ℕ, ◌+◌, List, Option, Some, None, Result, Ok, Err, length, take, refl, sym, subst, Vec}
 use Rattle.std.specs.Prelude.{IfSome, IfOk, bytes_eq, codes}
 use Rattle.std.specs.Global.{Global}
-use Rattle.plan_psplib.specs.Document.{longest_text}
+use Rattle.plan_psplib.specs.Plain.{longest_text}
 use Rattle.plan_cli.specs.declared.fault.CliFault.{CliFault}
 use Rattle.plan_cli.specs.declared.fault.CliFault.TheVariants as cli
 use Rattle.plan_cli.specs.declared.tasks.Task.{Task}

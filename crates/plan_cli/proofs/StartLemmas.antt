@@ -3,12 +3,12 @@ use Rattle.std.proofs.Common.{◌≡◌, ℕ, zero, suc, ◌-◌, ◌+◌, ◌�
 use Rattle.std.specs.Prelude.{All}
 use Rattle.std.specs.List.{AllByRecursion}
 use Rattle.std.proofs.lemmas.List.Elements.{All-from_recursion, recursion_from_All}
-use Rattle.plan_psplib.specs.declared.fault.Fault.{Fault}
-use Rattle.plan_psplib.specs.declared.fault.FileCode.TheVariants as code
-use Rattle.plan_psplib.specs.declared.fault.FileFault.{FileFault}
-use Rattle.plan_psplib.specs.declared.fault.ReadError.{ReadError}
-use Rattle.plan_psplib.specs.declared.fault.ReadError.TheVariants as errors
-use Rattle.plan_psplib.specs.Document.{plain}
+use Rattle.plan_psplib.specs.declared.text.fault.Fault.{Fault}
+use Rattle.plan_psplib.specs.declared.text.fault.FileCode.TheVariants as code
+use Rattle.plan_psplib.specs.declared.text.fault.FileFault.{FileFault}
+use Rattle.plan_psplib.specs.declared.text.fault.ReadError.{ReadError}
+use Rattle.plan_psplib.specs.declared.text.fault.ReadError.TheVariants as errors
+use Rattle.plan_psplib.specs.Plain.{plain}
 use Rattle.plan_psplib.specs.Faults.{TellsError}
 use Rattle.plan_psplib.specs.Lines.{NumberedLine}
 use Rattle.plan_psplib.specs.Streams.{Stream, rows}

@@ -7,6 +7,7 @@ pub use Rattle.plan_net.specs.Network
 pub use Rattle.plan_cpm.specs.Dates
 pub use Rattle.plan_psplib.specs.Devices
 pub use Rattle.plan_psplib.specs.Document
+pub use Rattle.plan_psplib.specs.Plain
 pub use Rattle.plan_psplib.specs.Project
 pub use Rattle.plan_psplib.specs.Says
 pub use Rattle.plan_gantt.specs.DateTable

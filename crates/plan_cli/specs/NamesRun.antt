@@ -1,8 +1,8 @@
 -- What `plan names` writes for the bytes that it reads (docs/DEFINITIONS.md, "Runs").
 use Rattle.std.specs.Prelude.{◌≡◌, ℕ, List, ◌++◌, Ok, codes}
 use Rattle.std.specs.List.{flat_map}
-use Rattle.plan_psplib.specs.Document.{plain}
-use Rattle.plan_psplib.specs.declared.fault.FileFault.{FileFault}
+use Rattle.plan_psplib.specs.Plain.{plain}
+use Rattle.plan_psplib.specs.declared.text.fault.FileFault.{FileFault}
 use Rattle.plan_orlib.specs.Instances.{names_of}
 use Rattle.plan_orlib.specs.Reading.{FailsWith}
 use Rattle.plan_gantt.specs.FaultText.{file_fault_text_of}

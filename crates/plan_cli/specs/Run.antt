@@ -1,9 +1,9 @@
 -- What a command writes for the bytes that it reads (docs/DEFINITIONS.md, "Runs").
 use Rattle.std.specs.Prelude.{◌≡◌, ℕ, ◌+◌, ◌≤◌, ◌<◌, List, Option, Result, Ok, Err, IfSome, length, take, string_bytes}
 use Rattle.std.specs.Io.KnownBytes.{Consumes, Appends}
-use Rattle.plan_psplib.specs.declared.fault.FileCode.TheVariants as code
-use Rattle.plan_psplib.specs.declared.fault.FileFault.{FileFault}
-use Rattle.plan_psplib.specs.Document.{longest_text}
+use Rattle.plan_psplib.specs.declared.text.fault.FileCode.TheVariants as code
+use Rattle.plan_psplib.specs.declared.text.fault.FileFault.{FileFault}
+use Rattle.plan_psplib.specs.Plain.{longest_text}
 use Rattle.plan_psplib.specs.Project.{Project, SaysProject}
 use Rattle.plan_gantt.specs.DateTable.{IsDateText}
 use Rattle.plan_gantt.specs.FaultText.{file_fault_text_of}

@@ -13,7 +13,7 @@ use Rattle.plan_cli.specs.ProveRun.{IsProofTableOf, TellsWhyNoProof}
 use Rattle.plan_cli.specs.BestProjectRun.{IsBestProjectTableOf, TellsWhyNoBestProject}
 use Rattle.plan_cli.specs.declared.tasks.Task.{Task}
 use Rattle.plan_cli.specs.declared.tasks.Task.TheVariants as task
-use Rattle.plan_psplib.specs.Document.{longest_text}
+use Rattle.plan_psplib.specs.Plain.{longest_text}
 use Rattle.plan_cli.specs.declared.fault.CliFault.{CliFault}
 use Rattle.plan_cli.specs.declared.fault.CliFault.TheVariants as fault
 

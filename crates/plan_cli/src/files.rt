@@ -2,7 +2,7 @@
 
 ghost use Rattle.std.specs.Prelude.{◌≡◌, ◌⊎◌, ◌+◌, ◌≤◌, length, None, IfOk, IfErr, IsErrOf, OnOk};
 ghost use Rattle.plan_psplib.specs.Devices.{most_calls, HasFailed};
-ghost use Rattle.plan_psplib.specs.Document.{longest_text};
+ghost use Rattle.plan_psplib.specs.Plain.{longest_text};
 ghost use Rattle.plan_cli.specs.Tasks.{DoesTask, DoesCheck, AreRead, bytes_named};
 
 use crate::command::run_command;

@@ -3,7 +3,7 @@
 ghost use Rattle.std.specs.Prelude.{◌≡◌, ◌⊎◌, ◌+◌, ◌≤◌, ℕ, length, take, IfOk, OnOk, IfErr, IfSome};
 ghost use Rattle.std.specs.Io.KnownBytes.{Consumes};
 ghost use Rattle.plan_psplib.specs.Devices.{most_calls};
-ghost use Rattle.plan_psplib.specs.Document.{longest_text};
+ghost use Rattle.plan_psplib.specs.Plain.{longest_text};
 ghost use Rattle.plan_psplib.specs.Project.{SaysProject};
 ghost use Rattle.plan_gantt.specs.FirstFaults.{TellsFirstFailing};
 ghost use Rattle.plan_cli.specs.Run.{Refuses, Tells};

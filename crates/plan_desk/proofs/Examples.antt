@@ -5,9 +5,8 @@ use Rattle.std.specs.Fmt.{digits}
 use Rattle.std.specs.Str.{is_utf8, chars}
 use Rattle.sha2.specs.Sha256.{sha256}
 use Rattle.serde_json.proofs.OnLiterals.{serde_json_on_literals}
-use Rattle.plan_psplib.specs.Document.{plain}
-use Rattle.plan_psplib.specs.Reading.{number_at, limited, limited_at}
-use Rattle.plan_psplib.specs.Requests.{duration_at}
+use Rattle.plan_psplib.specs.Plain.{plain}
+use Rattle.plan_psplib.specs.Reading.{number_at, limited, limited_at, duration_at}
 use Rattle.plan_orlib.specs.Instances.{bare_stream}
 use Rattle.plan_orlib.specs.Reading.{machine_at, step_at, steps_at, jobs_at, shop_at}
 use Rattle.plan_orlib.specs.Shop as docs

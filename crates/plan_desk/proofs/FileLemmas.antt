@@ -8,7 +8,7 @@ use Rattle.plan_net.specs.Network.{Net, IsArc}
 use Rattle.plan_net.specs.Refusals.{IsLagFault}
 use Rattle.plan_net.specs.declared.fault.NetFault.{NetFault}
 use Rattle.plan_net.specs.declared.fault.NetFault.TheVariants.{NoMemory, Size, BadDuration, BadArc, DoubleArc, Cycle, NoArc, BadLag}
-use Rattle.plan_psplib.specs.declared.fault.FileFault.{FileFault}
+use Rattle.plan_psplib.specs.declared.text.fault.FileFault.{FileFault}
 use Rattle.plan_psplib.specs.Faults.{IsWantOfMemory}
 use Rattle.plan_psplib.specs.Project.{Project, SaysProject, IsFirstFailing, with_project_lag}
 use Rattle.plan_psplib.proofs.OnceLemmas.{said_fails_none}

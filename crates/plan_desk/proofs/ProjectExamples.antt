@@ -13,13 +13,14 @@ use Rattle.jiff_core.specs.declared.civil.date.Date.{Date}
 use Rattle.plan_net.specs.Network.{Net, IsArc, IsActivity, IsGreatest, IsLeast, lag_of}
 use Rattle.plan_net.specs.Path.{IsAcyclic, IsPath, last_of, path_length}
 use Rattle.plan_net.specs.Limits.{IsSound, HasGoodDurations, HasGoodArcs, HasNewArcs, HasGoodLags}
-use Rattle.plan_psplib.specs.declared.fault.FileFault.{FileFault}
-use Rattle.plan_psplib.specs.declared.fault.FileCode.TheVariants as file_code
-use Rattle.plan_psplib.specs.Document.{Document, document, plain}
+use Rattle.plan_psplib.specs.declared.text.fault.FileFault.{FileFault}
+use Rattle.plan_psplib.specs.declared.text.fault.FileCode.TheVariants as file_code
+use Rattle.plan_psplib.specs.Document.{Document, document}
+use Rattle.plan_psplib.specs.Plain.{plain}
 use Rattle.plan_psplib.specs.Head.{found_lines, values, sizes_in, sizes}
 use Rattle.plan_psplib.specs.Precedence.{job_at, successor_at, successors_at, precedence_row_at, precedence_rows_at, precedence}
-use Rattle.plan_psplib.specs.Reading.{number_at, expect_at, within_at, limited, limited_at, end_at}
-use Rattle.plan_psplib.specs.Requests.{amounts_at, duration_at, request_row_at, request_rows_at, requests, availabilities}
+use Rattle.plan_psplib.specs.Reading.{number_at, expect_at, within_at, limited, limited_at, end_at, duration_at}
+use Rattle.plan_psplib.specs.Requests.{amounts_at, request_row_at, request_rows_at, requests, availabilities}
 use Rattle.plan_psplib.specs.Says.{Says}
 use Rattle.plan_psplib.specs.Project as files
 use Rattle.plan_psplib.proofs.SaysLemmas.{document_said}

@@ -1,6 +1,6 @@
 -- The line of a file's fault tells the first check that the file fails.
 use Rattle.std.proofs.Common.{◌≡◌, ◌⊎◌, inl, inr, List, ℕ, refl, sym, subst}
-use Rattle.plan_psplib.specs.declared.fault.FileFault.{FileFault}
+use Rattle.plan_psplib.specs.declared.text.fault.FileFault.{FileFault}
 use Rattle.plan_psplib.specs.Faults.{IsWantOfMemory}
 use Rattle.plan_psplib.specs.Project.{IsFirstFailing}
 use Rattle.plan_orlib.specs.Reading.{FailsWith, shop}

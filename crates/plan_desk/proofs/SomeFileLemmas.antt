@@ -11,11 +11,12 @@ use Rattle.jiff_core.proofs.SignedLemmas.{signed_arith}
 use Rattle.jiff_fmt.specs.Text.{year_text, pad2}
 use Rattle.plan_net.specs.Cycle.{IsNamedCycle}
 use Rattle.plan_net.proofs.SomeOrderLemmas.{SomeCycle}
-use Rattle.plan_psplib.specs.declared.fault.Fault.{Fault}
-use Rattle.plan_psplib.specs.declared.fault.FileCode.TheVariants as code
-use Rattle.plan_psplib.specs.declared.fault.FileFault.{FileFault}
+use Rattle.plan_psplib.specs.declared.text.fault.Fault.{Fault}
+use Rattle.plan_psplib.specs.declared.text.fault.FileCode.TheVariants as code
+use Rattle.plan_psplib.specs.declared.text.fault.FileFault.{FileFault}
 use Rattle.plan_psplib.specs.Lines.{last_line}
-use Rattle.plan_psplib.specs.Document.{Document, document, plain}
+use Rattle.plan_psplib.specs.Document.{Document, document}
+use Rattle.plan_psplib.specs.Plain.{plain}
 use Rattle.plan_psplib.specs.Project.{Project, SaysProject, network_of, project_of}
 use Rattle.plan_psplib.specs.Says.{Says}
 use Rattle.plan_psplib.proofs.GoesLemmas.{then_ok}

@@ -6,10 +6,12 @@ use Rattle.std.specs.Str.{is_utf8}
 use Rattle.serde_json.specs.Data.{Data}
 use Rattle.serde_json.specs.Read.{read}
 use Rattle.serde_json.specs.Find.{get, as_str, as_number, as_u64}
+use Rattle.plan_net.specs.Limits.{longest_lag, most_activities}
+use Rattle.plan_psplib.specs.Reading.{greatest}
 use Rattle.plan_rows.specs.declared.kinds.Kind.{Kind}
 use Rattle.plan_rows.specs.declared.kinds.Kind.TheVariants.{Crew, Machine}
 use Rattle.plan_rows.specs.World.{Text, same_text}
-use Rattle.plan_rows.specs.Names.{is_name, is_key, is_from_to}
+use Rattle.plan_rows.specs.Names.{kind_text, is_name, is_key, is_from_to}
 
 -- the value that the bytes spell
 abbrev pub json : Text → Option Data
@@ -32,11 +34,11 @@ number_in passes name value =
 abbrev pub any_text : Text → Bool
 any_text text = true
 
--- `crew` or `machine`
+-- the kind of a word
 abbrev pub kind_named : Text → Option Kind
 kind_named text =
-    if same_text text (codes "crew") then Some Crew
-    else (if same_text text (codes "machine") then Some Machine else None)
+    if same_text text (kind_text Crew) then Some Crew
+    else (if same_text text (kind_text Machine) then Some Machine else None)
 
 -- a code, its kind, and its capacity
 pub record PublishBody : Type 0 where
@@ -48,7 +50,7 @@ abbrev pub publish_members : Data → Option PublishBody
 publish_members value =
     option_and_then (λ code. option_and_then (λ kind. option_map
     (λ capacity. record { code = code; kind = kind; capacity = capacity })
-    (number_in (λ n. nat_le n 10000) (codes "capacity") value))
+    (number_in (λ n. nat_le n greatest) (codes "capacity") value))
     (option_and_then kind_named (text_in any_text (codes "kind") value)))
     (text_in is_name (codes "code") value)
 
@@ -119,9 +121,9 @@ abbrev pub lag_members : Data → Option LagBody
 lag_members value =
     option_and_then (λ source. option_and_then (λ target. option_map
     (λ lag. record { source = source; target = target; lag = lag })
-    (number_in (λ n. nat_le n 10000) (codes "lag") value))
-    (number_in (is_from_to 1 502) (codes "to") value))
-    (number_in (is_from_to 1 502) (codes "from") value)
+    (number_in (λ n. nat_le n longest_lag) (codes "lag") value))
+    (number_in (is_from_to 1 most_activities) (codes "to") value))
+    (number_in (is_from_to 1 most_activities) (codes "from") value)
 
 unfoldable pub lag_body : Text → Option LagBody
 lag_body body = option_and_then lag_members (json body)

@@ -1,6 +1,6 @@
 -- What a desk's commands on its plans are answered (docs/DEFINITIONS.md, "Desks"). Each is for a
 -- request with the desk's key.
-use Rattle.std.specs.Prelude.{◌≡◌, not, nat_le, is_some, [], length}
+use Rattle.std.specs.Prelude.{◌≡◌, ◌+◌, not, nat_le, is_some, [], length}
 use Rattle.plan_psplib.specs.Project.{Project}
 use Rattle.plan_psplib.specs.Project as files
 use Rattle.plan_orlib.specs.Says.{Says}
@@ -13,6 +13,7 @@ use Rattle.plan_rows.specs.declared.kinds.PlanKind.TheVariants as kinds
 use Rattle.plan_rows.specs.World.{Text, Plan, takes, code_in}
 use Rattle.plan_rows.specs.Changes.{AddPlan, RemovePlan, BindPlace, SetCalendar, SetLag}
 use Rattle.plan_desk.specs.Bodies.{bind_body, calendar_body, lag_body}
+use Rattle.plan_rows.specs.Rules.{greatest_number, most_plans}
 use Rattle.plan_rows.specs.Views.{View}
 use Rattle.plan_desk.specs.Outcomes.{Outcome, refuses, makes, unless, given, some, why_or}
 use Rattle.plan_rows.specs.Plans.{plan_seen, HasPlaces, is_place, has_arc}
@@ -32,8 +33,8 @@ by_kind kinds.Shop OfProject OfShop = OfShop
 -- a file is kept as a plan with the desk's next number, or the first check that it fails is told
 unfoldable pub Imports : {A : Type 0} → View → PlanKind → Text → Text → (Text → Type 0) → (A → Type 0) → Outcome
 Imports v kind name body Tells Reads = given v.desk not_found (λ row.
-    unless (nat_le 100 (length v.plans)) many_plans
-    (unless (nat_le 1000001 row.next) numbers_spent
+    unless (nat_le most_plans (length v.plans)) many_plans
+    (unless (nat_le (greatest_number + 1) row.next) numbers_spent
     (why_or Tells bad_file Reads (λ read. makes 201 (plan_text row.next kind) (AddPlan kind name body)))))
 
 -- the project of a PSPLIB text

@@ -1,6 +1,7 @@
 -- What is worked out from a plan as a book answers it, for private clauses alone
 -- (docs/DEFINITIONS.md, "Books").
 use Rattle.std.specs.Prelude.{◌≡◌, ℕ, zero, suc, ◌+◌, ◌≤◌, Bool, true, ◌==◌, not, List, [], ◌∷◌, ◌++◌, map, find, All, Option, Some, None, unwrap_or, option_and_then, string_bytes}
+use Rattle.plan_net.specs.Limits.{longest_lag}
 use Rattle.plan_net.specs.Network.{IsArc}
 use Rattle.plan_psplib.specs.Project.{Project, SaysProject}
 use Rattle.plan_orlib.specs.Shop as docs
@@ -25,9 +26,9 @@ abbrev pub IsProjectIn : PlanRow → Project → Type 0
 IsProjectIn plan p =
     (said : Project) × SaysProject plan.body.items said × (p ≡ lagged_by (lags_in plan) said)
 
--- each is on an arc of the project, and at most 10,000
+-- each is on an arc of the project, and not too long
 abbrev pub TakesLags : Project → List (ℕ × ℕ × ℕ) → Type 0
-TakesLags p arcs = All (λ arc. IsArc p.network arc.0 arc.1 × (arc.2 ≤ 10000)) arcs
+TakesLags p arcs = All (λ arc. IsArc p.network arc.0 arc.1 × (arc.2 ≤ longest_lag)) arcs
 
 -- the file says a project, and any that it says has the arcs that have lags
 pub record HasProject (plan : PlanRow) : Type 0 where

@@ -11,9 +11,10 @@ use Rattle.std.specs.Int.{IsInRange}
 use Rattle.jiff_core.specs.Calendar.{IsYear, days_in_month}
 use Rattle.jiff_core.specs.declared.civil.date.Date.{Date}
 use Rattle.jiff_core.proofs.DateLemmas.{epoch_day_injective}
-use Rattle.plan_psplib.specs.declared.fault.Fault.{Fault}
+use Rattle.plan_psplib.specs.declared.text.fault.Fault.{Fault}
 use Rattle.plan_psplib.specs.Lines.{last_line}
-use Rattle.plan_psplib.specs.Document.{Document, document, plain}
+use Rattle.plan_psplib.specs.Document.{Document, document}
+use Rattle.plan_psplib.specs.Plain.{plain}
 use Rattle.plan_psplib.specs.Project.{Project, IsProject, SaysProject, project_of}
 use Rattle.plan_psplib.proofs.GoesLemmas.{then_ok, same_ok}
 use Rattle.plan_psplib.proofs.SaysLemmas.{document_said, said_document}

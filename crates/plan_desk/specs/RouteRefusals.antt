@@ -1,6 +1,6 @@
 -- What a route refuses, if anything, as a function or relation of values (docs/DEFINITIONS.md,
 -- "Desks"). Of several refusals the first of their order is answered.
-use Rattle.std.specs.Prelude.{◌≡◌, ◌⊎◌, ◌≤◌, ◌<◌, ℕ, if◌then◌else◌, Option, Some, None}
+use Rattle.std.specs.Prelude.{◌≡◌, ◌⊎◌, ◌+◌, ◌≤◌, ◌<◌, ℕ, if◌then◌else◌, Option, Some, None}
 use Rattle.plan_psplib.specs.Project.{Project, SaysProject}
 use Rattle.plan_orlib.specs.Shop as docs
 use Rattle.plan_orlib.specs.Says.{Says}
@@ -12,6 +12,7 @@ use Rattle.plan_rows.specs.World.{Text, same_kind}
 use Rattle.plan_desk.specs.Calls.{Reply}
 use Rattle.plan_desk.specs.Bodies.{BindBody, LagBody}
 use Rattle.plan_rows.specs.Plans.{has_arc}
+use Rattle.plan_rows.specs.Rules.{greatest_number, most_plans}
 use Rattle.plan_desk.specs.Refusals.{bad_body, unpublished, kind_differs, other_kind, many_plans, numbers_spent, bad_file}
 
 -- a file says a project, or a shop by the name of an instance
@@ -34,9 +35,9 @@ IsFileRefusal kind name body (Some reply) =
 -- else its numbers are spent, else the file is judged
 abbrev pub IsImportRefusal : ℕ → ℕ → PlanKind → Text → Text → Option Reply → Type 0
 IsImportRefusal held next kind name body refusal =
-    ((100 ≤ held) × (refusal ≡ Some many_plans))
-    ⊎ (((held < 100) × (1000001 ≤ next) × (refusal ≡ Some numbers_spent))
-    ⊎ ((held < 100) × (next < 1000001) × IsFileRefusal kind name body refusal))
+    ((most_plans ≤ held) × (refusal ≡ Some many_plans))
+    ⊎ (((held < most_plans) × (greatest_number + 1 ≤ next) × (refusal ≡ Some numbers_spent))
+    ⊎ ((held < most_plans) × (next < greatest_number + 1) × IsFileRefusal kind name body refusal))
 
 -- a bind, by what its body says, the kind of the code where it is published, and the kind that the
 -- plan takes

@@ -6,10 +6,11 @@ use Rattle.std.proofs.Props.{props}
 use Rattle.plan_rows.specs.declared.kinds.PlanKind.{PlanKind}
 use Rattle.plan_rows.specs.declared.kinds.PlanKind.TheVariants as kinds
 use Rattle.plan_rows.specs.World.{Text, Plan, Bind, Lag, World, same_text, same_kind, takes, is_plan_of, is_plan, is_bind, is_lag, plan_in, code_in, desk_in}
+use Rattle.plan_net.specs.Limits.{longest_lag}
 use Rattle.plan_rows.specs.Plans.{is_place}
 use Rattle.plan_rows.specs.Plans.{has_arc}
 use Rattle.plan_rows.specs.Names.{is_from_to, is_digest}
-use Rattle.plan_rows.specs.Rules.{IsWorld, IsPlanRow, IsBindRow, IsLagRow, IsOwned, HasName, is_published_row, is_desk_row}
+use Rattle.plan_rows.specs.Rules.{greatest_number, most_plans, IsWorld, IsPlanRow, IsBindRow, IsLagRow, IsOwned, HasName, is_published_row, is_desk_row}
 use Rattle.plan_desk.specs.Recovering.{Recovers, single, equal, each, pair, there, differ, project, places, has_calendar}
 
 has_name : (kind : PlanKind) (name : Text) → Recovers (HasName kind name)
@@ -21,7 +22,7 @@ has_name kinds.Shop name t = tt
 
 plan_row : (row : Plan) → Recovers (IsPlanRow row)
 plan_row row t = record {
-  number = equal (is_from_to 1 1000000 row.n) true (∥∥₁_map t (λ r. r.number));
+  number = equal (is_from_to 1 greatest_number row.n) true (∥∥₁_map t (λ r. r.number));
   name = has_name row.kind row.name (∥∥₁_map t (λ r. r.name));
   reads = let found = places row.kind row.name row.body (λ _. Unit {0}) (λ _ _. tt) (∥∥₁_map t
       (λ r. (r.reads.0, r.reads.1, tt))) in (found.0, found.1);
@@ -48,7 +49,7 @@ lag_row w row =
       is_project plan.kind (∥∥₁_map t (λ h. h.0)),
       project plan.body (λ p. has_arc p.network row.source row.target ≡ true)
           (λ p. equal (has_arc p.network row.source row.target) true) (∥∥₁_map t (λ h. h.1)),
-      equal (is_from_to 1 10000 row.lag) true (∥∥₁_map t (λ h. h.2)),
+      equal (is_from_to 1 longest_lag row.lag) true (∥∥₁_map t (λ h. h.2)),
     )) (plan_in w row.desk row.n)
 
 owned : (w : World) (row : Plan) → Recovers (IsOwned w row)
@@ -76,7 +77,7 @@ whole_of w t = record {
       (λ k. k.binds_differ));
   lags_differ = differ (λ a b. is_lag a.desk a.n a.source a.target b) w.lags (∥∥₁_map t
       (λ k. k.lags_differ));
-  few = each (λ row. single (at_most (length (filter (is_plan_of row.desk) w.plans)) 100)) w.desks
+  few = each (λ row. single (at_most (length (filter (is_plan_of row.desk) w.plans)) most_plans)) w.desks
       (∥∥₁_map t (λ k. k.few));
   owned = each (owned w) w.plans (∥∥₁_map t (λ k. k.owned));
   bound = each (bind_row w) w.binds (∥∥₁_map t (λ k. k.bound));

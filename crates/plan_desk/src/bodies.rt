@@ -7,17 +7,11 @@ ghost use Rattle.plan_desk.specs.Bodies as spec;
 ghost use Rattle.plan_rows.specs.Names as names;
 ghost use Rattle.plan_desk.specs.BodyViews.{publish_in, desk_body_in, bind_body_in, calendar_in, lag_body_in};
 
+use plan_net::{LONGEST_LAG, MOST_ACTIVITIES};
+use plan_psplib::GREATEST_AMOUNT;
 use plan_rows::{Kind, PlanKind, is_key, is_name};
 use serde_json::Value;
 use std::alloc::{AllocError, Global};
-
-// The greatest capacity, and the greatest lag.
-const MOST_CAPACITY: u64 = 10_000;
-
-const LONGEST_LAG: u64 = 10_000;
-
-// The greatest number of an activity.
-const MOST_ACTIVITIES: u64 = 502;
 
 // A code, its kind, and its capacity.
 #[derive(Drop)]
@@ -107,11 +101,7 @@ fn number_in(name: &str, least: u64, most: u64, value: &Value) -> Option<u64>
 fn kind_named(text: &str) -> Option<Kind>
     ensures { result ≡ spec.kind_named text.now }
 {
-    match text {
-        "crew" => Some(Kind::Crew),
-        "machine" => Some(Kind::Machine),
-        _ => None,
-    }
+    Kind::of_word(text.as_bytes())
 }
 
 fn publish_members(alloc: Global, value: &Value) -> Result<Option<PublishBody>, AllocError>
@@ -123,7 +113,7 @@ fn publish_members(alloc: Global, value: &Value) -> Result<Option<PublishBody>, 
     let Some(kind) = text_in("kind", value).and_then(kind_named) else {
         return Ok(None);
     };
-    let Some(capacity) = number_in("capacity", 0, MOST_CAPACITY, value) else {
+    let Some(capacity) = number_in("capacity", 0, GREATEST_AMOUNT, value) else {
         return Ok(None);
     };
     Ok(Some(PublishBody {
@@ -274,8 +264,8 @@ pub(crate) fn calendar_body(alloc: Global, body: &[u8]) -> Result<Option<Calenda
 fn lag_members(value: &Value) -> Option<LagBody>
     ensures { option_map lag_body_in result ≡ spec.lag_members (view value.now) }
 {
-    let source = number_in("from", 1, MOST_ACTIVITIES, value)?;
-    let target = number_in("to", 1, MOST_ACTIVITIES, value)?;
+    let source = number_in("from", 1, MOST_ACTIVITIES as u64, value)?;
+    let target = number_in("to", 1, MOST_ACTIVITIES as u64, value)?;
     let lag = number_in("lag", 0, LONGEST_LAG, value)?;
     Some(LagBody {
         source: source as u32,

@@ -1,13 +1,12 @@
 //! A book in memory.
 
+ghost use Rattle.std.specs.Prelude.{◌≡◌, Err, IsOk, MatchResult};
+ghost use Rattle.plan_rows.specs.declared.fault.BookFault.TheVariants.{NoMemory};
 ghost use Rattle.plan_rows.specs.Rules.{IsWorld};
 ghost use Rattle.plan_rows.specs.Tables.{world_kept};
 
-mod calls;
-
-use crate::mem_book::calls::Calls;
 use plan_rows::{
-    Book, BookFault, CodeRow, DeskRow, Kind, PlanEntry, PlanKind, PlanRow, Tables, is_world,
+    Book, BookFault, Calls, CodeRow, DeskRow, Kind, PlanEntry, PlanKind, PlanRow, Tables, is_world,
     known_digest,
 };
 use std::alloc::{AllocError, Global};
@@ -20,6 +19,13 @@ pub struct MemBook {
     tables: Tables,
     calls: Calls,
     ghost whole: { ∥ IsWorld (world_kept tables) ∥₁ },
+}
+
+// What tables in memory answer, as a book answers it.
+fn told(answer: Result<(), AllocError>) -> Result<(), BookFault>
+    ensures { MatchResult answer (λ _. IsOk result) (λ _. result ≡ Err NoMemory) }
+{
+    Ok(answer?)
 }
 
 impl MemBook {
@@ -79,7 +85,7 @@ impl Book for MemBook {
 
     fn open_desk(&mut self, name: &str, digest: &[u8; 32]) -> Result<(), BookFault> {
         let answer = self.tables.open_desk(self.alloc, name, digest);
-        self.calls.count(answer)
+        self.calls.count(told(answer))
     }
 
     fn set_key(&mut self, name: &str, digest: &[u8; 32]) -> Result<(), BookFault> {
@@ -89,7 +95,7 @@ impl Book for MemBook {
 
     fn publish(&mut self, code: &str, kind: Kind, capacity: u64) -> Result<(), BookFault> {
         let answer = self.tables.publish(self.alloc, code, kind, capacity);
-        self.calls.count(answer)
+        self.calls.count(told(answer))
     }
 
     fn capacity(&mut self, code: &str) -> Result<Option<(Kind, u64)>, BookFault> {
@@ -121,7 +127,7 @@ impl Book for MemBook {
         body: &[u8],
     ) -> Result<(), BookFault> {
         let answer = self.tables.add_plan(self.alloc, desk, kind, name, body);
-        self.calls.count(answer)
+        self.calls.count(told(answer))
     }
 
     fn remove_plan(&mut self, desk: &str, n: u64) -> Result<(), BookFault> {
@@ -131,7 +137,7 @@ impl Book for MemBook {
 
     fn bind(&mut self, desk: &str, n: u64, place: u64, code: &str) -> Result<(), BookFault> {
         let answer = self.tables.bind(self.alloc, desk, n, place, code);
-        self.calls.count(answer)
+        self.calls.count(told(answer))
     }
 
     fn set_calendar(
@@ -142,7 +148,7 @@ impl Book for MemBook {
         days: &str,
     ) -> Result<(), BookFault> {
         let answer = self.tables.set_calendar(self.alloc, desk, n, start, days);
-        self.calls.count(answer)
+        self.calls.count(told(answer))
     }
 
     fn set_lag(
@@ -154,6 +160,6 @@ impl Book for MemBook {
         lag: u64,
     ) -> Result<(), BookFault> {
         let answer = self.tables.set_lag(self.alloc, desk, n, from, to, lag);
-        self.calls.count(answer)
+        self.calls.count(told(answer))
     }
 }

@@ -1,6 +1,6 @@
 //! What each route refuses, in the order of its refusals.
 
-ghost use Rattle.std.specs.Prelude.{◌≡◌, ◌⊎◌, ◌≤◌, IfOk, IfNone, IfSome, IsOk, option_map};
+ghost use Rattle.std.specs.Prelude.{◌≡◌, ◌⊎◌, ◌+◌, ◌≤◌, IfOk, IfNone, IfSome, IsOk, option_map};
 ghost use Rattle.plan_psplib.specs.Faults.{IsWantOfMemory};
 ghost use Rattle.plan_gantt.specs.FaultText.{file_fault_text_of};
 ghost use Rattle.plan_rows.specs.Plans as plans;
@@ -16,14 +16,8 @@ use plan_gantt::file_fault_text;
 use plan_net::Network;
 use plan_orlib::read_shop;
 use plan_psplib::{FileCode, FileFault, ProjectDoc, read_sm};
-use plan_rows::{Kind, PlanKind};
+use plan_rows::{GREATEST_NUMBER, Kind, MOST_PLANS, PlanKind};
 use std::alloc::{AllocError, Global};
-
-// The most plans of a desk.
-const MOST_PLANS: usize = 100;
-
-// The greatest number of a plan.
-const GREATEST_NUMBER: u64 = 1_000_000;
 
 // The first check that a file fails, or none of a file that is read.
 fn file_fault(alloc: Global, kind: PlanKind, name: &str, body: &[u8]) -> Option<FileFault>
@@ -72,7 +66,7 @@ pub(crate) fn import_refusal(
 ) -> Result<Option<Reply>, AllocError>
     ensures told { IfOk result (λ refusal. spec.IsImportRefusal held next kind name.now body.now (option_map reply_of refusal)) }
     // What is told before the file is read takes no memory.
-    ensures early { (100 ≤ held) ⊎ (1000001 ≤ next) → IsOk result }
+    ensures early { (MOST_PLANS ≤ held) ⊎ (GREATEST_NUMBER + 1 ≤ next) → IsOk result }
 {
     if held >= MOST_PLANS {
         return Ok(Some(many_plans()));

@@ -1,6 +1,6 @@
 //! Best schedules of projects.
 
-ghost use Rattle.std.specs.Prelude.{◌≡◌, IfOk, IfErr};
+ghost use Rattle.std.specs.Prelude.{◌≡◌, IfOk, IfErr, IsErrOf};
 ghost use Rattle.plan_sgs.specs.Problem.{IsActive, IsShortest, makespan};
 ghost use Rattle.plan_sgs.specs.Instances.{IsInstance, problem_of};
 ghost use Rattle.plan_sgs.specs.Rules.{IsNumberedList};
@@ -77,6 +77,8 @@ pub fn solve_project(alloc: Global, instance: &Instance, budget: u64) -> Result<
     ensures active { IfOk result (λ solved. IsActive (problem_of instance.now) solved.schedule.starts.items) }
     ensures makespan { IfOk result (λ solved. solved.schedule.makespan ≡ makespan (problem_of instance.now) solved.schedule.starts.items) }
     ensures refused { IfErr result (spec.RefusesProject instance.now budget) }
+    // What is refused takes no memory.
+    ensures early { IsErrOf result ExactFault.NoMemory → spec.HasFewActivities instance.now × IsBudget budget }
 {
     if instance.network().len() > MOST_SEARCHED_ACTIVITIES {
         return Err(ExactFault::TooLarge);

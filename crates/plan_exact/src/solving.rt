@@ -1,6 +1,6 @@
 //! Best schedules of job shops.
 
-ghost use Rattle.std.specs.Prelude.{◌≡◌, IfOk, IfErr};
+ghost use Rattle.std.specs.Prelude.{◌≡◌, IfOk, IfErr, IsErrOf};
 ghost use Rattle.plan_sgs.specs.Problem.{IsActive, IsShortest, makespan};
 ghost use Rattle.plan_shop.specs.Shop.{IsShop, problem_of};
 ghost use Rattle.plan_exact.specs.Solutions.{IsSolution, RefusesSolving, HasFewSteps, IsBudget, IsFullWord, IsScheduleBy, initial_word};
@@ -81,6 +81,8 @@ pub fn solve_shop(alloc: Global, shop: &Shop, budget: u64) -> Result<Solved, Exa
     ensures active { IfOk result (λ solved. IsActive (problem_of shop.now) solved.schedule.starts.items) }
     ensures makespan { IfOk result (λ solved. solved.schedule.makespan ≡ makespan (problem_of shop.now) solved.schedule.starts.items) }
     ensures refused { IfErr result (RefusesSolving shop.now budget) }
+    // What is refused takes no memory.
+    ensures early { IsErrOf result ExactFault.NoMemory → HasFewSteps shop.now × IsBudget budget }
 {
     if shop.jobs() * shop.machines() > MOST_STEPS {
         return Err(ExactFault::TooLarge);

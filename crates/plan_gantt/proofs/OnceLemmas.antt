@@ -3,8 +3,8 @@ use Rattle.std.proofs.Common.{ℕ, ◌≡◌, inl, inr, List, ◌++◌, refl, sy
 use Rattle.plan_net.specs.Network.{Net}
 use Rattle.plan_cpm.specs.Dates.{DateTable}
 use Rattle.plan_cpm.proofs.OnceLemmas.{dates_once}
-use Rattle.plan_psplib.specs.declared.fault.FileCode.{FileCode}
-use Rattle.plan_psplib.specs.declared.fault.FileFault.{FileFault}
+use Rattle.plan_psplib.specs.declared.text.fault.FileCode.{FileCode}
+use Rattle.plan_psplib.specs.declared.text.fault.FileFault.{FileFault}
 use Rattle.plan_psplib.specs.Project.{Project, SaysProject}
 use Rattle.plan_psplib.proofs.OnceLemmas.{ReadAlike, failing_once, said_fails_none}
 use Rattle.plan_orlib.specs.Shop as docs

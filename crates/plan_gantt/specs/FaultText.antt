@@ -2,9 +2,9 @@
 use Rattle.std.specs.Prelude.{ℕ, List, ◌∷◌, ◌++◌, codes}
 use Rattle.std.specs.List.{flat_map}
 use Rattle.std.specs.Fmt.{decimal}
-use Rattle.plan_psplib.specs.declared.fault.FileCode.{FileCode}
-use Rattle.plan_psplib.specs.declared.fault.FileCode.TheVariants as code
-use Rattle.plan_psplib.specs.declared.fault.FileFault.{FileFault}
+use Rattle.plan_psplib.specs.declared.text.fault.FileCode.{FileCode}
+use Rattle.plan_psplib.specs.declared.text.fault.FileCode.TheVariants as code
+use Rattle.plan_psplib.specs.declared.text.fault.FileFault.{FileFault}
 
 -- the name of the check that a file fails
 abbrev pub code_name_of : FileCode → List ℕ

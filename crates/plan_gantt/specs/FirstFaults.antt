@@ -1,6 +1,6 @@
 -- The line of the first check that a file fails (docs/DEFINITIONS.md, "Texts").
 use Rattle.std.specs.Prelude.{◌≡◌, ℕ, List}
-use Rattle.plan_psplib.specs.declared.fault.FileFault.{FileFault}
+use Rattle.plan_psplib.specs.declared.text.fault.FileFault.{FileFault}
 use Rattle.plan_psplib.specs.Project.{IsFirstFailing}
 use Rattle.plan_orlib.specs.Reading.{FailsWith, shop}
 use Rattle.plan_gantt.specs.FaultText.{file_fault_text_of}

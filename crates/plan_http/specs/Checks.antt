@@ -13,11 +13,15 @@ first_failing (row ∷ rows) = if row.0 then Some row.1 else first_failing rows
 abbrev pub lengths_in : List NamedValue → List (List ℕ)
 lengths_in fields = values_of (codes "content-length") fields
 
+-- the most bytes of a body
+abbrev pub longest_body : ℕ
+longest_body = 1048576
+
 -- the checks of a head, in their order, by its version and fields
 abbrev pub head_checks : ℕ → List NamedValue → List (Bool × Check)
 head_checks minor fields =
     (is_host_wrong minor (values_of (codes "host") fields), Message)
     ∷ (is_length_wrong (lengths_in fields), Message)
-    ∷ (nat_lt 1048576 (body_length (lengths_in fields)), TooLarge)
+    ∷ (nat_lt longest_body (body_length (lengths_in fields)), TooLarge)
     ∷ (nat_lt 0 (length (values_of (codes "transfer-encoding") fields)), Coding)
     ∷ []

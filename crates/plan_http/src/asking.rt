@@ -5,6 +5,7 @@ ghost use Rattle.httparse.specs.Grammar.{RequestHead};
 ghost use Rattle.httparse.specs.Spans.{IsWithin, IsHeaderWithin, header_bytes, span_bytes, IsRequestWithin, IsRequestAt};
 ghost use Rattle.plan_psplib.specs.Devices.{most_calls};
 ghost use Rattle.plan_desk.specs.Requests.{request_in};
+ghost use Rattle.plan_http.specs.Checks.{longest_body};
 ghost use Rattle.plan_http.specs.Fields.{values_of, only_of};
 ghost use Rattle.plan_http.specs.Head.{BeginsWithHead};
 ghost use Rattle.plan_http.specs.Clients.{OfBytes};
@@ -225,7 +226,7 @@ fn behind_head<R: Client>(
     requires within { IsRequestWithin front.now headers.now spans.now }
     ensures asked { Reads (R.known reader.old) (R.known reader.new) (λ had _. (bytes : List ℕ) (h : RequestHead) → BeginsWithHead bytes h
         → IsRequestAt front.now headers.now spans.now h → IsSplit bytes front.now had → IsAsked bytes result) }
-    ensures calls { R.calls reader.new ≤ R.calls reader.old + 1048576 }
+    ensures calls { R.calls reader.new ≤ R.calls reader.old + longest_body }
     ensures faults { AskedFaults (R.faults reader.old) (R.faults reader.new) result }
 {
     match check_head(front, &headers[..spans.headers], spans.version) {

@@ -38,7 +38,7 @@ pub(crate) fn check_head(front: &[u8], headers: &[HeaderSpan], minor: u8) -> Res
     requires { All (IsHeaderWithin (length front.now)) headers.now }
     ensures { MatchResult result
         (λ n. (first_failing (head_checks minor (map (header_bytes front.now) headers.now)) ≡ None)
-        × (n ≡ spec.body_length (lengths_in (map (header_bytes front.now) headers.now))) × (n ≤ 1048576))
+        × (n ≡ spec.body_length (lengths_in (map (header_bytes front.now) headers.now))) × (n ≤ LONGEST_BODY))
         (λ check. first_failing (head_checks minor (map (header_bytes front.now) headers.now)) ≡ Some check) }
 {
     if is_host_wrong(front, headers, minor) {

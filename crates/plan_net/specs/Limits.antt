@@ -3,13 +3,34 @@ use Rattle.std.specs.Prelude.{ℕ, ◌≡◌, ◌-◌, ◌≤◌, ◌<◌, lengt
 use Rattle.plan_net.specs.Network.{Net, count_of, IsActivity}
 use Rattle.plan_net.specs.Path.{IsAcyclic}
 
--- from 2 to 502 activities
-abbrev pub HasGoodSize : Net → Type 0
-HasGoodSize net = (2 ≤ count_of net) × (count_of net ≤ 502)
+-- the fewest activities of a network
+abbrev pub fewest_activities : ℕ
+fewest_activities = 2
 
--- j lasts at most 10,000, and the durations of 1 to j add up to at most 1,000,000
+-- the most activities of a network
+abbrev pub most_activities : ℕ
+most_activities = 502
+
+-- the longest that one activity lasts
+abbrev pub longest_duration : ℕ
+longest_duration = 10000
+
+-- the greatest sum of the durations of one network
+abbrev pub longest_sum : ℕ
+longest_sum = 1000000
+
+-- the greatest lag of one arc
+abbrev pub longest_lag : ℕ
+longest_lag = 10000
+
+-- not too few activities and not too many
+abbrev pub HasGoodSize : Net → Type 0
+HasGoodSize net = (fewest_activities ≤ count_of net) × (count_of net ≤ most_activities)
+
+-- j doesn't last too long, and neither do 1 to j one after another
 abbrev pub IsGoodDuration : Net → ℕ → Type 0
-IsGoodDuration net j = (slice_index net.durations (j - 1) ≤ 10000) × (sum (take j net.durations) ≤ 1000000)
+IsGoodDuration net j =
+    (slice_index net.durations (j - 1) ≤ longest_duration) × (sum (take j net.durations) ≤ longest_sum)
 
 abbrev pub HasGoodDurations : Net → Type 0
 HasGoodDurations net = (j : ℕ) → IsActivity net j → IsGoodDuration net j
@@ -28,9 +49,9 @@ IsNewArc net k = (arc : ℕ × ℕ) → slice_get net.arcs k ≡ Some arc → Co
 abbrev pub HasNewArcs : Net → Type 0
 HasNewArcs net = (k : ℕ) → k < length net.arcs → IsNewArc net k
 
--- each arc has a lag beside it, at most 10,000
+-- each arc has a lag beside it, not too long
 abbrev pub HasGoodLags : Net → Type 0
-HasGoodLags net = (length net.lags ≡ length net.arcs) × All (λ w. w ≤ 10000) net.lags
+HasGoodLags net = (length net.lags ≡ length net.arcs) × All (λ w. w ≤ longest_lag) net.lags
 
 -- within the limits
 pub record IsWithinLimits (net : Net) : Type 0 where

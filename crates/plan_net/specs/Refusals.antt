@@ -3,7 +3,7 @@ use Rattle.std.specs.Prelude.{ℕ, ◌≡◌, ◌≤◌, ◌<◌, ◌++◌, ◌�
 use Rattle.plan_net.specs.Network.{Net, IsActivity, IsArc}
 use Rattle.plan_net.specs.Path.{IsCycle}
 use Rattle.plan_net.specs.Cycle.{IsNamedCycle}
-use Rattle.plan_net.specs.Limits.{HasGoodSize, HasGoodDurations, HasGoodArcs, HasNewArcs, IsGoodDuration, IsGoodArc, IsNewArc}
+use Rattle.plan_net.specs.Limits.{longest_lag, HasGoodSize, HasGoodDurations, HasGoodArcs, HasNewArcs, IsGoodDuration, IsGoodArc, IsNewArc}
 use Rattle.plan_net.specs.declared.fault.NetFault.{NetFault}
 use Rattle.plan_net.specs.declared.fault.NetFault.TheVariants.{NoMemory, Size, BadDuration, BadArc, DoubleArc, Cycle, NoArc, BadLag}
 
@@ -49,7 +49,7 @@ IsLagFault net i j w (BadArc h k) = ⊥
 IsLagFault net i j w (DoubleArc h k) = ⊥
 IsLagFault net i j w (Cycle members) = ⊥
 IsLagFault net i j w (NoArc h k) = (h ≡ i) × (k ≡ j) × (IsArc net i j → ⊥)
-IsLagFault net i j w (BadLag h k) = (h ≡ i) × (k ≡ j) × IsArc net i j × (10000 < w)
+IsLagFault net i j w (BadLag h k) = (h ≡ i) × (k ≡ j) × IsArc net i j × (longest_lag < w)
 
 -- a fault that names a cycle names one of the network
 abbrev pub NamesCycle : Net → NetFault → Type 0

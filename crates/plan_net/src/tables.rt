@@ -5,7 +5,7 @@ ghost use Rattle.std.specs.List.Sorted.{IsStrictlyIncreasing};
 ghost use Rattle.plan_net.specs.Network.{unlagged};
 ghost use Rattle.plan_net.specs.Limits.{HasGoodArcs, HasNewArcs};
 ghost use Rattle.plan_net.specs.Refusals.{IsFirstDoubleArc};
-ghost use Rattle.plan_net.specs.Marks.{AreMarks, AreNoLags, IsSquare, HasNoMark};
+ghost use Rattle.plan_net.specs.Marks.{AreNoLags, IsSquare, HasNoMark};
 ghost use Rattle.plan_net.specs.Indexed.{row_at};
 
 use std::alloc::{AllocError, Global};
@@ -33,8 +33,6 @@ pub fn first_double_arc(
     requires empty { HasNoMark marks.old.items }
     ensures some { IfSome result (IsFirstDoubleArc (unlagged durations.now arcs.now)) }
     ensures none { IfNone result (HasNewArcs (unlagged durations.now arcs.now)) }
-    ensures square { IsSquare (length durations.now) marks.new.items }
-    ensures marks { IfNone result (AreMarks arcs.now marks.new.items) }
 {
     'arcs: for &(i, j) in arcs {
         let row = j as usize - 1;

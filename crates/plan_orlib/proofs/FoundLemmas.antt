@@ -4,19 +4,18 @@ use Rattle.std.specs.Prelude.{Contains, if◌then◌else◌, nat_le, nat_lt}
 use Rattle.std.specs.List.{filter_map, cons_option}
 use Rattle.std.specs.Str.{bytes_eq}
 use Rattle.std.proofs.lemmas.Slice.Eq.{bytes_eq-Decides}
-use Rattle.plan_psplib.specs.declared.fault.FileCode.{FileCode}
-use Rattle.plan_psplib.specs.declared.fault.FileCode.TheVariants as code
-use Rattle.plan_psplib.specs.declared.fault.Fault.{Fault}
-use Rattle.plan_psplib.specs.declared.fault.FileFault.{FileFault}
-use Rattle.plan_psplib.specs.declared.fault.ReadError.{ReadError}
-use Rattle.plan_psplib.specs.declared.fault.ReadError.TheVariants as errors
+use Rattle.plan_psplib.specs.declared.text.fault.FileCode.{FileCode}
+use Rattle.plan_psplib.specs.declared.text.fault.FileCode.TheVariants as code
+use Rattle.plan_psplib.specs.declared.text.fault.Fault.{Fault}
+use Rattle.plan_psplib.specs.declared.text.fault.FileFault.{FileFault}
+use Rattle.plan_psplib.specs.declared.text.fault.ReadError.{ReadError}
+use Rattle.plan_psplib.specs.declared.text.fault.ReadError.TheVariants as errors
 use Rattle.plan_psplib.specs.Faults.{TellsError}
 use Rattle.plan_psplib.specs.Lines.{NumberedLine, last_line, lines}
 use Rattle.plan_psplib.specs.Numbers.{number}
 use Rattle.plan_psplib.specs.Streams.{LineWord, Stream}
-use Rattle.plan_psplib.specs.Reading.{◌>>=◌, Fails, fault, check, as_number, number_of_words, number_at, limited, limited_at}
-use Rattle.plan_psplib.specs.Requests.{greatest, greatest_total, duration_at}
-use Rattle.plan_psplib.specs.Document.{longest_text, zero_line, no_zero, plain}
+use Rattle.plan_psplib.specs.Reading.{◌>>=◌, Fails, fault, check, as_number, number_of_words, number_at, limited, limited_at, greatest, greatest_total, duration_at}
+use Rattle.plan_psplib.specs.Plain.{longest_text, zero_line, no_zero, plain}
 use Rattle.plan_psplib.proofs.GoesLemmas.{then_ok}
 use Rattle.plan_orlib.specs.declared.steps.Step.{Step}
 use Rattle.plan_orlib.specs.Instances.{instance_name, is_name, block, block_from, is_bare, bare_name, bare_stream, stream_of, names_of}

@@ -1,12 +1,12 @@
 -- What a text isn't read for, and the names of a text that is.
 use Rattle.std.proofs.Common.{◌≡◌, ℕ, List, Result, Ok, Err, refl, sym, ◌∙◌, ◌⊎◌, inl, inr}
-use Rattle.plan_psplib.specs.declared.fault.Fault.{Fault}
-use Rattle.plan_psplib.specs.declared.fault.FileFault.{FileFault}
-use Rattle.plan_psplib.specs.declared.fault.ReadError.{ReadError}
-use Rattle.plan_psplib.specs.declared.fault.ReadError.TheVariants as errors
+use Rattle.plan_psplib.specs.declared.text.fault.Fault.{Fault}
+use Rattle.plan_psplib.specs.declared.text.fault.FileFault.{FileFault}
+use Rattle.plan_psplib.specs.declared.text.fault.ReadError.{ReadError}
+use Rattle.plan_psplib.specs.declared.text.fault.ReadError.TheVariants as errors
 use Rattle.plan_psplib.specs.Faults.{IsWantOfMemory, TellsError}
 use Rattle.plan_psplib.specs.Reading.{◌>>=◌, Fails}
-use Rattle.plan_psplib.specs.Document.{plain}
+use Rattle.plan_psplib.specs.Plain.{plain}
 use Rattle.plan_psplib.proofs.GoesLemmas.{then_ok, same_ok}
 use Rattle.plan_orlib.specs.Instances.{names_of}
 use Rattle.plan_orlib.specs.Reading.{FailsWith, names}

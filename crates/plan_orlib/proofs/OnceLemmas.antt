@@ -1,7 +1,7 @@
 -- Of each of these a text and a name have only one: the shop that is said, the first check that fails.
 use Rattle.std.proofs.Common.{◌≡◌, ℕ, List, Result, sym, ap, ◌∙◌}
-use Rattle.plan_psplib.specs.declared.fault.Fault.{Fault}
-use Rattle.plan_psplib.specs.declared.fault.FileFault.{FileFault}
+use Rattle.plan_psplib.specs.declared.text.fault.Fault.{Fault}
+use Rattle.plan_psplib.specs.declared.text.fault.FileFault.{FileFault}
 use Rattle.plan_psplib.proofs.GoesLemmas.{same_ok}
 use Rattle.plan_psplib.proofs.OnceLemmas.{ReadAlike, never_both, fault_once}
 use Rattle.plan_orlib.specs.Shop.{Shop}

@@ -1,11 +1,10 @@
 -- Worked examples, computed from the definitions.
 use Rattle.std.proofs.Common.{◌≡◌, ℕ, List, [], ◌∷◌, Ok, Err, codes, refl}
-use Rattle.plan_psplib.specs.declared.fault.FileCode.TheVariants as code
+use Rattle.plan_psplib.specs.declared.text.fault.FileCode.TheVariants as code
 use Rattle.plan_psplib.specs.Lines.{lines}
 use Rattle.plan_psplib.specs.Streams.{words_of}
-use Rattle.plan_psplib.specs.Reading.{number_at, limited, limited_at}
-use Rattle.plan_psplib.specs.Requests.{duration_at}
-use Rattle.plan_psplib.specs.Document.{plain}
+use Rattle.plan_psplib.specs.Reading.{number_at, limited, limited_at, duration_at}
+use Rattle.plan_psplib.specs.Plain.{plain}
 use Rattle.plan_orlib.specs.declared.steps.Step.{Step}
 use Rattle.plan_orlib.specs.Instances.{names_of}
 use Rattle.plan_orlib.specs.Reading.{machine_at, step_at, steps_at, jobs_at, shop_at, shop}

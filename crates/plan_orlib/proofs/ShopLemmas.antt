@@ -6,12 +6,11 @@ use Rattle.std.proofs.lemmas.Bool.{ltb-true, lt-ltb}
 use Rattle.std.proofs.lemmas.List.{get_or-map, length-map}
 use Rattle.std.proofs.lemmas.List.Elements.{All-from_recursion, recursion_from_All}
 use Rattle.std.proofs.lemmas.List.Sums.{sum_by_push, sum_by-cons}
-use Rattle.plan_psplib.specs.declared.fault.FileCode.TheVariants as code
+use Rattle.plan_psplib.specs.declared.text.fault.FileCode.TheVariants as code
 use Rattle.plan_psplib.specs.Numbers.{number}
 use Rattle.plan_psplib.specs.Streams.{LineWord, Stream}
-use Rattle.plan_psplib.specs.Reading.{check, number_at, limited_at}
+use Rattle.plan_psplib.specs.Reading.{check, number_at, limited_at, greatest_total, duration_at}
 use Rattle.plan_psplib.specs.Says.{Spells}
-use Rattle.plan_psplib.specs.Requests.{greatest_total, duration_at}
 use Rattle.plan_psplib.proofs.GoesLemmas.{Goes, goes_append, goes_split, then_ok, ok_bind, same_ok, check_ok, ok_check, number_goes, goes_number, limited_goes, goes_limited}
 use Rattle.plan_psplib.proofs.AmountsLemmas.{duration_goes, goes_duration}
 use Rattle.plan_orlib.specs.declared.steps.Step.{Step}

@@ -1,12 +1,12 @@
 -- The whole text: what is read is what the text says, and what a text says is read.
 use Rattle.std.proofs.Common.{◌≡◌, ℕ, List, Option, Some, None, Result, Ok, Err, ap, subst}
 use Rattle.std.specs.Prelude.{IfOk}
-use Rattle.plan_psplib.specs.declared.fault.Fault.{Fault}
-use Rattle.plan_psplib.specs.declared.fault.ReadError.{ReadError}
+use Rattle.plan_psplib.specs.declared.text.fault.Fault.{Fault}
+use Rattle.plan_psplib.specs.declared.text.fault.ReadError.{ReadError}
 use Rattle.plan_psplib.specs.Lines.{last_line}
 use Rattle.plan_psplib.specs.Streams.{Stream}
 use Rattle.plan_psplib.specs.Reading.{Gives}
-use Rattle.plan_psplib.specs.Document.{plain}
+use Rattle.plan_psplib.specs.Plain.{plain}
 use Rattle.plan_psplib.proofs.GoesLemmas.{then_ok, ok_bind, same_ok}
 use Rattle.plan_orlib.specs.declared.steps.Listing as declared
 use Rattle.plan_orlib.specs.Instances.{stream_of}

@@ -4,4 +4,5 @@ pub mod Reading
 pub mod Says
 pub use Rattle.plan_psplib.specs.Faults
 pub use Rattle.plan_psplib.specs.Document
+pub use Rattle.plan_psplib.specs.Plain
 pub use Rattle.plan_psplib.specs.Lines

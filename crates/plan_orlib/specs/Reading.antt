@@ -1,13 +1,12 @@
 -- Reading a job shop text in order: its shop, or the first check that fails (docs/DEFINITIONS.md, "Job shop files").
 use Rattle.std.specs.Prelude.{◌≡◌, ℕ, zero, suc, ◌+◌, List, [], ◌∷◌, ◌++◌, Option, Some, None, Result, Ok, Err, nat_lt}
-use Rattle.plan_psplib.specs.declared.fault.FileCode.TheVariants as code
-use Rattle.plan_psplib.specs.declared.fault.Fault.{Fault}
-use Rattle.plan_psplib.specs.declared.fault.FileFault.{FileFault}
+use Rattle.plan_psplib.specs.declared.text.fault.FileCode.TheVariants as code
+use Rattle.plan_psplib.specs.declared.text.fault.Fault.{Fault}
+use Rattle.plan_psplib.specs.declared.text.fault.FileFault.{FileFault}
 use Rattle.plan_psplib.specs.Lines.{last_line}
 use Rattle.plan_psplib.specs.Streams.{Stream}
-use Rattle.plan_psplib.specs.Reading.{◌>>=◌, fault, check, number_at, limited_at}
-use Rattle.plan_psplib.specs.Requests.{duration_at}
-use Rattle.plan_psplib.specs.Document.{plain}
+use Rattle.plan_psplib.specs.Reading.{◌>>=◌, fault, check, number_at, limited_at, duration_at}
+use Rattle.plan_psplib.specs.Plain.{plain}
 use Rattle.plan_orlib.specs.declared.steps.Step.{Step}
 use Rattle.plan_orlib.specs.Instances.{stream_of, names_of}
 use Rattle.plan_orlib.specs.Shop.{Shop, most_jobs, most_machines, time_of, total_time}

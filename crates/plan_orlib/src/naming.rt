@@ -2,10 +2,10 @@
 
 ghost use Rattle.std.specs.Prelude.{◌≡◌, ◌⊎◌, Ok, Err, IfOk, IfErr, MatchResult, map};
 ghost use Rattle.std.specs.List.{filter_map};
-ghost use Rattle.plan_psplib.specs.Document.{plain};
+ghost use Rattle.plan_psplib.specs.Plain.{plain};
 ghost use Rattle.plan_psplib.specs.Faults.{IsWantOfMemory, TellsError};
-ghost use Rattle.plan_psplib.specs.declared.fault.Fault.{Fault};
-ghost use Rattle.plan_psplib.specs.declared.fault.ReadError.TheVariants as errors;
+ghost use Rattle.plan_psplib.specs.declared.text.fault.Fault.{Fault};
+ghost use Rattle.plan_psplib.specs.declared.text.fault.ReadError.TheVariants as errors;
 ghost use Rattle.plan_psplib.specs.Lines.{lines};
 ghost use Rattle.plan_psplib.specs.Reading.{Gives};
 ghost use Rattle.plan_orlib.specs.Instances as spec;

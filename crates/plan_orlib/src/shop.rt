@@ -1,11 +1,11 @@
 //! Shops out of job shop files.
 
 ghost use Rattle.std.specs.Prelude.{◌≡◌, ◌≤◌, ◌-◌, ◌⊎◌, Some, Ok, Err, IfOk, IfErr, MatchResult, Contains, length, map, slice_get};
-ghost use Rattle.plan_psplib.specs.Document.{plain};
+ghost use Rattle.plan_psplib.specs.Plain.{plain};
 ghost use Rattle.plan_psplib.specs.Faults.{IsWantOfMemory, TellsError};
-ghost use Rattle.plan_psplib.specs.declared.fault.Fault.{Fault};
-ghost use Rattle.plan_psplib.specs.declared.fault.FileCode.TheVariants as code;
-ghost use Rattle.plan_psplib.specs.declared.fault.ReadError.TheVariants as errors;
+ghost use Rattle.plan_psplib.specs.declared.text.fault.Fault.{Fault};
+ghost use Rattle.plan_psplib.specs.declared.text.fault.FileCode.TheVariants as code;
+ghost use Rattle.plan_psplib.specs.declared.text.fault.ReadError.TheVariants as errors;
 ghost use Rattle.plan_psplib.specs.Lines.{last_line};
 ghost use Rattle.plan_psplib.specs.Reading.{Gives};
 ghost use Rattle.plan_orlib.specs.Instances.{names_of};

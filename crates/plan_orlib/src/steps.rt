@@ -1,7 +1,7 @@
 //! The numbers of a shop: how many jobs and machines, and the steps of each job.
 
 ghost use Rattle.std.specs.Prelude.{◌≡◌, ◌≤◌, ◌+◌, [], IfOk, map};
-ghost use Rattle.plan_psplib.specs.Reading.{Gives, Reads};
+ghost use Rattle.plan_psplib.specs.Reading.{Gives, Reads, greatest_total};
 ghost use Rattle.plan_orlib.specs.Shop.{shop_of, time_of};
 ghost use Rattle.plan_orlib.specs.Reading as spec;
 
@@ -76,10 +76,10 @@ fn next_job<L: Layout>(
     machines: u32,
     before: u64,
 ) -> Result<Row, ReadError>
-    requires { before ≤ 1000000 }
+    requires { before ≤ greatest_total }
     ensures exact { Gives (λ row. (row.steps.items, words.new)) result (spec.steps_at machines before machines [] words.old) }
     ensures total { IfOk result (λ row. row.total ≡ before + time_of row.steps.items) }
-    ensures fits { IfOk result (λ row. row.total ≤ 1000000) }
+    ensures fits { IfOk result (λ row. row.total ≤ greatest_total) }
 {
     let mut steps = Vec::new(alloc);
     let mut total = before;
@@ -98,9 +98,9 @@ fn next_step<L: Layout>(
     machines: u32,
     total: u64,
 ) -> Result<Step, Fault>
-    requires { total ≤ 1000000 }
+    requires { total ≤ greatest_total }
     ensures exact { Reads (λ step. (step, words.new)) result (spec.step_at machines total words.old) }
-    ensures fits { IfOk result (λ step. total + step.time ≤ 1000000) }
+    ensures fits { IfOk result (λ step. total + step.time ≤ greatest_total) }
 {
     let machine = machine(words, machines)?;
     let time = next_duration(words, total)?;

@@ -2,7 +2,7 @@
 use Rattle.std.proofs.Common.{◌≡◌, ℕ, zero, suc, ◌+◌, ◌≤◌, ◌&&◌, ◌||◌, Bool, true, false, List, [], ◌∷◌, ◌++◌, Ok, length, refl, sym, ap, ◌∙◌, subst, append_assoc, append-nil}
 use Rattle.std.specs.Prelude.{nat_le, nat_eq, not}
 use Rattle.std.specs.List.{AllByRecursion, IsDistinct}
-use Rattle.plan_psplib.specs.declared.fault.FileCode.TheVariants as code
+use Rattle.plan_psplib.specs.declared.text.fault.FileCode.TheVariants as code
 use Rattle.plan_psplib.specs.Streams.{Stream}
 use Rattle.plan_psplib.specs.Reading.{LineNumber, check, number_at, expect_at, end_at}
 use Rattle.plan_psplib.specs.Precedence.{is_among, job_at, successor_at, successors_at, precedence_row_at, precedence_rows_at, precedence}

@@ -2,9 +2,9 @@
 use Rattle.std.proofs.Common.{◌≡◌, ℕ, ◌≤◌, ◌==◌, ◌&&◌, Bool, true, false, List, [], ◌∷◌, ◌++◌, Option, Some, None, Result, Ok, Err, map, refl, sym, ap, ◌∙◌, subst}
 use Rattle.std.proofs.lemmas.Bool.{leb-true, le-leb, eqb-true, eq-eqb}
 use Rattle.std.specs.Prelude.{nat_le}
-use Rattle.plan_psplib.specs.declared.fault.FileCode.{FileCode}
-use Rattle.plan_psplib.specs.declared.fault.FileCode.TheVariants as code
-use Rattle.plan_psplib.specs.declared.fault.Fault.{Fault}
+use Rattle.plan_psplib.specs.declared.text.fault.FileCode.{FileCode}
+use Rattle.plan_psplib.specs.declared.text.fault.FileCode.TheVariants as code
+use Rattle.plan_psplib.specs.declared.text.fault.Fault.{Fault}
 use Rattle.plan_psplib.specs.Numbers.{number}
 use Rattle.plan_psplib.specs.Streams.{LineWord, Stream}
 use Rattle.plan_psplib.specs.Reading.{◌>>=◌, LineNumber, check, as_number, number_of_words, number_at, expect_at, within_at, limited, limited_at, end_of_words, end_at}

@@ -1,8 +1,8 @@
 -- Loops that read one part after another.
 use Rattle.std.proofs.Common.{◌≡◌, ℕ, suc, ◌-◌, ◌+◌, ◌≤◌, ◌<◌, Result, Ok, sym, ap, ◌∙◌, arith}
-use Rattle.plan_psplib.specs.declared.fault.Fault.{Fault}
-use Rattle.plan_psplib.specs.declared.fault.ReadError.{ReadError}
-use Rattle.plan_psplib.specs.declared.fault.ReadError.TheVariants as errors
+use Rattle.plan_psplib.specs.declared.text.fault.Fault.{Fault}
+use Rattle.plan_psplib.specs.declared.text.fault.ReadError.{ReadError}
+use Rattle.plan_psplib.specs.declared.text.fault.ReadError.TheVariants as errors
 use Rattle.plan_psplib.specs.Reading.{◌>>=◌, Fails}
 
 -- what fails first fails the whole

@@ -3,8 +3,8 @@ use Rattle.std.proofs.Common.{◌≡◌, ℕ, inl, inr, List, Result, Ok, Err, s
 use Rattle.plan_net.specs.Limits.{IsSound}
 use Rattle.plan_net.specs.Cycle.{IsNamedCycle}
 use Rattle.plan_net.proofs.OnceLemmas.{cycle_once, sound_unnamed}
-use Rattle.plan_psplib.specs.declared.fault.Fault.{Fault}
-use Rattle.plan_psplib.specs.declared.fault.FileFault.{FileFault}
+use Rattle.plan_psplib.specs.declared.text.fault.Fault.{Fault}
+use Rattle.plan_psplib.specs.declared.text.fault.FileFault.{FileFault}
 use Rattle.plan_psplib.specs.Document.{Document, document}
 use Rattle.plan_psplib.specs.Says.{Says}
 use Rattle.plan_psplib.specs.Project.{Project, SaysProject, IsFirstFailing, NamesCycleOf, network_of, project_of}

@@ -1,10 +1,10 @@
 -- The loops over amounts, and over the rows of the requests section.
 use Rattle.std.proofs.Common.{◌≡◌, ℕ, suc, ◌-◌, ◌+◌, ◌≤◌, ◌<◌, List, [], ◌∷◌, ◌++◌, Result, Ok, sum, refl, sym}
-use Rattle.plan_psplib.specs.declared.fault.Fault.{Fault}
-use Rattle.plan_psplib.specs.declared.fault.ReadError.{ReadError}
+use Rattle.plan_psplib.specs.declared.text.fault.Fault.{Fault}
+use Rattle.plan_psplib.specs.declared.text.fault.ReadError.{ReadError}
 use Rattle.plan_psplib.specs.Streams.{Stream}
-use Rattle.plan_psplib.specs.Reading.{◌>>=◌, Fails, within_at}
-use Rattle.plan_psplib.specs.Requests.{Request, Requests, greatest, amounts_at, request_row_at, request_rows_at, with_row}
+use Rattle.plan_psplib.specs.Reading.{◌>>=◌, Fails, within_at, greatest}
+use Rattle.plan_psplib.specs.Requests.{Request, Requests, amounts_at, request_row_at, request_rows_at, with_row}
 use Rattle.plan_psplib.proofs.LoopLemmas.{goes_on, fails, is_done}
 
 -- the state of the loop over amounts: those so far, and what is left to read

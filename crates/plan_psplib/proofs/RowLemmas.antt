@@ -1,8 +1,8 @@
 -- The loops over the successors of a row, and over the rows of the precedence section.
 use Rattle.std.proofs.Common.{◌≡◌, ℕ, suc, Bool, ◌-◌, ◌+◌, ◌≤◌, ◌<◌, List, [], ◌∷◌, ◌++◌, Result, Ok, length, take, drop, refl, sym, ap, ◌∙◌, arith, Vec}
 use Rattle.std.proofs.lemmas.Grind.{common_steps}
-use Rattle.plan_psplib.specs.declared.fault.Fault.{Fault}
-use Rattle.plan_psplib.specs.declared.fault.ReadError.{ReadError}
+use Rattle.plan_psplib.specs.declared.text.fault.Fault.{Fault}
+use Rattle.plan_psplib.specs.declared.text.fault.ReadError.{ReadError}
 use Rattle.plan_psplib.specs.Streams.{Stream}
 use Rattle.plan_psplib.specs.Reading.{◌>>=◌, Fails}
 use Rattle.plan_psplib.specs.Precedence.{successor_at, successors_at, precedence_row_at, precedence_rows_at}

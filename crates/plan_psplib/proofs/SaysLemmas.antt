@@ -3,14 +3,14 @@ use Rattle.std.proofs.Common.{◌≡◌, ◌≢◌, ℕ, ◌+◌, ◌≤◌, tru
 use Rattle.std.specs.Prelude.{nat_le, All, IfOk}
 use Rattle.std.specs.Prelude.{count_by}
 use Rattle.std.specs.Option.{option_map}
-use Rattle.plan_psplib.specs.declared.document.Document as declared
-use Rattle.plan_psplib.specs.declared.fault.ReadError.{ReadError}
+use Rattle.plan_psplib.specs.declared.sm.document.Document as declared
+use Rattle.plan_psplib.specs.declared.text.fault.ReadError.{ReadError}
 use Rattle.std.specs.List.{AllByRecursion, position}
 use Rattle.std.proofs.lemmas.Bool.{leb-true, le-leb, eqb-true, eq-eqb}
 use Rattle.std.proofs.lemmas.List.Quantifiers.{position-Some}
 use Rattle.std.proofs.lemmas.List.Sums.{fails_before_first}
-use Rattle.plan_psplib.specs.declared.fault.FileCode.TheVariants as code
-use Rattle.plan_psplib.specs.declared.fault.Fault.{Fault}
+use Rattle.plan_psplib.specs.declared.text.fault.FileCode.TheVariants as code
+use Rattle.plan_psplib.specs.declared.text.fault.Fault.{Fault}
 use Rattle.plan_psplib.specs.Lines.{is_line_feed, last_line}
 use Rattle.plan_psplib.specs.Streams.{Stream}
 use Rattle.plan_psplib.specs.Sections.{kept_lines, head_of, section, precedence_title, requests_title, availabilities_title}
@@ -18,7 +18,8 @@ use Rattle.plan_psplib.specs.Reading.{Gives, check}
 use Rattle.plan_psplib.specs.Head.{Sizes, sizes}
 use Rattle.plan_psplib.specs.Precedence.{precedence}
 use Rattle.plan_psplib.specs.Requests.{requests, availabilities}
-use Rattle.plan_psplib.specs.Document.{Document, longest_text, is_zero, zero_line, no_zero, plain, found_section, document, document_of}
+use Rattle.plan_psplib.specs.Document.{Document, found_section, document, document_of}
+use Rattle.plan_psplib.specs.Plain.{longest_text, is_zero, zero_line, no_zero, plain}
 use Rattle.plan_psplib.specs.Says.{Says, HasValue, IsNeeds, SpellsArcs}
 use Rattle.plan_psplib.proofs.CutLemmas.{position-long}
 use Rattle.plan_psplib.proofs.GoesLemmas.{then_ok, ok_bind, same_ok, check_ok, ok_check}

@@ -1,10 +1,11 @@
 -- What the head of an `.sm` text says (docs/DEFINITIONS.md, "Files").
 use Rattle.std.specs.Prelude.{ℕ, ◌==◌, List, Option, Some, None, Result, Ok, codes}
-use Rattle.plan_psplib.specs.declared.fault.FileCode.TheVariants as code
-use Rattle.plan_psplib.specs.declared.fault.Fault.{Fault}
-use Rattle.plan_psplib.specs.declared.lines.Line as declared
-use Rattle.plan_psplib.specs.declared.head.Sizes as declared_sizes
-use Rattle.plan_psplib.specs.declared.head.Keys as declared_keys
+use Rattle.plan_net.specs.Limits.{fewest_activities, most_activities}
+use Rattle.plan_psplib.specs.declared.text.fault.FileCode.TheVariants as code
+use Rattle.plan_psplib.specs.declared.text.fault.Fault.{Fault}
+use Rattle.plan_psplib.specs.declared.text.lines.Line as declared
+use Rattle.plan_psplib.specs.declared.sm.head.Sizes as declared_sizes
+use Rattle.plan_psplib.specs.declared.sm.head.Keys as declared_keys
 use Rattle.plan_psplib.specs.Lines.{NumberedLine}
 use Rattle.plan_psplib.specs.Numbers.{number}
 use Rattle.plan_psplib.specs.Sections.{key_line, value_word}
@@ -89,14 +90,18 @@ values lines = do
 abbrev pub supported : ℕ → LineNumber → Result (Unit {0}) Fault
 supported only v = check (v.value == only) code.Unsupported v.line
 
--- one project, no nonrenewable and no doubly constrained resources, 2 to 502 jobs, 1 to 16 renewable resources
+-- the most renewable resources of a project
+abbrev pub most_resources : ℕ
+most_resources = 16
+
+-- one project, no nonrenewable and no doubly constrained resources, as many jobs as a network may have, and some renewable resources
 unfoldable pub sizes_in : Keys LineNumber → Result Sizes Fault
 sizes_in v = do
   one_project ← supported 1 v.projects
   no_nonrenewable ← supported 0 v.nonrenewable
   no_doubly_constrained ← supported 0 v.doubly_constrained
-  jobs ← limited 2 502 v.jobs
-  resources ← limited 1 16 v.renewable
+  jobs ← limited fewest_activities most_activities v.jobs
+  resources ← limited 1 most_resources v.renewable
   Ok (record { jobs = jobs; resources = resources })
 
 -- the sizes that the head gives; last is the last line of the text

@@ -4,6 +4,7 @@ pub mod Devices
 pub mod Streams
 pub mod Sections
 pub mod Reading
+pub mod Plain
 pub mod Faults
 pub mod Noted
 pub mod Head

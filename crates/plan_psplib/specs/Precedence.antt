@@ -2,8 +2,8 @@
 use Rattle.std.specs.Prelude.{◌≡◌, ℕ, zero, suc, ◌+◌, ◌<◌, ◌==◌, ◌&&◌, Bool, false, length, slice_index_or, List, [], ◌∷◌, ◌++◌, Result, Ok, nat_le, not}
 use Rattle.std.specs.List.{list_any}
 use Rattle.plan_net.specs.Successors.{arcs_from}
-use Rattle.plan_psplib.specs.declared.fault.FileCode.TheVariants as code
-use Rattle.plan_psplib.specs.declared.fault.Fault.{Fault}
+use Rattle.plan_psplib.specs.declared.text.fault.FileCode.TheVariants as code
+use Rattle.plan_psplib.specs.declared.text.fault.Fault.{Fault}
 use Rattle.plan_psplib.specs.Streams.{Stream}
 use Rattle.plan_psplib.specs.Reading.{◌>>=◌, LineNumber, check, number_at, expect_at, end_at}
 

@@ -1,11 +1,12 @@
 -- Reading words from front to back, up to the first fault (docs/DEFINITIONS.md, "Files").
-use Rattle.std.specs.Prelude.{◌≡◌, ℕ, ◌==◌, ◌&&◌, Bool, if◌then◌else◌, List, [], ◌∷◌, Option, Some, None, Result, Ok, Err, nat_le}
-use Rattle.plan_psplib.specs.declared.fault.FileCode.{FileCode}
-use Rattle.plan_psplib.specs.declared.fault.FileCode.TheVariants as code
-use Rattle.plan_psplib.specs.declared.fault.Fault.{Fault}
-use Rattle.plan_psplib.specs.declared.fault.ReadError.{ReadError}
-use Rattle.plan_psplib.specs.declared.fault.ReadError.TheVariants as errors
-use Rattle.plan_psplib.specs.declared.reading.LineNumber as declared
+use Rattle.std.specs.Prelude.{◌≡◌, ℕ, ◌+◌, ◌==◌, ◌&&◌, Bool, if◌then◌else◌, List, [], ◌∷◌, Option, Some, None, Result, Ok, Err, nat_le}
+use Rattle.plan_net.specs.Limits.{longest_duration, longest_sum}
+use Rattle.plan_psplib.specs.declared.text.fault.FileCode.{FileCode}
+use Rattle.plan_psplib.specs.declared.text.fault.FileCode.TheVariants as code
+use Rattle.plan_psplib.specs.declared.text.fault.Fault.{Fault}
+use Rattle.plan_psplib.specs.declared.text.fault.ReadError.{ReadError}
+use Rattle.plan_psplib.specs.declared.text.fault.ReadError.TheVariants as errors
+use Rattle.plan_psplib.specs.declared.text.reading.LineNumber as declared
 use Rattle.plan_psplib.specs.Numbers.{number}
 use Rattle.plan_psplib.specs.Streams.{LineWord, Stream}
 
@@ -83,6 +84,21 @@ limited_at least most s = do
   n ← number_at s
   value ← limited least most n.0
   Ok (value, n.1)
+
+-- the greatest duration, and the greatest amount of a resource
+abbrev pub greatest : ℕ
+greatest = longest_duration
+
+-- the greatest sum of all durations
+abbrev pub greatest_total : ℕ
+greatest_total = longest_sum
+
+-- a duration, where those before it add up to this total
+unfoldable pub duration_at : ℕ → Stream → Result (ℕ × Stream) Fault
+duration_at total s = do
+  duration ← number_at s
+  fits ← check (nat_le duration.0.value greatest && nat_le (total + duration.0.value) greatest_total) code.Limit duration.0.line
+  Ok (duration.0.value, duration.1)
 
 abbrev pub end_of_words : List LineWord → Result (Unit {0}) Fault
 end_of_words [] = Ok tt

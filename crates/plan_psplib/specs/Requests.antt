@@ -1,19 +1,11 @@
 -- The requests section and the availabilities (docs/DEFINITIONS.md, "Files").
-use Rattle.std.specs.Prelude.{ℕ, zero, suc, ◌+◌, ◌&&◌, List, [], ◌∷◌, ◌++◌, Result, Ok, map, nat_le, sum}
-use Rattle.plan_psplib.specs.declared.fault.FileCode.TheVariants as code
-use Rattle.plan_psplib.specs.declared.fault.Fault.{Fault}
-use Rattle.plan_psplib.specs.declared.requests.Request as declared
-use Rattle.plan_psplib.specs.declared.requests.Requests as declared_requests
+use Rattle.std.specs.Prelude.{ℕ, zero, suc, ◌+◌, List, [], ◌∷◌, ◌++◌, Result, Ok, map, sum}
+use Rattle.plan_psplib.specs.declared.text.fault.FileCode.TheVariants as code
+use Rattle.plan_psplib.specs.declared.text.fault.Fault.{Fault}
+use Rattle.plan_psplib.specs.declared.sm.requests.Request as declared
+use Rattle.plan_psplib.specs.declared.sm.requests.Requests as declared_requests
 use Rattle.plan_psplib.specs.Streams.{Stream}
-use Rattle.plan_psplib.specs.Reading.{◌>>=◌, check, number_at, expect_at, within_at, end_at}
-
--- the greatest duration, and the greatest amount of a resource
-abbrev pub greatest : ℕ
-greatest = 10000
-
--- the greatest sum of all durations
-abbrev pub greatest_total : ℕ
-greatest_total = 1000000
+use Rattle.plan_psplib.specs.Reading.{◌>>=◌, greatest, duration_at, expect_at, within_at, end_at}
 
 -- what one job takes: its duration, and its need of each resource
 pub record Request : Type 0 where
@@ -38,13 +30,6 @@ amounts_at zero before s = Ok (before, s)
 amounts_at (suc more) before s = do
   amount ← within_at greatest s
   amounts_at more (before ++ amount.0 ∷ []) amount.1
-
--- a duration, where those before it add up to this total
-unfoldable pub duration_at : ℕ → Stream → Result (ℕ × Stream) Fault
-duration_at total s = do
-  duration ← number_at s
-  fits ← check (nat_le duration.0.value greatest && nat_le (total + duration.0.value) greatest_total) code.Limit duration.0.line
-  Ok (duration.0.value, duration.1)
 
 -- the row of a job: its number, the mode 1, its duration, its amounts of k resources
 unfoldable pub request_row_at : ℕ → ℕ → ℕ → Stream → Result (Request × Stream) Fault

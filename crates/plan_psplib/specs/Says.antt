@@ -5,9 +5,12 @@ use Rattle.plan_psplib.specs.Lines.{NumberedLine}
 use Rattle.plan_psplib.specs.Numbers.{number}
 use Rattle.plan_psplib.specs.Streams.{LineWord, Stream}
 use Rattle.plan_psplib.specs.Sections.{kept_lines, head_of, section, key_line, value_word, precedence_title, requests_title, availabilities_title}
+use Rattle.plan_net.specs.Limits.{fewest_activities, most_activities}
 use Rattle.plan_net.specs.Successors.{arcs_of_rows, IsRow}
-use Rattle.plan_psplib.specs.Requests.{greatest, greatest_total}
-use Rattle.plan_psplib.specs.Document.{Document, longest_text}
+use Rattle.plan_psplib.specs.Reading.{greatest, greatest_total}
+use Rattle.plan_psplib.specs.Head.{most_resources}
+use Rattle.plan_psplib.specs.Document.{Document}
+use Rattle.plan_psplib.specs.Plain.{longest_text}
 
 -- the words are these numbers, one each
 abbrev pub Spells : List LineWord → List ℕ → Type 0
@@ -48,8 +51,8 @@ pub record Says (text : List ℕ) (d : Document) : Type 0 where
   pub resources : HasValue text (codes "- renewable") (length d.available)
   pub no_nonrenewable : HasValue text (codes "- nonrenewable") 0
   pub no_doubly_constrained : HasValue text (codes "- doubly constrained") 0
-  pub jobs_fit : (2 ≤ length d.requests.durations) × (length d.requests.durations ≤ 502)
-  pub resources_fit : (1 ≤ length d.available) × (length d.available ≤ 16)
+  pub jobs_fit : (fewest_activities ≤ length d.requests.durations) × (length d.requests.durations ≤ most_activities)
+  pub resources_fit : (1 ≤ length d.available) × (length d.available ≤ most_resources)
   pub precedence : (s : Stream) × (section precedence_title (kept_lines text) ≡ Some s) × (s.last ≡ d.precedence_line) × SpellsArcs (length d.requests.durations) s.words d.arcs
   pub requests : SectionSpells text requests_title (request_numbers 1 d.requests.durations d.requests.needs)
   pub rows : length d.requests.needs ≡ length d.requests.durations

@@ -3,8 +3,8 @@ use Rattle.std.proofs.Common.{◌≡◌, ◌⊎◌, inl, inr, ℕ, zero, suc, �
 use Rattle.std.specs.Option.{MatchOption}
 use Rattle.std.specs.Prelude.{is_ok, IfOk, IfErr}
 use Rattle.std.specs.List.{AllByRecursion}
-use Rattle.plan_psplib.specs.declared.fault.FileFault.{FileFault}
-use Rattle.plan_psplib.specs.declared.fault.FileCode.TheVariants as code
+use Rattle.plan_psplib.specs.declared.text.fault.FileFault.{FileFault}
+use Rattle.plan_psplib.specs.declared.text.fault.FileCode.TheVariants as code
 use Rattle.plan_psplib.specs.Faults.{IsWantOfMemory}
 use Rattle.plan_psplib.specs.Project.{Project, SaysProject, IsFirstFailing}
 use Rattle.plan_psplib.proofs.OnceLemmas.{said_fails_none}

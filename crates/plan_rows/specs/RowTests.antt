@@ -5,6 +5,7 @@ use Rattle.std.specs.Option.{MatchOption}
 use Rattle.std.specs.List.{AllByRecursion, position}
 use Rattle.std.specs.Borrow.{Bor}
 use Rattle.std.specs.HashMap.{HashMap, get_by}
+use Rattle.plan_net.specs.Limits.{longest_lag}
 use Rattle.plan_psplib.specs.Project.{Project, SaysProject}
 use Rattle.plan_orlib.specs.Shop as docs
 use Rattle.plan_orlib.specs.Says.{Says}
@@ -18,7 +19,7 @@ use Rattle.plan_rows.specs.Books.{published_in}
 use Rattle.plan_rows.specs.Tables.{desk_kept, head_seen}
 use Rattle.plan_rows.specs.World.{Text, Desk, Plan, World, same_text, is_plan_of, is_plan, is_bind, is_lag}
 use Rattle.plan_rows.specs.Names.{is_from_to}
-use Rattle.plan_rows.specs.Rules.{AllDiffer, IsPlanRow, IsOwned, IsBindRow, HasName, HasCalendar, is_desk_row, is_published_row}
+use Rattle.plan_rows.specs.Rules.{greatest_number, most_plans, AllDiffer, IsPlanRow, IsOwned, IsBindRow, HasName, HasCalendar, is_desk_row, is_published_row}
 
 -- a test answers true where it holds, and false where it can't
 abbrev pub Tells : Bool → Type 0 → Type 0
@@ -80,14 +81,14 @@ pub record KeysDiffer (w : World) : Type 0 where
   pub binds : AllDiffer (λ a b. is_bind a.desk a.n a.place b) w.binds
   pub lags : AllDiffer (λ a b. is_lag a.desk a.n a.source a.target b) w.lags
 
--- a desk keeps its rules, and has at most 100 plans
+-- a desk keeps its rules, and not too many plans
 abbrev pub IsDeskOf : World → Desk → Type 0
-IsDeskOf w row = (is_desk_row row ≡ true) × (length (filter (is_plan_of row.desk) w.plans) ≤ 100)
+IsDeskOf w row = (is_desk_row row ≡ true) × (length (filter (is_plan_of row.desk) w.plans) ≤ most_plans)
 
 -- a plan keeps the rules of rows, but for its file
 abbrev pub HasHead : Plan → Type 0
 HasHead row =
-    (is_from_to 1 1000000 row.n ≡ true) × HasName row.kind row.name × HasCalendar row.start row.days
+    (is_from_to 1 greatest_number row.n ≡ true) × HasName row.kind row.name × HasCalendar row.start row.days
 
 -- a plan that keeps the rules of rows with what its file gives, or nothing where it doesn't
 abbrev pub PlanTold : Plan → Option PlanFile → Type 0
@@ -100,4 +101,4 @@ pub record RowsAreGood (w : World) : Type 0 where
   pub desks : AllByRecursion (IsDeskOf w) w.desks
   pub plans : AllByRecursion (IsOwned w) w.plans
   pub binds : AllByRecursion (IsBindRow w) w.binds
-  pub lags : AllByRecursion (λ row. is_from_to 1 10000 row.lag ≡ true) w.lags
+  pub lags : AllByRecursion (λ row. is_from_to 1 longest_lag row.lag ≡ true) w.lags

@@ -1,6 +1,8 @@
 -- The rules that the rows of an office keep (docs/DEFINITIONS.md, "Desks").
-use Rattle.std.specs.Prelude.{◌≡◌, ◌⊎◌, ℕ, ◌≤◌, ◌<◌, Bool, true, false, ◌&&◌, nat_le, List, [], ◌∷◌, length, filter, Option, Some, None}
+use Rattle.std.specs.Prelude.{◌≡◌, ◌⊎◌, ℕ, ◌+◌, ◌≤◌, ◌<◌, Bool, true, false, ◌&&◌, nat_le, List, [], ◌∷◌, length, filter, Option, Some, None}
 use Rattle.std.specs.List.{AllByRecursion}
+use Rattle.plan_net.specs.Limits.{longest_lag}
+use Rattle.plan_psplib.specs.Reading.{greatest}
 use Rattle.plan_psplib.specs.Project.{Project}
 use Rattle.plan_psplib.specs.Project as files
 use Rattle.plan_calendar.specs.WorkingDay.{Workdays}
@@ -22,11 +24,19 @@ abbrev pub IsThereAnd : {A : Type 0} → Option A → (A → Type 0) → Type 0
 IsThereAnd None P = ⊥
 IsThereAnd (Some x) P = P x
 
+-- the greatest number of a plan
+abbrev pub greatest_number : ℕ
+greatest_number = 1000000
+
+-- the most plans of a desk
+abbrev pub most_plans : ℕ
+most_plans = 100
+
 abbrev pub is_published_row : Published → Bool
-is_published_row row = is_name row.code && nat_le row.capacity 10000
+is_published_row row = is_name row.code && nat_le row.capacity greatest
 
 abbrev pub is_desk_row : Desk → Bool
-is_desk_row row = is_name row.desk && (is_digest row.digest && is_from_to 1 1000001 row.next)
+is_desk_row row = is_name row.desk && (is_digest row.digest && is_from_to 1 (greatest_number + 1) row.next)
 
 -- a project has no instance
 abbrev pub HasName : PlanKind → Text → Type 0
@@ -40,7 +50,7 @@ HasCalendar start days =
 
 -- a plan has a number, a file that is read without a fault, and a calendar or none
 pub record IsPlanRow (row : Plan) : Type 0 where
-  pub number : is_from_to 1 1000000 row.n ≡ true
+  pub number : is_from_to 1 greatest_number row.n ≡ true
   pub name : HasName row.kind row.name
   pub reads : (count : ℕ) × HasPlaces row.kind row.name row.body count
   pub calendar : HasCalendar row.start row.days
@@ -51,12 +61,12 @@ IsBindRow w row = IsThereAnd (plan_in w row.desk row.n) (λ plan.
     ((count : ℕ) × HasPlaces plan.kind plan.name plan.body count × (is_place plan.kind count row.place ≡ true))
     × IsThereAnd (code_in w.published row.code) (λ code. same_kind code.kind (takes plan.kind) ≡ true))
 
--- the plan of a lag is a project, there and with the arc; the lag is from 1 to 10,000
+-- the plan of a lag is a project, there and with the arc; the lag is at least 1, and not too long
 abbrev pub IsLagRow : World → Lag → Type 0
 IsLagRow w row = IsThereAnd (plan_in w row.desk row.n) (λ plan.
     (plan.kind ≡ kinds.Project)
     × ((p : Project) × files.SaysProject plan.body p × (has_arc p.network row.source row.target ≡ true))
-    × (is_from_to 1 10000 row.lag ≡ true))
+    × (is_from_to 1 longest_lag row.lag ≡ true))
 
 -- the desk of a plan is there, and its next number is above the plan's
 abbrev pub IsOwned : World → Plan → Type 0
@@ -73,7 +83,7 @@ pub record IsWorld (w : World) : Type 0 where
   pub plans_differ : AllDiffer (λ a b. is_plan a.desk a.n b) w.plans
   pub binds_differ : AllDiffer (λ a b. is_bind a.desk a.n a.place b) w.binds
   pub lags_differ : AllDiffer (λ a b. is_lag a.desk a.n a.source a.target b) w.lags
-  pub few : AllByRecursion (λ row. length (filter (is_plan_of row.desk) w.plans) ≤ 100) w.desks
+  pub few : AllByRecursion (λ row. length (filter (is_plan_of row.desk) w.plans) ≤ most_plans) w.desks
   pub owned : AllByRecursion (IsOwned w) w.plans
   pub bound : AllByRecursion (IsBindRow w) w.binds
   pub lagged : AllByRecursion (IsLagRow w) w.lags

@@ -2,7 +2,7 @@
 
 ghost use Rattle.std.specs.Prelude.{◌≡◌, ◌⊎◌, ◌↔◌, ◌+◌, ◌≤◌, ℕ, [], List, length, Option, Some, Result, IsTrue, IfOk, OnOk, IsErrOf, IfErr};
 ghost use Rattle.plan_psplib.specs.Devices.{IsCounted};
-ghost use Rattle.plan_psplib.specs.declared.devices.DeviceFault.{DeviceFault};
+ghost use Rattle.plan_psplib.specs.declared.devices.traits.DeviceFault.{DeviceFault};
 ghost use Rattle.plan_http.specs.declared.serving.ConnEnd.{ConnEnd};
 ghost use Rattle.plan_http.specs.Clients.{IsFresh};
 ghost use Rattle.plan_http.specs.Answers.{Decision};

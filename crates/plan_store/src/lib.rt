@@ -3,7 +3,6 @@
 
 mod adopting;
 mod asking;
-mod calls;
 mod cells;
 mod creating;
 mod fault;

@@ -14,7 +14,6 @@ ghost use Rattle.plan_store.specs.Creating.{IsNewStore};
 ghost use Rattle.plan_store.specs.Adopting.{IsTaken, IsRefused};
 
 use crate::adopting::take_tables;
-use crate::calls::Calls;
 use crate::creating::{is_empty, make_tables};
 use crate::fault::StoreFault;
 use crate::leftover::Leftover;
@@ -27,7 +26,7 @@ use crate::writing::{
     add_plan_in, bind_any, open_desk_in, publish_any, remove_any, set_calendar_any, set_key_in,
     set_lag_any,
 };
-use plan_rows::{Book, BookFault, CodeRow, DeskRow, Kind, PlanEntry, PlanKind, PlanRow};
+use plan_rows::{Book, BookFault, Calls, CodeRow, DeskRow, Kind, PlanEntry, PlanKind, PlanRow};
 use sqlite::{Alter, Connection, MemStore};
 use std::alloc::Global;
 use std::marker::Model;

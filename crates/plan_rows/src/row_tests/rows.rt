@@ -8,25 +8,21 @@ ghost use Rattle.plan_rows.specs.Tables.{desk_kept, plan_kept};
 ghost use Rattle.plan_rows.specs.RowTests.{Tells, HasHead, PlanTold};
 
 use crate::kinds::PlanKind;
+use crate::limits::GREATEST_NUMBER;
 use crate::names::is_name;
 use crate::row_tests::files::{PlanFile, read_file};
 use crate::rows::CodeRow;
 use crate::tables::digests::known_digest;
 use crate::tables::{DeskRecord, PlanRecord};
 use plan_calendar::Calendar;
+use plan_psplib::GREATEST_AMOUNT;
 use std::alloc::{AllocError, Global};
-
-// The greatest capacity of a code.
-const GREATEST_CAPACITY: u64 = 10_000;
-
-// The greatest number of a plan.
-const GREATEST_NUMBER: u64 = 1_000_000;
 
 /// Whether a published code keeps the rules of rows.
 pub fn is_published_row(row: &CodeRow) -> bool
     ensures { result ≡ rules.is_published_row (published_in row.now) }
 {
-    is_name(row.code.as_bytes()) && row.capacity <= GREATEST_CAPACITY
+    is_name(row.code.as_bytes()) && row.capacity <= GREATEST_AMOUNT
 }
 
 /// Whether a desk keeps the rules of rows.
@@ -57,7 +53,7 @@ fn has_calendar(start: &str, days: &str) -> bool
 }
 
 fn is_number(n: u64) -> bool
-    ensures { result ≡ is_from_to 1 1000000 n }
+    ensures { result ≡ is_from_to 1 GREATEST_NUMBER n }
 {
     1 <= n && n <= GREATEST_NUMBER
 }

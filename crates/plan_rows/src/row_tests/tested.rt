@@ -5,6 +5,7 @@ ghost use Rattle.std.specs.List.{AllByRecursion};
 ghost use Rattle.plan_rows.specs.declared.row_tests.beside.PlanSeen.{PlanSeen as Seen};
 ghost use Rattle.plan_rows.specs.World as spec;
 ghost use Rattle.plan_rows.specs.World.{Plan};
+ghost use Rattle.plan_net.specs.Limits.{longest_lag};
 ghost use Rattle.plan_rows.specs.Plans as plans;
 ghost use Rattle.plan_rows.specs.Names.{is_from_to};
 ghost use Rattle.plan_rows.specs.Rules as rules;
@@ -14,17 +15,13 @@ ghost use Rattle.plan_rows.specs.RowTests.{Tells, ArePlaces, IsDeskOf, RowsAreGo
 ghost use Rattle.plan_rows.specs.Reviewing.{AreSeen};
 
 use crate::kinds::{Kind, PlanKind};
+use crate::limits::MOST_PLANS;
 use crate::row_tests::beside::{Beside, PlanSeen};
 use crate::row_tests::places::Places;
 use crate::row_tests::rows::{is_desk_row, is_published_row};
 use crate::rows::CodeRow;
 use crate::tables::{BindRecord, DeskRecord, LagRecord};
-
-// The most plans of a desk.
-const MOST_PLANS: usize = 100;
-
-// The greatest lag of an arc.
-const GREATEST_LAG: u64 = 10_000;
+use plan_net::LONGEST_LAG;
 
 /// A row that is tested beside the other rows, where the files of the plans were let go.
 pub trait Tested {
@@ -114,13 +111,13 @@ impl Tested for BindRecord {
 }
 
 fn is_lag(lag: u64) -> bool
-    ensures { result ≡ is_from_to 1 10000 lag }
+    ensures { result ≡ is_from_to 1 LONGEST_LAG lag }
 {
-    1 <= lag && lag <= GREATEST_LAG
+    1 <= lag && lag <= LONGEST_LAG
 }
 
 impl Tested for LagRecord {
-    ghost keeps = { λ w row. is_from_to 1 10000 (lag_kept row).lag ≡ true };
+    ghost keeps = { λ w row. is_from_to 1 longest_lag (lag_kept row).lag ≡ true };
 
     fn is_good(&self, _beside: &Beside<'_>, _plans: &[PlanSeen], _places: &Places<'_>) -> bool {
         is_lag(self.lag)

@@ -1,5 +1,5 @@
 use Rattle.std.proofs.lemmas.Result.{err_from_is_err_and}
-use Rattle.plan_psplib.specs.declared.fault.ReadError.TheVariants as errors
+use Rattle.plan_psplib.specs.declared.text.fault.ReadError.TheVariants as errors
 use Rattle.plan_cli.proofs.StartLemmas.{starts_go_on, starts_fail, starts_done}
 use Rattle.plan_cli.proofs.starts.next_starts.Goals as goal
 

@@ -1,8 +1,7 @@
-use Rattle.std.proofs.Common.{ℕ, false, ◌≡◌, ◌-◌, List, length, get_or, subst, sym, ◌∙◌, below_more}
-use Rattle.std.proofs.lemmas.List.{take_all}
+use Rattle.std.proofs.Common.{false, ◌≡◌, ◌-◌, length, get_or, sym, ◌∙◌, below_more}
 use Rattle.plan_net.specs.Network.{unlagged}
 use Rattle.plan_net.specs.Limits.{IsNewArc}
-use Rattle.plan_net.specs.Marks.{AreMarks, mark_at}
+use Rattle.plan_net.specs.Marks.{mark_at}
 use Rattle.plan_net.proofs.MarkLemmas.{AreMarks-more, IsNewArc-unmarked, IsSquare-set, mark_read, place_within}
 use Rattle.plan_net.proofs.tables.first_double_arc.Goals as goal
 
@@ -20,7 +19,3 @@ arcs-preserved c =
       marks = AreMarks-more c.args.durations.now arcs k marks c.index_mut.result.now c.arcs-test.true c.requires.good inv.square c.index_mut.ensures.value inv.marks;
       new_arcs = below_more (IsNewArc (unlagged c.args.durations.now arcs)) k inv.new_arcs (IsNewArc-unmarked c.args.durations.now arcs k marks c.arcs-test.true c.requires.good inv.marks unmarked);
     }
-
-pub returns-clause-marks : goal.returns-clause-marks
-returns-clause-marks c =
-    subst (λ (arcs : List (ℕ × ℕ)). AreMarks arcs c.arcs.marks.items) (take_all c.arcs.i-index c.args.arcs.now c.arcs-test.false) c.arcs.invariant.marks

@@ -1,7 +1,7 @@
 use Rattle.std.proofs.Common.{arith, rules}
 use Rattle.std.proofs.lemmas.Result.{err_from_is_err_and}
 use Rattle.std.proofs.lemmas.List.Sums.{sum_by_push}
-use Rattle.plan_psplib.specs.declared.fault.ReadError.TheVariants as errors
+use Rattle.plan_psplib.specs.declared.text.fault.ReadError.TheVariants as errors
 use Rattle.plan_orlib.specs.declared.steps.Step.{Step}
 use Rattle.plan_orlib.proofs.StepLemmas.{steps_go_on, steps_fail, steps_done}
 use Rattle.plan_orlib.proofs.steps.next_job.Goals as goal

@@ -1,0 +1,11 @@
+//! The `.sm` format of PSPLIB: the head, the sections, and the project that they say.
+
+mod document;
+mod head;
+mod precedence;
+mod project;
+mod requests;
+mod sections;
+
+pub use project::{ProjectDoc, read_sm};
+pub use requests::GREATEST_AMOUNT;

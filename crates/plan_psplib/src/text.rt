@@ -1,0 +1,19 @@
+//! Texts of any format: lines, words and numbers, streams of words, and why a file can't be read.
+
+mod fault;
+mod lines;
+mod numbers;
+mod plain;
+mod reading;
+mod streams;
+mod words;
+
+pub use fault::{Fault, FileCode, FileFault, ReadError};
+pub use lines::{Line, Lines, is_blank, trim, trim_end, trim_start};
+pub use numbers::{is_number, number};
+pub use plain::{LONGEST_TEXT, check_text};
+pub use reading::{
+    LineNumber, end, expect, limited, next_duration, next_limited, next_number, within,
+};
+pub use streams::{Layout, LineWord, StreamWords, next_row};
+pub use words::Words;

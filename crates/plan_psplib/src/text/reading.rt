@@ -1,0 +1,118 @@
+//! Numbers of a stream, or the first fault.
+
+ghost use Rattle.std.specs.Prelude.{◌+◌, IfOk, ◌≤◌};
+ghost use Rattle.plan_psplib.specs.Reading as spec;
+ghost use Rattle.plan_psplib.specs.Reading.{Reads, line_number, number_at, expect_at, within_at, limited_at, duration_at, end_at};
+
+use crate::text::fault::{Fault, FileCode};
+use crate::text::numbers::number;
+use crate::text::streams::{Layout, StreamWords};
+use plan_net::{LONGEST_DURATION, LONGEST_SUM};
+
+/// A number and its line.
+#[derive(Clone, Copy, Debug, PartialEq, Eq)]
+pub struct LineNumber {
+    pub value: u64,
+    pub line: u64,
+}
+
+/// The next word, which is to be a number: `BadNumber` where it is none, `Count` where no word is left.
+#[tactic(auto, unfolding(crate::specs::Reading::number_at))]
+pub fn next_number<L: Layout>(words: &mut StreamWords<'_, L>) -> Result<LineNumber, Fault>
+    ensures { Reads (λ n. (line_number n, words.new)) result (number_at words.old) }
+{
+    let Some(word) = words.next_word() else {
+        return Err(Fault::new(FileCode::Count, words.last()));
+    };
+    match number(word.text) {
+        Some(value) => Ok(LineNumber {
+            value,
+            line: word.line,
+        }),
+        None => Err(Fault::new(FileCode::BadNumber, word.line)),
+    }
+}
+
+/// The next word, which is to be this number, or else the fault is the one named.
+#[tactic(auto, unfolding(crate::specs::Reading::expect_at))]
+pub fn expect<L: Layout>(
+    words: &mut StreamWords<'_, L>,
+    wanted: u64,
+    code: FileCode,
+) -> Result<(), Fault>
+    ensures { Reads (λ _. words.new) result (expect_at wanted code words.old) }
+{
+    let n = next_number(words)?;
+    if n.value != wanted {
+        return Err(Fault::new(code, n.line));
+    }
+    Ok(())
+}
+
+/// The next word, which is to be a number up to a limit: `Limit` where it is beyond.
+#[tactic(auto, unfolding(crate::specs::Reading::within_at))]
+pub fn within<L: Layout>(words: &mut StreamWords<'_, L>, limit: u64) -> Result<u64, Fault>
+    ensures exact { Reads (λ n. (n, words.new)) result (within_at limit words.old) }
+    ensures within { IfOk result (λ n. n ≤ limit) }
+{
+    let n = next_number(words)?;
+    if n.value > limit {
+        return Err(Fault::new(FileCode::Limit, n.line));
+    }
+    Ok(n.value)
+}
+
+// A value from `least` to `most`: `Limit` where it is outside.
+#[tactic(auto, unfolding(crate::specs::Reading::limited))]
+pub fn limited(value: LineNumber, least: u32, most: u32) -> Result<u32, Fault>
+    ensures exact { Reads (λ n. n) result (spec.limited least most (line_number value)) }
+    ensures least { IfOk result (λ n. least ≤ n) }
+    ensures most { IfOk result (λ n. n ≤ most) }
+{
+    match u32::try_from(value.value) {
+        Ok(n) if least <= n && n <= most => Ok(n),
+        _ => Err(Fault::new(FileCode::Limit, value.line)),
+    }
+}
+
+/// The next word, which is to be a number from `least` to `most`, both included: `BadNumber` (F6) where it is no number, `Limit`
+/// (F10) where it is outside, each in its own line; `Count` (F9) where no word is left, in the line of the last word.
+#[tactic(auto, unfolding(crate::specs::Reading::limited_at))]
+pub fn next_limited<L: Layout>(
+    words: &mut StreamWords<'_, L>,
+    least: u32,
+    most: u32,
+) -> Result<u32, Fault>
+    ensures exact { Reads (λ n. (n, words.new)) result (limited_at least most words.old) }
+    ensures least { IfOk result (λ n. least ≤ n) }
+    ensures most { IfOk result (λ n. n ≤ most) }
+{
+    let number = next_number(words)?;
+    limited(number, least, most)
+}
+
+/// The next word, which is to be a duration in time units, where those before it add up to `total`: `BadNumber` (F6) where it is no
+/// number, `Limit` (F10) where it is above 10,000 or where all of them add up to more than 1,000,000 with it, each in its own line;
+/// `Count` (F9) where no word is left, in the line of the last word.
+#[tactic(auto, unfolding(crate::specs::Reading::duration_at))]
+pub fn next_duration<L: Layout>(words: &mut StreamWords<'_, L>, total: u64) -> Result<u64, Fault>
+    ensures exact { Reads (λ n. (n, words.new)) result (duration_at total words.old) }
+    ensures fits { IfOk result (λ n. total + n ≤ LONGEST_SUM) }
+{
+    let duration = next_number(words)?;
+    if duration.value > LONGEST_DURATION || total.saturating_add(duration.value) > LONGEST_SUM {
+        return Err(Fault::new(FileCode::Limit, duration.line));
+    }
+    Ok(duration.value)
+}
+
+/// That no word is left: `Count` at the next word else.
+#[tactic(auto, unfolding(crate::specs::Reading::end_at))]
+pub fn end<L: Layout>(words: &mut StreamWords<'_, L>) -> Result<(), Fault>
+    ensures { Reads (λ _. tt) result (end_at words.old) }
+{
+    match words.next_word() {
+        Some(word) => Err(Fault::new(FileCode::Count, word.line)),
+        None => Ok(()),
+    }
+}

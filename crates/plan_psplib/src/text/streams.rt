@@ -1,0 +1,114 @@
+//! Lines of a text as one stream of words.
+
+ghost use Rattle.std.specs.Prelude.{◌≡◌, Bool, List, ℕ, [], ◌∷◌, MatchOption};
+ghost use Rattle.plan_psplib.specs.Streams as spec;
+
+use crate::text::lines::{Line, Lines};
+use crate::text::words::Words;
+use std::marker::{Model, PhantomData};
+
+/// Which lines give a stream its words.
+pub trait Layout {
+    /// The lines that count.
+    ghost takes: { List ℕ → Bool };
+
+    /// Of the lines that count, those before which the stream ends.
+    ghost ends: { List ℕ → Bool };
+
+    /// Whether a line counts.
+    fn is_taken(line: &[u8]) -> bool
+        ensures { result ≡ takes line.now };
+
+    /// Whether the stream ends before a line that counts.
+    fn is_end(line: &[u8]) -> bool
+        ensures { result ≡ ends line.now };
+}
+
+/// A word and the number of its line.
+#[derive(Clone, Copy)]
+pub struct LineWord<'a> {
+    pub line: u64,
+    pub text: &'a [u8],
+}
+
+/// The words that are left of a stream, in order, with the line of the word that was read last.
+#[derive(Drop)]
+pub struct StreamWords<'a, L: Layout> {
+    last: u64,
+    line: u64,
+    words: Words<'a>,
+    lines: Lines<'a>,
+    layout: PhantomData<L>,
+}
+
+impl<'a, L: Layout> Model for StreamWords<'a, L> {
+    ghost use Rattle.std.specs.Prelude.{◌++◌};
+    ghost use Rattle.plan_psplib.specs.Streams.{Stream, words_at, words_of, rows};
+
+    ghost Value = { Stream };
+
+    ghost view = { λ stream. record { last = stream.last; words = words_at stream.line stream.words ++ words_of (rows L.takes L.ends stream.lines) } };
+}
+
+impl<'a, L: Layout> StreamWords<'a, L> {
+    /// All words of some lines, behind a line of this number.
+    pub fn new(before: u64, lines: Lines<'a>) -> StreamWords<'a, L>
+        ensures { result ≡ record { last = before; words = spec.words_of (spec.rows L.takes L.ends lines.entry) } }
+    {
+        StreamWords {
+            last: before,
+            line: before,
+            words: Words::new(&[]),
+            lines,
+            layout: PhantomData,
+        }
+    }
+
+    /// The line of the word that was read last, or of the title before the first word.
+    pub fn last(&self) -> u64
+        ensures { result ≡ self.now.last }
+    {
+        self.last
+    }
+
+    /// The first of the words that are left.
+    pub fn next_word(&mut self) -> Option<LineWord<'a>>
+        ensures { MatchOption result ((self.old.words ≡ []) × (self.new ≡ self.old))
+            (λ word. (self.old.words ≡ record { line = word.line; text = word.text.now } ∷ self.new.words)
+            × (self.new.last ≡ word.line)) }
+    {
+        loop {
+            if let Some(text) = self.words.next_word() {
+                self.last = self.line;
+                return Some(LineWord {
+                    line: self.line,
+                    text,
+                });
+            }
+            let Some(line) = next_row::<L>(&mut self.lines) else {
+                return None;
+            };
+            self.line = line.number;
+            self.words = Words::new(line.text);
+        }
+    }
+}
+
+/// The first of the lines that count, none where an end comes first.
+pub fn next_row<'a, L: Layout>(lines: &mut Lines<'a>) -> Option<Line<'a>>
+    ensures { MatchOption result
+        ((spec.rows L.takes L.ends lines.old ≡ []) × (spec.rows L.takes L.ends lines.new ≡ []))
+        (λ line. spec.rows L.takes L.ends lines.old
+        ≡ record { number = line.number; text = line.text.now } ∷ spec.rows L.takes L.ends lines.new) }
+{
+    while let Some(line) = lines.next_line() {
+        if L::is_taken(line.text) {
+            if L::is_end(line.text) {
+                lines.stop();
+                return None;
+            }
+            return Some(line);
+        }
+    }
+    None
+}

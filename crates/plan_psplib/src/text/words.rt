@@ -1,0 +1,67 @@
+//! Words of a line.
+
+ghost use Rattle.std.specs.Prelude.{◌≡◌, ◌<◌, [], ◌∷◌, length, MatchOption};
+ghost use Rattle.std.specs.List.{position};
+ghost use Rattle.plan_psplib.specs.Lines as spec;
+
+use crate::text::lines::{is_blank, trim_start};
+use std::marker::Model;
+
+/// The words of a line that are left, in order: what stands between its blanks.
+#[derive(Drop)]
+pub struct Words<'a> {
+    rest: &'a [u8],
+}
+
+impl<'a> Model for Words<'a> {
+    ghost use Rattle.std.specs.Prelude.{List, ℕ};
+    ghost use Rattle.plan_psplib.specs.Lines.{words};
+
+    ghost Value = { List (List ℕ) };
+
+    ghost view = { λ left. words left.rest.now };
+}
+
+impl<'a> Words<'a> {
+    /// All words of a line.
+    pub fn new(line: &'a [u8]) -> Words<'a>
+        ensures { result ≡ spec.words line.now }
+    {
+        Words { rest: line }
+    }
+
+    /// The first of the words that are left.
+    #[tactic(auto, using(crate::proofs::CutLemmas::word_starts))]
+    pub fn next_word(&mut self) -> Option<&'a [u8]>
+        ensures { MatchOption result ((self.old ≡ []) × (self.new ≡ []))
+            (λ word. self.old ≡ word.now ∷ self.new) }
+    {
+        let text = trim_start(self.rest);
+        if text.is_empty() {
+            return None;
+        }
+        let (word, rest) = cut_word(text);
+        self.rest = rest;
+        Some(word)
+    }
+}
+
+// The first word of a text that begins with one, and what follows it.
+#[tactic(auto, using(crate::proofs::CutLemmas::word_cuts))]
+fn cut_word(text: &[u8]) -> (&[u8], &[u8])
+    requires word { 0 < length text.now }
+    requires trimmed { spec.trim_start text.now ≡ text.now }
+    ensures { spec.words text.now ≡ result.0.now ∷ spec.words result.1.now }
+{
+    match first_blank(text) {
+        Some(end) => text.split_at(end),
+        None => (text, &[]),
+    }
+}
+
+// Where the first blank stands.
+fn first_blank(text: &[u8]) -> Option<usize>
+    ensures { result ≡ position spec.is_blank text.now }
+{
+    text.iter().position(|&byte| is_blank(byte))
+}
