@@ -1,12 +1,14 @@
 //! The program `plan`: the commands of the crates `plan_cli` and `plan_serve` on the command line.
 #![tactic(auto)]
 
+mod progress;
 mod words;
 
+use self::progress::ProgressLine;
 use self::words::{FileOrder, OfficeOrder, Order, command, order_of};
 use clap::Error;
 use clap::error::ErrorKind;
-use plan_cli::{CliFault, check_on_files, explain_run, run_on_file};
+use plan_cli::{CliFault, Unwatched, check_on_files, explain_run, run_on_file};
 use plan_psplib::StdSink;
 use plan_serve::{ServeFault, check_office_on_file, init_on_file, replay_on_files, serve_on_port};
 use std::process::ExitCode;
@@ -60,7 +62,10 @@ fn do_office_order(rt: &HostRuntime, order: OfficeOrder<'_>) -> Result<(), Serve
 fn do_file_order(rt: &HostRuntime, order: FileOrder<'_>) -> Result<(), CliFault> {
     let mut writer = StdSink::new(io::writer(rt));
     match order {
-        FileOrder::Task(task, path) => run_on_file(rt, task, path, &mut writer),
+        FileOrder::Task(task, path) => run_on_file(rt, task, &mut Unwatched, path, &mut writer),
+        FileOrder::Watched(task, path) => {
+            run_on_file(rt, task, &mut ProgressLine::new(rt), path, &mut writer)
+        }
         FileOrder::Check { file, starts } => check_on_files(rt, file, starts, &mut writer),
         FileOrder::Explain(code) => explain_run(rt.alloc(), code, &mut writer),
     }

@@ -13,6 +13,8 @@ const EXAMPLES: &str =
 pub enum FileOrder<'a> {
     /// A task on a file by its name.
     Task(Task<'a>, &'a str),
+    /// The same, with a line on standard error that tells how far it is.
+    Watched(Task<'a>, &'a str),
     /// The verdict on the starts in a file, of the project in another one.
     Check { file: &'a str, starts: &'a str },
     /// What a code means.
@@ -194,7 +196,16 @@ const COMMANDS: [Entry; 15] = [
         "prove",
         "Prints a schedule of a job shop, proved optimal or with a lower bound of all makespans",
         "Example:\n  plan prove 1000000 examples/shops.txt ft06",
-        &[NODES, FILE, INSTANCE],
+        &[
+            NODES,
+            FILE,
+            INSTANCE,
+            (
+                "progress",
+                Reading::Flag,
+                "tell on standard error how far the search is, every 500000 nodes",
+            ),
+        ],
     ),
     (
         "names",
@@ -358,10 +369,6 @@ fn task_of<'a>(name: &str, words: &'a ArgMatches<'_>) -> Option<Task<'a>> {
             budget: words.get_str("BUDGET")?,
             instance: words.get_str("INSTANCE")?,
         }),
-        "prove" => Some(Task::Prove {
-            nodes: words.get_str("NODES")?,
-            instance: words.get_str("INSTANCE")?,
-        }),
         "best-project" => Some(Task::BestProject {
             budget: words.get_str("BUDGET")?,
         }),
@@ -389,10 +396,25 @@ fn office_order<'a>(name: &str, words: &'a ArgMatches<'_>) -> Option<OfficeOrder
     }
 }
 
+// What `prove` asks for.
+fn proof_order<'a>(words: &'a ArgMatches<'_>) -> Option<FileOrder<'a>> {
+    let task = Task::Prove {
+        nodes: words.get_str("NODES")?,
+        instance: words.get_str("INSTANCE")?,
+    };
+    let path = words.get_str("FILE")?;
+    Some(if words.get_flag("progress") {
+        FileOrder::Watched(task, path)
+    } else {
+        FileOrder::Task(task, path)
+    })
+}
+
 // What any other command asks for.
 fn file_order<'a>(name: &str, words: &'a ArgMatches<'_>) -> Option<FileOrder<'a>> {
     match name {
         "explain" => Some(FileOrder::Explain(words.get_str("CODE")?)),
+        "prove" => proof_order(words),
         "check" => Some(FileOrder::Check {
             file: words.get_str("FILE")?,
             starts: words.get_str("STARTS")?,

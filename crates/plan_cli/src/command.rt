@@ -13,17 +13,19 @@ use crate::cpm::cpm_run;
 use crate::days::{days_run, shop_days_run};
 use crate::fault::CliFault;
 use crate::names::names_run;
-use crate::prove::prove_run;
+use crate::prove::prove_watched_run;
 use crate::schedule::schedule_run;
 use crate::shop::shop_run;
 use crate::tasks::Task;
+use plan_prove::Watcher;
 use plan_psplib::{Sink, Source};
 use std::alloc::Global;
 
-/// Does a task, by the run of its command.
-pub(crate) fn run_command<R: Source, W: Sink>(
+/// Does a task, by the run of its command; a watcher is told how far a proof is.
+pub(crate) fn run_command<R: Source, W: Sink, V: Watcher>(
     alloc: Global,
     task: Task<'_>,
+    watcher: &mut V,
     reader: &mut R,
     writer: &mut W,
 ) -> Result<(), CliFault>
@@ -51,7 +53,9 @@ pub(crate) fn run_command<R: Source, W: Sink>(
             instance,
         } => shop_days_run(alloc, rule, start, marks, instance, reader, writer),
         Task::Best { budget, instance } => best_run(alloc, budget, instance, reader, writer),
-        Task::Prove { nodes, instance } => prove_run(alloc, nodes, instance, reader, writer),
+        Task::Prove { nodes, instance } => {
+            prove_watched_run(alloc, nodes, instance, watcher, reader, writer)
+        }
         Task::Names => names_run(alloc, reader, writer),
     }
 }

@@ -10,16 +10,19 @@ use crate::fault::CliFault;
 use crate::inputs::{Inputs, SystemInputs};
 use crate::reading::read_file;
 use crate::tasks::Task;
+use plan_prove::{Unwatched, Watcher};
 use plan_psplib::Sink;
 use std::alloc::Global;
 use std::rt::Files;
 
 /// Does a task, by the run of its command, on the file of this name, or on standard input if the name
-/// is `-`. A file that can't be opened or read is [`CliFault::Input`].
-pub fn run_on_named<I: Inputs, W: Sink>(
+/// is `-`; a watcher is told how far a proof is. A file that can't be opened or read is
+/// [`CliFault::Input`].
+pub fn run_on_named<I: Inputs, W: Sink, V: Watcher>(
     alloc: Global,
     inputs: &I,
     task: Task<'_>,
+    watcher: &mut V,
     path: &str,
     writer: &mut W,
 ) -> Result<(), CliFault>
@@ -34,13 +37,13 @@ pub fn run_on_named<I: Inputs, W: Sink>(
 {
     if path == "-" {
         let mut reader = inputs.standard();
-        return run_command(alloc, task, &mut reader, writer);
+        return run_command(alloc, task, watcher, &mut reader, writer);
     }
     match inputs.open(path) {
         Err(fault) => Err(fault),
         Ok(file) => {
             let mut reader = file;
-            run_command(alloc, task, &mut reader, writer)
+            run_command(alloc, task, watcher, &mut reader, writer)
         }
     }
 }
@@ -85,15 +88,19 @@ pub fn check_on_named<I: Inputs, W: Sink>(
         HasFailed (W.calls writer.old) (W.calls writer.new) (W.faults writer.old) (W.faults writer.new) }
 {
     match read_named(alloc, inputs, starts_path) {
-        Ok(starts) => run_on_named(alloc, inputs, Task::Check { starts: &starts }, path, writer),
+        Ok(starts) => {
+            let task = Task::Check { starts: &starts };
+            run_on_named(alloc, inputs, task, &mut Unwatched, path, writer)
+        }
         Err(fault) => Err(fault),
     }
 }
 
 /// The same as [`run_on_named`], of the system's files and standard input.
-pub fn run_on_file<R: Files + Input + AllocGlobal, W: Sink>(
+pub fn run_on_file<R: Files + Input + AllocGlobal, W: Sink, V: Watcher>(
     rt: &R,
     task: Task<'_>,
+    watcher: &mut V,
     path: &str,
     writer: &mut W,
 ) -> Result<(), CliFault>
@@ -106,7 +113,14 @@ pub fn run_on_file<R: Files + Input + AllocGlobal, W: Sink>(
     ensures output { IsErrOf result CliFault.Output →
         HasFailed (W.calls writer.old) (W.calls writer.new) (W.faults writer.old) (W.faults writer.new) }
 {
-    run_on_named(rt.alloc(), &SystemInputs::new(rt), task, path, writer)
+    run_on_named(
+        rt.alloc(),
+        &SystemInputs::new(rt),
+        task,
+        watcher,
+        path,
+        writer,
+    )
 }
 
 /// The same as [`check_on_named`], of the system's files and standard input.

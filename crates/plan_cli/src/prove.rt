@@ -13,11 +13,11 @@ ghost use Rattle.plan_cli.specs.ProveRun as spec;
 
 use crate::fault::{CliFault, refusal_by};
 use crate::opening::{open_shop, read_instance};
-use crate::running::run_task;
+use crate::running::run_watched;
 use crate::tasks::Task;
 use plan_gantt::shop_table;
 use plan_orlib::ShopDoc;
-use plan_prove::{Proof, ProveFault, parse_nodes, prove};
+use plan_prove::{Proof, ProveFault, Unwatched, Watcher, parse_nodes, prove_watched};
 use plan_psplib::{Sink, Source};
 use plan_shop::Shop;
 use std::alloc::{AllocError, Global};
@@ -52,12 +52,17 @@ fn shown(alloc: Global, shop: &Shop, proof: &Proof) -> Result<String, AllocError
 }
 
 // The text of what is proved of a shop by a search of so many nodes.
-fn proved_text(alloc: Global, nodes: u64, shop: &Shop) -> Result<String, CliFault>
+fn proved_text<V: Watcher>(
+    alloc: Global,
+    nodes: u64,
+    shop: &Shop,
+    watcher: &mut V,
+) -> Result<String, CliFault>
     requires { IsNodeLimit nodes }
     ensures made { IfOk result (λ text. spec.IsProvedOf nodes shop.now (string_bytes text)) }
     ensures refused { IfErr result (λ e. e ≡ CliFault.Memory) }
 {
-    match prove(alloc, shop, nodes) {
+    match prove_watched(alloc, shop, nodes, watcher) {
         Ok(proof) => Ok(shown(alloc, shop, &proof)?),
         Err(ProveFault::NoMemory) => Err(CliFault::Memory),
         Err(ProveFault::BadNodes) => unreachable!(),
@@ -72,29 +77,35 @@ fn no_nodes(alloc: Global) -> CliFault
 }
 
 // The text of what is proved of a file's shop.
-fn doc_text(alloc: Global, nodes: &str, doc: &ShopDoc) -> Result<String, CliFault>
+fn doc_text<V: Watcher>(
+    alloc: Global,
+    nodes: &str,
+    doc: &ShopDoc,
+    watcher: &mut V,
+) -> Result<String, CliFault>
     ensures made { IfOk result (λ text. spec.IsProofTextOf nodes.now (shop_of doc.now) (string_bytes text)) }
     ensures refused { IfErr result (Refuses (spec.TellsNoNodes nodes.now)) }
 {
     let shop = open_shop(alloc, doc)?;
     match parse_nodes(nodes) {
-        Ok(nodes) => proved_text(alloc, nodes, &shop),
+        Ok(nodes) => proved_text(alloc, nodes, &shop, watcher),
         Err(_) => Err(no_nodes(alloc)),
     }
 }
 
 // The text of what is proved of an instance of a file.
-pub(crate) fn proof_text_of(
+pub(crate) fn proof_text_of<V: Watcher>(
     alloc: Global,
     nodes: &str,
     instance: &str,
     file: &[u8],
+    watcher: &mut V,
 ) -> Result<String, CliFault>
     ensures made { IfOk result (λ text. spec.IsProofTableOf nodes.now instance.now file.now (string_bytes text)) }
     ensures refused { IfErr result (Refuses (spec.TellsWhyNoProof nodes.now instance.now file.now)) }
 {
     match read_instance(alloc, instance, file) {
-        Ok(doc) => doc_text(alloc, nodes, &doc),
+        Ok(doc) => doc_text(alloc, nodes, &doc, watcher),
         Err(fault) => Err(fault),
     }
 }
@@ -130,5 +141,40 @@ pub fn prove_run<R: Source, W: Sink>(
     ensures output { IsErrOf result CliFault.Output →
         HasFailed (W.calls writer.old) (W.calls writer.new) (W.faults writer.old) (W.faults writer.new) }
 {
-    run_task(alloc, Task::Prove { nodes, instance }, reader, writer)
+    prove_watched_run(alloc, nodes, instance, &mut Unwatched, reader, writer)
+}
+
+/// The same; and while it searches it tells a watcher how far it is, each half a million nodes.
+pub fn prove_watched_run<R: Source, W: Sink, V: Watcher>(
+    alloc: Global,
+    nodes: &str,
+    instance: &str,
+    watcher: &mut V,
+    reader: &mut R,
+    writer: &mut W,
+) -> Result<(), CliFault>
+    ensures reads { R.calls reader.new ≤ R.calls reader.old + most_calls }
+    ensures writes { W.calls writer.new ≤ W.calls writer.old + most_calls }
+    // A text for the file, or nothing and its first fault; a part of the text after a fault of the
+    // output.
+    ensures text { IfSome (R.remaining reader.old) (λ file. Writes (spec.IsProofTableOf nodes.now instance.now file) (spec.TellsWhyNoProof nodes.now instance.now file) (W.taken writer.old) (W.taken writer.new) result) }
+    // Unless memory runs out or the input fails, what is done is that for the bytes that were read,
+    // at most 1,048,577.
+    ensures front { ReadsFront (spec.IsProofTableOf nodes.now instance.now) (spec.TellsWhyNoProof nodes.now instance.now) (R.remaining reader.old) (R.remaining reader.new) (W.taken writer.old) (W.taken writer.new) result }
+    // Nothing is written with any other fault than that of the output.
+    ensures quiet { IfErr result (λ e. (e ≡ CliFault.Output) ⊎ (writer.new ≡ writer.old)) }
+    ensures fine { OnOk result ((R.faults reader.new ≡ R.faults reader.old) × (W.faults writer.new ≡ W.faults writer.old)) }
+    // A fault of the reader is told as such.
+    ensures heard { IfErr result (λ e. (e ≡ CliFault.Input) ⊎ (R.faults reader.new ≡ R.faults reader.old)) }
+    ensures input { IsErrOf result CliFault.Input → R.faults reader.new ≡ R.faults reader.old + 1 }
+    ensures output { IsErrOf result CliFault.Output →
+        HasFailed (W.calls writer.old) (W.calls writer.new) (W.faults writer.old) (W.faults writer.new) }
+{
+    run_watched(
+        alloc,
+        Task::Prove { nodes, instance },
+        watcher,
+        reader,
+        writer,
+    )
 }

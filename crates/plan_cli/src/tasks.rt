@@ -15,6 +15,7 @@ use crate::names::names_text;
 use crate::prove::proof_text_of;
 use crate::schedule::schedule_text;
 use crate::shop::shop_text;
+use plan_prove::Watcher;
 use std::alloc::Global;
 
 /// What is made of a file.
@@ -76,8 +77,13 @@ pub enum Task<'a> {
     },
 }
 
-/// The text that a task makes of a file.
-pub(crate) fn text_of(alloc: Global, task: Task<'_>, file: &[u8]) -> Result<Vec<u8>, CliFault>
+/// The text that a task makes of a file; a watcher is told how far a proof is.
+pub(crate) fn text_of<V: Watcher>(
+    alloc: Global,
+    task: Task<'_>,
+    file: &[u8],
+    watcher: &mut V,
+) -> Result<Vec<u8>, CliFault>
     ensures made { IfOk result (λ text. IsTextOf task.entry file.now text.items) }
     ensures refused { IfErr result (Refuses (IsLineOf task.entry file.now)) }
 {
@@ -104,7 +110,7 @@ pub(crate) fn text_of(alloc: Global, task: Task<'_>, file: &[u8]) -> Result<Vec<
             alloc, budget, instance, file,
         )?.into_bytes()),
         Task::Prove { nodes, instance } => Ok(proof_text_of(
-            alloc, nodes, instance, file,
+            alloc, nodes, instance, file, watcher,
         )?.into_bytes()),
         Task::Names => names_text(alloc, file),
     }

@@ -14,7 +14,7 @@ use Rattle.plan_shop.specs.Shop.{JobShop, machine_of, those_below, idle, count_s
 use Rattle.plan_shop.specs.Laws.{IsChained, IsApart, ArcsAreNeighbours, CapacitiesKeepApart}
 use Rattle.plan_shop.proofs.ShopBasics.{arcs_are_neighbours, capacities_keep_apart, count_is, duration_is}
 use Rattle.plan_prove.specs.Graphs.{time_in, KeepsArc, KeepsApart, KeepsClique, IsKept, IsBelow, NoneIsBelow, IsArcOf, IsPairOf, lasts_on, IsCliqueOf, IsGraphOf}
-use Rattle.plan_prove.specs.Proofs.{IsLowerBound, IsProofOf, IsSearchOf}
+use Rattle.plan_prove.specs.Proofs.{IsLowerBound, IsProofOf, IsSearchOf, HasTaken}
 use Rattle.plan_prove.specs.declared.graph.Graph.{Graph}
 use Rattle.plan_prove.specs.declared.proving.Proof.{Proof}
 use Rattle.plan_prove.specs.declared.searching.Search.{Search}
@@ -112,9 +112,10 @@ pub lasting_same : (s : JobShop) (m x : ℕ) (before new : List ℕ) → before 
 lasting_same s m x before new is lasts same = rw add-one
     (same ∙ is ∙ sym (ap (λ (xs : List ℕ). those_below x (lasts_on s m) ++ xs) (cond-false (lasts_on s m x) (x ∷ []) [] lasts) ∙ append-nil (those_below x (lasts_on s m))))
 
--- a search that has the graph and the proof of another is one of the same shop
-pub same_search : (s : JobShop) (old new : Search) → new.graph ≡ old.graph → new.proof ≡ old.proof → IsSearchOf s old → IsSearchOf s new
-same_search s old new graph proof is = record {
-  graph = subst (λ (g : Graph). IsGraphOf s g) (sym graph) is.graph;
-  proof = subst (λ (p : Proof). IsProofOf s p) (sym proof) is.proof;
+-- a search that has taken nodes is one of the same shop
+pub same_search : (s : JobShop) (old new : Search) → HasTaken old new → IsSearchOf s old → IsSearchOf s new
+same_search s old new taken is = record {
+  graph = subst (λ (g : Graph). IsGraphOf s g) (sym taken.graph) is.graph;
+  proof = subst (λ (p : Proof). IsProofOf s p) (sym taken.proof) is.proof;
+  left = omega (arith, taken.left, taken.most, is.left);
 }

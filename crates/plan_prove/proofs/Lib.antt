@@ -2,3 +2,4 @@ mod StateLemmas
 mod GraphLemmas
 mod CliqueLemmas
 mod NodesLemmas
+mod ProgressLemmas

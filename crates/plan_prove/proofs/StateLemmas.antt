@@ -5,7 +5,7 @@ use Rattle.std.specs.Prelude.{IfNone}
 use Rattle.std.proofs.lemmas.List.{get_or_default, get_or_append_left, get_or_at, length_push}
 use Rattle.std.proofs.lemmas.List.Elements.{All-push}
 use Rattle.plan_prove.specs.Graphs.{time_in, KeepsApart, IsKept, NoneIsBelow}
-use Rattle.plan_prove.specs.States.{GoesBefore, NotBefore, StaysAway, RaisesEnd, IsKnown, StartsFrom, Leaves, Deduces, Follows, IsRaised, KeepsSide, Holds, IsRefuted, IsRoot, IsWithSide, Covers}
+use Rattle.plan_prove.specs.States.{GoesBefore, NotBefore, StaysAway, RaisesEnd, IsKnown, StartsFrom, Leaves, Deduces, Follows, IsRaised, KeepsSide, Holds, IsRefuted, IsRoot, IsWithSide, Covers, AreRefuted, AreOpened}
 use Rattle.plan_prove.specs.declared.graph.Pair.{Pair}
 use Rattle.plan_prove.specs.declared.graph.Graph.{Graph}
 use Rattle.plan_prove.specs.declared.state.Side.{Side}
@@ -80,12 +80,16 @@ leaf_before g limit new old state later (Some x) follows cover = tt
 pub at_none : {X : Type 0} (leaf : Option X) (P : Type 0) → leaf ≡ None → IfNone leaf P → P
 at_none leaf P none said = subst (λ o. IfNone o P) none said
 
--- states that wait, with one that was taken from them and is covered by others
+-- states that wait are refuted where those are that are left of them, with those that cover one of them
 pub cover_rest : (g : Graph) (limit : ℕ) (before rest new : List State) (state : State) → before ≡ rest ++ state ∷ [] → Covers g limit new rest state
-    → (All (IsRefuted g limit) before → NoneIsBelow g limit) → All (IsRefuted g limit) new → NoneIsBelow g limit
-cover_rest g limit before rest new state is cover none all =
+    → AreRefuted g limit new → AreRefuted g limit before
+cover_rest g limit before rest new state is cover all =
     let h = cover all in
-    none (subst (λ (xs : List State). All (IsRefuted g limit) xs) (sym is) (All-push (IsRefuted g limit) rest state h.0 h.1))
+    subst (λ (xs : List State). All (IsRefuted g limit) xs) (sym is) (All-push (IsRefuted g limit) rest state h.0 h.1)
+
+-- none wait
+pub none_wait : (g : Graph) (limit : ℕ) (states : List State) → length states ≡ 0 → AreRefuted g limit states
+none_wait g limit states none k d below = absurd (omega (arith, below, none))
 
 -- where one side of a pair can't be kept, the other is
 pub other_side : (g : Graph) (starts : List ℕ) (k : ℕ) (p : Pair) → k < length g.pairs.items → p ≡ get_or g.pairs.items k p → IsKept g starts → KeepsApart g starts p
@@ -127,6 +131,10 @@ root_refuted g limit root is refuted starts kept below = refuted starts (record 
   tails = λ x. omega (arith, is.tails x, below x);
   sides = λ k p inside. subst (λ (v : Side). KeepsSide g starts (get_or g.pairs.items k p) v) (sym (is.sides k)) tt;
 })
+
+-- the root alone waits at first
+pub root_waits : (g : Graph) (states : List State) (root : State) → states ≡ [] ++ root ∷ [] → IsRoot root → AreOpened g states
+root_waits g states root is nothing limit all = root_refuted g limit root nothing (all_but_last (IsRefuted g limit) [] states root is all).1
 
 -- the head of a step that starts there or later may be raised
 pub head_raised : (g : Graph) (limit : ℕ) (old new : State) (x head : ℕ) → StartsFrom g limit old x head

@@ -1,6 +1,7 @@
 pub mod Graphs
 pub mod States
 pub mod Proofs
+pub mod Progress
 pub mod Nodes
 pub use Rattle.plan_sgs.specs.Problem
 pub use Rattle.plan_shop.specs.Shop

@@ -24,10 +24,18 @@ pub record IsProofOf (s : JobShop) (proof : Proof) : Type 0 where
   pub schedule : IsActiveSchedule s proof.schedule
   pub lower : IsLowerBound s proof.lower
 
--- a search of a shop's graph, with what is proved of the shop so far
+-- a search of a shop's graph, with what is proved of the shop so far, and no more nodes left than it may visit in all
 pub record IsSearchOf (s : JobShop) (search : Search) : Type 0 where
   pub graph : IsGraphOf s search.graph
   pub proof : IsProofOf s search.proof
+  pub left : search.left ≤ search.most
+
+-- a search has taken some of the nodes that were left, and knows what it knew
+pub record HasTaken (old new : Search) : Type 0 where
+  pub graph : new.graph ≡ old.graph
+  pub proof : new.proof ≡ old.proof
+  pub most : new.most ≡ old.most
+  pub left : new.left ≤ old.left
 
 -- how many nodes may be allowed
 abbrev pub IsNodeLimit : ℕ → Type 0

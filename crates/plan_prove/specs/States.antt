@@ -2,7 +2,7 @@
 -- (docs/DEFINITIONS.md, "Proofs of optima").
 use Rattle.std.specs.Prelude.{◌≡◌, ℕ, ◌+◌, ◌≤◌, ◌<◌, ◌⊎◌, ◌&&◌, not, nat_le, nat_eq, filter, sum_by, Contains, Bool, true, List, Vec, Option, Some, None, get_or, length, All}
 use Rattle.std.specs.declared.alloc.Global.{Global}
-use Rattle.plan_prove.specs.Graphs.{time_in, IsBefore, KeepsClique, IsKept}
+use Rattle.plan_prove.specs.Graphs.{time_in, IsBefore, KeepsClique, IsKept, NoneIsBelow}
 use Rattle.plan_prove.specs.declared.graph.Pair.{Pair}
 use Rattle.plan_prove.specs.declared.graph.Graph.{Graph}
 use Rattle.plan_prove.specs.declared.state.Side.{Side}
@@ -94,6 +94,14 @@ pub record IsWithSide (old new : State) (place : ℕ) (side : Side) : Type 0 whe
 -- where all new states are refuted, so are the old ones and one more
 abbrev pub Covers : Graph → ℕ → List State → List State → State → Type 0
 Covers g limit new old state = All (IsRefuted g limit) new → All (IsRefuted g limit) old × IsRefuted g limit state
+
+-- all states that wait are refuted
+abbrev pub AreRefuted : Graph → ℕ → List State → Type 0
+AreRefuted g limit states = All (IsRefuted g limit) states
+
+-- where states are refuted no starts stay below a limit, whatever it is
+abbrev pub AreOpened : Graph → List State → Type 0
+AreOpened g states = (limit : ℕ) → AreRefuted g limit states → NoneIsBelow g limit
 
 -- no two of some steps overlap where a graph is kept
 abbrev pub IsClique : Graph → Vec ℕ Global → Type 0

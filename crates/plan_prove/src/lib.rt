@@ -17,7 +17,9 @@ mod raising;
 mod refuting;
 mod searching;
 mod state;
+mod watching;
 
 pub use fault::ProveFault;
 pub use nodes::parse_nodes;
-pub use proving::{MOST_NODES, Proof, prove};
+pub use proving::{MOST_NODES, Proof, prove, prove_watched};
+pub use watching::{Unwatched, Watcher};

@@ -3,10 +3,12 @@
 ghost use Rattle.std.specs.Prelude.{◌≡◌, ◌≤◌, ◌⊎◌, All, IfOk, IfSome, IfErr};
 ghost use Rattle.plan_sgs.specs.Problem.{IsActive, IsShortest, makespan};
 ghost use Rattle.plan_shop.specs.Shop.{problem_of};
+ghost use Rattle.plan_prove.specs.Progress.{HearsTruth};
 ghost use Rattle.plan_prove.specs.Proofs as spec;
 
 use crate::fault::ProveFault;
 use crate::searching::Search;
+use crate::watching::{Unwatched, Watcher};
 use plan_exact::{ExactFault, GREATEST_BUDGET, solve_shop};
 use plan_sgs::Schedule;
 use plan_shop::{Shop, ShopRule, giffler};
@@ -99,23 +101,52 @@ pub fn prove(alloc: Global, shop: &Shop, nodes: u64) -> Result<Proof, ProveFault
     ensures allowed { IfOk result (λ _. spec.IsNodeLimit nodes) }
     ensures refused { IfErr result (spec.RefusesProving nodes) }
 {
+    prove_watched(alloc, shop, nodes, &mut Unwatched)
+}
+
+/// The same; and while it searches it tells a watcher how far it is, each half a million nodes.
+pub fn prove_watched<W: Watcher>(
+    alloc: Global,
+    shop: &Shop,
+    nodes: u64,
+    watcher: &mut W,
+) -> Result<Proof, ProveFault>
+    ensures active { IfOk result (λ proof. IsActive (problem_of shop.now) proof.schedule.starts.items) }
+    ensures makespan { IfOk result (λ proof. proof.schedule.makespan ≡ makespan (problem_of shop.now) proof.schedule.starts.items) }
+    // No feasible schedule has a makespan below it.
+    ensures lower { IfOk result (λ proof. spec.IsLowerBound shop.now proof.lower) }
+    ensures below { IfOk result (λ proof. proof.lower ≤ proof.schedule.makespan) }
+    // All starts can be shown: none is after 10,000,000.
+    ensures within { IfOk result (λ proof. All (λ t. t ≤ 10000000) proof.schedule.starts.items) }
+    ensures proved { IfOk result (λ proof. proof.lower ≡ proof.schedule.makespan → IsShortest (problem_of shop.now) proof.schedule.starts.items) }
+    ensures nodes { IfOk result (λ proof. proof.nodes ≤ nodes) }
+    ensures allowed { IfOk result (λ _. spec.IsNodeLimit nodes) }
+    ensures refused { IfErr result (spec.RefusesProving nodes) }
+    // All that the watcher is told is true of the shop, whatever the search comes to.
+    ensures told { HearsTruth shop.now nodes (W.was_told watcher.old) (W.was_told watcher.new) }
+{
     if nodes == 0 || nodes > MOST_NODES {
         return Err(ProveFault::BadNodes);
     }
-    Ok(searched(alloc, shop, nodes)?)
+    let searched = searched(alloc, shop, nodes, watcher);
+    watcher.end();
+    Ok(searched?)
 }
 
 // The proof that a search of at most so many nodes comes to.
-fn searched(alloc: Global, shop: &Shop, nodes: u64) -> Result<Proof, AllocError>
+fn searched<W: Watcher>(
+    alloc: Global,
+    shop: &Shop,
+    nodes: u64,
+    watcher: &mut W,
+) -> Result<Proof, AllocError>
     ensures proof { IfOk result (spec.IsProofOf shop.now) }
     ensures nodes { IfOk result (λ proof. proof.nodes ≤ nodes) }
+    ensures told { HearsTruth shop.now nodes (W.was_told watcher.old) (W.was_told watcher.new) }
 {
     let mut search = Search::new(alloc, shop, initial(alloc, shop)?, nodes)?;
-    search.halve(alloc, shop, 1)?;
-    search.halve(alloc, shop, 100)?;
-    search.halve(alloc, shop, 10_000)?;
-    search.close(alloc, shop)?;
+    search.run(alloc, shop, watcher)?;
     let mut proof = search.proof;
-    proof.nodes = nodes - search.left;
+    proof.nodes = search.most - search.left;
     Ok(proof)
 }

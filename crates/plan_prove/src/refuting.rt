@@ -1,9 +1,8 @@
 //! The search: whether any schedule stays below a limit.
 
 ghost use Rattle.std.specs.Prelude.{◌≡◌, ◌<◌, ◌≤◌, length, IfOk, IfNone};
-ghost use Rattle.plan_prove.specs.Graphs.{NoneIsBelow};
 ghost use Rattle.plan_prove.specs.States as spec;
-ghost use Rattle.plan_prove.specs.declared.refuting.Outcome.TheVariants.{Refuted};
+ghost use Rattle.plan_prove.specs.declared.refuting.Outcome.TheVariants.{Refuted, Stopped};
 
 use crate::branching::{Choice, choose};
 use crate::deducing::deduce;
@@ -88,34 +87,45 @@ fn visit(
     Ok(leaf)
 }
 
-/// Searches for a schedule whose makespan is below a limit, depth first, for as many nodes as are
-/// left (branch and bound over disjunctive pairs: Carlier and Pinson 1989; Brucker, Jurisch and
-/// Sievers 1994). Of a pair that side is visited first in which a schedule has it; what the queue
-/// has counted of earlier searches says which pairs come first.
+/// The states that wait before any was visited: the one in which nothing is known.
+pub fn opened(alloc: Global, graph: &Graph) -> Result<Vec<State>, AllocError>
+    ensures { IfOk result (λ waiting. spec.AreOpened graph.now waiting.items) }
+{
+    let mut waiting = Vec::new(alloc);
+    waiting.push(State::root(alloc, graph)?)?;
+    Ok(waiting)
+}
+
+/// Searches the states that wait for a schedule whose makespan is below a limit, depth first, for as
+/// many nodes as are left (branch and bound over disjunctive pairs: Carlier and Pinson 1989; Brucker,
+/// Jurisch and Sievers 1994). Of a pair that side is visited first in which a schedule has it; what
+/// the queue has counted of earlier searches says which pairs come first. A search that has stopped
+/// may go on from the states that it leaves.
 pub fn refute(
     alloc: Global,
     graph: &Graph,
     limit: u32,
+    waiting: &mut Vec<State>,
     queue: &mut Queue,
     guide: &[u64],
     nodes: &mut u64,
 ) -> Result<Outcome, AllocError>
-    ensures refuted { IfOk result (λ outcome. outcome ≡ Refuted → NoneIsBelow graph.now limit) }
+    ensures refuted { IfOk result (λ outcome. outcome ≡ Refuted → spec.AreRefuted graph.now limit waiting.old.items) }
+    ensures stopped { IfOk result (λ outcome. outcome ≡ Stopped → spec.AreRefuted graph.now limit waiting.new.items → spec.AreRefuted graph.now limit waiting.old.items) }
     ensures nodes { nodes.new ≤ nodes.old }
 {
-    let mut waiting = Vec::new(alloc);
-    waiting.push(State::root(alloc, graph)?)?;
     for _node in 0..*nodes {
         let Some(state) = waiting.pop() else {
             return Ok(Outcome::Refuted);
         };
         *nodes -= 1;
-        if let Some(heads) = visit(alloc, graph, limit, state, queue, guide, &mut waiting)? {
+        if let Some(heads) = visit(alloc, graph, limit, state, queue, guide, waiting)? {
             return Ok(Outcome::Leaf(heads));
         }
     }
-    match waiting.pop() {
-        None => Ok(Outcome::Refuted),
-        Some(_) => Ok(Outcome::Stopped),
+    if waiting.is_empty() {
+        Ok(Outcome::Refuted)
+    } else {
+        Ok(Outcome::Stopped)
     }
 }

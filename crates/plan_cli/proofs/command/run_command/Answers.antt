@@ -31,7 +31,7 @@ pub returns-in-Best-clause-front : goal.returns-in-Best-clause-front
 returns-in-Best-clause-front g c = rw c.in-Best.is c.best_run.ensures.front
 
 pub returns-in-Prove-clause-front : goal.returns-in-Prove-clause-front
-returns-in-Prove-clause-front g c = rw c.in-Prove.is c.prove_run.ensures.front
+returns-in-Prove-clause-front g c = rw c.in-Prove.is c.prove_watched_run.ensures.front
 
 pub returns-in-Names-clause-front : goal.returns-in-Names-clause-front
 returns-in-Names-clause-front g c = rw c.in-Names.is c.names_run.ensures.front

@@ -1,7 +1,7 @@
 use Rattle.std.proofs.Common.{List, ℕ, Err, sym, subst}
 use Rattle.plan_cli.specs.Tasks.{IsTextOf, IsLineOf}
 use Rattle.plan_cli.proofs.RunLemmas.{task_front, task_line_front, writes_known, reads_front, sent_writes, refused_writes}
-use Rattle.plan_cli.proofs.running.run_task.Goals as goal
+use Rattle.plan_cli.proofs.running.run_watched.Goals as goal
 
 pub returns-in-Ok-text_of-clause-text : goal.returns-in-Ok-text_of-clause-text
 returns-in-Ok-text_of-clause-text g c =

@@ -1,0 +1,65 @@
+-- What a watcher hears in several calls, and that it is true of the shop.
+use Rattle.std.proofs.Common.{◌≡◌, ℕ, ◌≤◌, inl, inr, List, ap, sym, ◌∙◌, subst, arith}
+use Rattle.plan_sgs.specs.Problem.{makespan}
+use Rattle.plan_shop.specs.Shop.{JobShop, problem_of}
+use Rattle.plan_prove.specs.Proofs.{IsSearchOf, HasTaken}
+use Rattle.plan_prove.specs.States.{AreRefuted}
+use Rattle.plan_prove.specs.declared.graph.Graph.{Graph}
+use Rattle.plan_prove.specs.declared.state.State.{State}
+use Rattle.plan_prove.specs.Progress.{Progress, Hears, HearsNothing, IsProgressOf, HearsTruth, IsKnownTo, HearsKnown}
+use Rattle.plan_prove.specs.declared.searching.Search.{Search}
+
+-- what is heard by one call and by another behind it
+pub truth_twice : (s : JobShop) (allowed : ℕ) (before between after : Progress → Type 0) → HearsTruth s allowed before between → HearsTruth s allowed between after → HearsTruth s allowed before after
+truth_twice s allowed before between after first second p was = elim (second p was) [
+  | inl earlier ↦ first p earlier
+  | inr true ↦ inr true
+]
+
+pub known_twice : (search : Search) (before between after : Progress → Type 0) → HearsKnown search before between → HearsKnown search between after → HearsKnown search before after
+known_twice search before between after first second p was = elim (second p was) [
+  | inl earlier ↦ first p earlier
+  | inr known ↦ inr known
+]
+
+-- what a search knows that has taken nodes, it knew before
+pub known_before : (old new : Search) (before after : Progress → Type 0) → HasTaken old new → HearsKnown new before after → HearsKnown old before after
+known_before old new before after taken heard p was = elim (heard p was) [
+  | inl earlier ↦ inl earlier
+  | inr known ↦ inr (record {
+    best = known.best ∙ ap (λ proof. proof.schedule.makespan) taken.proof;
+    lower = known.lower ∙ ap (λ proof. proof.lower) taken.proof;
+    within = omega (arith, known.within, taken.most);
+  })
+]
+
+-- nodes are taken, and then more
+pub taken_twice : (old mid new : Search) → HasTaken old mid → HasTaken mid new → HasTaken old new
+taken_twice old mid new first second = record {
+  graph = second.graph ∙ first.graph;
+  proof = second.proof ∙ first.proof;
+  most = second.most ∙ first.most;
+  left = omega (arith, first.left, second.left);
+}
+
+-- states that are refuted are so before nodes are taken, and behind
+pub refuted_before : (old new : Search) (limit : ℕ) (states : List State) → HasTaken old new → AreRefuted new.graph limit states → AreRefuted old.graph limit states
+refuted_before old new limit states taken all = subst (λ (g : Graph). AreRefuted g limit states) taken.graph all
+
+pub refuted_behind : (old new : Search) (limit : ℕ) (states : List State) → HasTaken old new → AreRefuted old.graph limit states → AreRefuted new.graph limit states
+refuted_behind old new limit states taken all = subst (λ (g : Graph). AreRefuted g limit states) (sym taken.graph) all
+
+-- what a search of a shop knows is true of the shop
+pub known_is_true : (s : JobShop) (search : Search) (before after : Progress → Type 0) → IsSearchOf s search → HearsKnown search before after → HearsTruth s search.most before after
+known_is_true s search before after is heard p was = elim (heard p was) [
+  | inl earlier ↦ inl earlier
+  | inr known ↦
+      let starts = search.proof.schedule.starts.items in
+      let least = is.proof.lower starts is.proof.schedule.active.feasible in
+      inr (record {
+        best = (starts, is.proof.schedule.active, known.best ∙ is.proof.schedule.makespan_is);
+        lower = λ other feasible. omega (arith, known.lower, is.proof.lower other feasible);
+        below = omega (arith, known.best, known.lower, least, is.proof.schedule.makespan_is);
+        within = known.within;
+      })
+]
