@@ -12,6 +12,10 @@ use sqlite::types::ValueRef;
 use sqlite::{Alter, Connection};
 use sqlite_schema::schema::Schema;
 
+/// Makes the table of lags: the last of a new store, and the one that the second version adds.
+pub const CREATE_LAGS: &str =
+    "CREATE TABLE lags (desk TEXT NOT NULL, n INTEGER NOT NULL, src INTEGER NOT NULL, dst INTEGER NOT NULL, lag INTEGER NOT NULL, PRIMARY KEY (desk, n, src, dst)) STRICT";
+
 /// Whether a database has no table, index or view.
 pub fn is_empty(schema: &Schema) -> bool
     ensures { IsTrue result ↔ (schema.now ≡ no_schema) }
@@ -55,10 +59,7 @@ pub fn make_tables<S: Alter>(conn: &mut Connection<S>, digest: &[u8; 32]) -> Res
                 "CREATE TABLE binds (desk TEXT NOT NULL, n INTEGER NOT NULL, place INTEGER NOT NULL, code TEXT NOT NULL, PRIMARY KEY (desk, n, place)) STRICT",
                 none,
             ),
-            (
-                "CREATE TABLE lags (desk TEXT NOT NULL, n INTEGER NOT NULL, src INTEGER NOT NULL, dst INTEGER NOT NULL, lag INTEGER NOT NULL, PRIMARY KEY (desk, n, src, dst)) STRICT",
-                none,
-            ),
+            (CREATE_LAGS, none),
             (
                 "INSERT INTO meta (id, version, office) VALUES (1, 2, ?1)",
                 given,

@@ -7,6 +7,7 @@ ghost use Rattle.plan_store.specs.declared.layout.Layout.TheVariants.{First};
 ghost use Rattle.plan_store.specs.Layouts.{IsOfficeAt};
 ghost use Rattle.plan_store.specs.Adopting.{Takes};
 
+use crate::creating::CREATE_LAGS;
 use crate::fault::{StoreFault, store_fault_of};
 use crate::running::run_all;
 use sqlite::types::ValueRef;
@@ -24,10 +25,7 @@ pub fn migrate<S: Alter>(conn: &mut Connection<S>) -> Result<(), StoreFault>
     let made = run_all(
         conn,
         &[
-            (
-                "CREATE TABLE lags (desk TEXT NOT NULL, n INTEGER NOT NULL, src INTEGER NOT NULL, dst INTEGER NOT NULL, lag INTEGER NOT NULL, PRIMARY KEY (desk, n, src, dst)) STRICT",
-                none,
-            ),
+            (CREATE_LAGS, none),
             ("UPDATE meta SET version = 2 WHERE id = 1", none),
         ],
     );
