@@ -1,6 +1,6 @@
 //! Proofs of optima: a schedule and a lower bound that meet, or as near as the nodes allow.
 
-ghost use Rattle.std.specs.Prelude.{◌≡◌, ◌≤◌, ◌⊎◌, All, IfOk, IfSome, IfErr};
+ghost use Rattle.std.specs.Prelude.{◌≡◌, ◌≤◌, ◌⊎◌, All, IfOk, IfSome, IfErr, IsErrOf};
 ghost use Rattle.plan_sgs.specs.Problem.{IsActive, IsShortest, makespan};
 ghost use Rattle.plan_shop.specs.Shop.{problem_of};
 ghost use Rattle.plan_prove.specs.Progress.{HearsTruth};
@@ -100,6 +100,8 @@ pub fn prove(alloc: Global, shop: &Shop, nodes: u64) -> Result<Proof, ProveFault
     ensures nodes { IfOk result (λ proof. proof.nodes ≤ nodes) }
     ensures allowed { IfOk result (λ _. spec.IsNodeLimit nodes) }
     ensures refused { IfErr result (spec.RefusesProving nodes) }
+    // What is refused takes no memory.
+    ensures early { IsErrOf result ProveFault.NoMemory → spec.IsNodeLimit nodes }
 {
     prove_watched(alloc, shop, nodes, &mut Unwatched)
 }
@@ -122,6 +124,8 @@ pub fn prove_watched<W: Watcher>(
     ensures nodes { IfOk result (λ proof. proof.nodes ≤ nodes) }
     ensures allowed { IfOk result (λ _. spec.IsNodeLimit nodes) }
     ensures refused { IfErr result (spec.RefusesProving nodes) }
+    // What is refused takes no memory.
+    ensures early { IsErrOf result ProveFault.NoMemory → spec.IsNodeLimit nodes }
     // All that the watcher is told is true of the shop, whatever the search comes to.
     ensures told { HearsTruth shop.now nodes (W.was_told watcher.old) (W.was_told watcher.new) }
 {
