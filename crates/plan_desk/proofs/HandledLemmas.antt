@@ -4,10 +4,8 @@ use Rattle.std.proofs.lemmas.Bool.{both_ways}
 use Rattle.std.specs.Prelude.{nat_lt, Result, IsErr, IsErrAnd, MatchResult}
 use Rattle.plan_rows.specs.declared.fault.BookFault.{BookFault}
 use Rattle.plan_rows.specs.declared.fault.BookFault.TheVariants.{NoMemory, Store}
-use Rattle.plan_desk.specs.declared.change.Change as rows
-use Rattle.plan_desk.specs.declared.change.Change.TheVariants as made
 use Rattle.plan_desk.specs.declared.change.Decision.{Decision}
-use Rattle.plan_rows.specs.World.{Text, Desk, World, desk_in}
+use Rattle.plan_rows.specs.World.{Text, World}
 use Rattle.plan_rows.specs.Changes.{Change, Keep, Publish, OpenDesk, SetKey, AddPlan, RemovePlan, BindPlace, SetCalendar, SetLag, apply}
 use Rattle.plan_rows.specs.Views.{View, view}
 use Rattle.plan_desk.specs.Calls.{Request, Reply, subject, writes, is_accepted}
@@ -15,7 +13,7 @@ use Rattle.plan_desk.specs.Stories.{IsWant, belongs}
 use Rattle.plan_desk.specs.Decisions.{IsDecision, IsStep, IsRealStep}
 use Rattle.plan_rows.specs.Books.{Shelf, Writes}
 use Rattle.plan_desk.specs.Replies.{reply_of}
-use Rattle.plan_desk.specs.Deciding.{Quiet, Finds, Knows, CarriesOut, Handled, IsDecided, IsNumbered, Allows, change_in, owner_of, want_of}
+use Rattle.plan_desk.specs.Deciding.{Quiet, Finds, CarriesOut, Handled, IsDecided, Allows, change_in, owner_of, want_of}
 use Rattle.plan_rows.specs.Rules.{IsWorld}
 use Rattle.plan_desk.proofs.FitLemmas.{decision_allows}
 use Rattle.plan_desk.proofs.DecidingLemmas.{Closes, closes_then, quiet_then}
@@ -379,32 +377,6 @@ module _ {B : Type 0} (shelf : Shelf B) (r : Request) where
       → CarriesOut shelf b c {X = X} (owner_of on d.change) (change_in d.change) (Err fault) → Handled shelf a c r (want_of fault)
   wanted_on X path on a b c d fault is f stands h =
       handled_in_want X path a b c d fault f stands (subst (λ p. CarriesOut shelf b c {X = X} (owner_of p d.change) (change_in d.change) (Err fault)) is h)
-
-  -- a change that is none adds no plan
-  unnumbered : (o : Option Desk) (c : rows.Change) → change_in c ≡ Keep → IsNumbered o c
-  unnumbered o made.Keep is = tt
-  unnumbered o (made.Publish code kind capacity) is = tt
-  unnumbered o (made.OpenDesk name digest) is = tt
-  unnumbered o (made.SetKey digest) is = tt
-  unnumbered o (made.AddPlan n kind name body) is = absurd (something _ refl is)
-  unnumbered o (made.RemovePlan n) is = tt
-  unnumbered o (made.BindPlace n place code) is = tt
-  unnumbered o (made.SetCalendar n start days) is = tt
-  unnumbered o (made.SetLag n source target lag) is = tt
-
-  -- and a plan that it adds has the next number
-  pub judged_numbers : (path : Text) (a b : B) (d : Decision) → Finds shelf a b (λ w. IsDecided path (subject r) (λ v. IsDecision v r) (view (subject r) w)) (Ok d)
-      → Knows shelf b (λ w. IsNumbered (desk_in w (owner_of path d.change)) d.change)
-  judged_numbers path a b d f h stands = by_owner found.1.owner
-    where
-      found : shelf.stands b × IsDecided path (subject r) (λ v. IsDecision v r) (view (subject r) (shelf.world a)) d
-      found = f.found h (f.quiet.stood h stands)
-
-      by_owner : (change_in d.change ≡ Keep) ⊎ (owner_of path d.change ≡ subject r) → IsNumbered (desk_in (shelf.world b) (owner_of path d.change)) d.change
-      by_owner (inl keeps) = unnumbered _ d.change keeps
-      by_owner (inr is) =
-          subst (λ t. IsNumbered (desk_in (shelf.world b) t) d.change) (sym is)
-          (subst (λ w. IsNumbered (desk_in w (subject r)) d.change) (sym (f.quiet.same h stands)) found.1.number)
 
   -- the change that was judged may be carried out
   pub judged_allows : (path : Text) (a b : B) (d : Decision) → Finds shelf a b (λ w. IsDecided path (subject r) (λ v. IsDecision v r) (view (subject r) w)) (Ok d)

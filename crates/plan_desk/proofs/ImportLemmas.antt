@@ -15,7 +15,6 @@ use Rattle.plan_rows.specs.Views.{View, view}
 use Rattle.plan_rows.specs.Plans.{put_in_order, in_order}
 use Rattle.plan_desk.specs.JsonTexts.{plan_text}
 use Rattle.plan_rows.specs.Plans.{plan_before}
-use Rattle.plan_rows.specs.Rules.{IsNext}
 use Rattle.plan_rows.specs.Books.{Matches, IsDeskAnswer, ListsPlans, entry_in, entry_of}
 use Rattle.plan_desk.specs.PlanRoutes.{Imports}
 use Rattle.plan_desk.specs.Refusals.{not_found}
@@ -49,10 +48,6 @@ desk_answered w desk row is = by_row (desk_in w desk) refl is
     by_row : (o : Option Desk) → desk_in w desk ≡ o → Matches IsDeskAnswer o (Some row) → HasDesk (view desk w) row
     by_row None e h = absurd h
     by_row (Some found) e h = record { desk = found; there = e; next = h.next }
-
--- the number in it is the next one
-pub number_answered : (v : View) (row : DeskRow) → HasDesk v row → IsNext v.desk row.next
-number_answered v row has = subst (λ o. IsNext o row.next) (sym has.there) (sym has.next)
 
 pub desk_missing : (w : World) (desk : Text) → Matches IsDeskAnswer (desk_in w desk) None → desk_in w desk ≡ None
 desk_missing w desk is = by_row (desk_in w desk) is

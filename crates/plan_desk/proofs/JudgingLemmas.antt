@@ -24,7 +24,7 @@ locked v r key = subst (λ (b : Bool). decided b (Answers v r.call) no_key Keep)
 -- with the key
 pub judged_admitted : (path s : Text) (v : View) (r : Request) (d : Decision) (opens : Bool) → opens ≡ true → opens ≡ admits v r
     → IsDecided path s (λ u. Answers u r.call) v d → IsDecided path s (λ u. IsDecision u r) v d
-judged_admitted path s v r d opens is same h = record { answer = admitted v r _ _ (sym same ∙ is) h.answer; owner = h.owner; number = h.number }
+judged_admitted path s v r d opens is same h = record { answer = admitted v r _ _ (sym same ∙ is) h.answer; owner = h.owner }
 
 -- without it
 pub judged_locked : (path s : Text) (v : View) (r : Request) (d : Decision) (reply : whole.Reply) (opens : Bool) → opens ≡ false → opens ≡ admits v r

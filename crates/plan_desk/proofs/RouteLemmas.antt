@@ -23,7 +23,7 @@ use Rattle.plan_desk.specs.PlanRoutes.{of_plan, Removes}
 use Rattle.plan_desk.specs.JsonTexts.{code_text, desk_text, number_text}
 use Rattle.plan_desk.specs.Refusals.{not_found, bad_body, desk_exists, kind_differs}
 use Rattle.plan_desk.specs.Replies.{reply_of}
-use Rattle.plan_desk.specs.Deciding.{IsDecided, IsNumbered, change_in, owner_of}
+use Rattle.plan_desk.specs.Deciding.{IsDecided, change_in, owner_of}
 use Rattle.plan_rows.specs.declared.rows.DeskRow.{DeskRow}
 use Rattle.plan_rows.specs.Books.{Matches, IsDeskAnswer}
 use Rattle.plan_desk.proofs.FitLemmas.{desk_says}
@@ -35,16 +35,14 @@ pub decides_kept : (path s : Text) (Route : View → Outcome) (v : View) (d : De
 decides_kept path s Route v d r reply same keeps is route = record {
   answer = subst (λ c. Route v (reply_of d.reply) (change_in c)) (sym keeps) (subst (λ x. Route v x Keep) (sym (ap reply_of same ∙ is)) route);
   owner = inl (ap change_in keeps);
-  number = subst (IsNumbered v.desk) (sym keeps) tt;
 }
 
 -- a reply with a change for the desk of the path
 pub decides_made : (path : Text) (Route : View → Outcome) (v : View) (r : whole.Reply) (c : rows.Change) (reply : Reply) → owner_of path c ≡ path
-    → IsNumbered v.desk c → reply_of r ≡ reply → Route v reply (change_in c) → IsDecided path path Route v (record { reply = r; change = c })
-decides_made path Route v r c reply own number is route = record {
+    → reply_of r ≡ reply → Route v reply (change_in c) → IsDecided path path Route v (record { reply = r; change = c })
+decides_made path Route v r c reply own is route = record {
   answer = subst (λ x. Route v x (change_in c)) (sym is) route;
   owner = inr own;
-  number = number;
 }
 
 pub given_nothing : {A : Type 0} (o : Option A) (r : Reply) (Rest : A → Outcome) → o ≡ None → given o r Rest r Keep
@@ -129,7 +127,6 @@ opens_by w body name told b row digest r is same again own answer absent made_so
   answer = subst (λ x. Opens (view (opened body) w) body x (OpenDesk digest)) (sym (made_so ∙ ap (λ t. calls.answer 201 (desk_text t)) again))
       (subst (λ d. Opens (view (opened body) w) body (calls.answer 201 (desk_text (string_bytes b.desk))) (OpenDesk d)) (sym (ap (λ o. unwrap_or o []) own)) (opens_made w body name _ row is same answer absent));
   owner = inr (sym (opened_is body _ is));
-  number = tt;
 }
 
 -- ---- setting a key

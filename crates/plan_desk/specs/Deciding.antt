@@ -15,7 +15,7 @@ use Rattle.plan_desk.specs.Requests.{path_of}
 use Rattle.plan_desk.specs.Stories.{IsWant, belongs}
 use Rattle.plan_desk.specs.Decisions.{IsStep}
 use Rattle.plan_desk.specs.Outcomes.{Outcome}
-use Rattle.plan_rows.specs.Rules.{IsNext, IsWorld}
+use Rattle.plan_rows.specs.Rules.{IsWorld}
 use Rattle.plan_desk.specs.Replies.{reply_of}
 use Rattle.plan_rows.specs.declared.rows.DeskRow.{DeskRow}
 use Rattle.plan_rows.specs.Books.{Shelf, MoreFaults, Writes, Matches, IsDeskAnswer}
@@ -26,7 +26,7 @@ change_in made.Keep = Keep
 change_in (made.Publish code kind capacity) = Publish (string_bytes code) kind capacity
 change_in (made.OpenDesk name digest) = OpenDesk digest
 change_in (made.SetKey digest) = SetKey digest
-change_in (made.AddPlan n kind name body) = AddPlan kind name.now body.now
+change_in (made.AddPlan kind name body) = AddPlan kind name.now body.now
 change_in (made.RemovePlan n) = RemovePlan n
 change_in (made.BindPlace n place code) = BindPlace n place (string_bytes code)
 change_in (made.SetCalendar n start days) = SetCalendar n (string_bytes start) (string_bytes days)
@@ -38,7 +38,7 @@ owner_of path made.Keep = path
 owner_of path (made.Publish code kind capacity) = path
 owner_of path (made.OpenDesk name digest) = string_bytes name
 owner_of path (made.SetKey digest) = path
-owner_of path (made.AddPlan n kind name body) = path
+owner_of path (made.AddPlan kind name body) = path
 owner_of path (made.RemovePlan n) = path
 owner_of path (made.BindPlace n place code) = path
 owner_of path (made.SetCalendar n start days) = path
@@ -60,23 +60,10 @@ HasRows s w (SetLag n source target lag) = IsSome (plan_in w s n)
 abbrev pub Allows : Text → World → Change → Type 0
 Allows s w c = HasRows s w c × IsWorld (apply s c w)
 
--- a plan that is added has the desk's next number
-abbrev pub IsNumbered : Option Desk → rows.Change → Type 0
-IsNumbered desk made.Keep = Unit {0}
-IsNumbered desk (made.Publish code kind capacity) = Unit {0}
-IsNumbered desk (made.OpenDesk name digest) = Unit {0}
-IsNumbered desk (made.SetKey digest) = Unit {0}
-IsNumbered desk (made.AddPlan n kind name body) = IsNext desk n
-IsNumbered desk (made.RemovePlan n) = Unit {0}
-IsNumbered desk (made.BindPlace n place code) = Unit {0}
-IsNumbered desk (made.SetCalendar n start days) = Unit {0}
-IsNumbered desk (made.SetLag n source target lag) = Unit {0}
-
--- a view decides so, and the change is for its desk, with its next number
+-- a view decides so, and the change is for its desk
 pub record IsDecided (path s : Text) (Route : View → Outcome) (v : View) (d : Decision) : Type 0 where
   pub answer : Route v (reply_of d.reply) (change_in d.change)
   pub owner : (change_in d.change ≡ Keep) ⊎ (owner_of path d.change ≡ s)
-  pub number : IsNumbered v.desk d.change
 
 -- What is decided by what was found, for all who see that. The store is blamed only for rows that no
 -- office has whose rows keep their rules.

@@ -1,7 +1,6 @@
 //! Carrying out what was decided: at most one writing call.
 
-ghost use Rattle.plan_rows.specs.World.{desk_in};
-ghost use Rattle.plan_desk.specs.Deciding.{Allows, CarriesOut, IsNumbered, Knows, change_in, owner_of};
+ghost use Rattle.plan_desk.specs.Deciding.{Allows, CarriesOut, change_in, owner_of};
 
 use crate::change::Change;
 use plan_rows::{Book, BookFault};
@@ -12,8 +11,7 @@ pub(crate) fn carry_out<B: Book>(
     desk: &str,
     change: Change<'_>,
 ) -> Result<(), BookFault>
-    requires allowed { B.shelf.honest book.old → B.shelf.stands book.old → Allows (owner_of desk.now change) (B.shelf.world book.old) (change_in change) }
-    requires numbered { Knows B.shelf book.old (λ w. IsNumbered (desk_in w (owner_of desk.now change)) change) }
+    requires { B.shelf.honest book.old → B.shelf.stands book.old → Allows (owner_of desk.now change) (B.shelf.world book.old) (change_in change) }
     ensures { CarriesOut B.shelf book.old book.new (owner_of desk.now change.entry) (change_in change.entry) result }
 {
     match change {
@@ -25,12 +23,7 @@ pub(crate) fn carry_out<B: Book>(
         } => book.publish(code.as_str(), kind, capacity),
         Change::OpenDesk { name, digest } => book.open_desk(name.as_str(), &digest),
         Change::SetKey { digest } => book.set_key(desk, &digest),
-        Change::AddPlan {
-            n,
-            kind,
-            name,
-            body,
-        } => book.add_plan(desk, n, kind, name, body),
+        Change::AddPlan { kind, name, body } => book.add_plan(desk, kind, name, body),
         Change::RemovePlan { n } => book.remove_plan(desk, n),
         Change::BindPlace { n, place, code } => book.bind(desk, n, place, code.as_str()),
         Change::SetCalendar { n, start, days } => {

@@ -23,7 +23,6 @@ pub(crate) enum Change<'a> {
         digest: [u8; 32],
     },
     AddPlan {
-        n: u64,
         kind: PlanKind,
         name: &'a str,
         body: &'a [u8],

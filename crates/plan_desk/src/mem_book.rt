@@ -122,12 +122,11 @@ impl Book for MemBook {
     fn add_plan(
         &mut self,
         desk: &str,
-        n: u64,
         kind: PlanKind,
         name: &str,
         body: &[u8],
     ) -> Result<(), BookFault> {
-        let answer = self.tables.add_plan(self.alloc, desk, n, kind, name, body);
+        let answer = self.tables.add_plan(self.alloc, desk, kind, name, body);
         self.calls.count(told(answer))
     }
 

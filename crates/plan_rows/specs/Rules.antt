@@ -24,10 +24,6 @@ abbrev pub IsThereAnd : {A : Type 0} → Option A → (A → Type 0) → Type 0
 IsThereAnd None P = ⊥
 IsThereAnd (Some x) P = P x
 
--- a desk is there, and its next plan gets this number
-abbrev pub IsNext : Option Desk → ℕ → Type 0
-IsNext desk n = IsThereAnd desk (λ row. row.next ≡ n)
-
 -- the greatest number of a plan
 abbrev pub greatest_number : ℕ
 greatest_number = 1000000

@@ -5,7 +5,7 @@ ghost use Rattle.plan_rows.specs.World.{World, desk_in, plan_in, code_in};
 ghost use Rattle.plan_rows.specs.Views.{view};
 ghost use Rattle.plan_rows.specs.Changes.{apply, Publish, OpenDesk, SetKey, AddPlan, RemovePlan, BindPlace, SetCalendar, SetLag};
 ghost use Rattle.plan_rows.specs.Plans.{has_number};
-ghost use Rattle.plan_rows.specs.Rules.{IsNext, IsWorld};
+ghost use Rattle.plan_rows.specs.Rules.{IsWorld};
 ghost use Rattle.plan_rows.specs.Books.{Shelf, Reads, Writes, Matches, IsDeskAnswer, IsCapacityAnswer, IsPlanAnswer, ListsCodes, ListsPlans};
 
 use crate::fault::BookFault;
@@ -65,17 +65,15 @@ pub trait Book {
         ensures { Reads shelf self.old self.new result
             (Matches (IsPlanAnswer (view desk.now (shelf.world self.old))) (find (has_number n) (view desk.now (shelf.world self.old)).plans)) };
 
-    /// Keeps a plan with this number, which is the desk's next one and rises by 1. A project has no
-    /// name.
+    /// Keeps a plan with the desk's next number, which rises by 1. A project has no name.
     fn add_plan(
         &mut self,
         desk: &str,
-        n: u64,
         kind: PlanKind,
         name: &str,
         body: &[u8],
     ) -> Result<(), BookFault>
-        requires next { shelf.honest self.old → shelf.stands self.old → IsNext (desk_in (shelf.world self.old) desk.now) n }
+        requires there { shelf.honest self.old → shelf.stands self.old → IsSome (desk_in (shelf.world self.old) desk.now) }
         requires kept { shelf.honest self.old → shelf.stands self.old → IsWorld (apply desk.now (AddPlan kind name.now body.now) (shelf.world self.old)) }
         ensures { Writes shelf self.old self.new result (apply desk.now (AddPlan kind name.now body.now)) };
 

@@ -1,16 +1,15 @@
 -- A plan that is added with the number of its desk is the desk's next one.
-use Rattle.std.proofs.Common.{◌≡◌, ◌+◌, ℕ, Bool, true, false, cond, List, [], ◌∷◌, ◌++◌, find, Option, Some, None, refl, sym, ap, ap₂, subst, ◌∙◌}
-use Rattle.std.specs.Prelude.{IsTrue}
+use Rattle.std.proofs.Common.{◌≡◌, ◌+◌, ℕ, Bool, true, false, cond, List, [], ◌∷◌, ◌++◌, find, Option, Some, None, refl, sym, ap, ap₂, ◌∙◌}
 use Rattle.std.specs.List.{AllByRecursion}
 use Rattle.std.proofs.lemmas.Bool.{both_ways}
 use Rattle.std.proofs.lemmas.Slice.Eq.{bytes_eq-Decides}
-use Rattle.sqlite.specs.State.{State, HasCleanDisk}
 use Rattle.plan_rows.specs.declared.kinds.PlanKind.{PlanKind}
+use Rattle.plan_rows.specs.declared.rows.DeskRow.{DeskRow}
 use Rattle.plan_rows.specs.World.{Desk, World, same_text, is_desk, desk_in}
 use Rattle.plan_rows.specs.Changes.{apply, changed, risen, next_of, new_plan, AddPlan}
-use Rattle.plan_rows.specs.Rules.{AllDiffer, IsNext}
-use Rattle.plan_store.specs.Stores.{world_of}
-use Rattle.plan_store.specs.Serving.{IsReady, IsNextIn, numbered_plan}
+use Rattle.plan_rows.specs.Rules.{AllDiffer}
+use Rattle.plan_rows.specs.Books.{Matches, IsDeskAnswer}
+use Rattle.plan_store.specs.Serving.{numbered_plan}
 
 module _ (desk : List ℕ) (n : ℕ) where
   numbered : Desk → Desk
@@ -37,24 +36,17 @@ module _ (desk : List ℕ) (n : ℕ) where
           ap₂ ◌∷◌ (ap (λ k. record x { next = k + 1 }) (sym here)) (unchanged x e xs apart.0)
       go false e is more = ap (λ l. x ∷ l) (more is)
 
-  pub numbered_is_next : (w : World) → AllDiffer (λ a b. same_text a.desk b.desk) w.desks → IsNext (desk_in w desk) n
+  pub numbered_is_next : (w : World) → AllDiffer (λ a b. same_text a.desk b.desk) w.desks → (answer : DeskRow) → Matches IsDeskAnswer (desk_in w desk) (Some answer) → answer.next ≡ n
       → (kind : PlanKind) (name body : List ℕ) → numbered_plan desk n kind name body w ≡ apply desk (AddPlan kind name body) w
   unfolding numbered
-  numbered_is_next w apart is kind name body = go (desk_in w desk) refl is
+  numbered_is_next w apart answer told is kind name body = go (desk_in w desk) refl told
     where
-      go : (o : Option Desk) → desk_in w desk ≡ o → IsNext o n → numbered_plan desk n kind name body w ≡ apply desk (AddPlan kind name body) w
+      go : (o : Option Desk) → desk_in w desk ≡ o → Matches IsDeskAnswer o (Some answer) → numbered_plan desk n kind name body w ≡ apply desk (AddPlan kind name body) w
       go None e h = absurd h
-      go (Some row) e next =
+      go (Some row) e h =
+          let next : row.next ≡ n = sym h.next ∙ is in
           let number : next_of (desk_in w desk) ≡ n = ap next_of e ∙ next in
           λ i. record w {
             desks = raised w.desks apart row e next i;
             plans = w.plans ++ new_plan desk (sym number i) kind name body ∷ [];
           }
-
-  -- the same of tables that can be seen, by a number of any size
-  pub numbered_in : (s : State) → IsReady s → (m : ℕ) → n ≡ m → IsNextIn s desk m
-      → (kind : PlanKind) (name body : List ℕ) → HasCleanDisk s → IsTrue s.is_open
-      → numbered_plan desk n kind name body (world_of s.now.trees) ≡ apply desk (AddPlan kind name body) (world_of s.now.trees)
-  numbered_in s ready m same next kind name body clean live =
-      numbered_is_next (world_of s.now.trees) (ready.stands clean live).store.rules.desks_differ
-      (subst (IsNext (desk_in (world_of s.now.trees) desk)) (sym same) (next clean live)) kind name body

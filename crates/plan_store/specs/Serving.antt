@@ -6,8 +6,8 @@ use Rattle.sqlite.specs.State.{State, HasCleanDisk}
 use Rattle.plan_rows.specs.declared.fault.BookFault.{BookFault}
 use Rattle.plan_rows.specs.declared.kinds.PlanKind.{PlanKind}
 use Rattle.plan_rows.specs.Changes.{changed, new_plan}
-use Rattle.plan_rows.specs.World.{Text, World, desk_in, is_desk}
-use Rattle.plan_rows.specs.Rules.{IsNext, IsWorld}
+use Rattle.plan_rows.specs.World.{Text, World, is_desk}
+use Rattle.plan_rows.specs.Rules.{IsWorld}
 use Rattle.plan_store.specs.Tables.{store_schema}
 use Rattle.plan_store.specs.Enduring.{Endures}
 use Rattle.plan_store.specs.Stores.{world_of, IsStore}
@@ -61,10 +61,6 @@ module _ (old new : State) where
 -- Tables after a change keep the rules of rows, as far as they can be seen.
 abbrev pub IsKept : State → (World → World) → Type 0
 IsKept s change = HasCleanDisk s → IsTrue s.is_open → IsWorld (change (world_of s.now.trees))
-
--- A desk is there, and its next plan gets this number, as far as the tables can be seen.
-abbrev pub IsNextIn : State → Text → ℕ → Type 0
-IsNextIn s desk n = HasCleanDisk s → IsTrue s.is_open → IsNext (desk_in (world_of s.now.trees) desk) n
 
 -- A plan with this number, and the number after it for the next.
 abbrev pub numbered_plan : Text → ℕ → PlanKind → Text → Text → World → World

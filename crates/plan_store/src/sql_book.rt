@@ -238,12 +238,11 @@ impl<S: Alter> Book for SqlBook<S> {
     fn add_plan(
         &mut self,
         desk: &str,
-        n: u64,
         kind: PlanKind,
         name: &str,
         body: &[u8],
     ) -> Result<(), BookFault> {
-        let answer = add_plan_in(&mut self.conn, desk, n, kind, name, body);
+        let answer = add_plan_in(&mut self.conn, desk, kind, name, body);
         let counted = self.calls.count(answer);
         self.denials.note(counted)
     }

@@ -4,10 +4,10 @@ ghost use Rattle.std.specs.Prelude.{◌∷◌, [], ◌++◌};
 ghost use Rattle.sqlite.specs.Held.{state};
 ghost use Rattle.plan_rows.specs.World.{is_code, is_bind, is_lag};
 ghost use Rattle.plan_rows.specs.Changes.{apply, changed, put, without, Publish, OpenDesk, SetKey, AddPlan, RemovePlan, BindPlace, SetCalendar, SetLag, with_capacity, new_code, with_code, new_bind, with_lag, new_lag};
-ghost use Rattle.plan_store.specs.Serving.{IsReady, Changes, IsKept, IsNextIn, numbered_plan};
+ghost use Rattle.plan_store.specs.Serving.{IsReady, Changes, IsKept, numbered_plan};
 
 use crate::numbers::{digits_of, number_after, sql_number};
-use crate::reading::{is_bound, is_lagged, is_published};
+use crate::reading::{desk_found, is_bound, is_lagged, is_published};
 use crate::running::transact;
 use plan_rows::{BookFault, Kind, PlanKind};
 use sqlite::types::ValueRef;
@@ -139,21 +139,22 @@ fn add_numbered<'x, S: Alter>(
     )
 }
 
-/// Adds a plan with this number, which is the desk's next one and rises by 1. Nothing is read.
+/// Adds a plan with the desk's next number, which rises by 1.
 pub fn add_plan_in<'x, S: Alter>(
     conn: &mut Connection<S>,
     desk: &'x str,
-    n: u64,
     kind: PlanKind,
     name: &'x str,
     body: &'x [u8],
 ) -> Result<(), BookFault>
     requires ready { IsReady (state S.Store conn.old) }
-    requires next { IsNextIn (state S.Store conn.old) desk.now n }
     requires kept { IsKept (state S.Store conn.old) (apply desk.now (AddPlan kind name.now body.now)) }
     ensures { Changes (state S.Store conn.old) (state S.Store conn.new) result (apply desk.now (AddPlan kind name.now body.now)) }
 {
-    let n = sql_number(n)?;
+    let Some(row) = desk_found(conn, desk)? else {
+        return Err(BookFault::Store);
+    };
+    let n = sql_number(row.next)?;
     add_numbered(conn, desk, n, kind, name, body)
 }
 

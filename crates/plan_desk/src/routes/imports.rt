@@ -15,7 +15,7 @@ use plan_rows::{Book, BookFault, DeskRow, PlanKind};
 use std::alloc::Global;
 
 // A file is kept as a plan of its kind, with the desk's next number. The desk's row was read for its
-// key, and isn't read again.
+// key.
 fn importing<'a, B: Book>(
     book: &mut B,
     alloc: Global,
@@ -37,12 +37,7 @@ fn importing<'a, B: Book>(
     }
     Ok(Decision {
         reply: plan_answer(alloc, row.next, kind)?,
-        change: Change::AddPlan {
-            n: row.next,
-            kind,
-            name,
-            body,
-        },
+        change: Change::AddPlan { kind, name, body },
     })
 }
 

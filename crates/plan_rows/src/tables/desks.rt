@@ -3,7 +3,7 @@
 ghost use Rattle.std.specs.Prelude.{◌≡◌, ◌++◌, ◌∷◌, [], ◌<◌, map, OnOk, OnErr, IfSome, find};
 ghost use Rattle.std.specs.List.{position};
 ghost use Rattle.plan_rows.specs.World.{is_desk, same_text};
-ghost use Rattle.plan_rows.specs.Changes.{changed, with_digest, risen, new_desk};
+ghost use Rattle.plan_rows.specs.Changes.{changed, with_digest, risen, new_desk, next_of};
 ghost use Rattle.plan_rows.specs.Rules.{AllDiffer};
 ghost use Rattle.plan_rows.specs.Tables.{desk_kept};
 
@@ -15,6 +15,16 @@ pub fn desk_at(rows: &[DeskRecord], desk: &str) -> Option<usize>
     ensures { result ≡ position (λ row. is_desk desk.now (desk_kept row)) rows.now }
 {
     rows.iter().position(|row| row.desk.as_str() == desk)
+}
+
+/// The number that the next plan of a desk gets.
+pub fn next_number(rows: &[DeskRecord], desk: &str) -> u64
+    ensures { result ≡ next_of (find (is_desk desk.now) (map desk_kept rows.now)) }
+{
+    match desk_at(rows, desk) {
+        Some(at) => rows[at].next,
+        None => 0,
+    }
 }
 
 /// Adds a desk, whose plans are numbered from 1.

@@ -1,16 +1,16 @@
 //! What the commands change in the tables.
 
 ghost use Rattle.std.specs.Prelude.{◌≡◌, [], OnOk, OnErr};
-ghost use Rattle.plan_rows.specs.World.{desk_in, empty_world};
+ghost use Rattle.plan_rows.specs.World.{empty_world};
 ghost use Rattle.plan_rows.specs.Changes.{apply, Publish, OpenDesk, SetKey, AddPlan, RemovePlan, BindPlace, SetCalendar, SetLag};
-ghost use Rattle.plan_rows.specs.Rules.{IsNext, IsWorld};
+ghost use Rattle.plan_rows.specs.Rules.{IsWorld};
 ghost use Rattle.plan_rows.specs.Tables.{world_kept};
 
 use crate::kinds::{Kind, PlanKind};
 use crate::tables::Tables;
 use crate::tables::binds::{put_bind, take_binds};
 use crate::tables::codes::put_code;
-use crate::tables::desks::{add_desk, give_digest, raise_next};
+use crate::tables::desks::{add_desk, give_digest, next_number, raise_next};
 use crate::tables::lags::{give_lag, take_lags};
 use crate::tables::plans::{add_plan, give_calendar, take_plan};
 use std::alloc::{AllocError, Global};
@@ -68,22 +68,21 @@ impl Tables {
         give_digest(&mut self.desks, desk, digest);
     }
 
-    /// Keeps a plan with this number, which is the desk's next one and rises by 1.
+    /// Keeps a plan with the desk's next number, which rises by 1.
     pub fn add_plan(
         &mut self,
         alloc: Global,
         desk: &str,
-        n: u64,
         kind: PlanKind,
         name: &str,
         body: &[u8],
     ) -> Result<(), AllocError>
-        requires kept { IsWorld (world_kept self.old) }
-        requires next { IsNext (desk_in (world_kept self.old) desk.now) n }
+        requires { IsWorld (world_kept self.old) }
         ensures ok { OnOk result (world_kept self.new
             ≡ apply desk.now (AddPlan kind name.now body.now) (world_kept self.old)) }
         ensures err { OnErr result (world_kept self.new ≡ world_kept self.old) }
     {
+        let n = next_number(&self.desks, desk);
         add_plan(alloc, &mut self.plans, desk, n, kind, name, body)?;
         raise_next(&mut self.desks, desk);
         Ok(())

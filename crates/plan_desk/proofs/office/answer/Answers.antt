@@ -1,22 +1,15 @@
 use Rattle.std.proofs.Common.{sym, subst, Ok}
-use Rattle.plan_rows.specs.World.{desk_in}
-use Rattle.plan_desk.specs.Deciding.{CarriesOut, Allows, IsNumbered, Knows, change_in, owner_of}
+use Rattle.plan_desk.specs.Deciding.{CarriesOut, Allows, change_in, owner_of}
 use Rattle.plan_desk.specs.Requests.{call_in, request_in, path_of}
-use Rattle.plan_desk.proofs.HandledLemmas.{judged_allows, judged_numbers, handled_fully, wanted_at_once, wanted_on}
+use Rattle.plan_desk.proofs.HandledLemmas.{judged_allows, handled_fully, wanted_at_once, wanted_on}
 use Rattle.plan_desk.proofs.office.answer.Goals as goal
 
-pub carry_out-requires-clause-allowed : goal.carry_out-requires-clause-allowed
-carry_out-requires-clause-allowed g c =
+pub carry_out-requires : goal.carry_out-requires
+carry_out-requires g c =
     let d = c.in_ok-decision.decision in
     subst (λ path. g.B.Book.shelf.honest c.judge.new.book → g.B.Book.shelf.stands c.judge.new.book → Allows (owner_of path d.change) (g.B.Book.shelf.world c.judge.new.book) (change_in d.change))
     (sym c.path.ensures)
     (judged_allows g.B.Book.shelf (request_in c.args.request.now) (path_of (call_in c.args.request.now.call)) c.args.book.now c.judge.new.book d c.in_ok-decision.ensures.found (g.met.B.Book.whole c.judge.new.book))
-
-pub carry_out-requires-clause-numbered : goal.carry_out-requires-clause-numbered
-carry_out-requires-clause-numbered g c =
-    let d = c.in_ok-decision.decision in
-    subst (λ path. Knows g.B.Book.shelf c.judge.new.book (λ w. IsNumbered (desk_in w (owner_of path d.change)) d.change)) (sym c.path.ensures)
-    (judged_numbers g.B.Book.shelf (request_in c.args.request.now) (path_of (call_in c.args.request.now.call)) c.args.book.now c.judge.new.book d c.in_ok-decision.ensures.found)
 
 pub returns-in_err-decision : goal.returns-in_err-decision
 returns-in_err-decision g c =

@@ -79,7 +79,7 @@ returns g c =
     found_more shelf (λ w. FindsPlan (view desk w) text) (λ w row. Matches IsCapacityAnswer (code_in w.published code) row) _
     c.args.book.now c.find_plan.new.book c.capacity.new.self c.in_ok-found.field-0 c.in_ok-row.row _ c.in_ok-found.ensures
     (found_by shelf _ _ c.find_plan.new.book c.capacity.new.self c.in_ok-row.row c.in_ok-row.row c.in_ok-row.ensures (λ is. is))
-    (λ w is known. decides_made desk (λ v. Binds v text body) (view desk w) c.in_ok-bind_answer.field-0 _ _ refl tt c.in_ok-bind_answer.ensures
+    (λ w is known. decides_made desk (λ v. Binds v text body) (view desk w) c.in_ok-bind_answer.field-0 _ _ refl c.in_ok-bind_answer.ensures
     (binds_so (view desk w) text body code c.in-Some.found c.in_ok-count.count b c.in_ok-row.row
     (subst (FindsPlan (view desk w) text) c.in-Some.is is) c.in_ok-count.ensures.said says c.as_str.ensures.value known
     (judged_so b _ _ _ _ _ c.kind_alone.ensures c.taken.ensures passed)))

@@ -49,6 +49,6 @@ returns g c =
     let body = c.args.body.now in
     let says : calendar_body body ≡ Some (calendar_in c.in-Some-2.body) = sym c.in_ok-body.ensures ∙ ap (option_map calendar_in) c.in-Some-2.is in
     found_other g.B.Book.shelf _ _ c.args.book.now c.find_plan.new.book c.in_ok-found.field-0 _ c.in_ok-found.ensures
-    (λ w is. decides_made desk (λ v. Calendars v text body) (view desk w) c.in_ok-calendar_answer.field-0 _ _ refl tt c.in_ok-calendar_answer.ensures
+    (λ w is. decides_made desk (λ v. Calendars v text body) (view desk w) c.in_ok-calendar_answer.field-0 _ _ refl c.in_ok-calendar_answer.ensures
     (calendars_made (view desk w) text body _ _ c.in-Some.found (calendar_in c.in-Some-2.body) _ (subst (FindsPlan (view desk w) text) c.in-Some.is is)
     says c.as_str.ensures.value c.as_str-2.ensures.value c.in_default-new.ensures.ok))

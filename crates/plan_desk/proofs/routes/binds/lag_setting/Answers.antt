@@ -69,7 +69,7 @@ returns g c =
     let says : lag_body body ≡ Some (lag_body_in c.in-Some-2.body) = sym c.in_ok-body.ensures ∙ ap (option_map lag_body_in) c.in-Some-2.is in
     let passed = sym c.lag_refusal.ensures ∙ ap (option_map reply_of) c.in_default-lag_refusal.is in
     found_other g.B.Book.shelf _ _ c.args.book.now c.find_plan.new.book c.in_ok-found.field-0 _ c.in_ok-found.ensures
-    (λ w is. decides_made desk (λ v. SetsLag v text body) (view desk w) c.in_ok-lag_answer.field-0 _ _ refl tt c.in_ok-lag_answer.ensures
+    (λ w is. decides_made desk (λ v. SetsLag v text body) (view desk w) c.in_ok-lag_answer.field-0 _ _ refl c.in_ok-lag_answer.ensures
     (sets_lag_so (view desk w) text body c.in-Some.found c.in_ok-project.project (lag_body_in c.in-Some-2.body)
     (subst (FindsPlan (view desk w) text) c.in-Some.is is) c.in_ok-project.ensures.said says
     (ap (lag_refusal_of (Some (lag_body_in c.in-Some-2.body))) (sym c.as_ref.ensures.value) ∙ passed)))

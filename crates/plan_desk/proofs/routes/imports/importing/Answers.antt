@@ -8,7 +8,7 @@ use Rattle.plan_desk.specs.RouteRefusals.{IsImportRefusal}
 use Rattle.plan_desk.specs.FoundFiles.{ImportsFile}
 use Rattle.plan_desk.proofs.DecidingLemmas.{found_by, found_known, found_more}
 use Rattle.plan_desk.proofs.RouteLemmas.{decides_kept, decides_made}
-use Rattle.plan_desk.proofs.ImportLemmas.{desk_answered, desk_missing, number_answered, file_nowhere, file_not_kept, file_kept}
+use Rattle.plan_desk.proofs.ImportLemmas.{desk_answered, desk_missing, file_nowhere, file_not_kept, file_kept}
 use Rattle.plan_desk.proofs.routes.imports.importing.Goals as goal
 
 pub returns-in_default : goal.returns-in_default
@@ -48,8 +48,7 @@ returns g c =
     c.args.book.now c.args.book.now c.count_plans.new.self c.args.row c.in_ok-held.held _
     (found_known shelf _ c.args.book.now c.args.row c.requires)
     (found_by shelf _ _ c.args.book.now c.count_plans.new.self c.in_ok-held.held c.in_ok-held.held c.in_ok-held.ensures (λ is. is))
-    (λ w is held. decides_made desk (λ v. ImportsFile c.args.kind v name body) (view desk w) c.in_ok-plan_answer.field-0 _ _ refl
-    (number_answered (view desk w) c.in-Some.row (desk_answered w desk c.in-Some.row (subst (Matches IsDeskAnswer (desk_in w desk)) c.in-Some.is is))) c.in_ok-plan_answer.ensures
+    (λ w is held. decides_made desk (λ v. ImportsFile c.args.kind v name body) (view desk w) c.in_ok-plan_answer.field-0 _ _ refl c.in_ok-plan_answer.ensures
     (file_kept c.args.kind (view desk w) name body c.in-Some.row _
     (desk_answered w desk c.in-Some.row (subst (Matches IsDeskAnswer (desk_in w desk)) c.in-Some.is is))
     held

@@ -41,7 +41,7 @@ returns g c =
     let w = g.B.Book.shelf.world c.args.book.now in
     let says : key_body body ≡ Some (string_bytes c.in-Some.key) = sym c.in_ok-key.ensures ∙ ap (option_map string_bytes) c.in-Some.is in
     found_by g.B.Book.shelf _ _ c.args.book.now c.desk.new.self c.in_ok-desk.field-0 _ c.in_ok-desk.ensures
-    (λ is. decides_made desk (λ v. SetsKey v desk body) (view desk w) c.in_ok-desk_answer.field-0 _ _ refl tt c.in_ok-desk_answer.ensures
+    (λ is. decides_made desk (λ v. SetsKey v desk body) (view desk w) c.in_ok-desk_answer.field-0 _ _ refl c.in_ok-desk_answer.ensures
     (sets_key_by (view desk w) desk body _ _ (desk_there w desk _ is c.if-is_none.ensures) says
     (sym c.in-Some-key_digest.is ∙ digest_of_key (string_bytes c.in-Some.key) c.key_digest.result (key_says body _ says)
     (c.key_digest.ensures ∙ ap key_digest_of c.as_bytes.ensures.value))))

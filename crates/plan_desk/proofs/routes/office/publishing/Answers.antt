@@ -29,5 +29,5 @@ returns g c =
     let body = c.args.body.now in
     let says : publish_body body ≡ Some (publish_in c.in-Some.body) = sym c.in_ok-body.ensures ∙ ap (option_map publish_in) c.in-Some.is in
     found_by g.B.Book.shelf _ _ c.args.book.now c.capacity.new.self c.in_ok-row.row _ c.in_ok-row.ensures
-    (λ is. decides_made [] (λ v. Publishes v.published body) (view [] (g.B.Book.shelf.world c.args.book.now)) c.in_ok-code_answer.field-0 _ _ refl tt c.in_ok-code_answer.ensures
+    (λ is. decides_made [] (λ v. Publishes v.published body) (view [] (g.B.Book.shelf.world c.args.book.now)) c.in_ok-code_answer.field-0 _ _ refl c.in_ok-code_answer.ensures
     (publishes_made _ body _ _ says c.as_str.ensures.value (sym (c.is_other_kind.ensures _ is) ∙ c.if-is_other_kind.false)))

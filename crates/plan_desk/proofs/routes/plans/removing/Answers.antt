@@ -20,5 +20,5 @@ returns g c =
     let text = c.args.number.now in
     found_other g.B.Book.shelf _ _ c.args.book.now c.find_plan.new.book c.in_ok-found.field-0 _ c.in_ok-found.ensures
     (λ w is. let found = subst (FindsPlan (view desk w) text) c.in-Some.is is in
-    decides_made desk (λ v. Removes v text) (view desk w) c.in_ok-number_answer.field-0 _ _ refl tt c.in_ok-number_answer.ensures
+    decides_made desk (λ v. Removes v text) (view desk w) c.in_ok-number_answer.field-0 _ _ refl c.in_ok-number_answer.ensures
     (removes_made (view desk w) text found.row c.in-Some.found.n found.seen found.number))
