@@ -21,8 +21,6 @@ impl<'a> ProgressLine<'a> {
 }
 
 impl<'a> Watcher for ProgressLine<'a> {
-    ghost use Rattle.std.specs.Prelude.{⊥};
-
     ghost was_told = { λ _ _. ⊥ };
 
     fn tell(&mut self, best: u64, lower: u64, nodes: u64) {
