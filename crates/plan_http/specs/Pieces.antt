@@ -1,6 +1,6 @@
 -- What the pieces that have come say of all bytes of a connection, for private clauses alone.
 use Rattle.std.specs.Prelude.{◌≡◌, ℕ, ◌+◌, ◌<◌, ◌≤◌, Bool, true, false, List, [], ◌++◌, length, take, Option, Some, ⊤, Result, Ok, Err}
-use Rattle.httparse.specs.Grammar.{RequestHead}
+use Rattle.httparse.specs.Grammar.{RequestHead, MayBecomeRequest}
 use Rattle.httparse.specs.Spans.{IsRequestAt, IsRequestWithin}
 use Rattle.httparse.specs.declared.spans.HeaderSpan.{HeaderSpan}
 use Rattle.httparse.specs.declared.spans.RequestSpans.{RequestSpans}
@@ -36,11 +36,13 @@ JudgedOf bytes front headers (Whole spans) = HasHeadAt bytes front headers spans
 JudgedOf bytes front headers Hopeless = HasNoHead bytes
 JudgedOf bytes front headers Unfinished = ⊤
 
--- the spans lie in the front; only a front with room behind it and more to come is unfinished
+-- the spans lie in the front; only a front with room behind it and more to come, which more bytes
+-- can make a head, is unfinished
 abbrev pub JudgedWithin : List ℕ → Bool → List HeaderSpan → Judged → Type 0
 JudgedWithin front is_end headers (Whole spans) = IsRequestWithin front headers spans
 JudgedWithin front is_end headers Hopeless = ⊤
-JudgedWithin front is_end headers Unfinished = (length front < 8192) × (is_end ≡ false)
+JudgedWithin front is_end headers Unfinished =
+    (length front < 8192) × (is_end ≡ false) × MayBecomeRequest front
 
 -- a read behind the first bytes of a buffer
 abbrev pub Fills : {E : Type 0} → List ℕ → ℕ → Option (List ℕ) → List ℕ → Option (List ℕ) → Result ℕ E → Type 0
