@@ -4,6 +4,7 @@ ghost use Rattle.std.specs.Prelude.{◌≡◌, ◌⊎◌, ◌↔◌, ◌+◌, �
 ghost use Rattle.std.specs.IoError.{error_kind};
 ghost use Rattle.plan_psplib.specs.Devices.{most_calls, HasFailed};
 ghost use Rattle.plan_store.specs.declared.fault.StoreFault.TheVariants.{NoMemory, Store};
+ghost use Rattle.plan_serve.specs.Causes.{IsToldAnew};
 ghost use Rattle.plan_serve.specs.CheckRun.{ChecksOnFiles, IsPrinted, IsPrintedInPart};
 ghost use Rattle.plan_serve.specs.InitRun.{IsOpenedFrom, InitsOnFiles, IsInitFault};
 ghost use Rattle.plan_serve.specs.ReplayRun.{AreAnswered, AreAnsweredInPart, ReplaysOnFiles};
@@ -64,6 +65,17 @@ fn closed<F: Start>(ended: Ended<Kept<F>>) -> Result<(), ServeFault>
     done
 }
 
+// The outcome of a command on the files at a name. Where the store refused, why is told by the files;
+// no other outcome is told anew.
+fn told_at(rt: &HostRuntime, path: &str, done: Result<(), ServeFault>) -> Result<(), ServeFault>
+    ensures { IsToldAnew done result }
+{
+    match done {
+        Err(ServeFault::Store) => Err(refusal(rt, path, Unknown)),
+        done => done,
+    }
+}
+
 // Why a file can't be opened.
 fn open_fault(error: &io::Error) -> ServeFault
     ensures which { (result ≡ ServeFault.Memory) ⊎ (result ≡ ServeFault.Input) }
@@ -90,10 +102,8 @@ pub fn init_from<F: Start>(rt: &HostRuntime, path: &str, start: F) -> Result<(),
     ensures which { IfErr result IsInitFault }
 {
     let mut input = StdSource::new(rt.reader());
-    match closed(init_at(rt.alloc(), &mut input, InFile { rt, path, start })) {
-        Err(ServeFault::Store) => Err(refusal(rt, path, Unknown)),
-        done => done,
-    }
+    let done = closed(init_at(rt.alloc(), &mut input, InFile { rt, path, start }));
+    told_at(rt, path, done)
 }
 
 // The bytes of a connection, in the file of this name.
@@ -151,10 +161,8 @@ fn replay_at<F: Start, W: Sink>(
         return Err(fault);
     }
     let opened = SqlBook::open_from(rt, path, start);
-    match closed(replay_opened(rt.alloc(), opened, conns, writer)) {
-        Err(ServeFault::Store) => Err(refusal(rt, path, Unknown)),
-        done => done,
-    }
+    let done = closed(replay_opened(rt.alloc(), opened, conns, writer));
+    told_at(rt, path, done)
 }
 
 /// `plan replay`: serves the connections whose bytes are in files, by the office in the file of this
@@ -246,10 +254,8 @@ pub fn check_office_from<F: Start, W: Sink>(
         return Err(fault);
     }
     let opened = SqlBook::open_from(rt, path, start);
-    match closed(check_opened(rt.alloc(), opened, writer)) {
-        Err(ServeFault::Store) => Err(refusal(rt, path, Unknown)),
-        done => done,
-    }
+    let done = closed(check_opened(rt.alloc(), opened, writer));
+    told_at(rt, path, done)
 }
 
 /// `plan serve`: serves so many connections on a port of this machine alone, by the office in a file.
@@ -275,8 +281,6 @@ pub fn serve_from<F: Start>(
         return Err(fault);
     }
     let opened = SqlBook::open_from(rt, path, start);
-    match closed(serve_opened(rt, opened, service)) {
-        Err(ServeFault::Store) => Err(refusal(rt, path, Unknown)),
-        done => done,
-    }
+    let done = closed(serve_opened(rt, opened, service));
+    told_at(rt, path, done)
 }

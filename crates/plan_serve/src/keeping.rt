@@ -1,10 +1,10 @@
 //! The commands on an office wherever its database is.
 
-ghost use Rattle.std.specs.Prelude.{◌≡◌, ◌≢◌, ◌⊎◌, ◌+◌, ◌≤◌, length, map, vec_items, Ok, IfOk, IfErr, IfNone, IsErrOf, OnOk, MatchResult};
+ghost use Rattle.std.specs.Prelude.{◌≡◌, ◌≢◌, ◌⊎◌, ◌+◌, ◌≤◌, length, map, vec_items, Ok, is_some, IfOk, IfErr, IfNone, IsSome, IsErrOf, OnOk, OnErr, MatchResult};
 ghost use Rattle.plan_psplib.specs.Devices.{most_calls, HasFailed};
 ghost use Rattle.plan_serve.specs.Causes.{IsPortCause};
 ghost use Rattle.plan_serve.specs.CheckRun.{ChecksFrom, IsPrinted, IsPrintedInPart};
-ghost use Rattle.plan_serve.specs.InitRun.{HasMade, IsInitFault};
+ghost use Rattle.plan_serve.specs.InitRun.{HasMade, IsInitFault, MakesNone};
 ghost use Rattle.plan_serve.specs.ReplayRun.{AreAnswered, AreAnsweredInPart, ReplaysFrom};
 ghost use Rattle.plan_serve.specs.Serve.{IsServeFault};
 ghost use Rattle.plan_serve.specs.Ports.{ServesFrom};
@@ -38,6 +38,9 @@ pub(crate) fn init_at<R: Source, P: Place>(
 ) -> Ended<P::Kept>
     ensures made { OnOk result.0 (HasMade P.Kept.Store (P.opens place)) }
     ensures which { IfErr result.0 IsInitFault }
+    // The connection comes back, if one was opened.
+    ensures back { OnOk result.0 (IsSome result.1) }
+    ensures left { IfErr result.0 (λ e. MakesNone P.Kept.Store (P.opens place) (P.refuses place) (R.remaining reader.old) (R.remaining reader.new) e result.1) }
 {
     match init_run(alloc, reader, place) {
         Ok(book) => (Ok(()), Some(book.into_connection())),
@@ -49,6 +52,7 @@ pub(crate) fn init_at<R: Source, P: Place>(
 #[tactic(auto, using(crate::proofs::ServeLemmas::serves_not, crate::proofs::ServeLemmas::not_output))]
 fn book_of<S: Alter + Drop>(opened: Opened<S>) -> Result<SqlBook<S>, ServeFault>
     ensures book { IfOk result (λ book. opened ≡ Ok book) }
+    ensures none { OnErr result (IfOk opened (λ _. ⊥)) }
     ensures which { IfErr result IsServeFault }
     ensures silent { IfErr result (λ e. e ≢ ServeFault.Output) }
 {
@@ -59,7 +63,9 @@ fn book_of<S: Alter + Drop>(opened: Opened<S>) -> Result<SqlBook<S>, ServeFault>
 }
 
 // The connection of a book.
-fn connection_of<S: Alter + Drop>(book: Option<SqlBook<S>>) -> Option<Connection<S>> {
+fn connection_of<S: Alter + Drop>(book: Option<SqlBook<S>>) -> Option<Connection<S>>
+    ensures { is_some result ≡ is_some book }
+{
     match book {
         Some(book) => Some(book.into_connection()),
         None => None,
@@ -108,6 +114,7 @@ pub(crate) fn replay_opened<S: Alter + Drop, W: Sink>(
     ensures fine { OnOk result.0 (W.faults writer.new ≡ W.faults writer.old) }
     ensures output { IsErrOf result.0 ServeFault.Output →
         HasFailed (W.calls writer.old) (W.calls writer.new) (W.faults writer.old) (W.faults writer.new) }
+    ensures back { IfOk opened (λ _. IfNone result.1 (IsErrOf result.0 ServeFault.Memory)) }
 {
     let book = match book_of(opened) {
         Ok(book) => book,
@@ -132,6 +139,7 @@ pub(crate) fn check_opened<S: Alter + Drop, W: Sink>(
     ensures fine { OnOk result.0 (W.faults writer.new ≡ W.faults writer.old) }
     ensures output { IsErrOf result.0 ServeFault.Output →
         HasFailed (W.calls writer.old) (W.calls writer.new) (W.faults writer.old) (W.faults writer.new) }
+    ensures back { IfOk opened (λ _. IsSome result.1) }
 {
     let mut book = match book_of(opened) {
         Ok(book) => book,
@@ -195,6 +203,7 @@ fn serve_over<B: Book + Drop>(
 ) -> (Result<(), ServeFault>, Option<B>)
     ensures ok { OnOk result.0 (ServesFrom B.shelf book service.now.count) }
     ensures which { IfErr result.0 IsServeFault }
+    ensures back { IfNone result.1 (IsErrOf result.0 ServeFault.Memory) }
 {
     let mut office = match Office::new(rt.alloc(), book) {
         Ok(office) => office,
@@ -212,6 +221,7 @@ pub(crate) fn serve_opened<S: Alter + Drop>(
 ) -> Ended<S>
     ensures ok { OnOk result.0 (MatchResult opened (λ book. ServesFrom ⟦<SqlBook<S> as Book>⟧.shelf book service.now.count) (λ _. ⊥)) }
     ensures which { IfErr result.0 IsServeFault }
+    ensures back { IfOk opened (λ _. IfNone result.1 (IsErrOf result.0 ServeFault.Memory)) }
 {
     let book = match book_of(opened) {
         Ok(book) => book,

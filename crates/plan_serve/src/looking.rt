@@ -1,7 +1,7 @@
 //! What stands at the name of an office, and why it can't be opened.
 
 ghost use Rattle.std.specs.Prelude.{◌≢◌, IfErr};
-ghost use Rattle.plan_serve.specs.Causes.{IsFileCause};
+ghost use Rattle.plan_serve.specs.Causes.{IsFileCause, IsOpenCause};
 ghost use Rattle.plan_serve.specs.InitRun.{IsInitFault};
 ghost use Rattle.plan_serve.specs.Serve.{IsServeFault};
 
@@ -46,17 +46,25 @@ pub(crate) fn look(rt: &HostRuntime, path: &str) -> Result<(), ServeFault>
     }
 }
 
-/// Why the files at a name can't be opened, where the store has refused them: they are tried once more.
-#[tactic(auto, using(crate::proofs::CauseLemmas::file_serves, crate::proofs::CauseLemmas::file_silent, crate::proofs::CauseLemmas::file_inits))]
-pub(crate) fn refusal<F: Start>(rt: &HostRuntime, path: &str, start: F) -> ServeFault
-    ensures which { IsServeFault result }
-    ensures initial { IsInitFault result }
-    ensures silent { result ≢ ServeFault.Output }
+// Why the files of a database can't be opened, by what opening them came to. Files that can be are the
+// store's to refuse.
+fn opening_fault<T: Drop>(opened: Result<T, OpenError>) -> ServeFault
+    ensures { IsOpenCause opened result }
 {
-    match sqlite_std_file::open(rt, path, start) {
+    match opened {
         Err(OpenError::Busy) => ServeFault::Locked,
         Err(OpenError::OutOfMemory) => ServeFault::Memory,
         Err(OpenError::Io(error)) => file_fault(error.kind()),
         Err(OpenError::HotJournal) | Ok(_) => ServeFault::Store,
     }
+}
+
+/// Why the files at a name can't be opened, where the store has refused them: they are tried once more.
+#[tactic(auto, using(crate::proofs::CauseLemmas::open_serves, crate::proofs::CauseLemmas::open_silent, crate::proofs::CauseLemmas::open_inits))]
+pub(crate) fn refusal<F: Start>(rt: &HostRuntime, path: &str, start: F) -> ServeFault
+    ensures which { IsServeFault result }
+    ensures initial { IsInitFault result }
+    ensures silent { result ≢ ServeFault.Output }
+{
+    opening_fault(sqlite_std_file::open(rt, path, start))
 }

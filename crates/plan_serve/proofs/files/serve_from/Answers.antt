@@ -1,7 +1,15 @@
+use Rattle.std.proofs.Common.{refl}
 use Rattle.sqlite.specs.Files.{over_files}
+use Rattle.plan_serve.specs.Serve.{IsServeFault}
+use Rattle.plan_serve.proofs.CauseLemmas.{told_ok, told_err}
 use Rattle.plan_serve.proofs.ServeLemmas.{serves_on_files}
 use Rattle.plan_serve.proofs.files.serve_from.Goals as goal
 
-pub returns-in_default-closed-2-clause-served : goal.returns-in_default-closed-2-clause-served
-returns-in_default-closed-2-clause-served g c =
-    serves_on_files g.F.Start over_files c.args.service.now.count c.open_from-opened.result c.serve_opened.result.0 c.closed.result c.closed.ensures c.open_from-opened.ensures.found c.serve_opened.ensures.ok
+pub returns-clause-served : goal.returns-clause-served
+returns-clause-served g c =
+    told_ok c.serve_opened.result.0 c.closed-done.result c.told_at.result c.closed-done.ensures c.told_at.ensures _
+    (serves_on_files g.F.Start over_files c.args.service.now.count c.open_from-opened.result c.serve_opened.result.0 c.serve_opened.result.0 refl c.open_from-opened.ensures.found c.serve_opened.ensures.ok)
+
+pub returns-clause-which : goal.returns-clause-which
+returns-clause-which g c =
+    told_err c.serve_opened.result.0 c.closed-done.result c.told_at.result c.closed-done.ensures c.told_at.ensures IsServeFault c.serve_opened.ensures.which (λ e was serves inits silent. serves)

@@ -1,0 +1,11 @@
+use Rattle.plan_serve.specs.InitRun.{IsInitFault}
+use Rattle.plan_serve.proofs.CauseLemmas.{told_ok, told_err}
+use Rattle.plan_serve.proofs.files.init_from.Goals as goal
+
+pub returns-clause-made : goal.returns-clause-made
+returns-clause-made g c =
+    told_ok c.init_at.result.0 c.closed-done.result c.told_at.result c.closed-done.ensures c.told_at.ensures _ c.init_at.ensures.made
+
+pub returns-clause-which : goal.returns-clause-which
+returns-clause-which g c =
+    told_err c.init_at.result.0 c.closed-done.result c.told_at.result c.closed-done.ensures c.told_at.ensures IsInitFault c.init_at.ensures.which (λ e was serves inits silent. inits)
