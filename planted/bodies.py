@@ -15,7 +15,6 @@ TOP = os.path.dirname(HERE)
 HEAD = re.compile(r"^( *)(?:pub(?:\([a-z]+\))? )?(?:const )?fn (\w+)")
 OWNER = re.compile(r"^impl(?:<.*?>)? (?:([\w:]+)(?:<([\w:]+).*?>)? for )?&?\(?(\w+)")
 VERDICT = re.compile(r"(?m)^(?:fn|trait method|cycle) (.+?): (proved|not proved|no proof|could not tell)(.*)$")
-CALL = re.compile(r"(\.)?(?:(\w+)::)?\b(\w+)(?:::<[^>]*>)?\(")
 PLACE = re.compile(r"(?:^|[\s(])(?:\./)?(src/[\w/]+\.rt):(\d+)")
 TURNED = [
     (" <= ", " < "), (" < ", " <= "), (" >= ", " > "), (" > ", " >= "), (" == ", " != "), (" != ", " == "), (" + ", " - "),
@@ -51,13 +50,18 @@ def owner_of(trait, argument, name):
 
 def body_of(lines, head, indent):
     """The first line of the body of a function; none where it is empty or left out."""
+    depth = 0
     for k in range(head, len(lines)):
         line = lines[k].rstrip()
-        if line.endswith(("{}", ";")):
-            return None
+        if line.lstrip().startswith("//"):
+            continue
         is_clause = line.lstrip().startswith(("ensures", "requires"))
-        if line == indent + "{" or line.endswith("{") and not is_clause:
+        if line == indent + "{" or line.endswith("{") and not is_clause and depth == 0:
             return k + 1
+        # a record within a clause has lines with a semicolon of their own
+        depth += line.count("{") - line.count("}")
+        if line.endswith("{}") or line.endswith(";") and depth == 0:
+            return None
     return None
 
 
@@ -175,44 +179,6 @@ def taken(texts, folder):
     return changes
 
 
-def calls_of(body, functions):
-    """The functions of a crate that a body may call, by their names."""
-    found = set()
-    for dot, owner, word in CALL.findall(body):
-        named = functions.get(word, ())
-        if dot:
-            found |= {f for f in named if "::" in f.name}
-        elif owner and owner[0].isupper() and owner != "Self":
-            found |= {f for f in named if f.name == f"{owner}::{word}"}
-        else:
-            found |= {f for f in named if owner == "Self" or "::" not in f.name}
-    return found
-
-
-def direct_calls(texts):
-    """For each function those that it may call itself."""
-    bodies, functions = {}, collections.defaultdict(set)
-    for file, text in texts.items():
-        lines = text.split("\n")
-        for function in functions_of(file, lines):
-            bodies[function] = "\n".join(lines[function.body : function.end])
-            functions[function.name.rpartition("::")[2]].add(function)
-    return {function: calls_of(body, functions) for function, body in bodies.items()}
-
-
-def reached(texts):
-    """For each function those that it may call, directly or not."""
-    direct, all_of = direct_calls(texts), {}
-    for function in direct:
-        seen, waiting = set(), [function]
-        while waiting:
-            new = direct[waiting.pop()] - seen
-            seen |= new
-            waiting += new
-        all_of[function] = seen - {function}
-    return all_of
-
-
 def below(crate):
     """The crates of the repository that a crate stands on."""
     with open(os.path.join(TOP, "crates.txt"), encoding="utf-8") as file:
@@ -276,15 +242,22 @@ def verdict_of(change, verdicts):
     return next((list_ for list_ in (exact, within, said) if list_), [])
 
 
+def own(rest):
+    """What a verdict says of a function itself, without what it says of those that it calls."""
+    parts = re.split(r"[:;] ", rest)
+    return [part for part in parts if part and not part.startswith(("it calls ", "it passes ", "it waits "))]
+
+
 def judge(changes, printed):
-    """Sorts changes by what a check printed: those that are judged, with their verdicts, and those that aren't."""
+    """Sorts changes by what a check printed: those that are judged, with their verdicts, and those that aren't. A function that has no
+    proof for those alone that it calls is proved by their contracts."""
     verdicts = [(name, (told, rest)) for name, told, rest in VERDICT.findall(printed)]
     judged, left = {}, []
     for change in changes:
         said = verdict_of(change, verdicts)
-        if any(told == "not proved" or told == "no proof" and "it calls" not in rest for told, rest in said):
+        if any(told == "not proved" or told == "no proof" and own(rest) for told, rest in said):
             judged[change] = "refused"
-        elif said and all(told == "proved" for told, _ in said):
+        elif said and all(told in ("proved", "no proof") for told, _ in said):
             judged[change] = "PROVED"
         else:
             left.append(change)
@@ -304,14 +277,12 @@ def blamed(changes, printed):
     return hit
 
 
-def batch_of(waiting, reach):
-    """Changes of functions of which none calls another one of them."""
-    chosen = []
+def batch_of(waiting):
+    """Changes of functions of which no two are the same."""
+    chosen = {}
     for change in waiting:
-        function = change.function
-        if all(function != other.function and function not in reach[other.function] and other.function not in reach[function] for other in chosen):
-            chosen.append(change)
-    return chosen
+        chosen.setdefault(change.function, change)
+    return list(chosen.values())
 
 
 class Trial:
@@ -319,7 +290,6 @@ class Trial:
 
     def __init__(self, copy, changes, tell):
         self.copy, self.waiting, self.ended, self.tell = copy, list(changes), {}, tell
-        self.reach = reached(copy.texts)
         self.tries = collections.Counter()
 
     def end(self, change, said):
@@ -362,5 +332,5 @@ def tried(copy, changes, tell):
         sys.exit(f"planted: {copy.crate} isn't proved as it is\n" + printed[-2000:])
     trial = Trial(copy, changes, tell)
     while trial.waiting:
-        trial.round(batch_of(trial.waiting, trial.reach))
+        trial.round(batch_of(trial.waiting))
     return trial.ended
