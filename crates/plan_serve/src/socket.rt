@@ -68,6 +68,7 @@ impl<'a> Door<'a> {
     fn pause(&mut self) -> Seen
         ensures counted { self.new.failures ≤ self.old.failures + 1 }
         ensures all { self.old.failures < MOST_FAILURES → self.new.failures ≡ self.old.failures + 1 }
+        ensures shut { MOST_FAILURES ≤ self.new.failures → result ≡ Seen.Lost }
     {
         let pause = PAUSE << self.failures.min(MOST_DOUBLINGS);
         thread::sleep(self.rt, Duration::from_millis(pause));
@@ -184,6 +185,31 @@ impl<'a> Visitors for Callers<'a> {
     }
 }
 
+// Those who come to a socket, none of whom was awaited yet, each with the service's seconds.
+fn callers_of<'a>(
+    rt: &'a HostRuntime,
+    listener: &'a TcpListener,
+    room: Room,
+    log: Log<'a>,
+    service: &Service<'_>,
+) -> Callers<'a>
+    ensures timed { result.patience ≡ service.now.patience }
+    ensures open { result.door.failures ≡ 0 }
+{
+    Callers {
+        door: Door {
+            rt,
+            listener,
+            room,
+            failures: 0,
+        },
+        patience: service.patience,
+        log,
+        tally: Tally::new(),
+        ended: Tally::new(),
+    }
+}
+
 /// Serves so many connections of a socket, one after another: of those that are there the oldest of
 /// whom something has come. One that is sent away or fails counts too, and ends alone. Each has the service's seconds for its request in its turn, and as many for its response.
 pub fn serve_listener<B: Book>(
@@ -207,17 +233,6 @@ pub fn serve_listener<B: Book>(
     let Ok(log) = Log::new(rt, service.is_logged) else {
         return Err(ServeFault::Memory);
     };
-    let mut callers = Callers {
-        door: Door {
-            rt,
-            listener,
-            room,
-            failures: 0,
-        },
-        patience: service.patience,
-        log,
-        tally: Tally::new(),
-        ended: Tally::new(),
-    };
+    let mut callers = callers_of(rt, listener, room, log, service);
     serve_visitors(rt.alloc(), office, &mut callers, service.count)
 }
