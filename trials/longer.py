@@ -245,6 +245,41 @@ def try_lengths(room):
     try_story(lengths(), room)
 
 
+# ---- long responses
+
+
+def chain(count):
+    """The file of activities one after another, of one time unit each but for both ends."""
+    arcs = [f"{i} 1 1 {i + 1}" for i in range(1, count)] + [f"{count} 1 0"]
+    times = [f"{i} 1 {int(1 < i < count)} 0" for i in range(1, count + 1)]
+    lines = SIX.splitlines()
+    head = [line.replace("jobs: 6", f"jobs: {count}") for line in lines[:7]]
+    return "\n".join([*head, *arcs, *lines[13:15], *times, *lines[21:], ""])
+
+
+def chain_dates(count):
+    """Its table of dates: each activity begins where the one before it ends, and none may slip."""
+    lines = []
+    for i in range(1, count + 1):
+        start, time = max(i - 2, 0), int(1 < i < count)
+        dates = [time, start, start + time, start, start + time, 0, 0]
+        lines.append(f"{i:4}" + "".join(f"{date:8}" for date in dates) + " *\n")
+    return DATES.decode().splitlines(keepends=True)[0] + "".join(lines) + f"T {count - 2}\n"
+
+
+def long_responses():
+    """Tables of up to 32,000 bytes, around the 4,096 that are handed over at once among them."""
+    yield opening("long", "long-key-1")
+    for n, count in enumerate([2, 60, 61, 62, 63, 64, 65, 66, 67, 128, 129, 500, 502], 1):
+        yield asked("POST /desks/long/projects", "long-key-1", chain(count), 201, imported(n))
+        yield asked(f"GET /desks/long/plans/{n}/dates", "long-key-1", "", 200, chain_dates(count))
+
+
+def try_long_responses(room):
+    """Responses that are handed over in several pieces."""
+    try_story(list(long_responses()), room)
+
+
 # ---- the long list
 
 DESKS = [f"d{number}" for number in range(1, 11)]
@@ -379,6 +414,7 @@ def stories():
         "cut_files": cut_files(),
         "cut_requests": cut_requests(),
         "lengths": lengths(),
+        "long_responses": list(long_responses()),
         "together": together(),
         "long_list": [exchange for part in parts for exchange in part],
     }

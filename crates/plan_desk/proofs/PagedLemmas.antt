@@ -6,6 +6,8 @@ use Rattle.plan_desk.specs.declared.reply.Reply as whole
 use Rattle.plan_desk.specs.declared.change.Change.TheVariants as made
 use Rattle.plan_desk.specs.declared.change.Decision.{Decision}
 use Rattle.plan_desk.specs.declared.finding.FoundPlan.{FoundPlan}
+use Rattle.plan_desk.specs.declared.pages.by_rule.RulePage.{RulePage}
+use Rattle.plan_desk.specs.declared.pages.by_rule.RulePage.TheVariants as rule_page
 use Rattle.plan_rows.specs.World.{Text, World}
 use Rattle.plan_rows.specs.Changes.{Keep}
 use Rattle.plan_rows.specs.Views.{View, view, alone}
@@ -17,6 +19,7 @@ use Rattle.plan_desk.specs.Refusals.{not_found}
 use Rattle.plan_desk.specs.PlanRoutes.{of_plan}
 use Rattle.plan_desk.specs.PageRoutes.{Dates, Schedules, Charts, Days}
 use Rattle.plan_desk.specs.BestRoutes.{Best}
+use Rattle.plan_desk.specs.RulePages.{ByRule}
 use Rattle.plan_desk.specs.Replies.{reply_of}
 use Rattle.plan_rows.specs.Books.{Shelf}
 use Rattle.plan_desk.specs.Pages.{MakesPage, IsFound}
@@ -69,17 +72,23 @@ pub no_dates : (v : View) (text : Text) → plan_seen v text ≡ None → Dates 
 unfolding Dates of_plan
 no_dates v text is = given_nothing (plan_seen v text) not_found _ is
 
-pub no_schedule : (v : View) (text rule : Text) → plan_seen v text ≡ None → Schedules v text rule not_found Keep
+no_schedule : (v : View) (text rule : Text) → plan_seen v text ≡ None → Schedules v text rule not_found Keep
 unfolding Schedules of_plan
 no_schedule v text rule is = given_nothing (plan_seen v text) not_found _ is
 
-pub no_chart : (v : View) (text rule : Text) → plan_seen v text ≡ None → Charts v text rule not_found Keep
+no_chart : (v : View) (text rule : Text) → plan_seen v text ≡ None → Charts v text rule not_found Keep
 unfolding Charts of_plan
 no_chart v text rule is = given_nothing (plan_seen v text) not_found _ is
 
-pub no_days : (v : View) (text rule : Text) → plan_seen v text ≡ None → Days v text rule not_found Keep
+no_days : (v : View) (text rule : Text) → plan_seen v text ≡ None → Days v text rule not_found Keep
 unfolding Days of_plan
 no_days v text rule is = given_nothing (plan_seen v text) not_found _ is
+
+pub none_by_rule : (page : RulePage) (v : View) (text rule : Text) → plan_seen v text ≡ None
+    → ByRule page v text rule not_found Keep
+none_by_rule rule_page.Schedule = no_schedule
+none_by_rule rule_page.Chart = no_chart
+none_by_rule rule_page.Days = no_days
 
 pub no_best : (v : View) (text budget : Text) → plan_seen v text ≡ None → Best v text budget not_found Keep
 unfolding Best of_plan

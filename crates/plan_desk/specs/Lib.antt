@@ -7,6 +7,7 @@ pub mod Refusals
 pub mod OfficeRoutes
 pub mod PlanRoutes
 pub mod PageRoutes
+pub mod RulePages
 pub mod BestRoutes
 pub mod Decisions
 pub mod Laws

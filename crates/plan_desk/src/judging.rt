@@ -10,6 +10,7 @@ ghost use Rattle.plan_rows.specs.World.{desk_in};
 ghost use Rattle.plan_rows.specs.Books.{Matches, IsDeskAnswer};
 
 use crate::change::{Decision, kept};
+use crate::pages::RulePage;
 use crate::reply::no_key;
 use crate::request::{Call, Request};
 use crate::routes::{binds, imports, lists, office, pages, plans};
@@ -135,13 +136,16 @@ fn decide<'r, B: Book>(
         }
         Call::Dates { desk, n } => pages::dating(book, alloc, desk.as_str(), n.as_str()),
         Call::Schedule { desk, n, rule } => {
-            pages::scheduling(book, alloc, desk.as_str(), n.as_str(), rule.as_str())
+            let page = RulePage::Schedule;
+            pages::showing_by_rule(book, alloc, desk.as_str(), n.as_str(), page, rule.as_str())
         }
         Call::Chart { desk, n, rule } => {
-            pages::charting(book, alloc, desk.as_str(), n.as_str(), rule.as_str())
+            let page = RulePage::Chart;
+            pages::showing_by_rule(book, alloc, desk.as_str(), n.as_str(), page, rule.as_str())
         }
         Call::Days { desk, n, rule } => {
-            pages::listing_days(book, alloc, desk.as_str(), n.as_str(), rule.as_str())
+            let page = RulePage::Days;
+            pages::showing_by_rule(book, alloc, desk.as_str(), n.as_str(), page, rule.as_str())
         }
         Call::Best { desk, n, budget } => pages::searching(
             book,

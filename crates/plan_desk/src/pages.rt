@@ -1,6 +1,7 @@
 //! The pages of plans, each made of a plan as a book answers it.
 
 mod best;
+mod by_rule;
 mod capacities;
 mod charts;
 mod dates;
@@ -9,7 +10,5 @@ mod scheduled;
 mod schedules;
 
 pub(crate) use best::best_page;
-pub(crate) use charts::chart_page;
+pub(crate) use by_rule::{RulePage, rule_page};
 pub(crate) use dates::dates_page;
-pub(crate) use days::days_page;
-pub(crate) use schedules::schedule_page;

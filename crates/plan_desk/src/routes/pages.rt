@@ -3,11 +3,12 @@
 ghost use Rattle.plan_rows.specs.Views.{view};
 ghost use Rattle.plan_desk.specs.PageRoutes as routes;
 ghost use Rattle.plan_desk.specs.BestRoutes as best;
+ghost use Rattle.plan_desk.specs.RulePages.{ByRule};
 ghost use Rattle.plan_desk.specs.Deciding.{Finds, IsDecided};
 
 use crate::change::{Decision, kept};
 use crate::finding::{find_bound, find_plan};
-use crate::pages::{best_page, chart_page, dates_page, days_page, schedule_page};
+use crate::pages::{RulePage, best_page, dates_page, rule_page};
 use crate::reply::not_found;
 use plan_exact::Memo;
 use plan_rows::{Book, BookFault};
@@ -29,54 +30,21 @@ pub(crate) fn dating<B: Book>(
     Ok(kept(reply))
 }
 
-// The schedule of a plan by a rule.
-pub(crate) fn scheduling<B: Book>(
+// A page of a plan's schedule by a rule.
+pub(crate) fn showing_by_rule<B: Book>(
     book: &mut B,
     alloc: Global,
     desk: &str,
     number: &str,
+    page: RulePage,
     rule: &str,
 ) -> Result<Decision<'static>, BookFault>
-    ensures { Finds B.shelf book.old book.new (λ w. IsDecided desk.now desk.now (λ v. routes.Schedules v number.now rule.now) (view desk.now w)) result }
+    ensures { Finds B.shelf book.old book.new (λ w. IsDecided desk.now desk.now (λ v. ByRule page v number.now rule.now) (view desk.now w)) result }
 {
     let Some(bound) = find_bound(book, alloc, desk, number)? else {
         return Ok(kept(not_found()));
     };
-    let reply = schedule_page(alloc, &bound, rule)?;
-    Ok(kept(reply))
-}
-
-// The chart of a plan's schedule.
-pub(crate) fn charting<B: Book>(
-    book: &mut B,
-    alloc: Global,
-    desk: &str,
-    number: &str,
-    rule: &str,
-) -> Result<Decision<'static>, BookFault>
-    ensures { Finds B.shelf book.old book.new (λ w. IsDecided desk.now desk.now (λ v. routes.Charts v number.now rule.now) (view desk.now w)) result }
-{
-    let Some(bound) = find_bound(book, alloc, desk, number)? else {
-        return Ok(kept(not_found()));
-    };
-    let reply = chart_page(alloc, &bound, rule)?;
-    Ok(kept(reply))
-}
-
-// The working days of a plan's schedule.
-pub(crate) fn listing_days<B: Book>(
-    book: &mut B,
-    alloc: Global,
-    desk: &str,
-    number: &str,
-    rule: &str,
-) -> Result<Decision<'static>, BookFault>
-    ensures { Finds B.shelf book.old book.new (λ w. IsDecided desk.now desk.now (λ v. routes.Days v number.now rule.now) (view desk.now w)) result }
-{
-    let Some(bound) = find_bound(book, alloc, desk, number)? else {
-        return Ok(kept(not_found()));
-    };
-    let reply = days_page(alloc, &bound, rule)?;
+    let reply = rule_page(alloc, &bound, page, rule)?;
     Ok(kept(reply))
 }
 
