@@ -1,8 +1,11 @@
 -- What a command writes for the bytes that it reads (docs/DEFINITIONS.md, "Runs").
-use Rattle.std.specs.Prelude.{◌≡◌, ℕ, ◌+◌, ◌≤◌, ◌<◌, List, Option, Result, Ok, Err, IfSome, length, take, string_bytes}
+use Rattle.std.specs.Prelude.{◌≡◌, ◌⊎◌, ℕ, ◌+◌, ◌≤◌, ◌<◌, List, Option, Result, Ok, Err, IfSome, IfErr, IsErrOf, OnOk, length, take, string_bytes}
 use Rattle.std.specs.Io.KnownBytes.{Consumes, Appends}
+use Rattle.plan_psplib.specs.declared.devices.traits.Sink as sinks
+use Rattle.plan_psplib.specs.declared.devices.traits.Source as sources
 use Rattle.plan_psplib.specs.declared.text.fault.FileCode.TheVariants as code
 use Rattle.plan_psplib.specs.declared.text.fault.FileFault.{FileFault}
+use Rattle.plan_psplib.specs.Devices.{most_calls, HasFailed}
 use Rattle.plan_psplib.specs.Plain.{longest_text}
 use Rattle.plan_psplib.specs.Project.{Project, SaysProject}
 use Rattle.plan_gantt.specs.DateTable.{IsDateText}
@@ -53,3 +56,26 @@ abbrev pub Sends : List ℕ → Option (List ℕ) → Option (List ℕ) → Resu
 Sends text taken after (Ok _) = Appends taken after text
 Sends text taken after (Err fault.Output) = (n : ℕ) × (n < length text) × Appends taken after (take n text)
 Sends text taken after (Err _) = ⊥
+
+-- What the run of a command does to its reader and its writer. IsText says of a file which texts
+-- are written for it, IsLine which lines tell why it is refused.
+module _ {R W : Type 0} (source : sources.Ghosts R) (sink : sinks.Ghosts W) (IsText IsLine : List ℕ → List ℕ → Type 0) where
+  pub record Runs (reader reader_after : R) (writer writer_after : W) (result : Result (Unit {0}) CliFault) : Type 0 where
+    pub reads : source.calls reader_after ≤ source.calls reader + most_calls
+    pub writes : sink.calls writer_after ≤ sink.calls writer + most_calls
+    -- the text for the file, or nothing and its first fault; a part of the text after a fault of
+    -- the output
+    pub text : IfSome (source.remaining reader)
+        (λ file. Writes (IsText file) (IsLine file) (sink.taken writer) (sink.taken writer_after) result)
+    -- unless memory runs out or the input fails, what is done is that for the bytes that were read,
+    -- at most 1,048,577
+    pub front : ReadsFront IsText IsLine (source.remaining reader) (source.remaining reader_after)
+        (sink.taken writer) (sink.taken writer_after) result
+    -- nothing is written with any other fault than that of the output
+    pub quiet : IfErr result (λ e. (e ≡ fault.Output) ⊎ (writer_after ≡ writer))
+    pub fine : OnOk result ((source.faults reader_after ≡ source.faults reader) × (sink.faults writer_after ≡ sink.faults writer))
+    -- a fault of the reader is told as such
+    pub heard : IfErr result (λ e. (e ≡ fault.Input) ⊎ (source.faults reader_after ≡ source.faults reader))
+    pub input : IsErrOf result fault.Input → source.faults reader_after ≡ source.faults reader + 1
+    pub output : IsErrOf result fault.Output →
+        HasFailed (sink.calls writer) (sink.calls writer_after) (sink.faults writer) (sink.faults writer_after)

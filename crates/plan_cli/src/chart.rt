@@ -1,11 +1,10 @@
 //! `plan chart`: the Gantt chart of a project's or a job shop's schedule by a priority rule.
 
-ghost use Rattle.std.specs.Prelude.{◌≡◌, ◌⊎◌, ◌+◌, ◌≤◌, IfOk, OnOk, IfErr, IfSome, IsErrOf, string_bytes};
-ghost use Rattle.plan_psplib.specs.Devices.{most_calls, HasFailed};
+ghost use Rattle.std.specs.Prelude.{IfOk, IfErr, string_bytes};
 ghost use Rattle.plan_shop.specs.Docs.{shop_of};
 ghost use Rattle.plan_gantt.specs.ScheduleText.{TellsRefusal};
 ghost use Rattle.plan_gantt.specs.ShopText.{TellsNoRule};
-ghost use Rattle.plan_cli.specs.Run.{ReadsFront, Refuses, Writes};
+ghost use Rattle.plan_cli.specs.Run.{Refuses, Runs};
 ghost use Rattle.plan_cli.specs.ScheduleRun.{as_available, TellsWhyNoSchedule};
 ghost use Rattle.plan_cli.specs.ShopRun.{TellsWhyNoShop};
 ghost use Rattle.plan_cli.specs.ChartRun as spec;
@@ -80,22 +79,7 @@ pub fn chart_run<R: Source, W: Sink>(
     reader: &mut R,
     writer: &mut W,
 ) -> Result<(), CliFault>
-    ensures reads { R.calls reader.new ≤ R.calls reader.old + most_calls }
-    ensures writes { W.calls writer.new ≤ W.calls writer.old + most_calls }
-    // The text for the file, or nothing and its first fault; a part of the text after a fault of
-    // the output.
-    ensures text { IfSome (R.remaining reader.old) (λ file. Writes (spec.IsChartOf rule.now file) (TellsWhyNoSchedule rule.now file) (W.taken writer.old) (W.taken writer.new) result) }
-    // Unless memory runs out or the input fails, what is done is that for the bytes that were read,
-    // at most 1,048,577.
-    ensures front { ReadsFront (spec.IsChartOf rule.now) (TellsWhyNoSchedule rule.now) (R.remaining reader.old) (R.remaining reader.new) (W.taken writer.old) (W.taken writer.new) result }
-    // Nothing is written with any other fault than that of the output.
-    ensures quiet { IfErr result (λ e. (e ≡ CliFault.Output) ⊎ (writer.new ≡ writer.old)) }
-    ensures fine { OnOk result ((R.faults reader.new ≡ R.faults reader.old) × (W.faults writer.new ≡ W.faults writer.old)) }
-    // A fault of the reader is told as such.
-    ensures heard { IfErr result (λ e. (e ≡ CliFault.Input) ⊎ (R.faults reader.new ≡ R.faults reader.old)) }
-    ensures input { IsErrOf result CliFault.Input → R.faults reader.new ≡ R.faults reader.old + 1 }
-    ensures output { IsErrOf result CliFault.Output →
-        HasFailed (W.calls writer.old) (W.calls writer.new) (W.faults writer.old) (W.faults writer.new) }
+    ensures { Runs R.Source W.Sink (spec.IsChartOf rule.now) (TellsWhyNoSchedule rule.now) reader.old reader.new writer.old writer.new result }
 {
     run_task(alloc, Task::Chart { rule }, reader, writer)
 }
@@ -112,22 +96,7 @@ pub fn shop_chart_run<R: Source, W: Sink>(
     reader: &mut R,
     writer: &mut W,
 ) -> Result<(), CliFault>
-    ensures reads { R.calls reader.new ≤ R.calls reader.old + most_calls }
-    ensures writes { W.calls writer.new ≤ W.calls writer.old + most_calls }
-    // The text for the file, or nothing and its first fault; a part of the text after a fault of
-    // the output.
-    ensures text { IfSome (R.remaining reader.old) (λ file. Writes (spec.IsShopChartOf rule.now instance.now file) (TellsWhyNoShop rule.now instance.now file) (W.taken writer.old) (W.taken writer.new) result) }
-    // Unless memory runs out or the input fails, what is done is that for the bytes that were read,
-    // at most 1,048,577.
-    ensures front { ReadsFront (spec.IsShopChartOf rule.now instance.now) (TellsWhyNoShop rule.now instance.now) (R.remaining reader.old) (R.remaining reader.new) (W.taken writer.old) (W.taken writer.new) result }
-    // Nothing is written with any other fault than that of the output.
-    ensures quiet { IfErr result (λ e. (e ≡ CliFault.Output) ⊎ (writer.new ≡ writer.old)) }
-    ensures fine { OnOk result ((R.faults reader.new ≡ R.faults reader.old) × (W.faults writer.new ≡ W.faults writer.old)) }
-    // A fault of the reader is told as such.
-    ensures heard { IfErr result (λ e. (e ≡ CliFault.Input) ⊎ (R.faults reader.new ≡ R.faults reader.old)) }
-    ensures input { IsErrOf result CliFault.Input → R.faults reader.new ≡ R.faults reader.old + 1 }
-    ensures output { IsErrOf result CliFault.Output →
-        HasFailed (W.calls writer.old) (W.calls writer.new) (W.faults writer.old) (W.faults writer.new) }
+    ensures { Runs R.Source W.Sink (spec.IsShopChartOf rule.now instance.now) (TellsWhyNoShop rule.now instance.now) reader.old reader.new writer.old writer.new result }
 {
     run_task(alloc, Task::ShopChart { rule, instance }, reader, writer)
 }

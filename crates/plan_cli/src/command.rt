@@ -1,8 +1,6 @@
 //! The run of each command.
 
-ghost use Rattle.std.specs.Prelude.{◌≡◌, ◌⊎◌, ◌+◌, ◌≤◌, IfErr, IsErrOf, OnOk};
-ghost use Rattle.plan_psplib.specs.Devices.{most_calls, HasFailed};
-ghost use Rattle.plan_cli.specs.Run.{ReadsFront};
+ghost use Rattle.plan_cli.specs.Run.{Runs};
 ghost use Rattle.plan_cli.specs.Tasks.{IsTextOf, IsLineOf};
 
 use crate::best::best_run;
@@ -29,13 +27,7 @@ pub(crate) fn run_command<R: Source, W: Sink, V: Watcher>(
     reader: &mut R,
     writer: &mut W,
 ) -> Result<(), CliFault>
-    ensures writes { W.calls writer.new ≤ W.calls writer.old + most_calls }
-    ensures front { ReadsFront (IsTextOf task.entry) (IsLineOf task.entry) (R.remaining reader.old) (R.remaining reader.new) (W.taken writer.old) (W.taken writer.new) result }
-    ensures quiet { IfErr result (λ e. (e ≡ CliFault.Output) ⊎ (writer.new ≡ writer.old)) }
-    ensures fine { OnOk result ((R.faults reader.new ≡ R.faults reader.old) × (W.faults writer.new ≡ W.faults writer.old)) }
-    ensures input { IsErrOf result CliFault.Input → R.faults reader.new ≡ R.faults reader.old + 1 }
-    ensures output { IsErrOf result CliFault.Output →
-        HasFailed (W.calls writer.old) (W.calls writer.new) (W.faults writer.old) (W.faults writer.new) }
+    ensures { Runs R.Source W.Sink (IsTextOf task.entry) (IsLineOf task.entry) reader.old reader.new writer.old writer.new result }
 {
     match task {
         Task::Dates => cpm_run(alloc, reader, writer),

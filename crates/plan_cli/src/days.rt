@@ -1,14 +1,13 @@
 //! `plan days`: the working days of a project's or a job shop's schedule by a priority rule.
 
-ghost use Rattle.std.specs.Prelude.{◌≡◌, ◌⊎◌, ◌+◌, ◌≤◌, IfOk, OnOk, IfErr, IfSome, IsErrOf, string_bytes};
+ghost use Rattle.std.specs.Prelude.{IfOk, IfErr, string_bytes};
 ghost use Rattle.plan_net.specs.Network.{count_of};
-ghost use Rattle.plan_psplib.specs.Devices.{most_calls, HasFailed};
 ghost use Rattle.plan_shop.specs.Docs.{shop_of};
 ghost use Rattle.plan_shop.specs.Shop.{count_steps};
 ghost use Rattle.plan_calendar.specs.CalendarText.{IsCalendar};
 ghost use Rattle.plan_gantt.specs.CalendarTable.{IsCalendarTable, HasActivityBeyond};
 ghost use Rattle.plan_gantt.specs.ShopCharts.{IsShopCalendarTable, HasStepBeyond};
-ghost use Rattle.plan_cli.specs.Run.{ReadsFront, Refuses, Writes};
+ghost use Rattle.plan_cli.specs.Run.{Refuses, Runs};
 ghost use Rattle.plan_cli.specs.ScheduleRun.{as_available};
 ghost use Rattle.plan_cli.specs.Scheduled.{CanBeShown};
 ghost use Rattle.plan_cli.specs.DaysRun as spec;
@@ -191,22 +190,7 @@ pub fn days_run<R: Source, W: Sink>(
     reader: &mut R,
     writer: &mut W,
 ) -> Result<(), CliFault>
-    ensures reads { R.calls reader.new ≤ R.calls reader.old + most_calls }
-    ensures writes { W.calls writer.new ≤ W.calls writer.old + most_calls }
-    // The text for the file, or nothing and its first fault; a part of the text after a fault of
-    // the output.
-    ensures text { IfSome (R.remaining reader.old) (λ file. Writes (spec.IsDaysOf rule.now start.now marks.now file) (spec.TellsWhyNoDays rule.now start.now marks.now file) (W.taken writer.old) (W.taken writer.new) result) }
-    // Unless memory runs out or the input fails, what is done is that for the bytes that were read,
-    // at most 1,048,577.
-    ensures front { ReadsFront (spec.IsDaysOf rule.now start.now marks.now) (spec.TellsWhyNoDays rule.now start.now marks.now) (R.remaining reader.old) (R.remaining reader.new) (W.taken writer.old) (W.taken writer.new) result }
-    // Nothing is written with any other fault than that of the output.
-    ensures quiet { IfErr result (λ e. (e ≡ CliFault.Output) ⊎ (writer.new ≡ writer.old)) }
-    ensures fine { OnOk result ((R.faults reader.new ≡ R.faults reader.old) × (W.faults writer.new ≡ W.faults writer.old)) }
-    // A fault of the reader is told as such.
-    ensures heard { IfErr result (λ e. (e ≡ CliFault.Input) ⊎ (R.faults reader.new ≡ R.faults reader.old)) }
-    ensures input { IsErrOf result CliFault.Input → R.faults reader.new ≡ R.faults reader.old + 1 }
-    ensures output { IsErrOf result CliFault.Output →
-        HasFailed (W.calls writer.old) (W.calls writer.new) (W.faults writer.old) (W.faults writer.new) }
+    ensures { Runs R.Source W.Sink (spec.IsDaysOf rule.now start.now marks.now) (spec.TellsWhyNoDays rule.now start.now marks.now) reader.old reader.new writer.old writer.new result }
 {
     run_task(alloc, Task::Days { rule, start, marks }, reader, writer)
 }
@@ -225,22 +209,7 @@ pub fn shop_days_run<R: Source, W: Sink>(
     reader: &mut R,
     writer: &mut W,
 ) -> Result<(), CliFault>
-    ensures reads { R.calls reader.new ≤ R.calls reader.old + most_calls }
-    ensures writes { W.calls writer.new ≤ W.calls writer.old + most_calls }
-    // The text for the file, or nothing and its first fault; a part of the text after a fault of
-    // the output.
-    ensures text { IfSome (R.remaining reader.old) (λ file. Writes (spec.IsShopDaysOf rule.now start.now marks.now instance.now file) (spec.TellsWhyNoShopDays rule.now start.now marks.now instance.now file) (W.taken writer.old) (W.taken writer.new) result) }
-    // Unless memory runs out or the input fails, what is done is that for the bytes that were read,
-    // at most 1,048,577.
-    ensures front { ReadsFront (spec.IsShopDaysOf rule.now start.now marks.now instance.now) (spec.TellsWhyNoShopDays rule.now start.now marks.now instance.now) (R.remaining reader.old) (R.remaining reader.new) (W.taken writer.old) (W.taken writer.new) result }
-    // Nothing is written with any other fault than that of the output.
-    ensures quiet { IfErr result (λ e. (e ≡ CliFault.Output) ⊎ (writer.new ≡ writer.old)) }
-    ensures fine { OnOk result ((R.faults reader.new ≡ R.faults reader.old) × (W.faults writer.new ≡ W.faults writer.old)) }
-    // A fault of the reader is told as such.
-    ensures heard { IfErr result (λ e. (e ≡ CliFault.Input) ⊎ (R.faults reader.new ≡ R.faults reader.old)) }
-    ensures input { IsErrOf result CliFault.Input → R.faults reader.new ≡ R.faults reader.old + 1 }
-    ensures output { IsErrOf result CliFault.Output →
-        HasFailed (W.calls writer.old) (W.calls writer.new) (W.faults writer.old) (W.faults writer.new) }
+    ensures { Runs R.Source W.Sink (spec.IsShopDaysOf rule.now start.now marks.now instance.now) (spec.TellsWhyNoShopDays rule.now start.now marks.now instance.now) reader.old reader.new writer.old writer.new result }
 {
     run_task(
         alloc,

@@ -1,8 +1,7 @@
 //! `plan names`: the names of the instances of a job shop file.
 
-ghost use Rattle.std.specs.Prelude.{◌≡◌, ◌⊎◌, ◌+◌, ◌≤◌, map, IfOk, OnOk, IfErr, IfSome, IsErrOf};
-ghost use Rattle.plan_psplib.specs.Devices.{most_calls, HasFailed};
-ghost use Rattle.plan_cli.specs.Run.{ReadsFront, Refuses, Writes};
+ghost use Rattle.std.specs.Prelude.{◌≡◌, map, IfOk, IfErr};
+ghost use Rattle.plan_cli.specs.Run.{Refuses, Runs};
 ghost use Rattle.plan_cli.specs.NamesRun as spec;
 
 use crate::fault::CliFault;
@@ -46,22 +45,7 @@ pub fn names_run<R: Source, W: Sink>(
     reader: &mut R,
     writer: &mut W,
 ) -> Result<(), CliFault>
-    ensures reads { R.calls reader.new ≤ R.calls reader.old + most_calls }
-    ensures writes { W.calls writer.new ≤ W.calls writer.old + most_calls }
-    // The text for the file, or nothing and its first fault; a part of the text after a fault of
-    // the output.
-    ensures text { IfSome (R.remaining reader.old) (λ file. Writes (spec.AreNamesOf file) (spec.TellsNotPlain file) (W.taken writer.old) (W.taken writer.new) result) }
-    // Unless memory runs out or the input fails, what is done is that for the bytes that were read,
-    // at most 1,048,577.
-    ensures front { ReadsFront (spec.AreNamesOf) (spec.TellsNotPlain) (R.remaining reader.old) (R.remaining reader.new) (W.taken writer.old) (W.taken writer.new) result }
-    // Nothing is written with any other fault than that of the output.
-    ensures quiet { IfErr result (λ e. (e ≡ CliFault.Output) ⊎ (writer.new ≡ writer.old)) }
-    ensures fine { OnOk result ((R.faults reader.new ≡ R.faults reader.old) × (W.faults writer.new ≡ W.faults writer.old)) }
-    // A fault of the reader is told as such.
-    ensures heard { IfErr result (λ e. (e ≡ CliFault.Input) ⊎ (R.faults reader.new ≡ R.faults reader.old)) }
-    ensures input { IsErrOf result CliFault.Input → R.faults reader.new ≡ R.faults reader.old + 1 }
-    ensures output { IsErrOf result CliFault.Output →
-        HasFailed (W.calls writer.old) (W.calls writer.new) (W.faults writer.old) (W.faults writer.new) }
+    ensures { Runs R.Source W.Sink (spec.AreNamesOf) (spec.TellsNotPlain) reader.old reader.new writer.old writer.new result }
 {
     run_task(alloc, Task::Names, reader, writer)
 }

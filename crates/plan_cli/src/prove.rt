@@ -1,13 +1,12 @@
 //! `plan prove`: a schedule of a job shop, with the proof that it is a shortest one, or how near it
 //! is known to be.
 
-ghost use Rattle.std.specs.Prelude.{◌≡◌, ◌⊎◌, ◌+◌, ◌≤◌, IfOk, OnOk, IfErr, IfSome, IsErrOf, length, slice_index, EachIndex, string_bytes, codes};
-ghost use Rattle.plan_psplib.specs.Devices.{most_calls, HasFailed};
+ghost use Rattle.std.specs.Prelude.{◌≡◌, ◌≤◌, IfOk, IfErr, length, slice_index, EachIndex, string_bytes, codes};
 ghost use Rattle.plan_shop.specs.Shop.{count_steps};
 ghost use Rattle.plan_shop.specs.Docs.{shop_of};
 ghost use Rattle.plan_prove.specs.Proofs.{IsNodeLimit};
 ghost use Rattle.plan_gantt.specs.Limits.{latest_start};
-ghost use Rattle.plan_cli.specs.Run.{ReadsFront, Refuses, Writes};
+ghost use Rattle.plan_cli.specs.Run.{Refuses, Runs};
 ghost use Rattle.plan_cli.specs.ProofText.{IsBoundLine, ShowsProof};
 ghost use Rattle.plan_cli.specs.ProveRun as spec;
 
@@ -124,22 +123,7 @@ pub fn prove_run<R: Source, W: Sink>(
     reader: &mut R,
     writer: &mut W,
 ) -> Result<(), CliFault>
-    ensures reads { R.calls reader.new ≤ R.calls reader.old + most_calls }
-    ensures writes { W.calls writer.new ≤ W.calls writer.old + most_calls }
-    // A text for the file, or nothing and its first fault; a part of the text after a fault of the
-    // output.
-    ensures text { IfSome (R.remaining reader.old) (λ file. Writes (spec.IsProofTableOf nodes.now instance.now file) (spec.TellsWhyNoProof nodes.now instance.now file) (W.taken writer.old) (W.taken writer.new) result) }
-    // Unless memory runs out or the input fails, what is done is that for the bytes that were read,
-    // at most 1,048,577.
-    ensures front { ReadsFront (spec.IsProofTableOf nodes.now instance.now) (spec.TellsWhyNoProof nodes.now instance.now) (R.remaining reader.old) (R.remaining reader.new) (W.taken writer.old) (W.taken writer.new) result }
-    // Nothing is written with any other fault than that of the output.
-    ensures quiet { IfErr result (λ e. (e ≡ CliFault.Output) ⊎ (writer.new ≡ writer.old)) }
-    ensures fine { OnOk result ((R.faults reader.new ≡ R.faults reader.old) × (W.faults writer.new ≡ W.faults writer.old)) }
-    // A fault of the reader is told as such.
-    ensures heard { IfErr result (λ e. (e ≡ CliFault.Input) ⊎ (R.faults reader.new ≡ R.faults reader.old)) }
-    ensures input { IsErrOf result CliFault.Input → R.faults reader.new ≡ R.faults reader.old + 1 }
-    ensures output { IsErrOf result CliFault.Output →
-        HasFailed (W.calls writer.old) (W.calls writer.new) (W.faults writer.old) (W.faults writer.new) }
+    ensures { Runs R.Source W.Sink (spec.IsProofTableOf nodes.now instance.now) (spec.TellsWhyNoProof nodes.now instance.now) reader.old reader.new writer.old writer.new result }
 {
     prove_watched_run(alloc, nodes, instance, &mut Unwatched, reader, writer)
 }
@@ -153,22 +137,7 @@ pub fn prove_watched_run<R: Source, W: Sink, V: Watcher>(
     reader: &mut R,
     writer: &mut W,
 ) -> Result<(), CliFault>
-    ensures reads { R.calls reader.new ≤ R.calls reader.old + most_calls }
-    ensures writes { W.calls writer.new ≤ W.calls writer.old + most_calls }
-    // A text for the file, or nothing and its first fault; a part of the text after a fault of the
-    // output.
-    ensures text { IfSome (R.remaining reader.old) (λ file. Writes (spec.IsProofTableOf nodes.now instance.now file) (spec.TellsWhyNoProof nodes.now instance.now file) (W.taken writer.old) (W.taken writer.new) result) }
-    // Unless memory runs out or the input fails, what is done is that for the bytes that were read,
-    // at most 1,048,577.
-    ensures front { ReadsFront (spec.IsProofTableOf nodes.now instance.now) (spec.TellsWhyNoProof nodes.now instance.now) (R.remaining reader.old) (R.remaining reader.new) (W.taken writer.old) (W.taken writer.new) result }
-    // Nothing is written with any other fault than that of the output.
-    ensures quiet { IfErr result (λ e. (e ≡ CliFault.Output) ⊎ (writer.new ≡ writer.old)) }
-    ensures fine { OnOk result ((R.faults reader.new ≡ R.faults reader.old) × (W.faults writer.new ≡ W.faults writer.old)) }
-    // A fault of the reader is told as such.
-    ensures heard { IfErr result (λ e. (e ≡ CliFault.Input) ⊎ (R.faults reader.new ≡ R.faults reader.old)) }
-    ensures input { IsErrOf result CliFault.Input → R.faults reader.new ≡ R.faults reader.old + 1 }
-    ensures output { IsErrOf result CliFault.Output →
-        HasFailed (W.calls writer.old) (W.calls writer.new) (W.faults writer.old) (W.faults writer.new) }
+    ensures { Runs R.Source W.Sink (spec.IsProofTableOf nodes.now instance.now) (spec.TellsWhyNoProof nodes.now instance.now) reader.old reader.new writer.old writer.new result }
 {
     run_watched(
         alloc,

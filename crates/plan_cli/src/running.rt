@@ -2,7 +2,7 @@
 
 ghost use Rattle.std.specs.Prelude.{◌≡◌, ◌⊎◌, ◌+◌, ◌≤◌, OnOk, IfErr, IfSome, IsErrOf};
 ghost use Rattle.plan_psplib.specs.Devices.{most_calls, HasFailed};
-ghost use Rattle.plan_cli.specs.Run.{ReadsFront, Writes};
+ghost use Rattle.plan_cli.specs.Run.{ReadsFront, Runs, Writes};
 ghost use Rattle.plan_cli.specs.Tasks.{IsTextOf, IsLineOf};
 
 use crate::fault::CliFault;
@@ -50,16 +50,7 @@ pub(crate) fn run_task<R: Source, W: Sink>(
     reader: &mut R,
     writer: &mut W,
 ) -> Result<(), CliFault>
-    ensures reads { R.calls reader.new ≤ R.calls reader.old + most_calls }
-    ensures writes { W.calls writer.new ≤ W.calls writer.old + most_calls }
-    ensures text { IfSome (R.remaining reader.old) (λ file. Writes (IsTextOf task.entry file) (IsLineOf task.entry file) (W.taken writer.old) (W.taken writer.new) result) }
-    ensures front { ReadsFront (IsTextOf task.entry) (IsLineOf task.entry) (R.remaining reader.old) (R.remaining reader.new) (W.taken writer.old) (W.taken writer.new) result }
-    ensures quiet { IfErr result (λ e. (e ≡ CliFault.Output) ⊎ (writer.new ≡ writer.old)) }
-    ensures fine { OnOk result ((R.faults reader.new ≡ R.faults reader.old) × (W.faults writer.new ≡ W.faults writer.old)) }
-    ensures heard { IfErr result (λ e. (e ≡ CliFault.Input) ⊎ (R.faults reader.new ≡ R.faults reader.old)) }
-    ensures input { IsErrOf result CliFault.Input → R.faults reader.new ≡ R.faults reader.old + 1 }
-    ensures output { IsErrOf result CliFault.Output →
-        HasFailed (W.calls writer.old) (W.calls writer.new) (W.faults writer.old) (W.faults writer.new) }
+    ensures { Runs R.Source W.Sink (IsTextOf task.entry) (IsLineOf task.entry) reader.old reader.new writer.old writer.new result }
 {
     run_watched(alloc, task, &mut Unwatched, reader, writer)
 }

@@ -1,4 +1,5 @@
 use Rattle.std.proofs.Common.{List, ℕ, Option, sym}
+use Rattle.std.proofs.lemmas.Result.{on_ok_weaker}
 use Rattle.plan_cli.specs.Tasks.{bytes_named}
 use Rattle.plan_cli.proofs.InputLemmas.{task_named, task_unopened, named_standard, named_file}
 use Rattle.plan_cli.proofs.files.run_on_named.Goals as goal
@@ -22,3 +23,27 @@ returns-in-Ok-clause-does g c =
     let file_of = g.I.Inputs.file_bytes c.args.inputs.now in
     task_named c.args.task (file_of c.args.path.now) (bytes_named standard file_of c.args.path.now) _ _ (g.W.Sink.taken c.args.writer.now) (g.W.Sink.taken c.run_command-in-Ok.new.writer) c.run_command-in-Ok.result
     (named_file standard file_of c.args.path.now (sym c.if-eq.ensures)) c.in-Ok.ensures.opened c.run_command-in-Ok.ensures.front
+
+pub returns-then-eq-clause-writes : goal.returns-then-eq-clause-writes
+returns-then-eq-clause-writes g c = c.run_command.ensures.writes
+
+pub returns-then-eq-clause-quiet : goal.returns-then-eq-clause-quiet
+returns-then-eq-clause-quiet g c = c.run_command.ensures.quiet
+
+pub returns-then-eq-clause-output : goal.returns-then-eq-clause-output
+returns-then-eq-clause-output g c = c.run_command.ensures.output
+
+pub returns-then-eq-clause-fine : goal.returns-then-eq-clause-fine
+returns-then-eq-clause-fine g c = on_ok_weaker c.run_command.result (λ both. both.1) c.run_command.ensures.fine
+
+pub returns-in-Ok-clause-writes : goal.returns-in-Ok-clause-writes
+returns-in-Ok-clause-writes g c = c.run_command-in-Ok.ensures.writes
+
+pub returns-in-Ok-clause-quiet : goal.returns-in-Ok-clause-quiet
+returns-in-Ok-clause-quiet g c = c.run_command-in-Ok.ensures.quiet
+
+pub returns-in-Ok-clause-output : goal.returns-in-Ok-clause-output
+returns-in-Ok-clause-output g c = c.run_command-in-Ok.ensures.output
+
+pub returns-in-Ok-clause-fine : goal.returns-in-Ok-clause-fine
+returns-in-Ok-clause-fine g c = on_ok_weaker c.run_command-in-Ok.result (λ both. both.1) c.run_command-in-Ok.ensures.fine
