@@ -1,6 +1,6 @@
 use Rattle.std.proofs.Common.{List, ℕ, Option, sym, subst}
 use Rattle.std.specs.Prelude.{IfOk}
-use Rattle.plan_cli.specs.Tasks.{AreRead, bytes_named}
+use Rattle.plan_cli.specs.Tasks.{AreRead}
 use Rattle.plan_cli.proofs.InputLemmas.{read_known, named_standard, named_file}
 use Rattle.plan_cli.proofs.files.read_named.Goals as goal
 

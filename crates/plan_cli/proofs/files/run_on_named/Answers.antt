@@ -1,4 +1,4 @@
-use Rattle.std.proofs.Common.{List, ℕ, Option, sym}
+use Rattle.std.proofs.Common.{sym}
 use Rattle.std.proofs.lemmas.Result.{on_ok_weaker}
 use Rattle.plan_cli.specs.Tasks.{bytes_named}
 use Rattle.plan_cli.proofs.InputLemmas.{task_named, task_unopened, named_standard, named_file}
