@@ -19,12 +19,12 @@ use crate::fault::StoreFault;
 use crate::leftover::Leftover;
 use crate::listing::{Listing, RowsByKey, rows_in};
 use crate::reading::{
-    capacity_found, codes_in, desk_found, office_in, plan_any, plans_counted, plans_in,
+    capacity_found, codes_in, desk_found, office_in, plan_found, plans_counted, plans_in,
 };
 use crate::rereading::reread;
 use crate::writing::{
-    add_plan_in, bind_any, open_desk_in, publish_any, remove_any, set_calendar_any, set_key_in,
-    set_lag_any,
+    add_plan_in, bind_place, open_desk_in, publish_in, remove_plan_in, set_calendar_in, set_key_in,
+    set_lag_in,
 };
 use plan_rows::{Book, BookFault, Calls, CodeRow, DeskRow, Kind, PlanEntry, PlanKind, PlanRow};
 use sqlite::{Alter, Connection, MemStore};
@@ -205,7 +205,7 @@ impl<S: Alter> Book for SqlBook<S> {
     }
 
     fn publish(&mut self, code: &str, kind: Kind, capacity: u64) -> Result<(), BookFault> {
-        let answer = publish_any(&mut self.conn, code, kind, capacity);
+        let answer = publish_in(&mut self.conn, code, kind, capacity);
         let counted = self.calls.count(answer);
         self.denials.note(counted)
     }
@@ -231,7 +231,7 @@ impl<S: Alter> Book for SqlBook<S> {
     }
 
     fn plan(&mut self, desk: &str, n: u64) -> Result<Option<PlanRow>, BookFault> {
-        let answer = plan_any(self.alloc, &mut self.conn, desk, n);
+        let answer = plan_found(self.alloc, &mut self.conn, desk, n);
         self.denials.note(answer)
     }
 
@@ -248,13 +248,13 @@ impl<S: Alter> Book for SqlBook<S> {
     }
 
     fn remove_plan(&mut self, desk: &str, n: u64) -> Result<(), BookFault> {
-        let answer = remove_any(&mut self.conn, desk, n);
+        let answer = remove_plan_in(&mut self.conn, desk, n);
         let counted = self.calls.count(answer);
         self.denials.note(counted)
     }
 
     fn bind(&mut self, desk: &str, n: u64, place: u64, code: &str) -> Result<(), BookFault> {
-        let answer = bind_any(&mut self.conn, desk, n, place, code);
+        let answer = bind_place(&mut self.conn, desk, n, place, code);
         let counted = self.calls.count(answer);
         self.denials.note(counted)
     }
@@ -266,7 +266,7 @@ impl<S: Alter> Book for SqlBook<S> {
         start: &str,
         days: &str,
     ) -> Result<(), BookFault> {
-        let answer = set_calendar_any(&mut self.conn, desk, n, start, days);
+        let answer = set_calendar_in(&mut self.conn, desk, n, start, days);
         let counted = self.calls.count(answer);
         self.denials.note(counted)
     }
@@ -279,7 +279,7 @@ impl<S: Alter> Book for SqlBook<S> {
         to: u32,
         lag: u64,
     ) -> Result<(), BookFault> {
-        let answer = set_lag_any(&mut self.conn, desk, n, from, to, lag);
+        let answer = set_lag_in(&mut self.conn, desk, n, from, to, lag);
         let counted = self.calls.count(answer);
         self.denials.note(counted)
     }

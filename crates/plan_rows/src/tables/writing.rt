@@ -7,6 +7,7 @@ ghost use Rattle.plan_rows.specs.Rules.{IsWorld};
 ghost use Rattle.plan_rows.specs.Tables.{world_kept};
 
 use crate::kinds::{Kind, PlanKind};
+use crate::rows::LagEntry;
 use crate::tables::Tables;
 use crate::tables::binds::{put_bind, take_binds};
 use crate::tables::codes::put_code;
@@ -146,6 +147,6 @@ impl Tables {
             ≡ apply desk.now (SetLag n from to lag) (world_kept self.old)) }
         ensures err { OnErr result (world_kept self.new ≡ world_kept self.old) }
     {
-        give_lag(alloc, &mut self.lags, desk, n, from, to, lag)
+        give_lag(alloc, &mut self.lags, desk, n, LagEntry { from, to, lag })
     }
 }
