@@ -1,10 +1,10 @@
 //! Changes of what a store holds, each in one transaction.
 
-ghost use Rattle.std.specs.Prelude.{◌∷◌, [], ◌++◌};
+ghost use Rattle.std.specs.Prelude.{◌∷◌, [], ◌++◌, IfSome};
 ghost use Rattle.sqlite.specs.Held.{state};
 ghost use Rattle.plan_rows.specs.World.{is_code, is_bind, is_lag};
 ghost use Rattle.plan_rows.specs.Changes.{apply, changed, put, without, Publish, OpenDesk, SetKey, AddPlan, RemovePlan, BindPlace, SetCalendar, SetLag, with_capacity, new_code, with_code, new_bind, with_lag, new_lag};
-ghost use Rattle.plan_store.specs.Serving.{IsReady, Changes, IsKept, numbered_plan};
+ghost use Rattle.plan_store.specs.Serving.{IsReady, Changes, IsKept, IsNextNumber, numbered_plan};
 
 use crate::numbers::{digits_of, number_after, sql_number};
 use crate::reading::{desk_found, is_bound, is_lagged, is_published};
@@ -140,8 +140,26 @@ fn add_numbered<'x, S: Alter>(
     )
 }
 
-/// Adds a plan with the desk's next number, which rises by 1.
-pub fn add_plan_in<'x, S: Alter>(
+// Adds a plan with the number that is known to be the desk's next one.
+fn add_next<'x, S: Alter>(
+    conn: &mut Connection<S>,
+    desk: &'x str,
+    next: u64,
+    kind: PlanKind,
+    name: &'x str,
+    body: &'x [u8],
+) -> Result<(), BookFault>
+    requires ready { IsReady (state S.Store conn.old) }
+    requires next { IsNextNumber (state S.Store conn.old) desk.now next }
+    requires kept { IsKept (state S.Store conn.old) (apply desk.now (AddPlan kind name.now body.now)) }
+    ensures { Changes (state S.Store conn.old) (state S.Store conn.new) result (apply desk.now (AddPlan kind name.now body.now)) }
+{
+    let n = sql_number(next)?;
+    add_numbered(conn, desk, n, kind, name, body)
+}
+
+// Adds a plan with the number that the desk's row says.
+fn add_after_reading<'x, S: Alter>(
     conn: &mut Connection<S>,
     desk: &'x str,
     kind: PlanKind,
@@ -155,8 +173,28 @@ pub fn add_plan_in<'x, S: Alter>(
     let Some(row) = desk_found(conn, desk)? else {
         return Err(BookFault::Store);
     };
-    let n = sql_number(row.next)?;
-    add_numbered(conn, desk, n, kind, name, body)
+    add_next(conn, desk, row.next, kind, name, body)
+}
+
+/// Adds a plan with the desk's next number, which rises by 1. The desk's row is read where the number
+/// isn't known.
+pub fn add_plan_in<'x, S: Alter>(
+    conn: &mut Connection<S>,
+    desk: &'x str,
+    known: Option<u64>,
+    kind: PlanKind,
+    name: &'x str,
+    body: &'x [u8],
+) -> Result<(), BookFault>
+    requires ready { IsReady (state S.Store conn.old) }
+    requires known { IfSome known (IsNextNumber (state S.Store conn.old) desk.now) }
+    requires kept { IsKept (state S.Store conn.old) (apply desk.now (AddPlan kind name.now body.now)) }
+    ensures { Changes (state S.Store conn.old) (state S.Store conn.new) result (apply desk.now (AddPlan kind name.now body.now)) }
+{
+    match known {
+        Some(next) => add_next(conn, desk, next, kind, name, body),
+        None => add_after_reading(conn, desk, kind, name, body),
+    }
 }
 
 /// Removes a plan with its binds and lags.
