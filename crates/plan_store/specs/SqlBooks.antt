@@ -27,8 +27,7 @@ book_code {S} store =
     (λ b. (b.conn, (b.made, (b.refused, b.denials))))
     (λ p. record { conn = p.0; made = p.1.0; refused = p.1.1.0; denials = p.1.1.1 }) (λ _. refl)
 
--- what a book keeps beside its tables: a connection that is ready, and a number that the next plan of
--- some desk gets, or none
+-- Its connection is ready, and what is kept of a desk is the number that its next plan gets.
 pub record IsServing (s : State) (kept : Option NextPlan) : Type 0 where
   pub ready : IsReady s
   pub next : IfSome kept (λ next. IsNextNumber s (string_bytes next.desk) next.n)
