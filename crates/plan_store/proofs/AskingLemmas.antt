@@ -8,11 +8,10 @@ use Rattle.sqlite.specs.Effect.{Database, Reads}
 use Rattle.sqlite.specs.State.{State, HasCleanDisk, Survives, IsUnchanged, IsRolledBack, IsNotRun, FailsToQuery, Shown, CommitsShowing}
 use Rattle.sqlite.proofs.Callers.{IsPlain, reads_as, never_commits}
 use Rattle.plan_rows.specs.declared.fault.BookFault.{BookFault}
-use Rattle.plan_rows.specs.World.{World}
-use Rattle.plan_store.specs.Stores.{world_of, IsStore}
+use Rattle.plan_store.specs.Stores.{IsStore}
 use Rattle.plan_store.specs.Enduring.{Endures}
 use Rattle.plan_store.specs.Querying.{meaning_under, IsAtRest, Queries}
-use Rattle.plan_store.specs.Serving.{Stands, IsReady, Asks, Changes}
+use Rattle.plan_store.specs.Serving.{Stands, IsReady, Asks}
 use Rattle.plan_store.proofs.EnduringLemmas.{endures_then}
 
 -- what a statement that reads, or that failed, leaves of a connection
@@ -107,51 +106,6 @@ asks_then a b c r Is q Other out Last one two answer = record {
   crash = λ clean trees may. one.crash (two.honesty clean) trees (two.crash clean trees may);
   endures = endures_then a b c two.honesty one.endures two.endures;
 }
-
--- a call that reads, and then one that changes
-pub asks_then_changes : (a b c : State) {X : Type 0} (r : Result X BookFault) (Is : X → Type 0) (q : Result (Unit {0}) BookFault) (change : World → World)
-    → Asks a b r Is → Changes b c q change → Changes a c q change
-asks_then_changes a b c r Is (Ok done) change one two = record {
-  ready = two.ready;
-  honesty = λ clean. one.honesty (two.honesty clean);
-  stood = λ clean live. (one.same (two.honesty clean) (two.stood clean live)).0;
-  changed = λ clean.
-      let it = two.changed clean in
-      (it.0, it.1 ∙ ap (λ (d : Database). change (world_of d.trees)) (one.same (two.honesty clean) (two.stood clean it.0)).1);
-  same = tt;
-  durable = two.durable;
-  crash = tt;
-  endures = endures_then a b c two.honesty one.endures two.endures;
-}
-asks_then_changes a b c r Is (Err fault) change one two = record {
-  ready = two.ready;
-  honesty = λ clean. one.honesty (two.honesty clean);
-  stood = λ clean live. (one.same (two.honesty clean) (two.stood clean live)).0;
-  changed = tt;
-  same = λ clean live. let was = two.stood clean live in two.same clean live ∙ (one.same (two.honesty clean) was).1;
-  durable = tt;
-  crash = λ clean trees may. elim (two.crash clean trees may) [
-    | inl before ↦ inl (one.crash (two.honesty clean) trees before)
-    | inr made ↦
-        let early = one.same (two.honesty clean) made.0 in
-        inr (early.0, made.1, made.2 ∙ ap (λ (d : Database). change (world_of d.trees)) early.1)
-  ];
-  endures = endures_then a b c two.honesty one.endures two.endures;
-}
-
--- a call that read and went no further
-pub asks_then_fails : (old new : State) {X : Type 0} (r : Result X BookFault) (Is : X → Type 0) (fault : BookFault) (change : World → World) → Asks old new r Is
-    → (q : Result (Unit {0}) BookFault) → q ≡ Err fault → Changes old new q change
-asks_then_fails old new r Is fault change it q is = subst (λ k. Changes old new k change) (sym is) (record {
-  ready = it.ready;
-  honesty = it.honesty;
-  stood = λ clean live. (it.same clean live).0;
-  changed = tt;
-  same = λ clean live. (it.same clean live).1;
-  durable = tt;
-  crash = λ clean trees may. inl (it.crash clean trees may);
-  endures = it.endures;
-})
 
 -- ---- a query
 

@@ -1,15 +1,15 @@
 -- A plan that is added with the number of its desk is the desk's next one.
-use Rattle.std.proofs.Common.{◌≡◌, ◌+◌, ℕ, Bool, true, false, cond, List, [], ◌∷◌, ◌++◌, find, Option, Some, None, refl, sym, ap, ap₂, ◌∙◌}
+use Rattle.std.proofs.Common.{◌≡◌, ◌+◌, ℕ, Bool, true, false, cond, List, [], ◌∷◌, ◌++◌, find, Option, Some, None, IsSomeAnd, IsTrue, refl, sym, ap, ap₂, ◌∙◌}
 use Rattle.std.specs.List.{AllByRecursion}
 use Rattle.std.proofs.lemmas.Bool.{both_ways}
 use Rattle.std.proofs.lemmas.Slice.Eq.{bytes_eq-Decides}
+use Rattle.sqlite.specs.State.{State, HasCleanDisk}
 use Rattle.plan_rows.specs.declared.kinds.PlanKind.{PlanKind}
-use Rattle.plan_rows.specs.declared.rows.DeskRow.{DeskRow}
 use Rattle.plan_rows.specs.World.{Desk, World, same_text, is_desk, desk_in}
 use Rattle.plan_rows.specs.Changes.{apply, changed, risen, next_of, new_plan, AddPlan}
 use Rattle.plan_rows.specs.Rules.{AllDiffer}
-use Rattle.plan_rows.specs.Books.{Matches, IsDeskAnswer}
-use Rattle.plan_store.specs.Serving.{numbered_plan}
+use Rattle.plan_store.specs.Stores.{world_of}
+use Rattle.plan_store.specs.Serving.{IsReady, IsNextNumber, numbered_plan}
 
 module _ (desk : List ℕ) (n : ℕ) where
   numbered : Desk → Desk
@@ -36,17 +36,22 @@ module _ (desk : List ℕ) (n : ℕ) where
           ap₂ ◌∷◌ (ap (λ k. record x { next = k + 1 }) (sym here)) (unchanged x e xs apart.0)
       go false e is more = ap (λ l. x ∷ l) (more is)
 
-  pub numbered_is_next : (w : World) → AllDiffer (λ a b. same_text a.desk b.desk) w.desks → (answer : DeskRow) → Matches IsDeskAnswer (desk_in w desk) (Some answer) → answer.next ≡ n
+  pub numbered_is_next : (w : World) → AllDiffer (λ a b. same_text a.desk b.desk) w.desks → IsSomeAnd (desk_in w desk) (λ row. row.next ≡ n)
       → (kind : PlanKind) (name body : List ℕ) → numbered_plan desk n kind name body w ≡ apply desk (AddPlan kind name body) w
   unfolding numbered
-  numbered_is_next w apart answer told is kind name body = go (desk_in w desk) refl told
+  numbered_is_next w apart told kind name body = go (desk_in w desk) refl told
     where
-      go : (o : Option Desk) → desk_in w desk ≡ o → Matches IsDeskAnswer o (Some answer) → numbered_plan desk n kind name body w ≡ apply desk (AddPlan kind name body) w
+      go : (o : Option Desk) → desk_in w desk ≡ o → IsSomeAnd o (λ row. row.next ≡ n) → numbered_plan desk n kind name body w ≡ apply desk (AddPlan kind name body) w
       go None e h = absurd h
-      go (Some row) e h =
-          let next : row.next ≡ n = sym h.next ∙ is in
+      go (Some row) e next =
           let number : next_of (desk_in w desk) ≡ n = ap next_of e ∙ next in
           λ i. record w {
             desks = raised w.desks apart row e next i;
             plans = w.plans ++ new_plan desk (sym number i) kind name body ∷ [];
           }
+
+-- as far as the tables can be seen
+pub numbered_now : (s : State) → IsReady s → (desk : List ℕ) (n : ℕ) → IsNextNumber s desk n → (kind : PlanKind) (name body : List ℕ) → HasCleanDisk s → IsTrue s.is_open
+    → numbered_plan desk n kind name body (world_of s.now.trees) ≡ apply desk (AddPlan kind name body) (world_of s.now.trees)
+numbered_now s ready desk n is kind name body clean live =
+    numbered_is_next desk n (world_of s.now.trees) (ready.stands clean live).store.rules.desks_differ (is clean live) kind name body

@@ -366,6 +366,14 @@ module _ (w : World) (desk : List ℕ) (n : ℕ) (row : PlanRow) (part : PlanPar
   pub whole_plan : Matches IsPlanPart (plan_in w desk n) (Some part) → Matches (IsPlanAnswer (view desk w)) (plan_in w desk n) (Some row)
   whole_plan = with_parts (plan_in w desk n) refl
 
+-- where no part of a plan is read there is no plan
+pub no_plan : (w : World) (desk : List ℕ) (n : ℕ) → Matches IsPlanPart (plan_in w desk n) None → Matches (IsPlanAnswer (view desk w)) (plan_in w desk n) None
+no_plan w desk n = go (plan_in w desk n)
+  where
+    go : (o : Option Plan) → Matches IsPlanPart o None → Matches (IsPlanAnswer (view desk w)) o None
+    go None h = tt
+    go (Some row) h = absurd h
+
 -- a plan is found among those of its desk
 pub found_in_view : (w : World) (desk : List ℕ) (n : ℕ) → plan_in w desk n ≡ find (has_number n) (view desk w).plans
 found_in_view w desk n = go w.plans

@@ -1,12 +1,12 @@
 -- What a connection that serves a book keeps, and what a call does to it (docs/DEFINITIONS.md,
 -- "Tables").
-use Rattle.std.specs.Prelude.{◌≡◌, ◌⊎◌, ℕ, ◌+◌, [], ◌∷◌, ◌++◌, false, IsTrue, Option, Some, None, Result, IfOk, OnOk, OnErr}
+use Rattle.std.specs.Prelude.{◌≡◌, ◌⊎◌, ℕ, ◌+◌, [], ◌∷◌, ◌++◌, false, IsTrue, Option, Some, None, IsSomeAnd, Result, IfOk, OnOk, OnErr}
 use Rattle.sqlite_trees.specs.Tree.{Trees}
 use Rattle.sqlite.specs.State.{State, HasCleanDisk}
 use Rattle.plan_rows.specs.declared.fault.BookFault.{BookFault}
 use Rattle.plan_rows.specs.declared.kinds.PlanKind.{PlanKind}
 use Rattle.plan_rows.specs.Changes.{changed, new_plan}
-use Rattle.plan_rows.specs.World.{Text, World, is_desk}
+use Rattle.plan_rows.specs.World.{Text, World, is_desk, desk_in}
 use Rattle.plan_rows.specs.Rules.{IsWorld}
 use Rattle.plan_store.specs.Tables.{store_schema}
 use Rattle.plan_store.specs.Enduring.{Endures}
@@ -61,6 +61,12 @@ module _ (old new : State) where
 -- Tables after a change keep the rules of rows, as far as they can be seen.
 abbrev pub IsKept : State → (World → World) → Type 0
 IsKept s change = HasCleanDisk s → IsTrue s.is_open → IsWorld (change (world_of s.now.trees))
+
+-- The desk is there and its next plan gets this number, as far as the tables can be seen.
+abbrev pub IsNextNumber : State → Text → ℕ → Type 0
+IsNextNumber s desk n =
+    HasCleanDisk s → IsTrue s.is_open
+    → IsSomeAnd (desk_in (world_of s.now.trees) desk) (λ row. row.next ≡ n)
 
 -- A plan with this number, and the number after it for the next.
 abbrev pub numbered_plan : Text → ℕ → PlanKind → Text → Text → World → World

@@ -1,5 +1,5 @@
 -- What contracts see of a book in SQL (docs/DEFINITIONS.md, "Tables").
-use Rattle.std.specs.Prelude.{ℕ, IsTrue, Some, refl}
+use Rattle.std.specs.Prelude.{ℕ, IsTrue, Option, Some, IfSome, string_bytes, refl}
 use Rattle.std.proofs.Common.{sym, subst, ap}
 use Rattle.std.proofs.Math.Logic.{∥∥₁_elim}
 use Rattle.std.specs.Coded.{Coded, code_by, coded×, coded_ℕ}
@@ -10,7 +10,8 @@ use Rattle.sqlite.specs.State.{State, HasCleanDisk}
 use Rattle.sqlite.specs.Held.{Held, held_code, state}
 use Rattle.plan_rows.specs.Books.{Shelf}
 use Rattle.plan_store.specs.Stores.{world_of, IsStore}
-use Rattle.plan_store.specs.Serving.{Stands, IsStoreLeft, may_leave}
+use Rattle.plan_store.specs.declared.next_plan.NextPlan.{NextPlan}
+use Rattle.plan_store.specs.Serving.{Stands, IsReady, IsNextNumber, IsStoreLeft, may_leave}
 
 -- A book is seen as its connection, how many writing calls were made and refused, and how many
 -- calls the store refused.
@@ -25,6 +26,11 @@ book_code {S} store =
     code_by (Held S × (ℕ × (ℕ × ℕ))) (coded× (held_code store) (coded× coded_ℕ (coded× coded_ℕ coded_ℕ)))
     (λ b. (b.conn, (b.made, (b.refused, b.denials))))
     (λ p. record { conn = p.0; made = p.1.0; refused = p.1.1.0; denials = p.1.1.1 }) (λ _. refl)
+
+-- Its connection is ready, and what is kept of a desk is the number that its next plan gets.
+pub record IsServing (s : State) (kept : Option NextPlan) : Type 0 where
+  pub ready : IsReady s
+  pub next : IfSome kept (λ next. IsNextNumber s (string_bytes next.desk) next.n)
 
 -- It may refuse, and stands as long as its store is open.
 abbrev pub sql_shelf : {S : Type 0} → Ghosts S → Shelf (Counted S)

@@ -10,6 +10,7 @@ mod layout;
 mod leftover;
 mod listing;
 mod migrating;
+mod next_plan;
 mod numbers;
 mod offices;
 mod on_disk;

@@ -238,12 +238,13 @@ pub fn plan_found<S: Alter>(
     alloc: Global,
     conn: &mut Connection<S>,
     desk: &str,
-    n: u32,
+    n: u64,
 ) -> Result<Option<PlanRow>, BookFault>
     requires ready { IsReady (state S.Store conn.old) }
     ensures { Asks (state S.Store conn.old) (state S.Store conn.new) result
-        (Matches (IsPlanAnswer (view desk.now (world_of (state S.Store conn.old).now.trees))) (plan_in (world_of (state S.Store conn.old).now.trees) desk.now n)) }
+        (Matches (IsPlanAnswer (view desk.now (world_of (state S.Store conn.old).now.trees))) (find (has_number n) (view desk.now (world_of (state S.Store conn.old).now.trees)).plans)) }
 {
+    let n = sql_number(n)?;
     let Some(part) = part_found(conn, desk, n)? else {
         return Ok(None);
     };
@@ -324,19 +325,4 @@ pub fn is_lagged<S: Alter>(
         "SELECT lag FROM lags WHERE desk = ?1 AND n = ?2 AND src = ?3 AND dst = ?4 ORDER BY rowid",
         params![desk, n, from, to],
     )
-}
-
-/// The same, with a number of any size, and found among the plans of the desk.
-pub fn plan_any<S: Alter>(
-    alloc: Global,
-    conn: &mut Connection<S>,
-    desk: &str,
-    n: u64,
-) -> Result<Option<PlanRow>, BookFault>
-    requires ready { IsReady (state S.Store conn.old) }
-    ensures { Asks (state S.Store conn.old) (state S.Store conn.new) result
-        (Matches (IsPlanAnswer (view desk.now (world_of (state S.Store conn.old).now.trees))) (find (has_number n) (view desk.now (world_of (state S.Store conn.old).now.trees)).plans)) }
-{
-    let n = sql_number(n)?;
-    plan_found(alloc, conn, desk, n)
 }

@@ -18,13 +18,14 @@ use crate::creating::{is_empty, make_tables};
 use crate::fault::StoreFault;
 use crate::leftover::Leftover;
 use crate::listing::{Listing, RowsByKey, rows_in};
+use crate::next_plan::{NextPlan, next_told, number_kept};
 use crate::reading::{
-    capacity_found, codes_in, desk_found, office_in, plan_any, plans_counted, plans_in,
+    capacity_found, codes_in, desk_found, office_in, plan_found, plans_counted, plans_in,
 };
 use crate::rereading::reread;
 use crate::writing::{
-    add_plan_in, bind_any, open_desk_in, publish_any, remove_any, set_calendar_any, set_key_in,
-    set_lag_any,
+    add_plan_in, bind_place, open_desk_in, publish_in, remove_plan_in, set_calendar_in, set_key_in,
+    set_lag_in,
 };
 use plan_rows::{Book, BookFault, Calls, CodeRow, DeskRow, Kind, PlanEntry, PlanKind, PlanRow};
 use sqlite::{Alter, Connection, MemStore};
@@ -41,12 +42,13 @@ pub struct SqlBook<S: Alter> {
     calls: Calls,
     // all calls, by whether the store refused them
     denials: Calls,
+    // what the last reading of a desk's row told, until a call writes
+    next_plan: Option<NextPlan>,
 }
 
 impl<S: Alter> Model for SqlBook<S> {
-    ghost use Rattle.plan_store.specs.SqlBooks.{Counted, book_code};
+    ghost use Rattle.plan_store.specs.SqlBooks.{Counted, book_code, IsServing};
     ghost use Rattle.sqlite.specs.Held.{state};
-    ghost use Rattle.plan_store.specs.Serving.{IsReady};
 
     ghost Value = { Counted S };
 
@@ -59,7 +61,7 @@ impl<S: Alter> Model for SqlBook<S> {
       denials = b.denials.refused;
     } };
 
-    ghost invariant = { λ b. IsReady (state S.Store b.conn) };
+    ghost invariant = { λ b. IsServing (state S.Store b.conn) b.next_plan };
 }
 
 impl<S: Alter> SqlBook<S> {
@@ -95,6 +97,7 @@ impl<S: Alter> SqlBook<S> {
                 conn,
                 calls: Calls::new(),
                 denials: Calls::new(),
+                next_plan: None,
             }),
             Err(fault) => Err((fault, conn)),
         }
@@ -110,6 +113,7 @@ impl<S: Alter> SqlBook<S> {
             conn,
             calls: _,
             denials: _,
+            next_plan: _,
         } = self;
         conn
     }
@@ -142,6 +146,7 @@ impl<S: Alter + Drop> SqlBook<S> {
                 conn,
                 calls: Calls::new(),
                 denials: Calls::new(),
+                next_plan: None,
             }),
             Err(fault) => Err((fault, Leftover::Connection(conn))),
         }
@@ -189,23 +194,27 @@ impl<S: Alter> Book for SqlBook<S> {
 
     fn desk(&mut self, name: &str) -> Result<Option<DeskRow>, BookFault> {
         let answer = desk_found(&mut self.conn, name);
+        self.next_plan = next_told(self.alloc, name, &answer);
         self.denials.note(answer)
     }
 
     fn open_desk(&mut self, name: &str, digest: &[u8; 32]) -> Result<(), BookFault> {
+        self.next_plan = None;
         let answer = open_desk_in(&mut self.conn, name, digest);
         let counted = self.calls.count(answer);
         self.denials.note(counted)
     }
 
     fn set_key(&mut self, name: &str, digest: &[u8; 32]) -> Result<(), BookFault> {
+        self.next_plan = None;
         let answer = set_key_in(&mut self.conn, name, digest);
         let counted = self.calls.count(answer);
         self.denials.note(counted)
     }
 
     fn publish(&mut self, code: &str, kind: Kind, capacity: u64) -> Result<(), BookFault> {
-        let answer = publish_any(&mut self.conn, code, kind, capacity);
+        self.next_plan = None;
+        let answer = publish_in(&mut self.conn, code, kind, capacity);
         let counted = self.calls.count(answer);
         self.denials.note(counted)
     }
@@ -231,7 +240,7 @@ impl<S: Alter> Book for SqlBook<S> {
     }
 
     fn plan(&mut self, desk: &str, n: u64) -> Result<Option<PlanRow>, BookFault> {
-        let answer = plan_any(self.alloc, &mut self.conn, desk, n);
+        let answer = plan_found(self.alloc, &mut self.conn, desk, n);
         self.denials.note(answer)
     }
 
@@ -242,19 +251,23 @@ impl<S: Alter> Book for SqlBook<S> {
         name: &str,
         body: &[u8],
     ) -> Result<(), BookFault> {
-        let answer = add_plan_in(&mut self.conn, desk, kind, name, body);
+        let next = number_kept(&self.next_plan, desk);
+        self.next_plan = None;
+        let answer = add_plan_in(&mut self.conn, desk, next, kind, name, body);
         let counted = self.calls.count(answer);
         self.denials.note(counted)
     }
 
     fn remove_plan(&mut self, desk: &str, n: u64) -> Result<(), BookFault> {
-        let answer = remove_any(&mut self.conn, desk, n);
+        self.next_plan = None;
+        let answer = remove_plan_in(&mut self.conn, desk, n);
         let counted = self.calls.count(answer);
         self.denials.note(counted)
     }
 
     fn bind(&mut self, desk: &str, n: u64, place: u64, code: &str) -> Result<(), BookFault> {
-        let answer = bind_any(&mut self.conn, desk, n, place, code);
+        self.next_plan = None;
+        let answer = bind_place(&mut self.conn, desk, n, place, code);
         let counted = self.calls.count(answer);
         self.denials.note(counted)
     }
@@ -266,7 +279,8 @@ impl<S: Alter> Book for SqlBook<S> {
         start: &str,
         days: &str,
     ) -> Result<(), BookFault> {
-        let answer = set_calendar_any(&mut self.conn, desk, n, start, days);
+        self.next_plan = None;
+        let answer = set_calendar_in(&mut self.conn, desk, n, start, days);
         let counted = self.calls.count(answer);
         self.denials.note(counted)
     }
@@ -279,7 +293,8 @@ impl<S: Alter> Book for SqlBook<S> {
         to: u32,
         lag: u64,
     ) -> Result<(), BookFault> {
-        let answer = set_lag_any(&mut self.conn, desk, n, from, to, lag);
+        self.next_plan = None;
+        let answer = set_lag_in(&mut self.conn, desk, n, from, to, lag);
         let counted = self.calls.count(answer);
         self.denials.note(counted)
     }

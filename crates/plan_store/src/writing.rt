@@ -1,10 +1,10 @@
 //! Changes of what a store holds, each in one transaction.
 
-ghost use Rattle.std.specs.Prelude.{◌∷◌, [], ◌++◌};
+ghost use Rattle.std.specs.Prelude.{◌∷◌, [], ◌++◌, IfSome};
 ghost use Rattle.sqlite.specs.Held.{state};
 ghost use Rattle.plan_rows.specs.World.{is_code, is_bind, is_lag};
 ghost use Rattle.plan_rows.specs.Changes.{apply, changed, put, without, Publish, OpenDesk, SetKey, AddPlan, RemovePlan, BindPlace, SetCalendar, SetLag, with_capacity, new_code, with_code, new_bind, with_lag, new_lag};
-ghost use Rattle.plan_store.specs.Serving.{IsReady, Changes, IsKept, numbered_plan};
+ghost use Rattle.plan_store.specs.Serving.{IsReady, Changes, IsKept, IsNextNumber, numbered_plan};
 
 use crate::numbers::{digits_of, number_after, sql_number};
 use crate::reading::{desk_found, is_bound, is_lagged, is_published};
@@ -53,12 +53,13 @@ pub fn publish_in<S: Alter>(
     conn: &mut Connection<S>,
     code: &str,
     kind: Kind,
-    capacity: u32,
+    capacity: u64,
 ) -> Result<(), BookFault>
     requires ready { IsReady (state S.Store conn.old) }
     requires kept { IsKept (state S.Store conn.old) (apply [] (Publish code.now kind capacity)) }
     ensures { Changes (state S.Store conn.old) (state S.Store conn.new) result (apply [] (Publish code.now kind capacity)) }
 {
+    let capacity = sql_number(capacity)?;
     if is_published(conn, code)? {
         republish(conn, code, capacity)
     } else {
@@ -139,8 +140,26 @@ fn add_numbered<'x, S: Alter>(
     )
 }
 
-/// Adds a plan with the desk's next number, which rises by 1.
-pub fn add_plan_in<'x, S: Alter>(
+// Adds a plan with the number that is known to be the desk's next one.
+fn add_next<'x, S: Alter>(
+    conn: &mut Connection<S>,
+    desk: &'x str,
+    next: u64,
+    kind: PlanKind,
+    name: &'x str,
+    body: &'x [u8],
+) -> Result<(), BookFault>
+    requires ready { IsReady (state S.Store conn.old) }
+    requires next { IsNextNumber (state S.Store conn.old) desk.now next }
+    requires kept { IsKept (state S.Store conn.old) (apply desk.now (AddPlan kind name.now body.now)) }
+    ensures { Changes (state S.Store conn.old) (state S.Store conn.new) result (apply desk.now (AddPlan kind name.now body.now)) }
+{
+    let n = sql_number(next)?;
+    add_numbered(conn, desk, n, kind, name, body)
+}
+
+// Adds a plan with the number that the desk's row says.
+fn add_after_reading<'x, S: Alter>(
     conn: &mut Connection<S>,
     desk: &'x str,
     kind: PlanKind,
@@ -154,20 +173,41 @@ pub fn add_plan_in<'x, S: Alter>(
     let Some(row) = desk_found(conn, desk)? else {
         return Err(BookFault::Store);
     };
-    let n = sql_number(row.next)?;
-    add_numbered(conn, desk, n, kind, name, body)
+    add_next(conn, desk, row.next, kind, name, body)
+}
+
+/// Adds a plan with the desk's next number, which rises by 1. The desk's row is read where the number
+/// isn't known.
+pub fn add_plan_in<'x, S: Alter>(
+    conn: &mut Connection<S>,
+    desk: &'x str,
+    known: Option<u64>,
+    kind: PlanKind,
+    name: &'x str,
+    body: &'x [u8],
+) -> Result<(), BookFault>
+    requires ready { IsReady (state S.Store conn.old) }
+    requires known { IfSome known (IsNextNumber (state S.Store conn.old) desk.now) }
+    requires kept { IsKept (state S.Store conn.old) (apply desk.now (AddPlan kind name.now body.now)) }
+    ensures { Changes (state S.Store conn.old) (state S.Store conn.new) result (apply desk.now (AddPlan kind name.now body.now)) }
+{
+    match known {
+        Some(next) => add_next(conn, desk, next, kind, name, body),
+        None => add_after_reading(conn, desk, kind, name, body),
+    }
 }
 
 /// Removes a plan with its binds and lags.
 pub fn remove_plan_in<S: Alter>(
     conn: &mut Connection<S>,
     desk: &str,
-    n: u32,
+    n: u64,
 ) -> Result<(), BookFault>
     requires ready { IsReady (state S.Store conn.old) }
     requires kept { IsKept (state S.Store conn.old) (apply desk.now (RemovePlan n)) }
     ensures { Changes (state S.Store conn.old) (state S.Store conn.new) result (apply desk.now (RemovePlan n)) }
 {
+    let n = sql_number(n)?;
     let given: &[ValueRef<'_>] = params![desk, n];
     transact(
         conn,
@@ -183,7 +223,7 @@ pub fn remove_plan_in<S: Alter>(
 pub fn set_calendar_in<S: Alter>(
     conn: &mut Connection<S>,
     desk: &str,
-    n: u32,
+    n: u64,
     start: &str,
     days: &str,
 ) -> Result<(), BookFault>
@@ -191,6 +231,7 @@ pub fn set_calendar_in<S: Alter>(
     requires kept { IsKept (state S.Store conn.old) (apply desk.now (SetCalendar n start.now days.now)) }
     ensures { Changes (state S.Store conn.old) (state S.Store conn.new) result (apply desk.now (SetCalendar n start.now days.now)) }
 {
+    let n = sql_number(n)?;
     transact(
         conn,
         &[(
@@ -246,14 +287,16 @@ fn bind_new<S: Alter>(
 pub fn bind_place<S: Alter>(
     conn: &mut Connection<S>,
     desk: &str,
-    n: u32,
-    place: u32,
+    n: u64,
+    place: u64,
     code: &str,
 ) -> Result<(), BookFault>
     requires ready { IsReady (state S.Store conn.old) }
     requires kept { IsKept (state S.Store conn.old) (apply desk.now (BindPlace n place code.now)) }
     ensures { Changes (state S.Store conn.old) (state S.Store conn.new) result (apply desk.now (BindPlace n place code.now)) }
 {
+    let n = sql_number(n)?;
+    let place = sql_number(place)?;
     if is_bound(conn, desk, n, place)? {
         rebind(conn, desk, n, place, code)
     } else {
@@ -282,150 +325,60 @@ fn drop_lag<S: Alter>(
     )
 }
 
-// Changes the lag of an arc that has one.
-fn change_lag<S: Alter>(
-    conn: &mut Connection<S>,
-    desk: &str,
+// A lag of a plan, in numbers as SQL takes them.
+#[derive(Clone, Copy)]
+struct PlanLag {
     n: u32,
     from: u32,
     to: u32,
     lag: u32,
-) -> Result<(), BookFault>
+}
+
+// Changes the lag of an arc that has one.
+fn change_lag<S: Alter>(conn: &mut Connection<S>, desk: &str, row: PlanLag) -> Result<(), BookFault>
     requires ready { IsReady (state S.Store conn.old) }
-    requires kept { IsKept (state S.Store conn.old) (λ w. record w { lags = changed (is_lag desk.now n from to) (with_lag lag) w.lags }) }
-    ensures { Changes (state S.Store conn.old) (state S.Store conn.new) result (λ w. record w { lags = changed (is_lag desk.now n from to) (with_lag lag) w.lags }) }
+    requires kept { IsKept (state S.Store conn.old) (λ w. record w { lags = changed (is_lag desk.now row.n row.from row.to) (with_lag row.lag) w.lags }) }
+    ensures { Changes (state S.Store conn.old) (state S.Store conn.new) result (λ w. record w { lags = changed (is_lag desk.now row.n row.from row.to) (with_lag row.lag) w.lags }) }
 {
     transact(
         conn,
         &[(
             "UPDATE lags SET lag = ?5 WHERE desk = ?1 AND n = ?2 AND src = ?3 AND dst = ?4",
-            params![desk, n, from, to, lag],
+            params![desk, row.n, row.from, row.to, row.lag],
         )],
     )
 }
 
 // Gives an arc a lag that has none.
-fn lag_new<S: Alter>(
-    conn: &mut Connection<S>,
-    desk: &str,
-    n: u32,
-    from: u32,
-    to: u32,
-    lag: u32,
-) -> Result<(), BookFault>
+fn lag_new<S: Alter>(conn: &mut Connection<S>, desk: &str, row: PlanLag) -> Result<(), BookFault>
     requires ready { IsReady (state S.Store conn.old) }
-    requires kept { IsKept (state S.Store conn.old) (λ w. record w { lags = w.lags ++ new_lag desk.now n from to lag ∷ [] }) }
-    ensures { Changes (state S.Store conn.old) (state S.Store conn.new) result (λ w. record w { lags = w.lags ++ new_lag desk.now n from to lag ∷ [] }) }
+    requires kept { IsKept (state S.Store conn.old) (λ w. record w { lags = w.lags ++ new_lag desk.now row.n row.from row.to row.lag ∷ [] }) }
+    ensures { Changes (state S.Store conn.old) (state S.Store conn.new) result (λ w. record w { lags = w.lags ++ new_lag desk.now row.n row.from row.to row.lag ∷ [] }) }
 {
     transact(
         conn,
         &[(
             "INSERT INTO lags (desk, n, src, dst, lag) VALUES (?1, ?2, ?3, ?4, ?5)",
-            params![desk, n, from, to, lag],
+            params![desk, row.n, row.from, row.to, row.lag],
         )],
     )
 }
 
 // Gives an arc a lag above 0.
-fn put_lag<S: Alter>(
-    conn: &mut Connection<S>,
-    desk: &str,
-    n: u32,
-    from: u32,
-    to: u32,
-    lag: u32,
-) -> Result<(), BookFault>
+fn put_lag<S: Alter>(conn: &mut Connection<S>, desk: &str, row: PlanLag) -> Result<(), BookFault>
     requires ready { IsReady (state S.Store conn.old) }
-    requires kept { IsKept (state S.Store conn.old) (λ w. record w { lags = put (is_lag desk.now n from to) (with_lag lag) (new_lag desk.now n from to lag) w.lags }) }
-    ensures { Changes (state S.Store conn.old) (state S.Store conn.new) result (λ w. record w { lags = put (is_lag desk.now n from to) (with_lag lag) (new_lag desk.now n from to lag) w.lags }) }
+    requires kept { IsKept (state S.Store conn.old) (λ w. record w { lags = put (is_lag desk.now row.n row.from row.to) (with_lag row.lag) (new_lag desk.now row.n row.from row.to row.lag) w.lags }) }
+    ensures { Changes (state S.Store conn.old) (state S.Store conn.new) result (λ w. record w { lags = put (is_lag desk.now row.n row.from row.to) (with_lag row.lag) (new_lag desk.now row.n row.from row.to row.lag) w.lags }) }
 {
-    if is_lagged(conn, desk, n, from, to)? {
-        change_lag(conn, desk, n, from, to, lag)
+    if is_lagged(conn, desk, row.n, row.from, row.to)? {
+        change_lag(conn, desk, row)
     } else {
-        lag_new(conn, desk, n, from, to, lag)
+        lag_new(conn, desk, row)
     }
 }
 
 /// Gives an arc a lag, where 0 is none.
 pub fn set_lag_in<S: Alter>(
-    conn: &mut Connection<S>,
-    desk: &str,
-    n: u32,
-    from: u32,
-    to: u32,
-    lag: u32,
-) -> Result<(), BookFault>
-    requires ready { IsReady (state S.Store conn.old) }
-    requires kept { IsKept (state S.Store conn.old) (apply desk.now (SetLag n from to lag)) }
-    ensures { Changes (state S.Store conn.old) (state S.Store conn.new) result (apply desk.now (SetLag n from to lag)) }
-{
-    if lag == 0 {
-        drop_lag(conn, desk, n, from, to)
-    } else {
-        put_lag(conn, desk, n, from, to, lag)
-    }
-}
-
-/// The same, with numbers of any size.
-pub fn publish_any<S: Alter>(
-    conn: &mut Connection<S>,
-    code: &str,
-    kind: Kind,
-    capacity: u64,
-) -> Result<(), BookFault>
-    requires ready { IsReady (state S.Store conn.old) }
-    requires kept { IsKept (state S.Store conn.old) (apply [] (Publish code.now kind capacity)) }
-    ensures { Changes (state S.Store conn.old) (state S.Store conn.new) result (apply [] (Publish code.now kind capacity)) }
-{
-    let capacity = sql_number(capacity)?;
-    publish_in(conn, code, kind, capacity)
-}
-
-/// The same, with numbers of any size.
-pub fn remove_any<S: Alter>(conn: &mut Connection<S>, desk: &str, n: u64) -> Result<(), BookFault>
-    requires ready { IsReady (state S.Store conn.old) }
-    requires kept { IsKept (state S.Store conn.old) (apply desk.now (RemovePlan n)) }
-    ensures { Changes (state S.Store conn.old) (state S.Store conn.new) result (apply desk.now (RemovePlan n)) }
-{
-    let n = sql_number(n)?;
-    remove_plan_in(conn, desk, n)
-}
-
-/// The same, with numbers of any size.
-pub fn bind_any<S: Alter>(
-    conn: &mut Connection<S>,
-    desk: &str,
-    n: u64,
-    place: u64,
-    code: &str,
-) -> Result<(), BookFault>
-    requires ready { IsReady (state S.Store conn.old) }
-    requires kept { IsKept (state S.Store conn.old) (apply desk.now (BindPlace n place code.now)) }
-    ensures { Changes (state S.Store conn.old) (state S.Store conn.new) result (apply desk.now (BindPlace n place code.now)) }
-{
-    let n = sql_number(n)?;
-    let place = sql_number(place)?;
-    bind_place(conn, desk, n, place, code)
-}
-
-/// The same, with numbers of any size.
-pub fn set_calendar_any<S: Alter>(
-    conn: &mut Connection<S>,
-    desk: &str,
-    n: u64,
-    start: &str,
-    days: &str,
-) -> Result<(), BookFault>
-    requires ready { IsReady (state S.Store conn.old) }
-    requires kept { IsKept (state S.Store conn.old) (apply desk.now (SetCalendar n start.now days.now)) }
-    ensures { Changes (state S.Store conn.old) (state S.Store conn.new) result (apply desk.now (SetCalendar n start.now days.now)) }
-{
-    let n = sql_number(n)?;
-    set_calendar_in(conn, desk, n, start, days)
-}
-
-/// The same, with numbers of any size.
-pub fn set_lag_any<S: Alter>(
     conn: &mut Connection<S>,
     desk: &str,
     n: u64,
@@ -439,5 +392,9 @@ pub fn set_lag_any<S: Alter>(
 {
     let n = sql_number(n)?;
     let lag = sql_number(lag)?;
-    set_lag_in(conn, desk, n, from, to, lag)
+    if lag == 0 {
+        drop_lag(conn, desk, n, from, to)
+    } else {
+        put_lag(conn, desk, PlanLag { n, from, to, lag })
+    }
 }

@@ -18,7 +18,7 @@ returns g c =
     let f = λ (w : World). record w { plans = without (is_plan desk n) w.plans } in
     let h = λ (w : World). record w { binds = without (is_bind_of desk n) w.binds } in
     let k = λ (w : World). record w { lags = without (is_lag_of desk n) w.lags } in
-    c.transact.ensures (apply desk (RemovePlan n)) (rw (c.params-to_sql.ensures, c.params-to_sql-2.ensures)
+    c.transact.ensures (apply desk (RemovePlan n)) (rw (c.params-to_sql.ensures, c.params-to_sql-2.ensures, c.in_ok-n.ensures.same)
     (three_make g.S.Store old c.requires.ready (remove_plan_text, given) (remove_binds_text, given) (remove_lags_text, given) f h k
     (λ mid count stands ran. removes_plan (state g.S.Store (begun old)) (state g.S.Store mid) stands.store.schema stands.store.rows count desk n ran)
     (λ mid last count made ran. removes_binds (state g.S.Store mid) (state g.S.Store last) made.schema made.rows count desk n ran)
