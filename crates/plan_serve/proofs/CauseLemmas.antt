@@ -5,11 +5,11 @@ use Rattle.std.specs.IoError.{error_kind}
 use Rattle.std_io.specs.declared.io.kind.ErrorKind.{ErrorKind}
 use Rattle.sqlite_std_file.specs.declared.pair.OpenError.{OpenError}
 use Rattle.sqlite_std_file.specs.declared.pair.OpenError.TheVariants as opening
-use Rattle.plan_serve.specs.declared.fault.ServeFault.{ServeFault}
-use Rattle.plan_serve.specs.declared.fault.ServeFault.TheVariants as fault
+use Rattle.plan_door.specs.declared.fault.ServeFault.{ServeFault}
+use Rattle.plan_door.specs.declared.fault.ServeFault.TheVariants as fault
 use Rattle.plan_serve.specs.Causes.{IsFileCause, IsOpenCause, IsPortCause, IsToldAnew}
 use Rattle.plan_serve.specs.InitRun.{IsInitFault}
-use Rattle.plan_serve.specs.Serve.{IsServeFault}
+use Rattle.plan_door.specs.Serve.{IsServeFault}
 
 -- nothing is served
 pub file_serves : (k : ErrorKind) (f : ServeFault) → IsFileCause k f → IsServeFault f

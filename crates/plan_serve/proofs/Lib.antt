@@ -1,7 +1,6 @@
 pub mod KeyLemmas
 pub mod CauseLemmas
 pub mod ServeLemmas
-pub mod TurnLemmas
 pub mod InitLemmas
 pub mod ReplayLemmas
 pub mod SummaryLemmas

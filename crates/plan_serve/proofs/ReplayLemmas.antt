@@ -11,7 +11,7 @@ use Rattle.plan_http.specs.Answers.{Decision}
 use Rattle.plan_http.specs.Serving.{Serving, Stops, response_of}
 use Rattle.plan_store.specs.SqlBooks.{Counted, sql_shelf}
 use Rattle.plan_store.specs.OnDisk.{IsTakenFrom}
-use Rattle.plan_serve.specs.declared.fault.ServeFault.{ServeFault}
+use Rattle.plan_door.specs.declared.fault.ServeFault.{ServeFault}
 use Rattle.plan_serve.specs.ReplayRun.{responses, Replays, ReplaysFrom, ReplaysOnFiles}
 
 flat : {A : Type 0} (f : A → Text) (xs : List A) → flat_map f xs ≡ flat_map (λ text. text) (map f xs)

@@ -7,11 +7,11 @@ use Rattle.plan_store.specs.SqlBooks.{Counted, sql_shelf}
 use Rattle.plan_store.specs.OnDisk.{IsTakenFrom}
 use Rattle.plan_store.specs.declared.fault.StoreFault.{StoreFault}
 use Rattle.plan_store.specs.declared.fault.StoreFault.TheVariants as store
-use Rattle.plan_serve.specs.declared.fault.ServeFault.TheVariants as fault
+use Rattle.plan_door.specs.declared.fault.ServeFault.TheVariants as fault
 use Rattle.plan_serve.specs.Faults.{fault_of}
-use Rattle.plan_serve.specs.declared.fault.ServeFault.{ServeFault}
+use Rattle.plan_door.specs.declared.fault.ServeFault.{ServeFault}
 use Rattle.plan_serve.specs.Ports.{ServesFrom, ServesOnFiles}
-use Rattle.plan_serve.specs.Serve.{IsServeFault}
+use Rattle.plan_door.specs.Serve.{IsServeFault}
 
 -- with a fault of the store nothing is served, and it isn't the output's
 pub serves_not : (f : StoreFault) → IsServeFault (fault_of f)

@@ -5,10 +5,10 @@ use Rattle.std_io.specs.declared.io.kind.ErrorKind.{ErrorKind}
 use Rattle.std_io.specs.declared.io.kind.ErrorKind.TheVariants as kind
 use Rattle.sqlite_std_file.specs.declared.pair.OpenError.{OpenError}
 use Rattle.sqlite_std_file.specs.declared.pair.OpenError.TheVariants as opening
-use Rattle.plan_serve.specs.declared.fault.ServeFault.{ServeFault}
-use Rattle.plan_serve.specs.declared.fault.ServeFault.TheVariants as fault
+use Rattle.plan_door.specs.declared.fault.ServeFault.{ServeFault}
+use Rattle.plan_door.specs.declared.fault.ServeFault.TheVariants as fault
 use Rattle.plan_serve.specs.InitRun.{IsInitFault}
-use Rattle.plan_serve.specs.Serve.{IsServeFault}
+use Rattle.plan_door.specs.Serve.{IsServeFault}
 
 -- why a file of an office can't be opened: nothing is there, it may not be, there is no memory, or for
 -- another cause

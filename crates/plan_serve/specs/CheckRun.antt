@@ -12,8 +12,8 @@ use Rattle.plan_desk.specs.Deciding.{Quiet}
 use Rattle.plan_store.specs.SqlBooks.{Counted, sql_shelf}
 use Rattle.plan_store.specs.OnDisk.{IsTakenFrom}
 use Rattle.plan_serve.specs.declared.summary.Summary.{Summary}
-use Rattle.plan_serve.specs.declared.fault.ServeFault.{ServeFault}
-use Rattle.plan_serve.specs.declared.fault.ServeFault.TheVariants as fault
+use Rattle.plan_door.specs.declared.fault.ServeFault.{ServeFault}
+use Rattle.plan_door.specs.declared.fault.ServeFault.TheVariants as fault
 use Rattle.plan_serve.specs.RowTexts.{IsSummary, text_of}
 
 -- a hasher has taken a text

@@ -1,26 +1,8 @@
--- The lines that tell why a command failed that keeps an office (docs/DEFINITIONS.md, "Runs").
-use Rattle.std.specs.Prelude.{ℕ, List, codes}
+-- What a fault of the store is told as (docs/DEFINITIONS.md, "Runs").
 use Rattle.plan_store.specs.declared.fault.StoreFault.{StoreFault}
 use Rattle.plan_store.specs.declared.fault.StoreFault.TheVariants as store
-use Rattle.plan_serve.specs.declared.fault.ServeFault.{ServeFault}
-use Rattle.plan_serve.specs.declared.fault.ServeFault.TheVariants as fault
-
--- the line of a fault, without its end
-abbrev pub line_of : ServeFault → List ℕ
-line_of fault.Memory = codes "E90 memory"
-line_of fault.Store = codes "E91 store"
-line_of fault.NotOurs = codes "K1 not ours"
-line_of fault.Version = codes "K2 version"
-line_of fault.Key = codes "K3 key"
-line_of fault.Input = codes "I1 file"
-line_of fault.Socket = codes "I2 socket"
-line_of fault.Output = codes "I3 output"
-line_of fault.Locked = codes "K4 in use"
-line_of fault.Missing = codes "K5 not there"
-line_of fault.Denied = codes "K6 not writable"
-line_of fault.Taken = codes "K7 office there already"
-line_of fault.PortTaken = codes "I4 port in use"
-line_of fault.PortDenied = codes "I5 port denied"
+use Rattle.plan_door.specs.declared.fault.ServeFault.{ServeFault}
+use Rattle.plan_door.specs.declared.fault.ServeFault.TheVariants as fault
 
 -- the fault of a command whose store has a fault
 abbrev pub fault_of : StoreFault → ServeFault

@@ -17,8 +17,8 @@ use Rattle.plan_store.specs.Stores.{world_of}
 use Rattle.plan_store.specs.Serving.{Stands}
 use Rattle.plan_store.specs.SqlBooks.{Counted}
 use Rattle.plan_store.specs.Creating.{IsNewStore}
-use Rattle.plan_serve.specs.declared.fault.ServeFault.{ServeFault}
-use Rattle.plan_serve.specs.declared.fault.ServeFault.TheVariants as fault
+use Rattle.plan_door.specs.declared.fault.ServeFault.{ServeFault}
+use Rattle.plan_door.specs.declared.fault.ServeFault.TheVariants as fault
 use Rattle.plan_serve.specs.Faults.{fault_of}
 use Rattle.plan_serve.specs.Keys.{ReadsKey, IsDigestOfKey}
 

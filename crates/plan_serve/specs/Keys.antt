@@ -5,8 +5,8 @@ use Rattle.std.specs.Io.KnownBytes.{Consumes}
 use Rattle.plan_psplib.specs.Lines.{is_line_feed}
 use Rattle.plan_rows.specs.World.{Text, Digest}
 use Rattle.plan_rows.specs.Names.{key_digest_of}
-use Rattle.plan_serve.specs.declared.fault.ServeFault.{ServeFault}
-use Rattle.plan_serve.specs.declared.fault.ServeFault.TheVariants as fault
+use Rattle.plan_door.specs.declared.fault.ServeFault.{ServeFault}
+use Rattle.plan_door.specs.declared.fault.ServeFault.TheVariants as fault
 
 -- the most bytes that are read: those of the longest key, a carriage return and a line feed
 abbrev pub longest_line : ℕ

@@ -3,9 +3,6 @@ pub mod Causes
 pub mod Keys
 pub mod InitRun
 pub mod ReplayRun
-pub mod Serve
-pub mod Turns
-pub mod Logs
 pub mod Ports
 pub mod RowTexts
 pub mod Summing

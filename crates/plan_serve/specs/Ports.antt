@@ -5,7 +5,7 @@ use Rattle.sqlite_trees.specs.declared.store.Store.{Ghosts}
 use Rattle.plan_rows.specs.Books.{Shelf}
 use Rattle.plan_store.specs.SqlBooks.{Counted, sql_shelf}
 use Rattle.plan_store.specs.OnDisk.{IsTakenFrom}
-use Rattle.plan_serve.specs.Turns.{Turn, Runs}
+use Rattle.plan_door.specs.Turns.{Turn, Runs}
 
 -- so many turns were served, one after another, by an office over this book
 abbrev pub ServesFrom : {B : Type 0} → Shelf B → B → ℕ → Type 0

@@ -5,8 +5,9 @@ ghost use Rattle.plan_psplib.specs.Devices.{most_calls, HasFailed};
 ghost use Rattle.plan_desk.specs.Deciding.{Quiet};
 ghost use Rattle.plan_serve.specs.CheckRun.{Writes};
 
-use crate::fault::{ServeFault, book_told};
+use crate::fault::book_told;
 use crate::summary::{summary_of, summary_text};
+use plan_door::ServeFault;
 use plan_psplib::{Sink, write_whole};
 use plan_store::Listing;
 use std::alloc::Global;

@@ -4,19 +4,18 @@ ghost use Rattle.std.specs.Prelude.{◌≡◌, ◌⊎◌, ◌↔◌, ◌+◌, �
 ghost use Rattle.std.specs.IoError.{error_kind};
 ghost use Rattle.plan_psplib.specs.Devices.{most_calls, HasFailed};
 ghost use Rattle.plan_store.specs.declared.fault.StoreFault.TheVariants.{NoMemory, Store};
+ghost use Rattle.plan_door.specs.Serve.{IsServeFault};
 ghost use Rattle.plan_serve.specs.Causes.{IsToldAnew};
 ghost use Rattle.plan_serve.specs.CheckRun.{ChecksOnFiles, IsPrinted, IsPrintedInPart};
 ghost use Rattle.plan_serve.specs.InitRun.{IsOpenedFrom, InitsOnFiles, IsInitFault};
 ghost use Rattle.plan_serve.specs.ReplayRun.{AreAnswered, AreAnsweredInPart, ReplaysOnFiles};
 ghost use Rattle.plan_serve.specs.Ports.{ServesOnFiles};
-ghost use Rattle.plan_serve.specs.Serve.{IsServeFault};
 
-use crate::fault::ServeFault;
 use crate::init::Place;
 use crate::keeping::{Ended, check_opened, init_at, replay_opened, serve_opened};
 use crate::looking::{look, refusal};
 use crate::requests::read_connection;
-use crate::service::Service;
+use plan_door::{ServeFault, Service};
 use plan_psplib::{Sink, StdSource};
 use plan_store::{SqlBook, StoreFault};
 use sqlite::{Connection, Error, ErrorCode, FileFrom, FileStore, Start, Unknown};

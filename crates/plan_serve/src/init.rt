@@ -6,8 +6,9 @@ ghost use Rattle.plan_store.specs.declared.fault.StoreFault.{StoreFault};
 ghost use Rattle.plan_store.specs.declared.fault.StoreFault.TheVariants.{NoMemory, Store};
 ghost use Rattle.plan_serve.specs.InitRun.{IsTold, Inits};
 
-use crate::fault::{ServeFault, told};
+use crate::fault::told;
 use crate::key::read_key;
+use plan_door::ServeFault;
 use plan_psplib::Source;
 use plan_store::{SqlBook, StoreFault, has_office_tables};
 use sqlite::{Alter, Connection};

@@ -2,20 +2,19 @@
 
 ghost use Rattle.std.specs.Prelude.{◌≡◌, ◌≢◌, ◌⊎◌, ◌+◌, ◌≤◌, length, map, vec_items, Ok, is_some, IfOk, IfErr, IfNone, IsSome, IsErrOf, OnOk, OnErr, MatchResult};
 ghost use Rattle.plan_psplib.specs.Devices.{most_calls, HasFailed};
+ghost use Rattle.plan_door.specs.Serve.{IsServeFault};
 ghost use Rattle.plan_serve.specs.Causes.{IsPortCause};
 ghost use Rattle.plan_serve.specs.CheckRun.{ChecksFrom, IsPrinted, IsPrintedInPart};
 ghost use Rattle.plan_serve.specs.InitRun.{HasMade, IsInitFault, MakesNone};
 ghost use Rattle.plan_serve.specs.ReplayRun.{AreAnswered, AreAnsweredInPart, ReplaysFrom};
-ghost use Rattle.plan_serve.specs.Serve.{IsServeFault};
 ghost use Rattle.plan_serve.specs.Ports.{ServesFrom};
 
 use crate::check_office::check_office_run;
-use crate::fault::{ServeFault, told};
+use crate::fault::told;
 use crate::init::{Place, init_run};
 use crate::replay::replay_run;
-use crate::service::Service;
-use crate::socket::serve_listener;
 use plan_desk::{Book, Office};
+use plan_door::{ServeFault, Service, serve_listener};
 use plan_psplib::{Sink, Source};
 use plan_store::{Leftover, SqlBook, StoreFault};
 use sqlite::{Alter, Connection};

@@ -7,8 +7,8 @@ ghost use Rattle.std.specs.List.{before_first, position};
 ghost use Rattle.plan_psplib.specs.Lines.{is_line_feed};
 ghost use Rattle.plan_serve.specs.Keys as spec;
 
-use crate::fault::ServeFault;
 use plan_desk::key_digest;
+use plan_door::ServeFault;
 use plan_psplib::{DeviceFault, Source};
 use std::alloc::Global;
 

@@ -5,34 +5,23 @@
 mod check_office;
 mod fault;
 mod files;
-mod first_line;
 mod init;
 mod keeping;
 mod key;
 mod lines;
-mod log;
 mod looking;
 mod replay;
 mod requests;
-mod room;
-mod service;
-mod side;
-mod socket;
 mod summary;
-mod visitors;
 
 pub use check_office::check_office_run;
-pub use fault::ServeFault;
 pub use files::{
     check_office_from, check_office_on_file, init_from, init_on_file, replay_from, replay_on_files,
     serve_from, serve_on_port,
 };
 pub use init::{Place, init_run};
 pub use key::read_key;
+pub use plan_door::{ServeFault, Service, Side, Visitors, serve_listener, serve_visitors};
 pub use replay::replay_run;
 pub use requests::read_connection;
-pub use service::Service;
-pub use side::Side;
-pub use socket::serve_listener;
 pub use summary::Summary;
-pub use visitors::{Visitors, serve_visitors};

@@ -1,11 +1,11 @@
 //! What stands at the name of an office, and why it can't be opened.
 
 ghost use Rattle.std.specs.Prelude.{◌≢◌, IfErr};
+ghost use Rattle.plan_door.specs.Serve.{IsServeFault};
 ghost use Rattle.plan_serve.specs.Causes.{IsFileCause, IsOpenCause};
 ghost use Rattle.plan_serve.specs.InitRun.{IsInitFault};
-ghost use Rattle.plan_serve.specs.Serve.{IsServeFault};
 
-use crate::fault::ServeFault;
+use plan_door::ServeFault;
 use sqlite::Start;
 use sqlite_std_file::OpenError;
 use std::fs;

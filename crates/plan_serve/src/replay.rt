@@ -7,8 +7,8 @@ ghost use Rattle.plan_http.specs.Answers.{Decision};
 ghost use Rattle.plan_http.specs.Serving.{Serving, Stops};
 ghost use Rattle.plan_serve.specs.ReplayRun as spec;
 
-use crate::fault::ServeFault;
 use plan_desk::{Book, Office};
+use plan_door::ServeFault;
 use plan_http::serve_run;
 use plan_psplib::{Sink, write_whole};
 use std::alloc::{AllocError, Global};

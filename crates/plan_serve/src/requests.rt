@@ -4,7 +4,7 @@ ghost use Rattle.std.specs.Prelude.{◌≡◌, ◌⊎◌, ◌+◌, ◌≤◌, ta
 ghost use Rattle.plan_psplib.specs.Devices.{most_calls};
 ghost use Rattle.plan_serve.specs.ReplayRun.{longest_request};
 
-use crate::fault::ServeFault;
+use plan_door::ServeFault;
 use plan_psplib::{InputError, Source, read_beyond};
 use std::alloc::Global;
 

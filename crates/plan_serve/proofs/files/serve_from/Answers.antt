@@ -1,6 +1,6 @@
 use Rattle.std.proofs.Common.{refl}
 use Rattle.sqlite.specs.Files.{over_files}
-use Rattle.plan_serve.specs.Serve.{IsServeFault}
+use Rattle.plan_door.specs.Serve.{IsServeFault}
 use Rattle.plan_serve.proofs.CauseLemmas.{told_ok, told_err}
 use Rattle.plan_serve.proofs.ServeLemmas.{serves_on_files}
 use Rattle.plan_serve.proofs.files.serve_from.Goals as goal

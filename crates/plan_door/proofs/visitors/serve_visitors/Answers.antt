@@ -1,7 +1,7 @@
 use Rattle.std.proofs.Common.{ℕ, ◌+◌, arith, rules, subst}
-use Rattle.plan_serve.specs.Turns.{Visiting}
-use Rattle.plan_serve.proofs.TurnLemmas.{unvisited, visiting_more, visiting_moves}
-use Rattle.plan_serve.proofs.visitors.serve_visitors.Goals as goal
+use Rattle.plan_door.specs.Turns.{Visiting}
+use Rattle.plan_door.proofs.TurnLemmas.{unvisited, visiting_more, visiting_moves}
+use Rattle.plan_door.proofs.visitors.serve_visitors.Goals as goal
 
 pub loop-init : goal.loop-init
 loop-init g c = record {

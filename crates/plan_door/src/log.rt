@@ -1,6 +1,6 @@
 //! A log of connections that were served.
 
-ghost use Rattle.plan_serve.specs.Logs.{IsShownMethod, IsShownRoute};
+ghost use Rattle.plan_door.specs.Logs.{IsShownMethod, IsShownRoute};
 
 use crate::first_line::FirstLine;
 use crate::side::Side;

@@ -2,8 +2,8 @@
 
 ghost use Rattle.std.specs.Prelude.{◌≡◌, ◌⊎◌, ◌↔◌, ◌+◌, ◌<◌, ◌≤◌, [], false, List, length, IsTrue, IfOk, OnOk, IsErrOf, IfErr};
 ghost use Rattle.plan_http.specs.Answers.{Decision};
-ghost use Rattle.plan_serve.specs.Serve.{MovedBy};
-ghost use Rattle.plan_serve.specs.Turns.{Turn, Runs};
+ghost use Rattle.plan_door.specs.Serve.{MovedBy};
+ghost use Rattle.plan_door.specs.Turns.{Turn, Runs};
 
 use crate::fault::ServeFault;
 use crate::log::Log;
@@ -149,7 +149,7 @@ impl<'a> Visitors for Callers<'a> {
     type Writer = Side<'a>;
 
     ghost use Rattle.std.specs.Prelude.{◌≡◌, ◌≤◌, ◌+◌, IfOk};
-    ghost use Rattle.plan_serve.specs.declared.socket.TheConstants.{MOST_FAILURES};
+    ghost use Rattle.plan_door.specs.declared.socket.TheConstants.{MOST_FAILURES};
     ghost use Rattle.plan_psplib.specs.Devices.{IsCounted};
 
     ghost awaited = { λ callers. callers.tally.calls };
@@ -211,7 +211,8 @@ fn callers_of<'a>(
 }
 
 /// Serves so many connections of a socket, one after another: of those that are there the oldest of
-/// whom something has come. One that is sent away or fails counts too, and ends alone. Each has the service's seconds for its request in its turn, and as many for its response.
+/// whom something has come. One that is sent away or fails counts too, and ends alone. Each has the
+/// service's seconds for its request in its turn, and as many for its response.
 pub fn serve_listener<B: Book>(
     rt: &HostRuntime,
     office: &mut Office<B>,

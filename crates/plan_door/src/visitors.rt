@@ -6,8 +6,8 @@ ghost use Rattle.plan_psplib.specs.declared.devices.traits.DeviceFault.{DeviceFa
 ghost use Rattle.plan_http.specs.declared.serving.ConnEnd.{ConnEnd};
 ghost use Rattle.plan_http.specs.Clients.{IsFresh};
 ghost use Rattle.plan_http.specs.Answers.{Decision};
-ghost use Rattle.plan_serve.specs.Serve.{MovedBy};
-ghost use Rattle.plan_serve.specs.Turns.{Turn, IsTurn, Runs, IsVisited, Visiting};
+ghost use Rattle.plan_door.specs.Serve.{MovedBy};
+ghost use Rattle.plan_door.specs.Turns.{Turn, IsTurn, Runs, IsVisited, Visiting};
 
 use crate::fault::ServeFault;
 use plan_desk::{Book, Office};

@@ -12,8 +12,8 @@ use Rattle.plan_http.specs.Answers.{Decision, IsOn}
 use Rattle.plan_http.specs.Serving.{Serving, Serves, Ends, response_of}
 use Rattle.plan_http.proofs.ClientLemmas.{of_heard}
 use Rattle.plan_http.proofs.WholeRunLemmas.{outlasts, is_apart}
-use Rattle.plan_serve.specs.Serve.{MovedBy}
-use Rattle.plan_serve.specs.Turns.{Visit, MayBe, IsSent, Turn, missed, visited, decision_in, decisions_of, IsConn, AreConns, read_in, read_of, IsServedBy, IsServed, IsTurn, AreTurns, IsRun, Runs, IsVisited, AreVisited, Visiting}
+use Rattle.plan_door.specs.Serve.{MovedBy}
+use Rattle.plan_door.specs.Turns.{Visit, MayBe, IsSent, Turn, missed, visited, decision_in, decisions_of, IsConn, AreConns, read_in, read_of, IsServedBy, IsServed, IsTurn, AreTurns, IsRun, Runs, IsVisited, AreVisited, Visiting}
 
 -- what holds of an answer holds of it once it is counted
 pub counted_ok : {A E F : Type 0} (P : A → Type 0) (answer : Result A E) (result : Result A F) → IfOk answer P

@@ -1,5 +1,5 @@
 use Rattle.std.proofs.Common.{arith}
-use Rattle.plan_serve.proofs.socket.serve_listener.Goals as goal
+use Rattle.plan_door.proofs.socket.serve_listener.Goals as goal
 
 pub returns-clause-closed : goal.returns-clause-closed
 returns-clause-closed g c e =

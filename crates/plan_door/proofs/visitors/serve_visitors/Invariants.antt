@@ -1,6 +1,6 @@
 use Rattle.std.proofs.Common.{◌≡◌, ◌+◌}
-use Rattle.plan_serve.specs.Turns.{Visiting}
-use Rattle.plan_serve.proofs.visitors.serve_visitors.Given as goal
+use Rattle.plan_door.specs.Turns.{Visiting}
+use Rattle.plan_door.proofs.visitors.serve_visitors.Given as goal
 
 -- so many connections were awaited, each in a turn of its own
 abbrev pub invariant-loop : goal.invariant-loop

@@ -1,6 +1,6 @@
 use Rattle.std.proofs.Common.{◌≡◌}
-use Rattle.plan_serve.proofs.TurnLemmas.{counted_ok, fresh_sides}
-use Rattle.plan_serve.proofs.socket.CallersVisitors.admit.Goals as goal
+use Rattle.plan_door.proofs.TurnLemmas.{counted_ok, fresh_sides}
+use Rattle.plan_door.proofs.socket.CallersVisitors.admit.Goals as goal
 
 pub returns-clause-untouched : goal.returns-clause-untouched
 returns-clause-untouched c =

@@ -1,0 +1,4 @@
+pub mod Faults
+pub mod Serve
+pub mod Turns
+pub mod Logs
