@@ -1,10 +1,12 @@
-//! Connections of a socket, one after another: a door, a waiting room, two sides with their
-//! deadlines, visitors and a log. It needs no table and no file: any office serves them.
+//! Connections one after another, of a socket (a door, a waiting room, two sides with their
+//! deadlines, visitors and a log) or out of files. It needs no table: any office serves them.
 #![tactic(auto)]
 
 mod fault;
 mod first_line;
 mod log;
+mod replay;
+mod requests;
 mod room;
 mod service;
 mod side;
@@ -12,6 +14,8 @@ mod socket;
 mod visitors;
 
 pub use fault::ServeFault;
+pub use replay::replay_run;
+pub use requests::read_connection;
 pub use service::Service;
 pub use side::Side;
 pub use socket::serve_listener;

@@ -2,7 +2,7 @@ pub mod Faults
 pub mod Causes
 pub mod Keys
 pub mod InitRun
-pub mod ReplayRun
+pub mod ReplayFiles
 pub mod Ports
 pub mod RowTexts
 pub mod Summing

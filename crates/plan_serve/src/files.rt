@@ -8,14 +8,14 @@ ghost use Rattle.plan_door.specs.Serve.{IsServeFault};
 ghost use Rattle.plan_serve.specs.Causes.{IsToldAnew};
 ghost use Rattle.plan_serve.specs.CheckRun.{ChecksOnFiles, IsPrinted, IsPrintedInPart};
 ghost use Rattle.plan_serve.specs.InitRun.{IsOpenedFrom, InitsOnFiles, IsInitFault};
-ghost use Rattle.plan_serve.specs.ReplayRun.{AreAnswered, AreAnsweredInPart, ReplaysOnFiles};
+ghost use Rattle.plan_door.specs.ReplayRun.{AreAnswered, AreAnsweredInPart};
+ghost use Rattle.plan_serve.specs.ReplayFiles.{ReplaysOnFiles};
 ghost use Rattle.plan_serve.specs.Ports.{ServesOnFiles};
 
 use crate::init::Place;
 use crate::keeping::{Ended, check_opened, init_at, replay_opened, serve_opened};
 use crate::looking::{look, refusal};
-use crate::requests::read_connection;
-use plan_door::{ServeFault, Service};
+use plan_door::{ServeFault, Service, read_connection};
 use plan_psplib::{Sink, StdSource};
 use plan_store::{SqlBook, StoreFault};
 use sqlite::{Connection, Error, ErrorCode, FileFrom, FileStore, Start, Unknown};

@@ -6,15 +6,14 @@ ghost use Rattle.plan_door.specs.Serve.{IsServeFault};
 ghost use Rattle.plan_serve.specs.Causes.{IsPortCause};
 ghost use Rattle.plan_serve.specs.CheckRun.{ChecksFrom, IsPrinted, IsPrintedInPart};
 ghost use Rattle.plan_serve.specs.InitRun.{HasMade, IsInitFault, MakesNone};
-ghost use Rattle.plan_serve.specs.ReplayRun.{AreAnswered, AreAnsweredInPart, ReplaysFrom};
+ghost use Rattle.plan_door.specs.ReplayRun.{AreAnswered, AreAnsweredInPart, ReplaysFrom};
 ghost use Rattle.plan_serve.specs.Ports.{ServesFrom};
 
 use crate::check_office::check_office_run;
 use crate::fault::told;
 use crate::init::{Place, init_run};
-use crate::replay::replay_run;
 use plan_desk::{Book, Office};
-use plan_door::{ServeFault, Service, serve_listener};
+use plan_door::{ServeFault, Service, replay_run, serve_listener};
 use plan_psplib::{Sink, Source};
 use plan_store::{Leftover, SqlBook, StoreFault};
 use sqlite::{Alter, Connection};
@@ -73,7 +72,7 @@ fn connection_of<S: Alter + Drop>(book: Option<SqlBook<S>>) -> Option<Connection
 
 // Serves connections by an office over a book, and writes the responses. The book comes back, unless
 // memory runs out before the first.
-#[tactic(auto, using(crate::proofs::ReplayLemmas::replays))]
+#[tactic(auto, using(crate::proofs::ReplayFileLemmas::replays))]
 fn replay_over<B: Book + Drop, W: Sink>(
     alloc: Global,
     book: B,

@@ -10,8 +10,6 @@ mod keeping;
 mod key;
 mod lines;
 mod looking;
-mod replay;
-mod requests;
 mod summary;
 
 pub use check_office::check_office_run;
@@ -21,7 +19,8 @@ pub use files::{
 };
 pub use init::{Place, init_run};
 pub use key::read_key;
-pub use plan_door::{ServeFault, Service, Side, Visitors, serve_listener, serve_visitors};
-pub use replay::replay_run;
-pub use requests::read_connection;
+pub use plan_door::{
+    ServeFault, Service, Side, Visitors, read_connection, replay_run, serve_listener,
+    serve_visitors,
+};
 pub use summary::Summary;

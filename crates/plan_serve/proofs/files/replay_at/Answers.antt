@@ -2,7 +2,7 @@ use Rattle.std.proofs.Common.{length, map, vec_items, refl}
 use Rattle.std.proofs.lemmas.List.{length-map}
 use Rattle.sqlite.specs.Files.{over_files}
 use Rattle.plan_serve.proofs.CauseLemmas.{told_ok, told_quiet, told_output}
-use Rattle.plan_serve.proofs.ReplayLemmas.{replays_on_files}
+use Rattle.plan_serve.proofs.ReplayFileLemmas.{replays_on_files}
 use Rattle.plan_serve.proofs.files.replay_at.Goals as goal
 
 pub returns-clause-replays : goal.returns-clause-replays

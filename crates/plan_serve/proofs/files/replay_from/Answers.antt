@@ -1,6 +1,6 @@
 use Rattle.sqlite.specs.Files.{over_files}
 use Rattle.std.proofs.Common.{◌∙◌, ap, length}
-use Rattle.plan_serve.proofs.ReplayLemmas.{replays_as_many}
+use Rattle.plan_serve.proofs.ReplayFileLemmas.{replays_as_many}
 use Rattle.plan_serve.proofs.files.replay_from.Goals as goal
 
 pub returns-clause-replays : goal.returns-clause-replays

@@ -2,12 +2,8 @@
 use Rattle.std.specs.Prelude.{◌≡◌, ℕ, ◌<◌, List, Option, length, take, Result, Ok, Err}
 use Rattle.std.specs.List.{flat_map}
 use Rattle.std.specs.Io.KnownBytes.{Appends}
-use Rattle.sqlite_disk.specs.declared.start.Start as start
-use Rattle.sqlite_trees.specs.declared.store.Store.{Ghosts}
 use Rattle.plan_rows.specs.World.{Text}
 use Rattle.plan_rows.specs.Books.{Shelf}
-use Rattle.plan_store.specs.SqlBooks.{Counted, sql_shelf}
-use Rattle.plan_store.specs.OnDisk.{IsTakenFrom}
 use Rattle.plan_http.specs.Answers.{Decision}
 use Rattle.plan_http.specs.Serving.{Serving, Stops, response_of}
 use Rattle.plan_door.specs.declared.fault.ServeFault.{ServeFault}
@@ -37,12 +33,6 @@ Replays shelf old new conns taken after (Err e) = ⊥
 abbrev pub ReplaysFrom : {B : Type 0} → Shelf B → B → List Text → Option Text → Option Text → Type 0
 ReplaysFrom {B} shelf book conns taken after =
     (next : B) × Replays shelf book next conns taken after (Ok tt)
-
--- the tables that files held were taken, and so many connections served by an office over them
-abbrev pub ReplaysOnFiles : {F S : Type 0} → start.Ghosts F → Ghosts S → ℕ → Option Text → Option Text → Type 0
-ReplaysOnFiles {F} {S} first g count taken after =
-    (book : Counted S) × (conns : List Text) × (length conns ≡ count) × IsTakenFrom first book.conn g
-    × ReplaysFrom (sql_shelf g) book conns taken after
 
 -- a sink has taken so many responses, one behind another
 abbrev pub AreAnswered : ℕ → Option Text → Option Text → Type 0

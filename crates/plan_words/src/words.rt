@@ -2,7 +2,7 @@
 
 use clap::{Arg, ArgAction, ArgMatches, Command, value_parser};
 use plan_cli::Task;
-use plan_serve::Service;
+use plan_door::Service;
 use std::alloc::{AllocError, Global};
 
 // What follows the help.

@@ -1,8 +1,8 @@
 use Rattle.std.proofs.Common.{◌∙◌, ◌<◌, List, ℕ, length, take, map, vec_items, subst}
 use Rattle.std.proofs.lemmas.List.{length-map}
 use Rattle.std.specs.Io.KnownBytes.{Appends}
-use Rattle.plan_serve.proofs.ReplayLemmas.{served_each}
-use Rattle.plan_serve.proofs.replay.replay_run.Goals as goal
+use Rattle.plan_door.proofs.ReplayLemmas.{served_each}
+use Rattle.plan_door.proofs.replay.replay_run.Goals as goal
 
 pub returns-in-Ok-write_whole-clause-ok : goal.returns-in-Ok-write_whole-clause-ok
 returns-in-Ok-write_whole-clause-ok g c =

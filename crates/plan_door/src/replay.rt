@@ -5,10 +5,10 @@ ghost use Rattle.std.specs.List.{flat_map};
 ghost use Rattle.plan_psplib.specs.Devices.{most_calls, HasFailed};
 ghost use Rattle.plan_http.specs.Answers.{Decision};
 ghost use Rattle.plan_http.specs.Serving.{Serving, Stops};
-ghost use Rattle.plan_serve.specs.ReplayRun as spec;
+ghost use Rattle.plan_door.specs.ReplayRun as spec;
 
+use crate::fault::ServeFault;
 use plan_desk::{Book, Office};
-use plan_door::ServeFault;
 use plan_http::serve_run;
 use plan_psplib::{Sink, write_whole};
 use std::alloc::{AllocError, Global};

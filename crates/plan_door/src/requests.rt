@@ -2,9 +2,9 @@
 
 ghost use Rattle.std.specs.Prelude.{◌≡◌, ◌⊎◌, ◌+◌, ◌≤◌, take, IfOk, OnOk, IfErr, IfSome};
 ghost use Rattle.plan_psplib.specs.Devices.{most_calls};
-ghost use Rattle.plan_serve.specs.ReplayRun.{longest_request};
+ghost use Rattle.plan_door.specs.ReplayRun.{longest_request};
 
-use plan_door::ServeFault;
+use crate::fault::ServeFault;
 use plan_psplib::{InputError, Source, read_beyond};
 use std::alloc::Global;
 
