@@ -1,2 +1,4 @@
 pub mod TurnLemmas
 pub mod ReplayLemmas
+pub mod KeyLemmas
+pub mod BookLemmas

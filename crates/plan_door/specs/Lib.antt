@@ -1,5 +1,7 @@
 pub mod Faults
+pub mod Keys
 pub mod Serve
 pub mod Turns
+pub mod Ports
 pub mod Logs
 pub mod ReplayRun

@@ -1,10 +1,13 @@
 //! Connections one after another, of a socket (a door, a waiting room, two sides with their
-//! deadlines, visitors and a log) or out of files. It needs no table: any office serves them.
+//! deadlines, visitors and a log) or out of files, and the key of an office in a text. It needs no
+//! table: any office serves them, over any book.
 #![tactic(auto)]
 
 mod fault;
 mod first_line;
+mod key;
 mod log;
+mod over_book;
 mod replay;
 mod requests;
 mod room;
@@ -14,6 +17,8 @@ mod socket;
 mod visitors;
 
 pub use fault::ServeFault;
+pub use key::read_key;
+pub use over_book::{replay_book, serve_book};
 pub use replay::replay_run;
 pub use requests::read_connection;
 pub use service::Service;

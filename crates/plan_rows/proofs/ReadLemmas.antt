@@ -3,9 +3,9 @@ use Rattle.std.proofs.Common.{◌≡◌, ℕ, Bool, true, List, [], ◌∷◌, m
 use Rattle.std.specs.Prelude.{◌&&◌, ◌==◌, ◌<◌, nat_le, find, string_bytes, Option, IfSome}
 use Rattle.std.proofs.lemmas.Bool.{cases_Bool, and_parts, leb-true}
 use Rattle.plan_rows.specs.declared.rows.PlanRow.{PlanRow}
-use Rattle.plan_rows.specs.World.{Text, Desk, Plan, World, desk_in, is_desk, is_bind_by, is_bind_of, is_lag_by, is_lag_of}
+use Rattle.plan_rows.specs.World.{Text, Desk, Plan, World, desk_in, plan_in, is_desk, is_plan_of, is_bind_by, is_bind_of, is_lag_by, is_lag_of}
 use Rattle.plan_rows.specs.Views.{view}
-use Rattle.plan_rows.specs.Plans.{in_order, bind_before, place_of, lag_before, arc_of, places_of, lags_of}
+use Rattle.plan_rows.specs.Plans.{in_order, bind_before, place_of, lag_before, arc_of, places_of, lags_of, has_number}
 use Rattle.plan_rows.specs.Names.{is_name, is_digest, is_from_to}
 use Rattle.plan_rows.specs.Rules.{IsWorld, is_desk_row}
 use Rattle.plan_rows.proofs.RuleLemmas.{found_has}
@@ -60,3 +60,7 @@ next_is_low desk w k = at_found (desk_in w desk) refl
         let parts = and_parts (is_name row.desk) (is_digest row.digest && is_from_to 1 1000001 row.next) rule in
         let bounds = and_parts (nat_le 1 row.next) (nat_le row.next 1000001) (and_parts (is_digest row.digest) (is_from_to 1 1000001 row.next) parts.1).1 in
         omega (arith, leb-true row.next 1000001 bounds.1)
+
+-- a plan is found among those of its desk
+pub found_in_view : (w : World) (desk : Text) (n : ℕ) → plan_in w desk n ≡ find (has_number n) (view desk w).plans
+found_in_view w desk n = sym (find_both (is_plan_of desk) (has_number n) w.plans)

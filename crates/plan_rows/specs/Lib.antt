@@ -6,5 +6,6 @@ pub mod Plans
 pub mod Rules
 pub mod Books
 pub mod Tables
+pub mod Listing
 pub mod RowTests
 pub mod Reviewing

@@ -7,7 +7,7 @@ use Rattle.sqlite_std_file.specs.declared.pair.OpenError.{OpenError}
 use Rattle.sqlite_std_file.specs.declared.pair.OpenError.TheVariants as opening
 use Rattle.plan_door.specs.declared.fault.ServeFault.{ServeFault}
 use Rattle.plan_door.specs.declared.fault.ServeFault.TheVariants as fault
-use Rattle.plan_serve.specs.Causes.{IsFileCause, IsOpenCause, IsPortCause, IsToldAnew}
+use Rattle.plan_serve.specs.Causes.{IsFileCause, IsOpenCause, IsToldAnew}
 use Rattle.plan_serve.specs.InitRun.{IsInitFault}
 use Rattle.plan_door.specs.Serve.{IsServeFault}
 
@@ -78,23 +78,6 @@ file_free k fault.Denied is e = absurd cc
 file_free k fault.Taken is e = absurd is
 file_free k fault.PortTaken is e = absurd is
 file_free k fault.PortDenied is e = absurd is
-
--- nothing is served
-pub port_serves : (k : ErrorKind) (f : ServeFault) → IsPortCause k f → IsServeFault f
-port_serves k fault.Memory is = tt
-port_serves k fault.Store is = absurd is
-port_serves k fault.NotOurs is = absurd is
-port_serves k fault.Version is = absurd is
-port_serves k fault.Key is = absurd is
-port_serves k fault.Input is = absurd is
-port_serves k fault.Socket is = tt
-port_serves k fault.Output is = absurd is
-port_serves k fault.Locked is = absurd is
-port_serves k fault.Missing is = absurd is
-port_serves k fault.Denied is = absurd is
-port_serves k fault.Taken is = absurd is
-port_serves k fault.PortTaken is = tt
-port_serves k fault.PortDenied is = tt
 
 -- ---- of files that were opened once more
 

@@ -9,7 +9,7 @@ use Rattle.plan_store.specs.Tables.{no_schema}
 use Rattle.plan_store.specs.Offices.{HasOfficeTables}
 use Rattle.plan_serve.specs.Faults.{fault_of}
 use Rattle.plan_store.specs.SqlBooks.{Counted}
-use Rattle.plan_serve.specs.Keys.{ReadsKey, TakesKey, first_line}
+use Rattle.plan_door.specs.Keys.{ReadsKey, TakesKey, first_line}
 use Rattle.plan_door.specs.declared.fault.ServeFault.{ServeFault}
 use Rattle.plan_door.specs.declared.fault.ServeFault.TheVariants as fault
 use Rattle.plan_serve.specs.InitRun.{IsTold, IsLeft, MakesNone, Inits, HasMade, IsInitFault}

@@ -1,8 +1,5 @@
-pub mod KeyLemmas
 pub mod CauseLemmas
 pub mod ServeLemmas
 pub mod InitLemmas
-pub mod ReplayFileLemmas
-pub mod SummaryLemmas
+pub mod ReportLemmas
 pub mod CheckLemmas
-pub mod LineLemmas

@@ -10,7 +10,8 @@ use Rattle.plan_store.specs.declared.fault.StoreFault.TheVariants as store
 use Rattle.plan_door.specs.declared.fault.ServeFault.TheVariants as fault
 use Rattle.plan_serve.specs.Faults.{fault_of}
 use Rattle.plan_door.specs.declared.fault.ServeFault.{ServeFault}
-use Rattle.plan_serve.specs.Ports.{ServesFrom, ServesOnFiles}
+use Rattle.plan_door.specs.Ports.{ServesFrom}
+use Rattle.plan_serve.specs.Ports.{ServesOnFiles}
 use Rattle.plan_door.specs.Serve.{IsServeFault}
 
 -- with a fault of the store nothing is served, and it isn't the output's

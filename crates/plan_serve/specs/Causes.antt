@@ -31,16 +31,6 @@ IsOpenCause (Err (opening.Io error)) e = IsFileCause (error_kind error) e
 IsOpenCause (Err opening.HotJournal) e = e ≡ fault.Store
 IsOpenCause (Ok files) e = e ≡ fault.Store
 
--- why nothing listens on a port: another program does, it may not be, there is no memory, or for
--- another cause
-abbrev pub IsPortCause : ErrorKind → ServeFault → Type 0
-IsPortCause k fault.PortTaken = k ≡ kind.AddrInUse
-IsPortCause k fault.PortDenied = k ≡ kind.PermissionDenied
-IsPortCause k fault.Memory = k ≡ kind.OutOfMemory
-IsPortCause k fault.Socket =
-    (k ≢ kind.AddrInUse) × (k ≢ kind.PermissionDenied) × (k ≢ kind.OutOfMemory)
-IsPortCause k e = ⊥
-
 -- the outcome of a command as it is told: as it was, or a refusal of the store by another cause, which
 -- is never the output
 abbrev pub IsToldAnew : Result (Unit {0}) ServeFault → Result (Unit {0}) ServeFault → Type 0

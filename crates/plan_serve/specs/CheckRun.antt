@@ -1,31 +1,19 @@
 -- What it is to test an office and print how many rows it has (docs/DEFINITIONS.md, "Runs").
-use Rattle.std.specs.Prelude.{◌≡◌, ℕ, ◌<◌, List, ◌++◌, Option, length, take, Result, Ok, Err, IfOk}
+use Rattle.std.specs.Prelude.{◌≡◌, ℕ, ◌<◌, Option, length, take, Result, Ok, Err}
 use Rattle.std.specs.Io.KnownBytes.{Appends}
 use Rattle.sqlite_disk.specs.declared.start.Start as start
 use Rattle.sqlite_trees.specs.declared.store.Store.{Ghosts}
-use Rattle.sha2.specs.declared.Sha256.{Sha256}
-use Rattle.sha2.specs.Hashers.{Holds256}
-use Rattle.plan_rows.specs.declared.fault.BookFault.{BookFault}
-use Rattle.plan_rows.specs.World.{Text, World}
+use Rattle.plan_rows.specs.World.{Text}
 use Rattle.plan_rows.specs.Books.{Shelf}
 use Rattle.plan_desk.specs.Deciding.{Quiet}
 use Rattle.plan_store.specs.SqlBooks.{Counted, sql_shelf}
 use Rattle.plan_store.specs.OnDisk.{IsTakenFrom}
-use Rattle.plan_serve.specs.declared.summary.Summary.{Summary}
+use Rattle.plan_summary.specs.declared.summary.Summary.{Summary}
 use Rattle.plan_door.specs.declared.fault.ServeFault.{ServeFault}
 use Rattle.plan_door.specs.declared.fault.ServeFault.TheVariants as fault
-use Rattle.plan_serve.specs.RowTexts.{IsSummary, text_of}
-
--- a hasher has taken a text
-abbrev pub Takes : Sha256 → Sha256 → Text → Type 0
-Takes old new text = (m : List ℕ) → Holds256 old m → Holds256 new (m ++ text)
+use Rattle.plan_summary.specs.RowTexts.{IsSummary, text_of}
 
 module _ {B : Type 0} (shelf : Shelf B) (old new : B) where
-  -- something is read of the rows of a book that can be seen, and nothing was written
-  pub record Looks {X : Type 0} (Is : World → X → Type 0) (result : Result X BookFault) : Type 0 where
-    pub quiet : Quiet shelf old new
-    pub found : IfOk result (λ x. shelf.honest new → shelf.stands old → shelf.stands new × Is (shelf.world old) x)
-
   -- this is the summary of what the book holds
   abbrev pub IsSummed : Summary → Type 0
   IsSummed summary = shelf.honest new → shelf.stands old → shelf.stands new × IsSummary (shelf.world old) summary

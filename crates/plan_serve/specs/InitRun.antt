@@ -20,7 +20,7 @@ use Rattle.plan_store.specs.Creating.{IsNewStore}
 use Rattle.plan_door.specs.declared.fault.ServeFault.{ServeFault}
 use Rattle.plan_door.specs.declared.fault.ServeFault.TheVariants as fault
 use Rattle.plan_serve.specs.Faults.{fault_of}
-use Rattle.plan_serve.specs.Keys.{ReadsKey, IsDigestOfKey}
+use Rattle.plan_door.specs.Keys.{ReadsKey, IsDigestOfKey}
 
 -- the tables of an office without a row stand, and a crash leaves nothing else
 pub record IsNewOffice (s : State) (digest : Digest) : Type 0 where

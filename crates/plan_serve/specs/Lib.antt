@@ -1,9 +1,7 @@
 pub mod Faults
 pub mod Causes
-pub mod Keys
 pub mod InitRun
 pub mod ReplayFiles
 pub mod Ports
-pub mod RowTexts
-pub mod Summing
 pub mod CheckRun
+pub mod Reports

@@ -6,10 +6,10 @@ ghost use Rattle.plan_desk.specs.Deciding.{Quiet};
 ghost use Rattle.plan_serve.specs.CheckRun.{Writes};
 
 use crate::fault::book_told;
-use crate::summary::{summary_of, summary_text};
 use plan_door::ServeFault;
 use plan_psplib::{Sink, write_whole};
-use plan_store::Listing;
+use plan_rows::Listing;
+use plan_summary::{summary_of, summary_text};
 use std::alloc::Global;
 
 /// Writes how many rows a book has in each table, and the digest of the text of all rows. Nothing is

@@ -10,10 +10,11 @@ ghost use Rattle.plan_serve.specs.CheckRun.{ChecksOnFiles, IsPrinted, IsPrintedI
 ghost use Rattle.plan_serve.specs.InitRun.{IsOpenedFrom, InitsOnFiles, IsInitFault};
 ghost use Rattle.plan_door.specs.ReplayRun.{AreAnswered, AreAnsweredInPart};
 ghost use Rattle.plan_serve.specs.ReplayFiles.{ReplaysOnFiles};
+ghost use Rattle.plan_serve.specs.Reports.{ReportsOnFiles, IsReported, IsReportedInPart};
 ghost use Rattle.plan_serve.specs.Ports.{ServesOnFiles};
 
 use crate::init::Place;
-use crate::keeping::{Ended, check_opened, init_at, replay_opened, serve_opened};
+use crate::keeping::{Ended, Report, init_at, report_opened, serve_opened};
 use crate::looking::{look, refusal};
 use plan_door::{ServeFault, Service, read_connection};
 use plan_psplib::{Sink, StdSource};
@@ -139,17 +140,17 @@ fn read_all(rt: &HostRuntime, paths: &[&str]) -> Result<Vec<Vec<u8>>, ServeFault
     Ok(conns)
 }
 
-// Serves connections by the office in the file of this name, and writes the responses.
-fn replay_at<F: Start, W: Sink>(
+// Writes a report of the office in the file of this name.
+fn report_at<F: Start, W: Sink>(
     rt: &HostRuntime,
     path: &str,
     start: F,
-    conns: &[Vec<u8>],
+    report: Report<'_>,
     writer: &mut W,
 ) -> Result<(), ServeFault>
-    ensures replays { OnOk result (ReplaysOnFiles F.Start ⟦<Kept<F> as Store>⟧ (length conns.now) (W.taken writer.old) (W.taken writer.new)) }
-    ensures ok { OnOk result (AreAnswered (length conns.now) (W.taken writer.old) (W.taken writer.new)) }
-    ensures part { IsErrOf result ServeFault.Output → AreAnsweredInPart (length conns.now) (W.taken writer.old) (W.taken writer.new) }
+    ensures reports { OnOk result (ReportsOnFiles F.Start ⟦<Kept<F> as Store>⟧ report.entry (W.taken writer.old) (W.taken writer.new)) }
+    ensures ok { OnOk result (IsReported report.entry (W.taken writer.old) (W.taken writer.new)) }
+    ensures part { IsErrOf result ServeFault.Output → IsReportedInPart report.entry (W.taken writer.old) (W.taken writer.new) }
     ensures writes { W.calls writer.new ≤ W.calls writer.old + most_calls }
     ensures quiet { IfErr result (λ e. (e ≡ ServeFault.Output) ⊎ (writer.new ≡ writer.old)) }
     ensures fine { OnOk result (W.faults writer.new ≡ W.faults writer.old) }
@@ -160,7 +161,7 @@ fn replay_at<F: Start, W: Sink>(
         return Err(fault);
     }
     let opened = SqlBook::open_from(rt, path, start);
-    let done = closed(replay_opened(rt.alloc(), opened, conns, writer));
+    let done = closed(report_opened(rt.alloc(), opened, report, writer));
     told_at(rt, path, done)
 }
 
@@ -209,7 +210,7 @@ pub fn replay_from<F: Start, W: Sink>(
         Ok(conns) => conns,
         Err(fault) => return Err(fault),
     };
-    replay_at(rt, path, start, &conns, writer)
+    report_at(rt, path, start, Report::Responses(&conns), writer)
 }
 
 /// `plan check-office`: tests every row of the office in the file of this name, and writes how many
@@ -249,12 +250,7 @@ pub fn check_office_from<F: Start, W: Sink>(
     ensures output { IsErrOf result ServeFault.Output →
         HasFailed (W.calls writer.old) (W.calls writer.new) (W.faults writer.old) (W.faults writer.new) }
 {
-    if let Err(fault) = look(rt, path) {
-        return Err(fault);
-    }
-    let opened = SqlBook::open_from(rt, path, start);
-    let done = closed(check_opened(rt.alloc(), opened, writer));
-    told_at(rt, path, done)
+    report_at(rt, path, start, Report::Rows, writer)
 }
 
 /// `plan serve`: serves so many connections on a port of this machine alone, by the office in a file.

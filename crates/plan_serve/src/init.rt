@@ -7,8 +7,7 @@ ghost use Rattle.plan_store.specs.declared.fault.StoreFault.TheVariants.{NoMemor
 ghost use Rattle.plan_serve.specs.InitRun.{IsTold, Inits};
 
 use crate::fault::told;
-use crate::key::read_key;
-use plan_door::ServeFault;
+use plan_door::{ServeFault, read_key};
 use plan_psplib::Source;
 use plan_store::{SqlBook, StoreFault, has_office_tables};
 use sqlite::{Alter, Connection};

@@ -3,26 +3,32 @@
 ghost use Rattle.std.specs.Prelude.{◌≡◌, ◌≢◌, ◌⊎◌, ◌+◌, ◌≤◌, length, map, vec_items, Ok, is_some, IfOk, IfErr, IfNone, IsSome, IsErrOf, OnOk, OnErr, MatchResult};
 ghost use Rattle.plan_psplib.specs.Devices.{most_calls, HasFailed};
 ghost use Rattle.plan_door.specs.Serve.{IsServeFault};
-ghost use Rattle.plan_serve.specs.Causes.{IsPortCause};
-ghost use Rattle.plan_serve.specs.CheckRun.{ChecksFrom, IsPrinted, IsPrintedInPart};
 ghost use Rattle.plan_serve.specs.InitRun.{HasMade, IsInitFault, MakesNone};
-ghost use Rattle.plan_door.specs.ReplayRun.{AreAnswered, AreAnsweredInPart, ReplaysFrom};
-ghost use Rattle.plan_serve.specs.Ports.{ServesFrom};
+ghost use Rattle.plan_serve.specs.Reports.{ReportsFrom, IsReported, IsReportedInPart, KeepsNone};
+ghost use Rattle.plan_door.specs.Ports.{ServesFrom};
 
 use crate::check_office::check_office_run;
 use crate::fault::told;
 use crate::init::{Place, init_run};
-use plan_desk::{Book, Office};
-use plan_door::{ServeFault, Service, replay_run, serve_listener};
+use plan_desk::Book;
+use plan_door::{ServeFault, Service, replay_book, serve_book};
 use plan_psplib::{Sink, Source};
+use plan_rows::Listing;
 use plan_store::{Leftover, SqlBook, StoreFault};
 use sqlite::{Alter, Connection};
 use std::alloc::Global;
-use std::io::ErrorKind;
-use std::net::{Ipv4Addr, TcpListener};
 
 /// The tables of an office that were opened, or why they weren't and what is left.
 type Opened<S> = Result<SqlBook<S>, (StoreFault, Option<Leftover<S>>)>;
+
+/// What is written of an office.
+#[derive(Drop)]
+pub(crate) enum Report<'a> {
+    /// How many rows it has in each table, and a digest of them.
+    Rows,
+    /// The responses to connections with these bytes.
+    Responses(&'a [Vec<u8>]),
+}
 
 /// The outcome of a command, and the connection that is open after it.
 pub(crate) type Ended<S> = (Result<(), ServeFault>, Option<Connection<S>>);
@@ -70,145 +76,57 @@ fn connection_of<S: Alter + Drop>(book: Option<SqlBook<S>>) -> Option<Connection
     }
 }
 
-// Serves connections by an office over a book, and writes the responses. The book comes back, unless
-// memory runs out before the first.
-#[tactic(auto, using(crate::proofs::ReplayFileLemmas::replays))]
-fn replay_over<B: Book + Drop, W: Sink>(
+// Writes a report of an office over a book. The book comes back, unless memory runs out before the
+// first response.
+#[tactic(auto, using(crate::proofs::CheckLemmas::checks, crate::proofs::CheckLemmas::printed, crate::proofs::CheckLemmas::printed_in_part))]
+fn report_over<B: Listing + Drop, W: Sink>(
     alloc: Global,
-    book: B,
-    conns: &[Vec<u8>],
+    mut book: B,
+    report: Report<'_>,
     writer: &mut W,
 ) -> (Result<(), ServeFault>, Option<B>)
-    ensures replays { OnOk result.0 (ReplaysFrom B.shelf book (map vec_items conns.now) (W.taken writer.old) (W.taken writer.new)) }
-    ensures ok { OnOk result.0 (AreAnswered (length conns.now) (W.taken writer.old) (W.taken writer.new)) }
-    ensures part { IsErrOf result.0 ServeFault.Output → AreAnsweredInPart (length conns.now) (W.taken writer.old) (W.taken writer.new) }
+    ensures reports { OnOk result.0 (ReportsFrom B.shelf book report.entry (W.taken writer.old) (W.taken writer.new)) }
+    ensures ok { OnOk result.0 (IsReported report.entry (W.taken writer.old) (W.taken writer.new)) }
+    ensures part { IsErrOf result.0 ServeFault.Output → IsReportedInPart report.entry (W.taken writer.old) (W.taken writer.new) }
     ensures writes { W.calls writer.new ≤ W.calls writer.old + most_calls }
     ensures quiet { IfErr result.0 (λ e. (e ≡ ServeFault.Output) ⊎ (writer.new ≡ writer.old)) }
     ensures fine { OnOk result.0 (W.faults writer.new ≡ W.faults writer.old) }
     ensures output { IsErrOf result.0 ServeFault.Output →
         HasFailed (W.calls writer.old) (W.calls writer.new) (W.faults writer.old) (W.faults writer.new) }
-    ensures back { IfNone result.1 (IsErrOf result.0 ServeFault.Memory) }
+    ensures back { IfNone result.1 (KeepsNone report.entry result.0) }
 {
-    let mut office = match Office::new(alloc, book) {
-        Ok(office) => office,
-        Err(_) => return (Err(ServeFault::Memory), None),
-    };
-    let done = replay_run(alloc, &mut office, conns, writer);
-    (done, Some(office.into_book()))
+    match report {
+        Report::Rows => {
+            let done = check_office_run(alloc, &mut book, writer);
+            (done, Some(book))
+        }
+        Report::Responses(conns) => replay_book(alloc, book, conns, writer),
+    }
 }
 
-/// Serves connections by the office that was opened, and writes the responses.
-pub(crate) fn replay_opened<S: Alter + Drop, W: Sink>(
+/// Writes a report of the office that was opened.
+pub(crate) fn report_opened<S: Alter + Drop, W: Sink>(
     alloc: Global,
     opened: Opened<S>,
-    conns: &[Vec<u8>],
+    report: Report<'_>,
     writer: &mut W,
 ) -> Ended<S>
-    ensures replays { OnOk result.0 (MatchResult opened (λ book. ReplaysFrom ⟦<SqlBook<S> as Book>⟧.shelf book (map vec_items conns.now) (W.taken writer.old) (W.taken writer.new)) (λ _. ⊥)) }
-    ensures ok { OnOk result.0 (AreAnswered (length conns.now) (W.taken writer.old) (W.taken writer.new)) }
-    ensures part { IsErrOf result.0 ServeFault.Output → AreAnsweredInPart (length conns.now) (W.taken writer.old) (W.taken writer.new) }
+    ensures reports { OnOk result.0 (MatchResult opened (λ book. ReportsFrom ⟦<SqlBook<S> as Book>⟧.shelf book report.entry (W.taken writer.old) (W.taken writer.new)) (λ _. ⊥)) }
+    ensures ok { OnOk result.0 (IsReported report.entry (W.taken writer.old) (W.taken writer.new)) }
+    ensures part { IsErrOf result.0 ServeFault.Output → IsReportedInPart report.entry (W.taken writer.old) (W.taken writer.new) }
     ensures writes { W.calls writer.new ≤ W.calls writer.old + most_calls }
     ensures quiet { IfErr result.0 (λ e. (e ≡ ServeFault.Output) ⊎ (writer.new ≡ writer.old)) }
     ensures fine { OnOk result.0 (W.faults writer.new ≡ W.faults writer.old) }
     ensures output { IsErrOf result.0 ServeFault.Output →
         HasFailed (W.calls writer.old) (W.calls writer.new) (W.faults writer.old) (W.faults writer.new) }
-    ensures back { IfOk opened (λ _. IfNone result.1 (IsErrOf result.0 ServeFault.Memory)) }
+    ensures back { IfOk opened (λ _. IfNone result.1 (KeepsNone report.entry result.0)) }
 {
     let book = match book_of(opened) {
         Ok(book) => book,
         Err(fault) => return (Err(fault), None),
     };
-    let (done, book) = replay_over(alloc, book, conns, writer);
+    let (done, book) = report_over(alloc, book, report, writer);
     (done, connection_of(book))
-}
-
-/// Writes how many rows the office has that was opened, and a digest of them.
-#[tactic(auto, using(crate::proofs::CheckLemmas::printed, crate::proofs::CheckLemmas::printed_in_part))]
-pub(crate) fn check_opened<S: Alter + Drop, W: Sink>(
-    alloc: Global,
-    opened: Opened<S>,
-    writer: &mut W,
-) -> Ended<S>
-    ensures ok { OnOk result.0 (MatchResult opened (λ book. ChecksFrom ⟦<SqlBook<S> as Book>⟧.shelf book (W.taken writer.old) (W.taken writer.new)) (λ _. ⊥)) }
-    ensures printed { OnOk result.0 (IsPrinted (W.taken writer.old) (W.taken writer.new)) }
-    ensures part { IsErrOf result.0 ServeFault.Output → IsPrintedInPart (W.taken writer.old) (W.taken writer.new) }
-    ensures writes { W.calls writer.new ≤ W.calls writer.old + most_calls }
-    ensures silent { IfErr result.0 (λ e. (e ≡ ServeFault.Output) ⊎ (writer.new ≡ writer.old)) }
-    ensures fine { OnOk result.0 (W.faults writer.new ≡ W.faults writer.old) }
-    ensures output { IsErrOf result.0 ServeFault.Output →
-        HasFailed (W.calls writer.old) (W.calls writer.new) (W.faults writer.old) (W.faults writer.new) }
-    ensures back { IfOk opened (λ _. IsSome result.1) }
-{
-    let mut book = match book_of(opened) {
-        Ok(book) => book,
-        Err(fault) => return (Err(fault), None),
-    };
-    let done = check_office_run(alloc, &mut book, writer);
-    (done, Some(book.into_connection()))
-}
-
-// Why nothing can listen on a port, by what the system tells.
-fn port_fault(kind: ErrorKind) -> ServeFault
-    ensures { IsPortCause kind result }
-{
-    if kind == ErrorKind::AddrInUse {
-        return ServeFault::PortTaken;
-    }
-    if kind == ErrorKind::PermissionDenied {
-        return ServeFault::PortDenied;
-    }
-    if kind == ErrorKind::OutOfMemory {
-        return ServeFault::Memory;
-    }
-    ServeFault::Socket
-}
-
-// Tells that an office is served, if that is asked for.
-fn announce(rt: &HostRuntime, service: &Service<'_>) {
-    if service.is_logged {
-        let (database, port) = (service.database, service.port);
-        let _ = eprintln!(rt; "serving {database} on 127.0.0.1:{port}");
-    }
-}
-
-// Serves connections on a port of this machine alone, by an office.
-#[tactic(auto, using(crate::proofs::CauseLemmas::port_serves))]
-fn serve_by<B: Book>(
-    rt: &HostRuntime,
-    office: &mut Office<B>,
-    service: &Service<'_>,
-) -> Result<(), ServeFault>
-    ensures ok { OnOk result (ServesFrom B.shelf office.old service.now.count) }
-    ensures which { IfErr result IsServeFault }
-{
-    match TcpListener::bind(rt, (Ipv4Addr::LOCALHOST, service.port)) {
-        Ok(listener) => {
-            announce(rt, service);
-            match serve_listener(rt, office, &listener, service) {
-                Ok(()) => Ok(()),
-                Err(fault) => Err(fault),
-            }
-        }
-        Err(error) => Err(port_fault(error.kind())),
-    }
-}
-
-// The same by an office over a book, which comes back, unless memory runs out before the port is bound.
-fn serve_over<B: Book + Drop>(
-    rt: &HostRuntime,
-    book: B,
-    service: &Service<'_>,
-) -> (Result<(), ServeFault>, Option<B>)
-    ensures ok { OnOk result.0 (ServesFrom B.shelf book service.now.count) }
-    ensures which { IfErr result.0 IsServeFault }
-    ensures back { IfNone result.1 (IsErrOf result.0 ServeFault.Memory) }
-{
-    let mut office = match Office::new(rt.alloc(), book) {
-        Ok(office) => office,
-        Err(_) => return (Err(ServeFault::Memory), None),
-    };
-    let done = serve_by(rt, &mut office, service);
-    (done, Some(office.into_book()))
 }
 
 /// Serves connections on a port of this machine alone, by the office that was opened.
@@ -225,6 +143,6 @@ pub(crate) fn serve_opened<S: Alter + Drop>(
         Ok(book) => book,
         Err(fault) => return (Err(fault), None),
     };
-    let (done, book) = serve_over(rt, book, service);
+    let (done, book) = serve_book(rt, book, service);
     (done, connection_of(book))
 }

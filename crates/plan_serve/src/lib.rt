@@ -7,10 +7,7 @@ mod fault;
 mod files;
 mod init;
 mod keeping;
-mod key;
-mod lines;
 mod looking;
-mod summary;
 
 pub use check_office::check_office_run;
 pub use files::{
@@ -18,9 +15,8 @@ pub use files::{
     serve_from, serve_on_port,
 };
 pub use init::{Place, init_run};
-pub use key::read_key;
 pub use plan_door::{
-    ServeFault, Service, Side, Visitors, read_connection, replay_run, serve_listener,
+    ServeFault, Service, Side, Visitors, read_connection, read_key, replay_run, serve_listener,
     serve_visitors,
 };
-pub use summary::Summary;
+pub use plan_summary::Summary;

@@ -1,13 +1,10 @@
-//! What of the service only a crate can show: devices that fail, tables that are handed over, and requests
-//! whose allocations are refused.
+//! What of the service only a crate can show: devices that fail, and requests whose allocations are refused.
 #![tactic(auto)]
 
 #[cfg(test)]
 mod devices;
 #[cfg(test)]
 mod losses;
-#[cfg(test)]
-mod numbers;
 #[cfg(test)]
 mod office;
 #[cfg(test)]

@@ -22,13 +22,14 @@ use Rattle.plan_rows.specs.World.{Desk, Plan, Bind, Lag}
 use Rattle.plan_rows.specs.Plans.{in_order}
 use Rattle.plan_rows.specs.Tables.{desk_kept, bind_kept, lag_kept}
 use Rattle.plan_rows.proofs.OrderedLemmas.{map-in_order}
-use Rattle.plan_store.specs.declared.listing.PlanKey.{PlanKey}
+use Rattle.plan_rows.specs.declared.listing.PlanKey.{PlanKey}
 use Rattle.plan_store.specs.Kept.{row_at, Keeps}
 use Rattle.plan_store.specs.Rows.{digest_in, digest_value, number_value, written_desk, read_desk, written_plan, read_plan, written_bind, read_bind, written_lag, read_lag}
 use Rattle.plan_store.specs.Stores.{world_of, HoldRows}
 use Rattle.plan_store.specs.Serving.{Stands}
 use Rattle.plan_store.specs.Shown.{ListsShown}
-use Rattle.plan_store.specs.Listing.{desk_before, plan_key_before, bind_key_before, lag_key_before, key_of, key_in, ShowsDeskRecord, ShowsPlanKey, ShowsBindRecord, ShowsLagRecord}
+use Rattle.plan_rows.specs.Listing.{desk_before, plan_key_before, bind_key_before, lag_key_before, key_of, key_in}
+use Rattle.plan_store.specs.Listing.{ShowsDeskRecord, ShowsPlanKey, ShowsBindRecord, ShowsLagRecord}
 use Rattle.plan_store.proofs.QueryForms.{by}
 use Rattle.plan_store.proofs.KeepLemmas.{reads_entries}
 use Rattle.plan_store.proofs.QueryLemmas.{rows_sorted}

@@ -34,7 +34,7 @@ use Rattle.plan_rows.specs.Names.{kind_text, plan_kind_text}
 use Rattle.plan_rows.specs.Plans.{code_before, plan_before}
 use Rattle.plan_rows.specs.World.{Digest, Published, Desk, Plan, Bind, Lag, World, same_text, is_code, is_desk, is_plan_of, is_plan, is_bind_by, is_bind_of, is_bind, is_lag_by, is_lag_of, is_lag, code_in, desk_in, plan_in}
 use Rattle.plan_rows.specs.Views.{view}
-use Rattle.plan_rows.specs.Plans.{in_order, bind_before, lag_before, place_of, arc_of, places_of, lags_of, has_number}
+use Rattle.plan_rows.specs.Plans.{in_order, bind_before, lag_before, place_of, arc_of, places_of, lags_of}
 use Rattle.plan_rows.specs.Books.{Matches, IsPlanAnswer, IsDeskAnswer, IsCapacityAnswer, ListsCodes, ListsPlans, published_in, entry_in, entry_of, bind_in, lag_in}
 use Rattle.plan_store.specs.declared.shown.PlanPart.{PlanPart}
 use Rattle.plan_store.specs.Kept.{row_at, Keeps}
@@ -373,13 +373,3 @@ no_plan w desk n = go (plan_in w desk n)
     go : (o : Option Plan) → Matches IsPlanPart o None → Matches (IsPlanAnswer (view desk w)) o None
     go None h = tt
     go (Some row) h = absurd h
-
--- a plan is found among those of its desk
-pub found_in_view : (w : World) (desk : List ℕ) (n : ℕ) → plan_in w desk n ≡ find (has_number n) (view desk w).plans
-found_in_view w desk n = go w.plans
-  where
-    go : (xs : List Plan) → find (is_plan desk n) xs ≡ find (has_number n) (filter (is_plan_of desk) xs)
-    go [] = refl
-    go (x ∷ xs) =
-        elim (is_plan_of desk x) as (λ b. cond (b && (x.n == n)) (Some x) (find (is_plan desk n) xs) ≡ find (has_number n) (cond b (x ∷ filter (is_plan_of desk) xs) (filter (is_plan_of desk) xs)))
-        [ true ↦ ap (λ o. cond (x.n == n) (Some x) o) (go xs) | false ↦ go xs ]

@@ -27,6 +27,6 @@ mod writing;
 
 pub use fault::StoreFault;
 pub use leftover::Leftover;
-pub use listing::{Listing, PlanKey, RowsByKey};
 pub use offices::has_office_tables;
+pub use plan_rows::{Listing, PlanKey, RowsByKey};
 pub use sql_book::SqlBook;

@@ -2,45 +2,19 @@
 
 ghost use Rattle.std.specs.Prelude.{◌≡◌, map};
 ghost use Rattle.sqlite.specs.Held.{state};
-ghost use Rattle.plan_rows.specs.Books.{Reads};
 ghost use Rattle.plan_rows.specs.Plans.{in_order};
 ghost use Rattle.plan_rows.specs.Tables.{desk_kept, bind_kept, lag_kept};
 ghost use Rattle.plan_store.specs.Stores.{world_of};
 ghost use Rattle.plan_store.specs.Serving.{IsReady, Asks};
-ghost use Rattle.plan_store.specs.Listing.{AreRowsByKey, AreDeskTables, ArePlanTables, desk_before, plan_key_before, bind_key_before, lag_key_before, key_of, key_in};
+ghost use Rattle.plan_rows.specs.Listing.{AreRowsByKey, AreDeskTables, ArePlanTables, desk_before, plan_key_before, bind_key_before, lag_key_before, key_of, key_in};
 ghost use Rattle.plan_store.specs.Listing.{ShowsDeskRecord, ShowsPlanKey, ShowsBindRecord, ShowsLagRecord};
 
 use crate::cells::{digest_at, number_at, small_at, text_at};
 use crate::reading::{codes_in, list_in, office_in};
 use crate::shown::FromShown;
-use plan_rows::{BindRecord, Book, BookFault, CodeRow, DeskRecord, LagRecord};
+use plan_rows::{BindRecord, BookFault, CodeRow, DeskRecord, LagRecord, PlanKey, RowsByKey};
 use sqlite::{Alter, Connection, Row};
 use std::alloc::Global;
-
-/// The desk and the number of a plan.
-#[derive(Debug, Drop)]
-pub struct PlanKey {
-    pub desk: String,
-    pub n: u64,
-}
-
-/// All rows of an office, each table's by its keys; of plans the keys alone.
-#[derive(Debug, Drop)]
-pub struct RowsByKey {
-    pub office: [u8; 32],
-    pub published: Vec<CodeRow>,
-    pub desks: Vec<DeskRecord>,
-    pub plans: Vec<PlanKey>,
-    pub binds: Vec<BindRecord>,
-    pub lags: Vec<LagRecord>,
-}
-
-/// A book that lists its rows.
-pub trait Listing: Book {
-    /// All rows by their keys.
-    fn list(&mut self) -> Result<RowsByKey, BookFault>
-        ensures { Reads Self.shelf self.old self.new result (AreRowsByKey (Self.shelf.world self.old)) };
-}
 
 impl FromShown for DeskRecord {
     ghost shows = { ShowsDeskRecord };

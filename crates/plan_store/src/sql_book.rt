@@ -17,7 +17,7 @@ use crate::adopting::take_tables;
 use crate::creating::{is_empty, make_tables};
 use crate::fault::StoreFault;
 use crate::leftover::Leftover;
-use crate::listing::{Listing, RowsByKey, rows_in};
+use crate::listing::rows_in;
 use crate::next_plan::{NextPlan, next_told, number_kept};
 use crate::reading::{
     capacity_found, codes_in, desk_found, office_in, plan_found, plans_counted, plans_in,
@@ -27,7 +27,10 @@ use crate::writing::{
     add_plan_in, bind_place, open_desk_in, publish_in, remove_plan_in, set_calendar_in, set_key_in,
     set_lag_in,
 };
-use plan_rows::{Book, BookFault, Calls, CodeRow, DeskRow, Kind, PlanEntry, PlanKind, PlanRow};
+use plan_rows::{
+    Book, BookFault, Calls, CodeRow, DeskRow, Kind, Listing, PlanEntry, PlanKind, PlanRow,
+    RowsByKey,
+};
 use sqlite::{Alter, Connection, MemStore};
 use std::alloc::Global;
 use std::marker::Model;

@@ -8,7 +8,8 @@ use Rattle.plan_rows.specs.World.{plan_in}
 use Rattle.plan_store.specs.Stores.{world_of}
 use Rattle.plan_store.specs.Shown.{IsPlanPart}
 use Rattle.plan_store.proofs.AskingLemmas.{asks_then, asks_again, asks_map}
-use Rattle.plan_store.proofs.ReadLemmas.{whole_plan, no_plan, found_in_view}
+use Rattle.plan_rows.proofs.ReadLemmas.{found_in_view}
+use Rattle.plan_store.proofs.ReadLemmas.{whole_plan, no_plan}
 use Rattle.plan_store.proofs.reading.plan_found.Goals as goal
 
 pub returns : goal.returns

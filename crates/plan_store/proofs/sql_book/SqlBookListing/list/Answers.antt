@@ -1,6 +1,6 @@
 use Rattle.std.proofs.Common.{refl, subst}
 use Rattle.plan_rows.specs.Books.{Reads}
-use Rattle.plan_store.specs.Listing.{AreRowsByKey}
+use Rattle.plan_rows.specs.Listing.{AreRowsByKey}
 use Rattle.plan_store.specs.SqlBooks.{Counted, sql_shelf}
 use Rattle.plan_store.proofs.BookLemmas.{reads_from}
 use Rattle.plan_store.proofs.sql_book.SqlBookListing.list.Goals as goal

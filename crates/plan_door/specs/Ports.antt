@@ -1,0 +1,23 @@
+-- Serving on a port (docs/DEFINITIONS.md, "Runs").
+use Rattle.std.specs.Prelude.{◌≡◌, ◌≢◌, ℕ, List, length}
+use Rattle.std_io.specs.declared.io.kind.ErrorKind.{ErrorKind}
+use Rattle.std_io.specs.declared.io.kind.ErrorKind.TheVariants as kind
+use Rattle.plan_rows.specs.Books.{Shelf}
+use Rattle.plan_door.specs.declared.fault.ServeFault.{ServeFault}
+use Rattle.plan_door.specs.declared.fault.ServeFault.TheVariants as fault
+use Rattle.plan_door.specs.Turns.{Turn, Runs}
+
+-- why nothing listens on a port: another program does, it may not be, there is no memory, or for
+-- another cause
+abbrev pub IsPortCause : ErrorKind → ServeFault → Type 0
+IsPortCause k fault.PortTaken = k ≡ kind.AddrInUse
+IsPortCause k fault.PortDenied = k ≡ kind.PermissionDenied
+IsPortCause k fault.Memory = k ≡ kind.OutOfMemory
+IsPortCause k fault.Socket =
+    (k ≢ kind.AddrInUse) × (k ≢ kind.PermissionDenied) × (k ≢ kind.OutOfMemory)
+IsPortCause k e = ⊥
+
+-- so many turns were served, one after another, by an office over this book
+abbrev pub ServesFrom : {B : Type 0} → Shelf B → B → ℕ → Type 0
+ServesFrom {B} shelf book count =
+    (after : B) × (turns : List Turn) × (length turns ≡ count) × Runs shelf book after turns

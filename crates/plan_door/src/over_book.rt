@@ -1,0 +1,109 @@
+//! Connections that are served by an office over a book, which comes back.
+
+ghost use Rattle.std.specs.Prelude.{◌≡◌, ◌⊎◌, ◌+◌, ◌≤◌, length, map, vec_items, IfErr, IfNone, IsErrOf, OnOk};
+ghost use Rattle.plan_psplib.specs.Devices.{most_calls, HasFailed};
+ghost use Rattle.plan_door.specs.Serve.{IsServeFault};
+ghost use Rattle.plan_door.specs.Ports.{IsPortCause, ServesFrom};
+ghost use Rattle.plan_door.specs.ReplayRun.{AreAnswered, AreAnsweredInPart, ReplaysFrom};
+
+use crate::fault::ServeFault;
+use crate::replay::replay_run;
+use crate::service::Service;
+use crate::socket::serve_listener;
+use plan_desk::{Book, Office};
+use plan_psplib::Sink;
+use std::alloc::Global;
+use std::io::ErrorKind;
+use std::net::{Ipv4Addr, TcpListener};
+
+/// Serves connections by an office over a book, and writes the responses. The book comes back, unless
+/// memory runs out before the first.
+#[tactic(auto, using(crate::proofs::BookLemmas::replays))]
+pub fn replay_book<B: Book + Drop, W: Sink>(
+    alloc: Global,
+    book: B,
+    conns: &[Vec<u8>],
+    writer: &mut W,
+) -> (Result<(), ServeFault>, Option<B>)
+    ensures replays { OnOk result.0 (ReplaysFrom B.shelf book (map vec_items conns.now) (W.taken writer.old) (W.taken writer.new)) }
+    ensures ok { OnOk result.0 (AreAnswered (length conns.now) (W.taken writer.old) (W.taken writer.new)) }
+    ensures part { IsErrOf result.0 ServeFault.Output → AreAnsweredInPart (length conns.now) (W.taken writer.old) (W.taken writer.new) }
+    ensures writes { W.calls writer.new ≤ W.calls writer.old + most_calls }
+    ensures quiet { IfErr result.0 (λ e. (e ≡ ServeFault.Output) ⊎ (writer.new ≡ writer.old)) }
+    ensures fine { OnOk result.0 (W.faults writer.new ≡ W.faults writer.old) }
+    ensures output { IsErrOf result.0 ServeFault.Output →
+        HasFailed (W.calls writer.old) (W.calls writer.new) (W.faults writer.old) (W.faults writer.new) }
+    ensures back { IfNone result.1 (IsErrOf result.0 ServeFault.Memory) }
+{
+    let mut office = match Office::new(alloc, book) {
+        Ok(office) => office,
+        Err(_) => return (Err(ServeFault::Memory), None),
+    };
+    let done = replay_run(alloc, &mut office, conns, writer);
+    (done, Some(office.into_book()))
+}
+
+// Why nothing can listen on a port, by what the system tells.
+fn port_fault(kind: ErrorKind) -> ServeFault
+    ensures { IsPortCause kind result }
+{
+    if kind == ErrorKind::AddrInUse {
+        return ServeFault::PortTaken;
+    }
+    if kind == ErrorKind::PermissionDenied {
+        return ServeFault::PortDenied;
+    }
+    if kind == ErrorKind::OutOfMemory {
+        return ServeFault::Memory;
+    }
+    ServeFault::Socket
+}
+
+// Tells that an office is served, if that is asked for.
+fn announce(rt: &HostRuntime, service: &Service<'_>) {
+    if service.is_logged {
+        let (database, port) = (service.database, service.port);
+        let _ = eprintln!(rt; "serving {database} on 127.0.0.1:{port}");
+    }
+}
+
+// Serves connections on a port of this machine alone, by an office.
+#[tactic(auto, using(crate::proofs::BookLemmas::port_serves))]
+fn serve_by<B: Book>(
+    rt: &HostRuntime,
+    office: &mut Office<B>,
+    service: &Service<'_>,
+) -> Result<(), ServeFault>
+    ensures ok { OnOk result (ServesFrom B.shelf office.old service.now.count) }
+    ensures which { IfErr result IsServeFault }
+{
+    match TcpListener::bind(rt, (Ipv4Addr::LOCALHOST, service.port)) {
+        Ok(listener) => {
+            announce(rt, service);
+            match serve_listener(rt, office, &listener, service) {
+                Ok(()) => Ok(()),
+                Err(fault) => Err(fault),
+            }
+        }
+        Err(error) => Err(port_fault(error.kind())),
+    }
+}
+
+/// Serves connections on a port of this machine alone, by an office over a book. The book comes back,
+/// unless memory runs out before the port is bound.
+pub fn serve_book<B: Book + Drop>(
+    rt: &HostRuntime,
+    book: B,
+    service: &Service<'_>,
+) -> (Result<(), ServeFault>, Option<B>)
+    ensures ok { OnOk result.0 (ServesFrom B.shelf book service.now.count) }
+    ensures which { IfErr result.0 IsServeFault }
+    ensures back { IfNone result.1 (IsErrOf result.0 ServeFault.Memory) }
+{
+    let mut office = match Office::new(rt.alloc(), book) {
+        Ok(office) => office,
+        Err(_) => return (Err(ServeFault::Memory), None),
+    };
+    let done = serve_by(rt, &mut office, service);
+    (done, Some(office.into_book()))
+}

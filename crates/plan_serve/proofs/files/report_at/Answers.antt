@@ -1,0 +1,30 @@
+use Rattle.sqlite.specs.Files.{over_files}
+use Rattle.plan_serve.proofs.CauseLemmas.{told_ok, told_quiet, told_output}
+use Rattle.plan_serve.proofs.ReportLemmas.{reports_on_files}
+use Rattle.plan_serve.proofs.files.report_at.Goals as goal
+
+pub returns-clause-reports : goal.returns-clause-reports
+returns-clause-reports g c =
+    told_ok c.report_opened.result.0 c.closed-done.result c.told_at.result c.closed-done.ensures c.told_at.ensures _
+    (reports_on_files g.F.Start over_files (g.W.Sink.taken c.args.writer.now) (g.W.Sink.taken c.report_opened.new.writer) c.args.report c.open_from-opened.result c.report_opened.result.0
+    c.open_from-opened.ensures.found c.report_opened.ensures.reports)
+
+pub returns-clause-ok : goal.returns-clause-ok
+returns-clause-ok g c =
+    told_ok c.report_opened.result.0 c.closed-done.result c.told_at.result c.closed-done.ensures c.told_at.ensures _ c.report_opened.ensures.ok
+
+pub returns-clause-part : goal.returns-clause-part
+returns-clause-part g c h =
+    c.report_opened.ensures.part (told_output c.report_opened.result.0 c.closed-done.result c.told_at.result c.closed-done.ensures c.told_at.ensures h)
+
+pub returns-clause-quiet : goal.returns-clause-quiet
+returns-clause-quiet g c =
+    told_quiet c.report_opened.result.0 c.closed-done.result c.told_at.result c.closed-done.ensures c.told_at.ensures _ c.report_opened.ensures.quiet
+
+pub returns-clause-fine : goal.returns-clause-fine
+returns-clause-fine g c =
+    told_ok c.report_opened.result.0 c.closed-done.result c.told_at.result c.closed-done.ensures c.told_at.ensures _ c.report_opened.ensures.fine
+
+pub returns-clause-output : goal.returns-clause-output
+returns-clause-output g c h =
+    c.report_opened.ensures.output (told_output c.report_opened.result.0 c.closed-done.result c.told_at.result c.closed-done.ensures c.told_at.ensures h)

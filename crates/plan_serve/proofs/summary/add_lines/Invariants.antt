@@ -1,8 +1,0 @@
-use Rattle.std.proofs.Common.{take}
-use Rattle.std.specs.List.{flat_map}
-use Rattle.plan_serve.specs.CheckRun.{Takes}
-use Rattle.plan_serve.proofs.summary.add_lines.Given as goal
-
--- the lines of the rows so far
-abbrev pub invariant-all : goal.invariant-all
-invariant-all g l = Takes l.fn.hasher l.hasher (flat_map g.T.Line.written (take l.row-index l.fn.rows))

@@ -1,9 +1,0 @@
-use Rattle.std.specs.Prelude.{take, Ok}
-use Rattle.plan_serve.specs.CheckRun.{Takes, Looks}
-use Rattle.plan_serve.specs.Summing.{lines_at}
-use Rattle.plan_serve.proofs.summary.add_plans.Given as goal
-
--- the lines of the plans so far
-abbrev pub invariant-all : goal.invariant-all
-invariant-all g l =
-    Looks g.B.Book.shelf l.fn.book l.book (λ w. λ (_ : Unit {0}). Takes l.fn.hasher l.hasher (lines_at w (take l.key-index l.fn.keys))) (Ok tt)

@@ -1,0 +1,40 @@
+-- What is written of an office (docs/DEFINITIONS.md, "Runs").
+use Rattle.std.specs.Prelude.{Option, Result, length, map, vec_items, IsErrOf}
+use Rattle.sqlite_disk.specs.declared.start.Start as start
+use Rattle.sqlite_trees.specs.declared.store.Store.{Ghosts}
+use Rattle.plan_rows.specs.World.{Text}
+use Rattle.plan_rows.specs.Books.{Shelf}
+use Rattle.plan_door.specs.declared.fault.ServeFault.{ServeFault}
+use Rattle.plan_door.specs.declared.fault.ServeFault.TheVariants as fault
+use Rattle.plan_door.specs.ReplayRun.{ReplaysFrom, AreAnswered, AreAnsweredInPart}
+use Rattle.plan_serve.specs.declared.keeping.Report.{Report}
+use Rattle.plan_serve.specs.declared.keeping.Report.TheVariants as report
+use Rattle.plan_serve.specs.CheckRun.{ChecksFrom, ChecksOnFiles, IsPrinted, IsPrintedInPart}
+use Rattle.plan_serve.specs.ReplayFiles.{ReplaysOnFiles}
+
+-- the report of an office over this book was written whole
+abbrev pub ReportsFrom : {B : Type 0} → Shelf B → B → Report → Option Text → Option Text → Type 0
+ReportsFrom shelf book report.Rows taken after = ChecksFrom shelf book taken after
+ReportsFrom shelf book (report.Responses conns) taken after =
+    ReplaysFrom shelf book (map vec_items conns.now) taken after
+
+-- that of an office over tables that files held
+abbrev pub ReportsOnFiles : {F S : Type 0} → start.Ghosts F → Ghosts S → Report → Option Text → Option Text → Type 0
+ReportsOnFiles first g report.Rows taken after = ChecksOnFiles first g taken after
+ReportsOnFiles first g (report.Responses conns) taken after =
+    ReplaysOnFiles first g (length conns.now) taken after
+
+-- that of some office
+abbrev pub IsReported : Report → Option Text → Option Text → Type 0
+IsReported report.Rows taken after = IsPrinted taken after
+IsReported (report.Responses conns) taken after = AreAnswered (length conns.now) taken after
+
+-- a part of it
+abbrev pub IsReportedInPart : Report → Option Text → Option Text → Type 0
+IsReportedInPart report.Rows taken after = IsPrintedInPart taken after
+IsReportedInPart (report.Responses conns) taken after = AreAnsweredInPart (length conns.now) taken after
+
+-- after which outcome no book may come back: for want of memory before the first response
+abbrev pub KeepsNone : Report → Result (Unit {0}) ServeFault → Type 0
+KeepsNone report.Rows done = ⊥
+KeepsNone (report.Responses conns) done = IsErrOf done fault.Memory
