@@ -17,6 +17,14 @@ IsPortCause k fault.Socket =
     (k ≢ kind.AddrInUse) × (k ≢ kind.PermissionDenied) × (k ≢ kind.OutOfMemory)
 IsPortCause k e = ⊥
 
+-- why an office isn't served on a port
+abbrev pub IsPortFault : ServeFault → Type 0
+IsPortFault fault.Memory = Unit {0}
+IsPortFault fault.PortTaken = Unit {0}
+IsPortFault fault.PortDenied = Unit {0}
+IsPortFault fault.Socket = Unit {0}
+IsPortFault e = ⊥
+
 -- so many turns were served, one after another, by an office over this book
 abbrev pub ServesFrom : {B : Type 0} → Shelf B → B → ℕ → Type 0
 ServesFrom {B} shelf book count =

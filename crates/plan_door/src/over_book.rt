@@ -2,8 +2,7 @@
 
 ghost use Rattle.std.specs.Prelude.{◌≡◌, ◌⊎◌, ◌+◌, ◌≤◌, length, map, vec_items, IfErr, IfNone, IsErrOf, OnOk};
 ghost use Rattle.plan_psplib.specs.Devices.{most_calls, HasFailed};
-ghost use Rattle.plan_door.specs.Serve.{IsServeFault};
-ghost use Rattle.plan_door.specs.Ports.{IsPortCause, ServesFrom};
+ghost use Rattle.plan_door.specs.Ports.{IsPortCause, IsPortFault, ServesFrom};
 ghost use Rattle.plan_door.specs.ReplayRun.{AreAnswered, AreAnsweredInPart, ReplaysFrom};
 
 use crate::fault::ServeFault;
@@ -18,7 +17,7 @@ use std::net::{Ipv4Addr, TcpListener};
 
 /// Serves connections by an office over a book, and writes the responses. The book comes back, unless
 /// memory runs out before the first.
-#[tactic(auto, using(crate::proofs::BookLemmas::replays))]
+#[tactic(auto, using(crate::proofs::BookLemmas::replays, crate::proofs::BookLemmas::replays_not))]
 pub fn replay_book<B: Book + Drop, W: Sink>(
     alloc: Global,
     book: B,
@@ -33,6 +32,7 @@ pub fn replay_book<B: Book + Drop, W: Sink>(
     ensures fine { OnOk result.0 (W.faults writer.new ≡ W.faults writer.old) }
     ensures output { IsErrOf result.0 ServeFault.Output →
         HasFailed (W.calls writer.old) (W.calls writer.new) (W.faults writer.old) (W.faults writer.new) }
+    ensures which { IfErr result.0 (λ e. (e ≡ ServeFault.Memory) ⊎ (e ≡ ServeFault.Output)) }
     ensures back { IfNone result.1 (IsErrOf result.0 ServeFault.Memory) }
 {
     let mut office = match Office::new(alloc, book) {
@@ -68,14 +68,14 @@ fn announce(rt: &HostRuntime, service: &Service<'_>) {
 }
 
 // Serves connections on a port of this machine alone, by an office.
-#[tactic(auto, using(crate::proofs::BookLemmas::port_serves))]
+#[tactic(auto, using(crate::proofs::BookLemmas::port_faults))]
 fn serve_by<B: Book>(
     rt: &HostRuntime,
     office: &mut Office<B>,
     service: &Service<'_>,
 ) -> Result<(), ServeFault>
     ensures ok { OnOk result (ServesFrom B.shelf office.old service.now.count) }
-    ensures which { IfErr result IsServeFault }
+    ensures which { IfErr result IsPortFault }
 {
     match TcpListener::bind(rt, (Ipv4Addr::LOCALHOST, service.port)) {
         Ok(listener) => {
@@ -97,7 +97,7 @@ pub fn serve_book<B: Book + Drop>(
     service: &Service<'_>,
 ) -> (Result<(), ServeFault>, Option<B>)
     ensures ok { OnOk result.0 (ServesFrom B.shelf book service.now.count) }
-    ensures which { IfErr result.0 IsServeFault }
+    ensures which { IfErr result.0 IsPortFault }
     ensures back { IfNone result.1 (IsErrOf result.0 ServeFault.Memory) }
 {
     let mut office = match Office::new(rt.alloc(), book) {

@@ -1,12 +1,13 @@
 -- What was written of a summary.
 use Rattle.std.proofs.Common.{◌≡◌, ◌⊎◌, inl, inr, Option, Result, Ok, Err, sym, subst}
-use Rattle.std.specs.Prelude.{OnOk, IsErrOf}
+use Rattle.std.specs.Prelude.{IfErr, OnOk, IsErrOf}
 use Rattle.plan_rows.specs.World.{Text}
 use Rattle.plan_rows.specs.Books.{Shelf}
 use Rattle.plan_desk.specs.Deciding.{Quiet}
 use Rattle.plan_door.specs.declared.fault.ServeFault.{ServeFault}
 use Rattle.plan_door.specs.declared.fault.ServeFault.TheVariants as fault
 use Rattle.plan_serve.specs.CheckRun.{Writes, ChecksFrom, IsPrinted, IsPrintedInPart}
+use Rattle.plan_serve.specs.Reports.{IsWriteFault}
 
 module _ {B : Type 0} (shelf : Shelf B) (old new : B) (taken after : Option Text) where
   -- nothing was written
@@ -26,3 +27,21 @@ module _ {B : Type 0} (shelf : Shelf B) (old new : B) (taken after : Option Text
   pub checks : (r : Result (Unit {0}) ServeFault) → Quiet shelf old new → Writes shelf old new taken after r → OnOk r (ChecksFrom shelf old taken after)
   checks (Ok done) quiet w = (new, quiet, w)
   checks (Err e) quiet w = tt
+
+  -- why it wasn't
+  pub checks_not : (r : Result (Unit {0}) ServeFault) → Writes shelf old new taken after r → IfErr r IsWriteFault
+  checks_not (Ok done) w = tt
+  checks_not (Err fault.Memory) w = tt
+  checks_not (Err fault.Store) w = tt
+  checks_not (Err fault.NotOurs) w = absurd w
+  checks_not (Err fault.Version) w = absurd w
+  checks_not (Err fault.Key) w = absurd w
+  checks_not (Err fault.Input) w = absurd w
+  checks_not (Err fault.Socket) w = absurd w
+  checks_not (Err fault.Output) w = tt
+  checks_not (Err fault.Locked) w = absurd w
+  checks_not (Err fault.Missing) w = absurd w
+  checks_not (Err fault.Denied) w = absurd w
+  checks_not (Err fault.Taken) w = absurd w
+  checks_not (Err fault.PortTaken) w = absurd w
+  checks_not (Err fault.PortDenied) w = absurd w

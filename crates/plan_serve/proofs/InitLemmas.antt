@@ -12,7 +12,7 @@ use Rattle.plan_store.specs.SqlBooks.{Counted}
 use Rattle.plan_door.specs.Keys.{ReadsKey, TakesKey, first_line}
 use Rattle.plan_door.specs.declared.fault.ServeFault.{ServeFault}
 use Rattle.plan_door.specs.declared.fault.ServeFault.TheVariants as fault
-use Rattle.plan_serve.specs.InitRun.{IsTold, IsLeft, MakesNone, Inits, HasMade, IsInitFault}
+use Rattle.plan_serve.specs.InitRun.{IsTold, IsLeft, MakesNone, Inits, HasMade, IsInitFault, IsToldThere}
 
 module _ {S : Type 0} (g : Ghosts S) (Opens : Held S → Type 0) (Refuses : StoreFault → Type 0) (remaining rest : Option Text) (digest : Digest)
     (reads : ReadsKey remaining rest (Ok digest)) where
@@ -81,6 +81,24 @@ init_faults g Opens Refuses remaining rest fault.Denied back i = tt
 init_faults g Opens Refuses remaining rest fault.Taken back i = tt
 init_faults g Opens Refuses remaining rest fault.PortTaken back i = absurd i
 init_faults g Opens Refuses remaining rest fault.PortDenied back i = absurd i
+
+-- a fault that speaks of tables that are there is told of those that were opened
+pub told_there : {S : Type 0} (g : Ghosts S) (Opens : Held S → Type 0) (Refuses : StoreFault → Type 0) (remaining rest : Option Text) (e : ServeFault) (back : Option (Held S))
+    → MakesNone g Opens Refuses remaining rest e back → IsToldThere g Opens e
+told_there g Opens Refuses remaining rest fault.Memory back i = tt
+told_there g Opens Refuses remaining rest fault.Store back i = tt
+told_there g Opens Refuses remaining rest fault.NotOurs back i = (back, i.2)
+told_there g Opens Refuses remaining rest fault.Version back i = tt
+told_there g Opens Refuses remaining rest fault.Key back i = tt
+told_there g Opens Refuses remaining rest fault.Input back i = tt
+told_there g Opens Refuses remaining rest fault.Socket back i = tt
+told_there g Opens Refuses remaining rest fault.Output back i = tt
+told_there g Opens Refuses remaining rest fault.Locked back i = tt
+told_there g Opens Refuses remaining rest fault.Missing back i = tt
+told_there g Opens Refuses remaining rest fault.Denied back i = tt
+told_there g Opens Refuses remaining rest fault.Taken back i = (back, i.2)
+told_there g Opens Refuses remaining rest fault.PortTaken back i = tt
+told_there g Opens Refuses remaining rest fault.PortDenied back i = tt
 
 -- the tables of a new office were made
 pub has_made : {S : Type 0} (g : Ghosts S) (Opens : Held S → Type 0) (Refuses : StoreFault → Type 0) (remaining rest : Option Text) (book : Counted S)

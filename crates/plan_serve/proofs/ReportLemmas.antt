@@ -1,6 +1,6 @@
 -- A report on files.
-use Rattle.std.proofs.Common.{◌≡◌, map, vec_items, subst, ℕ, Option, Result, Ok, Err, IfOk}
-use Rattle.std.specs.Prelude.{OnOk, MatchResult}
+use Rattle.std.proofs.Common.{◌≡◌, ◌⊎◌, inl, inr, map, vec_items, sym, subst, ℕ, Option, Result, Ok, Err, IfOk}
+use Rattle.std.specs.Prelude.{IfErr, OnOk, MatchResult}
 use Rattle.std.proofs.lemmas.List.{length-map}
 use Rattle.sqlite_disk.specs.declared.start.Start as start
 use Rattle.sqlite_trees.specs.declared.store.Store.{Ghosts}
@@ -8,10 +8,16 @@ use Rattle.plan_rows.specs.World.{Text}
 use Rattle.plan_store.specs.SqlBooks.{Counted, sql_shelf}
 use Rattle.plan_store.specs.OnDisk.{IsTakenFrom}
 use Rattle.plan_door.specs.declared.fault.ServeFault.{ServeFault}
+use Rattle.plan_door.specs.declared.fault.ServeFault.TheVariants as fault
+use Rattle.plan_store.specs.declared.fault.StoreFault.{StoreFault}
+use Rattle.plan_store.specs.declared.fault.StoreFault.TheVariants as store
+use Rattle.plan_serve.specs.Faults.{fault_of}
 use Rattle.plan_serve.specs.declared.keeping.Report.{Report}
 use Rattle.plan_serve.specs.declared.keeping.Report.TheVariants as report
 use Rattle.plan_serve.specs.ReplayFiles.{ReplaysOnFiles}
-use Rattle.plan_serve.specs.Reports.{ReportsFrom, ReportsOnFiles}
+use Rattle.plan_serve.specs.Reports.{ReportsFrom, ReportsOnFiles, IsWriteFault, IsReportFault, IsReplayFault}
+use Rattle.plan_serve.specs.Causes.{IsOfTables}
+use Rattle.plan_serve.proofs.CauseLemmas.{of_write}
 
 -- the report of an office over the tables that files held
 module _ {F S : Type 0} (first : start.Ghosts F) (g : Ghosts S) (taken after : Option Text) where
@@ -29,3 +35,53 @@ module _ {F S : Type 0} (first : start.Ghosts F) (g : Ghosts S) (taken after : O
 pub replays_as_many : {F S : Type 0} (first : start.Ghosts F) (g : Ghosts S) (n m : ℕ) (taken after : Option Text) (r : Result (Unit {0}) ServeFault)
     → n ≡ m → OnOk r (ReplaysOnFiles first g n taken after) → OnOk r (ReplaysOnFiles first g m taken after)
 replays_as_many first g n m taken after r same served = subst (λ k. OnOk r (ReplaysOnFiles first g k taken after)) same served
+
+-- ---- why it isn't written
+
+-- responses of an office that is open
+pub replays_not : (r : Result (Unit {0}) ServeFault) → IfErr r (λ e. (e ≡ fault.Memory) ⊎ (e ≡ fault.Output)) → IfErr r IsWriteFault
+replays_not (Ok done) is = tt
+replays_not (Err e) (inl same) = subst IsWriteFault (sym same) tt
+replays_not (Err e) (inr same) = subst IsWriteFault (sym same) tt
+
+-- any report over what was opened
+of_store : (cause : StoreFault) → IsReportFault (fault_of cause)
+of_store store.NotOurs = tt
+of_store store.Version = tt
+of_store store.NoMemory = tt
+of_store store.Store = tt
+
+pub opened_reports : {B E : Type 0} (opened : Result B (StoreFault × E)) (done : Result (Unit {0}) ServeFault)
+    → IfErr done (λ told. MatchResult opened (λ _. IsWriteFault told) (λ e. told ≡ fault_of e.0)) → IfErr done IsReportFault
+opened_reports opened (Ok done) is = tt
+opened_reports (Ok book) (Err told) is = of_write IsReportFault tt tt tt told is
+opened_reports (Err e) (Err told) is = subst IsReportFault (sym is) (of_store e.0)
+
+-- connections whose bytes are in files: one that can't be read, or the report
+pub read_replays : (e : ServeFault) → (e ≡ fault.Memory) ⊎ (e ≡ fault.Input) → IsReplayFault e
+read_replays e (inl same) = subst IsReplayFault (sym same) tt
+read_replays e (inr same) = subst IsReplayFault (sym same) tt
+
+pub read_tables : {F S : Type 0} (first : start.Ghosts F) (g : Ghosts S) (e : ServeFault) → (e ≡ fault.Memory) ⊎ (e ≡ fault.Input) → IsOfTables first g e
+read_tables first g e (inl same) = subst (IsOfTables first g) (sym same) tt
+read_tables first g e (inr same) = subst (IsOfTables first g) (sym same) tt
+
+of_report : (e : ServeFault) → IsReportFault e → IsReplayFault e
+of_report fault.Memory is = tt
+of_report fault.Store is = tt
+of_report fault.NotOurs is = tt
+of_report fault.Version is = tt
+of_report fault.Key is = absurd is
+of_report fault.Input is = absurd is
+of_report fault.Socket is = absurd is
+of_report fault.Output is = tt
+of_report fault.Locked is = tt
+of_report fault.Missing is = tt
+of_report fault.Denied is = tt
+of_report fault.Taken is = absurd is
+of_report fault.PortTaken is = absurd is
+of_report fault.PortDenied is = absurd is
+
+pub report_replays : (r : Result (Unit {0}) ServeFault) → IfErr r IsReportFault → IfErr r IsReplayFault
+report_replays (Ok done) is = tt
+report_replays (Err e) is = of_report e is

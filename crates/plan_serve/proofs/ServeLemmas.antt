@@ -1,31 +1,32 @@
 -- Why nothing is served, and what is.
-use Rattle.std.proofs.Common.{◌≡◌, ◌≢◌, ℕ, Result, Ok, Err, sym, subst}
-use Rattle.std.specs.Prelude.{IfOk, OnOk, MatchResult}
+use Rattle.std.proofs.Common.{◌≡◌, ℕ, Result, Ok, Err, sym, subst}
+use Rattle.std.specs.Prelude.{IfOk, IfErr, OnOk, MatchResult}
 use Rattle.sqlite_disk.specs.declared.start.Start as start
 use Rattle.sqlite_trees.specs.declared.store.Store.{Ghosts}
 use Rattle.plan_store.specs.SqlBooks.{Counted, sql_shelf}
 use Rattle.plan_store.specs.OnDisk.{IsTakenFrom}
 use Rattle.plan_store.specs.declared.fault.StoreFault.{StoreFault}
 use Rattle.plan_store.specs.declared.fault.StoreFault.TheVariants as store
-use Rattle.plan_door.specs.declared.fault.ServeFault.TheVariants as fault
 use Rattle.plan_serve.specs.Faults.{fault_of}
 use Rattle.plan_door.specs.declared.fault.ServeFault.{ServeFault}
-use Rattle.plan_door.specs.Ports.{ServesFrom}
+use Rattle.plan_door.specs.Ports.{IsPortFault, ServesFrom}
 use Rattle.plan_serve.specs.Ports.{ServesOnFiles}
 use Rattle.plan_door.specs.Serve.{IsServeFault}
+use Rattle.plan_serve.proofs.CauseLemmas.{of_port}
 
--- with a fault of the store nothing is served, and it isn't the output's
-pub serves_not : (f : StoreFault) → IsServeFault (fault_of f)
-serves_not store.NotOurs = tt
-serves_not store.Version = tt
-serves_not store.NoMemory = tt
-serves_not store.Store = tt
+-- with a fault of the store nothing is served
+of_store : (f : StoreFault) → IsServeFault (fault_of f)
+of_store store.NotOurs = tt
+of_store store.Version = tt
+of_store store.NoMemory = tt
+of_store store.Store = tt
 
-pub not_output : (f : StoreFault) → fault_of f ≢ fault.Output
-not_output store.NotOurs e = absurd cc
-not_output store.Version e = absurd cc
-not_output store.NoMemory e = absurd cc
-not_output store.Store e = absurd cc
+-- and none over tables that weren't opened, or where nothing listens
+pub opened_serves : {B E : Type 0} (opened : Result B (StoreFault × E)) (done : Result (Unit {0}) ServeFault)
+    → IfErr done (λ told. MatchResult opened (λ _. IsPortFault told) (λ e. told ≡ fault_of e.0)) → IfErr done IsServeFault
+opened_serves opened (Ok done) is = tt
+opened_serves (Ok book) (Err told) is = of_port IsServeFault tt tt tt tt told is
+opened_serves (Err e) (Err told) is = subst IsServeFault (sym is) (of_store e.0)
 
 -- the tables that files held were served
 pub serves_on_files : {F S E : Type 0} (first : start.Ghosts F) (g : Ghosts S) (count : ℕ) (opened : Result (Counted S) E) (done r : Result (Unit {0}) ServeFault)

@@ -50,17 +50,6 @@ module _ {S : Type 0} (g : Ghosts S) (Opens : Held S → Type 0) where
   abbrev pub IsEmptyThere : Type 0
   IsEmptyThere = (conn : Held S) × Opens conn × ((state g conn).now.schema ≡ no_schema)
 
-  -- a database was opened that had no table, and has those of a new office, with the digest of some key
-  abbrev pub HasMade : Type 0
-  HasMade =
-      (digest : Digest) × IsDigestOfKey digest × IsEmptyThere
-      × ((after : Held S) × IsNewOffice (state g after) digest)
-
--- the same of a database that files held
-abbrev pub InitsOnFiles : {F S : Type 0} → start.Ghosts F → Ghosts S → Type 0
-InitsOnFiles first g = HasMade g (IsOpenedFrom first g)
-
-module _ {S : Type 0} (g : Ghosts S) (Opens : Held S → Type 0) (Refuses : StoreFault → Type 0) where
   -- a database was opened that has the tables of an office, and its connection comes back untouched
   abbrev pub IsOfficeThere : Option (Held S) → Type 0
   IsOfficeThere back =
@@ -72,6 +61,27 @@ module _ {S : Type 0} (g : Ghosts S) (Opens : Held S → Type 0) (Refuses : Stor
       (conn : Held S) × (back ≡ Some conn) × Opens conn × ((state g conn).now.schema ≢ no_schema)
       × ¬ HasOfficeTables (state g conn).now.schema
 
+  -- a fault that speaks of tables that are there is told of those of a database that was opened
+  abbrev pub IsToldThere : ServeFault → Type 0
+  IsToldThere fault.Taken = (back : Option (Held S)) × IsOfficeThere back
+  IsToldThere fault.NotOurs = (back : Option (Held S)) × IsUsedThere back
+  IsToldThere e = Unit {0}
+
+  -- a database was opened that had no table, and has those of a new office, with the digest of some key
+  abbrev pub HasMade : Type 0
+  HasMade =
+      (digest : Digest) × IsDigestOfKey digest × IsEmptyThere
+      × ((after : Held S) × IsNewOffice (state g after) digest)
+
+-- the same of a database that files held
+abbrev pub InitsOnFiles : {F S : Type 0} → start.Ghosts F → Ghosts S → Type 0
+InitsOnFiles first g = HasMade g (IsOpenedFrom first g)
+
+-- a fault that speaks of tables that are there is told of those that files held
+abbrev pub IsOfTablesThere : {F S : Type 0} → start.Ghosts F → Ghosts S → ServeFault → Type 0
+IsOfTablesThere first g e = IsToldThere g (IsOpenedFrom first g) e
+
+module _ {S : Type 0} (g : Ghosts S) (Opens : Held S → Type 0) (Refuses : StoreFault → Type 0) where
   -- a database was opened that has none, and stays as it is
   abbrev pub IsLeftThere : Option (Held S) → Digest → Type 0
   IsLeftThere back digest =
@@ -87,9 +97,9 @@ module _ {S : Type 0} (g : Ghosts S) (Opens : Held S → Type 0) (Refuses : Stor
       (digest : Digest) × ReadsKey remaining rest (Ok digest)
       × ((Refuses store.Store × (back ≡ None)) ⊎ IsLeftThere back digest)
   MakesNone remaining rest fault.NotOurs back =
-      (digest : Digest) × ReadsKey remaining rest (Ok digest) × IsUsedThere back
+      (digest : Digest) × ReadsKey remaining rest (Ok digest) × IsUsedThere g Opens back
   MakesNone remaining rest fault.Taken back =
-      (digest : Digest) × ReadsKey remaining rest (Ok digest) × IsOfficeThere back
+      (digest : Digest) × ReadsKey remaining rest (Ok digest) × IsOfficeThere g Opens back
   MakesNone remaining rest fault.Memory back =
       (back ≡ None) ⊎ ((digest : Digest) × ReadsKey remaining rest (Ok digest) × IsLeftThere back digest)
   MakesNone remaining rest fault.Input back = back ≡ None

@@ -9,6 +9,7 @@ use Rattle.plan_door.specs.declared.fault.ServeFault.TheVariants as fault
 use Rattle.plan_door.specs.ReplayRun.{ReplaysFrom, AreAnswered, AreAnsweredInPart}
 use Rattle.plan_serve.specs.declared.keeping.Report.{Report}
 use Rattle.plan_serve.specs.declared.keeping.Report.TheVariants as report
+use Rattle.plan_serve.specs.Causes.{IsFileFault}
 use Rattle.plan_serve.specs.CheckRun.{ChecksFrom, ChecksOnFiles, IsPrinted, IsPrintedInPart}
 use Rattle.plan_serve.specs.ReplayFiles.{ReplaysOnFiles}
 
@@ -33,6 +34,25 @@ IsReported (report.Responses conns) taken after = AreAnswered (length conns.now)
 abbrev pub IsReportedInPart : Report → Option Text → Option Text → Type 0
 IsReportedInPart report.Rows taken after = IsPrintedInPart taken after
 IsReportedInPart (report.Responses conns) taken after = AreAnsweredInPart (length conns.now) taken after
+
+-- why a report of an office that is open isn't written
+abbrev pub IsWriteFault : ServeFault → Type 0
+IsWriteFault fault.Memory = Unit {0}
+IsWriteFault fault.Store = Unit {0}
+IsWriteFault fault.Output = Unit {0}
+IsWriteFault e = ⊥
+
+-- why that of an office in files isn't
+abbrev pub IsReportFault : ServeFault → Type 0
+IsReportFault fault.NotOurs = Unit {0}
+IsReportFault fault.Version = Unit {0}
+IsReportFault fault.Output = Unit {0}
+IsReportFault e = IsFileFault e
+
+-- why connections whose bytes are in files aren't answered
+abbrev pub IsReplayFault : ServeFault → Type 0
+IsReplayFault fault.Input = Unit {0}
+IsReplayFault e = IsReportFault e
 
 -- after which outcome no book may come back: for want of memory before the first response
 abbrev pub KeepsNone : Report → Result (Unit {0}) ServeFault → Type 0

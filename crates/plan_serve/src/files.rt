@@ -5,12 +5,12 @@ ghost use Rattle.std.specs.IoError.{error_kind};
 ghost use Rattle.plan_psplib.specs.Devices.{most_calls, HasFailed};
 ghost use Rattle.plan_store.specs.declared.fault.StoreFault.TheVariants.{NoMemory, Store};
 ghost use Rattle.plan_door.specs.Serve.{IsServeFault};
-ghost use Rattle.plan_serve.specs.Causes.{IsToldAnew};
+ghost use Rattle.plan_serve.specs.Causes.{IsOfTables, IsToldAnew};
 ghost use Rattle.plan_serve.specs.CheckRun.{ChecksOnFiles, IsPrinted, IsPrintedInPart};
-ghost use Rattle.plan_serve.specs.InitRun.{IsOpenedFrom, InitsOnFiles, IsInitFault};
+ghost use Rattle.plan_serve.specs.InitRun.{IsOpenedFrom, InitsOnFiles, IsInitFault, IsOfTablesThere};
 ghost use Rattle.plan_door.specs.ReplayRun.{AreAnswered, AreAnsweredInPart};
 ghost use Rattle.plan_serve.specs.ReplayFiles.{ReplaysOnFiles};
-ghost use Rattle.plan_serve.specs.Reports.{ReportsOnFiles, IsReported, IsReportedInPart};
+ghost use Rattle.plan_serve.specs.Reports.{ReportsOnFiles, IsReported, IsReportedInPart, IsReportFault, IsReplayFault};
 ghost use Rattle.plan_serve.specs.Ports.{ServesOnFiles};
 
 use crate::init::Place;
@@ -92,6 +92,7 @@ fn open_fault(error: &io::Error) -> ServeFault
 pub fn init_on_file(rt: &HostRuntime, path: &str) -> Result<(), ServeFault>
     ensures made { OnOk result (InitsOnFiles ⟦<Unknown as Start>⟧ ⟦<Kept<Unknown> as Store>⟧) }
     ensures which { IfErr result IsInitFault }
+    ensures tables { IfErr result (IsOfTablesThere ⟦<Unknown as Start>⟧ ⟦<Kept<Unknown> as Store>⟧) }
 {
     init_from(rt, path, Unknown)
 }
@@ -100,6 +101,8 @@ pub fn init_on_file(rt: &HostRuntime, path: &str) -> Result<(), ServeFault>
 pub fn init_from<F: Start>(rt: &HostRuntime, path: &str, start: F) -> Result<(), ServeFault>
     ensures made { OnOk result (InitsOnFiles F.Start ⟦<Kept<F> as Store>⟧) }
     ensures which { IfErr result IsInitFault }
+    // A database that has tables, an office's or others, is told of where one was opened.
+    ensures tables { IfErr result (IsOfTablesThere F.Start ⟦<Kept<F> as Store>⟧) }
 {
     let mut input = StdSource::new(rt.reader());
     let done = closed(init_at(rt.alloc(), &mut input, InFile { rt, path, start }));
@@ -141,6 +144,7 @@ fn read_all(rt: &HostRuntime, paths: &[&str]) -> Result<Vec<Vec<u8>>, ServeFault
 }
 
 // Writes a report of the office in the file of this name.
+#[tactic(auto, using(crate::proofs::CauseLemmas::look_reports, crate::proofs::CauseLemmas::look_silent, crate::proofs::CauseLemmas::look_tables))]
 fn report_at<F: Start, W: Sink>(
     rt: &HostRuntime,
     path: &str,
@@ -156,6 +160,8 @@ fn report_at<F: Start, W: Sink>(
     ensures fine { OnOk result (W.faults writer.new ≡ W.faults writer.old) }
     ensures output { IsErrOf result ServeFault.Output →
         HasFailed (W.calls writer.old) (W.calls writer.new) (W.faults writer.old) (W.faults writer.new) }
+    ensures which { IfErr result IsReportFault }
+    ensures tables { IfErr result (IsOfTables F.Start ⟦<Kept<F> as Store>⟧) }
 {
     if let Err(fault) = look(rt, path) {
         return Err(fault);
@@ -183,11 +189,14 @@ pub fn replay_on_files<W: Sink>(
     ensures fine { OnOk result (W.faults writer.new ≡ W.faults writer.old) }
     ensures output { IsErrOf result ServeFault.Output →
         HasFailed (W.calls writer.old) (W.calls writer.new) (W.faults writer.old) (W.faults writer.new) }
+    ensures which { IfErr result IsReplayFault }
+    ensures tables { IfErr result (IsOfTables ⟦<Unknown as Start>⟧ ⟦<Kept<Unknown> as Store>⟧) }
 {
     replay_from(rt, path, Unknown, requests, writer)
 }
 
 /// The same, where the start stands for what the files hold.
+#[tactic(auto, using(crate::proofs::ReportLemmas::read_replays, crate::proofs::ReportLemmas::read_tables, crate::proofs::ReportLemmas::report_replays))]
 pub fn replay_from<F: Start, W: Sink>(
     rt: &HostRuntime,
     path: &str,
@@ -205,6 +214,8 @@ pub fn replay_from<F: Start, W: Sink>(
     ensures fine { OnOk result (W.faults writer.new ≡ W.faults writer.old) }
     ensures output { IsErrOf result ServeFault.Output →
         HasFailed (W.calls writer.old) (W.calls writer.new) (W.faults writer.old) (W.faults writer.new) }
+    ensures which { IfErr result IsReplayFault }
+    ensures tables { IfErr result (IsOfTables F.Start ⟦<Kept<F> as Store>⟧) }
 {
     let conns = match read_all(rt, requests) {
         Ok(conns) => conns,
@@ -229,6 +240,8 @@ pub fn check_office_on_file<W: Sink>(
     ensures fine { OnOk result (W.faults writer.new ≡ W.faults writer.old) }
     ensures output { IsErrOf result ServeFault.Output →
         HasFailed (W.calls writer.old) (W.calls writer.new) (W.faults writer.old) (W.faults writer.new) }
+    ensures which { IfErr result IsReportFault }
+    ensures tables { IfErr result (IsOfTables ⟦<Unknown as Start>⟧ ⟦<Kept<Unknown> as Store>⟧) }
 {
     check_office_from(rt, path, Unknown, writer)
 }
@@ -249,6 +262,8 @@ pub fn check_office_from<F: Start, W: Sink>(
     ensures fine { OnOk result (W.faults writer.new ≡ W.faults writer.old) }
     ensures output { IsErrOf result ServeFault.Output →
         HasFailed (W.calls writer.old) (W.calls writer.new) (W.faults writer.old) (W.faults writer.new) }
+    ensures which { IfErr result IsReportFault }
+    ensures tables { IfErr result (IsOfTables F.Start ⟦<Kept<F> as Store>⟧) }
 {
     report_at(rt, path, start, Report::Rows, writer)
 }
@@ -258,11 +273,13 @@ pub fn check_office_from<F: Start, W: Sink>(
 pub fn serve_on_port(rt: &HostRuntime, service: &Service<'_>) -> Result<(), ServeFault>
     ensures served { OnOk result (ServesOnFiles ⟦<Unknown as Start>⟧ ⟦<Kept<Unknown> as Store>⟧ service.now.count) }
     ensures which { IfErr result IsServeFault }
+    ensures tables { IfErr result (IsOfTables ⟦<Unknown as Start>⟧ ⟦<Kept<Unknown> as Store>⟧) }
 {
     serve_from(rt, service, Unknown)
 }
 
 /// The same, where the start stands for what the files hold.
+#[tactic(auto, using(crate::proofs::CauseLemmas::look_serves, crate::proofs::CauseLemmas::look_tables))]
 pub fn serve_from<F: Start>(
     rt: &HostRuntime,
     service: &Service<'_>,
@@ -270,6 +287,8 @@ pub fn serve_from<F: Start>(
 ) -> Result<(), ServeFault>
     ensures served { OnOk result (ServesOnFiles F.Start ⟦<Kept<F> as Store>⟧ service.now.count) }
     ensures which { IfErr result IsServeFault }
+    // Tables that are no office's, or of no known version, are told of where they were opened.
+    ensures tables { IfErr result (IsOfTables F.Start ⟦<Kept<F> as Store>⟧) }
 {
     let path = service.database;
     if let Err(fault) = look(rt, path) {

@@ -2,10 +2,10 @@
 
 ghost use Rattle.std.specs.Prelude.{◌≡◌, ◌≢◌, ◌⊎◌, ◌+◌, ◌≤◌, length, map, vec_items, Ok, is_some, IfOk, IfErr, IfNone, IsSome, IsErrOf, OnOk, OnErr, MatchResult};
 ghost use Rattle.plan_psplib.specs.Devices.{most_calls, HasFailed};
-ghost use Rattle.plan_door.specs.Serve.{IsServeFault};
-ghost use Rattle.plan_serve.specs.InitRun.{HasMade, IsInitFault, MakesNone};
-ghost use Rattle.plan_serve.specs.Reports.{ReportsFrom, IsReported, IsReportedInPart, KeepsNone};
-ghost use Rattle.plan_door.specs.Ports.{ServesFrom};
+ghost use Rattle.plan_serve.specs.InitRun.{HasMade, IsInitFault, IsToldThere, MakesNone};
+ghost use Rattle.plan_serve.specs.Faults.{fault_of};
+ghost use Rattle.plan_serve.specs.Reports.{ReportsFrom, IsReported, IsReportedInPart, IsWriteFault, KeepsNone};
+ghost use Rattle.plan_door.specs.Ports.{IsPortFault, ServesFrom};
 
 use crate::check_office::check_office_run;
 use crate::fault::told;
@@ -34,7 +34,7 @@ pub(crate) enum Report<'a> {
 pub(crate) type Ended<S> = (Result<(), ServeFault>, Option<Connection<S>>);
 
 /// Makes the tables of an office, by the key that is the first line of a text.
-#[tactic(auto, using(crate::proofs::InitLemmas::init_faults))]
+#[tactic(auto, using(crate::proofs::InitLemmas::init_faults, crate::proofs::InitLemmas::told_there))]
 pub(crate) fn init_at<R: Source, P: Place>(
     alloc: Global,
     reader: &mut R,
@@ -42,6 +42,7 @@ pub(crate) fn init_at<R: Source, P: Place>(
 ) -> Ended<P::Kept>
     ensures made { OnOk result.0 (HasMade P.Kept.Store (P.opens place)) }
     ensures which { IfErr result.0 IsInitFault }
+    ensures tables { IfErr result.0 (IsToldThere P.Kept.Store (P.opens place)) }
     // The connection comes back, if one was opened.
     ensures back { OnOk result.0 (IsSome result.1) }
     ensures left { IfErr result.0 (λ e. MakesNone P.Kept.Store (P.opens place) (P.refuses place) (R.remaining reader.old) (R.remaining reader.new) e result.1) }
@@ -53,12 +54,10 @@ pub(crate) fn init_at<R: Source, P: Place>(
 }
 
 // The tables that were opened.
-#[tactic(auto, using(crate::proofs::ServeLemmas::serves_not, crate::proofs::ServeLemmas::not_output))]
 fn book_of<S: Alter + Drop>(opened: Opened<S>) -> Result<SqlBook<S>, ServeFault>
     ensures book { IfOk result (λ book. opened ≡ Ok book) }
     ensures none { OnErr result (IfOk opened (λ _. ⊥)) }
-    ensures which { IfErr result IsServeFault }
-    ensures silent { IfErr result (λ e. e ≢ ServeFault.Output) }
+    ensures told { IfErr result (λ told. IfErr opened (λ e. told ≡ fault_of e.0)) }
 {
     match opened {
         Ok(book) => Ok(book),
@@ -78,7 +77,7 @@ fn connection_of<S: Alter + Drop>(book: Option<SqlBook<S>>) -> Option<Connection
 
 // Writes a report of an office over a book. The book comes back, unless memory runs out before the
 // first response.
-#[tactic(auto, using(crate::proofs::CheckLemmas::checks, crate::proofs::CheckLemmas::printed, crate::proofs::CheckLemmas::printed_in_part))]
+#[tactic(auto, using(crate::proofs::CheckLemmas::checks, crate::proofs::CheckLemmas::checks_not, crate::proofs::CheckLemmas::printed, crate::proofs::CheckLemmas::printed_in_part, crate::proofs::ReportLemmas::replays_not))]
 fn report_over<B: Listing + Drop, W: Sink>(
     alloc: Global,
     mut book: B,
@@ -93,6 +92,7 @@ fn report_over<B: Listing + Drop, W: Sink>(
     ensures fine { OnOk result.0 (W.faults writer.new ≡ W.faults writer.old) }
     ensures output { IsErrOf result.0 ServeFault.Output →
         HasFailed (W.calls writer.old) (W.calls writer.new) (W.faults writer.old) (W.faults writer.new) }
+    ensures which { IfErr result.0 IsWriteFault }
     ensures back { IfNone result.1 (KeepsNone report.entry result.0) }
 {
     match report {
@@ -119,6 +119,7 @@ pub(crate) fn report_opened<S: Alter + Drop, W: Sink>(
     ensures fine { OnOk result.0 (W.faults writer.new ≡ W.faults writer.old) }
     ensures output { IsErrOf result.0 ServeFault.Output →
         HasFailed (W.calls writer.old) (W.calls writer.new) (W.faults writer.old) (W.faults writer.new) }
+    ensures which { IfErr result.0 (λ told. MatchResult opened (λ _. IsWriteFault told) (λ e. told ≡ fault_of e.0)) }
     ensures back { IfOk opened (λ _. IfNone result.1 (KeepsNone report.entry result.0)) }
 {
     let book = match book_of(opened) {
@@ -136,7 +137,7 @@ pub(crate) fn serve_opened<S: Alter + Drop>(
     service: &Service<'_>,
 ) -> Ended<S>
     ensures ok { OnOk result.0 (MatchResult opened (λ book. ServesFrom ⟦<SqlBook<S> as Book>⟧.shelf book service.now.count) (λ _. ⊥)) }
-    ensures which { IfErr result.0 IsServeFault }
+    ensures which { IfErr result.0 (λ told. MatchResult opened (λ _. IsPortFault told) (λ e. told ≡ fault_of e.0)) }
     ensures back { IfOk opened (λ _. IfNone result.1 (IsErrOf result.0 ServeFault.Memory)) }
 {
     let book = match book_of(opened) {

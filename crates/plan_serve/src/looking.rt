@@ -1,9 +1,7 @@
 //! What stands at the name of an office, and why it can't be opened.
 
 ghost use Rattle.std.specs.Prelude.{◌≢◌, IfErr};
-ghost use Rattle.plan_door.specs.Serve.{IsServeFault};
-ghost use Rattle.plan_serve.specs.Causes.{IsFileCause, IsOpenCause};
-ghost use Rattle.plan_serve.specs.InitRun.{IsInitFault};
+ghost use Rattle.plan_serve.specs.Causes.{IsFileCause, IsFileFault, IsLookFault, IsOpenCause};
 
 use plan_door::ServeFault;
 use sqlite::Start;
@@ -32,10 +30,9 @@ fn file_fault(kind: ErrorKind) -> ServeFault
 
 /// Tells why no office is at a name where a look at it says so: nothing is there, it can't be reached,
 /// or it is shorter than any database. Nothing is opened, so nothing is made or grows.
-#[tactic(auto, using(crate::proofs::CauseLemmas::file_serves, crate::proofs::CauseLemmas::file_silent, crate::proofs::CauseLemmas::file_free))]
+#[tactic(auto, using(crate::proofs::CauseLemmas::look_fault, crate::proofs::CauseLemmas::file_free))]
 pub(crate) fn look(rt: &HostRuntime, path: &str) -> Result<(), ServeFault>
-    ensures which { IfErr result IsServeFault }
-    ensures silent { IfErr result (λ e. e ≢ ServeFault.Output) }
+    ensures which { IfErr result IsLookFault }
     // It doesn't tell whether another program has it open.
     ensures free { IfErr result (λ e. e ≢ ServeFault.Locked) }
 {
@@ -60,11 +57,9 @@ fn opening_fault<T: Drop>(opened: Result<T, OpenError>) -> ServeFault
 }
 
 /// Why the files at a name can't be opened, where the store has refused them: they are tried once more.
-#[tactic(auto, using(crate::proofs::CauseLemmas::open_serves, crate::proofs::CauseLemmas::open_silent, crate::proofs::CauseLemmas::open_inits))]
+#[tactic(auto, using(crate::proofs::CauseLemmas::open_fault))]
 pub(crate) fn refusal<F: Start>(rt: &HostRuntime, path: &str, start: F) -> ServeFault
-    ensures which { IsServeFault result }
-    ensures initial { IsInitFault result }
-    ensures silent { result ≢ ServeFault.Output }
+    ensures { IsFileFault result }
 {
     opening_fault(sqlite_std_file::open(rt, path, start))
 }

@@ -1,5 +1,6 @@
-use Rattle.plan_serve.specs.InitRun.{IsInitFault}
-use Rattle.plan_serve.proofs.CauseLemmas.{told_ok, told_err}
+use Rattle.sqlite.specs.Files.{over_files}
+use Rattle.plan_serve.specs.InitRun.{IsInitFault, IsOfTablesThere}
+use Rattle.plan_serve.proofs.CauseLemmas.{told_ok, told_err, file_inits, file_tables_there}
 use Rattle.plan_serve.proofs.files.init_from.Goals as goal
 
 pub returns-clause-made : goal.returns-clause-made
@@ -8,4 +9,9 @@ returns-clause-made g c =
 
 pub returns-clause-which : goal.returns-clause-which
 returns-clause-which g c =
-    told_err c.init_at.result.0 c.closed-done.result c.told_at.result c.closed-done.ensures c.told_at.ensures IsInitFault c.init_at.ensures.which (λ e was serves inits silent. inits)
+    told_err c.init_at.result.0 c.closed-done.result c.told_at.result c.closed-done.ensures c.told_at.ensures IsInitFault c.init_at.ensures.which (λ e was files. file_inits e files)
+
+pub returns-clause-tables : goal.returns-clause-tables
+returns-clause-tables g c =
+    told_err c.init_at.result.0 c.closed-done.result c.told_at.result c.closed-done.ensures c.told_at.ensures (IsOfTablesThere g.F.Start over_files)
+    c.init_at.ensures.tables (λ e was files. file_tables_there g.F.Start over_files e files)

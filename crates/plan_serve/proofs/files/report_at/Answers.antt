@@ -1,6 +1,8 @@
 use Rattle.sqlite.specs.Files.{over_files}
-use Rattle.plan_serve.proofs.CauseLemmas.{told_ok, told_quiet, told_output}
-use Rattle.plan_serve.proofs.ReportLemmas.{reports_on_files}
+use Rattle.plan_serve.specs.Causes.{IsOfTables}
+use Rattle.plan_serve.specs.Reports.{IsReportFault, IsWriteFault}
+use Rattle.plan_serve.proofs.CauseLemmas.{told_ok, told_err, told_quiet, told_output, file_reports, file_tables, write_tables, opened_tables}
+use Rattle.plan_serve.proofs.ReportLemmas.{reports_on_files, opened_reports}
 use Rattle.plan_serve.proofs.files.report_at.Goals as goal
 
 pub returns-clause-reports : goal.returns-clause-reports
@@ -28,3 +30,14 @@ returns-clause-fine g c =
 pub returns-clause-output : goal.returns-clause-output
 returns-clause-output g c h =
     c.report_opened.ensures.output (told_output c.report_opened.result.0 c.closed-done.result c.told_at.result c.closed-done.ensures c.told_at.ensures h)
+
+pub returns-clause-which : goal.returns-clause-which
+returns-clause-which g c =
+    told_err c.report_opened.result.0 c.closed-done.result c.told_at.result c.closed-done.ensures c.told_at.ensures IsReportFault
+    (opened_reports c.open_from-opened.result c.report_opened.result.0 c.report_opened.ensures.which) (λ e was files. file_reports e files)
+
+pub returns-clause-tables : goal.returns-clause-tables
+returns-clause-tables g c =
+    told_err c.report_opened.result.0 c.closed-done.result c.told_at.result c.closed-done.ensures c.told_at.ensures (IsOfTables g.F.Start over_files)
+    (opened_tables g.F.Start over_files IsWriteFault (write_tables g.F.Start over_files) c.open_from-opened.result c.report_opened.result.0 c.open_from-opened.ensures.refused c.report_opened.ensures.which)
+    (λ e was files. file_tables g.F.Start over_files e files)

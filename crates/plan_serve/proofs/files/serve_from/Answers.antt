@@ -1,8 +1,10 @@
 use Rattle.std.proofs.Common.{refl}
 use Rattle.sqlite.specs.Files.{over_files}
 use Rattle.plan_door.specs.Serve.{IsServeFault}
-use Rattle.plan_serve.proofs.CauseLemmas.{told_ok, told_err}
-use Rattle.plan_serve.proofs.ServeLemmas.{serves_on_files}
+use Rattle.plan_door.specs.Ports.{IsPortFault}
+use Rattle.plan_serve.specs.Causes.{IsOfTables}
+use Rattle.plan_serve.proofs.CauseLemmas.{told_ok, told_err, file_serves, file_tables, port_tables, opened_tables}
+use Rattle.plan_serve.proofs.ServeLemmas.{serves_on_files, opened_serves}
 use Rattle.plan_serve.proofs.files.serve_from.Goals as goal
 
 pub returns-clause-served : goal.returns-clause-served
@@ -12,4 +14,10 @@ returns-clause-served g c =
 
 pub returns-clause-which : goal.returns-clause-which
 returns-clause-which g c =
-    told_err c.serve_opened.result.0 c.closed-done.result c.told_at.result c.closed-done.ensures c.told_at.ensures IsServeFault c.serve_opened.ensures.which (λ e was serves inits silent. serves)
+    told_err c.serve_opened.result.0 c.closed-done.result c.told_at.result c.closed-done.ensures c.told_at.ensures IsServeFault (opened_serves c.open_from-opened.result c.serve_opened.result.0 c.serve_opened.ensures.which) (λ e was files. file_serves e files)
+
+pub returns-clause-tables : goal.returns-clause-tables
+returns-clause-tables g c =
+    told_err c.serve_opened.result.0 c.closed-done.result c.told_at.result c.closed-done.ensures c.told_at.ensures (IsOfTables g.F.Start over_files)
+    (opened_tables g.F.Start over_files IsPortFault (port_tables g.F.Start over_files) c.open_from-opened.result c.serve_opened.result.0 c.open_from-opened.ensures.refused c.serve_opened.ensures.which)
+    (λ e was files. file_tables g.F.Start over_files e files)
