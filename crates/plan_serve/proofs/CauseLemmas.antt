@@ -2,12 +2,13 @@
 use Rattle.std.proofs.Common.{◌≢◌, ◌≡◌, ◌⊎◌, Option, Result, Some, None, Ok, Err, inl, inr, refl, sym, subst, ◌∙◌}
 use Rattle.std.specs.Prelude.{IfErr, IsErrOf, OnOk, MatchResult}
 use Rattle.std.specs.IoError.{error_kind}
+use Rattle.std.specs.declared.fs.attrs.Metadata.{Metadata}
+use Rattle.std_io.specs.declared.io.error.Error.{Error}
 use Rattle.std_io.specs.declared.io.kind.ErrorKind.{ErrorKind}
 use Rattle.sqlite_std_file.specs.declared.pair.OpenError.{OpenError}
 use Rattle.sqlite_std_file.specs.declared.pair.OpenError.TheVariants as opening
 use Rattle.plan_door.specs.declared.fault.ServeFault.{ServeFault}
 use Rattle.plan_door.specs.declared.fault.ServeFault.TheVariants as fault
-use Rattle.plan_door.specs.Serve.{IsServeFault}
 use Rattle.plan_door.specs.Ports.{IsPortFault}
 use Rattle.sqlite_disk.specs.declared.start.Start as start
 use Rattle.sqlite_trees.specs.declared.store.Store.{Ghosts}
@@ -16,7 +17,7 @@ use Rattle.plan_store.specs.declared.fault.StoreFault.TheVariants as store
 use Rattle.plan_store.specs.declared.leftover.Leftover.{Leftover}
 use Rattle.plan_store.specs.OnDisk.{IsRefusedFrom}
 use Rattle.plan_serve.specs.Faults.{fault_of}
-use Rattle.plan_serve.specs.Causes.{IsFileCause, IsOpenCause, IsToldAnew, IsFileFault, IsShortFile, IsLookFault, IsOfTables}
+use Rattle.plan_serve.specs.Causes.{IsFileCause, IsOpenCause, IsToldAnew, IsFileFault, IsServeFault, IsShort, IsLookFault, IsOfTables, IsOfTablesAtName}
 use Rattle.plan_serve.specs.InitRun.{IsInitFault, IsOfTablesThere}
 use Rattle.plan_serve.specs.Reports.{IsWriteFault, IsReportFault, IsReplayFault}
 
@@ -39,24 +40,6 @@ of_files P memory store locked missing denied fault.Denied is = denied
 of_files P memory store locked missing denied fault.Taken is = absurd is
 of_files P memory store locked missing denied fault.PortTaken is = absurd is
 of_files P memory store locked missing denied fault.PortDenied is = absurd is
-
--- of each that a look at a file tells
-pub of_look : (P : ServeFault → Type 0) → (IsShortFile → P fault.NotOurs) → ((e : ServeFault) → IsFileFault e → P e)
-    → (e : ServeFault) → IsLookFault e → P e
-of_look P short files fault.Memory is = files fault.Memory is
-of_look P short files fault.Store is = files fault.Store is
-of_look P short files fault.NotOurs is = short is
-of_look P short files fault.Version is = files fault.Version is
-of_look P short files fault.Key is = files fault.Key is
-of_look P short files fault.Input is = files fault.Input is
-of_look P short files fault.Socket is = files fault.Socket is
-of_look P short files fault.Output is = files fault.Output is
-of_look P short files fault.Locked is = files fault.Locked is
-of_look P short files fault.Missing is = files fault.Missing is
-of_look P short files fault.Denied is = files fault.Denied is
-of_look P short files fault.Taken is = files fault.Taken is
-of_look P short files fault.PortTaken is = files fault.PortTaken is
-of_look P short files fault.PortDenied is = files fault.PortDenied is
 
 -- of each for which a report isn't written
 pub of_write : (P : ServeFault → Type 0) → P fault.Memory → P fault.Store → P fault.Output
@@ -125,23 +108,6 @@ file_fault k fault.Taken is = absurd is
 file_fault k fault.PortTaken is = absurd is
 file_fault k fault.PortDenied is = absurd is
 
--- it isn't that another program has the file open
-pub file_free : (k : ErrorKind) (e : ServeFault) → IsFileCause k e → e ≢ fault.Locked
-file_free k fault.Memory is same = absurd cc
-file_free k fault.Store is same = absurd cc
-file_free k fault.NotOurs is same = absurd is
-file_free k fault.Version is same = absurd is
-file_free k fault.Key is same = absurd is
-file_free k fault.Input is same = absurd is
-file_free k fault.Socket is same = absurd is
-file_free k fault.Output is same = absurd is
-file_free k fault.Locked is same = absurd is
-file_free k fault.Missing is same = absurd cc
-file_free k fault.Denied is same = absurd cc
-file_free k fault.Taken is same = absurd is
-file_free k fault.PortTaken is same = absurd is
-file_free k fault.PortDenied is same = absurd is
-
 -- and what opening files once more comes to
 pub open_fault : {T : Type 0} (opened : Result T OpenError) (e : ServeFault) → IsOpenCause opened e → IsFileFault e
 open_fault (Err opening.Busy) e is = subst IsFileFault (sym is) tt
@@ -150,38 +116,40 @@ open_fault (Err (opening.Io error)) e is = file_fault (error_kind error) e is
 open_fault (Err opening.HotJournal) e is = subst IsFileFault (sym is) tt
 open_fault (Ok files) e is = subst IsFileFault (sym is) tt
 
--- ---- of a look at a file
+-- ---- of a look at a name
 
--- a file that is too short, and one that can't be opened
-pub look_fault : (k : ErrorKind) (e : ServeFault) → IsFileCause k e → IsLookFault e
-look_fault k e is = of_files IsLookFault tt tt tt tt tt e (file_fault k e is)
+-- a file that is too short, or what the system tells
+of_look : (P : ServeFault → Type 0) → (looked : Result Metadata Error) → (IsShort looked → P fault.NotOurs) → ((e : ServeFault) → IsFileFault e → P e)
+    → (e : ServeFault) → IsLookFault looked e → P e
+of_look P (Ok found) short files e (same, is) = subst P (sym same) (short is)
+of_look P (Err error) short files e is = files e (file_fault (error_kind error) e is)
 
-pub look_serves : (e : ServeFault) → IsLookFault e → IsServeFault e
-look_serves = of_look IsServeFault (λ short. tt) file_serves
+pub look_serves : (looked : Result Metadata Error) (e : ServeFault) → IsLookFault looked e → IsServeFault e
+look_serves looked = of_look IsServeFault looked (λ short. tt) file_serves
 
-pub look_reports : (e : ServeFault) → IsLookFault e → IsReportFault e
-look_reports = of_look IsReportFault (λ short. tt) file_reports
+pub look_reports : (looked : Result Metadata Error) (e : ServeFault) → IsLookFault looked e → IsReportFault e
+look_reports looked = of_look IsReportFault looked (λ short. tt) file_reports
 
-pub look_silent : (e : ServeFault) → IsLookFault e → e ≢ fault.Output
-look_silent = of_look (λ e. e ≢ fault.Output) (λ short same. absurd cc) file_silent
+pub look_silent : (looked : Result Metadata Error) (e : ServeFault) → IsLookFault looked e → e ≢ fault.Output
+look_silent looked = of_look (λ e. e ≢ fault.Output) looked (λ short same. absurd cc) file_silent
 
 -- ---- of the tables that files held
 
-module _ {F S : Type 0} (first : start.Ghosts F) (g : Ghosts S) where
-  pub file_tables : (e : ServeFault) → IsFileFault e → IsOfTables first g e
-  file_tables = of_files (IsOfTables first g) tt tt tt tt tt
+module _ {F S : Type 0} (first : start.Ghosts F) (g : Ghosts S) (looked : Result Metadata Error) where
+  pub file_tables : (e : ServeFault) → IsFileFault e → IsOfTables first g looked e
+  file_tables = of_files (IsOfTables first g looked) tt tt tt tt tt
 
-  pub look_tables : (e : ServeFault) → IsLookFault e → IsOfTables first g e
-  look_tables = of_look (IsOfTables first g) (λ short. inl short) file_tables
+  pub look_tables : (e : ServeFault) → IsLookFault looked e → IsOfTables first g looked e
+  look_tables = of_look (IsOfTables first g looked) looked (λ short. inl short) file_tables
 
-  pub write_tables : (e : ServeFault) → IsWriteFault e → IsOfTables first g e
-  write_tables = of_write (IsOfTables first g) tt tt tt
+  pub write_tables : (e : ServeFault) → IsWriteFault e → IsOfTables first g looked e
+  write_tables = of_write (IsOfTables first g looked) tt tt tt
 
-  pub port_tables : (e : ServeFault) → IsPortFault e → IsOfTables first g e
-  port_tables = of_port (IsOfTables first g) tt tt tt tt
+  pub port_tables : (e : ServeFault) → IsPortFault e → IsOfTables first g looked e
+  port_tables = of_port (IsOfTables first g looked) tt tt tt tt
 
   -- they were refused
-  of_refused : (cause : StoreFault) (back : Option (Leftover S)) → IsRefusedFrom first cause back g → IsOfTables first g (fault_of cause)
+  of_refused : (cause : StoreFault) (back : Option (Leftover S)) → IsRefusedFrom first cause back g → IsOfTables first g looked (fault_of cause)
   of_refused store.NotOurs None refused = absurd (refused.0 refl)
   of_refused store.NotOurs (Some left) refused = inr (left, refused)
   of_refused store.Version None refused = absurd (refused.1 refl)
@@ -190,17 +158,27 @@ module _ {F S : Type 0} (first : start.Ghosts F) (g : Ghosts S) where
   of_refused store.Store back refused = tt
 
   -- they were opened, and something else failed over them, or they weren't
-  pub opened_tables : {B : Type 0} (Over : ServeFault → Type 0) → ((e : ServeFault) → Over e → IsOfTables first g e)
+  pub opened_tables : {B : Type 0} (Over : ServeFault → Type 0) → ((e : ServeFault) → Over e → IsOfTables first g looked e)
       → (opened : Result B (StoreFault × Option (Leftover S))) (done : Result (Unit {0}) ServeFault) → IfErr opened (λ e. IsRefusedFrom first e.0 e.1 g)
-      → IfErr done (λ told. MatchResult opened (λ _. Over told) (λ e. told ≡ fault_of e.0)) → IfErr done (IsOfTables first g)
+      → IfErr done (λ told. MatchResult opened (λ _. Over told) (λ e. told ≡ fault_of e.0)) → IfErr done (IsOfTables first g looked)
   opened_tables Over over opened (Ok done) refused is = tt
   opened_tables Over over (Ok book) (Err told) refused is = over told is
-  opened_tables Over over (Err (cause, back)) (Err told) refused is = subst (IsOfTables first g) (sym is) (of_refused cause back refused)
+  opened_tables Over over (Err (cause, back)) (Err told) refused is = subst (IsOfTables first g looked) (sym is) (of_refused cause back refused)
 
-  pub file_tables_there : (e : ServeFault) → IsFileFault e → IsOfTablesThere first g e
-  file_tables_there = of_files (IsOfTablesThere first g) tt tt tt tt tt
+  -- the same of a name of which nothing is supposed
+  pub tables_at_name : (r : Result (Unit {0}) ServeFault) → IfErr r (IsOfTables first g looked) → IfErr r (IsOfTablesAtName first g)
+  tables_at_name (Ok done) is = tt
+  tables_at_name (Err e) is = (looked, is)
+
+pub file_tables_there : {F S : Type 0} (first : start.Ghosts F) (g : Ghosts S) (e : ServeFault) → IsFileFault e → IsOfTablesThere first g e
+file_tables_there first g = of_files (IsOfTablesThere first g) tt tt tt tt tt
 
 -- ---- of an outcome that is told anew
+
+-- what holds in any case
+pub if_ok : {P : Type 0} (r : Result (Unit {0}) ServeFault) → P → OnOk r P
+if_ok (Ok done) h = h
+if_ok (Err e) h = tt
 
 module _ (ended done told : Result (Unit {0}) ServeFault) (closed : done ≡ ended) (is : IsToldAnew done told) where
   ways : (told ≡ ended)

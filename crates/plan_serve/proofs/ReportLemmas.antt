@@ -2,6 +2,8 @@
 use Rattle.std.proofs.Common.{◌≡◌, ◌⊎◌, inl, inr, map, vec_items, sym, subst, ℕ, Option, Result, Ok, Err, IfOk}
 use Rattle.std.specs.Prelude.{IfErr, OnOk, MatchResult}
 use Rattle.std.proofs.lemmas.List.{length-map}
+use Rattle.std.specs.declared.fs.attrs.Metadata.{Metadata}
+use Rattle.std_io.specs.declared.io.error.Error.{Error}
 use Rattle.sqlite_disk.specs.declared.start.Start as start
 use Rattle.sqlite_trees.specs.declared.store.Store.{Ghosts}
 use Rattle.plan_rows.specs.World.{Text}
@@ -62,9 +64,10 @@ pub read_replays : (e : ServeFault) → (e ≡ fault.Memory) ⊎ (e ≡ fault.In
 read_replays e (inl same) = subst IsReplayFault (sym same) tt
 read_replays e (inr same) = subst IsReplayFault (sym same) tt
 
-pub read_tables : {F S : Type 0} (first : start.Ghosts F) (g : Ghosts S) (e : ServeFault) → (e ≡ fault.Memory) ⊎ (e ≡ fault.Input) → IsOfTables first g e
-read_tables first g e (inl same) = subst (IsOfTables first g) (sym same) tt
-read_tables first g e (inr same) = subst (IsOfTables first g) (sym same) tt
+pub read_tables : {F S : Type 0} (first : start.Ghosts F) (g : Ghosts S) (looked : Result Metadata Error) (e : ServeFault)
+    → (e ≡ fault.Memory) ⊎ (e ≡ fault.Input) → IsOfTables first g looked e
+read_tables first g looked e (inl same) = subst (IsOfTables first g looked) (sym same) tt
+read_tables first g looked e (inr same) = subst (IsOfTables first g looked) (sym same) tt
 
 of_report : (e : ServeFault) → IsReportFault e → IsReplayFault e
 of_report fault.Memory is = tt

@@ -11,7 +11,7 @@ use Rattle.plan_serve.specs.Faults.{fault_of}
 use Rattle.plan_door.specs.declared.fault.ServeFault.{ServeFault}
 use Rattle.plan_door.specs.Ports.{IsPortFault, ServesFrom}
 use Rattle.plan_serve.specs.Ports.{ServesOnFiles}
-use Rattle.plan_door.specs.Serve.{IsServeFault}
+use Rattle.plan_serve.specs.Causes.{IsServeFault}
 use Rattle.plan_serve.proofs.CauseLemmas.{of_port}
 
 -- with a fault of the store nothing is served

@@ -3,6 +3,7 @@ use Rattle.std.specs.Prelude.{◌≡◌, ◌≢◌, ◌⊎◌, ◌<◌, Some, Re
 use Rattle.std.specs.Fs.{metadata_len, file_type, IsFile}
 use Rattle.std.specs.IoError.{error_kind}
 use Rattle.std.specs.declared.fs.attrs.Metadata.{Metadata}
+use Rattle.std_io.specs.declared.io.error.Error.{Error}
 use Rattle.std_io.specs.declared.io.kind.ErrorKind.{ErrorKind}
 use Rattle.std_io.specs.declared.io.kind.ErrorKind.TheVariants as kind
 use Rattle.sqlite_std_file.specs.declared.pair.OpenError.{OpenError}
@@ -46,14 +47,29 @@ IsFileFault fault.Missing = Unit {0}
 IsFileFault fault.Denied = Unit {0}
 IsFileFault e = ⊥
 
--- the system tells of a file that is shorter than any database
-abbrev pub IsShortFile : Type 0
-IsShortFile = (found : Metadata) × IsFile (file_type found) × (metadata_len found < 512)
+-- why no connection is served: of the files and their tables, or of the port
+abbrev pub IsServeFault : ServeFault → Type 0
+IsServeFault fault.NotOurs = Unit {0}
+IsServeFault fault.Version = Unit {0}
+IsServeFault fault.PortTaken = Unit {0}
+IsServeFault fault.PortDenied = Unit {0}
+IsServeFault fault.Socket = Unit {0}
+IsServeFault e = IsFileFault e
 
--- what a look at a file tells
-abbrev pub IsLookFault : ServeFault → Type 0
-IsLookFault fault.NotOurs = IsShortFile
-IsLookFault e = IsFileFault e
+-- what the system tells of a name: a file that is shorter than any database
+abbrev pub IsShort : Result Metadata Error → Type 0
+IsShort (Ok found) = IsFile (file_type found) × (metadata_len found < 512)
+IsShort (Err error) = ⊥
+
+-- or something that may be one
+abbrev pub IsThere : Result Metadata Error → Type 0
+IsThere (Ok found) = ¬ IsShort (Ok found)
+IsThere (Err error) = ⊥
+
+-- what a look at a name is told as
+abbrev pub IsLookFault : Result Metadata Error → ServeFault → Type 0
+IsLookFault (Ok found) e = (e ≡ fault.NotOurs) × IsShort (Ok found)
+IsLookFault (Err error) e = IsFileCause (error_kind error) e
 
 module _ {F S : Type 0} (first : start.Ghosts F) (g : Ghosts S) where
   -- the tables that files held were opened, and refused for this
@@ -61,11 +77,15 @@ module _ {F S : Type 0} (first : start.Ghosts F) (g : Ghosts S) where
   AreRefused cause = (left : Leftover S) × IsRefusedFrom first cause (Some left) g
 
   -- A fault that speaks of tables is told of those that files held: they are no office's, unless the
-  -- file is too short for any, or they are of no known version.
-  abbrev pub IsOfTables : ServeFault → Type 0
-  IsOfTables fault.NotOurs = IsShortFile ⊎ AreRefused store.NotOurs
-  IsOfTables fault.Version = AreRefused store.Version
-  IsOfTables e = Unit {0}
+  -- system tells of a file that is too short for any, or they are of no known version.
+  abbrev pub IsOfTables : Result Metadata Error → ServeFault → Type 0
+  IsOfTables looked fault.NotOurs = IsShort looked ⊎ AreRefused store.NotOurs
+  IsOfTables looked fault.Version = AreRefused store.Version
+  IsOfTables looked e = Unit {0}
+
+  -- the same, for something that the system may tell of the name
+  abbrev pub IsOfTablesAtName : ServeFault → Type 0
+  IsOfTablesAtName e = (looked : Result Metadata Error) × IsOfTables looked e
 
 -- the outcome of a command as it is told: as it was, or a refusal of the store by another cause
 abbrev pub IsToldAnew : Result (Unit {0}) ServeFault → Result (Unit {0}) ServeFault → Type 0

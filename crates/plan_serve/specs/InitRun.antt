@@ -20,6 +20,7 @@ use Rattle.plan_store.specs.Creating.{IsNewStore}
 use Rattle.plan_door.specs.declared.fault.ServeFault.{ServeFault}
 use Rattle.plan_door.specs.declared.fault.ServeFault.TheVariants as fault
 use Rattle.plan_serve.specs.Faults.{fault_of}
+use Rattle.plan_serve.specs.Causes.{IsFileFault}
 use Rattle.plan_door.specs.Keys.{ReadsKey, IsDigestOfKey}
 
 -- the tables of an office without a row stand, and a crash leaves nothing else
@@ -115,12 +116,7 @@ module _ {S : Type 0} (g : Ghosts S) (Opens : Held S → Type 0) (Refuses : Stor
 -- why the tables of a new office aren't made
 abbrev pub IsInitFault : ServeFault → Type 0
 IsInitFault fault.Key = Unit {0}
-IsInitFault fault.Store = Unit {0}
 IsInitFault fault.NotOurs = Unit {0}
 IsInitFault fault.Taken = Unit {0}
-IsInitFault fault.Memory = Unit {0}
 IsInitFault fault.Input = Unit {0}
-IsInitFault fault.Locked = Unit {0}
-IsInitFault fault.Missing = Unit {0}
-IsInitFault fault.Denied = Unit {0}
-IsInitFault e = ⊥
+IsInitFault e = IsFileFault e

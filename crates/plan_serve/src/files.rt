@@ -4,8 +4,7 @@ ghost use Rattle.std.specs.Prelude.{◌≡◌, ◌⊎◌, ◌↔◌, ◌+◌, �
 ghost use Rattle.std.specs.IoError.{error_kind};
 ghost use Rattle.plan_psplib.specs.Devices.{most_calls, HasFailed};
 ghost use Rattle.plan_store.specs.declared.fault.StoreFault.TheVariants.{NoMemory, Store};
-ghost use Rattle.plan_door.specs.Serve.{IsServeFault};
-ghost use Rattle.plan_serve.specs.Causes.{IsOfTables, IsToldAnew};
+ghost use Rattle.plan_serve.specs.Causes.{IsOfTables, IsOfTablesAtName, IsServeFault, IsThere, IsToldAnew};
 ghost use Rattle.plan_serve.specs.CheckRun.{ChecksOnFiles, IsPrinted, IsPrintedInPart};
 ghost use Rattle.plan_serve.specs.InitRun.{IsOpenedFrom, InitsOnFiles, IsInitFault, IsOfTablesThere};
 ghost use Rattle.plan_door.specs.ReplayRun.{AreAnswered, AreAnsweredInPart};
@@ -22,7 +21,7 @@ use plan_store::{SqlBook, StoreFault};
 use sqlite::{Connection, Error, ErrorCode, FileFrom, FileStore, Start, Unknown};
 use sqlite_trees::store::Store;
 use std::alloc::Global;
-use std::fs;
+use std::fs::{self, Metadata};
 use std::io::{self, ErrorKind};
 
 // What a database in a file is kept in.
@@ -148,6 +147,7 @@ fn read_all(rt: &HostRuntime, paths: &[&str]) -> Result<Vec<Vec<u8>>, ServeFault
 fn report_at<F: Start, W: Sink>(
     rt: &HostRuntime,
     path: &str,
+    looked: io::Result<Metadata>,
     start: F,
     report: Report<'_>,
     writer: &mut W,
@@ -161,9 +161,10 @@ fn report_at<F: Start, W: Sink>(
     ensures output { IsErrOf result ServeFault.Output →
         HasFailed (W.calls writer.old) (W.calls writer.new) (W.faults writer.old) (W.faults writer.new) }
     ensures which { IfErr result IsReportFault }
-    ensures tables { IfErr result (IsOfTables F.Start ⟦<Kept<F> as Store>⟧) }
+    ensures there { OnOk result (IsThere looked) }
+    ensures tables { IfErr result (IsOfTables F.Start ⟦<Kept<F> as Store>⟧ looked) }
 {
-    if let Err(fault) = look(rt, path) {
+    if let Err(fault) = look(looked) {
         return Err(fault);
     }
     let opened = SqlBook::open_from(rt, path, start);
@@ -173,6 +174,7 @@ fn report_at<F: Start, W: Sink>(
 
 /// `plan replay`: serves the connections whose bytes are in files, by the office in the file of this
 /// name, and writes the responses. All files are read before the office is opened.
+#[tactic(auto, using(crate::proofs::CauseLemmas::tables_at_name))]
 pub fn replay_on_files<W: Sink>(
     rt: &HostRuntime,
     path: &str,
@@ -190,16 +192,18 @@ pub fn replay_on_files<W: Sink>(
     ensures output { IsErrOf result ServeFault.Output →
         HasFailed (W.calls writer.old) (W.calls writer.new) (W.faults writer.old) (W.faults writer.new) }
     ensures which { IfErr result IsReplayFault }
-    ensures tables { IfErr result (IsOfTables ⟦<Unknown as Start>⟧ ⟦<Kept<Unknown> as Store>⟧) }
+    ensures tables { IfErr result (IsOfTablesAtName ⟦<Unknown as Start>⟧ ⟦<Kept<Unknown> as Store>⟧) }
 {
-    replay_from(rt, path, Unknown, requests, writer)
+    replay_from(rt, path, fs::metadata(rt, path), Unknown, requests, writer)
 }
 
-/// The same, where the start stands for what the files hold.
+/// The same, where the start stands for what the files hold, and `looked` is what the system tells of
+/// the file of this name.
 #[tactic(auto, using(crate::proofs::ReportLemmas::read_replays, crate::proofs::ReportLemmas::read_tables, crate::proofs::ReportLemmas::report_replays))]
 pub fn replay_from<F: Start, W: Sink>(
     rt: &HostRuntime,
     path: &str,
+    looked: io::Result<Metadata>,
     start: F,
     requests: &[&str],
     writer: &mut W,
@@ -215,17 +219,19 @@ pub fn replay_from<F: Start, W: Sink>(
     ensures output { IsErrOf result ServeFault.Output →
         HasFailed (W.calls writer.old) (W.calls writer.new) (W.faults writer.old) (W.faults writer.new) }
     ensures which { IfErr result IsReplayFault }
-    ensures tables { IfErr result (IsOfTables F.Start ⟦<Kept<F> as Store>⟧) }
+    ensures there { OnOk result (IsThere looked) }
+    ensures tables { IfErr result (IsOfTables F.Start ⟦<Kept<F> as Store>⟧ looked) }
 {
     let conns = match read_all(rt, requests) {
         Ok(conns) => conns,
         Err(fault) => return Err(fault),
     };
-    report_at(rt, path, start, Report::Responses(&conns), writer)
+    report_at(rt, path, looked, start, Report::Responses(&conns), writer)
 }
 
 /// `plan check-office`: tests every row of the office in the file of this name, and writes how many
 /// there are in each table and a digest of them.
+#[tactic(auto, using(crate::proofs::CauseLemmas::tables_at_name))]
 pub fn check_office_on_file<W: Sink>(
     rt: &HostRuntime,
     path: &str,
@@ -241,15 +247,17 @@ pub fn check_office_on_file<W: Sink>(
     ensures output { IsErrOf result ServeFault.Output →
         HasFailed (W.calls writer.old) (W.calls writer.new) (W.faults writer.old) (W.faults writer.new) }
     ensures which { IfErr result IsReportFault }
-    ensures tables { IfErr result (IsOfTables ⟦<Unknown as Start>⟧ ⟦<Kept<Unknown> as Store>⟧) }
+    ensures tables { IfErr result (IsOfTablesAtName ⟦<Unknown as Start>⟧ ⟦<Kept<Unknown> as Store>⟧) }
 {
-    check_office_from(rt, path, Unknown, writer)
+    check_office_from(rt, path, fs::metadata(rt, path), Unknown, writer)
 }
 
-/// The same, where the start stands for what the files hold.
+/// The same, where the start stands for what the files hold, and `looked` is what the system tells of
+/// the file of this name.
 pub fn check_office_from<F: Start, W: Sink>(
     rt: &HostRuntime,
     path: &str,
+    looked: io::Result<Metadata>,
     start: F,
     writer: &mut W,
 ) -> Result<(), ServeFault>
@@ -263,35 +271,42 @@ pub fn check_office_from<F: Start, W: Sink>(
     ensures output { IsErrOf result ServeFault.Output →
         HasFailed (W.calls writer.old) (W.calls writer.new) (W.faults writer.old) (W.faults writer.new) }
     ensures which { IfErr result IsReportFault }
-    ensures tables { IfErr result (IsOfTables F.Start ⟦<Kept<F> as Store>⟧) }
+    ensures there { OnOk result (IsThere looked) }
+    ensures tables { IfErr result (IsOfTables F.Start ⟦<Kept<F> as Store>⟧ looked) }
 {
-    report_at(rt, path, start, Report::Rows, writer)
+    report_at(rt, path, looked, start, Report::Rows, writer)
 }
 
 /// `plan serve`: serves so many connections on a port of this machine alone, by the office in a file.
 /// The office is opened before the port.
+#[tactic(auto, using(crate::proofs::CauseLemmas::tables_at_name))]
 pub fn serve_on_port(rt: &HostRuntime, service: &Service<'_>) -> Result<(), ServeFault>
     ensures served { OnOk result (ServesOnFiles ⟦<Unknown as Start>⟧ ⟦<Kept<Unknown> as Store>⟧ service.now.count) }
     ensures which { IfErr result IsServeFault }
-    ensures tables { IfErr result (IsOfTables ⟦<Unknown as Start>⟧ ⟦<Kept<Unknown> as Store>⟧) }
+    ensures tables { IfErr result (IsOfTablesAtName ⟦<Unknown as Start>⟧ ⟦<Kept<Unknown> as Store>⟧) }
 {
-    serve_from(rt, service, Unknown)
+    let looked = fs::metadata(rt, service.database);
+    serve_from(rt, service, looked, Unknown)
 }
 
-/// The same, where the start stands for what the files hold.
+/// The same, where the start stands for what the files hold, and `looked` is what the system tells of
+/// the file of this name.
 #[tactic(auto, using(crate::proofs::CauseLemmas::look_serves, crate::proofs::CauseLemmas::look_tables))]
 pub fn serve_from<F: Start>(
     rt: &HostRuntime,
     service: &Service<'_>,
+    looked: io::Result<Metadata>,
     start: F,
 ) -> Result<(), ServeFault>
     ensures served { OnOk result (ServesOnFiles F.Start ⟦<Kept<F> as Store>⟧ service.now.count) }
     ensures which { IfErr result IsServeFault }
+    // A file is there, and not too short.
+    ensures there { OnOk result (IsThere looked) }
     // Tables that are no office's, or of no known version, are told of where they were opened.
-    ensures tables { IfErr result (IsOfTables F.Start ⟦<Kept<F> as Store>⟧) }
+    ensures tables { IfErr result (IsOfTables F.Start ⟦<Kept<F> as Store>⟧ looked) }
 {
     let path = service.database;
-    if let Err(fault) = look(rt, path) {
+    if let Err(fault) = look(looked) {
         return Err(fault);
     }
     let opened = SqlBook::open_from(rt, path, start);

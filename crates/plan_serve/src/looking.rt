@@ -1,13 +1,13 @@
 //! What stands at the name of an office, and why it can't be opened.
 
-ghost use Rattle.std.specs.Prelude.{◌≢◌, IfErr};
-ghost use Rattle.plan_serve.specs.Causes.{IsFileCause, IsFileFault, IsLookFault, IsOpenCause};
+ghost use Rattle.std.specs.Prelude.{IfErr, OnOk};
+ghost use Rattle.plan_serve.specs.Causes.{IsFileCause, IsFileFault, IsLookFault, IsOpenCause, IsThere};
 
 use plan_door::ServeFault;
 use sqlite::Start;
 use sqlite_std_file::OpenError;
-use std::fs;
-use std::io::ErrorKind;
+use std::fs::Metadata;
+use std::io::{self, ErrorKind};
 
 // The fewest bytes of a database: those of a page of the least size.
 const SHORTEST: u64 = 512;
@@ -28,15 +28,13 @@ fn file_fault(kind: ErrorKind) -> ServeFault
     ServeFault::Store
 }
 
-/// Tells why no office is at a name where a look at it says so: nothing is there, it can't be reached,
-/// or it is shorter than any database. Nothing is opened, so nothing is made or grows.
-#[tactic(auto, using(crate::proofs::CauseLemmas::look_fault, crate::proofs::CauseLemmas::file_free))]
-pub(crate) fn look(rt: &HostRuntime, path: &str) -> Result<(), ServeFault>
-    ensures which { IfErr result IsLookFault }
-    // It doesn't tell whether another program has it open.
-    ensures free { IfErr result (λ e. e ≢ ServeFault.Locked) }
+/// Tells why no office is at a name where what the system tells of it says so: nothing is there, it
+/// can't be reached, or it is shorter than any database. Nothing is opened, so nothing is made or grows.
+pub(crate) fn look(looked: io::Result<Metadata>) -> Result<(), ServeFault>
+    ensures there { OnOk result (IsThere looked) }
+    ensures which { IfErr result (IsLookFault looked) }
 {
-    match fs::metadata(rt, path) {
+    match looked {
         Ok(found) if found.is_file() && found.len() < SHORTEST => Err(ServeFault::NotOurs),
         Ok(_) => Ok(()),
         Err(error) => Err(file_fault(error.kind())),

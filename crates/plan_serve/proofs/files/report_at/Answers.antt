@@ -1,7 +1,7 @@
 use Rattle.sqlite.specs.Files.{over_files}
 use Rattle.plan_serve.specs.Causes.{IsOfTables}
 use Rattle.plan_serve.specs.Reports.{IsReportFault, IsWriteFault}
-use Rattle.plan_serve.proofs.CauseLemmas.{told_ok, told_err, told_quiet, told_output, file_reports, file_tables, write_tables, opened_tables}
+use Rattle.plan_serve.proofs.CauseLemmas.{if_ok, told_ok, told_err, told_quiet, told_output, file_reports, file_tables, write_tables, opened_tables}
 use Rattle.plan_serve.proofs.ReportLemmas.{reports_on_files, opened_reports}
 use Rattle.plan_serve.proofs.files.report_at.Goals as goal
 
@@ -38,6 +38,10 @@ returns-clause-which g c =
 
 pub returns-clause-tables : goal.returns-clause-tables
 returns-clause-tables g c =
-    told_err c.report_opened.result.0 c.closed-done.result c.told_at.result c.closed-done.ensures c.told_at.ensures (IsOfTables g.F.Start over_files)
-    (opened_tables g.F.Start over_files IsWriteFault (write_tables g.F.Start over_files) c.open_from-opened.result c.report_opened.result.0 c.open_from-opened.ensures.refused c.report_opened.ensures.which)
-    (λ e was files. file_tables g.F.Start over_files e files)
+    told_err c.report_opened.result.0 c.closed-done.result c.told_at.result c.closed-done.ensures c.told_at.ensures (IsOfTables g.F.Start over_files c.args.looked)
+    (opened_tables g.F.Start over_files c.args.looked IsWriteFault (write_tables g.F.Start over_files c.args.looked) c.open_from-opened.result c.report_opened.result.0 c.open_from-opened.ensures.refused c.report_opened.ensures.which)
+    (λ e was files. file_tables g.F.Start over_files c.args.looked e files)
+
+pub returns-clause-there : goal.returns-clause-there
+returns-clause-there g c =
+    told_ok c.report_opened.result.0 c.closed-done.result c.told_at.result c.closed-done.ensures c.told_at.ensures _ (if_ok c.report_opened.result.0 c.in_default.ensures.there)

@@ -1,9 +1,8 @@
 use Rattle.std.proofs.Common.{refl}
 use Rattle.sqlite.specs.Files.{over_files}
-use Rattle.plan_door.specs.Serve.{IsServeFault}
 use Rattle.plan_door.specs.Ports.{IsPortFault}
-use Rattle.plan_serve.specs.Causes.{IsOfTables}
-use Rattle.plan_serve.proofs.CauseLemmas.{told_ok, told_err, file_serves, file_tables, port_tables, opened_tables}
+use Rattle.plan_serve.specs.Causes.{IsOfTables, IsServeFault}
+use Rattle.plan_serve.proofs.CauseLemmas.{if_ok, told_ok, told_err, file_serves, file_tables, port_tables, opened_tables}
 use Rattle.plan_serve.proofs.ServeLemmas.{serves_on_files, opened_serves}
 use Rattle.plan_serve.proofs.files.serve_from.Goals as goal
 
@@ -18,6 +17,10 @@ returns-clause-which g c =
 
 pub returns-clause-tables : goal.returns-clause-tables
 returns-clause-tables g c =
-    told_err c.serve_opened.result.0 c.closed-done.result c.told_at.result c.closed-done.ensures c.told_at.ensures (IsOfTables g.F.Start over_files)
-    (opened_tables g.F.Start over_files IsPortFault (port_tables g.F.Start over_files) c.open_from-opened.result c.serve_opened.result.0 c.open_from-opened.ensures.refused c.serve_opened.ensures.which)
-    (λ e was files. file_tables g.F.Start over_files e files)
+    told_err c.serve_opened.result.0 c.closed-done.result c.told_at.result c.closed-done.ensures c.told_at.ensures (IsOfTables g.F.Start over_files c.args.looked)
+    (opened_tables g.F.Start over_files c.args.looked IsPortFault (port_tables g.F.Start over_files c.args.looked) c.open_from-opened.result c.serve_opened.result.0 c.open_from-opened.ensures.refused c.serve_opened.ensures.which)
+    (λ e was files. file_tables g.F.Start over_files c.args.looked e files)
+
+pub returns-clause-there : goal.returns-clause-there
+returns-clause-there g c =
+    told_ok c.serve_opened.result.0 c.closed-done.result c.told_at.result c.closed-done.ensures c.told_at.ensures _ (if_ok c.serve_opened.result.0 c.in_default.ensures.there)
