@@ -1,4 +1,4 @@
-// A desk in the browser: it asks the routes of docs/SERVICE.md, and shows the answers.
+// A desk in the browser: it asks the routes of docs/api.md, and shows the answers.
 
 import { FAULTS } from "./faults.js";
 

@@ -121,7 +121,7 @@ export const FAULTS = {
   ],
   H4: [
     "The service has no such path.",
-    "Compare the path with docs/SERVICE.md: no query, no percent sign, no slash at the end.",
+    "Compare the path with docs/api.md: no query, no percent sign, no slash at the end.",
   ],
   H5: [
     "The path has another method, which the field Allow tells.",
@@ -141,7 +141,7 @@ export const FAULTS = {
   E03: [
     "The body isn't a JSON object with all members that are needed, each of its kind and within "
     + "its limits; or a place isn't one of the plan, or an arc not one of the project.",
-    "Compare the body with docs/SERVICE.md.",
+    "Compare the body with docs/api.md.",
   ],
   E04: [
     "A desk of this name is there already.",
@@ -192,6 +192,6 @@ export const FAULTS = {
     + "journal (-journal); the disk is full or fails; or there is a limit on files. A refused "
     + "command has changed nothing.",
     "Tell them apart by ls -l, df, ulimit -a and PRAGMA integrity_check in sqlite3, which also "
-    + "ends a journal (docs/SERVICE.md); then mend it or take a backup, and start again.",
+    + "ends a journal (docs/api.md); then mend it or take a backup, and start again.",
   ],
 };

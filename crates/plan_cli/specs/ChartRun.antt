@@ -1,4 +1,4 @@
--- What `plan chart` writes for the bytes that it reads (docs/DEFINITIONS.md, "Runs").
+-- What `plan chart` writes for the bytes that it reads (docs/definitions.md, "Runs").
 use Rattle.std.specs.Prelude.{◌≡◌, ℕ, List}
 use Rattle.plan_net.specs.Network.{count_of}
 use Rattle.plan_psplib.specs.Project.{Project, SaysProject}

@@ -1,4 +1,4 @@
--- The codes with which lines of faults begin, and what `plan explain` prints of each (docs/FAULTS.md,
+-- The codes with which lines of faults begin, and what `plan explain` prints of each (docs/errors.md,
 -- from which docs/entries writes this).
 use Rattle.std.specs.Prelude.{ℕ, List, codes}
 use Rattle.plan_cli.specs.declared.codes.Code.{Code}
@@ -93,11 +93,11 @@ entry_of code.UnknownCode = codes "C1 unknown code\nplan explain knows no such c
 entry_of code.BadMessage = codes "H1 message\nThe connection doesn't begin with the head of a request (at most 8,192 bytes and 64 fields), or an HTTP/1.1 request has no Host, or there are two, or Content-Length isn't a number, or two differ, or the body is shorter than it says.\nSend a whole request, by a usual client.\n"
 entry_of code.LargeBody = codes "H2 too large\nThe body has more than 1,048,576 bytes.\nSend a smaller file.\n"
 entry_of code.Coding = codes "H3 coding\nThere is a field Transfer-Encoding.\nSend the body as it is, with Content-Length.\n"
-entry_of code.NoRoute = codes "H4 route\nThe service has no such path.\nCompare the path with docs/SERVICE.md: no query, no percent sign, no slash at the end.\n"
+entry_of code.NoRoute = codes "H4 route\nThe service has no such path.\nCompare the path with docs/api.md: no query, no percent sign, no slash at the end.\n"
 entry_of code.OtherMethod = codes "H5 method\nThe path has another method, which the field Allow tells.\nSend that method.\n"
 entry_of code.WrongKey = codes "E01 key\nThe field Desk-Key is missing, there are two, it isn't the key of the path's desk (or of the office), or there is no such desk.\nSend the right key: the office's on paths that begin with /office, the desk's on paths that begin with /desks.\n"
 entry_of code.NotFound = codes "E02 not found\nThe desk has no plan of this number; or, where a desk is to get another key, there is no such desk.\nAsk for the list of plans.\n"
-entry_of code.BadBody = codes "E03 body\nThe body isn't a JSON object with all members that are needed, each of its kind and within its limits; or a place isn't one of the plan, or an arc not one of the project.\nCompare the body with docs/SERVICE.md.\n"
+entry_of code.BadBody = codes "E03 body\nThe body isn't a JSON object with all members that are needed, each of its kind and within its limits; or a place isn't one of the plan, or an arc not one of the project.\nCompare the body with docs/api.md.\n"
 entry_of code.DeskExists = codes "E04 desk exists\nA desk of this name is there already.\nChoose another name, or give the desk another key.\n"
 entry_of code.NotPublished = codes "E05 code not published\nThe office has published no such code.\nAsk for the capacities, or publish the code.\n"
 entry_of code.KindDiffers = codes "E06 kind differs\nThe code is published as the other kind, or is bound to a plan of the other kind: a project takes crews, a job shop machines.\nChoose another code.\n"
@@ -115,7 +115,7 @@ entry_of code.NotThere = codes "K5 not there\nNothing is at the name; or, for pl
 entry_of code.NotWritable = codes "K6 not writable\nThe file of the office, the log beside it (with -wal at its end) or their folder may not be read and written by this user, or the disk is mounted for reading alone.\nGive the folder and the files to the user that serves (chown), or put the office into a folder of its own.\n"
 entry_of code.OfficeThere = codes "K7 office there already\nFor plan init, it has the tables of an office already, whatever rows and version these have. Nothing was changed.\nServe it by plan serve, or give plan init another name.\n"
 entry_of code.NoMemory = codes "E90 memory\nMemory ran out. The file may be in order.\nFree memory and try again.\n"
-entry_of code.StoreRefused = codes "E91 store\nThe file of an office can't be opened, read or written: a folder or device has its name, or the name is too long; it is no SQLite database, or has UTF-16 or auto_vacuum; it was cut or damaged; its log (-wal) is another's; it has a second name (hard link); sqlite3 left a journal (-journal); the disk is full or fails; or there is a limit on files. A refused command has changed nothing.\nTell them apart by ls -l, df, ulimit -a and PRAGMA integrity_check in sqlite3, which also ends a journal (docs/SERVICE.md); then mend it or take a backup, and start again.\n"
+entry_of code.StoreRefused = codes "E91 store\nThe file of an office can't be opened, read or written: a folder or device has its name, or the name is too long; it is no SQLite database, or has UTF-16 or auto_vacuum; it was cut or damaged; its log (-wal) is another's; it has a second name (hard link); sqlite3 left a journal (-journal); the disk is full or fails; or there is a limit on files. A refused command has changed nothing.\nTell them apart by ls -l, df, ulimit -a and PRAGMA integrity_check in sqlite3, which also ends a journal (docs/api.md); then mend it or take a backup, and start again.\n"
 entry_of code.Input = codes "I1 file\nThe file or standard input can't be read: it isn't there, is a folder, or may not be read.\nCheck the name, relative to the folder that you stand in, and the permissions.\n"
 entry_of code.Socket = codes "I2 socket\nThe server can't listen on the port, and not for the causes of I4 and I5; or no connection could be accepted a hundred times in a row, as where too many files are open. What was answered stands.\nLook for what holds files or connections open, raise the limit (ulimit -n), and start the server again.\n"
 entry_of code.Output = codes "I3 output\nThe output can't be written whole: the disk is full, or the reader of the pipe has gone.\nMake room or keep the pipe open, and run the command again; throw the part away.\n"

@@ -1,4 +1,4 @@
--- What `plan days` writes for the bytes that it reads (docs/DEFINITIONS.md, "Runs").
+-- What `plan days` writes for the bytes that it reads (docs/definitions.md, "Runs").
 use Rattle.std.specs.Prelude.{◌≡◌, ◌⊎◌, ℕ, List}
 use Rattle.plan_psplib.specs.Project.{Project, SaysProject}
 use Rattle.plan_orlib.specs.Shop as docs

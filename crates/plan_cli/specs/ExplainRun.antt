@@ -1,4 +1,4 @@
--- What `plan explain` writes for a code (docs/DEFINITIONS.md, "Runs").
+-- What `plan explain` writes for a code (docs/definitions.md, "Runs").
 use Rattle.std.specs.Prelude.{◌≡◌, ℕ, List, codes}
 use Rattle.plan_cli.specs.Codes.{name_of, entry_of}
 use Rattle.plan_cli.specs.declared.codes.Code.{Code}

@@ -1,4 +1,4 @@
--- The line that tells why a command failed (docs/DEFINITIONS.md, "Runs").
+-- The line that tells why a command failed (docs/definitions.md, "Runs").
 use Rattle.std.specs.Prelude.{ℕ, List, codes, string_bytes}
 use Rattle.plan_cli.specs.declared.fault.CliFault.{CliFault}
 use Rattle.plan_cli.specs.declared.fault.CliFault.TheVariants as fault

@@ -1,4 +1,4 @@
--- What `plan names` writes for the bytes that it reads (docs/DEFINITIONS.md, "Runs").
+-- What `plan names` writes for the bytes that it reads (docs/definitions.md, "Runs").
 use Rattle.std.specs.Prelude.{◌≡◌, ℕ, List, ◌++◌, Ok, codes}
 use Rattle.std.specs.List.{flat_map}
 use Rattle.plan_psplib.specs.Plain.{plain}

@@ -1,4 +1,4 @@
--- What a command writes for the bytes that it reads (docs/DEFINITIONS.md, "Runs").
+-- What a command writes for the bytes that it reads (docs/definitions.md, "Runs").
 use Rattle.std.specs.Prelude.{◌≡◌, ◌⊎◌, ℕ, ◌+◌, ◌≤◌, ◌<◌, List, Option, Result, Ok, Err, IfSome, IfErr, IsErrOf, OnOk, length, take, string_bytes}
 use Rattle.std.specs.Io.KnownBytes.{Consumes, Appends}
 use Rattle.plan_psplib.specs.declared.devices.traits.Sink as sinks

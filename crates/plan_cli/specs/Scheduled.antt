@@ -1,4 +1,4 @@
--- Schedules by the rule of a name that texts can show (docs/DEFINITIONS.md, "Runs").
+-- Schedules by the rule of a name that texts can show (docs/definitions.md, "Runs").
 use Rattle.std.specs.Prelude.{◌≡◌, ℕ, ◌≤◌, List, length, EachIndex, slice_index}
 use Rattle.plan_net.specs.Network.{count_of}
 use Rattle.plan_sgs.specs.Problem.{IsActive, makespan}

@@ -1,4 +1,4 @@
--- What `plan shop` writes for the bytes that it reads (docs/DEFINITIONS.md, "Runs").
+-- What `plan shop` writes for the bytes that it reads (docs/definitions.md, "Runs").
 use Rattle.std.specs.Prelude.{◌≡◌, ◌⊎◌, ℕ, List}
 use Rattle.plan_orlib.specs.Shop as docs
 use Rattle.plan_orlib.specs.Says.{Says}

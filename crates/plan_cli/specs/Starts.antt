@@ -1,4 +1,4 @@
--- A text of starts: one number a word, a start for each activity (docs/DEFINITIONS.md, "Runs").
+-- A text of starts: one number a word, a start for each activity (docs/definitions.md, "Runs").
 use Rattle.std.specs.Prelude.{◌≡◌, ℕ, zero, suc, ◌≤◌, List, [], ◌∷◌, ◌++◌, Result, Ok, All, length, codes}
 use Rattle.plan_psplib.specs.declared.text.fault.Fault.{Fault}
 use Rattle.plan_psplib.specs.declared.text.fault.FileCode.TheVariants as code

@@ -1,4 +1,4 @@
--- What is made of a file that is given by its name (docs/DEFINITIONS.md, "Runs").
+-- What is made of a file that is given by its name (docs/definitions.md, "Runs").
 use Rattle.std.specs.Prelude.{◌≡◌, ℕ, ◌+◌, ◌≤◌, List, Option, Result, Err, IfSome, length, take, codes, bytes_eq, if◌then◌else◌}
 use Rattle.plan_gantt.specs.FirstFaults.{TellsFirstFailing}
 use Rattle.plan_cli.specs.Run.{IsDateTableOf, ReadsFront}

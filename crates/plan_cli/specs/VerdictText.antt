@@ -1,4 +1,4 @@
--- Verdicts on starts in a sentence (docs/DEFINITIONS.md, "Runs").
+-- Verdicts on starts in a sentence (docs/definitions.md, "Runs").
 use Rattle.std.specs.Prelude.{ℕ, List, ◌++◌, codes}
 use Rattle.std.specs.Fmt.{decimal}
 use Rattle.plan_sgs.specs.declared.verdict.Verdict.{Verdict}

@@ -1,5 +1,5 @@
 //! The codes with which lines of faults begin, and what `plan explain` prints of each. Written by
-//! docs/entries from docs/FAULTS.md.
+//! docs/entries from docs/errors.md.
 
 ghost use Rattle.std.specs.Prelude.{◌≡◌, IfSome, IfNone};
 ghost use Rattle.plan_cli.specs.Codes.{name_of, entry_of};
@@ -223,7 +223,7 @@ impl Code {
                 "H3 coding\nThere is a field Transfer-Encoding.\nSend the body as it is, with Content-Length.\n"
             }
             Code::NoRoute => {
-                "H4 route\nThe service has no such path.\nCompare the path with docs/SERVICE.md: no query, no percent sign, no slash at the end.\n"
+                "H4 route\nThe service has no such path.\nCompare the path with docs/api.md: no query, no percent sign, no slash at the end.\n"
             }
             Code::OtherMethod => {
                 "H5 method\nThe path has another method, which the field Allow tells.\nSend that method.\n"
@@ -235,7 +235,7 @@ impl Code {
                 "E02 not found\nThe desk has no plan of this number; or, where a desk is to get another key, there is no such desk.\nAsk for the list of plans.\n"
             }
             Code::BadBody => {
-                "E03 body\nThe body isn't a JSON object with all members that are needed, each of its kind and within its limits; or a place isn't one of the plan, or an arc not one of the project.\nCompare the body with docs/SERVICE.md.\n"
+                "E03 body\nThe body isn't a JSON object with all members that are needed, each of its kind and within its limits; or a place isn't one of the plan, or an arc not one of the project.\nCompare the body with docs/api.md.\n"
             }
             Code::DeskExists => {
                 "E04 desk exists\nA desk of this name is there already.\nChoose another name, or give the desk another key.\n"
@@ -289,7 +289,7 @@ impl Code {
                 "E90 memory\nMemory ran out. The file may be in order.\nFree memory and try again.\n"
             }
             Code::StoreRefused => {
-                "E91 store\nThe file of an office can't be opened, read or written: a folder or device has its name, or the name is too long; it is no SQLite database, or has UTF-16 or auto_vacuum; it was cut or damaged; its log (-wal) is another's; it has a second name (hard link); sqlite3 left a journal (-journal); the disk is full or fails; or there is a limit on files. A refused command has changed nothing.\nTell them apart by ls -l, df, ulimit -a and PRAGMA integrity_check in sqlite3, which also ends a journal (docs/SERVICE.md); then mend it or take a backup, and start again.\n"
+                "E91 store\nThe file of an office can't be opened, read or written: a folder or device has its name, or the name is too long; it is no SQLite database, or has UTF-16 or auto_vacuum; it was cut or damaged; its log (-wal) is another's; it has a second name (hard link); sqlite3 left a journal (-journal); the disk is full or fails; or there is a limit on files. A refused command has changed nothing.\nTell them apart by ls -l, df, ulimit -a and PRAGMA integrity_check in sqlite3, which also ends a journal (docs/api.md); then mend it or take a backup, and start again.\n"
             }
             Code::Input => {
                 "I1 file\nThe file or standard input can't be read: it isn't there, is a folder, or may not be read.\nCheck the name, relative to the folder that you stand in, and the permissions.\n"

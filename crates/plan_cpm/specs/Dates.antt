@@ -1,4 +1,4 @@
--- Earliest and latest dates, and floats (docs/DEFINITIONS.md, "Dates").
+-- Earliest and latest dates, and floats (docs/definitions.md, "Dates").
 use Rattle.std.specs.Prelude.{ℕ, ◌≡◌, ◌+◌, ◌-◌, ◌≤◌, ◌<◌, ◌⊎◌, List, length, slice_index}
 use Rattle.plan_net.specs.Network.{Net, count_of, duration_of, lag_of, IsActivity, IsArc, IsGreatest, IsLeast}
 use Rattle.plan_cpm.specs.Lengths.{IsLength, IsLengthFrom, AreFinishes, AreTails}

@@ -1,4 +1,4 @@
--- Greatest lengths of paths (docs/DEFINITIONS.md, "Dates").
+-- Greatest lengths of paths (docs/definitions.md, "Dates").
 use Rattle.std.specs.Prelude.{ℕ, ◌≡◌, ◌+◌, ◌-◌, ◌≤◌, ◌⊎◌, List, length, slice_index}
 use Rattle.plan_net.specs.Network.{Net, count_of, IsActivity, IsArc, lag_of, IsGreatest}
 use Rattle.plan_net.specs.Path.{IsPath, last_of, path_length}

@@ -1,4 +1,4 @@
--- Direct and indirect successors (docs/DEFINITIONS.md, "Dates").
+-- Direct and indirect successors (docs/definitions.md, "Dates").
 use Rattle.std.specs.Prelude.{ℕ, ◌≡◌, ◌≢◌, ◌-◌, List, length, slice_index}
 use Rattle.plan_net.specs.Network.{Net, count_of, IsActivity, ListsRising}
 use Rattle.plan_net.specs.Path.{IsPath, last_of}

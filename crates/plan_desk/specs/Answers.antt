@@ -1,4 +1,4 @@
--- Lists in JSON, by the rows in their order (docs/DEFINITIONS.md, "Desks").
+-- Lists in JSON, by the rows in their order (docs/definitions.md, "Desks").
 use Rattle.std.specs.Prelude.{ℕ, zero, suc, List, [], ◌++◌, map, codes, string_bytes}
 use Rattle.plan_rows.specs.declared.rows.CodeRow.{CodeRow}
 use Rattle.plan_rows.specs.declared.rows.PlanEntry.{PlanEntry}

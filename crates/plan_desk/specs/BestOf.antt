@@ -1,4 +1,4 @@
--- Best schedules of plans as a book answers them, for private clauses alone (docs/DEFINITIONS.md,
+-- Best schedules of plans as a book answers them, for private clauses alone (docs/definitions.md,
 -- "Books").
 use Rattle.std.specs.Prelude.{◌≡◌, ◌⊎◌, Bool, List}
 use Rattle.plan_psplib.specs.Project.{Project}

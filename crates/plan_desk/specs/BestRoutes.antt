@@ -1,4 +1,4 @@
--- What is answered to a desk's questions for a best schedule (docs/DEFINITIONS.md, "Desks"): the
+-- What is answered to a desk's questions for a best schedule (docs/definitions.md, "Desks"): the
 -- answer that the definition of the search fixes, an active schedule, and one of least makespan
 -- among all feasible ones where it is called optimal.
 use Rattle.std.specs.Prelude.{◌≡◌, ◌⊎◌, Bool, List}

@@ -1,4 +1,4 @@
--- What a JSON body says, or None where it is to be refused (docs/DEFINITIONS.md, "Desks"; RFC 8259).
+-- What a JSON body says, or None where it is to be refused (docs/definitions.md, "Desks"; RFC 8259).
 -- A body is read as serde_json reads it: of equal names the last one counts, a whole number is one
 -- that `as_u64` gives, and at most 127 arrays and objects nest.
 use Rattle.std.specs.Prelude.{ℕ, Bool, true, nat_le, if◌then◌else◌, Option, Some, None, option_map, option_and_then, codes}

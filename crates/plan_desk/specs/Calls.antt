@@ -1,4 +1,4 @@
--- Requests and replies (docs/DEFINITIONS.md, "Desks").
+-- Requests and replies (docs/definitions.md, "Desks").
 use Rattle.std.specs.Prelude.{ℕ, Bool, true, false, ◌&&◌, if◌then◌else◌, [], ◌∷◌, ◌++◌, nat_lt, Option, Some, None, unwrap_or, codes}
 use Rattle.plan_desk.specs.declared.reply.ReplyKind.{ReplyKind}
 use Rattle.plan_desk.specs.declared.reply.ReplyKind.TheVariants.{Plain, Json}

@@ -1,4 +1,4 @@
--- What is decided of a request over a book, and how it is carried out (docs/DEFINITIONS.md, "Books").
+-- What is decided of a request over a book, and how it is carried out (docs/definitions.md, "Books").
 use Rattle.std.specs.Prelude.{◌≡◌, ◌⊎◌, ◌+◌, ◌≤◌, true, false, Option, Some, None, Result, IfOk, IfErr, IfSome, IsSome, OnOk, OnErr, string_bytes, codes}
 use Rattle.plan_rows.specs.declared.fault.BookFault.{BookFault}
 use Rattle.plan_rows.specs.declared.fault.BookFault.TheVariants.{NoMemory, Store}

@@ -1,5 +1,5 @@
 -- What each call is answered, by what its desk sees, and which change that makes: all routes
--- (docs/DEFINITIONS.md, "Desks"). Of several refusals the first of their order is answered; each
+-- (docs/definitions.md, "Desks"). Of several refusals the first of their order is answered; each
 -- route is told in that order.
 use Rattle.std.specs.Prelude.{List}
 use Rattle.plan_rows.specs.World.{Text, World}

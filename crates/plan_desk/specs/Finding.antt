@@ -1,4 +1,4 @@
--- What is found in a book before a request is decided (docs/DEFINITIONS.md, "Books").
+-- What is found in a book before a request is decided (docs/definitions.md, "Books").
 use Rattle.std.specs.Prelude.{◌≡◌, ℕ, List, Option, Some, None, map}
 use Rattle.plan_desk.specs.declared.finding.FoundPlan.{FoundPlan}
 use Rattle.plan_desk.specs.declared.bound.BoundPlace.{BoundPlace}

@@ -1,4 +1,4 @@
--- What is read again of the file of a plan (docs/DEFINITIONS.md, "Books").
+-- What is read again of the file of a plan (docs/definitions.md, "Books").
 use Rattle.std.specs.Prelude.{◌≡◌, ℕ, Option, Some, None, string_bytes}
 use Rattle.plan_psplib.specs.Project.{Project, SaysProject}
 use Rattle.plan_orlib.specs.Says.{Says}

@@ -1,5 +1,5 @@
 -- The answers in JSON: objects without blanks, their members in the order of their names
--- (docs/DEFINITIONS.md, "Desks"; RFC 8259). Names and kinds need no escape.
+-- (docs/definitions.md, "Desks"; RFC 8259). Names and kinds need no escape.
 use Rattle.std.specs.Prelude.{ℕ, List, [], ◌∷◌, ◌++◌, map, codes, decimal}
 use Rattle.plan_rows.specs.declared.kinds.Kind.{Kind}
 use Rattle.plan_rows.specs.declared.kinds.PlanKind.{PlanKind}

@@ -1,4 +1,4 @@
--- Laws of the office (docs/DEFINITIONS.md, "Desks").
+-- Laws of the office (docs/definitions.md, "Desks").
 use Rattle.std.specs.Prelude.{◌≡◌, ◌⊎◌, false, List}
 use Rattle.plan_rows.specs.World.{Text, World}
 use Rattle.plan_rows.specs.Changes.{Change}

@@ -1,4 +1,4 @@
--- What contracts see of a book in memory (docs/DEFINITIONS.md, "Books").
+-- What contracts see of a book in memory (docs/definitions.md, "Books").
 use Rattle.std.specs.Prelude.{◌≡◌, Some}
 use Rattle.plan_desk.specs.declared.mem_book.MemBook.{MemBook}
 use Rattle.plan_rows.specs.World.{World}

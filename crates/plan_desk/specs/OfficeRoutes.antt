@@ -1,4 +1,4 @@
--- What the office's own calls are answered (docs/DEFINITIONS.md, "Desks"). Each is for a request
+-- What the office's own calls are answered (docs/definitions.md, "Desks"). Each is for a request
 -- with the office's key.
 use Rattle.std.specs.Prelude.{Bool, false, not, is_some, List, Option, Some, None}
 use Rattle.sha2.specs.Sha256.{sha256}

@@ -1,5 +1,5 @@
 -- The words in which answers are told: an outcome says which replies and changes may come
--- (docs/DEFINITIONS.md, "Desks").
+-- (docs/definitions.md, "Desks").
 use Rattle.std.specs.Prelude.{◌≡◌, ◌⊎◌, ℕ, Bool, true, false, Option, Some, None}
 use Rattle.plan_rows.specs.World.{Text}
 use Rattle.plan_rows.specs.Changes.{Change, Keep}

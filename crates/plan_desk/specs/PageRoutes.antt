@@ -1,5 +1,5 @@
 -- What is answered to a desk's questions about a plan: dates, schedules, charts, working days and
--- best schedules (docs/DEFINITIONS.md, "Desks"). Each is for a request with the desk's key. A
+-- best schedules (docs/definitions.md, "Desks"). Each is for a request with the desk's key. A
 -- project is planned with the lags of the desk and against the published capacities that are bound
 -- to its resources; a shop with the machines that are open.
 use Rattle.std.specs.Prelude.{◌≡◌, ◌⊎◌, ℕ, Bool, List, length, nat_eq}

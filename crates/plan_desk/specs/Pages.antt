@@ -1,4 +1,4 @@
--- What is made of a plan that a desk sees, as a book answers it (docs/DEFINITIONS.md, "Books").
+-- What is made of a plan that a desk sees, as a book answers it (docs/definitions.md, "Books").
 use Rattle.std.specs.Prelude.{◌≡◌, ℕ, List, Option, Some, Result, IfOk, IfErr, map, option_map}
 use Rattle.plan_rows.specs.declared.fault.BookFault.{BookFault}
 use Rattle.plan_rows.specs.declared.fault.BookFault.TheVariants.{Store}

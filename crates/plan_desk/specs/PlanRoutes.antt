@@ -1,4 +1,4 @@
--- What a desk's commands on its plans are answered (docs/DEFINITIONS.md, "Desks"). Each is for a
+-- What a desk's commands on its plans are answered (docs/definitions.md, "Desks"). Each is for a
 -- request with the desk's key.
 use Rattle.std.specs.Prelude.{◌≡◌, ◌+◌, not, nat_le, is_some, [], length}
 use Rattle.plan_psplib.specs.Project.{Project}

@@ -1,5 +1,5 @@
 -- What is worked out from a plan as a book answers it, for private clauses alone
--- (docs/DEFINITIONS.md, "Books").
+-- (docs/definitions.md, "Books").
 use Rattle.std.specs.Prelude.{◌≡◌, ℕ, zero, suc, ◌+◌, ◌≤◌, Bool, true, ◌==◌, not, List, [], ◌∷◌, ◌++◌, map, find, All, Option, Some, None, unwrap_or, option_and_then, string_bytes}
 use Rattle.plan_net.specs.Limits.{longest_lag}
 use Rattle.plan_net.specs.Network.{IsArc}

@@ -1,4 +1,4 @@
--- What the pages of a plan show, in the words of the field (docs/DEFINITIONS.md, "Desks"): dates by
+-- What the pages of a plan show, in the words of the field (docs/definitions.md, "Desks"): dates by
 -- the greatest lengths of paths, feasible and active schedules, and a schedule that is called optimal
 -- of least makespan among all feasible ones; of the plan's file with the lags of the desk, and with
 -- the capacities that are bound and published at that moment.

@@ -1,4 +1,4 @@
--- The refusals of the office (docs/DEFINITIONS.md, "Desks"; docs/FAULTS.md).
+-- The refusals of the office (docs/definitions.md, "Desks"; docs/errors.md).
 use Rattle.std.specs.Prelude.{◌++◌, codes}
 use Rattle.plan_rows.specs.World.{Text}
 use Rattle.plan_desk.specs.Calls.{Reply, refusal}

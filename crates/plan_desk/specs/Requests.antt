@@ -1,4 +1,4 @@
--- Requests as code keeps them (docs/DEFINITIONS.md, "Desks").
+-- Requests as code keeps them (docs/definitions.md, "Desks").
 use Rattle.std.specs.Prelude.{[], string_bytes, option_map, unwrap_or}
 use Rattle.plan_desk.specs.declared.request.Call as rows
 use Rattle.plan_desk.specs.declared.request.Call.TheVariants as made

@@ -1,4 +1,4 @@
--- What a route refuses, if anything, as a function or relation of values (docs/DEFINITIONS.md,
+-- What a route refuses, if anything, as a function or relation of values (docs/definitions.md,
 -- "Desks"). Of several refusals the first of their order is answered.
 use Rattle.std.specs.Prelude.{◌≡◌, ◌⊎◌, ◌+◌, ◌≤◌, ◌<◌, ℕ, if◌then◌else◌, Option, Some, None}
 use Rattle.plan_psplib.specs.Project.{Project, SaysProject}

@@ -1,5 +1,5 @@
 -- What is answered to a desk's question for a page of a plan's schedule by a rule, by the page
--- (docs/DEFINITIONS.md, "Desks").
+-- (docs/definitions.md, "Desks").
 use Rattle.plan_rows.specs.World.{Text}
 use Rattle.plan_rows.specs.Views.{View}
 use Rattle.plan_desk.specs.declared.pages.by_rule.RulePage.{RulePage}

@@ -1,4 +1,4 @@
--- Schedules of plans as a book answers them, for private clauses alone (docs/DEFINITIONS.md,
+-- Schedules of plans as a book answers them, for private clauses alone (docs/definitions.md,
 -- "Books").
 use Rattle.std.specs.Prelude.{◌≡◌, ◌⊎◌, ℕ, ◌≤◌, Bool, List, length, EachIndex, slice_index}
 use Rattle.plan_net.specs.Network.{count_of}

@@ -1,5 +1,5 @@
 -- That each request has a decision in each view, so that no case is forgotten in the definitions
--- (docs/DEFINITIONS.md, "Desks").
+-- (docs/definitions.md, "Desks").
 use Rattle.plan_rows.specs.Changes.{Change}
 use Rattle.plan_rows.specs.Rules.{IsWorld}
 use Rattle.plan_rows.specs.Views.{View, alone}

@@ -1,4 +1,4 @@
--- Steps of the office, runs of them, and what of a run belongs to one desk (docs/DEFINITIONS.md,
+-- Steps of the office, runs of them, and what of a run belongs to one desk (docs/definitions.md,
 -- "Desks"). What is answered to an admitted call, and which change that makes, is told by what the
 -- call's desk sees: it is a parameter here, and all routes are in Decisions.
 use Rattle.std.specs.Prelude.{◌≡◌, ◌⊎◌, Bool, true, false, ◌&&◌, ◌||◌, List, [], ◌∷◌, Option, Some, None, codes}

@@ -1,4 +1,4 @@
--- The lines that tell why a command failed that keeps an office (docs/DEFINITIONS.md, "Runs").
+-- The lines that tell why a command failed that keeps an office (docs/definitions.md, "Runs").
 use Rattle.std.specs.Prelude.{ℕ, List, codes}
 use Rattle.plan_door.specs.declared.fault.ServeFault.{ServeFault}
 use Rattle.plan_door.specs.declared.fault.ServeFault.TheVariants as fault

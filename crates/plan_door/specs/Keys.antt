@@ -1,4 +1,4 @@
--- The key of an office, as a text has it in its first line (docs/DEFINITIONS.md, "Keys in files").
+-- The key of an office, as a text has it in its first line (docs/definitions.md, "Keys in files").
 use Rattle.std.specs.Prelude.{◌≡◌, ℕ, ◌-◌, ◌≤◌, bytes_eq, if◌then◌else◌, [], ◌∷◌, length, take, drop, Option, Some, None, IfSome, Result, Ok, Err}
 use Rattle.std.specs.List.{before_first}
 use Rattle.std.specs.Io.KnownBytes.{Consumes}

@@ -1,4 +1,4 @@
--- What a log shows of a request (docs/DEFINITIONS.md, "Connections"): a method that HTTP has, and the
+-- What a log shows of a request (docs/definitions.md, "Connections"): a method that HTTP has, and the
 -- text of a route; and a hyphen for any other.
 use Rattle.std.specs.Prelude.{◌≡◌, ◌⊎◌, codes}
 use Rattle.plan_rows.specs.World.{Text}

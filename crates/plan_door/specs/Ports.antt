@@ -1,4 +1,4 @@
--- Serving on a port (docs/DEFINITIONS.md, "Runs").
+-- Serving on a port (docs/definitions.md, "Runs").
 use Rattle.std.specs.Prelude.{◌≡◌, ◌≢◌, ℕ, List, length}
 use Rattle.std_io.specs.declared.io.kind.ErrorKind.{ErrorKind}
 use Rattle.std_io.specs.declared.io.kind.ErrorKind.TheVariants as kind

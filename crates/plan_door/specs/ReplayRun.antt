@@ -1,4 +1,4 @@
--- What is written for connections that are answered one after another (docs/DEFINITIONS.md, "Runs").
+-- What is written for connections that are answered one after another (docs/definitions.md, "Runs").
 use Rattle.std.specs.Prelude.{◌≡◌, ℕ, ◌<◌, List, Option, length, take, Result, Ok, Err}
 use Rattle.std.specs.List.{flat_map}
 use Rattle.std.specs.Io.KnownBytes.{Appends}

@@ -1,4 +1,4 @@
--- An office whose connections come from anywhere (docs/DEFINITIONS.md, "Connections").
+-- An office whose connections come from anywhere (docs/definitions.md, "Connections").
 use Rattle.std.specs.Prelude.{◌≡◌, List, [], ◌∷◌}
 use Rattle.plan_rows.specs.Books.{Shelf}
 use Rattle.plan_http.specs.Answers.{Decision}

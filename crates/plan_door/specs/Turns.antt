@@ -1,4 +1,4 @@
--- Connections that come from anywhere, served turn by turn (docs/DEFINITIONS.md, "Connections").
+-- Connections that come from anywhere, served turn by turn (docs/definitions.md, "Connections").
 use Rattle.std.specs.Prelude.{◌≡◌, ◌<◌, ℕ, Bool, true, List, [], ◌∷◌, ◌++◌, length, take, map, Option, Some, None, Result, Ok, Err}
 use Rattle.plan_psplib.specs.declared.devices.traits.DeviceFault.{DeviceFault}
 use Rattle.plan_rows.specs.World.{Text}

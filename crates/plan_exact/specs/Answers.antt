@@ -1,4 +1,4 @@
--- What a search answers within a budget (docs/DEFINITIONS.md, "Search").
+-- What a search answers within a budget (docs/definitions.md, "Search").
 use Rattle.std.specs.Prelude.{ℕ, Bool, true, false, nat_le, if◌then◌else◌, List, length, take, Option, Some, None}
 use Rattle.std.specs.Global.{Global}
 use Rattle.std.specs.declared.vec.Vec.{Vec}

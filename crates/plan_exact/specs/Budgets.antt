@@ -1,4 +1,4 @@
--- Budgets as texts (docs/DEFINITIONS.md, "Best schedules").
+-- Budgets as texts (docs/definitions.md, "Best schedules").
 use Rattle.std.specs.Prelude.{◌≡◌, ℕ, ◌≤◌, List, get_or}
 use Rattle.std.specs.Fmt.{decimal}
 use Rattle.plan_exact.specs.Solutions.{IsBudget}

@@ -1,4 +1,4 @@
--- What every tree of words keeps, and what follows for the list of its words and for a search that leaves words out (docs/DEFINITIONS.md, "Words", "Search").
+-- What every tree of words keeps, and what follows for the list of its words and for a search that leaves words out (docs/definitions.md, "Words", "Search").
 use Rattle.std.specs.Prelude.{◌≡◌, ℕ, ◌≤◌, ◌<◌, List, ◌++◌, length, All, Contains, IsTrue}
 use Rattle.std.specs.List.{AllPairs}
 use Rattle.plan_exact.specs.Words.{WordTree, IsWord, words, is_before}

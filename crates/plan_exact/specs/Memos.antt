@@ -1,4 +1,4 @@
--- Answers that are kept, by what was asked (docs/DEFINITIONS.md, "Kept answers").
+-- Answers that are kept, by what was asked (docs/definitions.md, "Kept answers").
 use Rattle.std.specs.Prelude.{◌≡◌, ℕ, List, ◌∷◌, ◌++◌, map, take, All, Contains, ◌⊎◌}
 use Rattle.lru.specs.LruCache.{LruCache}
 use Rattle.plan_net.specs.Network.{Net}

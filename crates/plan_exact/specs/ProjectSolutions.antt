@@ -1,4 +1,4 @@
--- The best schedule of a project that a search within a budget finds (docs/DEFINITIONS.md, "Best
+-- The best schedule of a project that a search within a budget finds (docs/definitions.md, "Best
 -- schedules").
 use Rattle.std.specs.Prelude.{◌≡◌, ℕ, ◌≤◌, ◌<◌, List, Option, Some, None}
 use Rattle.plan_net.specs.Network.{count_of}

@@ -1,4 +1,4 @@
--- The words of a project as a tree of words (docs/DEFINITIONS.md, "Words", "Words of a project").
+-- The words of a project as a tree of words (docs/definitions.md, "Words", "Words of a project").
 use Rattle.std.specs.Prelude.{ℕ, ◌≤◌, List, ◌↔◌}
 use Rattle.plan_sgs.specs.Problem.{IsFeasible, makespan}
 use Rattle.plan_sgs.specs.Instances.{Planned, IsInstance, problem_of}

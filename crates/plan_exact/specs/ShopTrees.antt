@@ -1,4 +1,4 @@
--- The words of a job shop as a tree of words (docs/DEFINITIONS.md, "Words", "Job shops").
+-- The words of a job shop as a tree of words (docs/definitions.md, "Words", "Job shops").
 use Rattle.std.specs.Prelude.{ℕ, ◌*◌, ◌≤◌, List, ◌↔◌}
 use Rattle.plan_sgs.specs.Problem.{IsFeasible, makespan}
 use Rattle.plan_shop.specs.Shop.{JobShop, IsShop, problem_of}

@@ -1,4 +1,4 @@
--- The best schedule of a job shop that a search within a budget finds (docs/DEFINITIONS.md, "Best schedules").
+-- The best schedule of a job shop that a search within a budget finds (docs/definitions.md, "Best schedules").
 use Rattle.std.specs.Prelude.{◌≡◌, ℕ, ◌≤◌, ◌<◌, true, List, All, Option, Some, None}
 use Rattle.plan_shop.specs.Shop.{JobShop, count_steps}
 use Rattle.plan_sgs.specs.declared.schedule.Schedule.{Schedule}

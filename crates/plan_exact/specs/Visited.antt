@@ -1,4 +1,4 @@
--- Which words a search visits, and the first schedule of least makespan (docs/DEFINITIONS.md, "Search").
+-- Which words a search visits, and the first schedule of least makespan (docs/definitions.md, "Search").
 use Rattle.std.specs.Prelude.{◌≡◌, ℕ, ◌≤◌, ◌<◌, Bool, cond, ◌&&◌, nat_lt, List, [], ◌∷◌, ◌++◌, map, filter, fold, All, IsTrue, Option, Some, None}
 use Rattle.std.specs.List.{list_all}
 use Rattle.plan_exact.specs.Words.{WordTree, words, is_before}

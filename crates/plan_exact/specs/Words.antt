@@ -1,4 +1,4 @@
--- Trees of words and the lexicographic order of their words (docs/DEFINITIONS.md, "Words").
+-- Trees of words and the lexicographic order of their words (docs/definitions.md, "Words").
 use Rattle.std.specs.Prelude.{ℕ, zero, suc, Bool, true, false, ◌&&◌, ◌||◌, nat_lt, nat_eq, List, [], ◌∷◌, ◌++◌, Contains, flat_map}
 
 -- a tree of words by its four functions: the letters that may follow a word, its bound, whether it is full, and the makespan of a full word. No word is longer than `depth`

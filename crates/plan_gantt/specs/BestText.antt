@@ -1,4 +1,4 @@
--- The text of a best schedule of a job shop (docs/DEFINITIONS.md, "Texts").
+-- The text of a best schedule of a job shop (docs/definitions.md, "Texts").
 use Rattle.std.specs.Prelude.{ℕ, List, ◌++◌, codes}
 use Rattle.std.specs.Fmt.{decimal}
 use Rattle.plan_shop.specs.Shop.{JobShop}

@@ -1,4 +1,4 @@
--- The texts of what working days are refused for (docs/DEFINITIONS.md, "Texts").
+-- The texts of what working days are refused for (docs/definitions.md, "Texts").
 use Rattle.std.specs.Prelude.{ℕ, List, codes}
 use Rattle.plan_calendar.specs.declared.calendar.CalendarFault.{CalendarFault}
 use Rattle.plan_calendar.specs.declared.calendar.CalendarFault.TheVariants as fault

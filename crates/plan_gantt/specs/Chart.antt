@@ -1,4 +1,4 @@
--- Gantt charts (docs/DEFINITIONS.md, "Texts"; Gantt 1910, Clark 1922): a line of cells for each activity or machine, and so many
+-- Gantt charts (docs/definitions.md, "Texts"; Gantt 1910, Clark 1922): a line of cells for each activity or machine, and so many
 -- instants for each cell.
 use Rattle.std.specs.Prelude.{ℕ, ◌+◌, ◌*◌, Bool, ◌&&◌, List, ◌++◌, if◌then◌else◌, nat_le, nat_lt, codes}
 use Rattle.std.specs.List.{list_any, range_with_len, flat_map}

@@ -1,4 +1,4 @@
--- What stands in a chart of activities, and in one of machines (docs/DEFINITIONS.md, "Texts").
+-- What stands in a chart of activities, and in one of machines (docs/definitions.md, "Texts").
 use Rattle.std.specs.Prelude.{ℕ, ◌-◌, List, [], ◌∷◌, slice_index}
 use Rattle.plan_net.specs.Network.{Net, duration_of}
 use Rattle.plan_gantt.specs.declared.interval.Interval.{Interval}

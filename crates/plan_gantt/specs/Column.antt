@@ -1,4 +1,4 @@
--- Columns of a table: each value right in its places (docs/DEFINITIONS.md, "Texts").
+-- Columns of a table: each value right in its places (docs/definitions.md, "Texts").
 use Rattle.std.specs.Prelude.{ℕ, ◌-◌, List, ◌++◌, length, replicate, codes}
 use Rattle.std.specs.List.{flat_map, range_with_len}
 use Rattle.std.specs.Fmt.{decimal}

@@ -1,4 +1,4 @@
--- The date table of a network (docs/DEFINITIONS.md, "Texts").
+-- The date table of a network (docs/definitions.md, "Texts").
 use Rattle.std.specs.Prelude.{◌≡◌, ℕ, Bool, List, [], ◌∷◌, ◌++◌, if◌then◌else◌, ◌==◌, codes}
 use Rattle.std.specs.Fmt.{decimal}
 use Rattle.plan_net.specs.Network.{Net, count_of, duration_of}

@@ -1,4 +1,4 @@
--- The texts of what a search is refused for (docs/DEFINITIONS.md, "Texts").
+-- The texts of what a search is refused for (docs/definitions.md, "Texts").
 use Rattle.std.specs.Prelude.{ℕ, List, codes}
 use Rattle.plan_exact.specs.declared.fault.ExactFault.{ExactFault}
 use Rattle.plan_exact.specs.declared.fault.ExactFault.TheVariants as fault

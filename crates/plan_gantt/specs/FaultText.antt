@@ -1,4 +1,4 @@
--- The texts of file faults (docs/DEFINITIONS.md, "Texts").
+-- The texts of file faults (docs/definitions.md, "Texts").
 use Rattle.std.specs.Prelude.{ℕ, List, ◌∷◌, ◌++◌, codes}
 use Rattle.std.specs.List.{flat_map}
 use Rattle.std.specs.Fmt.{decimal}

@@ -1,4 +1,4 @@
--- The line of the first check that a file fails (docs/DEFINITIONS.md, "Texts").
+-- The line of the first check that a file fails (docs/definitions.md, "Texts").
 use Rattle.std.specs.Prelude.{◌≡◌, ℕ, List}
 use Rattle.plan_psplib.specs.declared.text.fault.FileFault.{FileFault}
 use Rattle.plan_psplib.specs.Project.{IsFirstFailing}

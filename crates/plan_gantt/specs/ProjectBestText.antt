@@ -1,5 +1,5 @@
 -- The best text of a project within the budget that a word spells, or why there is none
--- (docs/DEFINITIONS.md, "Texts").
+-- (docs/definitions.md, "Texts").
 use Rattle.std.specs.Prelude.{◌≡◌, ◌<◌, ◌⊎◌, ℕ, List, ◌++◌}
 use Rattle.plan_net.specs.Network.{count_of}
 use Rattle.plan_sgs.specs.Problem.{IsActive, IsShortest, NeedsFit, makespan}

@@ -1,4 +1,4 @@
--- The table of a schedule (docs/DEFINITIONS.md, "Texts").
+-- The table of a schedule (docs/definitions.md, "Texts").
 use Rattle.std.specs.Prelude.{ℕ, ◌+◌, ◌-◌, List, [], ◌∷◌, ◌++◌, slice_index, codes}
 use Rattle.std.specs.Fmt.{decimal}
 use Rattle.plan_net.specs.Network.{Net, count_of, duration_of}

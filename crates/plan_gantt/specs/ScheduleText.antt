@@ -1,5 +1,5 @@
 -- The text of an instance's schedule by the rule of a name, or why there is none
--- (docs/DEFINITIONS.md, "Texts").
+-- (docs/definitions.md, "Texts").
 use Rattle.std.specs.Prelude.{◌≡◌, ◌⊎◌, ℕ, List}
 use Rattle.plan_sgs.specs.Problem.{IsActive, NeedsFit, makespan}
 use Rattle.plan_sgs.specs.Instances.{Planned, problem_of, RefusesInstance}

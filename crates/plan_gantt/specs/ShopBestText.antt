@@ -1,5 +1,5 @@
 -- The best text of a job shop within the budget that a word spells, or why there is none
--- (docs/DEFINITIONS.md, "Texts").
+-- (docs/definitions.md, "Texts").
 use Rattle.std.specs.Prelude.{◌≡◌, ◌<◌, ℕ, List}
 use Rattle.plan_sgs.specs.Problem.{IsActive, IsShortest, makespan}
 use Rattle.plan_shop.specs.Shop.{JobShop, problem_of, count_steps}

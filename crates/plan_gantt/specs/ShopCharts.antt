@@ -1,4 +1,4 @@
--- What stands in the chart of a job shop, and in its table of working days (docs/DEFINITIONS.md, "Texts").
+-- What stands in the chart of a job shop, and in its table of working days (docs/definitions.md, "Texts").
 use Rattle.std.specs.Prelude.{ℕ, ◌-◌, ◌<◌, List, ◌++◌, map, nat_eq, slice_index, codes}
 use Rattle.plan_shop.specs.Shop.{JobShop, count_steps, time_of, machine_of, those_below}
 use Rattle.plan_gantt.specs.Column.{number_column}

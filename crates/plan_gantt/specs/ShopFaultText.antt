@@ -1,4 +1,4 @@
--- The texts of what a job shop is refused for (docs/DEFINITIONS.md, "Texts").
+-- The texts of what a job shop is refused for (docs/definitions.md, "Texts").
 use Rattle.std.specs.Prelude.{ℕ, List, ◌++◌, codes}
 use Rattle.std.specs.Fmt.{decimal}
 use Rattle.plan_shop.specs.declared.fault.ShopFault.{ShopFault}

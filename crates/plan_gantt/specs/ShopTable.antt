@@ -1,4 +1,4 @@
--- The table of a job shop's schedule (docs/DEFINITIONS.md, "Texts"). Steps have flat numbers from 0; jobs and the steps of a job are
+-- The table of a job shop's schedule (docs/definitions.md, "Texts"). Steps have flat numbers from 0; jobs and the steps of a job are
 -- shown by their numbers from 1, machines from 0.
 use Rattle.std.specs.Prelude.{ℕ, ◌+◌, ◌/◌, ◌%◌, List, [], ◌∷◌, ◌++◌, get_or, slice_index, codes}
 use Rattle.plan_shop.specs.Shop.{JobShop, count_steps, idle, job_of, place_of}

@@ -1,4 +1,4 @@
--- How connections are answered (docs/DEFINITIONS.md, "Connections").
+-- How connections are answered (docs/definitions.md, "Connections").
 use Rattle.std.specs.Prelude.{Bool, false, List, [], ◌∷◌, Option, None, codes}
 use Rattle.plan_rows.specs.World.{Text}
 use Rattle.plan_desk.specs.Calls.{Request, Reply, refusal}

@@ -1,4 +1,4 @@
--- The checks between a request's head and its body (docs/DEFINITIONS.md, "Connections").
+-- The checks between a request's head and its body (docs/definitions.md, "Connections").
 use Rattle.std.specs.Prelude.{ℕ, Bool, if◌then◌else◌, nat_lt, List, [], ◌∷◌, length, Option, Some, None, codes}
 use Rattle.plan_http.specs.declared.checks.Check.{Check}
 use Rattle.plan_http.specs.declared.checks.Check.TheVariants.{Message, TooLarge, Coding}

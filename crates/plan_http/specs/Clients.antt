@@ -1,4 +1,4 @@
--- Clients, as far as their connections show them (docs/DEFINITIONS.md, "Connections").
+-- Clients, as far as their connections show them (docs/definitions.md, "Connections").
 use Rattle.std.specs.Prelude.{◌≡◌, ℕ, ◌<◌, Bool, true, false, List, [], ◌++◌, length, take, Option, Some, Result, Ok, Err}
 use Rattle.std.specs.Io.KnownBytes.{Consumes}
 

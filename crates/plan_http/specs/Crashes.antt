@@ -1,4 +1,4 @@
--- What a crash may leave after connections that were served (docs/DEFINITIONS.md, "Connections").
+-- What a crash may leave after connections that were served (docs/definitions.md, "Connections").
 use Rattle.std.specs.Prelude.{◌≡◌, ◌⊎◌, ℕ, suc, ◌+◌, ◌<◌, ◌≤◌, Bool, true, false, List, length, take, drop, map, filter, Option, Some, option_map, slice_get}
 use Rattle.std.specs.List.{list_any}
 use Rattle.plan_rows.specs.World.{Text, World}

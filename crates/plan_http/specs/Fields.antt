@@ -1,4 +1,4 @@
--- The fields of a head, by their names, and what their values say (docs/DEFINITIONS.md,
+-- The fields of a head, by their names, and what their values say (docs/definitions.md,
 -- "Connections").
 use Rattle.std.specs.Prelude.{ℕ, Bool, not, ◌&&◌, ◌||◌, ◌==◌, nat_lt, List, [], ◌∷◌, length, map, filter, Option, Some, None}
 use Rattle.std.specs.List.{list_all, list_any}

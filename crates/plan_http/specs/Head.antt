@@ -1,4 +1,4 @@
--- The head of a request at the front of a connection's bytes (docs/DEFINITIONS.md, "Connections").
+-- The head of a request at the front of a connection's bytes (docs/definitions.md, "Connections").
 use Rattle.std.specs.Prelude.{ℕ, ◌≤◌, List, length, take, drop}
 use Rattle.httparse.specs.Grammar.{RequestHead, ReadsRequest, print_request}
 

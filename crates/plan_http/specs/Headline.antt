@@ -1,4 +1,4 @@
--- The headline (docs/DEFINITIONS.md, "The headline"): in any two worlds that agree on one desk's rows,
+-- The headline (docs/definitions.md, "The headline"): in any two worlds that agree on one desk's rows,
 -- its key and the published capacities and receive the same requests from that desk and the same
 -- publications, that desk's replies are equal byte for byte, whatever other desks send before or
 -- between; and each date is a longest-path date, each generated schedule feasible and active, each

@@ -1,4 +1,4 @@
--- One desk in a run of connections (docs/DEFINITIONS.md, "Connections").
+-- One desk in a run of connections (docs/definitions.md, "Connections").
 use Rattle.std.specs.Prelude.{◌≡◌, ◌⊎◌, ◌+◌, ◌≤◌, List, [], ◌∷◌, length, take, map}
 use Rattle.plan_rows.specs.World.{Text, World}
 use Rattle.plan_rows.specs.Views.{View, view, alone}

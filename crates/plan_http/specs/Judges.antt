@@ -1,5 +1,5 @@
 -- What the bytes of a connection spell: a request, or the first check that they fail
--- (docs/DEFINITIONS.md, "Connections").
+-- (docs/definitions.md, "Connections").
 use Rattle.std.specs.Prelude.{◌≡◌, ℕ, ◌⊎◌, Bool, true, false, if◌then◌else◌, nat_lt, bytes_eq, List, length, take, map, Option, Some, None, codes}
 use Rattle.httparse.specs.Grammar.{RequestHead}
 use Rattle.httparse.specs.Spans.{name_and_value}

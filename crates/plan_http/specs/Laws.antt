@@ -1,4 +1,4 @@
--- Laws of what connections spell (docs/DEFINITIONS.md, "Connections").
+-- Laws of what connections spell (docs/definitions.md, "Connections").
 use Rattle.std.specs.Prelude.{◌≡◌, List}
 use Rattle.plan_rows.specs.World.{Text, World}
 use Rattle.plan_rows.specs.Views.{view}

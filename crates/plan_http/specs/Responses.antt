@@ -1,4 +1,4 @@
--- The bytes of a response (docs/DEFINITIONS.md, "Connections").
+-- The bytes of a response (docs/definitions.md, "Connections").
 use Rattle.std.specs.Prelude.{ℕ, Bool, if◌then◌else◌, [], ◌++◌, length, Option, Some, None, unwrap_or, codes}
 use Rattle.std.specs.Fmt.{decimal}
 use Rattle.http.specs.StatusCode.{reason_phrase}

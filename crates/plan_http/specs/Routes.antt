@@ -1,4 +1,4 @@
--- The routes of the service (docs/DEFINITIONS.md, "Connections"): which of them a target has is
+-- The routes of the service (docs/definitions.md, "Connections"): which of them a target has is
 -- what `matchit` finds in the table of their texts.
 use Rattle.std.specs.Prelude.{ℕ, Bool, not, ◌&&◌, ◌||◌, ◌==◌, false, if◌then◌else◌, List, [], ◌∷◌, Option, None, option_map, Result, Ok, Err, codes}
 use Rattle.std.specs.List.{list_any}

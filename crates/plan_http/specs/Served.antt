@@ -1,4 +1,4 @@
--- Runs of connections, by the rows alone (docs/DEFINITIONS.md, "Connections").
+-- Runs of connections, by the rows alone (docs/definitions.md, "Connections").
 use Rattle.std.specs.Prelude.{◌≡◌, List, [], ◌∷◌}
 use Rattle.plan_rows.specs.World.{Text, World}
 use Rattle.plan_desk.specs.Decisions.{IsRealStep}

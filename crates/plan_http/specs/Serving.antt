@@ -1,4 +1,4 @@
--- Connections that are served by an office, one and many (docs/DEFINITIONS.md, "Connections").
+-- Connections that are served by an office, one and many (docs/definitions.md, "Connections").
 use Rattle.std.specs.Prelude.{◌≡◌, ℕ, ◌+◌, ◌<◌, ◌≤◌, ◌⊎◌, List, [], ◌∷◌, length, take, map, get_or, Option, Result, Ok, Err}
 use Rattle.std.specs.Io.KnownBytes.{Appends}
 use Rattle.plan_psplib.specs.Devices.{HasFailed}

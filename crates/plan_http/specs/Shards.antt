@@ -1,4 +1,4 @@
--- One office on many servers (docs/DEFINITIONS.md, "Many servers").
+-- One office on many servers (docs/definitions.md, "Many servers").
 use Rattle.std.specs.Prelude.{◌≡◌, ◌⊎◌, ℕ, Bool, true, Option, List, [], ◌∷◌}
 use Rattle.plan_rows.specs.World.{Text}
 use Rattle.plan_rows.specs.Rules.{IsWorld}

@@ -1,4 +1,4 @@
--- What of a run of connections belongs to one desk (docs/DEFINITIONS.md, "Connections").
+-- What of a run of connections belongs to one desk (docs/definitions.md, "Connections").
 use Rattle.std.specs.Prelude.{◌≡◌, ◌⊎◌, Bool, true, false, List, [], ◌∷◌}
 use Rattle.plan_rows.specs.World.{Text, World}
 use Rattle.plan_rows.specs.Views.{View, view, alone}

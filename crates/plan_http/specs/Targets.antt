@@ -1,4 +1,4 @@
--- Targets and the calls that they name (docs/DEFINITIONS.md, "Connections").
+-- Targets and the calls that they name (docs/definitions.md, "Connections").
 use Rattle.std.specs.Prelude.{ℕ, Bool, ◌==◌, [], unwrap_or}
 use Rattle.std.specs.List.{slice_get, slice_split}
 use Rattle.plan_rows.specs.World.{Text}

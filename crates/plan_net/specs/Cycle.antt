@@ -1,4 +1,4 @@
--- The cycle that is named where a network has one (docs/DEFINITIONS.md, "Networks").
+-- The cycle that is named where a network has one (docs/definitions.md, "Networks").
 use Rattle.std.specs.Prelude.{ℕ, suc, zero, Bool, true, ◌≡◌, ◌≢◌, ◌+◌, ◌-◌, ◌≤◌, ◌<◌, ◌↔◌, List, length, slice_index, Contains}
 use Rattle.plan_net.specs.Network.{Net, IsArc, IsLeast}
 

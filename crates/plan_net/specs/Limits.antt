@@ -1,4 +1,4 @@
--- The limits of a network, in numbers, so that they hold the program's constants to them (docs/DEFINITIONS.md, "Networks").
+-- The limits of a network, in numbers, so that they hold the program's constants to them (docs/definitions.md, "Networks").
 use Rattle.std.specs.Prelude.{ℕ, ◌≡◌, ◌-◌, ◌≤◌, ◌<◌, length, take, slice_index, slice_get, Some, Contains, All, sum}
 use Rattle.plan_net.specs.Network.{Net, count_of, IsActivity}
 use Rattle.plan_net.specs.Path.{IsAcyclic}

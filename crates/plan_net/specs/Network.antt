@@ -1,4 +1,4 @@
--- Activity networks: activities with durations, arcs, and the lags beside them (docs/DEFINITIONS.md, "Networks").
+-- Activity networks: activities with durations, arcs, and the lags beside them (docs/definitions.md, "Networks").
 use Rattle.std.specs.Prelude.{ℕ, Bool, cond, nat_eq, ◌&&◌, ◌-◌, ◌≤◌, ◌↔◌, List, [], ◌∷◌, length, replicate, drop, slice_index, Contains}
 use Rattle.std.specs.List.Sorted.{IsStrictlyIncreasing}
 

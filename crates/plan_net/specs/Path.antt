@@ -1,4 +1,4 @@
--- Paths through a network, their lengths, and cycles (docs/DEFINITIONS.md, "Networks").
+-- Paths through a network, their lengths, and cycles (docs/definitions.md, "Networks").
 use Rattle.std.specs.Prelude.{ℕ, ◌≡◌, ◌+◌, ◌≤◌, List, [], ◌∷◌, length}
 use Rattle.plan_net.specs.Network.{Net, IsActivity, IsArc, duration_of, lag_of}
 

@@ -1,4 +1,4 @@
--- What a network is refused for, in the order of the tests (docs/DEFINITIONS.md, "Networks").
+-- What a network is refused for, in the order of the tests (docs/definitions.md, "Networks").
 use Rattle.std.specs.Prelude.{ℕ, ◌≡◌, ◌≤◌, ◌<◌, ◌++◌, ◌∷◌, [], take, drop, slice_get, slice_index, Some, Contains, All}
 use Rattle.plan_net.specs.Network.{Net, IsActivity, IsArc}
 use Rattle.plan_net.specs.Path.{IsCycle}

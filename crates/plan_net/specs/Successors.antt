@@ -1,4 +1,4 @@
--- Rows of successors, a row for each activity, and the arcs that they give (docs/DEFINITIONS.md, "Networks").
+-- Rows of successors, a row for each activity, and the arcs that they give (docs/definitions.md, "Networks").
 use Rattle.std.specs.Prelude.{◌≡◌, ℕ, ◌+◌, ◌≤◌, List, [], ◌∷◌, ◌++◌, length, map, nat_eq, Vec}
 use Rattle.std.specs.List.{AllByRecursion, IsDistinct}
 use Rattle.std.specs.declared.alloc.Global.{Global}

@@ -1,4 +1,4 @@
--- The instances of a job shop text, and the stream of each (docs/DEFINITIONS.md, "Job shop files").
+-- The instances of a job shop text, and the stream of each (docs/definitions.md, "Job shop files").
 use Rattle.std.specs.Prelude.{ℕ, ◌==◌, ◌&&◌, ◌||◌, Bool, false, if◌then◌else◌, List, [], ◌∷◌, Option, Some, None, codes, filter, is_some, not}
 use Rattle.std.specs.List.{filter_map}
 use Rattle.std.specs.Str.{bytes_eq}

@@ -1,4 +1,4 @@
--- Reading a job shop text in order: its shop, or the first check that fails (docs/DEFINITIONS.md, "Job shop files").
+-- Reading a job shop text in order: its shop, or the first check that fails (docs/definitions.md, "Job shop files").
 use Rattle.std.specs.Prelude.{◌≡◌, ℕ, zero, suc, ◌+◌, List, [], ◌∷◌, ◌++◌, Option, Some, None, Result, Ok, Err, nat_lt}
 use Rattle.plan_psplib.specs.declared.text.fault.FileCode.TheVariants as code
 use Rattle.plan_psplib.specs.declared.text.fault.Fault.{Fault}

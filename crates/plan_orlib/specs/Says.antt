@@ -1,4 +1,4 @@
--- What a job shop text says, apart from the order in which it is read (docs/DEFINITIONS.md, "Job shop files").
+-- What a job shop text says, apart from the order in which it is read (docs/definitions.md, "Job shop files").
 use Rattle.std.specs.Prelude.{◌≡◌, ℕ, List, [], ◌∷◌, ◌++◌, Some, Ok, length}
 use Rattle.std.specs.List.{flat_map}
 use Rattle.plan_psplib.specs.Streams.{LineWord, Stream}

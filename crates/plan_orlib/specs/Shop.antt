@@ -1,4 +1,4 @@
--- A job shop as a file gives it (docs/DEFINITIONS.md, "Job shop files").
+-- A job shop as a file gives it (docs/definitions.md, "Job shop files").
 use Rattle.std.specs.Prelude.{◌≡◌, ℕ, ◌≤◌, ◌<◌, List, All, length, map}
 use Rattle.std.specs.List.{sum_by}
 use Rattle.plan_psplib.specs.Reading.{greatest, greatest_total}

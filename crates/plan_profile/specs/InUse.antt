@@ -1,5 +1,5 @@
 -- What a profile shows: its capacities, and the amounts in use. See "Schedules" in
--- docs/DEFINITIONS.md.
+-- docs/definitions.md.
 use Rattle.std.specs.Prelude.{ℕ, List, length}
 use Rattle.plan_profile.specs.Steps.{lists, amount}
 use Rattle.plan_profile.specs.declared.profile.Profile.{Profile}

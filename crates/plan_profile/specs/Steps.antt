@@ -1,6 +1,6 @@
 -- How a profile keeps usage: the instants at which it changes, and a row of amounts for the time
 -- before the first of them and from each of them on. The rows stand one behind another in one list.
--- No public clause speaks of these words. See "Schedules" in docs/DEFINITIONS.md.
+-- No public clause speaks of these words. See "Schedules" in docs/definitions.md.
 use Rattle.std.specs.Prelude.{◌≡◌, ℕ, ◌+◌, ◌*◌, ◌≤◌, ◌<◌, nat_le, List, [], length, map, take, drop}
 use Rattle.std.specs.Prelude.{count_by, slice_index, slice_index_or, Contains}
 use Rattle.std.specs.List.{range_with_len}

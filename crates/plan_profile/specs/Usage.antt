@@ -1,5 +1,5 @@
 -- Usage of resources over time: what fits beside it, what an interval adds to it, and the instants at which it changes.
--- A usage takes an instant and a resource's place from 0. See "Schedules" in docs/DEFINITIONS.md; the resource profiles of
+-- A usage takes an instant and a resource's place from 0. See "Schedules" in docs/definitions.md; the resource profiles of
 -- project scheduling (Kolisch and Hartmann 1999).
 use Rattle.std.specs.Prelude.{◌≢◌, ℕ, zero, suc, ◌+◌, ◌≤◌, ◌<◌, ◌&&◌, if◌then◌else◌, nat_le, nat_lt, List, length, slice_index, EachIndex}
 

@@ -1,5 +1,5 @@
 -- Disjunctive graphs of job shops (Roy and Sussmann 1964): steps with their times, arcs that every schedule keeps, and pairs of
--- steps of which one or the other goes first (docs/DEFINITIONS.md, "Proofs of optima").
+-- steps of which one or the other goes first (docs/definitions.md, "Proofs of optima").
 use Rattle.std.specs.Prelude.{◌≡◌, ℕ, suc, ◌+◌, ◌≤◌, ◌<◌, ◌⊎◌, List, Vec, Contains, Bool, ◌&&◌, nat_eq, nat_lt, get_or, map, All}
 use Rattle.std.specs.List.{AllPairs}
 use Rattle.std.specs.declared.alloc.Global.{Global}

@@ -1,4 +1,4 @@
--- Numbers of nodes as texts (docs/DEFINITIONS.md, "Proofs of optima").
+-- Numbers of nodes as texts (docs/definitions.md, "Proofs of optima").
 use Rattle.std.specs.Prelude.{◌≡◌, ℕ, List}
 use Rattle.std.specs.Fmt.{decimal}
 use Rattle.plan_prove.specs.Proofs.{IsNodeLimit}

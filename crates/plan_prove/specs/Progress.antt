@@ -1,4 +1,4 @@
--- How far a search is, and what a watcher is told of it (docs/DEFINITIONS.md, "Proofs of optima").
+-- How far a search is, and what a watcher is told of it (docs/definitions.md, "Proofs of optima").
 use Rattle.std.specs.Prelude.{◌≡◌, ◌⊎◌, ◌≤◌, ℕ, List}
 use Rattle.plan_sgs.specs.Problem.{IsActive, makespan}
 use Rattle.plan_shop.specs.Shop.{JobShop, problem_of}

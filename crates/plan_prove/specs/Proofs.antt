@@ -1,4 +1,4 @@
--- Schedules with lower bounds of all makespans (docs/DEFINITIONS.md, "Proofs of optima").
+-- Schedules with lower bounds of all makespans (docs/definitions.md, "Proofs of optima").
 use Rattle.std.specs.Prelude.{◌≡◌, ℕ, ◌≤◌, ◌<◌, List, All}
 use Rattle.plan_sgs.specs.Problem.{IsFeasible, IsActive, makespan}
 use Rattle.plan_sgs.specs.declared.schedule.Schedule.{Schedule}

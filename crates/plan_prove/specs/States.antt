@@ -1,5 +1,5 @@
 -- What a search knows of the schedules that it still looks for, and what follows from what
--- (docs/DEFINITIONS.md, "Proofs of optima").
+-- (docs/definitions.md, "Proofs of optima").
 use Rattle.std.specs.Prelude.{◌≡◌, ℕ, ◌+◌, ◌≤◌, ◌<◌, ◌⊎◌, ◌&&◌, not, nat_le, nat_eq, filter, sum_by, Contains, Bool, true, List, Vec, Option, Some, None, get_or, length, All}
 use Rattle.std.specs.declared.alloc.Global.{Global}
 use Rattle.plan_prove.specs.Graphs.{time_in, IsBefore, KeepsClique, IsKept, NoneIsBelow}

@@ -1,4 +1,4 @@
--- How the calls of a reader or a writer are counted (docs/DEFINITIONS.md, "Devices").
+-- How the calls of a reader or a writer are counted (docs/definitions.md, "Devices").
 use Rattle.std.specs.Prelude.{◌≡◌, ℕ, ◌+◌, ◌⊎◌, Result, is_ok, if◌then◌else◌}
 
 -- how often a whole reading or writing calls its device, then the device counts as failed

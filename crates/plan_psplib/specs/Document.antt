@@ -1,4 +1,4 @@
--- Reading an `.sm` text: its document, or the first check that fails (docs/DEFINITIONS.md, "Files").
+-- Reading an `.sm` text: its document, or the first check that fails (docs/definitions.md, "Files").
 use Rattle.std.specs.Prelude.{ℕ, List, Option, Some, None, Result, Ok}
 use Rattle.plan_psplib.specs.declared.text.fault.FileCode.TheVariants as code
 use Rattle.plan_psplib.specs.declared.text.fault.Fault.{Fault}

@@ -1,4 +1,4 @@
--- What a file isn't read for (docs/DEFINITIONS.md, "Files").
+-- What a file isn't read for (docs/definitions.md, "Files").
 use Rattle.std.specs.Prelude.{◌≡◌, []}
 use Rattle.plan_psplib.specs.declared.text.fault.FileCode.TheVariants as code
 use Rattle.plan_psplib.specs.declared.text.fault.FileFault.{FileFault}

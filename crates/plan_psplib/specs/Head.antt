@@ -1,4 +1,4 @@
--- What the head of an `.sm` text says (docs/DEFINITIONS.md, "Files").
+-- What the head of an `.sm` text says (docs/definitions.md, "Files").
 use Rattle.std.specs.Prelude.{ℕ, ◌==◌, List, Option, Some, None, Result, Ok, codes}
 use Rattle.plan_net.specs.Limits.{fewest_activities, most_activities}
 use Rattle.plan_psplib.specs.declared.text.fault.FileCode.TheVariants as code

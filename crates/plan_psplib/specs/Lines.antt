@@ -1,4 +1,4 @@
--- A text as numbered lines, and a line as words (docs/DEFINITIONS.md, "Files").
+-- A text as numbered lines, and a line as words (docs/definitions.md, "Files").
 use Rattle.std.specs.Prelude.{ℕ, ◌+◌, ◌==◌, ◌||◌, Bool, true, false, if◌then◌else◌, List, [], ◌∷◌, filter}
 use Rattle.std.specs.List.{slice_split}
 

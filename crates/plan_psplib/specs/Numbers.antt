@@ -1,4 +1,4 @@
--- Numbers as a text writes them (docs/DEFINITIONS.md, "Files").
+-- Numbers as a text writes them (docs/definitions.md, "Files").
 use Rattle.std.specs.Prelude.{ℕ, ◌+◌, ◌-◌, ◌*◌, ◌&&◌, Bool, if◌then◌else◌, List, length, fold, nat_le, Option, Some, None}
 use Rattle.std.specs.List.{list_all}
 

@@ -1,4 +1,4 @@
--- The precedence section (docs/DEFINITIONS.md, "Files").
+-- The precedence section (docs/definitions.md, "Files").
 use Rattle.std.specs.Prelude.{◌≡◌, ℕ, zero, suc, ◌+◌, ◌<◌, ◌==◌, ◌&&◌, Bool, false, length, slice_index_or, List, [], ◌∷◌, ◌++◌, Result, Ok, nat_le, not}
 use Rattle.std.specs.List.{list_any}
 use Rattle.plan_net.specs.Successors.{arcs_from}

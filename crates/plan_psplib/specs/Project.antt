@@ -1,4 +1,4 @@
--- A project that a file gives, and what a file is refused for (docs/DEFINITIONS.md, "Files").
+-- A project that a file gives, and what a file is refused for (docs/definitions.md, "Files").
 use Rattle.std.specs.Prelude.{◌≡◌, ℕ, ◌≤◌, ◌⊎◌, List, [], All, Ok, Err, length}
 use Rattle.plan_net.specs.Network.{Net, count_of, with_lag, unlagged}
 use Rattle.plan_net.specs.Limits.{IsSound}

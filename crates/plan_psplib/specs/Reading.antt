@@ -1,4 +1,4 @@
--- Reading words from front to back, up to the first fault (docs/DEFINITIONS.md, "Files").
+-- Reading words from front to back, up to the first fault (docs/definitions.md, "Files").
 use Rattle.std.specs.Prelude.{◌≡◌, ℕ, ◌+◌, ◌==◌, ◌&&◌, Bool, if◌then◌else◌, List, [], ◌∷◌, Option, Some, None, Result, Ok, Err, nat_le}
 use Rattle.plan_net.specs.Limits.{longest_duration, longest_sum}
 use Rattle.plan_psplib.specs.declared.text.fault.FileCode.{FileCode}

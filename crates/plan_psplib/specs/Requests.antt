@@ -1,4 +1,4 @@
--- The requests section and the availabilities (docs/DEFINITIONS.md, "Files").
+-- The requests section and the availabilities (docs/definitions.md, "Files").
 use Rattle.std.specs.Prelude.{ℕ, zero, suc, ◌+◌, List, [], ◌∷◌, ◌++◌, Result, Ok, map, sum}
 use Rattle.plan_psplib.specs.declared.text.fault.FileCode.TheVariants as code
 use Rattle.plan_psplib.specs.declared.text.fault.Fault.{Fault}

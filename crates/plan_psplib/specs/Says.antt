@@ -1,4 +1,4 @@
--- What an `.sm` text says, apart from the order in which it is read (docs/DEFINITIONS.md, "Files").
+-- What an `.sm` text says, apart from the order in which it is read (docs/definitions.md, "Files").
 use Rattle.std.specs.Prelude.{◌≡◌, ◌≢◌, ℕ, ◌+◌, ◌≤◌, List, [], ◌∷◌, ◌++◌, Some, All, codes, length, map, sum}
 use Rattle.std.specs.List.{AllByRecursion}
 use Rattle.plan_psplib.specs.Lines.{NumberedLine}

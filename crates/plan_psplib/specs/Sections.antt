@@ -1,4 +1,4 @@
--- The head and the sections of an `.sm` text (docs/DEFINITIONS.md, "Files").
+-- The head and the sections of an `.sm` text (docs/definitions.md, "Files").
 use Rattle.std.specs.Prelude.{ℕ, ◌==◌, ◌||◌, Bool, if◌then◌else◌, List, [], ◌∷◌, Option, Some, None, codes, drop, filter, nat_eq, not}
 use Rattle.std.specs.List.{after_first, list_all, starts_with}
 use Rattle.plan_psplib.specs.Lines.{NumberedLine, lines, words}

@@ -1,4 +1,4 @@
--- Lines as one stream of words (docs/DEFINITIONS.md, "Files").
+-- Lines as one stream of words (docs/definitions.md, "Files").
 use Rattle.std.specs.Prelude.{ℕ, Bool, if◌then◌else◌, List, [], ◌∷◌, filter, map}
 use Rattle.std.specs.List.{flat_map}
 use Rattle.plan_psplib.specs.Lines.{NumberedLine, words}

@@ -1,4 +1,4 @@
--- What the calls of a book promise, whatever keeps its tables (docs/DEFINITIONS.md, "Books").
+-- What the calls of a book promise, whatever keeps its tables (docs/definitions.md, "Books").
 use Rattle.std.specs.Prelude.{◌≡◌, ◌⊎◌, ℕ, ◌+◌, ◌-◌, ◌^◌, ◌≤◌, min, List, Option, Some, None, Result, IfOk, IfErr, OnOk, OnErr, map, string_bytes}
 use Rattle.plan_rows.specs.declared.fault.BookFault.{BookFault}
 use Rattle.plan_rows.specs.declared.fault.BookFault.TheVariants.{NoMemory, Store}

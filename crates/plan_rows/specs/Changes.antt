@@ -1,4 +1,4 @@
--- What a command changes: one constructor for each, and the rows after it (docs/DEFINITIONS.md,
+-- What a command changes: one constructor for each, and the rows after it (docs/definitions.md,
 -- "Desks"). A change names no desk. It is made for the desk that the request names, so that it can
 -- touch no row of another.
 use Rattle.std.specs.Prelude.{ℕ, ◌+◌, Bool, true, false, not, if◌then◌else◌, ◌==◌, List, [], ◌∷◌, ◌++◌, Option, Some, None, map, filter}

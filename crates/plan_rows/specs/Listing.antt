@@ -1,4 +1,4 @@
--- All rows of an office, each table's in the order of its keys (docs/DEFINITIONS.md, "Tables"). Texts
+-- All rows of an office, each table's in the order of its keys (docs/definitions.md, "Tables"). Texts
 -- are compared byte by byte.
 use Rattle.std.specs.Prelude.{◌≡◌, ℕ, Bool, List, map, string_bytes}
 use Rattle.std.specs.Cmp.Lexicographic.{slice_cmp}

@@ -1,5 +1,5 @@
 -- The texts that name things: desks and codes, their kinds, keys, and the numbers of plans
--- (docs/DEFINITIONS.md, "Desks").
+-- (docs/definitions.md, "Desks").
 use Rattle.std.specs.Prelude.{ℕ, Bool, false, ◌&&◌, ◌||◌, ◌==◌, not, nat_le, nat_lt, if◌then◌else◌, [], ◌∷◌, length, Option, Some, None, codes}
 use Rattle.std.specs.List.{list_all}
 use Rattle.sha2.specs.Sha256.{sha256}

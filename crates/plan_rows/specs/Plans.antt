@@ -1,5 +1,5 @@
 -- What a plan is worked out from: its file, the lags of its desk, and the published capacities of
--- the codes that are bound to its places (docs/DEFINITIONS.md, "Desks").
+-- the codes that are bound to its places (docs/definitions.md, "Desks").
 use Rattle.std.specs.Prelude.{◌≡◌, ℕ, zero, suc, ◌+◌, Bool, true, ◌&&◌, ◌||◌, not, ◌==◌, nat_lt, if◌then◌else◌, List, [], ◌∷◌, ◌++◌, length, map, filter, find, Option, Some, None, unwrap_or, option_map, option_and_then}
 use Rattle.std.specs.List.{list_any}
 use Rattle.std.specs.Cmp.Lexicographic.{slice_cmp}

@@ -1,4 +1,4 @@
--- Plans that are tested one at a time, and the other rows beside them (docs/DEFINITIONS.md,
+-- Plans that are tested one at a time, and the other rows beside them (docs/definitions.md,
 -- "Books").
 use Rattle.std.specs.Prelude.{◌≡◌, ◌⊎◌, ◌&&◌, ℕ, Bool, true, not, List, [], ◌∷◌}
 use Rattle.std.specs.List.{list_any, AllByRecursion, AllZip}

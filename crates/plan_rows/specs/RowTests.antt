@@ -1,4 +1,4 @@
--- What the tests of rows answer (docs/DEFINITIONS.md, "Books").
+-- What the tests of rows answer (docs/definitions.md, "Books").
 use Rattle.std.specs.Prelude.{◌≡◌, ◌≤◌, ◌&&◌, ◌==◌, ℕ, Bool, true, List, length, filter, unwrap_or, Option, Some, None}
 use Rattle.std.specs.Bool.{MatchBool}
 use Rattle.std.specs.Option.{MatchOption}

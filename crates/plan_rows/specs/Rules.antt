@@ -1,4 +1,4 @@
--- The rules that the rows of an office keep (docs/DEFINITIONS.md, "Desks").
+-- The rules that the rows of an office keep (docs/definitions.md, "Desks").
 use Rattle.std.specs.Prelude.{◌≡◌, ◌⊎◌, ℕ, ◌+◌, ◌≤◌, ◌<◌, Bool, true, false, ◌&&◌, nat_le, List, [], ◌∷◌, length, filter, Option, Some, None}
 use Rattle.std.specs.List.{AllByRecursion}
 use Rattle.plan_net.specs.Limits.{longest_lag}

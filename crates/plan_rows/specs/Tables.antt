@@ -1,4 +1,4 @@
--- What the rows that code keeps stand for (docs/DEFINITIONS.md, "Books").
+-- What the rows that code keeps stand for (docs/definitions.md, "Books").
 use Rattle.std.specs.Prelude.{List, [], map, string_bytes}
 use Rattle.plan_rows.specs.declared.row_tests.beside.Beside.{Beside}
 use Rattle.plan_rows.specs.declared.row_tests.beside.PlanSeen.{PlanSeen}

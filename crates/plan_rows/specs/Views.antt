@@ -1,4 +1,4 @@
--- What one desk sees of the office (docs/DEFINITIONS.md, "Desks").
+-- What one desk sees of the office (docs/definitions.md, "Desks").
 use Rattle.std.specs.Prelude.{◌≡◌, List, Option, option_to_list, filter, IsPermutation}
 use Rattle.plan_rows.specs.World.{Text, Digest, Published, Desk, Plan, Bind, Lag, World, is_plan_of, is_bind_by, is_lag_by, desk_in}
 

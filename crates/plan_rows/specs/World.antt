@@ -1,5 +1,5 @@
 -- What an office keeps: the rows of all desks together, in the order in which they were written
--- (docs/DEFINITIONS.md, "Desks").
+-- (docs/definitions.md, "Desks").
 use Rattle.std.specs.Prelude.{ℕ, Bool, true, false, ◌&&◌, ◌==◌, List, [], Option, find, bytes_eq}
 use Rattle.plan_rows.specs.declared.kinds.Kind.{Kind}
 use Rattle.plan_rows.specs.declared.kinds.PlanKind.{PlanKind}

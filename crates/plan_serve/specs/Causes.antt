@@ -1,4 +1,4 @@
--- What a fault of the system is told as (docs/DEFINITIONS.md, "Runs").
+-- What a fault of the system is told as (docs/definitions.md, "Runs").
 use Rattle.std.specs.Prelude.{◌≡◌, ◌≢◌, ◌⊎◌, ◌<◌, Some, Result, Ok, Err}
 use Rattle.std.specs.Fs.{metadata_len, file_type, IsFile}
 use Rattle.std.specs.IoError.{error_kind}

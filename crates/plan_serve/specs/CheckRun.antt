@@ -1,4 +1,4 @@
--- What it is to test an office and print how many rows it has (docs/DEFINITIONS.md, "Runs").
+-- What it is to test an office and print how many rows it has (docs/definitions.md, "Runs").
 use Rattle.std.specs.Prelude.{◌≡◌, ℕ, ◌<◌, Option, length, take, Result, Ok, Err}
 use Rattle.std.specs.Io.KnownBytes.{Appends}
 use Rattle.sqlite_disk.specs.declared.start.Start as start

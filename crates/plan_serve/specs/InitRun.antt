@@ -1,4 +1,4 @@
--- What it is to make the tables of a new office (docs/DEFINITIONS.md, "Runs").
+-- What it is to make the tables of a new office (docs/definitions.md, "Runs").
 use Rattle.std.specs.Prelude.{◌≡◌, ◌≢◌, ◌⊎◌, false, IsTrue, Option, Some, None, Result, Ok, Err}
 use Rattle.sqlite_disk.specs.declared.start.Start as start
 use Rattle.sqlite_wal.specs.Files.{image_at}

@@ -1,4 +1,4 @@
--- What serving an office comes to (docs/DEFINITIONS.md, "Runs").
+-- What serving an office comes to (docs/definitions.md, "Runs").
 use Rattle.std.specs.Prelude.{ℕ}
 use Rattle.sqlite_disk.specs.declared.start.Start as start
 use Rattle.sqlite_trees.specs.declared.store.Store.{Ghosts}

@@ -1,4 +1,4 @@
--- What a replay on files comes to (docs/DEFINITIONS.md, "Runs").
+-- What a replay on files comes to (docs/definitions.md, "Runs").
 use Rattle.std.specs.Prelude.{◌≡◌, ℕ, List, Option, length}
 use Rattle.sqlite_disk.specs.declared.start.Start as start
 use Rattle.sqlite_trees.specs.declared.store.Store.{Ghosts}

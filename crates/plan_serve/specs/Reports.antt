@@ -1,4 +1,4 @@
--- What is written of an office (docs/DEFINITIONS.md, "Runs").
+-- What is written of an office (docs/definitions.md, "Runs").
 use Rattle.std.specs.Prelude.{Option, Result, length, map, vec_items, IsErrOf}
 use Rattle.sqlite_disk.specs.declared.start.Start as start
 use Rattle.sqlite_trees.specs.declared.store.Store.{Ghosts}

@@ -1,4 +1,4 @@
-//! A request by each route, where one allocation may be refused (`refusals/run` refuses each in turn):
+//! A request by each route, where one allocation may be refused (`tests/refusals/run` refuses each in turn):
 //! it is read and answered, or told that there is no memory; then nothing has changed, and asked again it
 //! is answered as with ample memory.
 

@@ -1,4 +1,4 @@
--- What the parts of a check find. No public clause speaks of these words (docs/DEFINITIONS.md, "Schedules").
+-- What the parts of a check find. No public clause speaks of these words (docs/definitions.md, "Schedules").
 use Rattle.std.specs.Prelude.{◌≡◌, ℕ, ◌+◌, ◌-◌, ◌≤◌, ◌<◌, List, length, get_or, slice_index, Option, Some, None}
 use Rattle.plan_net.specs.Network.{Net, duration_of, lag_of}
 use Rattle.plan_profile.specs.InUse.{in_use, capacities}

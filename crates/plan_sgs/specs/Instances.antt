@@ -1,4 +1,4 @@
--- Instances: a project and the capacities that it is planned against, as a scheduling problem (docs/DEFINITIONS.md, "Schedules").
+-- Instances: a project and the capacities that it is planned against, as a scheduling problem (docs/definitions.md, "Schedules").
 use Rattle.std.specs.Prelude.{◌≡◌, ℕ, ◌-◌, ◌≤◌, ◌<◌, List, length, map, slice_index}
 use Rattle.plan_net.specs.Network.{Net, lag_of}
 use Rattle.plan_psplib.specs.Project.{Project, IsProject}

@@ -1,4 +1,4 @@
--- Priority rules: their names, and the keys by which they choose (docs/DEFINITIONS.md, "Schedules"; Kolisch 1996).
+-- Priority rules: their names, and the keys by which they choose (docs/definitions.md, "Schedules"; Kolisch 1996).
 use Rattle.std.specs.Prelude.{◌≡◌, ◌↔◌, ℕ, ◌+◌, ◌≤◌, ◌<◌, List, length, slice_index, codes}
 use Rattle.plan_net.specs.Network.{Net, count_of, duration_of}
 use Rattle.plan_cpm.specs.Dates.{DateTable, AreDates, late_finish_of, total_float_of}

@@ -1,4 +1,4 @@
--- Laws of serial generation (docs/DEFINITIONS.md, "Schedules"; Kelley 1963, Sprecher, Kolisch and Drexl 1995).
+-- Laws of serial generation (docs/definitions.md, "Schedules"; Kelley 1963, Sprecher, Kolisch and Drexl 1995).
 use Rattle.std.specs.Prelude.{ℕ, ◌≤◌, ◌<◌, List, Option, get_or, take}
 use Rattle.plan_sgs.specs.Problem.{Problem, count, makespan, IsFeasible, IsActive, IsShortest, LinksInside, NeedsFit, IsRanked}
 use Rattle.plan_sgs.specs.Serial.{serial, earliest, IsEarliest}

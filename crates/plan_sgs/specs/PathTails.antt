@@ -1,5 +1,5 @@
 -- Tails as functions of a network: the greatest length among the paths that begin with an activity,
--- all of them listed, and the greatest of all paths (docs/DEFINITIONS.md, "Words of a project"; the
+-- all of them listed, and the greatest of all paths (docs/definitions.md, "Words of a project"; the
 -- tails of the critical path method, Kelley and Walker 1959).
 use Rattle.std.specs.Prelude.{ℕ, zero, suc, max, nat_eq, List, [], ◌∷◌, map, filter, flat_map}
 use Rattle.plan_net.specs.Network.{Net, count_of}

@@ -1,4 +1,4 @@
--- Scheduling problems, and which starts are feasible, active and shortest (docs/DEFINITIONS.md, "Schedules"). Projects with scarce
+-- Scheduling problems, and which starts are feasible, active and shortest (docs/definitions.md, "Schedules"). Projects with scarce
 -- resources as in Kolisch and Hartmann (1999); a job shop is the case in which each job is a chain and each machine has capacity 1.
 use Rattle.std.specs.Prelude.{◌≡◌, ◌≢◌, ℕ, zero, suc, ◌+◌, ◌≤◌, ◌<◌, max, Bool, true, cond, ◌&&◌, List, length, get_or, map, nat_lt, nat_le, All, Option, Some, None, [], ◌⊎◌}
 

@@ -1,5 +1,5 @@
 -- Where the tree of a project stands, and what it keeps of what its word places
--- (docs/DEFINITIONS.md, "Words of a project"). Public clauses speak of `Standing` and `standing`
+-- (docs/definitions.md, "Words of a project"). Public clauses speak of `Standing` and `standing`
 -- alone.
 use Rattle.std.specs.Prelude.{◌≡◌, ℕ, ◌+◌, ◌≤◌, ◌<◌, List, [], ◌∷◌, ◌++◌, length, get_or, slice_index, take, map, Option}
 use Rattle.plan_net.specs.Network.{count_of}

@@ -1,5 +1,5 @@
 -- Words of a project: lists of activities, each placed in its turn by serial generation
--- (docs/DEFINITIONS.md, "Words of a project"; the precedence tree of Patterson, Słowiński, Talbot
+-- (docs/definitions.md, "Words of a project"; the precedence tree of Patterson, Słowiński, Talbot
 -- and Węglarz 1989, Sprecher 2000). Letters are activity numbers from 1 on.
 use Rattle.std.specs.Prelude.{ℕ, suc, ◌+◌, ◌*◌, ◌/◌, ◌%◌, max, min, Bool, cond, List, [], ◌∷◌, ◌++◌, length, get_or, map, nat_lt, Option, None, Contains}
 use Rattle.plan_sgs.specs.Problem.{Problem, count, duration, need, capacity, total, greatest_below, all_below, makespan}

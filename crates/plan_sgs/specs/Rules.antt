@@ -1,4 +1,4 @@
--- Activity lists, and those that a priority rule makes (docs/DEFINITIONS.md, "Schedules"; Kolisch 1996).
+-- Activity lists, and those that a priority rule makes (docs/definitions.md, "Schedules"; Kolisch 1996).
 use Rattle.std.specs.Prelude.{◌≡◌, ℕ, zero, suc, ◌-◌, ◌≤◌, ◌<◌, Bool, true, cond, ◌&&◌, ◌||◌, not, List, [], ◌∷◌, ◌++◌, length, get_or, map, nat_lt, nat_eq, All, Contains, ◌⊎◌}
 use Rattle.std.specs.List.{list_all, list_any, fold, AllByRecursion}
 use Rattle.plan_sgs.specs.Problem.{Problem, count}

@@ -1,5 +1,5 @@
 -- Serial generation: activities are placed one after another, each at the least start that links and capacities allow beside
--- those placed before it (docs/DEFINITIONS.md, "Schedules"; Kelley 1963, Kolisch and Hartmann 1999).
+-- those placed before it (docs/definitions.md, "Schedules"; Kelley 1963, Kolisch and Hartmann 1999).
 use Rattle.std.specs.Prelude.{◌≡◌, ℕ, zero, suc, ◌+◌, ◌≤◌, max, Bool, true, cond, List, [], ◌∷◌, length, get_or, set, map, replicate, nat_le, nat_eq, Option, Some, None}
 use Rattle.std.specs.List.{fold}
 use Rattle.plan_sgs.specs.Problem.{Problem, count, duration, need, capacity, all_below, usage}

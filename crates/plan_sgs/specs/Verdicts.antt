@@ -1,5 +1,5 @@
 -- What a check says of a list of starts: the first broken arc, else the first overload, else the first left shift, else that it is
--- active (docs/DEFINITIONS.md, "Schedules").
+-- active (docs/definitions.md, "Schedules").
 use Rattle.std.specs.Prelude.{◌≡◌, ℕ, ◌+◌, ◌-◌, ◌≤◌, ◌<◌, ◌⊎◌, List, length, get_or, All, Contains}
 use Rattle.plan_sgs.specs.Problem.{Problem, Link, count, duration, capacity, usage, all_placed, KeepsArcs, IsFeasible, IsShift, IsActive}
 use Rattle.plan_sgs.specs.declared.verdict.Verdict.{Verdict}

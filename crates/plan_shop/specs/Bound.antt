@@ -1,4 +1,4 @@
--- The bound of a partial schedule (docs/DEFINITIONS.md, "Job shops"; one-machine bounds as in Lageweg, Lenstra and Rinnooy Kan 1977).
+-- The bound of a partial schedule (docs/definitions.md, "Job shops"; one-machine bounds as in Lageweg, Lenstra and Rinnooy Kan 1977).
 use Rattle.std.specs.Prelude.{ℕ, zero, suc, ◌+◌, ◌-◌, max, cond, ◌&&◌, not, List, [], ◌∷◌, nat_lt, nat_eq}
 use Rattle.std.specs.List.{sum_by}
 use Rattle.plan_sgs.specs.Problem.{greatest_below}

@@ -1,4 +1,4 @@
--- What the parts of a check find in the starts of a shop. No public clause speaks of these words (docs/DEFINITIONS.md, "Job shops").
+-- What the parts of a check find in the starts of a shop. No public clause speaks of these words (docs/definitions.md, "Job shops").
 use Rattle.std.specs.Prelude.{◌≡◌, ℕ, suc, ◌+◌, ◌≤◌, ◌<◌, ◌⊎◌, List, slice_index}
 use Rattle.plan_sgs.specs.Verdicts.{IsOver}
 use Rattle.plan_shop.specs.Shop.{JobShop, count_steps, time_of, machine_of, job_of, problem_of}

@@ -1,4 +1,4 @@
--- Shops out of files, and machines that are closed (docs/DEFINITIONS.md, "Job shops").
+-- Shops out of files, and machines that are closed (docs/definitions.md, "Job shops").
 use Rattle.std.specs.Prelude.{◌≡◌, ℕ, ◌≤◌, ◌<◌, Bool, true, false, List, length, slice_index_or, All, Contains}
 use Rattle.std.specs.List.{flat_map}
 use Rattle.plan_psplib.specs.Reading.{greatest, greatest_total}

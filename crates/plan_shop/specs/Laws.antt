@@ -1,5 +1,5 @@
 -- Laws of words: full words are feasible and active, the bound is one, and some letter always leads on to a schedule that is no worse
--- (docs/DEFINITIONS.md, "Job shops").
+-- (docs/definitions.md, "Job shops").
 use Rattle.std.specs.Prelude.{◌≡◌, ℕ, suc, ◌+◌, ◌*◌, ◌≤◌, ◌<◌, true, false, cond, List, [], ◌∷◌, ◌++◌, length, get_or, nat_eq, Contains, ◌↔◌, ◌⊎◌}
 use Rattle.std.specs.List.{AllPairs}
 use Rattle.plan_sgs.specs.Problem.{need, all_placed, KeepsArcs, KeepsCapacities, IsFeasible, IsActive, IsShortest, makespan}

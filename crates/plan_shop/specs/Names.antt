@@ -1,4 +1,4 @@
--- The names of priority rules, and how each chooses (docs/DEFINITIONS.md, "Job shops").
+-- The names of priority rules, and how each chooses (docs/definitions.md, "Job shops").
 use Rattle.std.specs.Prelude.{◌≡◌, ℕ, Bool, nat_lt, List, [], ◌∷◌, Option, Some, None, codes}
 use Rattle.plan_shop.specs.Shop.{JobShop}
 use Rattle.plan_shop.specs.Words.{Placed, ready, letter_of, jobs_after}

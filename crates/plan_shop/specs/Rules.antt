@@ -1,4 +1,4 @@
--- The words that priority rules choose (docs/DEFINITIONS.md, "Job shops"; rules as in Panwalkar and Iskander, A survey of scheduling
+-- The words that priority rules choose (docs/definitions.md, "Job shops"; rules as in Panwalkar and Iskander, A survey of scheduling
 -- rules, Operations Research 25, 1977). A rule chooses one of the jobs that may follow what is placed; of several that are alike, the least.
 use Rattle.std.specs.Prelude.{ℕ, zero, suc, ◌-◌, ◌*◌, cond, nat_lt, List, [], ◌∷◌, Contains}
 use Rattle.std.specs.List.{fold}

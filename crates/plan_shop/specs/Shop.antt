@@ -1,5 +1,5 @@
 -- Job shops by flat step numbers: step x belongs to job x / machines, both from 0 on; and a shop as a scheduling problem
--- (docs/DEFINITIONS.md, "Job shops").
+-- (docs/definitions.md, "Job shops").
 use Rattle.std.specs.Prelude.{◌≡◌, ℕ, zero, suc, ◌+◌, ◌-◌, ◌*◌, ◌/◌, ◌%◌, ◌<◌, Bool, cond, List, [], ◌∷◌, ◌++◌, length, get_or, map, replicate, nat_eq, All}
 use Rattle.plan_orlib.specs.declared.steps.Step.{Step}
 use Rattle.plan_sgs.specs.Problem.{Problem, Link}

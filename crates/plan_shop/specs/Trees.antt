@@ -1,4 +1,4 @@
--- Where the tree of a shop stands, and what it keeps of what its word places (docs/DEFINITIONS.md, "Job shops").
+-- Where the tree of a shop stands, and what it keeps of what its word places (docs/definitions.md, "Job shops").
 use Rattle.std.specs.Prelude.{◌≡◌, ℕ, ◌≤◌, ◌<◌, ◌⊎◌, Bool, ◌&&◌, ◌*◌, not, nat_lt, nat_eq, List, [], ◌∷◌, Option, Some, None, length, map, slice_index, Contains}
 use Rattle.std.specs.List.{sum_by}
 use Rattle.plan_shop.specs.Shop.{JobShop, count_steps, time_of, machine_of, job_of, place_of, those_below}

@@ -1,4 +1,4 @@
--- Partial schedules, the letters that may follow, and words (docs/DEFINITIONS.md, "Job shops"; Giffler and Thompson,
+-- Partial schedules, the letters that may follow, and words (docs/definitions.md, "Job shops"; Giffler and Thompson,
 -- Algorithms for solving production-scheduling problems, Operations Research 8, 1960). Letters are job numbers from 1 on.
 use Rattle.std.specs.Prelude.{ℕ, zero, suc, ◌+◌, ◌*◌, max, min, Bool, cond, ◌&&◌, not, List, [], ◌∷◌, map, nat_lt, nat_eq, Contains}
 use Rattle.std.specs.List.{fold}

@@ -1,5 +1,5 @@
 -- What it is to take the tables that a connection has, and what is handed back where they aren't
--- taken (docs/DEFINITIONS.md, "Tables").
+-- taken (docs/definitions.md, "Tables").
 use Rattle.std.specs.Prelude.{◌≡◌, ◌≢◌, ◌⊎◌, ℤ, pos, false, IsTrue, Result, OnOk, OnErr, IfErr}
 use Rattle.sqlite_trees.specs.Tree.{Trees}
 use Rattle.sqlite_trees.specs.View.{IsClean}

@@ -1,4 +1,4 @@
--- What it is to make the tables of a new store (docs/DEFINITIONS.md, "Tables").
+-- What it is to make the tables of a new store (docs/definitions.md, "Tables").
 use Rattle.std.specs.Prelude.{◌≡◌, ◌≢◌, false, IsTrue, Result, OnOk, OnErr, IfErr}
 use Rattle.sqlite_trees.specs.Tree.{Trees}
 use Rattle.sqlite.specs.State.{State, HasCleanDisk, Survives}

@@ -1,4 +1,4 @@
--- What each call on a connection keeps of it, whatever it answers (docs/DEFINITIONS.md, "Tables").
+-- What each call on a connection keeps of it, whatever it answers (docs/definitions.md, "Tables").
 use Rattle.std.specs.Prelude.{◌⊎◌, ◌≤◌, IsTrue}
 use Rattle.sqlite_disk.specs.Disk.{MoreFaults}
 use Rattle.sqlite.specs.State.{State, HasCleanDisk}

@@ -1,4 +1,4 @@
--- Faults of a connection as faults of a book (docs/DEFINITIONS.md, "Tables").
+-- Faults of a connection as faults of a book (docs/definitions.md, "Tables").
 use Rattle.sqlite.specs.declared.error.ErrorCode.TheVariants.{OutOfMemory}
 use Rattle.sqlite.specs.declared.error.Error.{Error}
 use Rattle.sqlite.specs.declared.error.Error.TheVariants.{SqliteFailure}

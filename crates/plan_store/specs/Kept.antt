@@ -1,4 +1,4 @@
--- How the rows of a table in SQL keep a list of rows (docs/DEFINITIONS.md, "Tables").
+-- How the rows of a table in SQL keep a list of rows (docs/definitions.md, "Tables").
 use Rattle.std.specs.Prelude.{◌≡◌, ℤ, List, ◌∷◌, map}
 use Rattle.std.specs.List.{AllByRecursion}
 use Rattle.sqlite_value.specs.declared.value.Value.TheVariants.{Int}

@@ -1,4 +1,4 @@
--- The tables that a store may have, and the office that is in them (docs/DEFINITIONS.md, "Tables").
+-- The tables that a store may have, and the office that is in them (docs/definitions.md, "Tables").
 use Rattle.std.specs.Prelude.{◌≡◌, ℕ, ◌+◌, ℤ, true, List, [], ◌∷◌, IsTrue, IsUtf8}
 use Rattle.std.specs.Borrow.{Bor}
 use Rattle.std.specs.List.{AllByRecursion}

@@ -1,4 +1,4 @@
--- When a database has the tables of an office, whatever rows they have (docs/DEFINITIONS.md, "Tables").
+-- When a database has the tables of an office, whatever rows they have (docs/definitions.md, "Tables").
 use Rattle.std.specs.Prelude.{◌≡◌}
 use Rattle.sqlite_schema.specs.declared.schema.Schema.{Schema}
 use Rattle.plan_store.specs.declared.layout.Layout.{Layout}

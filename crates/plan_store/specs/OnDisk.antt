@@ -1,4 +1,4 @@
--- A book in the files at a path (docs/DEFINITIONS.md, "Tables").
+-- A book in the files at a path (docs/definitions.md, "Tables").
 use Rattle.std.specs.Prelude.{◌≢◌, Option, Some, None}
 use Rattle.sqlite_wal.specs.Files.{image_at}
 use Rattle.sqlite_disk.specs.declared.start.Start as start

@@ -1,4 +1,4 @@
--- A connection while its tables are tested (docs/DEFINITIONS.md, "Tables").
+-- A connection while its tables are tested (docs/definitions.md, "Tables").
 use Rattle.std.specs.Prelude.{◌≡◌, ℤ, Bool, false, List, [], ◌∷◌, map, Option, IsTrue, Result, IfOk, MatchOption}
 use Rattle.std.specs.Bool.{MatchBool}
 use Rattle.sqlite_trees.specs.Tree.{Trees}

@@ -1,4 +1,4 @@
--- What a query does to a connection, whatever tables it has (docs/DEFINITIONS.md, "Tables").
+-- What a query does to a connection, whatever tables it has (docs/definitions.md, "Tables").
 use Rattle.std.specs.Prelude.{◌≡◌, false, List, ℕ, IsTrue, Result, IfOk}
 use Rattle.sqlite_trees.specs.Tree.{Trees}
 use Rattle.sqlite_schema.specs.declared.schema.Schema.{Schema}

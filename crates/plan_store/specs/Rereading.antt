@@ -1,4 +1,4 @@
--- A connection whose tables are read again (docs/DEFINITIONS.md, "Tables").
+-- A connection whose tables are read again (docs/definitions.md, "Tables").
 use Rattle.std.specs.Prelude.{◌≡◌, false, IsTrue}
 use Rattle.sqlite_trees.specs.Tree.{Trees}
 use Rattle.sqlite_trees.specs.View.{IsClean}

@@ -1,4 +1,4 @@
--- Plans that are tested as their rows are read (docs/DEFINITIONS.md, "Tables").
+-- Plans that are tested as their rows are read (docs/definitions.md, "Tables").
 use Rattle.std.specs.Prelude.{◌≡◌, ◌⊎◌, ℕ, Bool, List, [], ◌∷◌, ◌++◌, Some, None, Option, IsTrue}
 use Rattle.std.specs.Bool.{MatchBool}
 use Rattle.std.specs.List.{AllZip}

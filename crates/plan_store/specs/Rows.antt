@@ -1,4 +1,4 @@
--- How the rows of an office are written in SQL and read back (docs/DEFINITIONS.md, "Tables").
+-- How the rows of an office are written in SQL and read back (docs/definitions.md, "Tables").
 use Rattle.std.specs.Prelude.{ℕ, ℤ, pos, negsuc, List, [], ◌∷◌, Result, Ok, Err, if◌then◌else◌, codes}
 use Rattle.hex.specs.Hex.{encode_lower, decode_sized}
 use Rattle.hex.specs.declared.error.FromHexError.{FromHexError}

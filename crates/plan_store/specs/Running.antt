@@ -1,4 +1,4 @@
--- Statements that are run in one transaction (docs/DEFINITIONS.md, "Tables").
+-- Statements that are run in one transaction (docs/definitions.md, "Tables").
 use Rattle.std.specs.Prelude.{◌≡◌, ℕ, true, List, [], ◌∷◌, Ok, IsTrue}
 use Rattle.std.specs.Borrow.{Bor}
 use Rattle.sqlite_value.specs.declared.value.ValueRef.{ValueRef}

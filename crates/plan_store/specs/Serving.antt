@@ -1,4 +1,4 @@
--- What a connection that serves a book keeps, and what a call does to it (docs/DEFINITIONS.md,
+-- What a connection that serves a book keeps, and what a call does to it (docs/definitions.md,
 -- "Tables").
 use Rattle.std.specs.Prelude.{◌≡◌, ◌⊎◌, ℕ, ◌+◌, [], ◌∷◌, ◌++◌, false, IsTrue, Option, Some, None, IsSomeAnd, Result, IfOk, OnOk, OnErr}
 use Rattle.sqlite_trees.specs.Tree.{Trees}

@@ -1,4 +1,4 @@
--- Rows as queries show them (docs/DEFINITIONS.md, "Tables").
+-- Rows as queries show them (docs/definitions.md, "Tables").
 use Rattle.std.specs.Prelude.{◌≡◌, ℕ, pos, Bool, nat_lt, length, string_bytes, Option, Some, slice_get, List}
 use Rattle.sqlite_value.specs.declared.value.Value.TheVariants.{Int, Text, Blob}
 use Rattle.sqlite_value.specs.Order.{Row, column}

@@ -1,4 +1,4 @@
--- What contracts see of a book in SQL (docs/DEFINITIONS.md, "Tables").
+-- What contracts see of a book in SQL (docs/definitions.md, "Tables").
 use Rattle.std.specs.Prelude.{ℕ, IsTrue, Option, Some, IfSome, string_bytes, refl}
 use Rattle.std.proofs.Common.{sym, subst, ap}
 use Rattle.std.proofs.Math.Logic.{∥∥₁_elim}

@@ -1,4 +1,4 @@
--- The office that tables in SQL hold, and when they are those of a store (docs/DEFINITIONS.md,
+-- The office that tables in SQL hold, and when they are those of a store (docs/definitions.md,
 -- "Tables").
 use Rattle.std.specs.Prelude.{◌≡◌, [], ◌∷◌, map}
 use Rattle.sqlite_trees.specs.Tree.{Trees}

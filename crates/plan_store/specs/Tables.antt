@@ -1,4 +1,4 @@
--- The tables of a store as SQL keeps them (docs/DEFINITIONS.md, "Tables").
+-- The tables of a store as SQL keeps them (docs/definitions.md, "Tables").
 use Rattle.std.specs.Prelude.{ℕ, ◌+◌, true, false, List, [], ◌∷◌, ◌++◌, Some, None, codes}
 use Rattle.sqlite_value.specs.declared.value.Value.TheVariants.{Null}
 use Rattle.sqlite_value.specs.declared.keys.Collation.TheVariants.{Binary}

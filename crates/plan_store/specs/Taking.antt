@@ -1,4 +1,4 @@
--- Rows that are read from tables that someone else may have written (docs/DEFINITIONS.md,
+-- Rows that are read from tables that someone else may have written (docs/definitions.md,
 -- "Tables").
 use Rattle.std.specs.Prelude.{◌≡◌, ◌⊎◌, ℕ, ◌<◌, ◌^◌, ℤ, true, List, [], ◌∷◌, map, option_map, Option, Some, None, IsUtf8, Contains, Vec}
 use Rattle.std.specs.List.{AllByRecursion, AllZip}

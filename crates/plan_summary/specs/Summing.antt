@@ -1,4 +1,4 @@
--- What a hasher is given of the rows of an office that a book lists (docs/DEFINITIONS.md, "Runs").
+-- What a hasher is given of the rows of an office that a book lists (docs/definitions.md, "Runs").
 use Rattle.std.specs.Prelude.{◌≡◌, ℕ, List, [], ◌++◌, length, Option, Some, None, Result, IfOk, string_bytes}
 use Rattle.std.specs.Prelude.{codes, decimal}
 use Rattle.std.specs.List.{flat_map}

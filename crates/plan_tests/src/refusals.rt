@@ -1,5 +1,5 @@
 //! Public calls that allocate and leave something behind, each made twice. With ample memory both
-//! answers are the known one. Where one allocation is refused (`refusals/run` refuses each in turn)
+//! answers are the known one. Where one allocation is refused (`tests/refusals/run` refuses each in turn)
 //! the first may be want of memory, and then nothing is left of it: the second is the known one.
 
 use crate::shops::shop_of;

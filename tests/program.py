@@ -1,0 +1,24 @@
+"""The program that the tests run: the one that PLAN_PROGRAM names, else the one that ./plan runs."""
+
+import os
+import subprocess
+import sys
+
+TESTS = os.path.dirname(os.path.abspath(__file__))
+TOP = os.path.dirname(TESTS)
+
+
+def _resolved():
+    """The path of the program; exits with one line if there is none."""
+    named = os.environ.get("PLAN_PROGRAM")
+    if named:
+        if not os.access(named, os.X_OK):
+            sys.exit(f"PLAN_PROGRAM names {named}, which can't be run")
+        return os.path.abspath(named)
+    asked = subprocess.run([os.path.join(TOP, "release"), "--program"], stdout=subprocess.PIPE, text=True)
+    if asked.returncode:
+        sys.exit("no program to test: set PLAN_PROGRAM, or build it with ./plan --version")
+    return asked.stdout.strip()
+
+
+PROGRAM = _resolved()

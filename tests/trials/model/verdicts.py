@@ -1,0 +1,65 @@
+"""Starts that are handed in, and the first verdict on them (docs/definitions.md, "Verdicts on
+lists of starts" and "Runs")."""
+
+from .schedules import fits, usage
+from .words import Fault, Stream, check_plain, lines_of
+
+LATEST_START = 10000000
+
+
+def read_starts(text, count):
+    """As many starts as there are activities, by activity."""
+    try:
+        check_plain(text)
+        stream = Stream(lines_of(text), len(lines_of(text)))
+        starts = {j: stream.within("F10", 0, LATEST_START) for j in range(1, count + 1)}
+        stream.end()
+    except Fault as fault:
+        raise Fault(fault.line + " of the starts") from None
+    return starts
+
+
+def release(project, starts, j):
+    """The least instant that the arcs to j allow."""
+    ends = [
+        starts[i] + project.durations[i] + project.lags[i, j] for i in project.predecessors(j)
+    ]
+    return max(ends, default=0)
+
+
+def is_broken(project, starts, arc):
+    source, target = arc
+    return starts[target] < starts[source] + project.durations[source] + project.lags[arc]
+
+
+def first_over(project, starts):
+    """The least overloaded instant with its least resource; None without one. Usage rises only
+    where something starts."""
+    resources = range(len(project.capacities))
+    over = [
+        (t, k + 1)
+        for t in set(starts.values())
+        for k in resources
+        if usage(project, starts, t, k) > project.capacities[k]
+    ]
+    return min(over, default=None)
+
+
+def has_shift(project, starts, j):
+    """j alone can start earlier: at its release, or at the end of another one."""
+    others = {i: start for i, start in starts.items() if i != j}
+    ends = [start + project.durations[i] for i, start in others.items()]
+    first = release(project, starts, j)
+    return any(fits(project, others, j, t) for t in (first, *ends) if first <= t < starts[j])
+
+
+def verdict(project, starts):
+    """The first verdict, in a sentence."""
+    broken = [arc for arc in sorted(project.arcs) if is_broken(project, starts, arc)]
+    if broken:
+        return f"activity {broken[0][1]} starts before {broken[0][0]} ends"
+    over = first_over(project, starts)
+    if over:
+        return f"at time {over[0]} more of resource {over[1]} is needed than there is"
+    shifts = [j for j in starts if has_shift(project, starts, j)]
+    return f"activity {shifts[0]} can start earlier" if shifts else "active"

@@ -1,0 +1,114 @@
+"""How far `plan prove` is, in a line on standard error: where ./plan asks for it, and what is told of
+a shop that takes many nodes.
+
+    tests/trials/run terminal    the first, at once
+    tests/trials/run watched     the second, in half a minute or less; only in whole runs
+"""
+
+import os
+import pty
+import re
+import shutil
+import subprocess
+
+from answers import TOP
+from programs import PROGRAM, Wrong, same
+
+EXAMPLES = os.path.join(TOP, "examples", "shops.txt")
+SHOPS = os.path.join(TOP, "bench", "shops.txt")
+# a shop that isn't solved within so many nodes, and the makespan that is published as its least
+NAME, NODES, LEAST = "orb01", 600_000, 1059
+# after how many nodes the line is written anew
+BETWEEN = 500_000
+LINE = rb"\rbest (\d+), lower end (\d+), (\d+) nodes\x1b\[K"
+CLEARED = b"\r\x1b[K"
+
+
+def tree(room, name, program):
+    """A copy of ./plan in a folder of its own, with this as the released program."""
+    folder = os.path.join(room, name)
+    os.makedirs(os.path.join(folder, "bin"))
+    texts = {"release": "#!/bin/sh\necho digest\n", "bin/plan.sources": "digest\n"}
+    texts["bin/plan"] = f'#!/bin/sh\nexec {program} "$@"\n'
+    for path, text in texts.items():
+        with open(os.path.join(folder, path), "w", encoding="ascii") as file:
+            file.write(text)
+        os.chmod(os.path.join(folder, path), 0o755)
+    return shutil.copy(os.path.join(TOP, "plan"), folder)
+
+
+def piped(*command):
+    """The status and both outputs of a command without a terminal."""
+    done = subprocess.run(command, stdin=subprocess.DEVNULL, capture_output=True, timeout=600)
+    return done.returncode, done.stdout, done.stderr
+
+
+def begun(*command):
+    """A command whose standard error is a terminal, and the other end of the terminal."""
+    here, there = pty.openpty()
+    outputs = {"stdout": subprocess.PIPE, "stderr": there}
+    process = subprocess.Popen(command, stdin=subprocess.DEVNULL, **outputs)
+    os.close(there)
+    return process, here
+
+
+def ended(process, here):
+    """Its status, its output, and what the terminal got."""
+    pieces = []
+    try:
+        while piece := os.read(here, 65536):
+            pieces.append(piece)
+    except OSError:
+        # nobody has the terminal any more
+        os.close(here)
+    output, _ = process.communicate(timeout=60)
+    return process.returncode, output, b"".join(pieces)
+
+
+def try_terminal(room):
+    """./plan asks for the line where a whole `plan prove` stands on a terminal, and nowhere else; and
+    nothing is told of few nodes."""
+    script = tree(room, "words", "printf '%s\\n'")
+    shown = lambda words: (0, "".join(word + "\n" for word in words).encode(), b"")
+    words = ["prove", "5", "shops.txt", "ft 06"]
+    asked = ["prove", "--progress", *words[1:]]
+    others = [asked, words[:3], ["prove", "--help"], ["best", *words[1:]], ["names", "shops.txt"]]
+    for given, wanted in [(words, asked), *zip(others, others)]:
+        same(f"./plan {given} on a terminal", ended(*begun(script, *given)), shown(wanted))
+        same(f"./plan {given} without one", piped(script, *given), shown(given))
+    plain = piped(PROGRAM, "prove", "1000", EXAMPLES, "ft06")
+    few = [PROGRAM, "prove", "--progress", "1000", EXAMPLES, "ft06"]
+    same("--progress, and few nodes", piped(*few), plain)
+    same("the same on a terminal", ended(*begun(*few)), plain)
+
+
+def told(terminal):
+    """What the lines on a terminal tell: the best makespan, the lower end and the nodes of each."""
+    if not re.fullmatch(b"(%b)+%b" % (LINE, re.escape(CLEARED)), terminal):
+        raise Wrong(f"the terminal got {terminal[:1000]!r}")
+    return [tuple(map(int, numbers)) for numbers in re.findall(LINE, terminal)]
+
+
+def judge(rows):
+    """Fails where what is told, one behind another, can't be true of the shop."""
+    same("the nodes", [row[2] for row in rows], [*range(BETWEEN, NODES, BETWEEN), NODES])
+    for best, lower, _ in rows:
+        if not lower <= LEAST <= best:
+            raise Wrong(f"the least makespan, {LEAST}, isn't between {lower} and {best}")
+    for before, behind in zip(rows, rows[1:]):
+        if behind[0] > before[0] or behind[1] < before[1]:
+            raise Wrong(f"{behind} comes behind {before}")
+
+
+def watch(room):
+    """A long proof by ./plan on a terminal, and without the line beside it."""
+    words = ["prove", str(NODES), SHOPS, NAME]
+    watched = begun(tree(room, "program", PROGRAM), *words)
+    plain = piped(PROGRAM, *words)
+    status, output, terminal = ended(*watched)
+    same("standard error without a terminal", plain[2], b"")
+    same("the status and the output on a terminal", (status, output), plain[:2])
+    between = re.match(rb"between (\d+) (\d+)\n", output)
+    if between is None:
+        raise Wrong(f"{NAME} isn't left between two numbers: {output[:100]!r}")
+    judge([*told(terminal), (int(between[2]), int(between[1]), NODES)])
