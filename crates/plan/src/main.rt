@@ -7,7 +7,7 @@ use self::progress::ProgressLine;
 use clap::Error;
 use clap::error::ErrorKind;
 use plan_cli::{CliFault, Unwatched, check_on_files, explain_run, run_on_file};
-use plan_psplib::StdSink;
+use plan_io::StdSink;
 use plan_serve::{ServeFault, check_office_on_file, init_on_file, replay_on_files, serve_on_port};
 use plan_words::{FileOrder, OfficeOrder, Order, command, order_of};
 use std::process::ExitCode;

@@ -5,7 +5,7 @@ pub mod ShopRun
 pub mod Tasks
 pub use Rattle.plan_net.specs.Network
 pub use Rattle.plan_cpm.specs.Dates
-pub use Rattle.plan_psplib.specs.Devices
+pub use Rattle.plan_io.specs.Devices
 pub use Rattle.plan_psplib.specs.Document
 pub use Rattle.plan_psplib.specs.Plain
 pub use Rattle.plan_psplib.specs.Project

@@ -1,11 +1,11 @@
 -- What a command writes for the bytes that it reads (docs/definitions.md, "Runs").
 use Rattle.std.specs.Prelude.{◌≡◌, ◌⊎◌, ℕ, ◌+◌, ◌≤◌, ◌<◌, List, Option, Result, Ok, Err, IfSome, IfErr, IsErrOf, OnOk, length, take, string_bytes}
 use Rattle.std.specs.Io.KnownBytes.{Consumes, Appends}
-use Rattle.plan_psplib.specs.declared.devices.traits.Sink as sinks
-use Rattle.plan_psplib.specs.declared.devices.traits.Source as sources
+use Rattle.plan_io.specs.declared.traits.Sink as sinks
+use Rattle.plan_io.specs.declared.traits.Source as sources
 use Rattle.plan_psplib.specs.declared.text.fault.FileCode.TheVariants as code
 use Rattle.plan_psplib.specs.declared.text.fault.FileFault.{FileFault}
-use Rattle.plan_psplib.specs.Devices.{most_calls, HasFailed}
+use Rattle.plan_io.specs.Devices.{most_calls, HasFailed}
 use Rattle.plan_psplib.specs.Plain.{longest_text}
 use Rattle.plan_psplib.specs.Project.{Project, SaysProject}
 use Rattle.plan_gantt.specs.DateTable.{IsDateText}

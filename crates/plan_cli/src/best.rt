@@ -12,8 +12,8 @@ use crate::running::run_task;
 use crate::tasks::Task;
 use plan_exact::{ExactFault, parse_budget, solve_shop};
 use plan_gantt::{best_text, exact_fault_text};
+use plan_io::{Sink, Source};
 use plan_orlib::ShopDoc;
-use plan_psplib::{Sink, Source};
 use plan_shop::Shop;
 use std::alloc::Global;
 

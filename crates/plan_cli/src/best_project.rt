@@ -14,7 +14,8 @@ use crate::scheduled::schedule_refusal;
 use crate::tasks::Task;
 use plan_exact::{parse_budget, solve_project};
 use plan_gantt::best_project_text;
-use plan_psplib::{ProjectDoc, Sink, Source};
+use plan_io::{Sink, Source};
+use plan_psplib::ProjectDoc;
 use plan_sgs::Instance;
 use std::alloc::Global;
 

@@ -16,8 +16,9 @@ use crate::running::run_task;
 use crate::scheduled::{schedule_by, shop_schedule_by};
 use crate::tasks::Task;
 use plan_gantt::{chart, shop_chart};
+use plan_io::{Sink, Source};
 use plan_orlib::ShopDoc;
-use plan_psplib::{ProjectDoc, Sink, Source};
+use plan_psplib::ProjectDoc;
 use std::alloc::Global;
 
 // The chart of a project.

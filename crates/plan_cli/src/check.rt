@@ -12,7 +12,8 @@ use crate::running::run_task;
 use crate::scheduled::schedule_refusal;
 use crate::starts::read_starts;
 use crate::tasks::Task;
-use plan_psplib::{ProjectDoc, Sink, Source};
+use plan_io::{Sink, Source};
+use plan_psplib::ProjectDoc;
 use plan_sgs::{Instance, Verdict, check};
 use std::alloc::{AllocError, Global};
 

@@ -15,8 +15,8 @@ use crate::prove::prove_watched_run;
 use crate::schedule::schedule_run;
 use crate::shop::shop_run;
 use crate::tasks::Task;
+use plan_io::{Sink, Source};
 use plan_prove::Watcher;
-use plan_psplib::{Sink, Source};
 use std::alloc::Global;
 
 /// Does a task, by the run of its command; a watcher is told how far a proof is.

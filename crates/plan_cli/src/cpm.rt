@@ -10,7 +10,7 @@ use crate::running::run_task;
 use crate::tasks::Task;
 use plan_cpm::dates;
 use plan_gantt::date_table;
-use plan_psplib::{Sink, Source};
+use plan_io::{Sink, Source};
 use std::alloc::{AllocError, Global};
 
 // The date table of a file.

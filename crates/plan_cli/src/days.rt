@@ -21,9 +21,10 @@ use crate::tasks::Task;
 use plan_gantt::{
     Calendar, CalendarFault, DaysFault, calendar_fault_text, calendar_table, shop_calendar_table,
 };
+use plan_io::{Sink, Source};
 use plan_net::Network;
 use plan_orlib::ShopDoc;
-use plan_psplib::{ProjectDoc, Sink, Source};
+use plan_psplib::ProjectDoc;
 use plan_sgs::Schedule;
 use plan_shop::Shop;
 use std::alloc::Global;

@@ -1,14 +1,14 @@
 //! `plan explain`: what a code means, and what to do.
 
 ghost use Rattle.std.specs.Prelude.{◌≡◌, ◌⊎◌, ◌+◌, ◌≤◌, IfErr, IsErrOf, OnOk, codes};
-ghost use Rattle.plan_psplib.specs.Devices.{most_calls, HasFailed};
+ghost use Rattle.plan_io.specs.Devices.{most_calls, HasFailed};
 ghost use Rattle.plan_cli.specs.Run.{Refuses, Writes};
 ghost use Rattle.plan_cli.specs.ExplainRun.{IsEntryOf, TellsNoCode};
 
 use crate::codes::Code;
 use crate::fault::{CliFault, refusal_by};
 use crate::output::write_text;
-use plan_psplib::Sink;
+use plan_io::Sink;
 use std::alloc::Global;
 
 // That there is no such code.

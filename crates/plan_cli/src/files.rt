@@ -1,7 +1,7 @@
 //! Commands on a file that is given by its name.
 
 ghost use Rattle.std.specs.Prelude.{◌≡◌, ◌⊎◌, ◌+◌, ◌≤◌, length, None, IfOk, IfErr, IsErrOf, OnOk};
-ghost use Rattle.plan_psplib.specs.Devices.{most_calls, HasFailed};
+ghost use Rattle.plan_io.specs.Devices.{most_calls, HasFailed};
 ghost use Rattle.plan_psplib.specs.Plain.{longest_text};
 ghost use Rattle.plan_cli.specs.Tasks.{DoesTask, DoesCheck, AreRead, bytes_named};
 
@@ -10,8 +10,8 @@ use crate::fault::CliFault;
 use crate::inputs::{Inputs, SystemInputs};
 use crate::reading::read_file;
 use crate::tasks::Task;
+use plan_io::Sink;
 use plan_prove::{Unwatched, Watcher};
-use plan_psplib::Sink;
 use std::alloc::Global;
 use std::rt::Files;
 

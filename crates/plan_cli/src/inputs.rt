@@ -4,7 +4,7 @@ ghost use Rattle.std.specs.Prelude.{◌≡◌, ◌⊎◌, ◌↔◌, ℕ, List, 
 ghost use Rattle.std.specs.IoError.{error_kind};
 
 use crate::fault::CliFault;
-use plan_psplib::{Source, StdSource};
+use plan_io::{Source, StdSource};
 use std::fs;
 use std::io::{self, ErrorKind};
 use std::rt::Files;

@@ -8,8 +8,8 @@ use crate::fault::CliFault;
 use crate::reading::file_refusal;
 use crate::running::run_task;
 use crate::tasks::Task;
+use plan_io::{Sink, Source};
 use plan_orlib::names;
-use plan_psplib::{Sink, Source};
 use std::alloc::{AllocError, Global};
 
 // Names as text, a line for each.

@@ -1,11 +1,11 @@
 //! Writing a text that is whole.
 
 ghost use Rattle.std.specs.Prelude.{◌≡◌, ◌+◌, ◌≤◌, IfErr, OnOk};
-ghost use Rattle.plan_psplib.specs.Devices.{most_calls, HasFailed};
+ghost use Rattle.plan_io.specs.Devices.{most_calls, HasFailed};
 ghost use Rattle.plan_cli.specs.Run.{Sends};
 
 use crate::fault::CliFault;
-use plan_psplib::{Sink, write_whole};
+use plan_io::{Sink, write_whole};
 
 // Writes a text; the only fault is that of the output.
 pub fn write_text<W: Sink>(writer: &mut W, text: &[u8]) -> Result<(), CliFault>

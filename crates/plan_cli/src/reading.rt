@@ -2,7 +2,7 @@
 
 ghost use Rattle.std.specs.Prelude.{◌≡◌, ◌⊎◌, ◌+◌, ◌≤◌, ℕ, length, take, IfOk, OnOk, IfErr, IfSome};
 ghost use Rattle.std.specs.Io.KnownBytes.{Consumes};
-ghost use Rattle.plan_psplib.specs.Devices.{most_calls};
+ghost use Rattle.plan_io.specs.Devices.{most_calls};
 ghost use Rattle.plan_psplib.specs.Plain.{longest_text};
 ghost use Rattle.plan_psplib.specs.Project.{SaysProject};
 ghost use Rattle.plan_gantt.specs.FirstFaults.{TellsFirstFailing};
@@ -10,9 +10,8 @@ ghost use Rattle.plan_cli.specs.Run.{Refuses, Tells};
 
 use crate::fault::{CliFault, refusal_by};
 use plan_gantt::file_fault_text;
-use plan_psplib::{
-    FileCode, FileFault, InputError, LONGEST_TEXT, ProjectDoc, Source, read_beyond, read_sm,
-};
+use plan_io::{InputError, Source, read_beyond};
+use plan_psplib::{FileCode, FileFault, LONGEST_TEXT, ProjectDoc, read_sm};
 use std::alloc::Global;
 
 // The bytes of a file, up to one more than the longest text has.

@@ -1,7 +1,7 @@
 //! From the bytes that are read to the bytes that are written.
 
 ghost use Rattle.std.specs.Prelude.{◌≡◌, ◌⊎◌, ◌+◌, ◌≤◌, OnOk, IfErr, IfSome, IsErrOf};
-ghost use Rattle.plan_psplib.specs.Devices.{most_calls, HasFailed};
+ghost use Rattle.plan_io.specs.Devices.{most_calls, HasFailed};
 ghost use Rattle.plan_cli.specs.Run.{ReadsFront, Runs, Writes};
 ghost use Rattle.plan_cli.specs.Tasks.{IsTextOf, IsLineOf};
 
@@ -9,8 +9,8 @@ use crate::fault::CliFault;
 use crate::output::write_text;
 use crate::reading::read_file;
 use crate::tasks::{Task, text_of};
+use plan_io::{Sink, Source};
 use plan_prove::{Unwatched, Watcher};
-use plan_psplib::{Sink, Source};
 use std::alloc::Global;
 
 /// Reads a file and writes what a task makes of it; a watcher is told how far a proof is. Nothing is

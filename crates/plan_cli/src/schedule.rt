@@ -11,7 +11,8 @@ use crate::running::run_task;
 use crate::scheduled::schedule_by;
 use crate::tasks::Task;
 use plan_gantt::schedule_table;
-use plan_psplib::{ProjectDoc, Sink, Source};
+use plan_io::{Sink, Source};
+use plan_psplib::ProjectDoc;
 use std::alloc::Global;
 
 // The schedule table of a project.

@@ -12,8 +12,8 @@ use crate::running::run_task;
 use crate::scheduled::shop_schedule_by;
 use crate::tasks::Task;
 use plan_gantt::shop_table;
+use plan_io::{Sink, Source};
 use plan_orlib::ShopDoc;
-use plan_psplib::{Sink, Source};
 use std::alloc::Global;
 
 // The table of a file's shop.

@@ -2,7 +2,7 @@
 use Rattle.std.proofs.Common.{◌≡◌, ◌≤◌, ◌+◌, ℕ, suc, Bool, false, List, [], ◌∷◌, ◌++◌, Option, Some, None, Result, Ok, Err, IfOk, IsErr, MatchResult, length, take, map, refl, sym, subst, ◌∙◌, ap, arith}
 use Rattle.std.proofs.lemmas.List.{length-append, append-nil}
 use Rattle.std.specs.Io.KnownBytes.{Appends}
-use Rattle.plan_psplib.specs.declared.devices.traits.DeviceFault.{DeviceFault}
+use Rattle.plan_io.specs.declared.traits.DeviceFault.{DeviceFault}
 use Rattle.plan_rows.specs.World.{Text}
 use Rattle.plan_rows.specs.Books.{Shelf}
 use Rattle.plan_http.specs.declared.serving.ConnEnd.{ConnEnd}

@@ -1,6 +1,6 @@
 -- Connections that come from anywhere, served turn by turn (docs/definitions.md, "Connections").
 use Rattle.std.specs.Prelude.{◌≡◌, ◌<◌, ℕ, Bool, true, List, [], ◌∷◌, ◌++◌, length, take, map, Option, Some, None, Result, Ok, Err}
-use Rattle.plan_psplib.specs.declared.devices.traits.DeviceFault.{DeviceFault}
+use Rattle.plan_io.specs.declared.traits.DeviceFault.{DeviceFault}
 use Rattle.plan_rows.specs.World.{Text}
 use Rattle.plan_rows.specs.Books.{Shelf}
 use Rattle.plan_http.specs.declared.serving.ConnEnd.{ConnEnd}

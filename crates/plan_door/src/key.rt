@@ -2,14 +2,14 @@
 
 ghost use Rattle.std.specs.Prelude.{◌≡◌, ◌⊎◌, ◌+◌, ◌≤◌, ◌∷◌, ◌++◌, [], MatchOption, IfOk, OnOk, IfErr, IsErrOf};
 ghost use Rattle.std.specs.Io.KnownBytes.{Consumes, IsAtEnd};
-ghost use Rattle.plan_psplib.specs.Devices.{IsCounted};
+ghost use Rattle.plan_io.specs.Devices.{IsCounted};
 ghost use Rattle.std.specs.List.{before_first, position};
 ghost use Rattle.plan_psplib.specs.Lines.{is_line_feed};
 ghost use Rattle.plan_door.specs.Keys as spec;
 
 use crate::fault::ServeFault;
 use plan_desk::key_digest;
-use plan_psplib::{DeviceFault, Source};
+use plan_io::{DeviceFault, Source};
 use std::alloc::Global;
 
 // How many bytes are read at most: those of the longest key, a carriage return and a line feed.

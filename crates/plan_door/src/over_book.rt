@@ -1,7 +1,7 @@
 //! Connections that are served by an office over a book, which comes back.
 
 ghost use Rattle.std.specs.Prelude.{◌≡◌, ◌⊎◌, ◌+◌, ◌≤◌, length, map, vec_items, IfErr, IfNone, IsErrOf, OnOk};
-ghost use Rattle.plan_psplib.specs.Devices.{most_calls, HasFailed};
+ghost use Rattle.plan_io.specs.Devices.{most_calls, HasFailed};
 ghost use Rattle.plan_door.specs.Ports.{IsPortCause, IsPortFault, ServesFrom};
 ghost use Rattle.plan_door.specs.ReplayRun.{AreAnswered, AreAnsweredInPart, ReplaysFrom};
 
@@ -10,7 +10,7 @@ use crate::replay::replay_run;
 use crate::service::Service;
 use crate::socket::serve_listener;
 use plan_desk::{Book, Office};
-use plan_psplib::Sink;
+use plan_io::Sink;
 use std::alloc::Global;
 use std::io::ErrorKind;
 use std::net::{Ipv4Addr, TcpListener};

@@ -2,7 +2,7 @@
 
 ghost use Rattle.std.specs.Prelude.{◌≡◌, ◌⊎◌, ◌+◌, ◌≤◌, List, length, map, vec_items, IfOk, IfErr, IsErrOf, OnOk, OnErr};
 ghost use Rattle.std.specs.List.{flat_map};
-ghost use Rattle.plan_psplib.specs.Devices.{most_calls, HasFailed};
+ghost use Rattle.plan_io.specs.Devices.{most_calls, HasFailed};
 ghost use Rattle.plan_http.specs.Answers.{Decision};
 ghost use Rattle.plan_http.specs.Serving.{Serving, Stops};
 ghost use Rattle.plan_door.specs.ReplayRun as spec;
@@ -10,7 +10,7 @@ ghost use Rattle.plan_door.specs.ReplayRun as spec;
 use crate::fault::ServeFault;
 use plan_desk::{Book, Office};
 use plan_http::serve_run;
-use plan_psplib::{Sink, write_whole};
+use plan_io::{Sink, write_whole};
 use std::alloc::{AllocError, Global};
 
 // Texts, one behind another.

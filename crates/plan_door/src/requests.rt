@@ -1,11 +1,11 @@
 //! The bytes of connections, out of files.
 
 ghost use Rattle.std.specs.Prelude.{◌≡◌, ◌⊎◌, ◌+◌, ◌≤◌, take, IfOk, OnOk, IfErr, IfSome};
-ghost use Rattle.plan_psplib.specs.Devices.{most_calls};
+ghost use Rattle.plan_io.specs.Devices.{most_calls};
 ghost use Rattle.plan_door.specs.ReplayRun.{longest_request};
 
 use crate::fault::ServeFault;
-use plan_psplib::{InputError, Source, read_beyond};
+use plan_io::{InputError, Source, read_beyond};
 use std::alloc::Global;
 
 // How many bytes are read of a file for a connection: those of the longest head and the longest body.

@@ -6,7 +6,7 @@ ghost use Rattle.std.specs.Io.{ReadsAtMost, WritesAtMost};
 
 use crate::first_line::FirstLine;
 use plan_http::{Client, Trace};
-use plan_psplib::{DeviceFault, Sink, Tally};
+use plan_io::{DeviceFault, Sink, Tally};
 use std::io::{self, ErrorKind, Read, Write};
 use std::net::{Shutdown, TcpStream};
 use std::time::{Duration, Instant};

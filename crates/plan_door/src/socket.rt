@@ -13,7 +13,7 @@ use crate::side::{Side, both_sides};
 use crate::visitors::{Visitors, serve_visitors};
 use plan_desk::{Book, Office};
 use plan_http::ConnEnd;
-use plan_psplib::{DeviceFault, Tally};
+use plan_io::{DeviceFault, Tally};
 use std::io::{self, ErrorKind};
 use std::net::{TcpListener, TcpStream};
 use std::thread;
@@ -150,7 +150,7 @@ impl<'a> Visitors for Callers<'a> {
 
     ghost use Rattle.std.specs.Prelude.{◌≡◌, ◌≤◌, ◌+◌, IfOk};
     ghost use Rattle.plan_door.specs.declared.socket.TheConstants.{MOST_FAILURES};
-    ghost use Rattle.plan_psplib.specs.Devices.{IsCounted};
+    ghost use Rattle.plan_io.specs.Devices.{IsCounted};
 
     ghost awaited = { λ callers. callers.tally.calls };
 

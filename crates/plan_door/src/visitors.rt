@@ -1,8 +1,8 @@
 //! Connections that come from anywhere, one after another.
 
 ghost use Rattle.std.specs.Prelude.{◌≡◌, ◌⊎◌, ◌↔◌, ◌+◌, ◌≤◌, ℕ, [], List, length, Option, Some, Result, IsTrue, IfOk, OnOk, IsErrOf, IfErr};
-ghost use Rattle.plan_psplib.specs.Devices.{IsCounted};
-ghost use Rattle.plan_psplib.specs.declared.devices.traits.DeviceFault.{DeviceFault};
+ghost use Rattle.plan_io.specs.Devices.{IsCounted};
+ghost use Rattle.plan_io.specs.declared.traits.DeviceFault.{DeviceFault};
 ghost use Rattle.plan_http.specs.declared.serving.ConnEnd.{ConnEnd};
 ghost use Rattle.plan_http.specs.Clients.{IsFresh};
 ghost use Rattle.plan_http.specs.Answers.{Decision};
@@ -12,7 +12,7 @@ ghost use Rattle.plan_door.specs.Turns.{Turn, IsTurn, Runs, IsVisited, Visiting}
 use crate::fault::ServeFault;
 use plan_desk::{Book, Office};
 use plan_http::{Client, ConnEnd, Routes, serve_conn};
-use plan_psplib::{DeviceFault, Sink};
+use plan_io::{DeviceFault, Sink};
 use std::alloc::Global;
 
 /// Where connections come from.

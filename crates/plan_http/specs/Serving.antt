@@ -1,7 +1,7 @@
 -- Connections that are served by an office, one and many (docs/definitions.md, "Connections").
 use Rattle.std.specs.Prelude.{◌≡◌, ℕ, ◌+◌, ◌<◌, ◌≤◌, ◌⊎◌, List, [], ◌∷◌, length, take, map, get_or, Option, Result, Ok, Err}
 use Rattle.std.specs.Io.KnownBytes.{Appends}
-use Rattle.plan_psplib.specs.Devices.{HasFailed}
+use Rattle.plan_io.specs.Devices.{HasFailed}
 use Rattle.plan_rows.specs.World.{Text}
 use Rattle.plan_rows.specs.Books.{Shelf}
 use Rattle.plan_desk.specs.Deciding.{Handled}

@@ -3,7 +3,7 @@
 ghost use Rattle.std.specs.Prelude.{◌≡◌, ℕ, ◌+◌, ◌≤◌, List, Some, None, bytes_eq, IfOk, option_map, map, length, All, codes};
 ghost use Rattle.httparse.specs.Grammar.{RequestHead};
 ghost use Rattle.httparse.specs.Spans.{IsWithin, IsHeaderWithin, header_bytes, span_bytes, IsRequestWithin, IsRequestAt};
-ghost use Rattle.plan_psplib.specs.Devices.{most_calls};
+ghost use Rattle.plan_io.specs.Devices.{most_calls};
 ghost use Rattle.plan_desk.specs.Requests.{request_in};
 ghost use Rattle.plan_http.specs.Checks.{longest_body};
 ghost use Rattle.plan_http.specs.Fields.{values_of, only_of};

@@ -1,13 +1,13 @@
 //! The body of a request, of which some may have come with the head.
 
 ghost use Rattle.std.specs.Prelude.{◌≡◌, ℕ, ◌+◌, ◌<◌, ◌≤◌, List, length, take, IfOk, MatchResult};
-ghost use Rattle.plan_psplib.specs.Devices.{IsCounted};
+ghost use Rattle.plan_io.specs.Devices.{IsCounted};
 ghost use Rattle.plan_http.specs.Pieces.{Reads, IsSplit};
 ghost use Rattle.plan_http.specs.BodyPieces.{RestOutcome, BodyOutcome, IfRead, BodyFaults, HasLeft, Skips, IsWhole};
 
 use crate::client::Client;
 use crate::head::fill;
-use plan_psplib::DeviceFault;
+use plan_io::DeviceFault;
 use std::alloc::{AllocError, Global};
 
 /// How the reading of a body ended.

@@ -1,11 +1,11 @@
 //! Clients, and what of them is heard.
 
 ghost use Rattle.std.specs.Prelude.{◌≡◌, ℕ, ◌≤◌, length, IfOk, if◌then◌else◌, [], false};
-ghost use Rattle.plan_psplib.specs.Devices.{IsCounted};
+ghost use Rattle.plan_io.specs.Devices.{IsCounted};
 ghost use Rattle.plan_http.specs.Clients.{Known, Hears};
 
 use crate::trace::Trace;
-use plan_psplib::{DeviceFault, Source};
+use plan_io::{DeviceFault, Source};
 
 /// What the bytes of a request are read from. Contracts know which bytes the reads have answered, also
 /// where nobody can know what is still to come.

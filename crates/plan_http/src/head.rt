@@ -1,13 +1,13 @@
 //! The head of a request, in whatever pieces it comes.
 
 ghost use Rattle.std.specs.Prelude.{◌≡◌, ℕ, ◌+◌, ◌<◌, ◌≤◌, ◌++◌, true, List, [], length, Some, IfOk};
-ghost use Rattle.plan_psplib.specs.Devices.{IsCounted};
+ghost use Rattle.plan_io.specs.Devices.{IsCounted};
 ghost use Rattle.plan_http.specs.Pieces.{Reads, JudgedOf, JudgedWithin, Fills, HeadOutcome, HeadWithin, HeadFaults};
 
 use crate::client::Client;
 use httparse::Status;
 use httparse::spans::{HeaderSpan, RequestSpans, parse_request};
-use plan_psplib::DeviceFault;
+use plan_io::DeviceFault;
 
 /// How many bytes a head may have.
 pub(crate) const HEAD_LIMIT: usize = 8192;

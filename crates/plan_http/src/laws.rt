@@ -6,7 +6,7 @@ use crate::client::Listening;
 use crate::head::{FIELD_LIMIT, HEAD_LIMIT, read_head};
 use httparse::spans::EMPTY_HEADER_SPAN;
 use plan_desk::Book;
-use plan_psplib::MemSource;
+use plan_io::MemSource;
 
 /// The bytes of a connection spell one thing at most, a request or one failing check.
 pub fn one_verdict()

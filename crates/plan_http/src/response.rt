@@ -2,7 +2,7 @@
 
 ghost use Rattle.std.specs.Prelude.{◌≡◌, ◌+◌, ◌<◌, ◌≤◌, ◌++◌, length, take, IfOk, IfErr, OnOk, option_map};
 ghost use Rattle.std.specs.Io.KnownBytes.{Appends};
-ghost use Rattle.plan_psplib.specs.Devices.{most_calls, HasFailed};
+ghost use Rattle.plan_io.specs.Devices.{most_calls, HasFailed};
 ghost use Rattle.plan_desk.specs.Replies.{bytes_of, reply_of};
 ghost use Rattle.plan_http.specs.Routes.{method_of};
 ghost use Rattle.plan_http.specs.Responses as spec;
@@ -13,7 +13,7 @@ use crate::sending::send;
 use http::StatusCode;
 use itoa::Buffer;
 use plan_desk::{Body, Reply, ReplyKind};
-use plan_psplib::{OutputError, Sink};
+use plan_io::{OutputError, Sink};
 use std::alloc::{AllocError, Global};
 
 const LINE_END: &str = "\r\n";

@@ -11,7 +11,7 @@ use crate::client::Listening;
 use crate::routes::Routes;
 use crate::serving::{ConnEnd, serve_conn};
 use plan_desk::{Book, Office};
-use plan_psplib::{MemSink, MemSource};
+use plan_io::{MemSink, MemSource};
 use std::alloc::Global;
 use thiserror::Error;
 

@@ -2,9 +2,9 @@
 
 ghost use Rattle.std.specs.Prelude.{◌≡◌, ◌+◌, ◌<◌, ◌≤◌, ◌++◌, length, take, drop, IfErr, OnOk};
 ghost use Rattle.std.specs.Io.KnownBytes.{Appends};
-ghost use Rattle.plan_psplib.specs.Devices.{most_calls, HasFailed};
+ghost use Rattle.plan_io.specs.Devices.{most_calls, HasFailed};
 
-use plan_psplib::{MOST_CALLS, OutputError, Sink};
+use plan_io::{MOST_CALLS, OutputError, Sink};
 
 // How many bytes go out together at first: most responses whole.
 const ROOM: usize = 4096;

@@ -2,7 +2,7 @@
 
 ghost use Rattle.std.specs.Prelude.{◌≡◌, ◌+◌, ◌≤◌, Option, option_map};
 ghost use Rattle.plan_rows.specs.World.{World};
-ghost use Rattle.plan_psplib.specs.Devices.{most_calls};
+ghost use Rattle.plan_io.specs.Devices.{most_calls};
 ghost use Rattle.plan_desk.specs.declared.reply.ReplyKind.TheVariants.{Plain};
 ghost use Rattle.plan_desk.specs.Replies.{reply_of};
 ghost use Rattle.plan_http.specs.Routes.{method_of};
@@ -16,7 +16,7 @@ use crate::client::Client;
 use crate::response::respond;
 use crate::routes::{Route, Routes};
 use plan_desk::{Body, Book, Office, Reply, ReplyKind};
-use plan_psplib::Sink;
+use plan_io::Sink;
 use std::alloc::Global;
 
 /// How the serving of a connection ended.

@@ -1,7 +1,5 @@
 pub mod CutLemmas
 pub mod BlankLemmas
-pub mod Walks
-pub mod SentLemmas
 pub mod NoteLemmas
 pub mod LoopLemmas
 pub mod RowLemmas

@@ -1,6 +1,5 @@
 pub mod Lines
 pub mod Numbers
-pub mod Devices
 pub mod Streams
 pub mod Sections
 pub mod Reading

@@ -1,12 +1,11 @@
 //! Reads project files: the single-mode `.sm` texts of PSPLIB. Other readers use its lines, words
-//! and numbers, and its traits of input and output.
+//! and numbers. The names of plan_io are exported again.
 #![tactic(auto)]
 
-mod devices;
 mod sm;
 mod text;
 
-pub use devices::{
+pub use plan_io::{
     DeviceFault, InputError, MOST_CALLS, MemSink, MemSource, OutputError, Sink, Source, StdSink,
     StdSource, Tally, read_beyond, write_whole,
 };

@@ -1,13 +1,13 @@
 //! `plan check-office`: how many rows an office has, and a digest of them.
 
 ghost use Rattle.std.specs.Prelude.{◌≡◌, ◌⊎◌, ◌+◌, ◌≤◌, IfErr, IsErrOf, OnOk};
-ghost use Rattle.plan_psplib.specs.Devices.{most_calls, HasFailed};
+ghost use Rattle.plan_io.specs.Devices.{most_calls, HasFailed};
 ghost use Rattle.plan_desk.specs.Deciding.{Quiet};
 ghost use Rattle.plan_serve.specs.CheckRun.{Writes};
 
 use crate::fault::book_told;
 use plan_door::ServeFault;
-use plan_psplib::{Sink, write_whole};
+use plan_io::{Sink, write_whole};
 use plan_rows::Listing;
 use plan_summary::{summary_of, summary_text};
 use std::alloc::Global;

@@ -2,7 +2,7 @@
 
 ghost use Rattle.std.specs.Prelude.{◌≡◌, ◌⊎◌, ◌↔◌, ◌+◌, ◌≤◌, length, IfOk, IfErr, IsErrOf, OnOk};
 ghost use Rattle.std.specs.IoError.{error_kind};
-ghost use Rattle.plan_psplib.specs.Devices.{most_calls, HasFailed};
+ghost use Rattle.plan_io.specs.Devices.{most_calls, HasFailed};
 ghost use Rattle.plan_store.specs.declared.fault.StoreFault.TheVariants.{NoMemory, Store};
 ghost use Rattle.plan_serve.specs.Causes.{IsOfTables, IsOfTablesAtName, IsServeFault, IsThere, IsToldAnew};
 ghost use Rattle.plan_serve.specs.CheckRun.{ChecksOnFiles, IsPrinted, IsPrintedInPart};
@@ -16,7 +16,7 @@ use crate::init::Place;
 use crate::keeping::{Ended, Report, init_at, report_opened, serve_opened};
 use crate::looking::{look, refusal};
 use plan_door::{ServeFault, Service, read_connection};
-use plan_psplib::{Sink, StdSource};
+use plan_io::{Sink, StdSource};
 use plan_store::{SqlBook, StoreFault};
 use sqlite::{Connection, Error, ErrorCode, FileFrom, FileStore, Start, Unknown};
 use sqlite_trees::store::Store;

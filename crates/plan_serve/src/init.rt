@@ -8,7 +8,7 @@ ghost use Rattle.plan_serve.specs.InitRun.{IsTold, Inits};
 
 use crate::fault::told;
 use plan_door::{ServeFault, read_key};
-use plan_psplib::Source;
+use plan_io::Source;
 use plan_store::{SqlBook, StoreFault, has_office_tables};
 use sqlite::{Alter, Connection};
 use std::alloc::Global;

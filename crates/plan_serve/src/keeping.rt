@@ -1,7 +1,7 @@
 //! The commands on an office wherever its database is.
 
 ghost use Rattle.std.specs.Prelude.{◌≡◌, ◌≢◌, ◌⊎◌, ◌+◌, ◌≤◌, length, map, vec_items, Ok, is_some, IfOk, IfErr, IfNone, IsSome, IsErrOf, OnOk, OnErr, MatchResult};
-ghost use Rattle.plan_psplib.specs.Devices.{most_calls, HasFailed};
+ghost use Rattle.plan_io.specs.Devices.{most_calls, HasFailed};
 ghost use Rattle.plan_serve.specs.InitRun.{HasMade, IsInitFault, IsToldThere, MakesNone};
 ghost use Rattle.plan_serve.specs.Faults.{fault_of};
 ghost use Rattle.plan_serve.specs.Reports.{ReportsFrom, IsReported, IsReportedInPart, IsWriteFault, KeepsNone};
@@ -12,7 +12,7 @@ use crate::fault::told;
 use crate::init::{Place, init_run};
 use plan_desk::Book;
 use plan_door::{ServeFault, Service, replay_book, serve_book};
-use plan_psplib::{Sink, Source};
+use plan_io::{Sink, Source};
 use plan_rows::Listing;
 use plan_store::{Leftover, SqlBook, StoreFault};
 use sqlite::{Alter, Connection};

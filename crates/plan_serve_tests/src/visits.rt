@@ -7,7 +7,7 @@ use crate::devices::{Drip, Narrow};
 use crate::office::{LISTED, LISTING, OPENING, office};
 use plan_desk::{Book, Office};
 use plan_http::{Client, ConnEnd, Listening};
-use plan_psplib::{DeviceFault, Sink, Tally};
+use plan_io::{DeviceFault, Sink, Tally};
 use plan_serve::{ServeFault, Visitors, serve_visitors};
 use std::alloc::Global;
 use std::process::Abort;

@@ -2,7 +2,7 @@
 
 ghost use Rattle.std.specs.Prelude.{Some};
 
-use plan_psplib::{DeviceFault, Sink, Source, Tally};
+use plan_io::{DeviceFault, Sink, Source, Tally};
 
 /// A source that gives one byte a call, and then fails or ends.
 #[derive(Drop)]

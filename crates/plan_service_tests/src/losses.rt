@@ -6,7 +6,7 @@ use crate::office::{
 };
 use plan_desk::{Book, Office};
 use plan_http::{ConnEnd, Listening, Routes, serve_conn};
-use plan_psplib::{MemSink, MemSource};
+use plan_io::{MemSink, MemSource};
 use std::alloc::Global;
 use std::process::Abort;
 use std::test::Fail;

@@ -2,7 +2,7 @@
 
 use plan_desk::{Book, MemBook, Office, key_digest};
 use plan_http::{ConnEnd, Listening, Routes, serve_conn};
-use plan_psplib::{MemSink, MemSource};
+use plan_io::{MemSink, MemSource};
 use std::alloc::{AllocError, Global};
 use std::process::Abort;
 use std::str;

@@ -5,7 +5,7 @@
 use crate::office::{NORTH_KEY, OFFICE_KEY, SIX, office, sent};
 use plan_desk::{Body, Book, Office, Reply, Request};
 use plan_http::{Asked, Listening, Routes, read_request};
-use plan_psplib::MemSource;
+use plan_io::MemSource;
 use std::alloc::{AllocError, Global};
 use std::process::Abort;
 use std::test::Fail;

@@ -3,7 +3,7 @@
 use crate::devices::Narrow;
 use plan_desk::{Body, Reply, ReplyKind};
 use plan_http::{respond, response_bytes};
-use plan_psplib::OutputError;
+use plan_io::OutputError;
 use std::test::Fail;
 
 fn reply(status: u16, kind: ReplyKind, body: &'static str) -> Reply {

@@ -4,7 +4,7 @@ ghost use Rattle.std.specs.Prelude.{None};
 
 use crate::six::{SIX, SIX_DATES};
 use plan_cli::{CliFault, cpm_run};
-use plan_psplib::{
+use plan_io::{
     DeviceFault, InputError, MemSink, MemSource, Sink, Source, StdSink, StdSource, Tally,
     read_beyond, write_whole,
 };

@@ -10,7 +10,7 @@ use denote.Signature.{types_at}
 use denote.Steps.{nothing}
 use denote.Triple.Entry.{alive}
 use denote.Triple.Walked.{Stays, says, ends_at}
-use Rattle.plan_psplib.proofs.Walks.{bare, owns_bare}
+use Rattle.plan_io.proofs.Walks.{bare, owns_bare}
 use Rattle.plan_http.specs.contracts.trace.Trace as Trace
 use Rattle.plan_http.specs.contracts.trace.Trace.new as f
 use Rattle.plan_http.proofs.trace.Trace.new.Statement.{statement}

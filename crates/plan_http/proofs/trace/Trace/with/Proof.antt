@@ -16,7 +16,7 @@ use denote.Signature.{plain, types_at}
 use denote.Steps.{nothing}
 use denote.Triple.Entry.{alive}
 use denote.Triple.Walked.{Stays, stay_dropped, Goes-dropped, walk_of, says, ends_at}
-use Rattle.plan_psplib.proofs.Walks.{bare, owns_bare}
+use Rattle.plan_io.proofs.Walks.{bare, owns_bare}
 use Rattle.plan_http.specs.contracts.trace.Trace as Trace
 use Rattle.plan_http.specs.contracts.trace.Trace.with as f
 use Rattle.plan_http.proofs.trace.Trace.with.Statement.{statement}

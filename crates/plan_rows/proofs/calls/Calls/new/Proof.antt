@@ -10,7 +10,7 @@ use denote.Signature.{types_at}
 use denote.Steps.{nothing}
 use denote.Triple.Entry.{alive}
 use denote.Triple.Walked.{Stays, says, ends_at}
-use Rattle.plan_psplib.proofs.Walks.{bare, owns_bare}
+use Rattle.plan_io.proofs.Walks.{bare, owns_bare}
 use Rattle.plan_rows.specs.contracts.calls.Calls as Calls
 use Rattle.plan_rows.specs.contracts.calls.Calls.new as f
 use Rattle.plan_rows.proofs.calls.Calls.new.Statement.{statement}

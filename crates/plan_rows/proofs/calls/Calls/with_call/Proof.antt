@@ -15,7 +15,7 @@ use denote.Signature.{plain, types_at}
 use denote.Steps.{nothing}
 use denote.Triple.Entry.{alive}
 use denote.Triple.Walked.{Stays, stay_dropped, Goes-dropped, walk_of, says, ends_at}
-use Rattle.plan_psplib.proofs.Walks.{bare, owns_bare}
+use Rattle.plan_io.proofs.Walks.{bare, owns_bare}
 use Rattle.plan_rows.specs.contracts.calls.Calls as Calls
 use Rattle.plan_rows.specs.contracts.calls.Calls.with_call as f
 use Rattle.plan_rows.proofs.calls.Calls.with_call.Statement.{statement}

@@ -1,4 +1,6 @@
-//! Devices: where bytes come from and where they go, in memory and over std, and whole texts by them.
+//! Byte sources and sinks: the traits that all readers and writers of the workspace use, with
+//! implementations over memory and over std.
+#![tactic(auto)]
 
 mod memory;
 mod std_sink;

@@ -1,6 +1,6 @@
 use Rattle.std.proofs.Common.{◌≡◌, ◌+◌, ◌≤◌, vec_len}
 use Rattle.std.specs.Io.KnownBytes.{Consumes}
-use Rattle.plan_psplib.proofs.devices.whole.read_beyond.Given as goal
+use Rattle.plan_io.proofs.whole.read_beyond.Given as goal
 
 -- each call so far took a byte, no call failed, and what was read is what the source lost
 abbrev pub invariant-loop : goal.invariant-loop

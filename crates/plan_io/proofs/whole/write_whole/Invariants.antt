@@ -1,6 +1,6 @@
 use Rattle.std.proofs.Common.{◌≡◌, ◌+◌, ◌≤◌, length, take}
 use Rattle.std.specs.Io.KnownBytes.{Appends}
-use Rattle.plan_psplib.proofs.devices.whole.write_whole.Given as goal
+use Rattle.plan_io.proofs.whole.write_whole.Given as goal
 
 -- no call failed, and the sink took the front of the bytes
 abbrev pub invariant-loop : goal.invariant-loop

@@ -15,11 +15,11 @@ use denote.Signature.{plain, types_at}
 use denote.Steps.{nothing}
 use denote.Triple.Entry.{alive}
 use denote.Triple.Walked.{Stays, stay_dropped, Goes-dropped, walk_of, says, ends_at}
-use Rattle.plan_psplib.proofs.Walks.{bare, owns_bare}
-use Rattle.plan_psplib.specs.contracts.devices.tally.Tally as Tally
-use Rattle.plan_psplib.specs.contracts.devices.tally.Tally.with_call as f
-use Rattle.plan_psplib.proofs.devices.tally.Tally.with_call.Statement.{statement}
-use Rattle.plan_psplib.proofs.devices.tally.Tally.with_call.Code as code
+use Rattle.plan_io.proofs.Walks.{bare, owns_bare}
+use Rattle.plan_io.specs.contracts.tally.Tally as Tally
+use Rattle.plan_io.specs.contracts.tally.Tally.with_call as f
+use Rattle.plan_io.proofs.tally.Tally.with_call.Statement.{statement}
+use Rattle.plan_io.proofs.tally.Tally.with_call.Code as code
 
 abbrev stayed : Stays f.ended.signature.params f.ended.kept
 stayed = (stay_dropped _ yes, (stay_dropped _ yes, tt))

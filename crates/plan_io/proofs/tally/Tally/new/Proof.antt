@@ -10,11 +10,11 @@ use denote.Signature.{types_at}
 use denote.Steps.{nothing}
 use denote.Triple.Entry.{alive}
 use denote.Triple.Walked.{Stays, says, ends_at}
-use Rattle.plan_psplib.proofs.Walks.{bare, owns_bare}
-use Rattle.plan_psplib.specs.contracts.devices.tally.Tally as Tally
-use Rattle.plan_psplib.specs.contracts.devices.tally.Tally.new as f
-use Rattle.plan_psplib.proofs.devices.tally.Tally.new.Statement.{statement}
-use Rattle.plan_psplib.proofs.devices.tally.Tally.new.Code as code
+use Rattle.plan_io.proofs.Walks.{bare, owns_bare}
+use Rattle.plan_io.specs.contracts.tally.Tally as Tally
+use Rattle.plan_io.specs.contracts.tally.Tally.new as f
+use Rattle.plan_io.proofs.tally.Tally.new.Statement.{statement}
+use Rattle.plan_io.proofs.tally.Tally.new.Code as code
 
 abbrev stayed : Stays f.ended.signature.params f.ended.kept
 stayed = tt

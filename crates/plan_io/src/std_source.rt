@@ -2,8 +2,8 @@
 
 ghost use Rattle.std.specs.Prelude.{◌≡◌};
 
-use crate::devices::tally::Tally;
-use crate::devices::traits::{DeviceFault, Source};
+use crate::tally::Tally;
+use crate::traits::{DeviceFault, Source};
 use std::io::Read;
 
 /// A source over a reader of std. Each error of the reader is a fault.

@@ -2,7 +2,7 @@
 
 ghost use Rattle.std.specs.Prelude.{ℕ, ◌≤◌, List, Option, length, IfOk};
 ghost use Rattle.std.specs.Io.KnownBytes.{ReadConsumes, WriteAppends};
-ghost use Rattle.plan_psplib.specs.Devices.{IsCounted};
+ghost use Rattle.plan_io.specs.Devices.{IsCounted};
 
 use thiserror::Error;
 

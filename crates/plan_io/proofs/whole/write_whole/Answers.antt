@@ -1,6 +1,6 @@
 use Rattle.std.proofs.Common.{rules, arith}
-use Rattle.plan_psplib.proofs.SentLemmas.{appends_next}
-use Rattle.plan_psplib.proofs.devices.whole.write_whole.Goals as goal
+use Rattle.plan_io.proofs.SentLemmas.{appends_next}
+use Rattle.plan_io.proofs.whole.write_whole.Goals as goal
 
 pub loop-preserved : goal.loop-preserved
 loop-preserved g c = record {

@@ -2,8 +2,8 @@
 
 ghost use Rattle.std.specs.Prelude.{◌≡◌};
 
-use crate::devices::tally::Tally;
-use crate::devices::traits::{DeviceFault, Sink};
+use crate::tally::Tally;
+use crate::traits::{DeviceFault, Sink};
 use std::io::Write;
 
 /// A sink over a writer of std. Each error of the writer is a fault. A `Sink` isn't flushed, so the

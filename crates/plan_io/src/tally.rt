@@ -2,9 +2,9 @@
 
 ghost use Rattle.std.specs.Prelude.{◌≡◌, ◌+◌, ℕ, Ok, IsErr, MatchResult, if◌then◌else◌};
 ghost use Rattle.std.specs.Borrow.{ftrue};
-ghost use Rattle.plan_psplib.specs.Devices.{IsCounted};
+ghost use Rattle.plan_io.specs.Devices.{IsCounted};
 
-use crate::devices::traits::DeviceFault;
+use crate::traits::DeviceFault;
 use std::marker::Model;
 
 /// The calls of one reader or writer, and those of them that it answered by a fault. Contracts alone

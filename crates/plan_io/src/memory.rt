@@ -2,8 +2,8 @@
 
 ghost use Rattle.std.specs.Prelude.{◌≡◌, Some};
 
-use crate::devices::tally::Tally;
-use crate::devices::traits::{DeviceFault, Sink, Source};
+use crate::tally::Tally;
+use crate::traits::{DeviceFault, Sink, Source};
 
 /// A source that gives bytes of memory, as many as fit, and never fails.
 #[derive(Drop)]

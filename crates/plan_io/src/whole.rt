@@ -2,10 +2,10 @@
 
 ghost use Rattle.std.specs.Prelude.{◌≡◌, ◌+◌, ◌≤◌, ◌<◌, ◌++◌, ℕ, List, length, take, vec_len, IfOk, OnOk, IfErr, IfSome, IsErrOf};
 ghost use Rattle.std.specs.Io.KnownBytes.{Consumes, Appends, IsAtEnd};
-ghost use Rattle.plan_psplib.specs.Devices.{most_calls, HasFailed};
-ghost use Rattle.plan_psplib.specs.declared.devices.whole.InputError.TheVariants.{Memory, Failed};
+ghost use Rattle.plan_io.specs.Devices.{most_calls, HasFailed};
+ghost use Rattle.plan_io.specs.declared.whole.InputError.TheVariants.{Memory, Failed};
 
-use crate::devices::traits::{DeviceFault, Sink, Source};
+use crate::traits::{DeviceFault, Sink, Source};
 use std::alloc::{AllocError, Global};
 use thiserror::Error;
 
