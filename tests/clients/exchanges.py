@@ -217,7 +217,7 @@ SELECT 'lags|' || desk || '|' || n || '|' || src || '|' || dst || '|' || lag FRO
 PRAGMA integrity_check;
 """
 
-# The text of all rows whose digest `plan check-office` prints, as docs/api.md has it.
+# The text of all rows, whose digest `plan check-office` prints (docs/operations.md, "Backups").
 ROWS = """
 SELECT 'office ' || office FROM meta;
 SELECT 'published ' || code || ' ' || kind || ' ' || capacity FROM published ORDER BY code;

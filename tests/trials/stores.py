@@ -156,10 +156,10 @@ EARLIER_LAG = LAG.replace("src, dst", "source, target")
 
 
 def renames():
-    """The two lines that docs/api.md gives for such a store."""
-    lines = file_of("docs/api.md").decode().split("\n")
+    """Returns the two lines of docs/operations.md that upgrade such a store."""
+    lines = file_of("docs/operations.md").decode().split("\n")
     found = [line.strip() for line in lines if line.startswith("    ALTER TABLE ")]
-    same("the lines of docs/api.md that rename columns", len(found), 2)
+    same("the lines of docs/operations.md that rename columns", len(found), 2)
     return found
 
 
