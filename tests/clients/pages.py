@@ -1,4 +1,4 @@
-"""What the page of a desk shows, read by WebDriver, beside what `plan` prints of the same files."""
+"""Compares the browser page, read by WebDriver, with the output of `plan` for the same files."""
 
 import os
 

@@ -1,4 +1,4 @@
-"""A visit of the page of a desk, from the first sign-in to the last plan, in the order of VISIT."""
+"""Uses the browser page from the first sign-in to the last plan, in the order of VISIT."""
 
 import json
 import os

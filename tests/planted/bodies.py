@@ -1,5 +1,6 @@
-"""Wrong bodies of a crate, and checks that try several of them at once: the prover judges each function by itself, against the
-contracts of those that it calls. So a hundred cost what ten would cost one by one."""
+"""Wrong bodies of a crate, and checks of several of them at once. The prover judges each function
+alone, against the contracts of the functions that it calls, so that one check can try many edits.
+"""
 
 import collections
 import os

@@ -1,6 +1,7 @@
-"""Offices whose file or log was damaged: bits that turned, ends that were cut off, logs that are
-gone or another office's. The program refuses such a file by `K1`, `K2` or `E91`, or answers as a
-plain model does by the rows that were there, or by those that the sqlite3 shell reads."""
+"""Databases whose file or log is damaged: turned bits, cut ends, logs that are missing or of
+another database. The program refuses such a file with `K1`, `K2` or `E91`, or answers as a simple
+model does from the earlier rows, or from those that the sqlite3 shell reads.
+"""
 
 import collections
 import contextlib

@@ -1,5 +1,6 @@
-"""What the program does to an office's file and its log, call by call, as disk.c writes it down, and
-what a stop behind any call leaves of the two."""
+"""The calls of the program on a database and its log, as disk.c records them, and what a stop
+after any call leaves of the two files.
+"""
 
 import collections
 import contextlib

@@ -1,5 +1,6 @@
-"""The job shop of Fisher and Thompson, 6 jobs on 6 machines, in a file among words and others: that
-it is read as it stands, that its schedules are feasible, and that 55 is proved least."""
+"""The job shop of Fisher and Thompson, 6 jobs on 6 machines, in a file among other text: it is
+read exactly, its schedules are feasible, and 55 is proved optimal.
+"""
 
 from answers import Wrong, plan, printed, refused, same, written
 from formulas import SHOP, row

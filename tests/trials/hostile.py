@@ -1,6 +1,7 @@
-"""What hostile hands and a full disk do to an office: streams that are closed, names that are no
-files, a file that another program holds, a disk without room. Each is a fault that docs/errors.md
-has, or the right answer, and no row is lost."""
+"""Hostile files and full disks: closed streams, names that aren't files, a file that another
+program holds, a disk without space. The program answers correctly, or with an error of
+docs/errors.md, and no row is lost.
+"""
 
 import contextlib
 import os

@@ -1,5 +1,6 @@
-"""Offices that `plan init` makes out of texts of keys, and desks whose next number the sqlite3
-shell has set."""
+"""Databases that `plan init` makes from various keys, and desks whose next number the sqlite3
+shell has set.
+"""
 
 import itertools
 import os

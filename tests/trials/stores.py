@@ -1,5 +1,6 @@
-"""Stores that are there, as the sqlite3 shell has written them: opened, brought to the second
-version, or refused."""
+"""Databases that the sqlite3 shell has written: opened, migrated to the second version, or
+refused.
+"""
 
 import os
 

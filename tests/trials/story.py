@@ -1,5 +1,6 @@
-"""Stories: requests and the responses to the byte, each told to the program by files, by a socket
-and one at a time."""
+"""Stories: requests and their responses, to the byte. Each runs from files, over a socket, and one
+request at a time.
+"""
 
 import os
 import re

@@ -1,5 +1,6 @@
-"""Two worlds: what a desk is told in an office with others is what it is told in an office of its
-own, to the byte, in each story and for each desk in it."""
+"""Each desk of each story in an office with others and in one of its own: the responses are the
+same bytes.
+"""
 
 import json
 import os
