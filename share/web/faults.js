@@ -21,12 +21,12 @@ export const FAULTS = {
   F5: [
     "A section title is missing: PRECEDENCE RELATIONS, REQUESTS/DURATIONS or "
     + "RESOURCEAVAILABILITIES. N is the last line.",
-    "Add the section. Its title is in capitals and starts its line.",
+    "Add the section. Its title starts a line, in capitals.",
   ],
   F6: [
-    "Line N contains something else where a number is required (one to nine digits, no sign); or"
-    + " a key of the header has no colon, or nothing after the colon.",
-    "Correct the number, or complete the line of the header.",
+    "Line N lacks a required number (one to nine digits, no sign); or a key of the header has no"
+    + " colon or no value.",
+    "Correct the number, or complete the header line.",
   ],
   F7: [
     "A job number in line N is out of order, or no job has this number.",
@@ -67,7 +67,7 @@ export const FAULTS = {
     "Correct the number.",
   ],
   S1: [
-    "Activity A takes time and needs more of resource R than the capacity of R, so it can never "
+    "Activity A takes time and needs more of resource R than its capacity, so it can never "
     + "start. A is the first such activity and R its first such resource.",
     "Raise the capacity, or lower the need.",
   ],
@@ -77,8 +77,8 @@ export const FAULTS = {
     + "case.",
   ],
   S4: [
-    "Machine M is bound to a code with capacity 0, and a step with a time above 0 needs it. M is"
-    + " the first such machine, counted from 0.",
+    "Machine M is bound to a code with capacity 0, and a step that takes time needs it. M is the"
+    + " first such machine, counted from 0.",
     "Publish a capacity of 1 or more for the code, or bind the machine to another code.",
   ],
   S5: [
@@ -100,7 +100,7 @@ export const FAULTS = {
   ],
   G3: [
     "A day of the result is after 9999-12-31.",
-    "Mark more weekdays as working days, or choose a coarser time unit.",
+    "Mark more working days, or choose a coarser time unit.",
   ],
   G4: [
     "Working days were requested, and the plan has no calendar.",
@@ -108,8 +108,8 @@ export const FAULTS = {
   ],
   H1: [
     "The connection doesn't start with the head of a request (at most 8,192 bytes and 64 "
-    + "fields); or an HTTP/1.1 request has no Host field, or a request has two; or Content-Length "
-    + "isn't a number, or two of them differ; or the body is shorter than Content-Length.",
+    + "fields); or Host is missing (HTTP/1.1) or there twice; or Content-Length isn't a number or "
+    + "has two values; or the body is shorter.",
     "Send a complete request, with an ordinary HTTP client.",
   ],
   H2: [
@@ -122,18 +122,16 @@ export const FAULTS = {
   ],
   H4: [
     "No route has this path.",
-    "Compare the path with docs/api.md. It has no query, no percent sign and no slash at the "
-    + "end.",
+    "Compare the path with docs/api.md: no query, no percent sign, no slash at the end.",
   ],
   H5: [
-    "The route has another method. The Allow field of the response names it.",
+    "The route has another method, named in the Allow field.",
     "Send the request with that method.",
   ],
   E01: [
     "The Desk-Key field is missing, there are two, it isn't the key of the desk (or of the "
     + "office), or there is no such desk.",
-    "Send the office's key on paths that start with /office, the desk's key on paths that start "
-    + "with /desks.",
+    "Send the office's key for /office, the desk's key for /desks.",
   ],
   E02: [
     "The desk has no plan of this number. For a new key: there is no such desk.",
@@ -178,8 +176,7 @@ export const FAULTS = {
     "Look up the code that follows.",
   ],
   E12: [
-    "The calendar is invalid or missing, or it ends before the last day. The cause follows, for "
-    + "example E12 G1 date.",
+    "The calendar is invalid, missing or too short. The cause follows, for example E12 G1 date.",
     "Look up the code that follows.",
   ],
   E90: [
@@ -187,12 +184,12 @@ export const FAULTS = {
     "Free memory and try again.",
   ],
   E91: [
-    "The database can't be opened, read or written. Causes: its name belongs to a folder or a "
-    + "device, or is too long; it isn't an SQLite database, or uses UTF-16 or auto_vacuum; it was "
-    + "cut or damaged; its log (-wal) belongs to another file; it has a second name (hard link); "
+    "The database can't be opened, read or written. Causes: the name is a folder's or a "
+    + "device's, or too long; the file isn't an SQLite database, uses UTF-16 or auto_vacuum, was "
+    + "cut or damaged, or has a second name (hard link); its log (-wal) belongs to another file; "
     + "sqlite3 left a journal (-journal); the disk is full or fails; or a limit on files was "
     + "reached. A running server has changed nothing.",
-    "Find the cause with the table of docs/operations.md, then remove it or restore a backup. "
-    + "After a full disk a running server continues once there is room.",
+    "Find the cause (docs/operations.md has a table), and remove it or restore a backup. A "
+    + "running server continues once a full disk has room.",
   ],
 };

@@ -151,10 +151,10 @@ impl Code {
                 "F4 line N\nLine N declares a kind of project that isn't supported: a number of projects other than 1, or nonrenewable or doubly constrained resources.\nDeclare 1 project, and 0 resources of both kinds.\n"
             }
             Code::MissingSection => {
-                "F5 line N\nA section title is missing: PRECEDENCE RELATIONS, REQUESTS/DURATIONS or RESOURCEAVAILABILITIES. N is the last line.\nAdd the section. Its title is in capitals and starts its line.\n"
+                "F5 line N\nA section title is missing: PRECEDENCE RELATIONS, REQUESTS/DURATIONS or RESOURCEAVAILABILITIES. N is the last line.\nAdd the section. Its title starts a line, in capitals.\n"
             }
             Code::BadNumber => {
-                "F6 line N\nLine N contains something else where a number is required (one to nine digits, no sign); or a key of the header has no colon, or nothing after the colon.\nCorrect the number, or complete the line of the header.\n"
+                "F6 line N\nLine N lacks a required number (one to nine digits, no sign); or a key of the header has no colon or no value.\nCorrect the number, or complete the header line.\n"
             }
             Code::JobOrder => {
                 "F7 line N\nA job number in line N is out of order, or no job has this number.\nNumber the jobs 1, 2, 3 and so on; name only jobs of the file as successors.\n"
@@ -181,13 +181,13 @@ impl Code {
                 "F14 line N\nA machine number in line N is too large. Machines are numbered from 0 to one less than their count.\nCorrect the number.\n"
             }
             Code::NeedsTooMuch => {
-                "S1 activity A resource R\nActivity A takes time and needs more of resource R than the capacity of R, so it can never start. A is the first such activity and R its first such resource.\nRaise the capacity, or lower the need.\n"
+                "S1 activity A resource R\nActivity A takes time and needs more of resource R than its capacity, so it can never start. A is the first such activity and R its first such resource.\nRaise the capacity, or lower the need.\n"
             }
             Code::UnknownRule => {
                 "S3 unknown rule\nNo priority rule has this name.\nUse lft, slk, spt, mts or num for a project, spt, mwkr or fcfs for a job shop, in lower case.\n"
             }
             Code::MachineClosed => {
-                "S4 machine M closed\nMachine M is bound to a code with capacity 0, and a step with a time above 0 needs it. M is the first such machine, counted from 0.\nPublish a capacity of 1 or more for the code, or bind the machine to another code.\n"
+                "S4 machine M closed\nMachine M is bound to a code with capacity 0, and a step that takes time needs it. M is the first such machine, counted from 0.\nPublish a capacity of 1 or more for the code, or bind the machine to another code.\n"
             }
             Code::TooLarge => {
                 "S5 too large\nA search was requested, and the project has more than 40 activities, or the shop more than 100 steps.\nUse plan schedule for the project, plan shop or plan prove for the shop.\n"
@@ -205,7 +205,7 @@ impl Code {
                 "G2 days\nThe weekday marks aren't seven digits 0 or 1, Monday first, or all of them are 0.\nWrite 1111100 for Monday to Friday.\n"
             }
             Code::BeyondCalendar => {
-                "G3 beyond calendar\nA day of the result is after 9999-12-31.\nMark more weekdays as working days, or choose a coarser time unit.\n"
+                "G3 beyond calendar\nA day of the result is after 9999-12-31.\nMark more working days, or choose a coarser time unit.\n"
             }
             Code::NoCalendar => {
                 "G4 no calendar\nWorking days were requested, and the plan has no calendar.\nSet its first date and its weekday marks.\n"
@@ -214,7 +214,7 @@ impl Code {
                 "C1 unknown code\nNo error has this code.\nGive the first word of the error line in capitals, for example F7.\n"
             }
             Code::BadMessage => {
-                "H1 message\nThe connection doesn't start with the head of a request (at most 8,192 bytes and 64 fields); or an HTTP/1.1 request has no Host field, or a request has two; or Content-Length isn't a number, or two of them differ; or the body is shorter than Content-Length.\nSend a complete request, with an ordinary HTTP client.\n"
+                "H1 message\nThe connection doesn't start with the head of a request (at most 8,192 bytes and 64 fields); or Host is missing (HTTP/1.1) or there twice; or Content-Length isn't a number or has two values; or the body is shorter.\nSend a complete request, with an ordinary HTTP client.\n"
             }
             Code::LargeBody => {
                 "H2 too large\nThe body is larger than 1,048,576 bytes.\nSend a smaller file.\n"
@@ -223,13 +223,13 @@ impl Code {
                 "H3 coding\nThe request has a Transfer-Encoding field.\nSend the body as it is, with Content-Length.\n"
             }
             Code::NoRoute => {
-                "H4 route\nNo route has this path.\nCompare the path with docs/api.md. It has no query, no percent sign and no slash at the end.\n"
+                "H4 route\nNo route has this path.\nCompare the path with docs/api.md: no query, no percent sign, no slash at the end.\n"
             }
             Code::OtherMethod => {
-                "H5 method\nThe route has another method. The Allow field of the response names it.\nSend the request with that method.\n"
+                "H5 method\nThe route has another method, named in the Allow field.\nSend the request with that method.\n"
             }
             Code::WrongKey => {
-                "E01 key\nThe Desk-Key field is missing, there are two, it isn't the key of the desk (or of the office), or there is no such desk.\nSend the office's key on paths that start with /office, the desk's key on paths that start with /desks.\n"
+                "E01 key\nThe Desk-Key field is missing, there are two, it isn't the key of the desk (or of the office), or there is no such desk.\nSend the office's key for /office, the desk's key for /desks.\n"
             }
             Code::NotFound => {
                 "E02 not found\nThe desk has no plan of this number. For a new key: there is no such desk.\nRequest the list of plans.\n"
@@ -262,10 +262,10 @@ impl Code {
                 "E11 ..\nThere is no such schedule. The cause follows, for example E11 S1 activity 2 resource 1.\nLook up the code that follows.\n"
             }
             Code::BadCalendar => {
-                "E12 ..\nThe calendar is invalid or missing, or it ends before the last day. The cause follows, for example E12 G1 date.\nLook up the code that follows.\n"
+                "E12 ..\nThe calendar is invalid, missing or too short. The cause follows, for example E12 G1 date.\nLook up the code that follows.\n"
             }
             Code::NotOurs => {
-                "K1 not ours\nFor plan init: the file already contains tables, indexes or views that aren't exactly those of an office. Otherwise: the tables aren't exactly those of an office, a row breaks a rule, or the file is empty or shorter than a database.\nCheck the name. Drop what was added by hand, or restore a backup. If plan 0.2.0 made the file, run in sqlite3: ALTER TABLE lags RENAME COLUMN source TO src; ALTER TABLE lags RENAME COLUMN target TO dst;\n"
+                "K1 not ours\nFor plan init: the file already contains tables, indexes or views that aren't exactly an office's. Otherwise: the tables aren't exactly an office's, a row breaks a rule, or the file is empty or shorter than a database.\nCheck the name. Drop what was added by hand, or restore a backup. If plan 0.2.0 made the file, run in sqlite3: ALTER TABLE lags RENAME COLUMN source TO src; ALTER TABLE lags RENAME COLUMN target TO dst;\n"
             }
             Code::Version => {
                 "K2 version\nThis program doesn't know the version of the tables.\nUse the program that wrote them, or a newer one.\n"
@@ -274,37 +274,37 @@ impl Code {
                 "K3 key\nThe first line of standard input isn't a key: 8 to 64 of the characters from ! to ~, without a blank.\nGive another key.\n"
             }
             Code::InUse => {
-                "K4 in use\nAnother program has the database open: a server, or sqlite3.\nStop it, or wait until it ends. fuser with the name of the file prints its process number.\n"
+                "K4 in use\nAnother program has the database open: a server, or sqlite3.\nStop it, or wait. fuser with the name of the file prints its process number.\n"
             }
             Code::NotThere => {
-                "K5 not there\nThere is no file of this name. For plan init: there is no such folder. Nothing was created.\nCheck the name, which is relative to the current folder. To create an office, use plan init.\n"
+                "K5 not there\nThere is no file of this name. For plan init: there is no such folder. Nothing was created.\nCheck the name, which is relative to the current folder. plan init creates an office.\n"
             }
             Code::NotWritable => {
-                "K6 not writable\nThis user may not read and write the database, its log (the same name with -wal at the end) or their folder, or the file system is mounted read-only.\nGive the folder and the files to the user that runs plan (chown), or move the database into a folder of its own.\n"
+                "K6 not writable\nThis user may not read and write the database, its log (-wal) or their folder, or the file system is read-only.\nGive the folder and its files to the user that runs plan (chown).\n"
             }
             Code::OfficeThere => {
-                "K7 office there already\nFor plan init: the file already contains the tables of an office, whatever their rows and version. Nothing was changed.\nServe it with plan serve, or give plan init another name.\n"
+                "K7 office there already\nFor plan init: the file already contains an office's tables, of any version. Nothing was changed.\nServe it with plan serve, or give plan init another name.\n"
             }
             Code::NoMemory => {
                 "E90 memory\nMemory ran out. The input may be valid.\nFree memory and try again.\n"
             }
             Code::StoreRefused => {
-                "E91 store\nThe database can't be opened, read or written. Causes: its name belongs to a folder or a device, or is too long; it isn't an SQLite database, or uses UTF-16 or auto_vacuum; it was cut or damaged; its log (-wal) belongs to another file; it has a second name (hard link); sqlite3 left a journal (-journal); the disk is full or fails; or a limit on files was reached. A running server has changed nothing.\nFind the cause with the table of docs/operations.md, then remove it or restore a backup. After a full disk a running server continues once there is room.\n"
+                "E91 store\nThe database can't be opened, read or written. Causes: the name is a folder's or a device's, or too long; the file isn't an SQLite database, uses UTF-16 or auto_vacuum, was cut or damaged, or has a second name (hard link); its log (-wal) belongs to another file; sqlite3 left a journal (-journal); the disk is full or fails; or a limit on files was reached. A running server has changed nothing.\nFind the cause (docs/operations.md has a table), and remove it or restore a backup. A running server continues once a full disk has room.\n"
             }
             Code::Input => {
                 "I1 file\nThe file or standard input can't be read: it doesn't exist, is a folder, or its permissions forbid it.\nCheck the name, which is relative to the current folder, and the permissions.\n"
             }
             Code::Socket => {
-                "I2 socket\nThe server can't listen on the port, for a reason other than I4 and I5; or no connection could be accepted a hundred times in a row, for example because too many files are open. Responses that were sent remain valid.\nFind what keeps files or connections open, raise the limit (ulimit -n), and start the server again.\n"
+                "I2 socket\nThe server can't listen on the port, for another reason than I4 and I5; or no connection could be accepted a hundred times in a row, for example because too many files are open.\nClose other files or connections or raise the limit (ulimit -n), and start the server again.\n"
             }
             Code::Output => {
-                "I3 output\nThe output can't be written completely: the disk is full, or the reader of the pipe has exited.\nMake room or keep the pipe open, discard the partial output, and run the command again.\n"
+                "I3 output\nThe output can't be written completely: the disk is full, or the reader of the pipe has exited.\nMake room or keep the pipe open, and run the command again; discard the partial output.\n"
             }
             Code::PortInUse => {
                 "I4 port in use\nAnother program listens on the port.\nChoose another port, or stop the other program.\n"
             }
             Code::PortDenied => {
-                "I5 port denied\nThis user may not listen on the port: ports below 1024 are reserved.\nChoose a port from 1024 up; a reverse proxy can listen on the other one.\n"
+                "I5 port denied\nThis user may not listen on the port: ports below 1024 are reserved.\nChoose a port from 1024 up, behind a reverse proxy if needed.\n"
             }
         }
     }
