@@ -22,7 +22,7 @@ class Wrong(Exception):
 
 
 class Unable(Exception):
-    """What is needed to try something isn't there."""
+    """A tool that a test needs is missing."""
 
 
 def same(what, found, wanted):

@@ -44,7 +44,7 @@ class Change(typing.NamedTuple):
 
 
 def owner_of(trait, argument, name):
-    """What stands before the names of an impl's functions where the prover tells of them: the type, and the trait behind it."""
+    """The prefix of an impl's functions in the prover's output: the type, then the trait."""
     words = [name] + [word.rpartition("::")[2] for word in (trait, argument) if word]
     return "".join(words) + "::"
 
@@ -181,7 +181,7 @@ def taken(texts, folder):
 
 
 def below(crate):
-    """The crates of the repository that a crate stands on."""
+    """The crates of the repository that a crate depends on."""
     with open(os.path.join(TOP, "crates.txt"), encoding="utf-8") as file:
         uses = {name: set(rest.split()) for name, rest in re.findall(r"(?m)^(\w+):(.*)$", file.read())}
     found, waiting = set(), [crate]
@@ -327,7 +327,7 @@ class Trial:
 
 
 def tried(copy, changes, tell):
-    """What comes of each change; `tell` is told of each as it ends."""
+    """The verdict on each change; `tell` is called with each as it ends."""
     printed = copy.checked([])
     if not re.search(r"(?m)^logic=proved", printed):
         sys.exit(f"planted: {copy.crate} isn't proved as it is\n" + printed[-2000:])

@@ -98,7 +98,7 @@ def blocks_of(path):
 
 
 def quoted(text):
-    """The bytes that a text in quotes stands for."""
+    """The bytes of a text in quotes."""
     return ast.literal_eval("b" + text)
 
 
@@ -142,7 +142,7 @@ class Trial:
             raise ValueError("that isn't understood")
 
     def plain(self, block, name, text):
-        """The content of a file that is named, stands below its name, or behind it."""
+        """The content of a file: named, below its name, or after it."""
         if text or not block.printed:
             block.refuse_lines()
             return quoted(text) if text else content_of(EXAMPLES, name)

@@ -54,7 +54,7 @@ class Bench:
         return path
 
     def reading(self):
-        """Requests that read all that is there: of each desk and of each plan."""
+        """Requests that read everything: of each desk and of each plan."""
         office = self.drawn.office
         lists = ("plans", "capacities")
         paths = [(desk, f"{desk}/{page}") for desk in office.desks for page in lists]
@@ -121,7 +121,7 @@ class Judge:
         self.right, self.tally = answers(rows, self.requests), collections.Counter()
 
     def outcome(self, what, database):
-        """In a word what becomes of an office; Wrong where that is none of what may become."""
+        """The outcome for a database in one word; Wrong if it is not an allowed one."""
         seen = seen_by_sqlite(database, self.room)
         before = bytes_of(database)
         found = plan("replay", database, *self.paths, patience=MOST_SECONDS)

@@ -36,7 +36,7 @@ def calls_in(journal):
 
 
 def content_of(database):
-    """The bytes of a file and of its log; none of one that isn't there."""
+    """The bytes of a file and of its log; empty if one is missing."""
     found = dict.fromkeys(FILES, b"")
     for name, end in FILES.items():
         with contextlib.suppress(FileNotFoundError), open(database + end, "rb") as file:

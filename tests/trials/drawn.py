@@ -225,7 +225,7 @@ def main():
     words.add_argument("-v", action="store_true", dest="is_verbose")
     given = words.parse_args()
     if not os.path.exists(PROGRAM):
-        sys.exit(f"drawn: {PROGRAM} isn't there; the gate builds it, or PLAN_PROGRAM names another")
+        sys.exit(f"drawn: {PROGRAM} is missing; the gate builds it, or PLAN_PROGRAM names another")
     try:
         try_drawn(given.cases, given.seed, given.is_verbose)
         try_files(given.commands, given.seed, given.is_verbose)

@@ -71,7 +71,7 @@ def text_of(what, answer):
 
 
 def try_rules(folder):
-    """The instance is read as it stands, by each rule."""
+    """The instance is read exactly, by each rule."""
     steps = fisher_steps()
     times = [sum(time for job, _, _, time in steps if job == own) for own in range(1, 7)]
     same("the times of the jobs", times, TIMES)
@@ -102,7 +102,7 @@ def try_proof(folder):
 
 
 def try_fisher(folder):
-    """The instance among words and others, of which one isn't whole, and one isn't there."""
+    """The instance among other text and instances; one is incomplete, and one is missing."""
     written(folder, "shops.txt", COLLECTION.encode())
     tiny = printed(SHOP + row(1, 1, 0, 2, 0, 2) + "\nmakespan 2\n")
     same("the names", plan(folder, "names", "shops.txt"), printed("tiny\nft06\nlast\n"))

@@ -95,7 +95,7 @@ def try_arcs(folder):
 
 
 def even_shop(jobs, machines, time):
-    """A shop in the bare form whose steps take the same time; job j stands in line 1 + j."""
+    """A shop in the bare form whose steps take the same time; job j is in line 1 + j."""
     steps = " ".join(f"{machine} {time}" for machine in range(machines))
     return f"{jobs} {machines}\n".encode() + f"{steps}\n".encode() * jobs
 

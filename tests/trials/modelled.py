@@ -61,7 +61,7 @@ def calls():
 
 def with_files(words):
     """The words of a command with the bytes of files for their names; None for one that is away.
-    What comes in by standard input stands for the first hyphen."""
+    Standard input replaces the first hyphen."""
     if "<" in words:
         words[words.index("-")] = words[-1]
         words = words[: words.index("<")]

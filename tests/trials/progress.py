@@ -90,7 +90,7 @@ def told(terminal):
 
 
 def judge(rows):
-    """Fails where what is told, one behind another, can't be true of the shop."""
+    """Fails if the progress lines, in order, can't be true of the shop."""
     same("the nodes", [row[2] for row in rows], [*range(BETWEEN, NODES, BETWEEN), NODES])
     for best, lower, _ in rows:
         if not lower <= LEAST <= best:

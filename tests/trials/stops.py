@@ -64,7 +64,7 @@ class Making:
         return before, None
 
     def go_on(self, database, is_done):
-        """The program goes on with what is left: it makes the office that isn't there."""
+        """The program continues with the files that are left: it makes a missing office."""
         again = plan("check-office", database)[0] if is_done else self.run(database)[0]
         same("the status of plan check-office or plan init again", again, 0)
 
@@ -234,7 +234,7 @@ def whole_by(calls, content):
     return {name: disk.whole(name) for name in content}
 
 
-# How a call fails: what disk.c is told, and whether that is another way for a write alone.
+# How a call fails: the words for disk.c, and whether they concern writes alone.
 WAYS = {
     "alone": {},
     "and all behind it": {"LASTING": "1"},

@@ -19,7 +19,7 @@ def names():
 def parted(out):
     """Responses that stand one behind another."""
     front, *responses = re.split(rb"(?=HTTP/1\.1 )", out)
-    same("what stands in front of the first response", front, b"")
+    same("the bytes before the first response", front, b"")
     return responses
 
 
