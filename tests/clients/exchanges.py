@@ -1,5 +1,6 @@
-"""Exchanges with an office: the conversation that stands in a file, the bytes of requests and responses, and the tables that an
-office keeps after each accepted command, as a program of its own that shares nothing with `plan`."""
+"""Exchanges with a server: the file conversation, the bytes of requests and responses, and the
+tables after each accepted command. Shares nothing with `plan`.
+"""
 
 import hashlib
 import json
