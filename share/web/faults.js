@@ -108,8 +108,8 @@ export const FAULTS = {
   ],
   H1: [
     "The connection doesn't start with the head of a request (at most 8,192 bytes and 64 "
-    + "fields); or Host is missing (HTTP/1.1) or there twice; or Content-Length isn't a number or "
-    + "has two values; or the body is shorter.",
+    + "fields); or the Host field is missing (HTTP/1.1) or occurs twice; or Content-Length isn't a"
+    + " number or has two values; or the body is shorter than Content-Length.",
     "Send a complete request, with an ordinary HTTP client.",
   ],
   H2: [
@@ -129,8 +129,8 @@ export const FAULTS = {
     "Send the request with that method.",
   ],
   E01: [
-    "The Desk-Key field is missing, there are two, it isn't the key of the desk (or of the "
-    + "office), or there is no such desk.",
+    "The Desk-Key field is missing, occurs twice, or isn't the key of the desk (or of the "
+    + "office); or there is no such desk.",
     "Send the office's key for /office, the desk's key for /desks.",
   ],
   E02: [

@@ -214,7 +214,7 @@ impl Code {
                 "C1 unknown code\nNo error has this code.\nGive the first word of the error line in capitals, for example F7.\n"
             }
             Code::BadMessage => {
-                "H1 message\nThe connection doesn't start with the head of a request (at most 8,192 bytes and 64 fields); or Host is missing (HTTP/1.1) or there twice; or Content-Length isn't a number or has two values; or the body is shorter.\nSend a complete request, with an ordinary HTTP client.\n"
+                "H1 message\nThe connection doesn't start with the head of a request (at most 8,192 bytes and 64 fields); or the Host field is missing (HTTP/1.1) or occurs twice; or Content-Length isn't a number or has two values; or the body is shorter than Content-Length.\nSend a complete request, with an ordinary HTTP client.\n"
             }
             Code::LargeBody => {
                 "H2 too large\nThe body is larger than 1,048,576 bytes.\nSend a smaller file.\n"
@@ -229,7 +229,7 @@ impl Code {
                 "H5 method\nThe route has another method, named in the Allow field.\nSend the request with that method.\n"
             }
             Code::WrongKey => {
-                "E01 key\nThe Desk-Key field is missing, there are two, it isn't the key of the desk (or of the office), or there is no such desk.\nSend the office's key for /office, the desk's key for /desks.\n"
+                "E01 key\nThe Desk-Key field is missing, occurs twice, or isn't the key of the desk (or of the office); or there is no such desk.\nSend the office's key for /office, the desk's key for /desks.\n"
             }
             Code::NotFound => {
                 "E02 not found\nThe desk has no plan of this number. For a new key: there is no such desk.\nRequest the list of plans.\n"
