@@ -35,8 +35,21 @@ impl Dates {
         tails: Vec<u64>,
         free_floats: Vec<u64>,
     ) -> Self
-        requires { IsConsistent (record { duration = duration; durations = durations.items; finishes = finishes.items; tails = tails.items; free_floats = free_floats.items }) }
-        ensures { result ≡ record { duration = duration; durations = durations.items; finishes = finishes.items; tails = tails.items; free_floats = free_floats.items } }
+        requires { IsConsistent
+            (record {
+              duration = duration;
+              durations = durations.items;
+              finishes = finishes.items;
+              tails = tails.items;
+              free_floats = free_floats.items;
+            }) }
+        ensures { result ≡ record {
+          duration = duration;
+          durations = durations.items;
+          finishes = finishes.items;
+          tails = tails.items;
+          free_floats = free_floats.items;
+        } }
     {
         Dates {
             duration,

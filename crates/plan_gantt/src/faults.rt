@@ -40,7 +40,8 @@ fn push_place(text: &mut String, code: FileCode, line: u64) -> Result<(), AllocE
 
 // Numbers, a space before each.
 fn push_spaced(text: &mut String, numbers: &[u32]) -> Result<(), AllocError>
-    ensures { OnOk result (string_bytes text.new ≡ string_bytes text.old ++ spaced_numbers numbers.now) }
+    ensures { OnOk result
+        (string_bytes text.new ≡ string_bytes text.old ++ spaced_numbers numbers.now) }
 {
     'all: for n in numbers {
         write!(text, " {n}")?;

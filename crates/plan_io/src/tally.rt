@@ -41,7 +41,8 @@ impl Tally {
 
     // With one call more, and with one fault more unless the call was good.
     fn with_call(&self, good: bool) -> Tally
-        ensures { (result.calls ≡ self.now.calls + 1) × (result.faults ≡ (if good then self.now.faults else self.now.faults + 1)) }
+        ensures { (result.calls ≡ self.now.calls + 1)
+            × (result.faults ≡ (if good then self.now.faults else self.now.faults + 1)) }
     {
         Tally {}
     }

@@ -25,7 +25,8 @@ pub trait Source {
     /// Reads bytes to the front of a buffer, and answers how many. None in a buffer that has room means
     /// that there are no more.
     fn read(&mut self, buf: &mut [u8]) -> Result<usize, DeviceFault>
-        ensures counted { IsCounted (calls self.old) (calls self.new) (faults self.old) (faults self.new) result }
+        ensures counted { IsCounted (calls self.old) (calls self.new) (faults self.old)
+            (faults self.new) result }
         ensures within { IfOk result (λ n. n ≤ length buf.new) }
         ensures bytes { ReadConsumes (remaining self.old) (remaining self.new) result buf.new };
 }
@@ -43,7 +44,8 @@ pub trait Sink {
 
     /// Takes bytes from the front of some, and answers how many. It may take none.
     fn write(&mut self, bytes: &[u8]) -> Result<usize, DeviceFault>
-        ensures counted { IsCounted (calls self.old) (calls self.new) (faults self.old) (faults self.new) result }
+        ensures counted { IsCounted (calls self.old) (calls self.new) (faults self.old)
+            (faults self.new) result }
         ensures within { IfOk result (λ n. n ≤ length bytes.now) }
         ensures bytes { WriteAppends (taken self.old) (taken self.new) result bytes.now };
 }

@@ -57,8 +57,10 @@ pub fn read_beyond<R: Source>(
     limit: usize,
 ) -> Result<Vec<u8>, InputError>
     ensures calls { R.calls reader.new ≤ R.calls reader.old + most_calls }
-    ensures consumed { IfOk result (λ v. Consumes (R.remaining reader.old) (R.remaining reader.new) v.items) }
-    ensures bytes { IfOk result (λ v. IfSome (R.remaining reader.old) (λ all. v.items ≡ take (limit + 1) all)) }
+    ensures consumed { IfOk result (λ v. Consumes (R.remaining reader.old)
+        (R.remaining reader.new) v.items) }
+    ensures bytes { IfOk result (λ v. IfSome (R.remaining reader.old)
+        (λ all. v.items ≡ take (limit + 1) all)) }
     ensures short { IfOk result (λ v. length v.items ≤ limit + 1) }
     ensures fine { OnOk result (R.faults reader.new ≡ R.faults reader.old) }
     ensures memory { IsErrOf result InputError.Memory → R.faults reader.new ≡ R.faults reader.old }
@@ -93,7 +95,8 @@ fn read_more<R: Source>(
     ensures within { IfOk result (λ n. n ≤ length chunk.old) }
     ensures fine { OnOk result (R.faults reader.new ≡ R.faults reader.old) }
     ensures memory { IsErrOf result InputError.Memory → R.faults reader.new ≡ R.faults reader.old }
-    ensures failed { IsErrOf result InputError.Failed → R.faults reader.new ≡ R.faults reader.old + 1 }
+    ensures failed { IsErrOf result InputError.Failed →
+        R.faults reader.new ≡ R.faults reader.old + 1 }
     ensures longer { IfOk result (λ n. vec_len bytes.new ≡ vec_len bytes.old + n) }
     ensures more { IfOk result (λ n. (part : List ℕ) × (bytes.new.items ≡ bytes.old.items ++ part)
         × Consumes (R.remaining reader.old) (R.remaining reader.new) part

@@ -51,7 +51,8 @@ fn is_plus(line: &[u8]) -> bool
 
 /// The name that a line gives, where it is an instance line.
 pub fn instance_name(line: &[u8]) -> Option<&[u8]>
-    ensures { MatchOption result (spec.instance_name line.now ≡ None) (λ name. spec.instance_name line.now ≡ Some name.now) }
+    ensures { MatchOption result (spec.instance_name line.now ≡ None)
+        (λ name. spec.instance_name line.now ≡ Some name.now) }
 {
     let mut words = Words::new(line);
     let first = words.next_word()?;

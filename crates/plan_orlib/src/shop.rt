@@ -34,9 +34,13 @@ impl Model for ShopDoc {
 
     ghost Value = { Shop };
 
-    ghost view = { λ doc. record { machines = doc.machines; jobs = map (λ job. job.items) doc.jobs.items } };
+    ghost view = { λ doc. record {
+      machines = doc.machines;
+      jobs = map (λ job. job.items) doc.jobs.items;
+    } };
 
-    ghost invariant = { λ doc. IsShop (record { machines = doc.machines; jobs = map (λ job. job.items) doc.jobs.items }) };
+    ghost invariant = { λ doc. IsShop
+        (record { machines = doc.machines; jobs = map (λ job. job.items) doc.jobs.items }) };
 }
 
 impl ShopDoc {
@@ -90,18 +94,23 @@ pub fn read_shop(alloc: Global, text: &[u8], name: &[u8]) -> Result<ShopDoc, Fil
     // What is read is what the text says.
     ensures found { IfOk result (λ shop. Says name.now text.now shop) }
     // What the text says is read, unless memory runs out.
-    ensures only { (shop : spec.Shop) → Says name.now text.now shop → MatchResult result (λ read. read ≡ shop) IsWantOfMemory }
+    ensures only { (shop : spec.Shop) → Says name.now text.now shop →
+        MatchResult result (λ read. read ≡ shop) IsWantOfMemory }
     // Which check is the first that fails.
-    ensures refused { IfErr result (λ fault. IsWantOfMemory fault ⊎ reading.FailsWith (reading.shop name.now text.now) fault) }
+    ensures refused { IfErr result (λ fault. IsWantOfMemory fault ⊎ reading.FailsWith
+        (reading.shop name.now text.now) fault) }
     // What fails before the stream is read is refused for that, whatever memory there is.
-    ensures early { (f : Fault) → reading.located name.now text.now ≡ Err f → MatchResult result (λ _. ⊥) (TellsError (errors.Fault f)) }
+    ensures early { (f : Fault) → reading.located name.now text.now ≡ Err f →
+        MatchResult result (λ _. ⊥) (TellsError (errors.Fault f)) }
     // What is found has one of the names that `names` gives.
     ensures named { IfOk result (λ _. Contains (names_of text.now) name.now) }
     // Of a text that is fit to be read, any other name is missing, told at the last line, whatever memory there is.
-    ensures unnamed { plain text.now ≡ Ok tt → ¬ (Contains (names_of text.now) name.now) → MatchResult result (λ _. ⊥)
+    ensures unnamed { plain text.now ≡ Ok tt → ¬ (Contains (names_of text.now) name.now) →
+        MatchResult result (λ _. ⊥)
         (λ fault. (fault.code ≡ code.NoInstance) × (fault.line ≡ last_line text.now)) }
     // No name is missing that `names` gives.
-    ensures missing { IfErr result (λ fault. fault.code ≡ code.NoInstance → ¬ (Contains (names_of text.now) name.now)) }
+    ensures missing { IfErr result (λ fault. fault.code ≡ code.NoInstance → ¬
+        (Contains (names_of text.now) name.now)) }
 {
     match named_listing(alloc, text, name) {
         Ok(listing) => Ok(ShopDoc {
@@ -116,8 +125,10 @@ pub fn read_shop(alloc: Global, text: &[u8], name: &[u8]) -> Result<ShopDoc, Fil
 fn named_listing(alloc: Global, text: &[u8], name: &[u8]) -> Result<Listing, ReadError>
     ensures exact { Gives spec.shop_of result (reading.shop name.now text.now) }
     ensures found { IfOk result (λ l. Says name.now text.now (spec.shop_of l)) }
-    ensures only { (shop : spec.Shop) → Says name.now text.now shop → Gives spec.shop_of result (Ok shop) }
-    ensures early { (f : Fault) → reading.located name.now text.now ≡ Err f → MatchResult result (λ _. ⊥) (λ e. e ≡ errors.Fault f) }
+    ensures only { (shop : spec.Shop) → Says name.now text.now shop →
+        Gives spec.shop_of result (Ok shop) }
+    ensures early { (f : Fault) → reading.located name.now text.now ≡ Err f →
+        MatchResult result (λ _. ⊥) (λ e. e ≡ errors.Fault f) }
 {
     instance_listing(alloc, text, name)
 }
@@ -126,7 +137,8 @@ fn named_listing(alloc: Global, text: &[u8], name: &[u8]) -> Result<Listing, Rea
 #[tactic(auto, unfolding(crate::specs::Reading::shop, crate::specs::Reading::located))]
 fn instance_listing(alloc: Global, text: &[u8], name: &[u8]) -> Result<Listing, ReadError>
     ensures exact { Gives spec.shop_of result (reading.shop name.now text.now) }
-    ensures early { (f : Fault) → reading.located name.now text.now ≡ Err f → MatchResult result (λ _. ⊥) (λ e. e ≡ errors.Fault f) }
+    ensures early { (f : Fault) → reading.located name.now text.now ≡ Err f →
+        MatchResult result (λ _. ⊥) (λ e. e ≡ errors.Fault f) }
 {
     check_text(text)?;
     let found = Found::of(text, name);

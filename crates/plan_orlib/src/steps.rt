@@ -57,7 +57,8 @@ fn all_jobs<L: Layout>(
     jobs: u32,
     machines: u32,
 ) -> Result<Vec<Vec<Step>>, ReadError>
-    ensures { Gives (λ rows. (map (λ row. row.items) rows.items, words.new)) result (spec.jobs_at machines jobs [] words.old) }
+    ensures { Gives (λ rows. (map (λ row. row.items) rows.items, words.new)) result
+        (spec.jobs_at machines jobs [] words.old) }
 {
     let mut rows = Vec::new(alloc);
     let mut total = 0;
@@ -77,7 +78,8 @@ fn next_job<L: Layout>(
     before: u64,
 ) -> Result<Row, ReadError>
     requires { before ≤ greatest_total }
-    ensures exact { Gives (λ row. (row.steps.items, words.new)) result (spec.steps_at machines before machines [] words.old) }
+    ensures exact { Gives (λ row. (row.steps.items, words.new)) result
+        (spec.steps_at machines before machines [] words.old) }
     ensures total { IfOk result (λ row. row.total ≡ before + time_of row.steps.items) }
     ensures fits { IfOk result (λ row. row.total ≤ greatest_total) }
 {
@@ -99,7 +101,8 @@ fn next_step<L: Layout>(
     total: u64,
 ) -> Result<Step, Fault>
     requires { total ≤ greatest_total }
-    ensures exact { Reads (λ step. (step, words.new)) result (spec.step_at machines total words.old) }
+    ensures exact { Reads (λ step. (step, words.new)) result
+        (spec.step_at machines total words.old) }
     ensures fits { IfOk result (λ step. total + step.time ≤ greatest_total) }
 {
     let machine = machine(words, machines)?;
