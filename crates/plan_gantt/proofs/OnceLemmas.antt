@@ -8,7 +8,7 @@ use Rattle.plan_psplib.specs.declared.text.fault.FileFault.{FileFault}
 use Rattle.plan_psplib.specs.Project.{Project, SaysProject}
 use Rattle.plan_psplib.proofs.OnceLemmas.{ReadAlike, failing_once, said_fails_none}
 use Rattle.plan_orlib.specs.Shop as docs
-use Rattle.plan_orlib.specs.Reading.{shop}
+use Rattle.plan_orlib.specs.ShopText.{shop}
 use Rattle.plan_orlib.specs.Says as shop_texts
 use Rattle.plan_orlib.proofs.OnceLemmas as shop_once
 use Rattle.plan_sgs.specs.Problem.{makespan}

@@ -8,7 +8,7 @@ ghost use Rattle.plan_gantt.specs.Charts.{activity_interval, activity_intervals}
 
 use crate::column::push_first;
 use crate::interval::{Interval, is_marked};
-use plan_net::Network;
+use plan_net::{Network, index_of};
 use std::alloc::{AllocError, Global};
 use std::fmt::Write;
 
@@ -102,7 +102,7 @@ pub(crate) fn interval_of(network: &Network, starts: &[u64], j: u32) -> Interval
     ensures end { result.start + result.duration ≤ latest_end }
 {
     Interval {
-        start: starts[j as usize - 1],
+        start: starts[index_of(j)],
         duration: network.duration(j),
     }
 }

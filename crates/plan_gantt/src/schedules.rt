@@ -6,7 +6,7 @@ ghost use Rattle.plan_gantt.specs.Limits.{latest_start};
 ghost use Rattle.plan_gantt.specs.ScheduleTable.{makespan_line, schedule_line, schedule_table_text};
 
 use crate::column::push_row;
-use plan_net::Network;
+use plan_net::{Network, index_of};
 use std::alloc::{AllocError, Global};
 use std::fmt::Write;
 
@@ -20,7 +20,7 @@ fn push_line(text: &mut String, network: &Network, starts: &[u64], j: u32) -> Re
         (string_bytes text.new ≡ string_bytes text.old ++ schedule_line network.now starts.now j) }
 {
     let duration = network.duration(j);
-    let start = starts[j as usize - 1];
+    let start = starts[index_of(j)];
     push_row(text, j, &[duration, start, start + duration])
 }
 

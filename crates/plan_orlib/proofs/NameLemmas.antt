@@ -5,11 +5,11 @@ use Rattle.plan_psplib.specs.declared.text.fault.FileFault.{FileFault}
 use Rattle.plan_psplib.specs.declared.text.fault.ReadError.{ReadError}
 use Rattle.plan_psplib.specs.declared.text.fault.ReadError.TheVariants as errors
 use Rattle.plan_psplib.specs.Faults.{IsWantOfMemory, TellsError}
-use Rattle.plan_psplib.specs.Reading.{◌>>=◌, Fails}
+use Rattle.plan_psplib.specs.Tokens.{◌>>=◌, Fails}
 use Rattle.plan_psplib.specs.Plain.{plain}
 use Rattle.plan_psplib.proofs.GoesLemmas.{then_ok, same_ok}
 use Rattle.plan_orlib.specs.Instances.{names_of}
-use Rattle.plan_orlib.specs.Reading.{FailsWith, names}
+use Rattle.plan_orlib.specs.ShopText.{FailsWith, names}
 
 -- a file isn't read for what its reading ends with
 pub told : {A : Type 0} (read : Result A Fault) (e : ReadError) (fault : FileFault) → Fails e read → TellsError e fault → IsWantOfMemory fault ⊎ FailsWith read fault

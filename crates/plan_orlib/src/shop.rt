@@ -7,9 +7,9 @@ ghost use Rattle.plan_psplib.specs.declared.text.fault.Fault.{Fault};
 ghost use Rattle.plan_psplib.specs.declared.text.fault.FileCode.TheVariants as code;
 ghost use Rattle.plan_psplib.specs.declared.text.fault.ReadError.TheVariants as errors;
 ghost use Rattle.plan_psplib.specs.Lines.{last_line};
-ghost use Rattle.plan_psplib.specs.Reading.{Gives};
+ghost use Rattle.plan_psplib.specs.Tokens.{Gives};
 ghost use Rattle.plan_orlib.specs.Instances.{names_of};
-ghost use Rattle.plan_orlib.specs.Reading as reading;
+ghost use Rattle.plan_orlib.specs.ShopText as reading;
 ghost use Rattle.plan_orlib.specs.Says.{Says};
 ghost use Rattle.plan_orlib.specs.Shop as spec;
 
@@ -112,13 +112,12 @@ pub fn read_shop(alloc: Global, text: &[u8], name: &[u8]) -> Result<ShopDoc, Fil
     ensures missing { IfErr result (λ fault. fault.code ≡ code.NoInstance → ¬
         (Contains (names_of text.now) name.now)) }
 {
-    match named_listing(alloc, text, name) {
-        Ok(listing) => Ok(ShopDoc {
-            machines: listing.machines,
-            jobs: listing.jobs,
-        }),
-        Err(error) => Err(FileFault::of(alloc, error)),
-    }
+    let listing =
+        named_listing(alloc, text, name).map_err(|error| FileFault::of(alloc, error))?;
+    Ok(ShopDoc {
+        machines: listing.machines,
+        jobs: listing.jobs,
+    })
 }
 
 // The shop of a name, as it is read.
@@ -134,7 +133,7 @@ fn named_listing(alloc: Global, text: &[u8], name: &[u8]) -> Result<Listing, Rea
 }
 
 // The shop of an instance, after the checks of the text.
-#[tactic(auto, unfolding(crate::specs::Reading::shop, crate::specs::Reading::located))]
+#[tactic(auto, unfolding(crate::specs::ShopText::shop, crate::specs::ShopText::located))]
 fn instance_listing(alloc: Global, text: &[u8], name: &[u8]) -> Result<Listing, ReadError>
     ensures exact { Gives spec.shop_of result (reading.shop name.now text.now) }
     ensures early { (f : Fault) → reading.located name.now text.now ≡ Err f →

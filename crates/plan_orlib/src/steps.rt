@@ -1,9 +1,9 @@
 //! The numbers of a shop: how many jobs and machines, and the steps of each job.
 
 ghost use Rattle.std.specs.Prelude.{◌≡◌, ◌≤◌, ◌+◌, [], IfOk, map};
-ghost use Rattle.plan_psplib.specs.Reading.{Gives, Reads, greatest_total};
+ghost use Rattle.plan_psplib.specs.Tokens.{Gives, Reads, greatest_total};
 ghost use Rattle.plan_orlib.specs.Shop.{shop_of, time_of};
-ghost use Rattle.plan_orlib.specs.Reading as spec;
+ghost use Rattle.plan_orlib.specs.ShopText as spec;
 
 use plan_psplib::{
     Fault, FileCode, Layout, ReadError, StreamWords, next_duration, next_limited, next_number,
@@ -37,7 +37,7 @@ struct Row {
 }
 
 /// The shop at the front of some words.
-#[tactic(auto, unfolding(crate::specs::Reading::shop_at))]
+#[tactic(auto, unfolding(crate::specs::ShopText::shop_at))]
 pub fn read_listing<L: Layout>(
     alloc: Global,
     words: &mut StreamWords<'_, L>,
@@ -94,7 +94,7 @@ fn next_job<L: Layout>(
 }
 
 // A step, where the times before it add up to a total.
-#[tactic(auto, unfolding(crate::specs::Reading::step_at))]
+#[tactic(auto, unfolding(crate::specs::ShopText::step_at))]
 fn next_step<L: Layout>(
     words: &mut StreamWords<'_, L>,
     machines: u32,
@@ -111,7 +111,7 @@ fn next_step<L: Layout>(
 }
 
 // The number of one of the machines.
-#[tactic(auto, unfolding(crate::specs::Reading::machine_at))]
+#[tactic(auto, unfolding(crate::specs::ShopText::machine_at))]
 fn machine<L: Layout>(words: &mut StreamWords<'_, L>, machines: u32) -> Result<u32, Fault>
     ensures { Reads (λ n. (n, words.new)) result (spec.machine_at machines words.old) }
 {

@@ -2,7 +2,7 @@
 ghost use Rattle.std.specs.Prelude.{◌≡◌, ℕ, ◌+◌, ◌*◌, ◌^◌, ◌≤◌, ◌<◌, ◌++◌, length, take, drop};
 ghost use Rattle.std.specs.Prelude.{vec_len, vec_capacity, IfOk};
 ghost use Rattle.plan_profile.specs.Steps.{row_at};
-ghost use Rattle.plan_profile.specs.Changing.{AreRaised, HaveSums};
+ghost use Rattle.plan_profile.specs.Changes.{AreRaised, HaveSums};
 
 use crate::row::add_needs;
 use std::alloc::{AllocError, Global};

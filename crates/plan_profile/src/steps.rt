@@ -4,7 +4,7 @@ ghost use Rattle.std.specs.Prelude.{Contains, OnOk, OnErr};
 ghost use Rattle.plan_profile.specs.Usage.{IsRising};
 ghost use Rattle.plan_profile.specs.Steps.{changes_until, lists, amount};
 ghost use Rattle.plan_profile.specs.Steps.{AreRows, IsSteps, AreChanges};
-ghost use Rattle.plan_profile.specs.Changing.{IsCut, IsMerged, IsPlaced, HasSumsBetween};
+ghost use Rattle.plan_profile.specs.Changes.{IsCut, IsMerged, IsPlaced, HasSumsBetween};
 
 use crate::rows::{raise, remove_row, repeat_row, row};
 use std::alloc::AllocError;

@@ -7,7 +7,7 @@ use Rattle.plan_psplib.specs.declared.text.fault.FileCode.TheVariants as code
 use Rattle.plan_psplib.specs.declared.text.fault.Fault.{Fault}
 use Rattle.plan_psplib.specs.Numbers.{number}
 use Rattle.plan_psplib.specs.Streams.{LineWord, Stream}
-use Rattle.plan_psplib.specs.Reading.{◌>>=◌, LineNumber, check, as_number, number_of_words, number_at, expect_at, within_at, limited, limited_at, end_of_words, end_at}
+use Rattle.plan_psplib.specs.Tokens.{◌>>=◌, LineNumber, check, as_number, number_of_words, number_at, expect_at, within_at, limited, limited_at, end_of_words, end_at}
 use Rattle.plan_psplib.specs.Says.{Spells}
 
 -- what is read in two steps: both are read

@@ -15,7 +15,7 @@ use Rattle.plan_net.proofs.SuccessorLemmas.{IsWithinLimits-rows}
 use Rattle.plan_net.proofs.SomeOrderLemmas.{SomeCycle, some_order}
 use Rattle.plan_psplib.specs.declared.text.fault.FileFault.{FileFault}
 use Rattle.plan_psplib.specs.Faults.{IsWantOfMemory}
-use Rattle.plan_psplib.specs.Reading.{greatest}
+use Rattle.plan_psplib.specs.Tokens.{greatest}
 use Rattle.plan_psplib.specs.Document.{Document}
 use Rattle.plan_psplib.specs.Says.{Says, IsNeeds}
 use Rattle.plan_psplib.specs.Project.{AreAmounts, IsProject, SaysProject, network_of, project_of, TellsOf, NamesCycleOf}

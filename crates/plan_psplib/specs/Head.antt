@@ -9,7 +9,7 @@ use Rattle.plan_psplib.specs.declared.sm.head.Keys as declared_keys
 use Rattle.plan_psplib.specs.Lines.{NumberedLine}
 use Rattle.plan_psplib.specs.Numbers.{number}
 use Rattle.plan_psplib.specs.Sections.{key_line, value_word}
-use Rattle.plan_psplib.specs.Reading.{◌>>=◌, LineNumber, fault, check, limited}
+use Rattle.plan_psplib.specs.Tokens.{◌>>=◌, LineNumber, fault, check, limited}
 
 -- something for each of the five keys
 pub record Keys (A : Type 0) : Type 0 where

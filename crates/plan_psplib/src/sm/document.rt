@@ -4,7 +4,7 @@ ghost use Rattle.std.specs.Prelude.{◌≡◌, Ok, Err, IfOk, MatchResult, lengt
 ghost use Rattle.plan_net.specs.Successors.{AreRows, rows_in};
 ghost use Rattle.plan_psplib.specs.declared.text.fault.Fault.{Fault};
 ghost use Rattle.plan_psplib.specs.declared.text.fault.ReadError.TheVariants as errors;
-ghost use Rattle.plan_psplib.specs.Reading.{Gives, Reads};
+ghost use Rattle.plan_psplib.specs.Tokens.{Gives, Reads};
 ghost use Rattle.plan_psplib.specs.Document as spec;
 ghost use Rattle.plan_psplib.specs.Says.{Says};
 

@@ -3,7 +3,7 @@
 ghost use Rattle.std.specs.Prelude.{◌≡◌, ◌≤◌, Some, None, IfOk, MatchOption};
 ghost use Rattle.std.specs.Option.{option_map};
 ghost use Rattle.std.specs.List.{position};
-ghost use Rattle.plan_psplib.specs.Reading.{Reads, line_number};
+ghost use Rattle.plan_psplib.specs.Tokens.{Reads, line_number};
 ghost use Rattle.plan_psplib.specs.Sections as sections;
 ghost use Rattle.plan_psplib.specs.Head as spec;
 ghost use Rattle.plan_psplib.specs.Noted.{noted};

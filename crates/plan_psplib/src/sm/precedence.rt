@@ -2,7 +2,7 @@
 
 ghost use Rattle.std.specs.Prelude.{◌≡◌, ◌<◌, ◌≤◌, ◌++◌, ◌∷◌, List, ℕ, [], length, IfOk};
 ghost use Rattle.plan_net.specs.Successors.{AreRows, arcs_of_rows, rows_in};
-ghost use Rattle.plan_psplib.specs.Reading.{Gives, Reads, line_number};
+ghost use Rattle.plan_psplib.specs.Tokens.{Gives, Reads, line_number};
 ghost use Rattle.plan_psplib.specs.Precedence as spec;
 
 use crate::sm::sections::Section;

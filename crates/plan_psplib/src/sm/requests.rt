@@ -1,7 +1,7 @@
 //! The requests section and the availabilities of an `.sm` text.
 
 ghost use Rattle.std.specs.Prelude.{◌≤◌, ◌+◌, [], IfOk};
-ghost use Rattle.plan_psplib.specs.Reading.{Gives};
+ghost use Rattle.plan_psplib.specs.Tokens.{Gives};
 ghost use Rattle.plan_psplib.specs.Requests as spec;
 
 use crate::sm::sections::Section;

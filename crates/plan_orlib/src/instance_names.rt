@@ -7,9 +7,9 @@ ghost use Rattle.plan_psplib.specs.Faults.{IsWantOfMemory, TellsError};
 ghost use Rattle.plan_psplib.specs.declared.text.fault.Fault.{Fault};
 ghost use Rattle.plan_psplib.specs.declared.text.fault.ReadError.TheVariants as errors;
 ghost use Rattle.plan_psplib.specs.Lines.{lines};
-ghost use Rattle.plan_psplib.specs.Reading.{Gives};
+ghost use Rattle.plan_psplib.specs.Tokens.{Gives};
 ghost use Rattle.plan_orlib.specs.Instances as spec;
-ghost use Rattle.plan_orlib.specs.Reading as reading;
+ghost use Rattle.plan_orlib.specs.ShopText as reading;
 
 use crate::instances::{instance_name, is_bare};
 use plan_psplib::{FileFault, Lines, ReadError, check_text};
@@ -34,14 +34,11 @@ pub fn names(alloc: Global, text: &[u8]) -> Result<Vec<Vec<u8>>, FileFault>
     ensures early { (f : Fault) → plain text.now ≡ Err f →
         MatchResult result (λ _. ⊥) (TellsError (errors.Fault f)) }
 {
-    match checked_names(alloc, text) {
-        Ok(names) => Ok(names),
-        Err(error) => Err(FileFault::of(alloc, error)),
-    }
+    checked_names(alloc, text).map_err(|error| FileFault::of(alloc, error))
 }
 
 // The names of a text, or the first check that fails.
-#[tactic(auto, unfolding(crate::specs::Reading::names))]
+#[tactic(auto, unfolding(crate::specs::ShopText::names))]
 fn checked_names(alloc: Global, text: &[u8]) -> Result<Vec<Vec<u8>>, ReadError>
     ensures exact { Gives (λ names. map (λ name. name.items) names.items) result
         (reading.names text.now) }

@@ -5,7 +5,7 @@ use Rattle.plan_psplib.specs.declared.text.fault.Fault.{Fault}
 use Rattle.plan_psplib.specs.declared.text.fault.FileFault.{FileFault}
 use Rattle.plan_psplib.specs.Lines.{last_line}
 use Rattle.plan_psplib.specs.Streams.{Stream}
-use Rattle.plan_psplib.specs.Reading.{◌>>=◌, fault, check, number_at, limited_at, duration_at}
+use Rattle.plan_psplib.specs.Tokens.{◌>>=◌, fault, check, number_at, limited_at, duration_at}
 use Rattle.plan_psplib.specs.Plain.{plain}
 use Rattle.plan_orlib.specs.declared.steps.Step.{Step}
 use Rattle.plan_orlib.specs.Instances.{stream_of, names_of}

@@ -1,8 +1,8 @@
 //! Numbers of a stream, or the first fault.
 
 ghost use Rattle.std.specs.Prelude.{◌+◌, IfOk, ◌≤◌};
-ghost use Rattle.plan_psplib.specs.Reading as spec;
-ghost use Rattle.plan_psplib.specs.Reading.{Reads, line_number, number_at, expect_at, within_at, limited_at, duration_at, end_at};
+ghost use Rattle.plan_psplib.specs.Tokens as spec;
+ghost use Rattle.plan_psplib.specs.Tokens.{Reads, line_number, number_at, expect_at, within_at, limited_at, duration_at, end_at};
 
 use crate::text::fault::{Fault, FileCode};
 use crate::text::numbers::number;
@@ -17,7 +17,7 @@ pub struct LineNumber {
 }
 
 /// The next word, which is to be a number: `BadNumber` where it is none, `Count` where no word is left.
-#[tactic(auto, unfolding(crate::specs::Reading::number_at))]
+#[tactic(auto, unfolding(crate::specs::Tokens::number_at))]
 pub fn next_number<L: Layout>(words: &mut StreamWords<'_, L>) -> Result<LineNumber, Fault>
     ensures { Reads (λ n. (line_number n, words.new)) result (number_at words.old) }
 {
@@ -34,7 +34,7 @@ pub fn next_number<L: Layout>(words: &mut StreamWords<'_, L>) -> Result<LineNumb
 }
 
 /// The next word, which is to be this number, or else the fault is the one named.
-#[tactic(auto, unfolding(crate::specs::Reading::expect_at))]
+#[tactic(auto, unfolding(crate::specs::Tokens::expect_at))]
 pub fn expect<L: Layout>(
     words: &mut StreamWords<'_, L>,
     wanted: u64,
@@ -50,7 +50,7 @@ pub fn expect<L: Layout>(
 }
 
 /// The next word, which is to be a number up to a limit: `Limit` where it is beyond.
-#[tactic(auto, unfolding(crate::specs::Reading::within_at))]
+#[tactic(auto, unfolding(crate::specs::Tokens::within_at))]
 pub fn within<L: Layout>(words: &mut StreamWords<'_, L>, limit: u64) -> Result<u64, Fault>
     ensures exact { Reads (λ n. (n, words.new)) result (within_at limit words.old) }
     ensures within { IfOk result (λ n. n ≤ limit) }
@@ -63,7 +63,7 @@ pub fn within<L: Layout>(words: &mut StreamWords<'_, L>, limit: u64) -> Result<u
 }
 
 // A value from `least` to `most`: `Limit` where it is outside.
-#[tactic(auto, unfolding(crate::specs::Reading::limited))]
+#[tactic(auto, unfolding(crate::specs::Tokens::limited))]
 pub fn limited(value: LineNumber, least: u32, most: u32) -> Result<u32, Fault>
     ensures exact { Reads (λ n. n) result (spec.limited least most (line_number value)) }
     ensures least { IfOk result (λ n. least ≤ n) }
@@ -77,7 +77,7 @@ pub fn limited(value: LineNumber, least: u32, most: u32) -> Result<u32, Fault>
 
 /// The next word, which is to be a number from `least` to `most`, both included: `BadNumber` (F6) where it is no number, `Limit`
 /// (F10) where it is outside, each in its own line; `Count` (F9) where no word is left, in the line of the last word.
-#[tactic(auto, unfolding(crate::specs::Reading::limited_at))]
+#[tactic(auto, unfolding(crate::specs::Tokens::limited_at))]
 pub fn next_limited<L: Layout>(
     words: &mut StreamWords<'_, L>,
     least: u32,
@@ -94,7 +94,7 @@ pub fn next_limited<L: Layout>(
 /// The next word, which is to be a duration in time units, where those before it add up to `total`: `BadNumber` (F6) where it is no
 /// number, `Limit` (F10) where it is above 10,000 or where all of them add up to more than 1,000,000 with it, each in its own line;
 /// `Count` (F9) where no word is left, in the line of the last word.
-#[tactic(auto, unfolding(crate::specs::Reading::duration_at))]
+#[tactic(auto, unfolding(crate::specs::Tokens::duration_at))]
 pub fn next_duration<L: Layout>(words: &mut StreamWords<'_, L>, total: u64) -> Result<u64, Fault>
     ensures exact { Reads (λ n. (n, words.new)) result (duration_at total words.old) }
     ensures fits { IfOk result (λ n. total + n ≤ LONGEST_SUM) }
@@ -107,7 +107,7 @@ pub fn next_duration<L: Layout>(words: &mut StreamWords<'_, L>, total: u64) -> R
 }
 
 /// That no word is left: `Count` at the next word else.
-#[tactic(auto, unfolding(crate::specs::Reading::end_at))]
+#[tactic(auto, unfolding(crate::specs::Tokens::end_at))]
 pub fn end<L: Layout>(words: &mut StreamWords<'_, L>) -> Result<(), Fault>
     ensures { Reads (λ _. tt) result (end_at words.old) }
 {
