@@ -13,7 +13,7 @@ ghost use Rattle.plan_psplib.specs.Project as spec;
 
 use crate::sm::document::{Document, read_document};
 use crate::text::{FileCode, FileFault, ReadError};
-use plan_net::{LONGEST_LAG, NetFault, Network, index_of};
+use plan_net::{LONGEST_LAG, NetFault, Network};
 use std::alloc::Global;
 use std::marker::Model;
 
@@ -61,7 +61,7 @@ impl ProjectDoc {
         ensures row { slice_get self.now.needs (activity - 1) ≡ Some result.now }
         ensures amounts { spec.AreAmounts (length self.now.available) result.now }
     {
-        &self.needs[index_of(activity)]
+        &self.needs[activity as usize - 1]
     }
 
     /// How much there is of each resource.
@@ -111,8 +111,10 @@ pub fn read_sm(alloc: Global, text: &[u8]) -> Result<ProjectDoc, FileFault>
     ensures early { (f : Fault) → opened text.now ≡ Err f →
         MatchResult result (λ _. ⊥) (TellsError (errors.Fault f)) }
 {
-    let document = read_document(alloc, text).map_err(|error| FileFault::of(alloc, error))?;
-    project_of(alloc, document)
+    match read_document(alloc, text) {
+        Ok(document) => project_of(alloc, document),
+        Err(error) => Err(FileFault::of(alloc, error)),
+    }
 }
 
 // The project of a document that some text says, unless its arcs have a cycle.
@@ -130,13 +132,14 @@ fn project_of(alloc: Global, document: Document) -> Result<ProjectDoc, FileFault
         available,
         precedence_line,
     } = document;
-    let network = Network::of_rows(alloc, requests.durations, &rows)
-        .map_err(|fault| refusal(alloc, fault, precedence_line))?;
-    Ok(ProjectDoc {
-        network,
-        needs: requests.needs,
-        avail: available,
-    })
+    match Network::of_rows(alloc, requests.durations, &rows) {
+        Ok(network) => Ok(ProjectDoc {
+            network,
+            needs: requests.needs,
+            avail: available,
+        }),
+        Err(fault) => Err(refusal(alloc, fault, precedence_line)),
+    }
 }
 
 // What a text is refused for whose network is refused for a cycle, or for want of memory.
