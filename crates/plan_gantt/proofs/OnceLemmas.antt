@@ -1,4 +1,4 @@
--- Of each of these texts there is only one, and no text where there is a line that tells why not.
+-- Of each of these texts there is only one, and no text if there is a line that tells why not.
 use Rattle.std.proofs.Common.{ℕ, ◌≡◌, inl, inr, List, ◌++◌, refl, sym, ◌∙◌, ap, subst, arith}
 use Rattle.plan_net.specs.Network.{Net}
 use Rattle.plan_cpm.specs.Dates.{DateTable}
@@ -93,7 +93,7 @@ pub schedule_refusal_once : (name : List ℕ) (i : Planned) (x y : List ℕ) →
 schedule_refusal_once name i x y (f, first, is_x) (g, second, is_y) =
     is_x ∙ ap schedule_fault_text_of (refused_once name i f g first second) ∙ sym is_y
 
--- and none where there is a schedule by the rule of that name
+-- and none if there is a schedule by the rule of that name
 pub schedule_refusal_apart : (name : List ℕ) (i : Planned) (line text : List ℕ) → IsScheduleTextOf name i text → TellsRefusal name i line → ⊥
 schedule_refusal_apart name i line text (r, named, table) (f, inl first, is) =
     fit_not_refused i f (feasible_fits (problem_of i) table.starts table.schedule.active.feasible) first

@@ -127,7 +127,7 @@ fn push_activity(
 }
 
 /// The Gantt chart of a schedule: the unit, which is how many instants a cell has, and a line of cells for each activity, with
-/// `#` where some instant of the cell lies in its interval. The start at place `k` is that of activity `k + 1`.
+/// `#` if some instant of the cell lies in its interval. The start at place `k` is that of activity `k + 1`.
 pub fn chart(
     alloc: Global,
     network: &Network,

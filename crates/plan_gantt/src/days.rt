@@ -107,8 +107,8 @@ fn push_line(
 }
 
 /// The working days of a schedule: a line for each activity with the days of the first and of the last instant at which it goes
-/// on, or hyphens where it takes no time. The start at place `k` is that of activity `k + 1`. Refused with
-/// [`DaysFault::BeyondCalendar`] where one of these days would come after 9999-12-31.
+/// on, or hyphens if it takes no time. The start at place `k` is that of activity `k + 1`. Refused with
+/// [`DaysFault::BeyondCalendar`] if one of these days would come after 9999-12-31.
 pub fn calendar_table(
     alloc: Global,
     network: &Network,

@@ -60,7 +60,7 @@ fn machine_intervals(
 }
 
 /// The Gantt chart of a shop's schedule: the unit, which is how many instants a cell has, and a line of cells for each machine, with
-/// `#` where some instant of the cell lies in the interval of a step on it. The start at place `x` is that of flat step `x`.
+/// `#` if some instant of the cell lies in the interval of a step on it. The start at place `x` is that of flat step `x`.
 pub fn shop_chart(
     alloc: Global,
     shop: &Shop,

@@ -47,8 +47,8 @@ fn push_line(
 }
 
 /// The working days of a shop's schedule: a line for each step in flat order with its job and its number in the job, and the days of
-/// the first and of the last instant at which it goes on, or hyphens where it takes no time. The start at place `x` is that of flat
-/// step `x`. Refused with [`DaysFault::BeyondCalendar`] where one of these days would come after 9999-12-31.
+/// the first and of the last instant at which it goes on, or hyphens if it takes no time. The start at place `x` is that of flat
+/// step `x`. Returns the error [`DaysFault::BeyondCalendar`] if one of these days would come after 9999-12-31.
 pub fn shop_calendar_table(
     alloc: Global,
     shop: &Shop,

@@ -112,7 +112,7 @@ impl Arcs {
         })
     }
 
-    /// How many activities there are.
+    /// Returns the number of activities.
     pub fn len(&self) -> usize
         ensures count { result ≡ count_of self.now }
         ensures limits { IsWithinLimits self.now }

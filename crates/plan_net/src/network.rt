@@ -57,7 +57,7 @@ impl Network {
     ///
     /// The duration at place `k` is that of activity `k + 1`; an arc is the pair of its ends. The faults are
     /// looked for in this order: [`NetFault::Size`], [`NetFault::BadDuration`], [`NetFault::BadArc`],
-    /// [`NetFault::DoubleArc`], [`NetFault::Cycle`]; [`NetFault::NoMemory`] may come in place of any answer.
+    /// [`NetFault::DoubleArc`], [`NetFault::Cycle`]; [`NetFault::NoMemory`] can replace any result.
     pub fn new(alloc: Global, durations: Vec<u64>, arcs: Vec<(u32, u32)>) -> Result<Self, NetFault>
         ensures accepted { IfOk result (λ net. (net ≡ unlagged durations.items arcs.items)
             × IsSound net) }
@@ -70,7 +70,7 @@ impl Network {
     }
 
     /// The network of these durations and rows of successors, all lags 0: the row at place `k` has the
-    /// successors of activity `k + 1`. The arcs are those of the rows, one row behind another.
+    /// successors of activity `k + 1`. The arcs are those of the rows, one row after another.
     ///
     /// The limits are the caller's, so it is refused with [`NetFault::Cycle`] alone, or with
     /// [`NetFault::NoMemory`] in place of any answer.
@@ -146,7 +146,7 @@ impl Network {
         self.order.as_slice()
     }
 
-    /// The lag of the arc from `i` to `j`; `None` where there is no such arc.
+    /// The lag of the arc from `i` to `j`; `None` if there is no such arc.
     pub fn lag(&self, i: u32, j: u32) -> Option<u64>
         ensures some { IfSome result (λ w. IsArc self.now i j × (w ≡ lag_of self.now i j)) }
         ensures none { IfNone result (IsArc self.now i j → ⊥) }
@@ -177,9 +177,9 @@ impl Network {
         self.arcs.lags_into(j)
     }
 
-    /// Gives the arc from `i` to `j` the lag. Takes no memory.
+    /// Gives the arc from `i` to `j` the lag. Allocates nothing.
     ///
-    /// Refused with [`NetFault::NoArc`] where there is no such arc, then with [`NetFault::BadLag`] where the lag
+    /// Returns the error [`NetFault::NoArc`] if there is no such arc, then [`NetFault::BadLag`] if the lag
     /// is above 10,000.
     pub fn set_lag(&mut self, i: u32, j: u32, lag: u64) -> Result<(), NetFault>
         ensures sound { IsSound self.new }

@@ -31,7 +31,7 @@ names_fail text (errors.Fault f) fails = by_text (plain text) fails
     by_text (Ok u) e = absurd (cc)
     by_text (Err g) e = cc
 
--- of a text that is fit to be read, names aren't given for want of memory alone
+-- of a text that is fit to be read, names aren't given because memory ran out alone
 pub names_only : (text : List ℕ) (e : ReadError) (fault : FileFault) → plain text ≡ Ok tt → Fails e (names text) → TellsError e fault → IsWantOfMemory fault
 names_only text errors.Memory fault good fails tells = tells
 names_only text (errors.Fault f) fault good fails tells = let no : Err f ≡ Ok tt = sym (names_fail text (errors.Fault f) fails) ∙ good in absurd (cc)

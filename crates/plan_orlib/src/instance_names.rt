@@ -16,7 +16,7 @@ use plan_psplib::{FileFault, Lines, ReadError, check_text};
 use std::alloc::{AllocError, Global};
 
 /// The names of all instances of a text, in order, those that come twice included; `-` for the one of
-/// the bare form. `TooLong` (F1, line 0) and `NotText` (F2) are the only faults; want of memory may come
+/// the bare form. `TooLong` (F1, line 0) and `NotText` (F2) are the only faults; out of memory may come
 /// in place of any answer.
 ///
 /// The format is that of `jobshop1` (J. E. Beasley, "OR-Library: distributing test problems by

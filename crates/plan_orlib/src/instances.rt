@@ -143,7 +143,7 @@ fn block_words(instance: u64, behind: Lines<'_>) -> StreamWords<'_, Block>
     StreamWords::new(instance, lines)
 }
 
-// Goes behind the description of a block; leaves no line where the block has none.
+// Goes behind the description of a block; leaves no line if the block has none.
 fn skip_description(lines: &mut Lines<'_>)
     ensures { spec.block_lines lines.new ≡ spec.behind_description (spec.block_lines lines.old) }
 {

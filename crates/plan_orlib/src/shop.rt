@@ -21,7 +21,7 @@ use std::marker::Model;
 
 /// A job shop: how many machines it has, and the steps of each job in their order. Jobs are numbered
 /// from 1, machines from 0. Each job has as many steps as there are machines, so that the steps of all
-/// jobs, one job behind another, are numbered by job and place with no gap.
+/// jobs, one job after another, are numbered by job and place with no gap.
 #[derive(Drop)]
 pub struct ShopDoc {
     machines: u32,
@@ -44,7 +44,7 @@ impl Model for ShopDoc {
 }
 
 impl ShopDoc {
-    /// How many machines there are.
+    /// Returns the number of machines.
     pub fn machines(&self) -> u32
         ensures value { result ≡ self.now.machines }
         ensures shop { spec.IsShop self.now }
@@ -52,7 +52,7 @@ impl ShopDoc {
         self.machines
     }
 
-    /// How many jobs there are.
+    /// Returns the number of jobs.
     pub fn jobs(&self) -> u32
         ensures value { result ≡ length self.now.jobs }
         ensures shop { spec.IsShop self.now }
@@ -70,7 +70,7 @@ impl ShopDoc {
         &self.jobs[job as usize - 1]
     }
 
-    /// How many machines there are, and the steps of each job.
+    /// Returns the number of machines, and the steps of each job.
     pub fn into_parts(self) -> (u32, Vec<Vec<Step>>)
         ensures machines { result.0 ≡ self.machines }
         ensures jobs { map (λ job. job.items) result.1.items ≡ self.jobs }
@@ -85,8 +85,8 @@ impl ShopDoc {
 /// line 0), `NotText` (F2, the line of the first zero byte), `NoInstance` (F13, the last line), and then
 /// word by word `BadNumber` (F6), `Limit` (F10: 1 to 50 jobs, 1 to 20 machines, a time up to 10,000
 /// units, all times together up to 1,000,000), `BadMachine` (F14) and `Count` (F9: a word is missing;
-/// the line of the last word, or of the instance line where there is none). Words behind the last step
-/// are skipped. Want of memory may come in place of any answer but a refusal before the words are read.
+/// the line of the last word, or of the instance line if there is none). Words behind the last step
+/// are skipped. Out of memory can replace any result but a refusal before the words are read.
 ///
 /// The format is that of `jobshop1` (J. E. Beasley, "OR-Library: distributing test problems by
 /// electronic mail", Journal of the Operational Research Society 41, 1990).

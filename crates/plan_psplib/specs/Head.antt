@@ -72,7 +72,7 @@ abbrev pub value_of : ℕ → Option (List ℕ) → Result LineNumber Fault
 value_of line None = fault code.BadNumber line
 value_of line (Some word) = value_of_word line (number word)
 
--- the value of a key, which is to be a number
+-- the value of a key, which must be a number
 abbrev pub key_value : NumberedLine → Result LineNumber Fault
 key_value line = value_of line.number (value_word line.text)
 

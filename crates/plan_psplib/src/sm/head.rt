@@ -82,7 +82,7 @@ fn note<'a>(first: &mut Option<Line<'a>>, key: &[u8], line: Line<'a>)
     }
 }
 
-// The lines of the keys, each of which is to be there.
+// The lines of the keys, each of which must be there.
 #[tactic(auto, unfolding(crate::specs::Head::found_lines))]
 fn found_lines(lines: Keys<Option<Line<'_>>>, last: u64) -> Result<Keys<Line<'_>>, Fault>
     ensures { Reads (spec.keys_by spec.numbered_line) result
@@ -119,7 +119,7 @@ fn values(lines: Keys<Line<'_>>) -> Result<Keys<LineNumber>, Fault>
     })
 }
 
-// The value of a key, which is to be a number.
+// The value of a key, which must be a number.
 fn key_value(line: Line<'_>) -> Result<LineNumber, Fault>
     ensures { Reads line_number result (spec.key_value (spec.numbered_line line.entry)) }
 {

@@ -112,7 +112,7 @@ fn mark(marks: &mut [bool], job: usize) -> bool
     was
 }
 
-// The next word, which is to be a job.
+// The next word, which must be a job.
 #[tactic(auto, unfolding(crate::specs::Precedence::job_at))]
 fn next_job(words: &mut StreamWords<'_, Section>, jobs: u32) -> Result<LineNumber, Fault>
     ensures exact { Reads (λ job. (line_number job, words.new)) result

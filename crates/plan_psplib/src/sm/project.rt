@@ -74,7 +74,7 @@ impl ProjectDoc {
     /// Changes the lag of an arc: the second activity then starts at least so many time units after the first has finished. Takes no
     /// memory.
     ///
-    /// Refused with [`NetFault::NoArc`] where there is no such arc, then with [`NetFault::BadLag`] where the lag is above 10,000.
+    /// Returns the error [`NetFault::NoArc`] if there is no such arc, then [`NetFault::BadLag`] if the lag is above 10,000.
     pub fn set_lag(&mut self, first: u32, second: u32, lag: u64) -> Result<(), NetFault>
         ensures ok { OnOk result (IsArc self.old.network first second × (lag ≤ LONGEST_LAG) ×
             (self.new ≡ spec.with_project_lag self.old first second lag)) }
@@ -95,8 +95,8 @@ impl ProjectDoc {
     }
 }
 
-/// Reads an `.sm` text: the project that it gives, or the first check that it fails, with its line. Want
-/// of memory may come in place of any answer but a refusal before the first section is read.
+/// Reads an `.sm` text: the project that it gives, or the first check that it fails, with its line. Out
+/// of memory can replace any result but a refusal before the first section is read.
 pub fn read_sm(alloc: Global, text: &[u8]) -> Result<ProjectDoc, FileFault>
     // What is read is what the text says, and it has no cycle.
     ensures found { IfOk result (spec.SaysProject text.now) }
@@ -142,7 +142,7 @@ fn project_of(alloc: Global, document: Document) -> Result<ProjectDoc, FileFault
     }
 }
 
-// What a text is refused for whose network is refused for a cycle, or for want of memory.
+// The error of a text whose network has a cycle, or whose memory ran out.
 fn refusal(alloc: Global, fault: NetFault, precedence_line: u64) -> FileFault
     requires { IsCycleOrMemory fault }
     ensures { spec.TellsOf fault precedence_line result }
