@@ -20,7 +20,7 @@ pub enum FileCode {
     Unsupported,
     /// F5: the title of a section isn't found.
     MissingSection,
-    /// F6: a number is due, and what stands there is none.
+    /// F6: a number was expected, and the token is not one.
     BadNumber,
     /// F7: a job number that isn't the one due, or is no job.
     JobOrder,

@@ -7,12 +7,12 @@ use crate::text::lines::{Line, Lines};
 use crate::text::words::Words;
 use std::marker::{Model, PhantomData};
 
-/// Which lines give a stream its words.
+/// Selects the lines of a stream.
 pub trait Layout {
-    /// The lines that count.
+    /// The lines that count, as a test on their bytes.
     ghost takes: { List ℕ → Bool };
 
-    /// Of the lines that count, those before which the stream ends.
+    /// The lines that count and end the stream before them, as a test on their bytes.
     ghost ends: { List ℕ → Bool };
 
     /// Whether a line counts.
