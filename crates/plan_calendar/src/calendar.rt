@@ -37,7 +37,7 @@ pub struct Calendar {
     marks: [bool; 7],
 }
 
-// The date so many days later, where there is one.
+// The date so many days later, if there is one.
 fn later(start: Date, days: u64) -> Option<Date>
     requires { days ≤ MOST_DAYS * 7 + 6 }
     ensures some { IfSome result (λ date. epoch_day date ≡ epoch_day start +ℤ pos days) }
@@ -62,7 +62,7 @@ impl Model for Calendar {
 
 impl Calendar {
     /// The calendar with this first date, ten bytes `YYYY-MM-DD` from 1900-01-01 to 2199-12-31, and these marks, a byte `0` or
-    /// `1` for each weekday, Monday first, of which one is `1`. Where both are bad the date is refused. Takes no memory.
+    /// `1` for each weekday, Monday first, of which one is `1`. If both are bad, the date is rejected. Allocates nothing.
     pub fn new(start: &str, marks: &str) -> Result<Calendar, CalendarFault>
         ensures ok { IfOk result (IsCalendar start.now marks.now) }
         ensures refused { IfErr result (RefusesTexts start.now marks.now) }
@@ -77,7 +77,7 @@ impl Calendar {
     }
 
     /// The date on which instant `t` falls: of the dates from the first on whose weekday is marked, the one with exactly `t`
-    /// before it. Takes no memory, and a far instant takes no longer than a near one.
+    /// before it. Allocates nothing, and a far instant takes no longer than a near one.
     pub fn day(&self, t: u64) -> Result<Date, CalendarFault>
         ensures day { IfOk result (IsWorkingDay self.now t) }
         ensures beyond { IfErr result (λ fault. (fault ≡ BeyondCalendar) × IsBeyond self.now t) }

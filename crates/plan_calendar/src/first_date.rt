@@ -36,9 +36,11 @@ fn two_digits(tens: u8, ones: u8) -> Option<u64>
 
 // The parts of ten bytes that are written YYYY-MM-DD.
 fn date_parts(text: &[u8]) -> Option<DateParts>
-    ensures bound { IfSome result (λ parts. (parts.year < 10000) × (parts.month < 100) × (parts.day < 100)) }
+    ensures bound { IfSome result (λ parts. (parts.year < 10000) × (parts.month < 100) ×
+        (parts.day < 100)) }
     ensures some { IfSome result (λ parts. text.now ≡ date_bytes parts.year parts.month parts.day) }
-    ensures none { IfNone result ((year month day : ℕ) → year < 10000 → month < 100 → day < 100 → text.now ≡ date_bytes year month day → ⊥) }
+    ensures none { IfNone result ((year month day : ℕ) → year < 10000 → month < 100 → day < 100 →
+        text.now ≡ date_bytes year month day → ⊥) }
 {
     if text.len() != 10 {
         return None;
@@ -65,8 +67,10 @@ fn date_of(year: u64, month: u64, day: u64) -> Option<Date>
     requires year { year < 10000 }
     requires month { month < 100 }
     requires day { day < 100 }
-    ensures some { IfSome result (λ date. (date.year ≡ pos year) × (date.month ≡ month) × (date.day ≡ day)) }
-    ensures none { IfNone result ((date : PlainDate) → date.year ≡ pos year → date.month ≡ month → date.day ≡ day → ⊥) }
+    ensures some { IfSome result (λ date. (date.year ≡ pos year) × (date.month ≡ month) ×
+        (date.day ≡ day)) }
+    ensures none { IfNone result ((date : PlainDate) → date.year ≡ pos year → date.month ≡ month →
+        date.day ≡ day → ⊥) }
 {
     match Date::new(year as i16, month as i8, day as i8) {
         Ok(date) => Some(date),

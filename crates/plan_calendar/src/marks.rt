@@ -7,7 +7,8 @@ ghost use Rattle.plan_calendar.specs.CalendarText.{IsMarkDigit, IsMarksText, Has
 // Whether each byte is a digit of a mark.
 fn are_mark_digits(bytes: &[u8]) -> bool
     ensures all { OnTrue result (EachIndex bytes.now (λ k. IsMarkDigit (slice_index bytes.now k))) }
-    ensures other { result ≡ false → SomeIndex bytes.now (λ k. IsMarkDigit (slice_index bytes.now k) → ⊥) }
+    ensures other { result ≡ false → SomeIndex bytes.now (λ k.
+        IsMarkDigit (slice_index bytes.now k) → ⊥) }
 {
     'all: for k in 0..bytes.len() {
         if bytes[k] != b'0' {

@@ -10,12 +10,12 @@ use Rattle.plan_psplib.specs.declared.text.fault.FileFault.{FileFault}
 use Rattle.plan_psplib.specs.Faults.{IsWantOfMemory}
 use Rattle.plan_psplib.specs.Document.{Document, document}
 use Rattle.plan_psplib.specs.Plain.{longest_text, plain}
-use Rattle.plan_psplib.specs.Reading.{fault}
+use Rattle.plan_psplib.specs.Tokens.{fault}
 use Rattle.plan_psplib.specs.Says.{Says}
 use Rattle.plan_psplib.specs.Project.{Project, SaysProject, IsFirstFailing}
 use Rattle.plan_orlib.specs.Shop as docs
 use Rattle.plan_orlib.specs.Says.{Says as ShopSays}
-use Rattle.plan_orlib.specs.Reading as reading
+use Rattle.plan_orlib.specs.ShopText as reading
 use Rattle.plan_gantt.specs.FirstFaults.{TellsFirstFailing, TellsFirstShopFault}
 use Rattle.plan_cli.specs.ChartRun.{IsChartOf, IsShopChartOf}
 use Rattle.plan_cli.specs.DaysRun.{IsDaysOf, IsShopDaysOf, TellsWhyNoDays, TellsWhyNoShopDays}

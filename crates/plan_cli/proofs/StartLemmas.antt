@@ -11,7 +11,7 @@ use Rattle.plan_psplib.specs.Plain.{plain}
 use Rattle.plan_psplib.specs.Faults.{TellsError}
 use Rattle.plan_psplib.specs.Lines.{NumberedLine}
 use Rattle.plan_psplib.specs.Streams.{Stream, rows}
-use Rattle.plan_psplib.specs.Reading.{◌>>=◌, Fails, within_at, end_at}
+use Rattle.plan_psplib.specs.Tokens.{◌>>=◌, Fails, within_at, end_at}
 use Rattle.plan_psplib.proofs.GoesLemmas.{Goes, goes_append, goes_spells, spells_goes, then_ok, ok_bind, same_ok, within_goes, goes_within, end_none, none_end}
 use Rattle.plan_psplib.proofs.LoopLemmas.{goes_on, fails, is_done}
 use Rattle.plan_orlib.proofs.BlockLemmas as blocks

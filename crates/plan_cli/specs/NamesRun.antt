@@ -4,7 +4,7 @@ use Rattle.std.specs.List.{flat_map}
 use Rattle.plan_psplib.specs.Plain.{plain}
 use Rattle.plan_psplib.specs.declared.text.fault.FileFault.{FileFault}
 use Rattle.plan_orlib.specs.Instances.{names_of}
-use Rattle.plan_orlib.specs.Reading.{FailsWith}
+use Rattle.plan_orlib.specs.ShopText.{FailsWith}
 use Rattle.plan_gantt.specs.FaultText.{file_fault_text_of}
 
 -- names as text: a line for each

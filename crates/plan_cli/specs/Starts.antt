@@ -7,8 +7,8 @@ use Rattle.plan_psplib.specs.Plain.{plain}
 use Rattle.plan_psplib.specs.Lines.{lines}
 use Rattle.plan_psplib.specs.Streams.{Stream, words_of}
 use Rattle.plan_psplib.specs.Says.{Spells}
-use Rattle.plan_psplib.specs.Reading.{◌>>=◌, within_at, end_at}
-use Rattle.plan_orlib.specs.Reading.{FailsWith}
+use Rattle.plan_psplib.specs.Tokens.{◌>>=◌, within_at, end_at}
+use Rattle.plan_orlib.specs.ShopText.{FailsWith}
 use Rattle.plan_gantt.specs.Limits.{latest_start}
 use Rattle.plan_gantt.specs.FaultText.{file_fault_text_of}
 

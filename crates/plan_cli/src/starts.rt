@@ -1,7 +1,7 @@
 //! A text of starts: one number a word, a start for each activity.
 
 ghost use Rattle.std.specs.Prelude.{◌≡◌, ℕ, List, [], true, false, IfOk, IfErr, MatchResult, string_bytes};
-ghost use Rattle.plan_psplib.specs.Reading.{Gives};
+ghost use Rattle.plan_psplib.specs.Tokens.{Gives};
 ghost use Rattle.plan_cli.specs.Run.{Refuses};
 ghost use Rattle.plan_cli.specs.Starts as spec;
 ghost use Rattle.plan_cli.specs.declared.fault.CliFault.TheVariants.{Memory};

@@ -19,7 +19,7 @@ use Rattle.plan_cpm.proofs.DateLemmas.{duration_greatest, AreDates-from_parts}
 
 -- ---- the greatest and the least over arcs
 
--- w is the greatest of f on the arcs with P, 0 where there is none
+-- w is the greatest of f on the arcs with P, 0 if there is none
 record IsMost (P : ℕ × ℕ → Type 0) (f : ℕ × ℕ → ℕ) (arcs : List (ℕ × ℕ)) (w : ℕ) : Type 0 where
   above : (arc : ℕ × ℕ) → Contains arcs arc → P arc → f arc ≤ w
   reached : (w ≡ 0) ⊎ ((arc : ℕ × ℕ) × Contains arcs arc × P arc × (w ≡ f arc))

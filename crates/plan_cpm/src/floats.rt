@@ -94,8 +94,10 @@ pub fn dates(alloc: Global, network: &Network) -> Result<Dates, AllocError>
     ensures dates { IfOk result (AreDates network.now) }
     ensures recurrences { IfOk result (KeepRecurrences network.now) }
     ensures tails { IfOk result (LeavesTails network.now) }
-    ensures bound { IfOk result (λ made. made.duration ≤ sum network.now.durations + LONGEST_LAG * (count_of network.now - 1)) }
-    ensures bound_without_lags { IfOk result (λ made. HasNoLag network.now → made.duration ≤ sum network.now.durations) }
+    ensures bound { IfOk result (λ made. made.duration ≤ sum network.now.durations + LONGEST_LAG *
+        (count_of network.now - 1)) }
+    ensures bound_without_lags { IfOk result (λ made. HasNoLag network.now →
+        made.duration ≤ sum network.now.durations) }
 {
     // the network's facts, on which the proof rests
     let _count = network.len();

@@ -15,8 +15,10 @@ fn last_before(network: &Network, j: u32, finishes: &[u64]) -> u64
     requires activity { IsActivity network.now j }
     requires whole { length finishes.now ≡ count_of network.now }
     requires limit { EachIndex finishes.now (λ k. slice_index finishes.now k ≤ FARTHEST) }
-    ensures above { (i : ℕ) → IsArc network.now i j → slice_index finishes.now (i - 1) + lag_of network.now i j ≤ result }
-    ensures reached { (result ≡ 0) ⊎ ((i : ℕ) × IsArc network.now i j × (result ≡ slice_index finishes.now (i - 1) + lag_of network.now i j)) }
+    ensures above { (i : ℕ) → IsArc network.now i j →
+        slice_index finishes.now (i - 1) + lag_of network.now i j ≤ result }
+    ensures reached { (result ≡ 0) ⊎ ((i : ℕ) × IsArc network.now i j
+        × (result ≡ slice_index finishes.now (i - 1) + lag_of network.now i j)) }
 {
     let lags = network.lags_into(j);
     let mut latest = 0u64;

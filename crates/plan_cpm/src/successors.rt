@@ -13,9 +13,12 @@ use std::alloc::{AllocError, Global};
 fn unite(row: &mut Vec<bool>, other: &[bool])
     requires { length row.old.items ≡ length other.now }
     ensures whole { length row.new.items ≡ length row.old.items }
-    ensures kept { (k : ℕ) → slice_index_or row.old.items k false ≡ true → slice_index_or row.new.items k false ≡ true }
-    ensures added { (k : ℕ) → slice_index_or other.now k false ≡ true → slice_index_or row.new.items k false ≡ true }
-    ensures alone { (k : ℕ) → slice_index_or row.new.items k false ≡ true → (slice_index_or row.old.items k false ≡ true) ⊎ (slice_index_or other.now k false ≡ true) }
+    ensures kept { (k : ℕ) → slice_index_or row.old.items k false ≡ true →
+        slice_index_or row.new.items k false ≡ true }
+    ensures added { (k : ℕ) → slice_index_or other.now k false ≡ true →
+        slice_index_or row.new.items k false ≡ true }
+    ensures alone { (k : ℕ) → slice_index_or row.new.items k false ≡ true →
+        (slice_index_or row.old.items k false ≡ true) ⊎ (slice_index_or other.now k false ≡ true) }
 {
     'marks: for (k, &more) in other.iter().enumerate() {
         if more {

@@ -3,6 +3,7 @@
 ghost use Rattle.std.specs.Prelude.{◌≡◌, ◌↔◌, IsTrue};
 ghost use Rattle.plan_cpm.specs.Dates.{IsConsistent, IsDated, early_start_of, early_finish_of, late_start_of, late_finish_of, total_float_of, free_float_of};
 
+use plan_net::index_of;
 use std::marker::Model;
 
 /// The dates of a network's activities, in whole time units from 0 on. Activities are numbered from 1.
@@ -35,8 +36,21 @@ impl Dates {
         tails: Vec<u64>,
         free_floats: Vec<u64>,
     ) -> Self
-        requires { IsConsistent (record { duration = duration; durations = durations.items; finishes = finishes.items; tails = tails.items; free_floats = free_floats.items }) }
-        ensures { result ≡ record { duration = duration; durations = durations.items; finishes = finishes.items; tails = tails.items; free_floats = free_floats.items } }
+        requires { IsConsistent
+            (record {
+              duration = duration;
+              durations = durations.items;
+              finishes = finishes.items;
+              tails = tails.items;
+              free_floats = free_floats.items;
+            }) }
+        ensures { result ≡ record {
+          duration = duration;
+          durations = durations.items;
+          finishes = finishes.items;
+          tails = tails.items;
+          free_floats = free_floats.items;
+        } }
     {
         Dates {
             duration,
@@ -59,7 +73,7 @@ impl Dates {
         requires { IsDated self.now j }
         ensures { result ≡ early_start_of self.now j }
     {
-        self.finishes[j as usize - 1] - self.durations[j as usize - 1]
+        self.finishes[index_of(j)] - self.durations[index_of(j)]
     }
 
     /// EF: the earliest finish of activity `j`.
@@ -67,7 +81,7 @@ impl Dates {
         requires { IsDated self.now j }
         ensures { result ≡ early_finish_of self.now j }
     {
-        self.finishes[j as usize - 1]
+        self.finishes[index_of(j)]
     }
 
     /// LS: the latest start of activity `j` that delays nothing.
@@ -75,7 +89,7 @@ impl Dates {
         requires { IsDated self.now j }
         ensures { result ≡ late_start_of self.now j }
     {
-        self.duration - self.tails[j as usize - 1]
+        self.duration - self.tails[index_of(j)]
     }
 
     /// LF: the latest finish of activity `j` that delays nothing.
@@ -83,7 +97,7 @@ impl Dates {
         requires { IsDated self.now j }
         ensures { result ≡ late_finish_of self.now j }
     {
-        self.duration - self.tails[j as usize - 1] + self.durations[j as usize - 1]
+        self.duration - self.tails[index_of(j)] + self.durations[index_of(j)]
     }
 
     /// TF: the total float of activity `j`, by which it may start later without delaying the whole.
@@ -91,7 +105,7 @@ impl Dates {
         requires { IsDated self.now j }
         ensures { result ≡ total_float_of self.now j }
     {
-        let k = j as usize - 1;
+        let k = index_of(j);
         let start = self.finishes[k] - self.durations[k];
         self.duration - self.tails[k] - start
     }
@@ -101,7 +115,7 @@ impl Dates {
         requires { IsDated self.now j }
         ensures { result ≡ free_float_of self.now j }
     {
-        self.free_floats[j as usize - 1]
+        self.free_floats[index_of(j)]
     }
 
     /// Whether activity `j` is critical: it has no total float.

@@ -6,9 +6,9 @@ use Rattle.std.specs.Str.{is_utf8, chars}
 use Rattle.sha2.specs.Sha256.{sha256}
 use Rattle.serde_json.proofs.OnLiterals.{serde_json_on_literals}
 use Rattle.plan_psplib.specs.Plain.{plain}
-use Rattle.plan_psplib.specs.Reading.{number_at, limited, limited_at, duration_at}
+use Rattle.plan_psplib.specs.Tokens.{number_at, limited, limited_at, duration_at}
 use Rattle.plan_orlib.specs.Instances.{bare_stream}
-use Rattle.plan_orlib.specs.Reading.{machine_at, step_at, steps_at, jobs_at, shop_at}
+use Rattle.plan_orlib.specs.ShopText.{machine_at, step_at, steps_at, jobs_at, shop_at}
 use Rattle.plan_orlib.specs.Shop as docs
 use Rattle.plan_orlib.specs.Says.{Says, BeginsWith, shop_numbers}
 use Rattle.plan_orlib.proofs.ShopLemmas.{shop_spelled}

@@ -19,7 +19,7 @@ use Rattle.plan_psplib.specs.Document.{Document, document}
 use Rattle.plan_psplib.specs.Plain.{plain}
 use Rattle.plan_psplib.specs.Head.{found_lines, values, sizes_in, sizes}
 use Rattle.plan_psplib.specs.Precedence.{job_at, successor_at, successors_at, precedence_row_at, precedence_rows_at, precedence}
-use Rattle.plan_psplib.specs.Reading.{number_at, expect_at, within_at, limited, limited_at, end_at, duration_at}
+use Rattle.plan_psplib.specs.Tokens.{number_at, expect_at, within_at, limited, limited_at, end_at, duration_at}
 use Rattle.plan_psplib.specs.Requests.{amounts_at, request_row_at, request_rows_at, requests, availabilities}
 use Rattle.plan_psplib.specs.Says.{Says}
 use Rattle.plan_psplib.specs.Project as files

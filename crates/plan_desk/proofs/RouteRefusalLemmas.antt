@@ -3,7 +3,7 @@ use Rattle.std.proofs.Common.{◌≡◌, ◌⊎◌, inl, inr, List, ℕ, refl, s
 use Rattle.plan_psplib.specs.declared.text.fault.FileFault.{FileFault}
 use Rattle.plan_psplib.specs.Faults.{IsWantOfMemory}
 use Rattle.plan_psplib.specs.Project.{IsFirstFailing}
-use Rattle.plan_orlib.specs.Reading.{FailsWith, shop}
+use Rattle.plan_orlib.specs.ShopText.{FailsWith, shop}
 use Rattle.plan_gantt.specs.FaultText.{file_fault_text_of}
 use Rattle.plan_rows.specs.declared.kinds.PlanKind.{PlanKind}
 use Rattle.plan_rows.specs.declared.kinds.PlanKind.TheVariants as kinds

@@ -24,7 +24,7 @@ use Rattle.plan_psplib.proofs.NetworkLemmas.{project_or_cycle}
 use Rattle.plan_psplib.proofs.SaysLemmas.{document_said}
 use Rattle.plan_orlib.specs.Instances.{stream_of}
 use Rattle.plan_orlib.specs.Shop.{Shop}
-use Rattle.plan_orlib.specs.Reading.{found_stream, shop}
+use Rattle.plan_orlib.specs.ShopText.{found_stream, shop}
 use Rattle.plan_orlib.specs.Says.{Says as SaysShop}
 use Rattle.plan_orlib.proofs.ShopLemmas.{shop_spelled}
 use Rattle.plan_orlib.proofs.TextLemmas.{stream_is}

@@ -7,7 +7,7 @@ use Rattle.serde_json.specs.Data.{Data}
 use Rattle.serde_json.specs.Read.{read}
 use Rattle.serde_json.specs.Find.{get, as_str, as_number, as_u64}
 use Rattle.plan_net.specs.Limits.{longest_lag, most_activities}
-use Rattle.plan_psplib.specs.Reading.{greatest}
+use Rattle.plan_psplib.specs.Tokens.{greatest}
 use Rattle.plan_rows.specs.declared.kinds.Kind.{Kind}
 use Rattle.plan_rows.specs.declared.kinds.Kind.TheVariants.{Crew, Machine}
 use Rattle.plan_rows.specs.World.{Text, same_text}

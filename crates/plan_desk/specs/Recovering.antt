@@ -21,7 +21,7 @@ use Rattle.plan_psplib.proofs.SaysLemmas.{document_said, said_document}
 use Rattle.plan_psplib.proofs.OnceLemmas.{never_both, document_once}
 use Rattle.plan_orlib.specs.Instances.{stream_of}
 use Rattle.plan_orlib.specs.Shop as docs
-use Rattle.plan_orlib.specs.Reading.{found_stream, shop}
+use Rattle.plan_orlib.specs.ShopText.{found_stream, shop}
 use Rattle.plan_orlib.specs.Says.{Says}
 use Rattle.plan_orlib.proofs.ShopLemmas.{shop_spelled}
 use Rattle.plan_orlib.proofs.TextLemmas.{stream_is, said_shop}

@@ -1,4 +1,4 @@
--- Texts of days, one behind another.
+-- Texts of days, one after another.
 use Rattle.std.proofs.Common.{◌≡◌, ℕ, zero, suc, ◌+◌, ◌-◌, ◌<◌, ◌⊎◌, inl, inr, List, [], ◌++◌, sym, ap, ◌∙◌, refl, subst, arith, codes}
 use mathlib.Core.List.{append_assoc}
 use Rattle.plan_gantt.specs.CalendarTable.{IsDayText, IsDaysText, IsDaysLine, AreDaysLines, IsDaysTable, ShowsBeyond}

@@ -1,4 +1,4 @@
--- Of each of these texts there is only one, and no text where there is a line that tells why not.
+-- Of each of these texts there is only one, and no text if there is a line that tells why not.
 use Rattle.std.proofs.Common.{ℕ, ◌≡◌, inl, inr, List, ◌++◌, refl, sym, ◌∙◌, ap, subst, arith}
 use Rattle.plan_net.specs.Network.{Net}
 use Rattle.plan_cpm.specs.Dates.{DateTable}
@@ -8,7 +8,7 @@ use Rattle.plan_psplib.specs.declared.text.fault.FileFault.{FileFault}
 use Rattle.plan_psplib.specs.Project.{Project, SaysProject}
 use Rattle.plan_psplib.proofs.OnceLemmas.{ReadAlike, failing_once, said_fails_none}
 use Rattle.plan_orlib.specs.Shop as docs
-use Rattle.plan_orlib.specs.Reading.{shop}
+use Rattle.plan_orlib.specs.ShopText.{shop}
 use Rattle.plan_orlib.specs.Says as shop_texts
 use Rattle.plan_orlib.proofs.OnceLemmas as shop_once
 use Rattle.plan_sgs.specs.Problem.{makespan}
@@ -93,7 +93,7 @@ pub schedule_refusal_once : (name : List ℕ) (i : Planned) (x y : List ℕ) →
 schedule_refusal_once name i x y (f, first, is_x) (g, second, is_y) =
     is_x ∙ ap schedule_fault_text_of (refused_once name i f g first second) ∙ sym is_y
 
--- and none where there is a schedule by the rule of that name
+-- and none if there is a schedule by the rule of that name
 pub schedule_refusal_apart : (name : List ℕ) (i : Planned) (line text : List ℕ) → IsScheduleTextOf name i text → TellsRefusal name i line → ⊥
 schedule_refusal_apart name i line text (r, named, table) (f, inl first, is) =
     fit_not_refused i f (feasible_fits (problem_of i) table.starts table.schedule.active.feasible) first

@@ -1,4 +1,4 @@
--- Of the best text of a project there is only one, and no text where there is a line that tells why not.
+-- Of the best text of a project there is only one, and no text if there is a line that tells why not.
 use Rattle.std.proofs.Common.{ℕ, ◌≡◌, inl, inr, List, ◌++◌, refl, sym, ◌∙◌, ap, subst, arith}
 use Rattle.plan_sgs.specs.Instances.{Planned, problem_of}
 use Rattle.plan_sgs.proofs.OnceLemmas.{feasible_fits, refusal_once, fit_not_refused}

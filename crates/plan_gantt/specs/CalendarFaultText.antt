@@ -1,9 +1,9 @@
--- The texts of what working days are refused for (docs/definitions.md, "Texts").
+-- The error lines of working days that are rejected (docs/definitions.md, "Texts").
 use Rattle.std.specs.Prelude.{ℕ, List, codes}
 use Rattle.plan_calendar.specs.declared.calendar.CalendarFault.{CalendarFault}
 use Rattle.plan_calendar.specs.declared.calendar.CalendarFault.TheVariants as fault
 
--- the text of what a calendar is refused for, or a day of it
+-- the error line of a calendar that is rejected, or a day of it
 abbrev pub calendar_fault_text_of : CalendarFault → List ℕ
 calendar_fault_text_of fault.BadDate = codes "G1 date"
 calendar_fault_text_of fault.BadDays = codes "G2 days"

@@ -12,7 +12,7 @@ use Rattle.plan_gantt.specs.declared.interval.Interval.{Interval}
 abbrev pub IsDayText : Workdays → ℕ → List ℕ → Type 0
 IsDayText calendar t text = (date : Date) × IsWorkingDay calendar t date × (text ≡ column 12 (date_text date))
 
--- a text shows the days of the first and the last of so many instants from one on; hyphens where there is none
+-- a text shows the days of the first and the last of so many instants from one on; hyphens if there is none
 abbrev pub IsDaysText : Workdays → ℕ → ℕ → List ℕ → Type 0
 IsDaysText calendar start zero text = text ≡ column 12 (codes "-") ++ column 12 (codes "-")
 IsDaysText calendar start (suc n) text =

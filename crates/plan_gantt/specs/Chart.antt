@@ -27,7 +27,7 @@ chart_cells makespan = div_ceil makespan (chart_unit makespan)
 unfoldable pub is_marked : ℕ → List Interval → ℕ → Bool
 is_marked unit intervals cell = list_any (λ t. is_occupied intervals t) (range_with_len (cell * unit) unit)
 
--- a cell: # where some instant of it is occupied, else a point
+-- a cell: # if some instant of it is occupied, else a point
 unfoldable pub cell_text : ℕ → List Interval → ℕ → List ℕ
 cell_text unit intervals cell = if is_marked unit intervals cell then codes "#" else codes "."
 

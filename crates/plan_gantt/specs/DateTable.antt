@@ -14,7 +14,7 @@ abbrev pub dates_of : Net → DateTable → ℕ → List ℕ
 dates_of net dates j = duration_of net j ∷ early_start_of dates j ∷ early_finish_of dates j ∷ late_start_of dates j
     ∷ late_finish_of dates j ∷ total_float_of dates j ∷ free_float_of dates j ∷ []
 
--- the end of a line, with a star where the activity is critical
+-- the end of a line, with a star if the activity is critical
 abbrev pub line_end : Bool → List ℕ
 line_end critical = if critical then codes " *\n" else codes "\n"
 

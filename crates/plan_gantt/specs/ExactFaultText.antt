@@ -1,9 +1,9 @@
--- The texts of what a search is refused for (docs/definitions.md, "Texts").
+-- The error lines of a search that is rejected (docs/definitions.md, "Texts").
 use Rattle.std.specs.Prelude.{ℕ, List, codes}
 use Rattle.plan_exact.specs.declared.fault.ExactFault.{ExactFault}
 use Rattle.plan_exact.specs.declared.fault.ExactFault.TheVariants as fault
 
--- the text of what a search is refused for
+-- the error line of a search that is rejected
 abbrev pub exact_fault_text_of : ExactFault → List ℕ
 exact_fault_text_of fault.NoMemory = codes "E90 memory"
 exact_fault_text_of fault.TooLarge = codes "S5 too large"

@@ -32,7 +32,7 @@ place_text code line = code_name_of code ++ codes " line " ++ decimal line
 abbrev pub spaced_numbers : List ℕ → List ℕ
 spaced_numbers ns = flat_map (λ n. 32 ∷ decimal n) ns
 
--- want of memory has no line, and a cycle names its activities
+-- out of memory has no line, and a cycle names its activities
 abbrev pub fault_text_by : FileCode → ℕ → List ℕ → List ℕ
 fault_text_by code.Memory line cycle = codes "E90 memory"
 fault_text_by code.Cycle line cycle = place_text code.Cycle line ++ codes " cycle" ++ spaced_numbers cycle

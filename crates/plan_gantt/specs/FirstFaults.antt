@@ -2,7 +2,7 @@
 use Rattle.std.specs.Prelude.{◌≡◌, ℕ, List}
 use Rattle.plan_psplib.specs.declared.text.fault.FileFault.{FileFault}
 use Rattle.plan_psplib.specs.Project.{IsFirstFailing}
-use Rattle.plan_orlib.specs.Reading.{FailsWith, shop}
+use Rattle.plan_orlib.specs.ShopText.{FailsWith, shop}
 use Rattle.plan_gantt.specs.FaultText.{file_fault_text_of}
 
 -- a line tells the first check that a project file fails

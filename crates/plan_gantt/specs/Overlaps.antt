@@ -1,4 +1,4 @@
--- Whether an interval has an instant of a cell, by comparing bounds. No public clause speaks of this.
+-- Whether an interval has an instant of a cell, by comparing bounds. No public contract uses this.
 use Rattle.std.specs.Prelude.{ℕ, ◌+◌, Bool, ◌&&◌, nat_lt}
 use Rattle.plan_gantt.specs.declared.interval.Interval.{Interval}
 

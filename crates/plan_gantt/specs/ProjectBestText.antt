@@ -42,7 +42,7 @@ RefusesBestProject word i exact.NoMemory = ⊥
 RefusesBestProject word i exact.TooLarge = 40 < count_of i.project.network
 RefusesBestProject word i exact.BadBudget = HasFewActivities i × ((budget : ℕ) → IsBudgetText word budget → ⊥)
 
--- a line tells what an instance is refused for
+-- the line is the error of an instance that is rejected
 abbrev pub TellsNoBestProject : List ℕ → Planned → List ℕ → Type 0
 TellsNoBestProject word i line =
     (first : ExactFault) × RefusesBestProject word i first × (line ≡ exact_fault_text_of first)

@@ -1,4 +1,4 @@
--- The texts of what a schedule is refused for (docs/definitions.md, "Texts").
+-- The error lines of a schedule that is rejected (docs/definitions.md, "Texts").
 use Rattle.std.specs.Prelude.{ℕ, List, ◌++◌, codes}
 use Rattle.std.specs.Fmt.{decimal}
 use Rattle.plan_sgs.specs.declared.fault.SgsFault.{SgsFault}
@@ -8,7 +8,7 @@ use Rattle.plan_sgs.specs.declared.fault.SgsFault.TheVariants as fault
 abbrev pub need_text : ℕ → ℕ → List ℕ
 need_text activity resource = codes "S1 activity " ++ decimal activity ++ codes " resource " ++ decimal resource
 
--- the text of what a schedule is refused for
+-- the error line of a schedule that is rejected
 abbrev pub schedule_fault_text_of : SgsFault → List ℕ
 schedule_fault_text_of fault.NoMemory = codes "E90 memory"
 schedule_fault_text_of (fault.NeedsTooMuch activity resource) = need_text activity resource

@@ -32,7 +32,7 @@ RefusesBest word s exact.NoMemory = ⊥
 RefusesBest word s exact.TooLarge = 100 < count_steps s
 RefusesBest word s exact.BadBudget = HasFewSteps s × ((budget : ℕ) → IsBudgetText word budget → ⊥)
 
--- a line tells what a shop is refused for
+-- the line is the error of a shop that is rejected
 abbrev pub TellsBestRefusal : List ℕ → JobShop → List ℕ → Type 0
 TellsBestRefusal word s line =
     (first : ExactFault) × RefusesBest word s first × (line ≡ exact_fault_text_of first)

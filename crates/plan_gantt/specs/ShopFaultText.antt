@@ -1,10 +1,10 @@
--- The texts of what a job shop is refused for (docs/definitions.md, "Texts").
+-- The error lines of a job shop that is rejected (docs/definitions.md, "Texts").
 use Rattle.std.specs.Prelude.{ℕ, List, ◌++◌, codes}
 use Rattle.std.specs.Fmt.{decimal}
 use Rattle.plan_shop.specs.declared.fault.ShopFault.{ShopFault}
 use Rattle.plan_shop.specs.declared.fault.ShopFault.TheVariants as fault
 
--- the text of what a shop is refused for
+-- the error line of a shop that is rejected
 abbrev pub shop_fault_text_of : ShopFault → List ℕ
 shop_fault_text_of fault.NoMemory = codes "E90 memory"
 shop_fault_text_of fault.UnknownRule = codes "S3 unknown rule"

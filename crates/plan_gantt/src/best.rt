@@ -28,7 +28,8 @@ fn kind_word(kind: Kind) -> &'static str
 /// The text of what was found for a shop: a line with `optimal` or `budget` and the makespan, and then the table of the schedule.
 pub fn best_text(alloc: Global, shop: &Shop, solved: &Solved) -> Result<String, AllocError>
     requires starts { length solved.now.schedule.starts.items ≡ count_steps shop.now }
-    requires limit { EachIndex solved.now.schedule.starts.items (λ k. slice_index solved.now.schedule.starts.items k ≤ latest_start) }
+    requires limit { EachIndex solved.now.schedule.starts.items
+        (λ k. slice_index solved.now.schedule.starts.items k ≤ latest_start) }
     ensures text { IfOk result (λ text. string_bytes text ≡ best_text_of shop.now solved.now) }
 {
     let mut text = String::new(alloc);
@@ -45,9 +46,12 @@ pub fn best_project_text(
     instance: &Instance,
     solved: &Solved,
 ) -> Result<String, AllocError>
-    requires starts { length solved.now.schedule.starts.items ≡ count_of instance.now.project.network }
-    requires limit { EachIndex solved.now.schedule.starts.items (λ k. slice_index solved.now.schedule.starts.items k ≤ latest_start) }
-    ensures text { IfOk result (λ text. string_bytes text ≡ best_project_text_of instance.now solved.now) }
+    requires starts { length solved.now.schedule.starts.items ≡
+        count_of instance.now.project.network }
+    requires limit { EachIndex solved.now.schedule.starts.items
+        (λ k. slice_index solved.now.schedule.starts.items k ≤ latest_start) }
+    ensures text { IfOk result (λ text.
+        string_bytes text ≡ best_project_text_of instance.now solved.now) }
 {
     let mut text = String::new(alloc);
     let schedule = &solved.schedule;

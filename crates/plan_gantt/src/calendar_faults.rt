@@ -1,4 +1,4 @@
-//! The lines of what working days are refused for.
+//! The error lines of working days that are rejected.
 
 ghost use Rattle.std.specs.Prelude.{◌≡◌};
 ghost use Rattle.plan_gantt.specs.CalendarFaultText.{calendar_fault_text_of, missing_calendar_text};
@@ -6,7 +6,7 @@ ghost use Rattle.plan_gantt.specs.CalendarFaultText.{calendar_fault_text_of, mis
 use plan_calendar::CalendarFault;
 
 /// The text of what a calendar, or a day of it, is refused for, as `G1 date`, without an end of
-/// line. Takes no memory.
+/// line. Allocates nothing.
 pub fn calendar_fault_text(fault: CalendarFault) -> &'static str
     ensures text { result.now ≡ calendar_fault_text_of fault }
 {
@@ -18,7 +18,7 @@ pub fn calendar_fault_text(fault: CalendarFault) -> &'static str
 }
 
 /// The text of what is refused where working days are asked for and no calendar was given, without
-/// an end of line. Takes no memory.
+/// an end of line. Allocates nothing.
 pub fn missing_calendar() -> &'static str
     ensures text { result.now ≡ missing_calendar_text }
 {

@@ -8,7 +8,7 @@ ghost use Rattle.plan_gantt.specs.Charts.{activity_interval, activity_intervals}
 
 use crate::column::push_first;
 use crate::interval::{Interval, is_marked};
-use plan_net::Network;
+use plan_net::{Network, index_of};
 use std::alloc::{AllocError, Global};
 use std::fmt::Write;
 
@@ -53,7 +53,8 @@ fn cell_text(unit: u64, intervals: &[Interval], cell: u64) -> &'static str
 fn push_cells(text: &mut String, makespan: u64, intervals: &[Interval]) -> Result<(), AllocError>
     requires makespan { makespan ≤ latest_end }
     requires ends { All (λ v. v.start + v.duration ≤ latest_end) intervals.now }
-    ensures { OnOk result (string_bytes text.new ≡ string_bytes text.old ++ spec.cell_texts (spec.chart_unit makespan) intervals.now (spec.chart_cells makespan)) }
+    ensures { OnOk result (string_bytes text.new ≡ string_bytes text.old ++ spec.cell_texts
+        (spec.chart_unit makespan) intervals.now (spec.chart_cells makespan)) }
 {
     let unit = chart_unit(makespan);
     'cells: for cell in 0..chart_cells(makespan) {
@@ -72,7 +73,9 @@ pub(crate) fn push_line(
 ) -> Result<(), AllocError>
     requires makespan { makespan ≤ latest_end }
     requires ends { All (λ v. v.start + v.duration ≤ latest_end) intervals.now }
-    ensures { OnOk result (string_bytes text.new ≡ string_bytes text.old ++ spec.chart_line makespan number intervals.now) }
+    ensures { OnOk result
+        (string_bytes text.new ≡
+        string_bytes text.old ++ spec.chart_line makespan number intervals.now) }
 {
     push_first(text, number)?;
     text.push_str(" |")?;
@@ -83,7 +86,8 @@ pub(crate) fn push_line(
 // The first line: how many instants a cell has.
 pub(crate) fn push_unit(text: &mut String, makespan: u64) -> Result<(), AllocError>
     requires { makespan ≤ latest_end }
-    ensures { OnOk result (string_bytes text.new ≡ string_bytes text.old ++ spec.unit_line makespan) }
+    ensures { OnOk result
+        (string_bytes text.new ≡ string_bytes text.old ++ spec.unit_line makespan) }
 {
     let unit = chart_unit(makespan);
     writeln!(text, "unit {unit}")
@@ -98,7 +102,7 @@ pub(crate) fn interval_of(network: &Network, starts: &[u64], j: u32) -> Interval
     ensures end { result.start + result.duration ≤ latest_end }
 {
     Interval {
-        start: starts[j as usize - 1],
+        start: starts[index_of(j)],
         duration: network.duration(j),
     }
 }
@@ -115,13 +119,15 @@ fn push_activity(
     requires starts { length starts.now ≡ count_of network.now }
     requires limit { EachIndex starts.now (λ k. slice_index starts.now k ≤ latest_start) }
     requires makespan { makespan ≤ latest_end }
-    ensures { OnOk result (string_bytes text.new ≡ string_bytes text.old ++ spec.chart_line makespan j (activity_intervals network.now starts.now j)) }
+    ensures { OnOk result
+        (string_bytes text.new ≡ string_bytes text.old ++ spec.chart_line makespan j
+        (activity_intervals network.now starts.now j)) }
 {
     push_line(text, makespan, j, &[interval_of(network, starts, j)])
 }
 
 /// The Gantt chart of a schedule: the unit, which is how many instants a cell has, and a line of cells for each activity, with
-/// `#` where some instant of the cell lies in its interval. The start at place `k` is that of activity `k + 1`.
+/// `#` if some instant of the cell lies in its interval. The start at place `k` is that of activity `k + 1`.
 pub fn chart(
     alloc: Global,
     network: &Network,
@@ -131,7 +137,8 @@ pub fn chart(
     requires starts { length starts.now ≡ count_of network.now }
     requires limit { EachIndex starts.now (λ k. slice_index starts.now k ≤ latest_start) }
     requires makespan { makespan ≤ latest_end }
-    ensures text { IfOk result (λ text. string_bytes text ≡ spec.chart_text makespan (activity_intervals network.now starts.now) 1 (count_of network.now)) }
+    ensures text { IfOk result (λ text. string_bytes text ≡ spec.chart_text makespan
+        (activity_intervals network.now starts.now) 1 (count_of network.now)) }
 {
     let mut text = String::new(alloc);
     push_unit(&mut text, makespan)?;

@@ -24,7 +24,8 @@ pub fn push_number(text: &mut String, n: u64) -> Result<(), AllocError>
 
 // Numbers, each right in its column of 8 places.
 pub fn push_numbers(text: &mut String, numbers: &[u64]) -> Result<(), AllocError>
-    ensures { OnOk result (string_bytes text.new ≡ string_bytes text.old ++ number_columns numbers.now) }
+    ensures { OnOk result
+        (string_bytes text.new ≡ string_bytes text.old ++ number_columns numbers.now) }
 {
     'all: for &n in numbers {
         push_number(text, n)?;
@@ -34,7 +35,8 @@ pub fn push_numbers(text: &mut String, numbers: &[u64]) -> Result<(), AllocError
 
 // A line of numbers: the first right in its column of 4 places, each other one in its column of 8.
 pub fn push_row(text: &mut String, first: u32, numbers: &[u64]) -> Result<(), AllocError>
-    ensures { OnOk result (string_bytes text.new ≡ string_bytes text.old ++ number_row first numbers.now) }
+    ensures { OnOk result
+        (string_bytes text.new ≡ string_bytes text.old ++ number_row first numbers.now) }
 {
     push_first(text, first)?;
     push_numbers(text, numbers)?;
@@ -53,7 +55,8 @@ fn push_spaces(text: &mut String, count: usize) -> Result<(), AllocError>
 
 // A text, right in its column of so many places.
 pub fn push_right(text: &mut String, places: usize, word: &str) -> Result<(), AllocError>
-    ensures { OnOk result (string_bytes text.new ≡ string_bytes text.old ++ column places word.now) }
+    ensures { OnOk result
+        (string_bytes text.new ≡ string_bytes text.old ++ column places word.now) }
 {
     push_spaces(text, places.saturating_sub(word.len()))?;
     text.push_str(word)

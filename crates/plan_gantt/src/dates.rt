@@ -15,7 +15,8 @@ use std::fmt::Write;
 fn push_dates(text: &mut String, network: &Network, dates: &Dates, j: u32) -> Result<(), AllocError>
     requires activity { IsActivity network.now j }
     requires dated { length dates.now.durations ≡ count_of network.now }
-    ensures { OnOk result (string_bytes text.new ≡ string_bytes text.old ++ number_columns (dates_of network.now dates.now j)) }
+    ensures { OnOk result (string_bytes text.new ≡ string_bytes text.old ++ number_columns
+        (dates_of network.now dates.now j)) }
 {
     let numbers = [
         network.duration(j),
@@ -41,7 +42,8 @@ fn push_end(text: &mut String, critical: bool) -> Result<(), AllocError>
 fn push_line(text: &mut String, network: &Network, dates: &Dates, j: u32) -> Result<(), AllocError>
     requires activity { IsActivity network.now j }
     requires dated { length dates.now.durations ≡ count_of network.now }
-    ensures { OnOk result (string_bytes text.new ≡ string_bytes text.old ++ date_line network.now dates.now j) }
+    ensures { OnOk result
+        (string_bytes text.new ≡ string_bytes text.old ++ date_line network.now dates.now j) }
 {
     push_first(text, j)?;
     push_dates(text, network, dates, j)?;

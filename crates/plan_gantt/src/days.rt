@@ -38,7 +38,8 @@ impl From<AllocError> for DaysFault {
 
 // The day of an instant, in its column.
 fn push_day(text: &mut String, calendar: &Calendar, t: u64) -> Result<(), DaysFault>
-    ensures day { OnOk result ((day : List ℕ) × spec.IsDayText calendar.now t day × (string_bytes text.new ≡ string_bytes text.old ++ day)) }
+    ensures day { OnOk result ((day : List ℕ) × spec.IsDayText calendar.now t day ×
+        (string_bytes text.new ≡ string_bytes text.old ++ day)) }
     ensures beyond { IsErrOf result DaysFault.BeyondCalendar → IsBeyond calendar.now t }
 {
     let Ok(date) = calendar.day(t) else {
@@ -52,8 +53,11 @@ fn push_day(text: &mut String, calendar: &Calendar, t: u64) -> Result<(), DaysFa
 // The days of the first and the last instant of an interval, in their columns.
 fn push_days(text: &mut String, calendar: &Calendar, interval: Interval) -> Result<(), DaysFault>
     requires { interval.start + interval.duration ≤ latest_end }
-    ensures days { OnOk result ((days : List ℕ) × spec.IsDaysText calendar.now interval.start interval.duration days × (string_bytes text.new ≡ string_bytes text.old ++ days)) }
-    ensures beyond { IsErrOf result DaysFault.BeyondCalendar → spec.HasDayBeyond calendar.now interval }
+    ensures days { OnOk result ((days : List ℕ)
+        × spec.IsDaysText calendar.now interval.start interval.duration days
+        × (string_bytes text.new ≡ string_bytes text.old ++ days)) }
+    ensures beyond { IsErrOf result DaysFault.BeyondCalendar →
+        spec.HasDayBeyond calendar.now interval }
 {
     if interval.duration == 0 {
         push_right(text, 12, "-")?;
@@ -71,8 +75,10 @@ pub(crate) fn push_days_line(
     interval: Interval,
 ) -> Result<(), DaysFault>
     requires { interval.start + interval.duration ≤ latest_end }
-    ensures line { OnOk result ((line : List ℕ) × spec.IsDaysLine calendar.now [] interval line × (string_bytes text.new ≡ string_bytes text.old ++ line)) }
-    ensures beyond { IsErrOf result DaysFault.BeyondCalendar → spec.HasDayBeyond calendar.now interval }
+    ensures line { OnOk result ((line : List ℕ) × spec.IsDaysLine calendar.now [] interval line ×
+        (string_bytes text.new ≡ string_bytes text.old ++ line)) }
+    ensures beyond { IsErrOf result DaysFault.BeyondCalendar →
+        spec.HasDayBeyond calendar.now interval }
 {
     push_days(text, calendar, interval)?;
     text.push_str("\n")?;
@@ -90,16 +96,19 @@ fn push_line(
     requires activity { IsActivity network.now j }
     requires starts { length starts.now ≡ count_of network.now }
     requires limit { EachIndex starts.now (λ k. slice_index starts.now k ≤ latest_start) }
-    ensures line { OnOk result ((line : List ℕ) × spec.IsDaysLine calendar.now (number_column 4 j) (activity_interval network.now starts.now j) line × (string_bytes text.new ≡ string_bytes text.old ++ line)) }
-    ensures beyond { IsErrOf result DaysFault.BeyondCalendar → spec.HasDayBeyond calendar.now (activity_interval network.now starts.now j) }
+    ensures line { OnOk result ((line : List ℕ) × spec.IsDaysLine calendar.now (number_column 4 j)
+        (activity_interval network.now starts.now j) line
+        × (string_bytes text.new ≡ string_bytes text.old ++ line)) }
+    ensures beyond { IsErrOf result DaysFault.BeyondCalendar →
+        spec.HasDayBeyond calendar.now (activity_interval network.now starts.now j) }
 {
     push_first(text, j)?;
     push_days_line(text, calendar, interval_of(network, starts, j))
 }
 
 /// The working days of a schedule: a line for each activity with the days of the first and of the last instant at which it goes
-/// on, or hyphens where it takes no time. The start at place `k` is that of activity `k + 1`. Refused with
-/// [`DaysFault::BeyondCalendar`] where one of these days would come after 9999-12-31.
+/// on, or hyphens if it takes no time. The start at place `k` is that of activity `k + 1`. Refused with
+/// [`DaysFault::BeyondCalendar`] if one of these days would come after 9999-12-31.
 pub fn calendar_table(
     alloc: Global,
     network: &Network,
@@ -108,8 +117,10 @@ pub fn calendar_table(
 ) -> Result<String, DaysFault>
     requires starts { length starts.now ≡ count_of network.now }
     requires limit { EachIndex starts.now (λ k. slice_index starts.now k ≤ latest_start) }
-    ensures text { IfOk result (λ text. spec.IsCalendarTable calendar.now network.now starts.now (string_bytes text)) }
-    ensures beyond { IsErrOf result DaysFault.BeyondCalendar → spec.HasActivityBeyond calendar.now network.now starts.now }
+    ensures text { IfOk result (λ text. spec.IsCalendarTable calendar.now network.now starts.now
+        (string_bytes text)) }
+    ensures beyond { IsErrOf result DaysFault.BeyondCalendar →
+        spec.HasActivityBeyond calendar.now network.now starts.now }
 {
     let mut text = String::new(alloc);
     text.push_str(" act       first        last\n")?;

@@ -1,11 +1,11 @@
-//! Texts of what a search is refused for.
+//! Error lines of a search that is rejected.
 
 ghost use Rattle.std.specs.Prelude.{◌≡◌};
 ghost use Rattle.plan_gantt.specs.ExactFaultText.{exact_fault_text_of};
 
 use plan_exact::ExactFault;
 
-/// The text of what a search is refused for, as `S6 budget`, without an end of line; want of memory is `E90 memory`. Takes no
+/// Returns the error line of a search that is rejected, as `S6 budget`, without an end of line; out of memory is `E90 memory`. Takes no
 /// memory.
 pub fn exact_fault_text(fault: &ExactFault) -> &'static str
     ensures text { result.now ≡ exact_fault_text_of fault.now }

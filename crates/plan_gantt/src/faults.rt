@@ -40,7 +40,8 @@ fn push_place(text: &mut String, code: FileCode, line: u64) -> Result<(), AllocE
 
 // Numbers, a space before each.
 fn push_spaced(text: &mut String, numbers: &[u32]) -> Result<(), AllocError>
-    ensures { OnOk result (string_bytes text.new ≡ string_bytes text.old ++ spaced_numbers numbers.now) }
+    ensures { OnOk result
+        (string_bytes text.new ≡ string_bytes text.old ++ spaced_numbers numbers.now) }
 {
     'all: for n in numbers {
         write!(text, " {n}")?;
@@ -49,7 +50,7 @@ fn push_spaced(text: &mut String, numbers: &[u32]) -> Result<(), AllocError>
 }
 
 /// The text of a file fault, as `F9 line 31`, without an end of line. That of a cycle goes on with the activities of the
-/// cycle, as `F12 line 17 cycle 3 4`; want of memory is `E90 memory`.
+/// cycle, as `F12 line 17 cycle 3 4`; out of memory is `E90 memory`.
 pub fn file_fault_text(alloc: Global, fault: &FileFault) -> Result<String, AllocError>
     ensures text { IfOk result (λ text. string_bytes text ≡ file_fault_text_of fault.now) }
 {

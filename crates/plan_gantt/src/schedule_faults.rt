@@ -1,4 +1,4 @@
-//! Texts of what a schedule is refused for.
+//! Error lines of a schedule that is rejected.
 
 ghost use Rattle.std.specs.Prelude.{◌≡◌, IfOk, string_bytes};
 ghost use Rattle.plan_gantt.specs.ScheduleFaultText.{schedule_fault_text_of};
@@ -7,7 +7,7 @@ use plan_sgs::SgsFault;
 use std::alloc::{AllocError, Global};
 use std::fmt::Write;
 
-/// The text of what a schedule is refused for, as `S1 activity 2 resource 1`, without an end of line; want of memory is
+/// Returns the error line of a schedule that is rejected, as `S1 activity 2 resource 1`, without an end of line; out of memory is
 /// `E90 memory`.
 pub fn schedule_fault_text(alloc: Global, fault: &SgsFault) -> Result<String, AllocError>
     ensures text { IfOk result (λ text. string_bytes text ≡ schedule_fault_text_of fault.now) }

@@ -6,7 +6,7 @@ ghost use Rattle.plan_gantt.specs.Limits.{latest_start};
 ghost use Rattle.plan_gantt.specs.ScheduleTable.{makespan_line, schedule_line, schedule_table_text};
 
 use crate::column::push_row;
-use plan_net::Network;
+use plan_net::{Network, index_of};
 use std::alloc::{AllocError, Global};
 use std::fmt::Write;
 
@@ -16,16 +16,18 @@ fn push_line(text: &mut String, network: &Network, starts: &[u64], j: u32) -> Re
     requires activity { IsActivity network.now j }
     requires starts { length starts.now ≡ count_of network.now }
     requires limit { EachIndex starts.now (λ k. slice_index starts.now k ≤ latest_start) }
-    ensures { OnOk result (string_bytes text.new ≡ string_bytes text.old ++ schedule_line network.now starts.now j) }
+    ensures { OnOk result
+        (string_bytes text.new ≡ string_bytes text.old ++ schedule_line network.now starts.now j) }
 {
     let duration = network.duration(j);
-    let start = starts[j as usize - 1];
+    let start = starts[index_of(j)];
     push_row(text, j, &[duration, start, start + duration])
 }
 
 // The last line.
 pub(crate) fn push_makespan(text: &mut String, makespan: u64) -> Result<(), AllocError>
-    ensures { OnOk result (string_bytes text.new ≡ string_bytes text.old ++ makespan_line makespan) }
+    ensures { OnOk result
+        (string_bytes text.new ≡ string_bytes text.old ++ makespan_line makespan) }
 {
     writeln!(text, "makespan {makespan}")
 }
@@ -39,7 +41,9 @@ pub(crate) fn push_schedule_table(
 ) -> Result<(), AllocError>
     requires starts { length starts.now ≡ count_of network.now }
     requires limit { EachIndex starts.now (λ k. slice_index starts.now k ≤ latest_start) }
-    ensures { OnOk result (string_bytes text.new ≡ string_bytes text.old ++ schedule_table_text network.now starts.now makespan) }
+    ensures { OnOk result
+        (string_bytes text.new ≡
+        string_bytes text.old ++ schedule_table_text network.now starts.now makespan) }
 {
     text.push_str(" act       d   start     end\n")?;
     'all: for k in 0..network.len() {
@@ -58,7 +62,8 @@ pub fn schedule_table(
 ) -> Result<String, AllocError>
     requires starts { length starts.now ≡ count_of network.now }
     requires limit { EachIndex starts.now (λ k. slice_index starts.now k ≤ latest_start) }
-    ensures text { IfOk result (λ text. string_bytes text ≡ schedule_table_text network.now starts.now makespan) }
+    ensures text { IfOk result (λ text.
+        string_bytes text ≡ schedule_table_text network.now starts.now makespan) }
 {
     let mut text = String::new(alloc);
     push_schedule_table(&mut text, network, starts, makespan)?;

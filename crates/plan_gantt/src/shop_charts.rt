@@ -45,8 +45,10 @@ fn machine_intervals(
 ) -> Result<Vec<Interval>, AllocError>
     requires starts { length starts.now ≡ count_steps shop.now }
     requires limit { EachIndex starts.now (λ k. slice_index starts.now k ≤ latest_start) }
-    ensures intervals { IfOk result (λ intervals. intervals.items ≡ spec.machine_intervals shop.now starts.now machine) }
-    ensures ends { IfOk result (λ intervals. All (λ v. v.start + v.duration ≤ latest_end) intervals.items) }
+    ensures intervals { IfOk result (λ intervals.
+        intervals.items ≡ spec.machine_intervals shop.now starts.now machine) }
+    ensures ends { IfOk result (λ intervals. All
+        (λ v. v.start + v.duration ≤ latest_end) intervals.items) }
 {
     let mut intervals = Vec::new(alloc);
     'all: for x in 0..step_count(shop) {
@@ -58,7 +60,7 @@ fn machine_intervals(
 }
 
 /// The Gantt chart of a shop's schedule: the unit, which is how many instants a cell has, and a line of cells for each machine, with
-/// `#` where some instant of the cell lies in the interval of a step on it. The start at place `x` is that of flat step `x`.
+/// `#` if some instant of the cell lies in the interval of a step on it. The start at place `x` is that of flat step `x`.
 pub fn shop_chart(
     alloc: Global,
     shop: &Shop,
@@ -68,7 +70,8 @@ pub fn shop_chart(
     requires starts { length starts.now ≡ count_steps shop.now }
     requires limit { EachIndex starts.now (λ k. slice_index starts.now k ≤ latest_start) }
     requires makespan { makespan ≤ latest_end }
-    ensures text { IfOk result (λ text. string_bytes text ≡ chart_text makespan (spec.machine_intervals shop.now starts.now) 0 shop.now.machines) }
+    ensures text { IfOk result (λ text. string_bytes text ≡ chart_text makespan
+        (spec.machine_intervals shop.now starts.now) 0 shop.now.machines) }
 {
     let mut text = String::new(alloc);
     push_unit(&mut text, makespan)?;

@@ -17,7 +17,8 @@ use std::alloc::{AllocError, Global};
 // What stands in front of the days of step `x`: its job, and its number in the job.
 fn push_front(text: &mut String, shop: &Shop, x: u32) -> Result<(), AllocError>
     requires { x < count_steps shop.now }
-    ensures { OnOk result (string_bytes text.new ≡ string_bytes text.old ++ spec.step_front shop.now x) }
+    ensures { OnOk result
+        (string_bytes text.new ≡ string_bytes text.old ++ spec.step_front shop.now x) }
 {
     let machines = shop.machines();
     push_first(text, x / machines + 1)?;
@@ -35,16 +36,19 @@ fn push_line(
     requires step { x < count_steps shop.now }
     requires starts { length starts.now ≡ count_steps shop.now }
     requires limit { EachIndex starts.now (λ k. slice_index starts.now k ≤ latest_start) }
-    ensures line { OnOk result ((line : List ℕ) × IsDaysLine calendar.now (spec.step_front shop.now x) (spec.step_interval shop.now starts.now x) line × (string_bytes text.new ≡ string_bytes text.old ++ line)) }
-    ensures beyond { IsErrOf result DaysFault.BeyondCalendar → HasDayBeyond calendar.now (spec.step_interval shop.now starts.now x) }
+    ensures line { OnOk result ((line : List ℕ) × IsDaysLine calendar.now
+        (spec.step_front shop.now x) (spec.step_interval shop.now starts.now x) line
+        × (string_bytes text.new ≡ string_bytes text.old ++ line)) }
+    ensures beyond { IsErrOf result DaysFault.BeyondCalendar →
+        HasDayBeyond calendar.now (spec.step_interval shop.now starts.now x) }
 {
     push_front(text, shop, x)?;
     push_days_line(text, calendar, step_interval(shop, starts, x))
 }
 
 /// The working days of a shop's schedule: a line for each step in flat order with its job and its number in the job, and the days of
-/// the first and of the last instant at which it goes on, or hyphens where it takes no time. The start at place `x` is that of flat
-/// step `x`. Refused with [`DaysFault::BeyondCalendar`] where one of these days would come after 9999-12-31.
+/// the first and of the last instant at which it goes on, or hyphens if it takes no time. The start at place `x` is that of flat
+/// step `x`. Returns the error [`DaysFault::BeyondCalendar`] if one of these days would come after 9999-12-31.
 pub fn shop_calendar_table(
     alloc: Global,
     shop: &Shop,
@@ -53,8 +57,10 @@ pub fn shop_calendar_table(
 ) -> Result<String, DaysFault>
     requires starts { length starts.now ≡ count_steps shop.now }
     requires limit { EachIndex starts.now (λ k. slice_index starts.now k ≤ latest_start) }
-    ensures text { IfOk result (λ text. spec.IsShopCalendarTable calendar.now shop.now starts.now (string_bytes text)) }
-    ensures beyond { IsErrOf result DaysFault.BeyondCalendar → spec.HasStepBeyond calendar.now shop.now starts.now }
+    ensures text { IfOk result (λ text. spec.IsShopCalendarTable calendar.now shop.now starts.now
+        (string_bytes text)) }
+    ensures beyond { IsErrOf result DaysFault.BeyondCalendar →
+        spec.HasStepBeyond calendar.now shop.now starts.now }
 {
     let mut text = String::new(alloc);
     text.push_str(" job    step       first        last\n")?;

@@ -1,4 +1,4 @@
-//! Texts of what a shop is refused for.
+//! Error lines of a shop that is rejected.
 
 ghost use Rattle.std.specs.Prelude.{◌≡◌, IfOk, string_bytes};
 ghost use Rattle.plan_gantt.specs.ShopFaultText.{shop_fault_text_of};
@@ -7,7 +7,7 @@ use plan_shop::ShopFault;
 use std::alloc::{AllocError, Global};
 use std::fmt::Write;
 
-/// The text of what a job shop is refused for, as `S4 machine 0 closed`, without an end of line; want of memory is
+/// Returns the error line of a job shop that is rejected, as `S4 machine 0 closed`, without an end of line; out of memory is
 /// `E90 memory`.
 pub fn shop_fault_text(alloc: Global, fault: &ShopFault) -> Result<String, AllocError>
     ensures text { IfOk result (λ text. string_bytes text ≡ shop_fault_text_of fault.now) }

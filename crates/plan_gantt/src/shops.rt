@@ -22,7 +22,8 @@ fn push_line(text: &mut String, shop: &Shop, starts: &[u64], x: u32) -> Result<(
     requires step { x < count_steps shop.now }
     requires starts { length starts.now ≡ count_steps shop.now }
     requires limit { EachIndex starts.now (λ k. slice_index starts.now k ≤ latest_start) }
-    ensures { OnOk result (string_bytes text.new ≡ string_bytes text.old ++ shop_line shop.now starts.now x) }
+    ensures { OnOk result
+        (string_bytes text.new ≡ string_bytes text.old ++ shop_line shop.now starts.now x) }
 {
     let step = shop.step(x);
     let start = starts[x as usize];
@@ -46,7 +47,9 @@ pub(crate) fn push_shop_table(
 ) -> Result<(), AllocError>
     requires starts { length starts.now ≡ count_steps shop.now }
     requires limit { EachIndex starts.now (λ k. slice_index starts.now k ≤ latest_start) }
-    ensures { OnOk result (string_bytes text.new ≡ string_bytes text.old ++ shop_table_text shop.now starts.now makespan) }
+    ensures { OnOk result
+        (string_bytes text.new ≡
+        string_bytes text.old ++ shop_table_text shop.now starts.now makespan) }
 {
     text.push_str(" job    step    mach       d   start     end\n")?;
     'all: for x in 0..step_count(shop) {
@@ -65,7 +68,8 @@ pub fn shop_table(
 ) -> Result<String, AllocError>
     requires starts { length starts.now ≡ count_steps shop.now }
     requires limit { EachIndex starts.now (λ k. slice_index starts.now k ≤ latest_start) }
-    ensures text { IfOk result (λ text. string_bytes text ≡ shop_table_text shop.now starts.now makespan) }
+    ensures text { IfOk result (λ text.
+        string_bytes text ≡ shop_table_text shop.now starts.now makespan) }
 {
     let mut text = String::new(alloc);
     push_shop_table(&mut text, shop, starts, makespan)?;

@@ -5,7 +5,7 @@ use Rattle.std.specs.Prelude.{◌≡◌, ℕ, ◌+◌, ◌⊎◌, Result, is_ok,
 abbrev pub most_calls : ℕ
 most_calls = 2113536
 
--- a call raised the count of calls by one, and that of faults by one exactly where it answered a fault
+-- a call raised the count of calls by one, and that of faults by one exactly if it answered a fault
 abbrev pub IsCounted : {A E : Type 0} → ℕ → ℕ → ℕ → ℕ → Result A E → Type 0
 IsCounted calls calls_after faults faults_after result = (calls_after ≡ calls + 1) × (faults_after ≡ (if is_ok result then faults else faults + 1))
 

@@ -40,7 +40,7 @@ impl<'a> Source for MemSource<'a> {
     }
 }
 
-/// A sink that keeps all bytes in a `Vec`. It fails where memory runs out.
+/// A sink that keeps all bytes in a `Vec`. It fails if memory runs out.
 #[derive(Drop)]
 pub struct MemSink {
     bytes: Vec<u8>,

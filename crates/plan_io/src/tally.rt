@@ -7,11 +7,11 @@ ghost use Rattle.plan_io.specs.Devices.{IsCounted};
 use crate::traits::DeviceFault;
 use std::marker::Model;
 
-/// The calls of one reader or writer, and those of them that it answered by a fault. Contracts alone
-/// see these numbers: a `Tally` takes no bytes, and nothing can overflow.
+/// The calls of one reader or writer, and those of them that failed. Only contracts
+/// see these numbers: a `Tally` takes no bytes at run time, and nothing can overflow.
 ///
 /// They bind code that is generic over a [`Source`](crate::Source) or a [`Sink`](crate::Sink): it can
-/// raise them by calling the device, and in no other way.
+/// raise them only by calling the device.
 #[derive(Drop)]
 pub struct Tally {
     pub ghost calls: { ℕ },
@@ -23,14 +23,14 @@ impl Model for Tally {
 }
 
 impl Tally {
-    /// Of a device that wasn't called yet.
+    /// Returns the counters of a device before its first call.
     pub fn new() -> Tally
         ensures { (result.calls ≡ 0) × (result.faults ≡ 0) }
     {
         Tally {}
     }
 
-    /// Counts a call by what it answered, of which any error is a fault.
+    /// Counts one call by its result: an error is a fault.
     pub fn count<T, E: Drop>(&mut self, answer: Result<T, E>) -> Result<T, DeviceFault>
         ensures counted { IsCounted self.old.calls self.new.calls self.old.faults self.new.faults result }
         ensures answer { MatchResult answer (λ value. result ≡ Ok value) (λ _. IsErr result) }
@@ -39,9 +39,10 @@ impl Tally {
         answer.map_err(|_| DeviceFault)
     }
 
-    // With one call more, and with one fault more unless the call was good.
+    // Returns the counters after one more call, which failed unless `good`.
     fn with_call(&self, good: bool) -> Tally
-        ensures { (result.calls ≡ self.now.calls + 1) × (result.faults ≡ (if good then self.now.faults else self.now.faults + 1)) }
+        ensures { (result.calls ≡ self.now.calls + 1)
+            × (result.faults ≡ (if good then self.now.faults else self.now.faults + 1)) }
     {
         Tally {}
     }

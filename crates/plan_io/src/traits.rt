@@ -11,39 +11,41 @@ use thiserror::Error;
 #[error("the device failed")]
 pub struct DeviceFault;
 
-/// What bytes are read from.
+/// A source of bytes.
 pub trait Source {
-    /// How often it was read.
+    /// The number of reads so far.
     ghost calls: { Self → ℕ };
 
-    /// How many of these reads answered a fault.
+    /// The number of these reads that failed.
     ghost faults: { Self → ℕ };
 
-    /// The bytes that are still to be read, where they are known.
+    /// The bytes that are still to be read, if they are known.
     ghost remaining: { Self → Option (List ℕ) };
 
-    /// Reads bytes to the front of a buffer, and answers how many. None in a buffer that has room means
-    /// that there are no more.
+    /// Reads bytes to the front of a buffer and returns their number. 0 with a buffer that has room means
+    /// the end of the input.
     fn read(&mut self, buf: &mut [u8]) -> Result<usize, DeviceFault>
-        ensures counted { IsCounted (calls self.old) (calls self.new) (faults self.old) (faults self.new) result }
+        ensures counted { IsCounted (calls self.old) (calls self.new) (faults self.old)
+            (faults self.new) result }
         ensures within { IfOk result (λ n. n ≤ length buf.new) }
         ensures bytes { ReadConsumes (remaining self.old) (remaining self.new) result buf.new };
 }
 
-/// What bytes are written to.
+/// A sink for bytes.
 pub trait Sink {
-    /// How often it was written to.
+    /// The number of writes so far.
     ghost calls: { Self → ℕ };
 
-    /// How many of these writes answered a fault.
+    /// The number of these writes that failed.
     ghost faults: { Self → ℕ };
 
-    /// The bytes that it has taken, where they are known.
+    /// The bytes that it has taken, if they are known.
     ghost taken: { Self → Option (List ℕ) };
 
-    /// Takes bytes from the front of some, and answers how many. It may take none.
+    /// Takes bytes from the front of `bytes` and returns their number, which may be 0.
     fn write(&mut self, bytes: &[u8]) -> Result<usize, DeviceFault>
-        ensures counted { IsCounted (calls self.old) (calls self.new) (faults self.old) (faults self.new) result }
+        ensures counted { IsCounted (calls self.old) (calls self.new) (faults self.old)
+            (faults self.new) result }
         ensures within { IfOk result (λ n. n ≤ length bytes.now) }
         ensures bytes { WriteAppends (taken self.old) (taken self.new) result bytes.now };
 }

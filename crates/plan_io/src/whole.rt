@@ -9,18 +9,18 @@ use crate::traits::{DeviceFault, Sink, Source};
 use std::alloc::{AllocError, Global};
 use thiserror::Error;
 
-/// How often one whole reading or writing calls its device.
+/// The most calls that one `read_beyond` or `write_whole` makes.
 pub const MOST_CALLS: u32 = 2_113_536;
 
-// How many bytes one read asks for at most.
+// The most bytes that one read asks for.
 const CHUNK: usize = 4096;
 
-/// Why the bytes of a source couldn't be read.
+/// The error of `read_beyond`.
 #[derive(Clone, Copy, Debug, PartialEq, Eq, Error)]
 pub enum InputError {
     #[error("out of memory")]
     Memory,
-    /// The source answered a fault, or was called too often.
+    /// A read failed, or there were too many reads.
     #[error("the input failed")]
     Failed,
 }
@@ -41,15 +41,15 @@ impl From<DeviceFault> for InputError {
     }
 }
 
-/// Bytes couldn't be written whole: the sink answered a fault, or was called too often.
+/// The error of `write_whole`: a write failed, or there were too many writes.
 #[derive(Clone, Copy, Debug, PartialEq, Eq, Error)]
 #[error("the output failed after {sent} bytes")]
 pub struct OutputError {
-    /// How many bytes the sink took, those at the front.
+    /// The number of bytes that were written, from the front.
     pub sent: usize,
 }
 
-/// Reads all bytes of a source, but at most one more than a limit: whoever has a limit on texts can
+/// Reads all bytes of a source, but at most one more than a limit: a caller with a limit on texts can
 /// judge by that one byte. With a limit that one byte a call can reach, a failure means a fault.
 pub fn read_beyond<R: Source>(
     alloc: Global,
@@ -57,8 +57,10 @@ pub fn read_beyond<R: Source>(
     limit: usize,
 ) -> Result<Vec<u8>, InputError>
     ensures calls { R.calls reader.new ≤ R.calls reader.old + most_calls }
-    ensures consumed { IfOk result (λ v. Consumes (R.remaining reader.old) (R.remaining reader.new) v.items) }
-    ensures bytes { IfOk result (λ v. IfSome (R.remaining reader.old) (λ all. v.items ≡ take (limit + 1) all)) }
+    ensures consumed { IfOk result (λ v. Consumes (R.remaining reader.old)
+        (R.remaining reader.new) v.items) }
+    ensures bytes { IfOk result (λ v. IfSome (R.remaining reader.old)
+        (λ all. v.items ≡ take (limit + 1) all)) }
     ensures short { IfOk result (λ v. length v.items ≤ limit + 1) }
     ensures fine { OnOk result (R.faults reader.new ≡ R.faults reader.old) }
     ensures memory { IsErrOf result InputError.Memory → R.faults reader.new ≡ R.faults reader.old }
@@ -93,7 +95,8 @@ fn read_more<R: Source>(
     ensures within { IfOk result (λ n. n ≤ length chunk.old) }
     ensures fine { OnOk result (R.faults reader.new ≡ R.faults reader.old) }
     ensures memory { IsErrOf result InputError.Memory → R.faults reader.new ≡ R.faults reader.old }
-    ensures failed { IsErrOf result InputError.Failed → R.faults reader.new ≡ R.faults reader.old + 1 }
+    ensures failed { IsErrOf result InputError.Failed →
+        R.faults reader.new ≡ R.faults reader.old + 1 }
     ensures longer { IfOk result (λ n. vec_len bytes.new ≡ vec_len bytes.old + n) }
     ensures more { IfOk result (λ n. (part : List ℕ) × (bytes.new.items ≡ bytes.old.items ++ part)
         × Consumes (R.remaining reader.old) (R.remaining reader.new) part
@@ -105,7 +108,7 @@ fn read_more<R: Source>(
     Ok(n)
 }
 
-/// Writes all bytes. A write that takes none is tried again.
+/// Writes all bytes. A write that takes none is repeated.
 pub fn write_whole<W: Sink>(writer: &mut W, bytes: &[u8]) -> Result<(), OutputError>
     ensures calls { W.calls writer.new ≤ W.calls writer.old + most_calls }
     ensures written { OnOk result (Appends (W.taken writer.old) (W.taken writer.new) bytes.now) }

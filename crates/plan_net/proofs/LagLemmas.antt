@@ -284,7 +284,7 @@ pub lag_of-with_lag_other : (net : Net) (i j w h k : ℕ) → ((h ≡ i) × (k �
 unfolding lag_of
 lag_of-with_lag_other net i j w h k other = lag_beside-with_other net.arcs net.lags i j w h k other
 
--- no lag where there is no arc
+-- no lag if there is no arc
 pub lag_of-none : (net : Net) (i j : ℕ) → (IsArc net i j → ⊥) → lag_of net i j ≡ 0
 unfolding lag_of
 lag_of-none net i j misses = lag_beside-none net.arcs net.lags i j misses

@@ -60,7 +60,7 @@ still_open net order placed turns j activity misses = by_case (cases_Bool (get_o
   by_case (inl is) = absurd (misses ((turns.marks j activity).0 is))
   by_case (inr is) = is
 
--- by the marks an activity is ready exactly where by the order it can come
+-- by the marks an activity is ready exactly if by the order it can come
 pub ready_comes : (net : Net) (order : List ℕ) (placed : List Bool) → IsWithinLimits net → IsPlacedOrder net order placed → (j : ℕ) → IsReady net placed j → CanCome net order j
 ready_comes net order placed limits turns j (activity, is_open, before) =
     (activity, not_yet net order placed turns j activity is_open, λ i arc. (turns.marks i (arc_ends net i j limits arc).0).0 (before i arc))

@@ -12,7 +12,7 @@ pub record Net : Type 0 where
 abbrev pub unlagged : List ℕ → List (ℕ × ℕ) → Net
 unlagged durations arcs = record { durations = durations; arcs = arcs; lags = replicate (length arcs) 0 }
 
--- how many activities there are
+-- the number of activities
 abbrev pub count_of : Net → ℕ
 count_of net = length net.durations
 
@@ -32,12 +32,12 @@ IsArc net i j = Contains net.arcs (i, j)
 abbrev pub joins : ℕ × ℕ → ℕ → ℕ → Bool
 joins arc i j = nat_eq arc.0 i && nat_eq arc.1 j
 
--- the lag beside the first arc from i to j, 0 where there is none
+-- the lag beside the first arc from i to j, 0 if there is none
 abbrev pub lag_beside : List (ℕ × ℕ) → List ℕ → ℕ → ℕ → ℕ
 lag_beside [] lags i j = 0
 lag_beside (arc ∷ arcs) lags i j = cond (joins arc i j) (slice_index lags 0) (lag_beside arcs (drop 1 lags) i j)
 
--- what has to pass between the end of i and the start of j, 0 where there is no arc
+-- what has to pass between the end of i and the start of j, 0 if there is no arc
 unfoldable pub lag_of : Net → ℕ → ℕ → ℕ
 lag_of net i j = lag_beside net.arcs net.lags i j
 

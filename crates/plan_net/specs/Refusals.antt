@@ -1,4 +1,4 @@
--- What a network is refused for, in the order of the tests (docs/definitions.md, "Networks").
+-- The errors of a network, in the order of the tests (docs/definitions.md, "Networks").
 use Rattle.std.specs.Prelude.{ℕ, ◌≡◌, ◌≤◌, ◌<◌, ◌++◌, ◌∷◌, [], take, drop, slice_get, slice_index, Some, Contains, All}
 use Rattle.plan_net.specs.Network.{Net, IsActivity, IsArc}
 use Rattle.plan_net.specs.Path.{IsCycle}
@@ -34,7 +34,7 @@ IsFirstFault net (Cycle members) =
 IsFirstFault net (NoArc i j) = ⊥
 IsFirstFault net (BadLag i j) = ⊥
 
--- a cycle, or want of memory
+-- a cycle, or out of memory
 abbrev pub IsCycleOrMemory : NetFault → Type 0
 IsCycleOrMemory (Cycle members) = Unit {0}
 IsCycleOrMemory NoMemory = Unit {0}

@@ -7,7 +7,7 @@ use Rattle.std.specs.declared.alloc.Global.{Global}
 abbrev pub arcs_from : ℕ → List ℕ → List (ℕ × ℕ)
 arcs_from i successors = map (λ j. (i, j)) successors
 
--- the arcs of the rows of the activities from one on, one row behind another
+-- the arcs of the rows of the activities from one on, one row after another
 abbrev pub arcs_of_rows : ℕ → List (List ℕ) → List (ℕ × ℕ)
 arcs_of_rows i [] = []
 arcs_of_rows i (row ∷ rows) = arcs_from i row ++ arcs_of_rows (i + 1) rows

@@ -42,7 +42,8 @@ impl Model for Arcs {
 fn plain_fault(durations: &[u64], arcs: &[(u32, u32)]) -> Option<NetFault>
     ensures some { IfSome result (IsFirstFault (unlagged durations.now arcs.now)) }
     ensures cycle { IfSome result (NamesCycle (unlagged durations.now arcs.now)) }
-    ensures none { IfNone result (HasGoodSize (unlagged durations.now arcs.now) × HasGoodDurations (unlagged durations.now arcs.now) × HasGoodArcs (unlagged durations.now arcs.now)) }
+    ensures none { IfNone result (HasGoodSize (unlagged durations.now arcs.now) × HasGoodDurations
+        (unlagged durations.now arcs.now) × HasGoodArcs (unlagged durations.now arcs.now)) }
 {
     let count = durations.len();
     if count < FEWEST_ACTIVITIES || count > MOST_ACTIVITIES {
@@ -60,7 +61,8 @@ fn plain_fault(durations: &[u64], arcs: &[(u32, u32)]) -> Option<NetFault>
 impl Arcs {
     /// The network of these durations and arcs without lags, or the first fault that it has but for a cycle.
     pub fn new(alloc: Global, durations: Vec<u64>, arcs: Vec<(u32, u32)>) -> Result<Self, NetFault>
-        ensures accepted { IfOk result (λ made. (made ≡ unlagged durations.items arcs.items) × IsWithinLimits made) }
+        ensures accepted { IfOk result (λ made. (made ≡ unlagged durations.items arcs.items)
+            × IsWithinLimits made) }
         ensures refused { IfErr result (IsFirstFault (unlagged durations.items arcs.items)) }
         ensures cycle { IfErr result (NamesCycle (unlagged durations.items arcs.items)) }
     {
@@ -93,7 +95,8 @@ impl Arcs {
         requires size { HasGoodSize (unlagged durations.items []) }
         requires durations { HasGoodDurations (unlagged durations.items []) }
         requires rows { AreRows (length durations.items) (rows_in rows.now) }
-        ensures made { IfOk result (λ made. made ≡ unlagged durations.items (arcs_of_rows 1 (rows_in rows.now))) }
+        ensures made { IfOk result (λ made. made ≡ unlagged durations.items
+            (arcs_of_rows 1 (rows_in rows.now))) }
         ensures limits { IfOk result IsWithinLimits }
     {
         let arcs = arcs_of_rows(alloc, rows)?;
@@ -109,7 +112,7 @@ impl Arcs {
         })
     }
 
-    /// How many activities there are.
+    /// Returns the number of activities.
     pub fn len(&self) -> usize
         ensures count { result ≡ count_of self.now }
         ensures limits { IsWithinLimits self.now }
@@ -137,7 +140,8 @@ impl Arcs {
     pub fn preds(&self, j: u32) -> &[u32]
         requires { IsActivity self.now j }
         ensures exact { ListsRising (λ i. IsArc self.now i j) result.now }
-        ensures activities { EachIndex result.now (λ k. IsActivity self.now (slice_index result.now k)) }
+        ensures activities { EachIndex result.now
+            (λ k. IsActivity self.now (slice_index result.now k)) }
     {
         self.preds[j as usize - 1].as_slice()
     }
@@ -146,7 +150,8 @@ impl Arcs {
     pub fn succs(&self, j: u32) -> &[u32]
         requires { IsActivity self.now j }
         ensures exact { ListsRising (IsArc self.now j) result.now }
-        ensures activities { EachIndex result.now (λ k. IsActivity self.now (slice_index result.now k)) }
+        ensures activities { EachIndex result.now
+            (λ k. IsActivity self.now (slice_index result.now k)) }
     {
         self.succs[j as usize - 1].as_slice()
     }
@@ -165,7 +170,8 @@ impl Arcs {
     /// The lags of the arcs to `j`, each at the place of its predecessor.
     pub fn lags_into(&self, j: u32) -> &[u64]
         requires { IsActivity self.now j }
-        ensures value { (row : List ℕ) → ListsRising (λ i. IsArc self.now i j) row → result.now ≡ map (λ i. lag_of self.now i j) row }
+        ensures value { (row : List ℕ) → ListsRising (λ i. IsArc self.now i j) row →
+            result.now ≡ map (λ i. lag_of self.now i j) row }
         ensures limit { EachIndex result.now (λ k. slice_index result.now k ≤ LONGEST_LAG) }
     {
         self.lags[j as usize - 1].as_slice()
@@ -173,7 +179,8 @@ impl Arcs {
 
     /// Gives the arc from `i` to `j` the lag.
     pub fn set_lag(&mut self, i: u32, j: u32, lag: u64) -> Result<(), NetFault>
-        ensures ok { OnOk result (IsArc self.old i j × (lag ≤ LONGEST_LAG) × (self.new ≡ with_lag self.old i j lag)) }
+        ensures ok { OnOk result (IsArc self.old i j × (lag ≤ LONGEST_LAG) ×
+            (self.new ≡ with_lag self.old i j lag)) }
         ensures refused { IfErr result (IsLagFault self.old i j lag) }
         ensures err { OnErr result (self.new ≡ self.old) }
     {

@@ -42,7 +42,8 @@ fn trail_from(
 fn place_of_least(members: &[u32]) -> usize
     requires { 0 < length members.now }
     ensures within { result < length members.now }
-    ensures least { EachIndex members.now (λ k. slice_index members.now result ≤ slice_index members.now k) }
+    ensures least { EachIndex members.now (λ k.
+        slice_index members.now result ≤ slice_index members.now k) }
 {
     let mut place = 0;
     'members: for k in 0..members.len() {

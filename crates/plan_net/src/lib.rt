@@ -7,6 +7,7 @@ mod arcs;
 mod checks;
 mod cycle;
 mod fault;
+mod index;
 mod limits;
 mod network;
 mod order;
@@ -14,5 +15,6 @@ mod rows;
 mod tables;
 
 pub use fault::NetFault;
+pub use index::index_of;
 pub use limits::{FEWEST_ACTIVITIES, LONGEST_DURATION, LONGEST_LAG, LONGEST_SUM, MOST_ACTIVITIES};
 pub use network::Network;

@@ -57,9 +57,10 @@ impl Network {
     ///
     /// The duration at place `k` is that of activity `k + 1`; an arc is the pair of its ends. The faults are
     /// looked for in this order: [`NetFault::Size`], [`NetFault::BadDuration`], [`NetFault::BadArc`],
-    /// [`NetFault::DoubleArc`], [`NetFault::Cycle`]; [`NetFault::NoMemory`] may come in place of any answer.
+    /// [`NetFault::DoubleArc`], [`NetFault::Cycle`]; [`NetFault::NoMemory`] can replace any result.
     pub fn new(alloc: Global, durations: Vec<u64>, arcs: Vec<(u32, u32)>) -> Result<Self, NetFault>
-        ensures accepted { IfOk result (λ net. (net ≡ unlagged durations.items arcs.items) × IsSound net) }
+        ensures accepted { IfOk result (λ net. (net ≡ unlagged durations.items arcs.items)
+            × IsSound net) }
         ensures refused { IfErr result (IsFirstFault (unlagged durations.items arcs.items)) }
         // the members of a named cycle, closed by the first of them, are a cycle
         ensures cycle { IfErr result (NamesCycle (unlagged durations.items arcs.items)) }
@@ -69,7 +70,7 @@ impl Network {
     }
 
     /// The network of these durations and rows of successors, all lags 0: the row at place `k` has the
-    /// successors of activity `k + 1`. The arcs are those of the rows, one row behind another.
+    /// successors of activity `k + 1`. The arcs are those of the rows, one row after another.
     ///
     /// The limits are the caller's, so it is refused with [`NetFault::Cycle`] alone, or with
     /// [`NetFault::NoMemory`] in place of any answer.
@@ -77,9 +78,12 @@ impl Network {
         requires size { HasGoodSize (unlagged durations.items []) }
         requires durations { HasGoodDurations (unlagged durations.items []) }
         requires rows { AreRows (length durations.items) (rows_in rows.now) }
-        ensures accepted { IfOk result (λ net. (net ≡ unlagged durations.items (arcs_of_rows 1 (rows_in rows.now))) × IsSound net) }
-        ensures refused { IfErr result (IsFirstFault (unlagged durations.items (arcs_of_rows 1 (rows_in rows.now)))) }
-        ensures cycle { IfErr result (NamesCycle (unlagged durations.items (arcs_of_rows 1 (rows_in rows.now)))) }
+        ensures accepted { IfOk result (λ net.
+            (net ≡ unlagged durations.items (arcs_of_rows 1 (rows_in rows.now))) × IsSound net) }
+        ensures refused { IfErr result (IsFirstFault
+            (unlagged durations.items (arcs_of_rows 1 (rows_in rows.now)))) }
+        ensures cycle { IfErr result (NamesCycle
+            (unlagged durations.items (arcs_of_rows 1 (rows_in rows.now)))) }
         ensures only { IfErr result IsCycleOrMemory }
     {
         let arcs = Arcs::of_rows(alloc, durations, rows)?;
@@ -116,7 +120,8 @@ impl Network {
     pub fn preds(&self, j: u32) -> &[u32]
         requires { IsActivity self.now j }
         ensures exact { ListsRising (λ i. IsArc self.now i j) result.now }
-        ensures activities { EachIndex result.now (λ k. IsActivity self.now (slice_index result.now k)) }
+        ensures activities { EachIndex result.now
+            (λ k. IsActivity self.now (slice_index result.now k)) }
     {
         self.arcs.preds(j)
     }
@@ -125,7 +130,8 @@ impl Network {
     pub fn succs(&self, j: u32) -> &[u32]
         requires { IsActivity self.now j }
         ensures exact { ListsRising (IsArc self.now j) result.now }
-        ensures activities { EachIndex result.now (λ k. IsActivity self.now (slice_index result.now k)) }
+        ensures activities { EachIndex result.now
+            (λ k. IsActivity self.now (slice_index result.now k)) }
     {
         self.arcs.succs(j)
     }
@@ -134,12 +140,13 @@ impl Network {
     pub fn order(&self) -> &[u32]
         ensures least { IsLeastOrder self.now result.now }
         ensures topological { IsTopological self.now result.now }
-        ensures activities { EachIndex result.now (λ k. IsActivity self.now (slice_index result.now k)) }
+        ensures activities { EachIndex result.now
+            (λ k. IsActivity self.now (slice_index result.now k)) }
     {
         self.order.as_slice()
     }
 
-    /// The lag of the arc from `i` to `j`; `None` where there is no such arc.
+    /// The lag of the arc from `i` to `j`; `None` if there is no such arc.
     pub fn lag(&self, i: u32, j: u32) -> Option<u64>
         ensures some { IfSome result (λ w. IsArc self.now i j × (w ≡ lag_of self.now i j)) }
         ensures none { IfNone result (IsArc self.now i j → ⊥) }
@@ -163,21 +170,24 @@ impl Network {
     /// The lags of the arcs to `j`, each at the place that its predecessor has in `preds`.
     pub fn lags_into(&self, j: u32) -> &[u64]
         requires { IsActivity self.now j }
-        ensures value { (row : List ℕ) → ListsRising (λ i. IsArc self.now i j) row → result.now ≡ map (λ i. lag_of self.now i j) row }
+        ensures value { (row : List ℕ) → ListsRising (λ i. IsArc self.now i j) row →
+            result.now ≡ map (λ i. lag_of self.now i j) row }
         ensures limit { EachIndex result.now (λ k. slice_index result.now k ≤ LONGEST_LAG) }
     {
         self.arcs.lags_into(j)
     }
 
-    /// Gives the arc from `i` to `j` the lag. Takes no memory.
+    /// Gives the arc from `i` to `j` the lag. Allocates nothing.
     ///
-    /// Refused with [`NetFault::NoArc`] where there is no such arc, then with [`NetFault::BadLag`] where the lag
+    /// Returns the error [`NetFault::NoArc`] if there is no such arc, then [`NetFault::BadLag`] if the lag
     /// is above 10,000.
     pub fn set_lag(&mut self, i: u32, j: u32, lag: u64) -> Result<(), NetFault>
         ensures sound { IsSound self.new }
-        ensures ok { OnOk result (IsArc self.old i j × (lag ≤ LONGEST_LAG) × (self.new ≡ with_lag self.old i j lag)) }
+        ensures ok { OnOk result (IsArc self.old i j × (lag ≤ LONGEST_LAG) ×
+            (self.new ≡ with_lag self.old i j lag)) }
         ensures value { OnOk result (lag_of self.new i j ≡ lag) }
-        ensures others { OnOk result ((h k : ℕ) → ((h ≡ i) × (k ≡ j) → ⊥) → lag_of self.new h k ≡ lag_of self.old h k) }
+        ensures others { OnOk result ((h k : ℕ) → ((h ≡ i) × (k ≡ j) → ⊥) →
+            lag_of self.new h k ≡ lag_of self.old h k) }
         ensures refused { IfErr result (IsLagFault self.old i j lag) }
         ensures err { OnErr result (self.new ≡ self.old) }
     {

@@ -81,7 +81,8 @@ pub fn least_order(alloc: Global, arcs: &Arcs) -> Result<(Vec<u32>, Vec<bool>), 
 /// The least open activity, if there is one.
 pub fn first_open(placed: &[bool]) -> Option<u32>
     requires { length placed.now ≤ MOST_ACTIVITIES }
-    ensures some { IfSome result (λ j. IsLeast (λ h. (1 ≤ h) × (h ≤ length placed.now) × IsOpen placed.now h) j) }
+    ensures some { IfSome result (λ j. IsLeast
+        (λ h. (1 ≤ h) × (h ≤ length placed.now) × IsOpen placed.now h) j) }
     ensures none { IfNone result ((j : ℕ) → 1 ≤ j → j ≤ length placed.now → IsPlaced placed.now j) }
 {
     'marks: for (k, &mark) in placed.iter().enumerate() {

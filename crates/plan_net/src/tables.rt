@@ -59,7 +59,8 @@ pub fn no_lags(alloc: Global, rows: &[Vec<u32>]) -> Result<Vec<Vec<u64>>, AllocE
 // Where a number stands in a rising row. In one that has all numbers from 1 on, each stands at its own place.
 fn place_in_row(row: &[u32], i: u32) -> Option<usize>
     requires { IsStrictlyIncreasing row.now }
-    ensures some { IfSome result (λ place. (place < length row.now) × (slice_index row.now place ≡ i)) }
+    ensures some { IfSome result (λ place. (place < length row.now) ×
+        (slice_index row.now place ≡ i)) }
     ensures none { IfNone result (Contains row.now i → ⊥) }
 {
     if i > 0 && i as usize <= row.len() && row[i as usize - 1] == i {
@@ -74,8 +75,11 @@ fn place_in_row(row: &[u32], i: u32) -> Option<usize>
 /// The row and the place in it of the arc from `i` to `j`, in the rows of the predecessors.
 pub fn place_in(rows: &[Vec<u32>], i: u32, j: u32) -> Option<(usize, usize)>
     requires { (k : ℕ) → k < length rows.now → IsStrictlyIncreasing (row_at rows.now k) }
-    ensures some { IfSome result (λ place. (place.0 + 1 ≡ j) × (place.0 < length rows.now) × (place.1 < length (row_at rows.now place.0)) × (slice_index (row_at rows.now place.0) place.1 ≡ i)) }
-    ensures none { IfNone result (1 ≤ j → j ≤ length rows.now → Contains (row_at rows.now (j - 1)) i → ⊥) }
+    ensures some { IfSome result (λ place. (place.0 + 1 ≡ j) × (place.0 < length rows.now) ×
+        (place.1 < length (row_at rows.now place.0))
+        × (slice_index (row_at rows.now place.0) place.1 ≡ i)) }
+    ensures none { IfNone result (1 ≤ j → j ≤ length rows.now → Contains
+        (row_at rows.now (j - 1)) i → ⊥) }
 {
     if j == 0 || j as usize > rows.len() {
         return None;

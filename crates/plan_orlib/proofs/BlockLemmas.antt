@@ -20,7 +20,7 @@ rows_before_both p q (line ∷ others) = by_tests (p line.text) (q line.text) re
     by_tests false true e f same = rw (e, f) refl
     by_tests false false e f same = rw (e, f, e) (ap (λ xs. line ∷ xs) same)
 
--- where none is to come, the note stands
+-- if none is to come, the note stands
 pub note_stands : {A : Type 0} (note : Option A) → noted_or note None ≡ note
 note_stands (Some first) = refl
 note_stands None = refl

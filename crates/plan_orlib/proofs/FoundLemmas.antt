@@ -14,13 +14,13 @@ use Rattle.plan_psplib.specs.Faults.{TellsError}
 use Rattle.plan_psplib.specs.Lines.{NumberedLine, last_line, lines}
 use Rattle.plan_psplib.specs.Numbers.{number}
 use Rattle.plan_psplib.specs.Streams.{LineWord, Stream}
-use Rattle.plan_psplib.specs.Reading.{◌>>=◌, Fails, fault, check, as_number, number_of_words, number_at, limited, limited_at, greatest, greatest_total, duration_at}
+use Rattle.plan_psplib.specs.Tokens.{◌>>=◌, Fails, fault, check, as_number, number_of_words, number_at, limited, limited_at, greatest, greatest_total, duration_at}
 use Rattle.plan_psplib.specs.Plain.{longest_text, zero_line, no_zero, plain}
 use Rattle.plan_psplib.proofs.GoesLemmas.{then_ok}
 use Rattle.plan_orlib.specs.declared.steps.Step.{Step}
 use Rattle.plan_orlib.specs.Instances.{instance_name, is_name, block, block_from, is_bare, bare_name, bare_stream, stream_of, names_of}
 use Rattle.plan_orlib.specs.Shop.{Shop, most_jobs, most_machines, time_of, total_time}
-use Rattle.plan_orlib.specs.Reading.{machine_at, step_at, steps_at, jobs_at, shop_at, found_stream, located, shop}
+use Rattle.plan_orlib.specs.ShopText.{machine_at, step_at, steps_at, jobs_at, shop_at, found_stream, located, shop}
 use Rattle.plan_orlib.proofs.TextLemmas.{stream_is}
 
 abbrev all_names : List NumberedLine → List (List ℕ)

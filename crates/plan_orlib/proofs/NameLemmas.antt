@@ -5,11 +5,11 @@ use Rattle.plan_psplib.specs.declared.text.fault.FileFault.{FileFault}
 use Rattle.plan_psplib.specs.declared.text.fault.ReadError.{ReadError}
 use Rattle.plan_psplib.specs.declared.text.fault.ReadError.TheVariants as errors
 use Rattle.plan_psplib.specs.Faults.{IsWantOfMemory, TellsError}
-use Rattle.plan_psplib.specs.Reading.{◌>>=◌, Fails}
+use Rattle.plan_psplib.specs.Tokens.{◌>>=◌, Fails}
 use Rattle.plan_psplib.specs.Plain.{plain}
 use Rattle.plan_psplib.proofs.GoesLemmas.{then_ok, same_ok}
 use Rattle.plan_orlib.specs.Instances.{names_of}
-use Rattle.plan_orlib.specs.Reading.{FailsWith, names}
+use Rattle.plan_orlib.specs.ShopText.{FailsWith, names}
 
 -- a file isn't read for what its reading ends with
 pub told : {A : Type 0} (read : Result A Fault) (e : ReadError) (fault : FileFault) → Fails e read → TellsError e fault → IsWantOfMemory fault ⊎ FailsWith read fault
@@ -31,7 +31,7 @@ names_fail text (errors.Fault f) fails = by_text (plain text) fails
     by_text (Ok u) e = absurd (cc)
     by_text (Err g) e = cc
 
--- of a text that is fit to be read, names aren't given for want of memory alone
+-- of a text that is fit to be read, names aren't given because memory ran out alone
 pub names_only : (text : List ℕ) (e : ReadError) (fault : FileFault) → plain text ≡ Ok tt → Fails e (names text) → TellsError e fault → IsWantOfMemory fault
 names_only text errors.Memory fault good fails tells = tells
 names_only text (errors.Fault f) fault good fails tells = let no : Err f ≡ Ok tt = sym (names_fail text (errors.Fault f) fails) ∙ good in absurd (cc)

@@ -5,7 +5,7 @@ use Rattle.plan_psplib.specs.declared.text.fault.FileFault.{FileFault}
 use Rattle.plan_psplib.proofs.GoesLemmas.{same_ok}
 use Rattle.plan_psplib.proofs.OnceLemmas.{ReadAlike, never_both, fault_once}
 use Rattle.plan_orlib.specs.Shop.{Shop}
-use Rattle.plan_orlib.specs.Reading.{shop, FailsWith}
+use Rattle.plan_orlib.specs.ShopText.{shop, FailsWith}
 use Rattle.plan_orlib.specs.Says.{Says}
 use Rattle.plan_orlib.proofs.TextLemmas.{said_shop}
 

@@ -3,11 +3,11 @@ use Rattle.std.proofs.Common.{◌≡◌, ℕ, List, [], ◌∷◌, Ok, Err, code
 use Rattle.plan_psplib.specs.declared.text.fault.FileCode.TheVariants as code
 use Rattle.plan_psplib.specs.Lines.{lines}
 use Rattle.plan_psplib.specs.Streams.{words_of}
-use Rattle.plan_psplib.specs.Reading.{number_at, limited, limited_at, duration_at}
+use Rattle.plan_psplib.specs.Tokens.{number_at, limited, limited_at, duration_at}
 use Rattle.plan_psplib.specs.Plain.{plain}
 use Rattle.plan_orlib.specs.declared.steps.Step.{Step}
 use Rattle.plan_orlib.specs.Instances.{names_of}
-use Rattle.plan_orlib.specs.Reading.{machine_at, step_at, steps_at, jobs_at, shop_at, shop}
+use Rattle.plan_orlib.specs.ShopText.{machine_at, step_at, steps_at, jobs_at, shop_at, shop}
 
 abbrev step : ℕ → ℕ → Step
 step machine time = record { machine = machine; time = time }

@@ -9,13 +9,13 @@ use Rattle.std.proofs.lemmas.List.Sums.{sum_by_push, sum_by-cons}
 use Rattle.plan_psplib.specs.declared.text.fault.FileCode.TheVariants as code
 use Rattle.plan_psplib.specs.Numbers.{number}
 use Rattle.plan_psplib.specs.Streams.{LineWord, Stream}
-use Rattle.plan_psplib.specs.Reading.{check, number_at, limited_at, greatest_total, duration_at}
+use Rattle.plan_psplib.specs.Tokens.{check, number_at, limited_at, greatest_total, duration_at}
 use Rattle.plan_psplib.specs.Says.{Spells}
 use Rattle.plan_psplib.proofs.GoesLemmas.{Goes, goes_append, goes_split, then_ok, ok_bind, same_ok, check_ok, ok_check, number_goes, goes_number, limited_goes, goes_limited}
 use Rattle.plan_psplib.proofs.AmountsLemmas.{duration_goes, goes_duration}
 use Rattle.plan_orlib.specs.declared.steps.Step.{Step}
 use Rattle.plan_orlib.specs.Shop.{Shop, IsShop, IsStep, IsJob, most_jobs, most_machines, time_of, total_time}
-use Rattle.plan_orlib.specs.Reading.{machine_at, step_at, steps_at, jobs_at, shop_at}
+use Rattle.plan_orlib.specs.ShopText.{machine_at, step_at, steps_at, jobs_at, shop_at}
 use Rattle.plan_orlib.specs.Says.{job_numbers, shop_numbers, BeginsWith}
 
 -- ---- words that begin with some numbers

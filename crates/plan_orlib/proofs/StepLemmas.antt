@@ -3,11 +3,11 @@ use Rattle.std.proofs.Common.{◌≡◌, ℕ, suc, ◌-◌, ◌+◌, ◌≤◌, 
 use Rattle.plan_psplib.specs.declared.text.fault.Fault.{Fault}
 use Rattle.plan_psplib.specs.declared.text.fault.ReadError.{ReadError}
 use Rattle.plan_psplib.specs.Streams.{Stream}
-use Rattle.plan_psplib.specs.Reading.{◌>>=◌, Fails}
+use Rattle.plan_psplib.specs.Tokens.{◌>>=◌, Fails}
 use Rattle.plan_psplib.proofs.LoopLemmas.{goes_on, fails, is_done}
 use Rattle.plan_orlib.specs.declared.steps.Step.{Step}
 use Rattle.plan_orlib.specs.Shop.{time_of, total_time}
-use Rattle.plan_orlib.specs.Reading.{step_at, steps_at, jobs_at}
+use Rattle.plan_orlib.specs.ShopText.{step_at, steps_at, jobs_at}
 
 -- the state of the loop over steps: those so far, and what is left to read
 abbrev Steps : Type 0

@@ -5,13 +5,13 @@ use Rattle.plan_psplib.specs.declared.text.fault.Fault.{Fault}
 use Rattle.plan_psplib.specs.declared.text.fault.ReadError.{ReadError}
 use Rattle.plan_psplib.specs.Lines.{last_line}
 use Rattle.plan_psplib.specs.Streams.{Stream}
-use Rattle.plan_psplib.specs.Reading.{Gives}
+use Rattle.plan_psplib.specs.Tokens.{Gives}
 use Rattle.plan_psplib.specs.Plain.{plain}
 use Rattle.plan_psplib.proofs.GoesLemmas.{then_ok, ok_bind, same_ok}
 use Rattle.plan_orlib.specs.declared.steps.Listing as declared
 use Rattle.plan_orlib.specs.Instances.{stream_of}
 use Rattle.plan_orlib.specs.Shop.{Shop, shop_of}
-use Rattle.plan_orlib.specs.Reading.{found_stream, shop}
+use Rattle.plan_orlib.specs.ShopText.{found_stream, shop}
 use Rattle.plan_orlib.specs.Says.{Says}
 use Rattle.plan_orlib.proofs.ShopLemmas.{shop_spelled, shop_read}
 

@@ -60,7 +60,7 @@ abbrev pub begins_with_two_numbers : List NumberedLine → Bool
 begins_with_two_numbers [] = false
 begins_with_two_numbers (line ∷ others) = are_two_numbers (words line.text)
 
--- a text is in the bare form where its first line that isn't blank is exactly two numbers
+-- a text is in the bare form if its first line that isn't blank is exactly two numbers
 abbrev pub is_bare : List ℕ → Bool
 is_bare text = begins_with_two_numbers (nonblank (lines text))
 

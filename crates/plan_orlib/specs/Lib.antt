@@ -1,6 +1,6 @@
 pub mod Instances
 pub mod Shop
-pub mod Reading
+pub mod ShopText
 pub mod Says
 pub use Rattle.plan_psplib.specs.Faults
 pub use Rattle.plan_psplib.specs.Document

@@ -1,7 +1,7 @@
 -- A job shop as a file gives it (docs/definitions.md, "Job shop files").
 use Rattle.std.specs.Prelude.{◌≡◌, ℕ, ◌≤◌, ◌<◌, List, All, length, map}
 use Rattle.std.specs.List.{sum_by}
-use Rattle.plan_psplib.specs.Reading.{greatest, greatest_total}
+use Rattle.plan_psplib.specs.Tokens.{greatest, greatest_total}
 use Rattle.plan_orlib.specs.declared.steps.Step.{Step}
 use Rattle.plan_orlib.specs.declared.steps.Listing as declared
 

@@ -51,7 +51,8 @@ fn is_plus(line: &[u8]) -> bool
 
 /// The name that a line gives, where it is an instance line.
 pub fn instance_name(line: &[u8]) -> Option<&[u8]>
-    ensures { MatchOption result (spec.instance_name line.now ≡ None) (λ name. spec.instance_name line.now ≡ Some name.now) }
+    ensures { MatchOption result (spec.instance_name line.now ≡ None)
+        (λ name. spec.instance_name line.now ≡ Some name.now) }
 {
     let mut words = Words::new(line);
     let first = words.next_word()?;
@@ -142,7 +143,7 @@ fn block_words(instance: u64, behind: Lines<'_>) -> StreamWords<'_, Block>
     StreamWords::new(instance, lines)
 }
 
-// Goes behind the description of a block; leaves no line where the block has none.
+// Goes behind the description of a block; leaves no line if the block has none.
 fn skip_description(lines: &mut Lines<'_>)
     ensures { spec.block_lines lines.new ≡ spec.behind_description (spec.block_lines lines.old) }
 {

@@ -2,11 +2,11 @@
 //! bare form of one shop without a name.
 #![tactic(auto)]
 
+mod instance_names;
 mod instances;
-mod naming;
 mod shop;
 mod steps;
 
-pub use naming::names;
+pub use instance_names::names;
 pub use shop::{ShopDoc, read_shop};
 pub use steps::Step;

@@ -7,9 +7,9 @@ ghost use Rattle.plan_psplib.specs.declared.text.fault.Fault.{Fault};
 ghost use Rattle.plan_psplib.specs.declared.text.fault.FileCode.TheVariants as code;
 ghost use Rattle.plan_psplib.specs.declared.text.fault.ReadError.TheVariants as errors;
 ghost use Rattle.plan_psplib.specs.Lines.{last_line};
-ghost use Rattle.plan_psplib.specs.Reading.{Gives};
+ghost use Rattle.plan_psplib.specs.Tokens.{Gives};
 ghost use Rattle.plan_orlib.specs.Instances.{names_of};
-ghost use Rattle.plan_orlib.specs.Reading as reading;
+ghost use Rattle.plan_orlib.specs.ShopText as reading;
 ghost use Rattle.plan_orlib.specs.Says.{Says};
 ghost use Rattle.plan_orlib.specs.Shop as spec;
 
@@ -21,7 +21,7 @@ use std::marker::Model;
 
 /// A job shop: how many machines it has, and the steps of each job in their order. Jobs are numbered
 /// from 1, machines from 0. Each job has as many steps as there are machines, so that the steps of all
-/// jobs, one job behind another, are numbered by job and place with no gap.
+/// jobs, one job after another, are numbered by job and place with no gap.
 #[derive(Drop)]
 pub struct ShopDoc {
     machines: u32,
@@ -34,13 +34,17 @@ impl Model for ShopDoc {
 
     ghost Value = { Shop };
 
-    ghost view = { λ doc. record { machines = doc.machines; jobs = map (λ job. job.items) doc.jobs.items } };
+    ghost view = { λ doc. record {
+      machines = doc.machines;
+      jobs = map (λ job. job.items) doc.jobs.items;
+    } };
 
-    ghost invariant = { λ doc. IsShop (record { machines = doc.machines; jobs = map (λ job. job.items) doc.jobs.items }) };
+    ghost invariant = { λ doc. IsShop
+        (record { machines = doc.machines; jobs = map (λ job. job.items) doc.jobs.items }) };
 }
 
 impl ShopDoc {
-    /// How many machines there are.
+    /// Returns the number of machines.
     pub fn machines(&self) -> u32
         ensures value { result ≡ self.now.machines }
         ensures shop { spec.IsShop self.now }
@@ -48,7 +52,7 @@ impl ShopDoc {
         self.machines
     }
 
-    /// How many jobs there are.
+    /// Returns the number of jobs.
     pub fn jobs(&self) -> u32
         ensures value { result ≡ length self.now.jobs }
         ensures shop { spec.IsShop self.now }
@@ -66,7 +70,7 @@ impl ShopDoc {
         &self.jobs[job as usize - 1]
     }
 
-    /// How many machines there are, and the steps of each job.
+    /// Returns the number of machines, and the steps of each job.
     pub fn into_parts(self) -> (u32, Vec<Vec<Step>>)
         ensures machines { result.0 ≡ self.machines }
         ensures jobs { map (λ job. job.items) result.1.items ≡ self.jobs }
@@ -81,8 +85,8 @@ impl ShopDoc {
 /// line 0), `NotText` (F2, the line of the first zero byte), `NoInstance` (F13, the last line), and then
 /// word by word `BadNumber` (F6), `Limit` (F10: 1 to 50 jobs, 1 to 20 machines, a time up to 10,000
 /// units, all times together up to 1,000,000), `BadMachine` (F14) and `Count` (F9: a word is missing;
-/// the line of the last word, or of the instance line where there is none). Words behind the last step
-/// are skipped. Want of memory may come in place of any answer but a refusal before the words are read.
+/// the line of the last word, or of the instance line if there is none). Words behind the last step
+/// are skipped. Out of memory can replace any result but a refusal before the words are read.
 ///
 /// The format is that of `jobshop1` (J. E. Beasley, "OR-Library: distributing test problems by
 /// electronic mail", Journal of the Operational Research Society 41, 1990).
@@ -90,18 +94,23 @@ pub fn read_shop(alloc: Global, text: &[u8], name: &[u8]) -> Result<ShopDoc, Fil
     // What is read is what the text says.
     ensures found { IfOk result (λ shop. Says name.now text.now shop) }
     // What the text says is read, unless memory runs out.
-    ensures only { (shop : spec.Shop) → Says name.now text.now shop → MatchResult result (λ read. read ≡ shop) IsWantOfMemory }
+    ensures only { (shop : spec.Shop) → Says name.now text.now shop →
+        MatchResult result (λ read. read ≡ shop) IsWantOfMemory }
     // Which check is the first that fails.
-    ensures refused { IfErr result (λ fault. IsWantOfMemory fault ⊎ reading.FailsWith (reading.shop name.now text.now) fault) }
+    ensures refused { IfErr result (λ fault. IsWantOfMemory fault ⊎ reading.FailsWith
+        (reading.shop name.now text.now) fault) }
     // What fails before the stream is read is refused for that, whatever memory there is.
-    ensures early { (f : Fault) → reading.located name.now text.now ≡ Err f → MatchResult result (λ _. ⊥) (TellsError (errors.Fault f)) }
+    ensures early { (f : Fault) → reading.located name.now text.now ≡ Err f →
+        MatchResult result (λ _. ⊥) (TellsError (errors.Fault f)) }
     // What is found has one of the names that `names` gives.
     ensures named { IfOk result (λ _. Contains (names_of text.now) name.now) }
     // Of a text that is fit to be read, any other name is missing, told at the last line, whatever memory there is.
-    ensures unnamed { plain text.now ≡ Ok tt → ¬ (Contains (names_of text.now) name.now) → MatchResult result (λ _. ⊥)
+    ensures unnamed { plain text.now ≡ Ok tt → ¬ (Contains (names_of text.now) name.now) →
+        MatchResult result (λ _. ⊥)
         (λ fault. (fault.code ≡ code.NoInstance) × (fault.line ≡ last_line text.now)) }
     // No name is missing that `names` gives.
-    ensures missing { IfErr result (λ fault. fault.code ≡ code.NoInstance → ¬ (Contains (names_of text.now) name.now)) }
+    ensures missing { IfErr result (λ fault. fault.code ≡ code.NoInstance → ¬
+        (Contains (names_of text.now) name.now)) }
 {
     match named_listing(alloc, text, name) {
         Ok(listing) => Ok(ShopDoc {
@@ -116,17 +125,20 @@ pub fn read_shop(alloc: Global, text: &[u8], name: &[u8]) -> Result<ShopDoc, Fil
 fn named_listing(alloc: Global, text: &[u8], name: &[u8]) -> Result<Listing, ReadError>
     ensures exact { Gives spec.shop_of result (reading.shop name.now text.now) }
     ensures found { IfOk result (λ l. Says name.now text.now (spec.shop_of l)) }
-    ensures only { (shop : spec.Shop) → Says name.now text.now shop → Gives spec.shop_of result (Ok shop) }
-    ensures early { (f : Fault) → reading.located name.now text.now ≡ Err f → MatchResult result (λ _. ⊥) (λ e. e ≡ errors.Fault f) }
+    ensures only { (shop : spec.Shop) → Says name.now text.now shop →
+        Gives spec.shop_of result (Ok shop) }
+    ensures early { (f : Fault) → reading.located name.now text.now ≡ Err f →
+        MatchResult result (λ _. ⊥) (λ e. e ≡ errors.Fault f) }
 {
     instance_listing(alloc, text, name)
 }
 
 // The shop of an instance, after the checks of the text.
-#[tactic(auto, unfolding(crate::specs::Reading::shop, crate::specs::Reading::located))]
+#[tactic(auto, unfolding(crate::specs::ShopText::shop, crate::specs::ShopText::located))]
 fn instance_listing(alloc: Global, text: &[u8], name: &[u8]) -> Result<Listing, ReadError>
     ensures exact { Gives spec.shop_of result (reading.shop name.now text.now) }
-    ensures early { (f : Fault) → reading.located name.now text.now ≡ Err f → MatchResult result (λ _. ⊥) (λ e. e ≡ errors.Fault f) }
+    ensures early { (f : Fault) → reading.located name.now text.now ≡ Err f →
+        MatchResult result (λ _. ⊥) (λ e. e ≡ errors.Fault f) }
 {
     check_text(text)?;
     let found = Found::of(text, name);

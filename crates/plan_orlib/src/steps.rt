@@ -1,9 +1,9 @@
 //! The numbers of a shop: how many jobs and machines, and the steps of each job.
 
 ghost use Rattle.std.specs.Prelude.{◌≡◌, ◌≤◌, ◌+◌, [], IfOk, map};
-ghost use Rattle.plan_psplib.specs.Reading.{Gives, Reads, greatest_total};
+ghost use Rattle.plan_psplib.specs.Tokens.{Gives, Reads, greatest_total};
 ghost use Rattle.plan_orlib.specs.Shop.{shop_of, time_of};
-ghost use Rattle.plan_orlib.specs.Reading as spec;
+ghost use Rattle.plan_orlib.specs.ShopText as spec;
 
 use plan_psplib::{
     Fault, FileCode, Layout, ReadError, StreamWords, next_duration, next_limited, next_number,
@@ -37,7 +37,7 @@ struct Row {
 }
 
 /// The shop at the front of some words.
-#[tactic(auto, unfolding(crate::specs::Reading::shop_at))]
+#[tactic(auto, unfolding(crate::specs::ShopText::shop_at))]
 pub fn read_listing<L: Layout>(
     alloc: Global,
     words: &mut StreamWords<'_, L>,
@@ -57,7 +57,8 @@ fn all_jobs<L: Layout>(
     jobs: u32,
     machines: u32,
 ) -> Result<Vec<Vec<Step>>, ReadError>
-    ensures { Gives (λ rows. (map (λ row. row.items) rows.items, words.new)) result (spec.jobs_at machines jobs [] words.old) }
+    ensures { Gives (λ rows. (map (λ row. row.items) rows.items, words.new)) result
+        (spec.jobs_at machines jobs [] words.old) }
 {
     let mut rows = Vec::new(alloc);
     let mut total = 0;
@@ -77,7 +78,8 @@ fn next_job<L: Layout>(
     before: u64,
 ) -> Result<Row, ReadError>
     requires { before ≤ greatest_total }
-    ensures exact { Gives (λ row. (row.steps.items, words.new)) result (spec.steps_at machines before machines [] words.old) }
+    ensures exact { Gives (λ row. (row.steps.items, words.new)) result
+        (spec.steps_at machines before machines [] words.old) }
     ensures total { IfOk result (λ row. row.total ≡ before + time_of row.steps.items) }
     ensures fits { IfOk result (λ row. row.total ≤ greatest_total) }
 {
@@ -92,14 +94,15 @@ fn next_job<L: Layout>(
 }
 
 // A step, where the times before it add up to a total.
-#[tactic(auto, unfolding(crate::specs::Reading::step_at))]
+#[tactic(auto, unfolding(crate::specs::ShopText::step_at))]
 fn next_step<L: Layout>(
     words: &mut StreamWords<'_, L>,
     machines: u32,
     total: u64,
 ) -> Result<Step, Fault>
     requires { total ≤ greatest_total }
-    ensures exact { Reads (λ step. (step, words.new)) result (spec.step_at machines total words.old) }
+    ensures exact { Reads (λ step. (step, words.new)) result
+        (spec.step_at machines total words.old) }
     ensures fits { IfOk result (λ step. total + step.time ≤ greatest_total) }
 {
     let machine = machine(words, machines)?;
@@ -108,7 +111,7 @@ fn next_step<L: Layout>(
 }
 
 // The number of one of the machines.
-#[tactic(auto, unfolding(crate::specs::Reading::machine_at))]
+#[tactic(auto, unfolding(crate::specs::ShopText::machine_at))]
 fn machine<L: Layout>(words: &mut StreamWords<'_, L>, machines: u32) -> Result<u32, Fault>
     ensures { Reads (λ n. (n, words.new)) result (spec.machine_at machines words.old) }
 {

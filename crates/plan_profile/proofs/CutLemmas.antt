@@ -5,7 +5,7 @@ use Rattle.std.proofs.lemmas.List.{ext_get_or}
 use Rattle.std.proofs.lemmas.List.Edits.{length-insert, get_or-insert_below, get_or-insert_at, get_or-insert_above, length-remove, get_or-remove_below, get_or-remove_above}
 use Rattle.std.proofs.lemmas.Bool.{cases_lt, cases_eq}
 use Rattle.plan_profile.specs.Steps.{changes_until, amount_at, amount, IsSteps}
-use Rattle.plan_profile.specs.Changing.{IsRowOf, IsCut, IsMerged}
+use Rattle.plan_profile.specs.Changes.{IsRowOf, IsCut, IsMerged}
 use Rattle.plan_profile.proofs.SegmentLemmas.{come, come_yes, come_no, within, beyond, until_mono, until_within, until_insert, until_remove, until_there, last_there}
 use Rattle.plan_profile.proofs.EditLemmas.{insert_cases, remove_cases, rising_insert, rising_remove, contains_insert, inserted_there, insert_keeps, contains_remove, remove_keeps, removed_gone}
 use Rattle.plan_profile.proofs.StepLemmas.{amount_is, before_change, from_change}

@@ -5,7 +5,7 @@ use Rattle.std.proofs.lemmas.List.{ext_get_or}
 use Rattle.std.proofs.lemmas.Bool.{cases_lt, cases_eq}
 use Rattle.plan_profile.specs.Usage.{used_before}
 use Rattle.plan_profile.specs.Steps.{changes_until, amount, IsSteps, AreChanges}
-use Rattle.plan_profile.specs.Changing.{IsSameUsage, IsCut, IsMerged, IsRaised, HasSums, HasSumsBetween, IsPlaced}
+use Rattle.plan_profile.specs.Changes.{IsSameUsage, IsCut, IsMerged, IsRaised, HasSums, HasSumsBetween, IsPlaced}
 use Rattle.plan_profile.proofs.SegmentLemmas.{until_mono, until_from, until_there, until_within, until_change}
 use Rattle.plan_profile.proofs.StepLemmas.{amount_is, amount_row}
 use Rattle.plan_profile.proofs.RowLemmas.{inside_yes, inside_before, inside_after}

@@ -5,7 +5,7 @@ use Rattle.std.proofs.lemmas.Nat.{row_fits}
 use borrow.Rule.Slice.PartMut.{put_mid}
 use Rattle.std.proofs.lemmas.Bool.{cases_lt, cases_eq, le-leb, lt-leb, lt-ltb, le-ltb, cond-true, cond-false, and_from, and_left, and_right}
 use Rattle.plan_profile.specs.Steps.{lists, amount_at, changes_until, AreRows, IsSteps}
-use Rattle.plan_profile.specs.Changing.{IsRowOf, IsRowWith, AreRaised, IsRaised, HasSums, HaveSums}
+use Rattle.plan_profile.specs.Changes.{IsRowOf, IsRowWith, AreRaised, IsRaised, HasSums, HaveSums}
 use Rattle.plan_profile.proofs.FlatLemmas.{length_lists, list_at, list_past, amount_there, amount_beside, row_within, length-row_at}
 use Rattle.plan_profile.proofs.StepLemmas.{amount_row}
 

@@ -1,4 +1,4 @@
 pub mod Usage
 pub mod Steps
-pub mod Changing
+pub mod Changes
 pub mod InUse

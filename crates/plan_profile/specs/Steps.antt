@@ -1,6 +1,6 @@
 -- How a profile keeps usage: the instants at which it changes, and a row of amounts for the time
--- before the first of them and from each of them on. The rows stand one behind another in one list.
--- No public clause speaks of these words. See "Schedules" in docs/definitions.md.
+-- before the first of them and from each of them on. The rows stand one after another in one list.
+-- No public contract uses these definitions. See "Schedules" in docs/definitions.md.
 use Rattle.std.specs.Prelude.{◌≡◌, ℕ, ◌+◌, ◌*◌, ◌≤◌, ◌<◌, nat_le, List, [], length, map, take, drop}
 use Rattle.std.specs.Prelude.{count_by, slice_index, slice_index_or, Contains}
 use Rattle.std.specs.List.{range_with_len}
@@ -10,7 +10,7 @@ use Rattle.plan_profile.specs.Usage.{IsRising, used_before}
 abbrev pub changes_until : List ℕ → ℕ → ℕ
 changes_until changes t = count_by (λ c. nat_le c t) changes
 
--- row i of a list of amounts in which rows of one width stand one behind another
+-- row i of a list of amounts in which rows of one width stand one after another
 abbrev pub row_at : ℕ → List ℕ → ℕ → List ℕ
 row_at width amounts i = take width (drop (i * width) amounts)
 

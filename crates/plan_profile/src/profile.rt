@@ -16,7 +16,7 @@ pub const END: u64 = 10_000_000;
 /// How much of each resource is in use at each instant, beside the constant capacities of the
 /// resources. Resources are numbered from 1, instants are whole time units from 0 on. Each call
 /// goes from change to change of the usage, so that long intervals cost no more than short ones.
-/// Only `new`, `place` and `copy` take memory, and want of it is their one error.
+/// Only `new`, `place` and `copy` allocate; their only error is out of memory.
 #[derive(Debug, Drop)]
 pub struct Profile {
     caps: Vec<u64>,
@@ -82,7 +82,7 @@ impl Profile {
     }
 
     /// The instants at which the usage of some resource differs from that of the instant before,
-    /// where nothing is in use before instant 0.
+    /// if nothing is in use before instant 0.
     pub fn changes(&self) -> &[u64]
         ensures rising { IsRising result.now }
         ensures exact { (t : ℕ) → Contains result.now t

@@ -2,7 +2,7 @@
 ghost use Rattle.std.specs.Prelude.{◌≡◌, ℕ, ◌+◌, ◌^◌, ◌≤◌, ◌<◌, ◌↔◌, length, slice_index};
 ghost use Rattle.std.specs.Prelude.{EachIndex, IsTrue, IfOk, replicate};
 ghost use Rattle.plan_profile.specs.Usage.{FitsEmpty};
-ghost use Rattle.plan_profile.specs.Changing.{IsRowWith};
+ghost use Rattle.plan_profile.specs.Changes.{IsRowWith};
 
 use std::alloc::{AllocError, Global};
 

@@ -1,8 +1,8 @@
-//! Rows of amounts that stand one behind another in one list, each as wide as there are resources.
+//! Rows of amounts that stand one after another in one list, each as wide as there are resources.
 ghost use Rattle.std.specs.Prelude.{◌≡◌, ℕ, ◌+◌, ◌*◌, ◌^◌, ◌≤◌, ◌<◌, ◌++◌, length, take, drop};
 ghost use Rattle.std.specs.Prelude.{vec_len, vec_capacity, IfOk};
 ghost use Rattle.plan_profile.specs.Steps.{row_at};
-ghost use Rattle.plan_profile.specs.Changing.{AreRaised, HaveSums};
+ghost use Rattle.plan_profile.specs.Changes.{AreRaised, HaveSums};
 
 use crate::row::add_needs;
 use std::alloc::{AllocError, Global};
@@ -30,7 +30,7 @@ pub(crate) fn copy_with_room(
     Ok(copy)
 }
 
-// Puts a row in once more behind itself, where there is spare capacity.
+// Puts a row in once more behind itself, if there is spare capacity.
 pub(crate) fn repeat_row(rows: &mut Vec<u64>, width: usize, i: usize)
     requires within { i * width + width ≤ vec_len rows.old }
     requires room { vec_len rows.old + width ≤ vec_capacity rows.old }

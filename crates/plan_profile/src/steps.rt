@@ -4,7 +4,7 @@ ghost use Rattle.std.specs.Prelude.{Contains, OnOk, OnErr};
 ghost use Rattle.plan_profile.specs.Usage.{IsRising};
 ghost use Rattle.plan_profile.specs.Steps.{changes_until, lists, amount};
 ghost use Rattle.plan_profile.specs.Steps.{AreRows, IsSteps, AreChanges};
-ghost use Rattle.plan_profile.specs.Changing.{IsCut, IsMerged, IsPlaced, HasSumsBetween};
+ghost use Rattle.plan_profile.specs.Changes.{IsCut, IsMerged, IsPlaced, HasSumsBetween};
 
 use crate::rows::{raise, remove_row, repeat_row, row};
 use std::alloc::AllocError;
@@ -17,7 +17,7 @@ pub(crate) fn segment(changes: &[u64], t: u64) -> usize
     changes.partition_point(|change| *change <= t)
 }
 
-// Inserts where there is spare capacity, so that it needs no memory.
+// Inserts if there is spare capacity, so that it allocates nothing.
 fn insert_reserved(items: &mut Vec<u64>, i: usize, item: u64)
     requires within { i ≤ vec_len items.old }
     requires room { vec_len items.old < vec_capacity items.old }

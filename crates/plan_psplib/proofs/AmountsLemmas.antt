@@ -6,7 +6,7 @@ use Rattle.std.proofs.lemmas.Bool.{leb-true, le-leb}
 use Rattle.std.proofs.lemmas.List.Sums.{sum_by_push, sum_by-cons}
 use Rattle.plan_psplib.specs.declared.text.fault.FileCode.TheVariants as code
 use Rattle.plan_psplib.specs.Streams.{Stream}
-use Rattle.plan_psplib.specs.Reading.{check, number_at, expect_at, within_at, end_at, greatest, greatest_total, duration_at}
+use Rattle.plan_psplib.specs.Tokens.{check, number_at, expect_at, within_at, end_at, greatest, greatest_total, duration_at}
 use Rattle.plan_psplib.specs.Requests.{Request, Requests, amounts_at, request_row_at, request_rows_at, with_row, requests, availabilities}
 use Rattle.plan_psplib.specs.Says.{Spells, IsNeeds, request_numbers}
 use Rattle.plan_psplib.proofs.GoesLemmas.{Goes, goes_append, goes_split, goes_spells, spells_goes, then_ok, ok_bind, same_ok, check_ok, ok_check, both_true, true_both, number_goes, goes_number, expect_goes, goes_expect, within_goes, goes_within, end_none, none_end}

@@ -4,7 +4,7 @@ use Rattle.std.specs.Prelude.{nat_le, nat_eq, not}
 use Rattle.std.specs.List.{AllByRecursion, IsDistinct}
 use Rattle.plan_psplib.specs.declared.text.fault.FileCode.TheVariants as code
 use Rattle.plan_psplib.specs.Streams.{Stream}
-use Rattle.plan_psplib.specs.Reading.{LineNumber, check, number_at, expect_at, end_at}
+use Rattle.plan_psplib.specs.Tokens.{LineNumber, check, number_at, expect_at, end_at}
 use Rattle.plan_psplib.specs.Precedence.{is_among, job_at, successor_at, successors_at, precedence_row_at, precedence_rows_at, precedence}
 use Rattle.plan_net.specs.Successors.{arcs_from, arcs_of_rows, IsRow}
 use Rattle.plan_psplib.specs.Says.{SpellsArcs, precedence_numbers}

@@ -7,7 +7,7 @@ use Rattle.plan_psplib.specs.declared.text.fault.FileCode.TheVariants as code
 use Rattle.plan_psplib.specs.declared.text.fault.Fault.{Fault}
 use Rattle.plan_psplib.specs.Numbers.{number}
 use Rattle.plan_psplib.specs.Streams.{LineWord, Stream}
-use Rattle.plan_psplib.specs.Reading.{◌>>=◌, LineNumber, check, as_number, number_of_words, number_at, expect_at, within_at, limited, limited_at, end_of_words, end_at}
+use Rattle.plan_psplib.specs.Tokens.{◌>>=◌, LineNumber, check, as_number, number_of_words, number_at, expect_at, within_at, limited, limited_at, end_of_words, end_at}
 use Rattle.plan_psplib.specs.Says.{Spells}
 
 -- what is read in two steps: both are read
@@ -72,7 +72,7 @@ spelled last (word ∷ words) (n ∷ ns) e =
 pub spells_goes : (s : Stream) (ns : List ℕ) → Spells s.words ns → (t : Stream) × Goes s ns t × (t.words ≡ [])
 spells_goes s ns e = spelled s.last s.words ns e
 
--- where nothing is left behind some numbers, they spell the stream
+-- if nothing is left behind some numbers, they spell the stream
 pub goes_spells : (s t : Stream) (ns : List ℕ) → Goes s ns t → t.words ≡ [] → Spells s.words ns
 goes_spells s t [] p e = ap (map (λ w. number w.text)) (sym (ap (λ u. u.words) p) ∙ e)
 goes_spells s t (n ∷ ns) p e =

@@ -5,7 +5,7 @@ use Rattle.plan_psplib.specs.declared.text.fault.FileCode.TheVariants as code
 use Rattle.plan_psplib.specs.Lines.{NumberedLine}
 use Rattle.plan_psplib.specs.Numbers.{number}
 use Rattle.plan_psplib.specs.Sections.{key_line, value_word}
-use Rattle.plan_psplib.specs.Reading.{LineNumber, limited}
+use Rattle.plan_psplib.specs.Tokens.{LineNumber, limited}
 use Rattle.plan_psplib.specs.Head.{Keys, Sizes, key_lines, found_line, found_lines, value_of_word, value_of, key_value, values, supported, sizes_in, sizes}
 use Rattle.plan_psplib.proofs.GoesLemmas.{then_ok, ok_bind, same_ok, check_ok, ok_check, limited_is, is_limited}
 

@@ -15,7 +15,7 @@ use Rattle.plan_net.proofs.SuccessorLemmas.{IsWithinLimits-rows}
 use Rattle.plan_net.proofs.SomeOrderLemmas.{SomeCycle, some_order}
 use Rattle.plan_psplib.specs.declared.text.fault.FileFault.{FileFault}
 use Rattle.plan_psplib.specs.Faults.{IsWantOfMemory}
-use Rattle.plan_psplib.specs.Reading.{greatest}
+use Rattle.plan_psplib.specs.Tokens.{greatest}
 use Rattle.plan_psplib.specs.Document.{Document}
 use Rattle.plan_psplib.specs.Says.{Says, IsNeeds}
 use Rattle.plan_psplib.specs.Project.{AreAmounts, IsProject, SaysProject, network_of, project_of, TellsOf, NamesCycleOf}
@@ -45,7 +45,7 @@ durations_good text d says j active =
     let total = says.total_fits in
     (small_get d.requests.durations (j - 1) says.durations_fit, omega (arith, part, total))
 
--- what is told of it is want of memory, or the cycle that is named
+-- what is told of it is out of memory, or the cycle that is named
 pub told : (d : Document) (net : NetFault) (fault : FileFault) → IsFirstFault (network_of d) net → TellsOf net d.precedence_line fault → IsWantOfMemory fault ⊎ NamesCycleOf d fault
 told d nets.NoMemory fault h tells = inl tells
 told d nets.Size fault h tells = absurd tells

@@ -9,7 +9,7 @@ noted_or-noted true None value later = refl
 noted_or-noted false (Some first) value later = refl
 noted_or-noted false None value later = refl
 
--- where none is to come, the note stands
+-- if none is to come, the note stands
 pub noted_or-None : {A : Type 0} (note : Option A) → noted_or note None ≡ note
 noted_or-None (Some first) = refl
 noted_or-None None = refl

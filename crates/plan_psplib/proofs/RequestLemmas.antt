@@ -3,7 +3,7 @@ use Rattle.std.proofs.Common.{◌≡◌, ℕ, suc, ◌-◌, ◌+◌, ◌≤◌, 
 use Rattle.plan_psplib.specs.declared.text.fault.Fault.{Fault}
 use Rattle.plan_psplib.specs.declared.text.fault.ReadError.{ReadError}
 use Rattle.plan_psplib.specs.Streams.{Stream}
-use Rattle.plan_psplib.specs.Reading.{◌>>=◌, Fails, within_at, greatest}
+use Rattle.plan_psplib.specs.Tokens.{◌>>=◌, Fails, within_at, greatest}
 use Rattle.plan_psplib.specs.Requests.{Request, Requests, amounts_at, request_row_at, request_rows_at, with_row}
 use Rattle.plan_psplib.proofs.LoopLemmas.{goes_on, fails, is_done}
 

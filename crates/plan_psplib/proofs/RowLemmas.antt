@@ -4,7 +4,7 @@ use Rattle.std.proofs.lemmas.Grind.{common_steps}
 use Rattle.plan_psplib.specs.declared.text.fault.Fault.{Fault}
 use Rattle.plan_psplib.specs.declared.text.fault.ReadError.{ReadError}
 use Rattle.plan_psplib.specs.Streams.{Stream}
-use Rattle.plan_psplib.specs.Reading.{◌>>=◌, Fails}
+use Rattle.plan_psplib.specs.Tokens.{◌>>=◌, Fails}
 use Rattle.plan_psplib.specs.Precedence.{successor_at, successors_at, precedence_row_at, precedence_rows_at}
 use Rattle.std.specs.List.{AllByRecursion}
 use Rattle.std.specs.declared.alloc.Global.{Global}

@@ -14,7 +14,7 @@ use Rattle.plan_psplib.specs.declared.text.fault.Fault.{Fault}
 use Rattle.plan_psplib.specs.Lines.{is_line_feed, last_line}
 use Rattle.plan_psplib.specs.Streams.{Stream}
 use Rattle.plan_psplib.specs.Sections.{kept_lines, head_of, section, precedence_title, requests_title, availabilities_title}
-use Rattle.plan_psplib.specs.Reading.{Gives, check}
+use Rattle.plan_psplib.specs.Tokens.{Gives, check}
 use Rattle.plan_psplib.specs.Head.{Sizes, sizes}
 use Rattle.plan_psplib.specs.Precedence.{precedence}
 use Rattle.plan_psplib.specs.Requests.{requests, availabilities}

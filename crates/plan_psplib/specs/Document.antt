@@ -8,7 +8,7 @@ use Rattle.plan_psplib.specs.Lines.{last_line}
 use Rattle.plan_psplib.specs.Plain.{plain}
 use Rattle.plan_psplib.specs.Streams.{Stream}
 use Rattle.plan_psplib.specs.Sections.{kept_lines, head_of, section, precedence_title, requests_title, availabilities_title}
-use Rattle.plan_psplib.specs.Reading.{◌>>=◌, fault}
+use Rattle.plan_psplib.specs.Tokens.{◌>>=◌, fault}
 use Rattle.plan_psplib.specs.Head.{Sizes, sizes}
 use Rattle.plan_psplib.specs.Precedence.{precedence}
 use Rattle.plan_psplib.specs.Requests.{Requests, requests, requests_of, availabilities}

@@ -9,7 +9,7 @@ use Rattle.plan_psplib.specs.declared.sm.head.Keys as declared_keys
 use Rattle.plan_psplib.specs.Lines.{NumberedLine}
 use Rattle.plan_psplib.specs.Numbers.{number}
 use Rattle.plan_psplib.specs.Sections.{key_line, value_word}
-use Rattle.plan_psplib.specs.Reading.{◌>>=◌, LineNumber, fault, check, limited}
+use Rattle.plan_psplib.specs.Tokens.{◌>>=◌, LineNumber, fault, check, limited}
 
 -- something for each of the five keys
 pub record Keys (A : Type 0) : Type 0 where
@@ -72,7 +72,7 @@ abbrev pub value_of : ℕ → Option (List ℕ) → Result LineNumber Fault
 value_of line None = fault code.BadNumber line
 value_of line (Some word) = value_of_word line (number word)
 
--- the value of a key, which is to be a number
+-- the value of a key, which must be a number
 abbrev pub key_value : NumberedLine → Result LineNumber Fault
 key_value line = value_of line.number (value_word line.text)
 

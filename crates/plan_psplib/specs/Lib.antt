@@ -2,7 +2,7 @@ pub mod Lines
 pub mod Numbers
 pub mod Streams
 pub mod Sections
-pub mod Reading
+pub mod Tokens
 pub mod Plain
 pub mod Faults
 pub mod Noted

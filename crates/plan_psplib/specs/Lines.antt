@@ -28,7 +28,7 @@ abbrev pub trim_start : List ℕ → List ℕ
 trim_start [] = []
 trim_start (byte ∷ text) = if is_blank byte then trim_start text else byte ∷ text
 
--- a byte in front of a text whose end is trimmed: a blank stays only where something stands behind it
+-- a byte in front of a text whose end is trimmed: a blank stays only if something stands behind it
 abbrev pub before_trimmed : ℕ → List ℕ → List ℕ
 before_trimmed byte [] = if is_blank byte then [] else byte ∷ []
 before_trimmed byte (next ∷ text) = byte ∷ next ∷ text
@@ -56,15 +56,15 @@ numbered_from n (text ∷ texts) = record { number = n; text = trim text } ∷ n
 abbrev pub lines : List ℕ → List NumberedLine
 lines text = numbered_from 1 (raw_lines text)
 
--- the number of the last of these lines, or n where there is none
+-- the number of the last of these lines, or n if there is none
 abbrev pub last_number_or : ℕ → List NumberedLine → ℕ
 last_number_or n [] = n
 last_number_or n (line ∷ others) = last_number_or line.number others
 
--- the number of the last line of a text, 0 where it has none
+-- the number of the last line of a text, 0 if it has none
 abbrev pub last_line : List ℕ → ℕ
 last_line text = last_number_or 0 (lines text)
 
--- the words of a line: what stands between its blanks
+-- the words of a line: the text between its blanks
 abbrev pub words : List ℕ → List (List ℕ)
 words text = filter is_nonempty (slice_split is_blank text)

@@ -5,7 +5,7 @@ use Rattle.std.specs.Option.{option_map}
 use Rattle.plan_psplib.specs.declared.text.fault.FileCode.TheVariants as code
 use Rattle.plan_psplib.specs.declared.text.fault.Fault.{Fault}
 use Rattle.plan_psplib.specs.Lines.{is_line_feed}
-use Rattle.plan_psplib.specs.Reading.{◌>>=◌, fault, check}
+use Rattle.plan_psplib.specs.Tokens.{◌>>=◌, fault, check}
 
 -- the most bytes of a text
 abbrev pub longest_text : ℕ

@@ -5,9 +5,9 @@ use Rattle.plan_net.specs.Successors.{arcs_from}
 use Rattle.plan_psplib.specs.declared.text.fault.FileCode.TheVariants as code
 use Rattle.plan_psplib.specs.declared.text.fault.Fault.{Fault}
 use Rattle.plan_psplib.specs.Streams.{Stream}
-use Rattle.plan_psplib.specs.Reading.{◌>>=◌, LineNumber, check, number_at, expect_at, end_at}
+use Rattle.plan_psplib.specs.Tokens.{◌>>=◌, LineNumber, check, number_at, expect_at, end_at}
 
--- the next word, which is to be a job of n
+-- the next word, which must be a job of n
 unfoldable pub job_at : ℕ → Stream → Result (LineNumber × Stream) Fault
 job_at n s = do
   job ← number_at s

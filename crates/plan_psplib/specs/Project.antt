@@ -8,7 +8,7 @@ use Rattle.plan_net.specs.declared.fault.NetFault.TheVariants as nets
 use Rattle.plan_psplib.specs.declared.text.fault.FileCode.TheVariants as code
 use Rattle.plan_psplib.specs.declared.text.fault.FileFault.{FileFault}
 use Rattle.plan_psplib.specs.Faults.{IsWantOfMemory}
-use Rattle.plan_psplib.specs.Reading.{greatest}
+use Rattle.plan_psplib.specs.Tokens.{greatest}
 use Rattle.plan_psplib.specs.Document.{Document, document}
 use Rattle.plan_psplib.specs.Says.{Says}
 

@@ -5,7 +5,7 @@ use Rattle.plan_psplib.specs.declared.text.fault.Fault.{Fault}
 use Rattle.plan_psplib.specs.declared.sm.requests.Request as declared
 use Rattle.plan_psplib.specs.declared.sm.requests.Requests as declared_requests
 use Rattle.plan_psplib.specs.Streams.{Stream}
-use Rattle.plan_psplib.specs.Reading.{◌>>=◌, greatest, duration_at, expect_at, within_at, end_at}
+use Rattle.plan_psplib.specs.Tokens.{◌>>=◌, greatest, duration_at, expect_at, within_at, end_at}
 
 -- what one job takes: its duration, and its need of each resource
 pub record Request : Type 0 where

@@ -7,7 +7,7 @@ use Rattle.plan_psplib.specs.Streams.{LineWord, Stream}
 use Rattle.plan_psplib.specs.Sections.{kept_lines, head_of, section, key_line, value_word, precedence_title, requests_title, availabilities_title}
 use Rattle.plan_net.specs.Limits.{fewest_activities, most_activities}
 use Rattle.plan_net.specs.Successors.{arcs_of_rows, IsRow}
-use Rattle.plan_psplib.specs.Reading.{greatest, greatest_total}
+use Rattle.plan_psplib.specs.Tokens.{greatest, greatest_total}
 use Rattle.plan_psplib.specs.Head.{most_resources}
 use Rattle.plan_psplib.specs.Document.{Document}
 use Rattle.plan_psplib.specs.Plain.{longest_text}

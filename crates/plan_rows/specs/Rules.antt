@@ -2,7 +2,7 @@
 use Rattle.std.specs.Prelude.{◌≡◌, ◌⊎◌, ℕ, ◌+◌, ◌≤◌, ◌<◌, Bool, true, false, ◌&&◌, nat_le, List, [], ◌∷◌, length, filter, Option, Some, None}
 use Rattle.std.specs.List.{AllByRecursion}
 use Rattle.plan_net.specs.Limits.{longest_lag}
-use Rattle.plan_psplib.specs.Reading.{greatest}
+use Rattle.plan_psplib.specs.Tokens.{greatest}
 use Rattle.plan_psplib.specs.Project.{Project}
 use Rattle.plan_psplib.specs.Project as files
 use Rattle.plan_calendar.specs.WorkingDay.{Workdays}

@@ -3,7 +3,7 @@ use Rattle.std.proofs.Common.{ℕ, ◌≡◌, ◌+◌, ◌-◌, ◌≤◌, ◌<�
 use Rattle.std.specs.List.{All, EachIndex}
 use Rattle.std.proofs.lemmas.Bool.{cases_lt}
 use Rattle.std.proofs.lemmas.List.{length-replicate, get_or-replicate, get_or_past}
-use Rattle.plan_psplib.specs.Reading.{greatest}
+use Rattle.plan_psplib.specs.Tokens.{greatest}
 use Rattle.plan_sgs.specs.Problem.{Problem, capacity, usage, all_placed}
 use Rattle.plan_sgs.specs.Instances.{IsFirstAbove}
 use Rattle.plan_sgs.specs.Verdicts.{IsOver}

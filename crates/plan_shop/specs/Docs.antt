@@ -1,7 +1,7 @@
 -- Shops out of files, and machines that are closed (docs/definitions.md, "Job shops").
 use Rattle.std.specs.Prelude.{◌≡◌, ℕ, ◌≤◌, ◌<◌, Bool, true, false, List, length, slice_index_or, All, Contains}
 use Rattle.std.specs.List.{flat_map}
-use Rattle.plan_psplib.specs.Reading.{greatest, greatest_total}
+use Rattle.plan_psplib.specs.Tokens.{greatest, greatest_total}
 use Rattle.plan_orlib.specs.Shop as docs
 use Rattle.plan_orlib.specs.declared.steps.Step.{Step}
 use Rattle.plan_shop.specs.Shop.{JobShop, IsShop}

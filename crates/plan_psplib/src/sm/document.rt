@@ -4,7 +4,7 @@ ghost use Rattle.std.specs.Prelude.{◌≡◌, Ok, Err, IfOk, MatchResult, lengt
 ghost use Rattle.plan_net.specs.Successors.{AreRows, rows_in};
 ghost use Rattle.plan_psplib.specs.declared.text.fault.Fault.{Fault};
 ghost use Rattle.plan_psplib.specs.declared.text.fault.ReadError.TheVariants as errors;
-ghost use Rattle.plan_psplib.specs.Reading.{Gives, Reads};
+ghost use Rattle.plan_psplib.specs.Tokens.{Gives, Reads};
 ghost use Rattle.plan_psplib.specs.Document as spec;
 ghost use Rattle.plan_psplib.specs.Says.{Says};
 
@@ -32,9 +32,11 @@ pub fn read_document(alloc: Global, text: &[u8]) -> Result<Document, ReadError>
     // What the text says is read, unless memory runs out.
     ensures only { (d : spec.Document) → Says text.now d → Gives spec.document_of result (Ok d) }
     // The rows of its arcs are those of its jobs.
-    ensures rows { IfOk result (λ d. AreRows (length d.requests.durations.items) (rows_in d.rows.items)) }
+    ensures rows { IfOk result (λ d. AreRows (length d.requests.durations.items)
+        (rows_in d.rows.items)) }
     // What fails before the first section is read is refused before any memory is taken.
-    ensures early { (f : Fault) → spec.opened text.now ≡ Err f → MatchResult result (λ _. ⊥) (λ e. e ≡ errors.Fault f) }
+    ensures early { (f : Fault) → spec.opened text.now ≡ Err f →
+        MatchResult result (λ _. ⊥) (λ e. e ≡ errors.Fault f) }
 {
     sections_of(alloc, text)
 }
@@ -43,8 +45,10 @@ pub fn read_document(alloc: Global, text: &[u8]) -> Result<Document, ReadError>
 #[tactic(auto, unfolding(crate::specs::Document::document, crate::specs::Document::opened))]
 fn sections_of(alloc: Global, text: &[u8]) -> Result<Document, ReadError>
     ensures exact { Gives spec.document_of result (spec.document text.now) }
-    ensures rows { IfOk result (λ d. AreRows (length d.requests.durations.items) (rows_in d.rows.items)) }
-    ensures early { (f : Fault) → spec.opened text.now ≡ Err f → MatchResult result (λ _. ⊥) (λ e. e ≡ errors.Fault f) }
+    ensures rows { IfOk result (λ d. AreRows (length d.requests.durations.items)
+        (rows_in d.rows.items)) }
+    ensures early { (f : Fault) → spec.opened text.now ≡ Err f →
+        MatchResult result (λ _. ⊥) (λ e. e ≡ errors.Fault f) }
 {
     check_text(text)?;
     let outline = Outline::of(text);

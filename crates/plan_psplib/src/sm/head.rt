@@ -3,7 +3,7 @@
 ghost use Rattle.std.specs.Prelude.{◌≡◌, ◌≤◌, Some, None, IfOk, MatchOption};
 ghost use Rattle.std.specs.Option.{option_map};
 ghost use Rattle.std.specs.List.{position};
-ghost use Rattle.plan_psplib.specs.Reading.{Reads, line_number};
+ghost use Rattle.plan_psplib.specs.Tokens.{Reads, line_number};
 ghost use Rattle.plan_psplib.specs.Sections as sections;
 ghost use Rattle.plan_psplib.specs.Head as spec;
 ghost use Rattle.plan_psplib.specs.Noted.{noted};
@@ -46,7 +46,8 @@ pub fn head_sizes(text: &[u8], last: u64) -> Result<Sizes, Fault>
 // The first line of the head with each key.
 #[tactic(auto, using(crate::proofs::NoteLemmas::notes))]
 fn key_lines(text: &[u8]) -> Keys<Option<Line<'_>>>
-    ensures { spec.keys_by (option_map spec.numbered_line) result ≡ spec.key_lines (sections.head_of text.now) }
+    ensures { spec.keys_by (option_map spec.numbered_line) result ≡ spec.key_lines
+        (sections.head_of text.now) }
 {
     let mut lines = Lines::new(text);
     let mut projects = None;
@@ -73,17 +74,19 @@ fn key_lines(text: &[u8]) -> Keys<Option<Line<'_>>>
 // Notes a line that begins with a key, the first such line.
 fn note<'a>(first: &mut Option<Line<'a>>, key: &[u8], line: Line<'a>)
     ensures { option_map spec.numbered_line first.new
-        ≡ noted (sections.begins_with line.entry.text.now key.now) (option_map spec.numbered_line first.old) (spec.numbered_line line.entry) }
+        ≡ noted (sections.begins_with line.entry.text.now key.now)
+        (option_map spec.numbered_line first.old) (spec.numbered_line line.entry) }
 {
     if first.is_none() && line.text.starts_with(key) {
         *first = Some(line);
     }
 }
 
-// The lines of the keys, each of which is to be there.
+// The lines of the keys, each of which must be there.
 #[tactic(auto, unfolding(crate::specs::Head::found_lines))]
 fn found_lines(lines: Keys<Option<Line<'_>>>, last: u64) -> Result<Keys<Line<'_>>, Fault>
-    ensures { Reads (spec.keys_by spec.numbered_line) result (spec.found_lines last (spec.keys_by (option_map spec.numbered_line) lines.entry)) }
+    ensures { Reads (spec.keys_by spec.numbered_line) result
+        (spec.found_lines last (spec.keys_by (option_map spec.numbered_line) lines.entry)) }
 {
     Ok(Keys {
         projects: found_line(lines.projects, last)?,
@@ -95,7 +98,8 @@ fn found_lines(lines: Keys<Option<Line<'_>>>, last: u64) -> Result<Keys<Line<'_>
 }
 
 fn found_line(line: Option<Line<'_>>, last: u64) -> Result<Line<'_>, Fault>
-    ensures { Reads spec.numbered_line result (spec.found_line last (option_map spec.numbered_line line.entry)) }
+    ensures { Reads spec.numbered_line result (spec.found_line last
+        (option_map spec.numbered_line line.entry)) }
 {
     line.ok_or(Fault::new(FileCode::MissingHead, last))
 }
@@ -103,7 +107,8 @@ fn found_line(line: Option<Line<'_>>, last: u64) -> Result<Line<'_>, Fault>
 // The values of the keys.
 #[tactic(auto, unfolding(crate::specs::Head::values))]
 fn values(lines: Keys<Line<'_>>) -> Result<Keys<LineNumber>, Fault>
-    ensures { Reads (spec.keys_by line_number) result (spec.values (spec.keys_by spec.numbered_line lines.entry)) }
+    ensures { Reads (spec.keys_by line_number) result
+        (spec.values (spec.keys_by spec.numbered_line lines.entry)) }
 {
     Ok(Keys {
         projects: key_value(lines.projects)?,
@@ -114,7 +119,7 @@ fn values(lines: Keys<Line<'_>>) -> Result<Keys<LineNumber>, Fault>
     })
 }
 
-// The value of a key, which is to be a number.
+// The value of a key, which must be a number.
 fn key_value(line: Line<'_>) -> Result<LineNumber, Fault>
     ensures { Reads line_number result (spec.key_value (spec.numbered_line line.entry)) }
 {
@@ -130,7 +135,8 @@ fn key_value(line: Line<'_>) -> Result<LineNumber, Fault>
 
 // The first word after the first colon.
 fn value_word(text: &[u8]) -> Option<&[u8]>
-    ensures { MatchOption result (sections.value_word text.now ≡ None) (λ word. sections.value_word text.now ≡ Some word.now) }
+    ensures { MatchOption result (sections.value_word text.now ≡ None)
+        (λ word. sections.value_word text.now ≡ Some word.now) }
 {
     match first_colon(text) {
         Some(at) => Words::new(&text[at + 1..]).next_word(),

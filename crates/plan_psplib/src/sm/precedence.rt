@@ -2,7 +2,7 @@
 
 ghost use Rattle.std.specs.Prelude.{◌≡◌, ◌<◌, ◌≤◌, ◌++◌, ◌∷◌, List, ℕ, [], length, IfOk};
 ghost use Rattle.plan_net.specs.Successors.{AreRows, arcs_of_rows, rows_in};
-ghost use Rattle.plan_psplib.specs.Reading.{Gives, Reads, line_number};
+ghost use Rattle.plan_psplib.specs.Tokens.{Gives, Reads, line_number};
 ghost use Rattle.plan_psplib.specs.Precedence as spec;
 
 use crate::sm::sections::Section;
@@ -16,7 +16,8 @@ pub fn precedence(
     words: &mut StreamWords<'_, Section>,
     jobs: u32,
 ) -> Result<Vec<Vec<u32>>, ReadError>
-    ensures exact { Gives (λ rows. arcs_of_rows 1 (rows_in rows.items)) result (spec.precedence jobs words.old) }
+    ensures exact { Gives (λ rows. arcs_of_rows 1 (rows_in rows.items)) result
+        (spec.precedence jobs words.old) }
     ensures rows { IfOk result (λ rows. AreRows jobs (rows_in rows.items)) }
 {
     let rows = precedence_rows(alloc, words, jobs)?;
@@ -30,7 +31,8 @@ fn precedence_rows(
     words: &mut StreamWords<'_, Section>,
     jobs: u32,
 ) -> Result<Vec<Vec<u32>>, ReadError>
-    ensures exact { Gives (λ rows. (arcs_of_rows 1 (rows_in rows.items), words.new)) result (spec.precedence_rows_at jobs jobs 1 [] words.old) }
+    ensures exact { Gives (λ rows. (arcs_of_rows 1 (rows_in rows.items), words.new)) result
+        (spec.precedence_rows_at jobs jobs 1 [] words.old) }
     ensures rows { IfOk result (λ rows. AreRows jobs (rows_in rows.items)) }
 {
     let mut rows = Vec::with_capacity(alloc, jobs as usize)?;
@@ -49,7 +51,8 @@ fn precedence_row(
     jobs: u32,
     job: u32,
 ) -> Result<Vec<u32>, ReadError>
-    ensures { Gives (λ row. (row.items, words.new)) result (spec.precedence_row_at jobs job words.old) }
+    ensures { Gives (λ row. (row.items, words.new)) result
+        (spec.precedence_row_at jobs job words.old) }
 {
     expect(words, u64::from(job), FileCode::JobOrder)?;
     expect(words, 1, FileCode::Modes)?;
@@ -64,7 +67,8 @@ fn successors(
     jobs: u32,
     count: u64,
 ) -> Result<Vec<u32>, ReadError>
-    ensures { Gives (λ row. (row.items, words.new)) result (spec.successors_at jobs count [] words.old) }
+    ensures { Gives (λ row. (row.items, words.new)) result
+        (spec.successors_at jobs count [] words.old) }
 {
     let mut marks = vec![in alloc; false; jobs as usize + 1]?;
     let mut found = Vec::with_capacity(alloc, count.min(u64::from(jobs)) as usize)?;
@@ -98,18 +102,21 @@ fn successor(
 // Marks a job, and answers whether it was marked before.
 fn mark(marks: &mut [bool], job: usize) -> bool
     requires { job < length marks.old }
-    ensures before { (before : List ℕ) → spec.AreMarks marks.old before → result ≡ spec.is_among before job }
-    ensures marked { (before : List ℕ) → spec.AreMarks marks.old before → spec.AreMarks marks.new (before ++ job ∷ []) }
+    ensures before { (before : List ℕ) → spec.AreMarks marks.old before →
+        result ≡ spec.is_among before job }
+    ensures marked { (before : List ℕ) → spec.AreMarks marks.old before →
+        spec.AreMarks marks.new (before ++ job ∷ []) }
 {
     let was = marks[job];
     marks[job] = true;
     was
 }
 
-// The next word, which is to be a job.
+// The next word, which must be a job.
 #[tactic(auto, unfolding(crate::specs::Precedence::job_at))]
 fn next_job(words: &mut StreamWords<'_, Section>, jobs: u32) -> Result<LineNumber, Fault>
-    ensures exact { Reads (λ job. (line_number job, words.new)) result (spec.job_at jobs words.old) }
+    ensures exact { Reads (λ job. (line_number job, words.new)) result
+        (spec.job_at jobs words.old) }
     ensures inside { IfOk result (λ job. job.value ≤ jobs) }
 {
     let job = next_number(words)?;

@@ -32,9 +32,18 @@ impl Model for ProjectDoc {
 
     ghost Value = { Project };
 
-    ghost view = { λ doc. record { network = doc.network; needs = map (λ row. row.items) doc.needs.items; available = doc.avail.items } };
+    ghost view = { λ doc. record {
+      network = doc.network;
+      needs = map (λ row. row.items) doc.needs.items;
+      available = doc.avail.items;
+    } };
 
-    ghost invariant = { λ doc. IsProject (record { network = doc.network; needs = map (λ row. row.items) doc.needs.items; available = doc.avail.items }) };
+    ghost invariant = { λ doc. IsProject
+        (record {
+          network = doc.network;
+          needs = map (λ row. row.items) doc.needs.items;
+          available = doc.avail.items;
+        }) };
 }
 
 impl ProjectDoc {
@@ -65,9 +74,10 @@ impl ProjectDoc {
     /// Changes the lag of an arc: the second activity then starts at least so many time units after the first has finished. Takes no
     /// memory.
     ///
-    /// Refused with [`NetFault::NoArc`] where there is no such arc, then with [`NetFault::BadLag`] where the lag is above 10,000.
+    /// Returns the error [`NetFault::NoArc`] if there is no such arc, then [`NetFault::BadLag`] if the lag is above 10,000.
     pub fn set_lag(&mut self, first: u32, second: u32, lag: u64) -> Result<(), NetFault>
-        ensures ok { OnOk result (IsArc self.old.network first second × (lag ≤ LONGEST_LAG) × (self.new ≡ spec.with_project_lag self.old first second lag)) }
+        ensures ok { OnOk result (IsArc self.old.network first second × (lag ≤ LONGEST_LAG) ×
+            (self.new ≡ spec.with_project_lag self.old first second lag)) }
         ensures refused { IfErr result (IsLagFault self.old.network first second lag) }
         ensures err { OnErr result (self.new ≡ self.old) }
     {
@@ -85,18 +95,21 @@ impl ProjectDoc {
     }
 }
 
-/// Reads an `.sm` text: the project that it gives, or the first check that it fails, with its line. Want
-/// of memory may come in place of any answer but a refusal before the first section is read.
+/// Reads an `.sm` text: the project that it gives, or the first check that it fails, with its line. Out
+/// of memory can replace any result but a refusal before the first section is read.
 pub fn read_sm(alloc: Global, text: &[u8]) -> Result<ProjectDoc, FileFault>
     // What is read is what the text says, and it has no cycle.
     ensures found { IfOk result (spec.SaysProject text.now) }
     // What the text says is read, unless memory runs out or its arcs have a cycle.
-    ensures only { (d : Said) → Says text.now d → MatchResult result (λ project. project ≡ spec.project_of d)
+    ensures only { (d : Said) → Says text.now d →
+        MatchResult result (λ project. project ≡ spec.project_of d)
         (λ fault. IsWantOfMemory fault ⊎ spec.NamesCycleOf d fault) }
     // Which check is the first that fails.
-    ensures refused { IfErr result (λ fault. IsWantOfMemory fault ⊎ spec.IsFirstFailing text.now fault) }
+    ensures refused { IfErr result (λ fault. IsWantOfMemory fault
+        ⊎ spec.IsFirstFailing text.now fault) }
     // What fails before the first section is read is refused for that, whatever memory there is.
-    ensures early { (f : Fault) → opened text.now ≡ Err f → MatchResult result (λ _. ⊥) (TellsError (errors.Fault f)) }
+    ensures early { (f : Fault) → opened text.now ≡ Err f →
+        MatchResult result (λ _. ⊥) (TellsError (errors.Fault f)) }
 {
     match read_document(alloc, text) {
         Ok(document) => project_of(alloc, document),
@@ -107,7 +120,8 @@ pub fn read_sm(alloc: Global, text: &[u8]) -> Result<ProjectDoc, FileFault>
 // The project of a document that some text says, unless its arcs have a cycle.
 fn project_of(alloc: Global, document: Document) -> Result<ProjectDoc, FileFault>
     requires said { spec.IsSaid (document_of document) }
-    requires rows { AreRows (length document.requests.durations.items) (rows_in document.rows.items) }
+    requires rows { AreRows (length document.requests.durations.items)
+        (rows_in document.rows.items) }
     ensures { MatchResult result
         (λ project. spec.IsProject project × (project ≡ spec.project_of (document_of document)))
         (λ fault. IsWantOfMemory fault ⊎ spec.NamesCycleOf (document_of document) fault) }
@@ -128,7 +142,7 @@ fn project_of(alloc: Global, document: Document) -> Result<ProjectDoc, FileFault
     }
 }
 
-// What a text is refused for whose network is refused for a cycle, or for want of memory.
+// The error of a text whose network has a cycle, or whose memory ran out.
 fn refusal(alloc: Global, fault: NetFault, precedence_line: u64) -> FileFault
     requires { IsCycleOrMemory fault }
     ensures { spec.TellsOf fault precedence_line result }

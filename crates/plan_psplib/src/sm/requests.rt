@@ -1,7 +1,7 @@
 //! The requests section and the availabilities of an `.sm` text.
 
 ghost use Rattle.std.specs.Prelude.{◌≤◌, ◌+◌, [], IfOk};
-ghost use Rattle.plan_psplib.specs.Reading.{Gives};
+ghost use Rattle.plan_psplib.specs.Tokens.{Gives};
 ghost use Rattle.plan_psplib.specs.Requests as spec;
 
 use crate::sm::sections::Section;
@@ -87,7 +87,8 @@ fn request_row(
     total: u64,
 ) -> Result<Request, ReadError>
     requires { total ≤ LONGEST_SUM }
-    ensures exact { Gives (λ row. (spec.request_of row, words.new)) result (spec.request_row_at resources job total words.old) }
+    ensures exact { Gives (λ row. (spec.request_of row, words.new)) result
+        (spec.request_row_at resources job total words.old) }
     ensures fits { IfOk result (λ row. total + row.duration ≤ LONGEST_SUM) }
 {
     expect(words, u64::from(job), FileCode::JobOrder)?;

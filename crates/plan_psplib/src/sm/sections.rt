@@ -64,9 +64,12 @@ impl<'a> Outline<'a> {
     #[tactic(auto, using(crate::proofs::NoteLemmas::notes))]
     pub fn of(text: &'a [u8]) -> Outline<'a>
         ensures last { result.last ≡ last_line text.now }
-        ensures precedence { result.precedence ≡ spec.section spec.precedence_title (spec.kept_lines text.now) }
-        ensures requests { result.requests ≡ spec.section spec.requests_title (spec.kept_lines text.now) }
-        ensures availabilities { result.availabilities ≡ spec.section spec.availabilities_title (spec.kept_lines text.now) }
+        ensures precedence { result.precedence ≡ spec.section spec.precedence_title
+            (spec.kept_lines text.now) }
+        ensures requests { result.requests ≡ spec.section spec.requests_title
+            (spec.kept_lines text.now) }
+        ensures availabilities { result.availabilities ≡ spec.section spec.availabilities_title
+            (spec.kept_lines text.now) }
     {
         let mut lines = Lines::new(text);
         let mut last = 0;
@@ -107,7 +110,11 @@ fn note<'a>(
 
 // The words of the section behind a title line: the line of column heads is skipped.
 fn section_words(title: u64, lines: Lines<'_>) -> StreamWords<'_, Section>
-    ensures { result ≡ record { last = title; words = streams.words_of (drop 1 (streams.rows spec.is_kept spec.is_title lines.entry)) } }
+    ensures { result ≡ record {
+      last = title;
+      words = streams.words_of
+          (drop 1 (streams.rows spec.is_kept spec.is_title lines.entry));
+    } }
 {
     let mut rows = lines;
     let _column_heads = next_row::<Section>(&mut rows);

@@ -1,4 +1,4 @@
-//! Why a file can't be read.
+//! The errors of a file.
 
 ghost use Rattle.std.specs.Prelude.{◌≡◌};
 ghost use Rattle.plan_psplib.specs.declared.text.fault.ReadError.TheVariants.{Memory, Fault};
@@ -20,7 +20,7 @@ pub enum FileCode {
     Unsupported,
     /// F5: the title of a section isn't found.
     MissingSection,
-    /// F6: a number is due, and what stands there is none.
+    /// F6: a number was expected, and the token is not one.
     BadNumber,
     /// F7: a job number that isn't the one due, or is no job.
     JobOrder,
@@ -38,16 +38,16 @@ pub enum FileCode {
     NoInstance,
     /// F14: a machine that the shop doesn't have.
     BadMachine,
-    /// Want of memory, which is no fault of the file.
+    /// Out of memory, which is not an error of the file.
     Memory,
 }
 
-/// Why a file can't be read: the first check that it fails, with the line at which it fails.
+/// The error of a file: the first check that fails, and its line.
 #[derive(Debug, Drop, Error)]
 #[error("{code:?} in line {line}")]
 pub struct FileFault {
     pub code: FileCode,
-    /// Counted from 1; 0 for a file that is too long, for one without lines, and with want of memory.
+    /// Counted from 1; 0 for a file that is too long, for one without lines, and if memory ran out.
     pub line: u64,
     /// The activities of a cycle along its arcs, from the least on; empty unless the code is `Cycle`.
     pub cycle: Vec<u32>,
@@ -56,7 +56,7 @@ pub struct FileFault {
 impl FileFault {
     ghost use Rattle.plan_psplib.specs.Faults.{TellsError};
 
-    /// What a part isn't read for, as what the file isn't read for. Takes no memory.
+    /// Converts the error of a part into the error of the file. Allocates nothing.
     pub fn of(alloc: Global, error: ReadError) -> FileFault
         ensures { TellsError error result }
     {
@@ -88,7 +88,7 @@ impl Fault {
     }
 }
 
-/// Why a part of a file isn't read.
+/// The error of a part of a file.
 #[derive(Clone, Copy, Debug, PartialEq, Eq, Error)]
 pub enum ReadError {
     #[error("out of memory")]

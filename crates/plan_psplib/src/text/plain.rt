@@ -3,7 +3,7 @@
 ghost use Rattle.std.specs.Prelude.{◌≡◌, ◌≤◌, length, count_by};
 ghost use Rattle.std.specs.List.{position};
 ghost use Rattle.plan_psplib.specs.Lines.{is_line_feed};
-ghost use Rattle.plan_psplib.specs.Reading.{Reads};
+ghost use Rattle.plan_psplib.specs.Tokens.{Reads};
 ghost use Rattle.plan_psplib.specs.Plain as spec;
 
 use crate::text::fault::{Fault, FileCode};

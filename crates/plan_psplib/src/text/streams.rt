@@ -7,12 +7,12 @@ use crate::text::lines::{Line, Lines};
 use crate::text::words::Words;
 use std::marker::{Model, PhantomData};
 
-/// Which lines give a stream its words.
+/// Selects the lines of a stream.
 pub trait Layout {
-    /// The lines that count.
+    /// The lines that count, as a test on their bytes.
     ghost takes: { List ℕ → Bool };
 
-    /// Of the lines that count, those before which the stream ends.
+    /// The lines that count and end the stream before them, as a test on their bytes.
     ghost ends: { List ℕ → Bool };
 
     /// Whether a line counts.
@@ -47,13 +47,21 @@ impl<'a, L: Layout> Model for StreamWords<'a, L> {
 
     ghost Value = { Stream };
 
-    ghost view = { λ stream. record { last = stream.last; words = words_at stream.line stream.words ++ words_of (rows L.takes L.ends stream.lines) } };
+    ghost view = { λ stream. record {
+      last = stream.last;
+      words = words_at stream.line stream.words ++ words_of
+          (rows L.takes L.ends stream.lines);
+    } };
 }
 
 impl<'a, L: Layout> StreamWords<'a, L> {
     /// All words of some lines, behind a line of this number.
     pub fn new(before: u64, lines: Lines<'a>) -> StreamWords<'a, L>
-        ensures { result ≡ record { last = before; words = spec.words_of (spec.rows L.takes L.ends lines.entry) } }
+        ensures { result ≡ record {
+          last = before;
+          words = spec.words_of
+              (spec.rows L.takes L.ends lines.entry);
+        } }
     {
         StreamWords {
             last: before,
@@ -74,7 +82,8 @@ impl<'a, L: Layout> StreamWords<'a, L> {
     /// The first of the words that are left.
     pub fn next_word(&mut self) -> Option<LineWord<'a>>
         ensures { MatchOption result ((self.old.words ≡ []) × (self.new ≡ self.old))
-            (λ word. (self.old.words ≡ record { line = word.line; text = word.text.now } ∷ self.new.words)
+            (λ word.
+            (self.old.words ≡ record { line = word.line; text = word.text.now } ∷ self.new.words)
             × (self.new.last ≡ word.line)) }
     {
         loop {
@@ -99,7 +108,10 @@ pub fn next_row<'a, L: Layout>(lines: &mut Lines<'a>) -> Option<Line<'a>>
     ensures { MatchOption result
         ((spec.rows L.takes L.ends lines.old ≡ []) × (spec.rows L.takes L.ends lines.new ≡ []))
         (λ line. spec.rows L.takes L.ends lines.old
-        ≡ record { number = line.number; text = line.text.now } ∷ spec.rows L.takes L.ends lines.new) }
+        ≡ record {
+          number = line.number;
+          text = line.text.now;
+        } ∷ spec.rows L.takes L.ends lines.new) }
 {
     while let Some(line) = lines.next_line() {
         if L::is_taken(line.text) {

@@ -7,7 +7,7 @@ ghost use Rattle.plan_psplib.specs.Lines as spec;
 use crate::text::lines::{is_blank, trim_start};
 use std::marker::Model;
 
-/// The words of a line that are left, in order: what stands between its blanks.
+/// The words of a line that are left, in order: the text between its blanks.
 #[derive(Drop)]
 pub struct Words<'a> {
     rest: &'a [u8],

@@ -1,6 +1,6 @@
 use Rattle.std.proofs.Common.{◌⊎◌, List, ℕ, subst}
 use Rattle.plan_psplib.specs.Faults.{IsWantOfMemory}
-use Rattle.plan_orlib.specs.Reading as reading
+use Rattle.plan_orlib.specs.ShopText as reading
 use Rattle.plan_cli.proofs.RunLemmas.{told_no_shop}
 use Rattle.plan_cli.proofs.opening.read_instance.Goals as goal
 

@@ -1,6 +1,6 @@
 use Rattle.std.proofs.Common.{◌≡◌, ◌≤◌, ◌-◌, [], map}
 use Rattle.plan_orlib.specs.Shop.{total_time}
-use Rattle.plan_orlib.specs.Reading.{jobs_at}
+use Rattle.plan_orlib.specs.ShopText.{jobs_at}
 use Rattle.plan_orlib.proofs.steps.all_jobs.Given as goal
 
 -- the others read behind the jobs so far are the whole, and total is what the times of those jobs add up to

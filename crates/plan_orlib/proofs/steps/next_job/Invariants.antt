@@ -1,6 +1,6 @@
 use Rattle.std.proofs.Common.{◌≡◌, ◌≤◌, ◌-◌, ◌+◌, []}
 use Rattle.plan_orlib.specs.Shop.{time_of}
-use Rattle.plan_orlib.specs.Reading.{steps_at}
+use Rattle.plan_orlib.specs.ShopText.{steps_at}
 use Rattle.plan_orlib.proofs.steps.next_job.Given as goal
 
 -- the others read behind the steps so far are the whole, and total is what the times up to them add up to

@@ -1,5 +1,5 @@
 -- The rows in front of the index are raised.
-use Rattle.plan_profile.specs.Changing.{AreRaised}
+use Rattle.plan_profile.specs.Changes.{AreRaised}
 use Rattle.plan_profile.proofs.rows.raise.Given as goal
 
 abbrev pub invariant-loop-i : goal.invariant-loop-i

@@ -1,8 +1,8 @@
 //! Numbers of a stream, or the first fault.
 
 ghost use Rattle.std.specs.Prelude.{◌+◌, IfOk, ◌≤◌};
-ghost use Rattle.plan_psplib.specs.Reading as spec;
-ghost use Rattle.plan_psplib.specs.Reading.{Reads, line_number, number_at, expect_at, within_at, limited_at, duration_at, end_at};
+ghost use Rattle.plan_psplib.specs.Tokens as spec;
+ghost use Rattle.plan_psplib.specs.Tokens.{Reads, line_number, number_at, expect_at, within_at, limited_at, duration_at, end_at};
 
 use crate::text::fault::{Fault, FileCode};
 use crate::text::numbers::number;
@@ -16,8 +16,8 @@ pub struct LineNumber {
     pub line: u64,
 }
 
-/// The next word, which is to be a number: `BadNumber` where it is none, `Count` where no word is left.
-#[tactic(auto, unfolding(crate::specs::Reading::number_at))]
+/// The next word, which must be a number: `BadNumber` if it is none, `Count` if no token is left.
+#[tactic(auto, unfolding(crate::specs::Tokens::number_at))]
 pub fn next_number<L: Layout>(words: &mut StreamWords<'_, L>) -> Result<LineNumber, Fault>
     ensures { Reads (λ n. (line_number n, words.new)) result (number_at words.old) }
 {
@@ -33,8 +33,8 @@ pub fn next_number<L: Layout>(words: &mut StreamWords<'_, L>) -> Result<LineNumb
     }
 }
 
-/// The next word, which is to be this number, or else the fault is the one named.
-#[tactic(auto, unfolding(crate::specs::Reading::expect_at))]
+/// The next word, which must be this number, or else the fault is the one named.
+#[tactic(auto, unfolding(crate::specs::Tokens::expect_at))]
 pub fn expect<L: Layout>(
     words: &mut StreamWords<'_, L>,
     wanted: u64,
@@ -49,8 +49,8 @@ pub fn expect<L: Layout>(
     Ok(())
 }
 
-/// The next word, which is to be a number up to a limit: `Limit` where it is beyond.
-#[tactic(auto, unfolding(crate::specs::Reading::within_at))]
+/// The next word, which must be a number up to a limit: `Limit` if it is beyond.
+#[tactic(auto, unfolding(crate::specs::Tokens::within_at))]
 pub fn within<L: Layout>(words: &mut StreamWords<'_, L>, limit: u64) -> Result<u64, Fault>
     ensures exact { Reads (λ n. (n, words.new)) result (within_at limit words.old) }
     ensures within { IfOk result (λ n. n ≤ limit) }
@@ -62,8 +62,8 @@ pub fn within<L: Layout>(words: &mut StreamWords<'_, L>, limit: u64) -> Result<u
     Ok(n.value)
 }
 
-// A value from `least` to `most`: `Limit` where it is outside.
-#[tactic(auto, unfolding(crate::specs::Reading::limited))]
+// A value from `least` to `most`: `Limit` if it is outside.
+#[tactic(auto, unfolding(crate::specs::Tokens::limited))]
 pub fn limited(value: LineNumber, least: u32, most: u32) -> Result<u32, Fault>
     ensures exact { Reads (λ n. n) result (spec.limited least most (line_number value)) }
     ensures least { IfOk result (λ n. least ≤ n) }
@@ -75,9 +75,9 @@ pub fn limited(value: LineNumber, least: u32, most: u32) -> Result<u32, Fault>
     }
 }
 
-/// The next word, which is to be a number from `least` to `most`, both included: `BadNumber` (F6) where it is no number, `Limit`
-/// (F10) where it is outside, each in its own line; `Count` (F9) where no word is left, in the line of the last word.
-#[tactic(auto, unfolding(crate::specs::Reading::limited_at))]
+/// The next word, which must be a number from `least` to `most`, both included: `BadNumber` (F6) if it is no number, `Limit`
+/// (F10) if it is outside, each in its own line; `Count` (F9) if no token is left, in the line of the last word.
+#[tactic(auto, unfolding(crate::specs::Tokens::limited_at))]
 pub fn next_limited<L: Layout>(
     words: &mut StreamWords<'_, L>,
     least: u32,
@@ -91,10 +91,10 @@ pub fn next_limited<L: Layout>(
     limited(number, least, most)
 }
 
-/// The next word, which is to be a duration in time units, where those before it add up to `total`: `BadNumber` (F6) where it is no
-/// number, `Limit` (F10) where it is above 10,000 or where all of them add up to more than 1,000,000 with it, each in its own line;
-/// `Count` (F9) where no word is left, in the line of the last word.
-#[tactic(auto, unfolding(crate::specs::Reading::duration_at))]
+/// The next word, which must be a duration in time units, where those before it add up to `total`: `BadNumber` (F6) if it is no
+/// number, `Limit` (F10) if it is above 10,000 or if all of them add up to more than 1,000,000 with it, each in its own line;
+/// `Count` (F9) if no token is left, in the line of the last word.
+#[tactic(auto, unfolding(crate::specs::Tokens::duration_at))]
 pub fn next_duration<L: Layout>(words: &mut StreamWords<'_, L>, total: u64) -> Result<u64, Fault>
     ensures exact { Reads (λ n. (n, words.new)) result (duration_at total words.old) }
     ensures fits { IfOk result (λ n. total + n ≤ LONGEST_SUM) }
@@ -106,8 +106,8 @@ pub fn next_duration<L: Layout>(words: &mut StreamWords<'_, L>, total: u64) -> R
     Ok(duration.value)
 }
 
-/// That no word is left: `Count` at the next word else.
-#[tactic(auto, unfolding(crate::specs::Reading::end_at))]
+/// Checks that no token is left; otherwise the error is `Count` at the next token.
+#[tactic(auto, unfolding(crate::specs::Tokens::end_at))]
 pub fn end<L: Layout>(words: &mut StreamWords<'_, L>) -> Result<(), Fault>
     ensures { Reads (λ _. tt) result (end_at words.old) }
 {

@@ -1,5 +1,5 @@
 -- How steps change while an interval is placed: an instant is cut in, needs are added to rows, and
--- a change that turns out to be none goes away. No public clause speaks of these words.
+-- a change that turns out to be none goes away. No public contract uses these definitions.
 use Rattle.std.specs.Prelude.{◌≡◌, ◌≢◌, ℕ, ◌+◌, ◌*◌, ◌^◌, ◌≤◌, ◌<◌, ◌&&◌, ◌⊎◌, if◌then◌else◌}
 use Rattle.std.specs.Prelude.{nat_le, nat_lt, List, [], length}
 use Rattle.std.specs.Prelude.{slice_index, slice_index_or, Contains}

@@ -5,13 +5,13 @@ use Rattle.plan_psplib.specs.declared.text.fault.Fault.{Fault}
 use Rattle.plan_psplib.specs.declared.text.fault.FileFault.{FileFault}
 use Rattle.plan_psplib.specs.Lines.{last_line}
 use Rattle.plan_psplib.specs.Streams.{Stream}
-use Rattle.plan_psplib.specs.Reading.{◌>>=◌, fault, check, number_at, limited_at, duration_at}
+use Rattle.plan_psplib.specs.Tokens.{◌>>=◌, fault, check, number_at, limited_at, duration_at}
 use Rattle.plan_psplib.specs.Plain.{plain}
 use Rattle.plan_orlib.specs.declared.steps.Step.{Step}
 use Rattle.plan_orlib.specs.Instances.{stream_of, names_of}
 use Rattle.plan_orlib.specs.Shop.{Shop, most_jobs, most_machines, time_of, total_time}
 
--- the next word, which is to be the number of one of the machines, counted from 0
+-- the next word, which must be the number of one of the machines, counted from 0
 unfoldable pub machine_at : ℕ → Stream → Result (ℕ × Stream) Fault
 machine_at machines s = do
   n ← number_at s

@@ -2,7 +2,7 @@ use Rattle.std.proofs.Common.{◌≡◌, ◌++◌, length, map}
 use Rattle.std.specs.List.{filter_map}
 use Rattle.plan_psplib.specs.Lines.{lines}
 use Rattle.plan_orlib.specs.Instances.{instance_name}
-use Rattle.plan_orlib.proofs.naming.block_names.Given as goal
+use Rattle.plan_orlib.proofs.instance_names.block_names.Given as goal
 
 -- the names so far, and behind them those of the lines that are left, are all names
 abbrev pub invariant-loop-line : goal.invariant-loop-line

@@ -6,7 +6,7 @@ use Rattle.plan_psplib.specs.declared.text.fault.FileCode.TheVariants as code
 use Rattle.plan_psplib.specs.declared.text.fault.Fault.{Fault}
 use Rattle.plan_psplib.specs.declared.text.fault.ReadError.{ReadError}
 use Rattle.plan_psplib.specs.declared.text.fault.ReadError.TheVariants as errors
-use Rattle.plan_psplib.specs.declared.text.reading.LineNumber as declared
+use Rattle.plan_psplib.specs.declared.text.tokens.LineNumber as declared
 use Rattle.plan_psplib.specs.Numbers.{number}
 use Rattle.plan_psplib.specs.Streams.{LineWord, Stream}
 
@@ -16,7 +16,7 @@ abbrev pub ◌>>=◌ : {A B : Type 0} → Result A Fault → (A → Result B Fau
 (Ok x) >>= f = f x
 (Err e) >>= f = Err e
 
--- a refusal that the reading gives; want of memory may come at any time
+-- a refusal that the reading gives; out of memory may come at any time
 abbrev pub Fails : {Y : Type 0} → ReadError → Result Y Fault → Type 0
 Fails errors.Memory read = Unit {0}
 Fails (errors.Fault f) read = read ≡ Err f
@@ -26,7 +26,7 @@ abbrev pub Gives : {X Y : Type 0} → (X → Y) → Result X ReadError → Resul
 Gives view (Ok x) read = read ≡ Ok (view x)
 Gives view (Err e) read = Fails e read
 
--- the same of a function that takes no memory: it answers just what the reading gives
+-- the same of a function that allocates nothing: it answers just what the reading gives
 abbrev pub Reads : {X Y : Type 0} → (X → Y) → Result X Fault → Result Y Fault → Type 0
 Reads view (Ok x) read = read ≡ Ok (view x)
 Reads view (Err f) read = read ≡ Err f
@@ -54,18 +54,18 @@ abbrev pub number_of_words : ℕ → List LineWord → Result (LineNumber × Str
 number_of_words last [] = fault code.Count last
 number_of_words last (word ∷ others) = as_number word (number word.text) (record { last = word.line; words = others })
 
--- the next word, which is to be a number
+-- the next word, which must be a number
 unfoldable pub number_at : Stream → Result (LineNumber × Stream) Fault
 number_at s = number_of_words s.last s.words
 
--- the next word, which is to be this number
+-- the next word, which must be this number
 unfoldable pub expect_at : ℕ → FileCode → Stream → Result Stream Fault
 expect_at wanted c s = do
   n ← number_at s
   same ← check (n.0.value == wanted) c n.0.line
   Ok n.1
 
--- the next word, which is to be a number up to a limit
+-- the next word, which must be a number up to a limit
 unfoldable pub within_at : ℕ → Stream → Result (ℕ × Stream) Fault
 within_at limit s = do
   n ← number_at s
@@ -78,7 +78,7 @@ limited least most v = do
   fits ← check (nat_le least v.value && nat_le v.value most) code.Limit v.line
   Ok v.value
 
--- the next word, which is to be a number from a least to a greatest one
+-- the next word, which must be a number from a least to a greatest one
 unfoldable pub limited_at : ℕ → ℕ → Stream → Result (ℕ × Stream) Fault
 limited_at least most s = do
   n ← number_at s
@@ -104,6 +104,6 @@ abbrev pub end_of_words : List LineWord → Result (Unit {0}) Fault
 end_of_words [] = Ok tt
 end_of_words (word ∷ others) = fault code.Count word.line
 
--- no word is left
+-- no token is left
 unfoldable pub end_at : Stream → Result (Unit {0}) Fault
 end_at s = end_of_words s.words

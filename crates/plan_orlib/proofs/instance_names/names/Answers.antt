@@ -1,6 +1,6 @@
 use Rattle.std.proofs.Common.{map}
 use Rattle.plan_orlib.proofs.NameLemmas.{told_plain, names_read, names_only}
-use Rattle.plan_orlib.proofs.naming.names.Goals as goal
+use Rattle.plan_orlib.proofs.instance_names.names.Goals as goal
 
 pub returns-in-Ok-clause-found : goal.returns-in-Ok-clause-found
 returns-in-Ok-clause-found c = names_read c.args.text.now (map (λ name. name.items) c.in-Ok.names.items) c.in-Ok.ensures.exact
