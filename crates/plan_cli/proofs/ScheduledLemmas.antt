@@ -4,8 +4,8 @@ use Rattle.std.specs.Prelude.{All}
 use Rattle.plan_sgs.specs.Problem.{IsActive, count, duration, makespan}
 use Rattle.plan_sgs.specs.Instances.{Planned, problem_of}
 use Rattle.plan_sgs.specs.Keys.{IsRuleSchedule}
-use Rattle.plan_sgs.specs.Placing.{AllEndBy}
-use Rattle.plan_sgs.specs.Placing as placing
+use Rattle.plan_sgs.specs.Placement.{AllEndBy}
+use Rattle.plan_sgs.specs.Placement as placing
 use Rattle.plan_sgs.specs.declared.rule.Rule.{Rule}
 use Rattle.plan_sgs.specs.declared.schedule.Schedule.{Schedule}
 use Rattle.plan_sgs.proofs.InstanceLemmas.{count-problem}

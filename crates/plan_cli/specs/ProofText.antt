@@ -2,7 +2,7 @@
 use Rattle.std.specs.Prelude.{◌≡◌, ◌<◌, ◌⊎◌, ℕ, List, ◌++◌, codes}
 use Rattle.std.specs.Fmt.{decimal}
 use Rattle.plan_shop.specs.Shop.{JobShop}
-use Rattle.plan_prove.specs.declared.proving.Proof.{Proof}
+use Rattle.plan_prove.specs.declared.proof.Proof.{Proof}
 use Rattle.plan_gantt.specs.ShopTable.{shop_table_text}
 
 -- a line says that a makespan is the least, since the lower bound reaches it; or else between which

@@ -7,7 +7,7 @@ use Rattle.plan_shop.specs.Shop.{JobShop, problem_of}
 use Rattle.plan_shop.specs.Docs.{shop_of}
 use Rattle.plan_prove.specs.Proofs.{IsLowerBound}
 use Rattle.plan_prove.specs.Nodes.{IsNodesText}
-use Rattle.plan_prove.specs.declared.proving.Proof.{Proof}
+use Rattle.plan_prove.specs.declared.proof.Proof.{Proof}
 use Rattle.plan_gantt.specs.FirstFaults.{TellsFirstShopFault}
 use Rattle.plan_cli.specs.ProofText.{ShowsProof}
 

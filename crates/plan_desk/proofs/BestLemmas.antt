@@ -13,7 +13,7 @@ use Rattle.plan_exact.specs.Solutions.{IsBudget, IsSolution}
 use Rattle.plan_exact.specs.ProjectSolutions.{IsProjectSolution}
 use Rattle.plan_exact.specs.Budgets.{IsBudgetText}
 use Rattle.plan_exact.specs.declared.answer.Kind.TheVariants.{Optimal}
-use Rattle.plan_exact.specs.declared.solving.Solved.{Solved}
+use Rattle.plan_exact.specs.declared.shop_solution.Solved.{Solved}
 use Rattle.plan_gantt.specs.BestText.{best_text_of}
 use Rattle.plan_gantt.specs.ProjectBestText.{best_project_text_of, IsBestProjectTextOf, TellsBestProjectRefusal}
 use Rattle.plan_gantt.specs.ShopBestText.{IsBestTextOf}

@@ -22,7 +22,7 @@ use Rattle.plan_exact.specs.Solutions.{IsBudget, IsSolution, HasFewSteps, soluti
 use Rattle.plan_exact.specs.declared.answer.Kind.{Kind}
 use Rattle.plan_exact.specs.declared.answer.Kind.TheVariants.{Optimal, Budget}
 use Rattle.plan_exact.specs.declared.fault.ExactFault.TheVariants as exact
-use Rattle.plan_exact.specs.declared.solving.Solved.{Solved}
+use Rattle.plan_exact.specs.declared.shop_solution.Solved.{Solved}
 use Rattle.plan_exact.proofs.SolutionLemmas.{solution_word, solution_is_active, solution_has_makespan, solution_is_shortest}
 use Rattle.plan_gantt.specs.BestText.{best_text_of}
 use Rattle.plan_gantt.specs.ExactFaultText.{exact_fault_text_of}

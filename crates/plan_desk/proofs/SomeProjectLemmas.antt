@@ -9,7 +9,7 @@ use Rattle.plan_psplib.specs.Project.{Project, SaysProject, IsProject, with_proj
 use Rattle.plan_sgs.specs.Problem.{NeedsFit, count}
 use Rattle.plan_sgs.specs.Instances.{Planned, IsInstance, problem_of, RefusesInstance}
 use Rattle.plan_sgs.specs.Keys.{rule_text}
-use Rattle.plan_sgs.specs.Placing.{AllEndBy, latest_end}
+use Rattle.plan_sgs.specs.Placement.{AllEndBy, latest_end}
 use Rattle.plan_sgs.specs.declared.rule.Rule.{Rule}
 use Rattle.plan_sgs.specs.declared.rule.Rule.TheVariants as rule
 use Rattle.plan_sgs.specs.declared.fault.SgsFault.{SgsFault}
@@ -22,7 +22,7 @@ use Rattle.plan_exact.specs.Budgets.{IsBudgetText}
 use Rattle.plan_exact.specs.Solutions.{IsBudget}
 use Rattle.plan_exact.specs.ProjectSolutions.{HasFewActivities, IsProjectSolution, project_outcome, starts_or}
 use Rattle.plan_exact.specs.declared.fault.ExactFault.TheVariants as exact
-use Rattle.plan_exact.specs.declared.solving.Solved.{Solved}
+use Rattle.plan_exact.specs.declared.shop_solution.Solved.{Solved}
 use Rattle.plan_exact.proofs.ProjectSolutionLemmas.{outcome_is_found, solution_is_active, solution_has_makespan, solution_is_shortest}
 use Rattle.plan_gantt.specs.ExactFaultText.{exact_fault_text_of}
 use Rattle.plan_gantt.specs.ProjectBestText.{best_project_text_of, IsBestProjectTextOf, TellsBestProjectRefusal}

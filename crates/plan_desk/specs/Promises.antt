@@ -11,7 +11,7 @@ use Rattle.plan_shop.specs.Shop.{JobShop}
 use Rattle.plan_shop.specs.Shop as shops
 use Rattle.plan_shop.specs.Docs.{NoneIsClosed}
 use Rattle.plan_exact.specs.declared.answer.Kind.TheVariants.{Optimal}
-use Rattle.plan_exact.specs.declared.solving.Solved.{Solved}
+use Rattle.plan_exact.specs.declared.shop_solution.Solved.{Solved}
 use Rattle.plan_gantt.specs.DateTable.{date_table_text}
 use Rattle.plan_gantt.specs.ScheduleTable.{schedule_table_text}
 use Rattle.plan_gantt.specs.ShopTable.{shop_table_text}

@@ -5,7 +5,7 @@ use Rattle.plan_sgs.specs.ProjectWords.{letters_after, is_full, makespan_by, lea
 use Rattle.plan_exact.specs.Memos.{Content, content_of}
 use Rattle.plan_exact.specs.ProjectTrees.{project_tree}
 use Rattle.plan_exact.specs.ProjectSolutions.{project_outcome, IsProjectSolution}
-use Rattle.plan_exact.specs.declared.solving.Solved.{Solved}
+use Rattle.plan_exact.specs.declared.shop_solution.Solved.{Solved}
 
 -- the instance with a content, out of a project with these availabilities
 abbrev instance_of : Content → List ℕ → Planned

@@ -18,13 +18,13 @@ use Rattle.lru.proofs.CallerLemmas.{Contains-lookup_entry, Contains-promoted}
 use Rattle.lru.proofs.Splits.{Contains-cons, Contains-head, Contains-tail}
 use Rattle.plan_orlib.specs.declared.steps.Step.{Step}
 use Rattle.plan_sgs.specs.Instances.{Planned, problem_of}
-use Rattle.plan_sgs.specs.Placing.{AllEndBy, latest_end}
+use Rattle.plan_sgs.specs.Placement.{AllEndBy, latest_end}
 use Rattle.plan_shop.specs.Shop.{JobShop}
 use Rattle.plan_exact.specs.Answers.{is_optimal}
 use Rattle.plan_exact.specs.Memos.{Content, Asked, OfShop, OfProject, Answers, asked_of_project, asked_by, questions, IsAnswered, IsMemo, Remembers}
 use Rattle.plan_exact.specs.Solutions.{IsSolution}
 use Rattle.plan_exact.specs.ProjectSolutions.{IsProjectSolution}
-use Rattle.plan_exact.specs.declared.solving.Solved.{Solved}
+use Rattle.plan_exact.specs.declared.shop_solution.Solved.{Solved}
 use Rattle.plan_exact.proofs.ContentLemmas.{same_content_solves}
 use Rattle.plan_exact.specs.contracts.questions.QuestionPartialEq.TheImpl.{eq-value}
 use Rattle.plan_exact.specs.declared.questions.Question.{Question}

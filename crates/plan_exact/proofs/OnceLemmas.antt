@@ -11,7 +11,7 @@ use Rattle.plan_exact.specs.Solutions.{IsSolution}
 use Rattle.plan_exact.specs.ProjectSolutions.{IsFoundFrom, IsProjectSolution}
 use Rattle.plan_exact.specs.declared.answer.Kind.{Kind}
 use Rattle.plan_exact.specs.declared.answer.Kind.TheVariants as kind
-use Rattle.plan_exact.specs.declared.solving.Solved.{Solved}
+use Rattle.plan_exact.specs.declared.shop_solution.Solved.{Solved}
 
 -- a text spells one budget
 pub budget_once : (text : List ℕ) (m n : ℕ) → IsBudgetText text m → IsBudgetText text n → m ≡ n

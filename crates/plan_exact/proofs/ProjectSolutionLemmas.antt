@@ -6,7 +6,7 @@ use Rattle.plan_sgs.specs.Problem.{IsFeasible, IsActive, IsShortest, makespan}
 use Rattle.plan_sgs.specs.Keys.{IsRuleSchedule}
 use Rattle.plan_sgs.specs.Rules.{IsNumberedList}
 use Rattle.plan_sgs.specs.Instances.{Planned, IsInstance, problem_of}
-use Rattle.plan_sgs.specs.Placing.{AllEndBy, latest_end}
+use Rattle.plan_sgs.specs.Placement.{AllEndBy, latest_end}
 use Rattle.plan_sgs.specs.ProjectWords.{makespan_by, starts_by}
 use Rattle.plan_sgs.specs.ProjectLaws.{IsFullWord, rule_word, FullWordsAreLists, ProjectFullIsActive, RuleWordIsFull}
 use Rattle.plan_sgs.specs.declared.schedule.Schedule.{Schedule}
@@ -18,7 +18,7 @@ use Rattle.plan_exact.specs.Answers.{Outcome, outcome, outcome_of, letters_of, i
 use Rattle.plan_exact.specs.ProjectTrees.{CountedProject, project_tree, TreeHasProjectWords, FoundIsShortestProject}
 use Rattle.plan_exact.specs.Solutions.{IsBudget}
 use Rattle.plan_exact.specs.ProjectSolutions.{HasFewActivities, project_outcome, starts_or, IsInitial, IsProjectSolution}
-use Rattle.plan_exact.specs.declared.solving.Solved.{Solved}
+use Rattle.plan_exact.specs.declared.shop_solution.Solved.{Solved}
 use Rattle.plan_exact.specs.declared.answer.Answer.{Answer}
 use Rattle.plan_exact.specs.declared.answer.Kind.TheVariants.{Optimal}
 use Rattle.plan_exact.proofs.SolutionLemmas.{found_in_words, optimal_in_words}

@@ -17,7 +17,7 @@ use Rattle.plan_exact.specs.Visited.{Found, IsTakenFrom, IsFirstLeast, best, ini
 use Rattle.plan_exact.specs.Answers.{Outcome, outcome, outcome_of, letters_of, is_optimal}
 use Rattle.plan_exact.specs.ShopTrees.{Counted, tree_of, TreeHasWords, FoundIsShortest}
 use Rattle.plan_exact.specs.Solutions.{initial_word, makespan_by, starts_by, IsFullWord, IsScheduleBy, HasFewSteps, IsBudget, solution, word_or, IsSolution}
-use Rattle.plan_exact.specs.declared.solving.Solved.{Solved}
+use Rattle.plan_exact.specs.declared.shop_solution.Solved.{Solved}
 use Rattle.plan_exact.specs.declared.answer.Answer.{Answer}
 use Rattle.plan_exact.specs.declared.answer.Kind.TheVariants.{Optimal}
 use Rattle.plan_exact.proofs.WordLemmas.{words_listed}

@@ -36,16 +36,6 @@ explored_open t finite u w s l under = by_room (t.depth - length u) refl
         ∙ sym (cond-false (nat_eq s.left 0 || nat_le s.found.value (t.bound u)) (after_word t s u) (fold (λ p a. explored t n (u ++ a ∷ []) p) (after_word t s u) (t.letters u))
         (or_from (nat_eq s.left 0) (nat_le s.found.value (t.bound u)) (ne_eqb s.left 0 (λ q. omega (arith, q, l))) (lt-leb s.found.value (t.bound u) under)))
 
--- below a closed one nothing is
-pub explored_closed : (t : WordTree) (u : List ℕ) (s : Standing) → s.found.value ≤ t.bound u → after_word t s u ≡ explored t (t.depth - length u) u s
-explored_closed t u s high = by_room (t.depth - length u)
-  where
-    by_room : (n : ℕ) → after_word t s u ≡ explored t n u s
-    by_room zero = refl
-    by_room (suc n) =
-        sym (cond-true (nat_eq s.left 0 || nat_le s.found.value (t.bound u)) (after_word t s u) (fold (λ p a. explored t n (u ++ a ∷ []) p) (after_word t s u) (t.letters u))
-        (or_right (nat_eq s.left 0) (nat_le s.found.value (t.bound u)) (le-leb s.found.value (t.bound u) high)))
-
 -- the word with a letter more, in a tree that is the same
 pub pushed : (t t' : WordTree) (u u' : List ℕ) (a : ℕ) → t' ≡ t → u' ≡ u ++ a ∷ [] → IsWord t u → Contains (t.letters u) a → IsWord t' u'
 pushed t t' u u' a same longer w l =

@@ -1,4 +1,4 @@
--- What a search answers within a budget (docs/definitions.md, "Search").
+-- Answers of a search within a budget (docs/definitions.md, "Search").
 use Rattle.std.specs.Prelude.{ℕ, Bool, true, false, nat_le, if◌then◌else◌, List, length, take, Option, Some, None}
 use Rattle.std.specs.Global.{Global}
 use Rattle.std.specs.declared.vec.Vec.{Vec}
@@ -8,12 +8,13 @@ use Rattle.plan_exact.specs.declared.answer.Answer.{Answer}
 use Rattle.plan_exact.specs.declared.answer.Kind.{Kind}
 use Rattle.plan_exact.specs.declared.answer.Kind.TheVariants.{Optimal, Budget}
 
--- whether the value is known to be the least, and what was found
+-- the result of a search, and whether its value is known to be the least
 pub record Outcome : Type 0 where
   pub optimal : Bool
   pub found : Found
 
--- the least of all where the budget suffices for the visited words, else the least of as many visited words as the budget allows
+-- the least of all if the budget suffices for the visited words, else the least of as many visited
+-- words as the budget allows
 unfoldable pub outcome : WordTree → ℕ → ℕ → Outcome
 outcome t initial budget =
     if nat_le (length (visited_words t initial)) budget
@@ -31,4 +32,5 @@ is_optimal Budget = false
 
 -- an answer as contracts see it
 abbrev pub outcome_of : Answer → Outcome
-outcome_of a = record { optimal = is_optimal a.kind; found = record { value = a.value; word = letters_of a.word } }
+outcome_of a =
+    record { optimal = is_optimal a.kind; found = record { value = a.value; word = letters_of a.word } }

@@ -1,9 +1,9 @@
--- Budgets as texts (docs/definitions.md, "Best schedules").
+-- Texts of budgets (docs/definitions.md, "Best schedules").
 use Rattle.std.specs.Prelude.{◌≡◌, ℕ, ◌≤◌, List, get_or}
 use Rattle.std.specs.Fmt.{decimal}
 use Rattle.plan_exact.specs.Solutions.{IsBudget}
 
--- a text is a budget in decimal digits, without zeros in front
+-- a text is a budget in decimal digits without leading zeros
 abbrev pub IsBudgetText : List ℕ → ℕ → Type 0
 IsBudgetText text budget = IsBudget budget × (text ≡ decimal budget)
 

@@ -1,4 +1,4 @@
--- Answers that are kept, by what was asked (docs/definitions.md, "Kept answers").
+-- Cached answers by their questions (docs/definitions.md, "Kept answers").
 use Rattle.std.specs.Prelude.{◌≡◌, ℕ, List, ◌∷◌, ◌++◌, map, take, All, Contains, ◌⊎◌}
 use Rattle.lru.specs.LruCache.{LruCache}
 use Rattle.plan_net.specs.Network.{Net}
@@ -6,22 +6,22 @@ use Rattle.plan_sgs.specs.Instances.{Planned}
 use Rattle.plan_shop.specs.Shop.{JobShop}
 use Rattle.plan_exact.specs.Solutions.{IsSolution}
 use Rattle.plan_exact.specs.ProjectSolutions.{IsProjectSolution}
-use Rattle.plan_exact.specs.declared.solving.Solved.{Solved}
+use Rattle.plan_exact.specs.declared.shop_solution.Solved.{Solved}
 use Rattle.plan_exact.specs.declared.questions.Question.{Question}
 use Rattle.plan_exact.specs.declared.questions.Question.TheVariants as question
 
--- what the best schedule of a project depends on: its network with the lags, the needs, and the
--- capacities
+-- the data on which the best schedule of a project depends: its network with the lags, the needs
+-- and the capacities
 pub record Content : Type 0 where
   pub network : Net
   pub needs : List (List ℕ)
   pub capacities : List ℕ
 
 abbrev pub content_of : Planned → Content
-content_of i = record { network = i.project.network; needs = i.project.needs; capacities = i.capacities }
+content_of i =
+    record { network = i.project.network; needs = i.project.needs; capacities = i.capacities }
 
--- what is asked for: the best schedule of a shop, or of a project against capacities, within a
--- budget
+-- a question: the best schedule of a shop, or of a project and its capacities, within a budget
 pub data Asked : Type 0 where
   OfShop : JobShop → ℕ → Asked
   OfProject : Content → ℕ → Asked
@@ -32,9 +32,10 @@ asked_of_shop s budget = OfShop s budget
 abbrev pub asked_of_project : Planned → ℕ → Asked
 asked_of_project i budget = OfProject (content_of i) budget
 
--- what a key asks for
+-- the question of a key
 abbrev pub asked_by : Question → Asked
-asked_by (question.Shop q) = OfShop (record { machines = q.machines; jobs = q.jobs; steps = q.steps.items }) q.budget
+asked_by (question.Shop q) =
+    OfShop (record { machines = q.machines; jobs = q.jobs; steps = q.steps.items }) q.budget
 asked_by (question.Project q) =
     OfProject (record {
       network = record { durations = q.durations.items; arcs = q.arcs.items; lags = q.lags.items };
@@ -42,28 +43,29 @@ asked_by (question.Project q) =
       capacities = q.capacities.items;
     }) q.budget
 
--- what is found answers what is asked: for a project it is the solution of every instance with that
--- content
+-- a result answers a question. The result for a project is the solution of every instance with that
+-- content.
 abbrev pub Answers : Asked → Solved → Type 0
 Answers (OfShop s budget) solved = IsSolution s budget solved
-Answers (OfProject content budget) solved = (i : Planned) → content_of i ≡ content → IsProjectSolution i budget solved
+Answers (OfProject content budget) solved =
+    (i : Planned) → content_of i ≡ content → IsProjectSolution i budget solved
 
--- what the keys of some answers ask for
+-- the questions of some entries
 abbrev pub questions : List (Question × Solved) → List Asked
 questions entries = map (λ e. asked_by e.0) entries
 
--- an answer to its key
+-- an entry contains the answer to its key
 abbrev pub IsAnswered : Question × Solved → Type 0
 IsAnswered e = Answers (asked_by e.0) e.1
 
--- at most 64 answers, each to its key
+-- at most 64 entries, each with the answer to its key
 pub record IsMemo (kept : LruCache Question Solved) : Type 0 where
   pub room : kept.cap ≡ 64
   pub answered : All IsAnswered kept.entries
 
--- a question that was there moves to the front, and a new one goes there, where the last of 64
--- leaves
+-- a cached question moves to the front. A new one is added there, and the last of 64 is dropped.
 abbrev pub Remembers : List Asked → Asked → List Asked → Type 0
 Remembers old q new =
-    ((before : List Asked) × (after : List Asked) × (old ≡ before ++ q ∷ after) × (new ≡ q ∷ before ++ after))
+    ((before : List Asked) × (after : List Asked) × (old ≡ before ++ q ∷ after)
+    × (new ≡ q ∷ before ++ after))
     ⊎ ((Contains old q → ⊥) × (new ≡ q ∷ take 63 old))

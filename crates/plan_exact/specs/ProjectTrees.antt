@@ -17,7 +17,7 @@ project_tree i = record {
   depth = depth_of i;
 }
 
--- a project, the word at which its tree stands, and how many pushes succeeded so far
+-- an instance, the current word of its tree, and the number of successful pushes so far
 pub record CountedProject : Type 0 where
   pub instance : Planned
   pub word : List ℕ
@@ -27,12 +27,12 @@ pub record CountedProject : Type 0 where
 unfoldable pub TreeHasProjectWords : Planned → Type 0
 TreeHasProjectWords i = (w : List ℕ) → IsWord (project_tree i) w ↔ IsProjectWord i w
 
--- the tree of every project keeps the laws of trees
+-- the tree of every project satisfies the laws of trees
 unfoldable pub ProjectTreesKeepLaws : Type 0
 ProjectTreesKeepLaws = (i : Planned) → IsInstance i → KeepsLaws (project_tree i)
 
--- what is found first of least makespan among all words is no greater than the makespan of any
--- feasible schedule
+-- the first word of least makespan among all words has no greater makespan than any feasible
+-- schedule
 unfoldable pub FoundIsShortestProject : Type 0
 FoundIsShortestProject =
     (i : Planned) (initial : ℕ) (f : Found) (starts : List ℕ) → IsInstance i

@@ -19,7 +19,7 @@ tree_of s = record {
   depth = s.jobs * s.machines;
 }
 
--- a shop, the word at which its tree stands, and how many pushes succeeded so far
+-- a shop, the current word of its tree, and the number of successful pushes so far
 pub record Counted : Type 0 where
   pub shop : JobShop
   pub word : List ℕ
@@ -29,12 +29,14 @@ pub record Counted : Type 0 where
 unfoldable pub TreeHasWords : JobShop → Type 0
 TreeHasWords s = (w : List ℕ) → IsWord (tree_of s) w ↔ IsShopWord s w
 
--- the tree of every shop keeps the laws of trees
+-- the tree of every shop satisfies the laws of trees
 unfoldable pub ShopTreesKeepLaws : Type 0
 ShopTreesKeepLaws = (s : JobShop) → IsShop s → KeepsLaws (tree_of s)
 
--- what is found first of least makespan among all words is no greater than the makespan of any feasible schedule
+-- the first word of least makespan among all words has no greater makespan than any feasible
+-- schedule
 unfoldable pub FoundIsShortest : Type 0
 FoundIsShortest =
-    (s : JobShop) (initial : ℕ) (f : Found) (starts : List ℕ) → IsShop s → IsFirstLeast (tree_of s) initial (words (tree_of s)) f
+    (s : JobShop) (initial : ℕ) (f : Found) (starts : List ℕ) → IsShop s
+    → IsFirstLeast (tree_of s) initial (words (tree_of s)) f
     → IsFeasible (problem_of s) starts → f.value ≤ makespan (problem_of s) starts

@@ -1,4 +1,5 @@
--- The best schedule of a job shop that a search within a budget finds (docs/definitions.md, "Best schedules").
+-- The best schedule of a job shop that a search within a budget finds (docs/definitions.md, "Best
+-- schedules").
 use Rattle.std.specs.Prelude.{◌≡◌, ℕ, ◌≤◌, ◌<◌, true, List, All, Option, Some, None}
 use Rattle.plan_shop.specs.Shop.{JobShop, count_steps}
 use Rattle.plan_sgs.specs.declared.schedule.Schedule.{Schedule}
@@ -8,11 +9,11 @@ use Rattle.plan_shop.specs.Names.{word_by}
 use Rattle.plan_shop.specs.declared.rule.ShopRule.TheVariants as rule
 use Rattle.plan_exact.specs.Answers.{Outcome, outcome, is_optimal}
 use Rattle.plan_exact.specs.ShopTrees.{tree_of}
-use Rattle.plan_exact.specs.declared.solving.Solved.{Solved}
+use Rattle.plan_exact.specs.declared.shop_solution.Solved.{Solved}
 use Rattle.plan_exact.specs.declared.fault.ExactFault.{ExactFault}
 use Rattle.plan_exact.specs.declared.fault.ExactFault.TheVariants as fault
 
--- the word of the initial schedule: that of the most work remaining
+-- the word of the initial schedule: that of the rule `mwkr`
 abbrev pub initial_word : JobShop → List ℕ
 initial_word s = word_by rule.MostWorkRemaining s
 
@@ -35,11 +36,11 @@ pub record IsScheduleBy (s : JobShop) (w : List ℕ) (schedule : Schedule) : Typ
   pub makespan : schedule.makespan ≡ makespan_by s w
   pub within : All (λ t. t ≤ 10000000) schedule.starts.items
 
--- what a search of the shop's words answers
+-- the answer of a search of the shop's words
 unfoldable pub solution : JobShop → ℕ → Outcome
 solution s budget = outcome (tree_of s) (makespan_by s (initial_word s)) budget
 
--- the word that was found, the initial one where there is none
+-- the word that was found, or the initial word if there is none
 abbrev pub word_or : List ℕ → Option (List ℕ) → List ℕ
 word_or initial None = initial
 word_or initial (Some w) = w
@@ -55,7 +56,7 @@ IsBudget budget = (1 ≤ budget) × (budget ≤ 200000)
 abbrev pub HasFewSteps : JobShop → Type 0
 HasFewSteps s = count_steps s ≤ 100
 
--- a shop is solved as the search answers, within the limits
+-- the solution of a shop: the answer of the search within the limits
 pub record IsSolution (s : JobShop) (budget : ℕ) (solved : Solved) : Type 0 where
   pub few_steps : HasFewSteps s
   pub allowed : IsBudget budget
@@ -64,7 +65,7 @@ pub record IsSolution (s : JobShop) (budget : ℕ) (solved : Solved) : Type 0 wh
   pub makespan : solved.schedule.makespan ≡ (solution s budget).found.value
   pub within : All (λ t. t ≤ 10000000) solved.schedule.starts.items
 
--- a shop is refused for its size, or else for the budget, and for nothing else but want of memory
+-- the errors of a shop: its size, else the budget, or memory that runs out
 abbrev pub RefusesSolving : JobShop → ℕ → ExactFault → Type 0
 RefusesSolving s budget fault.NoMemory = Unit {0}
 RefusesSolving s budget fault.TooLarge = 100 < count_steps s

@@ -1,26 +1,30 @@
--- Which words a search visits, and the first schedule of least makespan (docs/definitions.md, "Search").
+-- Visited words of a search, and the first schedule of least makespan (docs/definitions.md,
+-- "Search").
 use Rattle.std.specs.Prelude.{◌≡◌, ℕ, ◌≤◌, ◌<◌, Bool, cond, ◌&&◌, nat_lt, List, [], ◌∷◌, ◌++◌, map, filter, fold, All, IsTrue, Option, Some, None}
 use Rattle.std.specs.List.{list_all}
 use Rattle.plan_exact.specs.Words.{WordTree, words, is_before}
 
--- a makespan, and the word that has it: none for the initial schedule
+-- a makespan and its word, none for the initial schedule
 pub record Found : Type 0 where
   pub value : ℕ
   pub word : Option (List ℕ)
 
--- the initial schedule, of which the makespan alone counts
+-- the initial schedule by its makespan
 abbrev pub initial_found : ℕ → Found
 initial_found initial = record { value = initial; word = None }
 
--- the better of what was found and a word, where they are equal what was found
+-- the better of the best result so far and a word; the former if they are equal
 abbrev pub better : WordTree → Found → List ℕ → Found
-better t f w = cond (t.full w && nat_lt (t.makespan w) f.value) (record { value = t.makespan w; word = Some w }) f
+better t f w =
+    cond (t.full w
+    && nat_lt (t.makespan w) f.value) (record { value = t.makespan w; word = Some w }) f
 
--- the first of least makespan of what was found and then the full words of a list
+-- the first of least makespan among the best result so far and then the full words of a list
 abbrev pub best : WordTree → Found → List (List ℕ) → Found
 best t f ws = fold (better t) f ws
 
--- w is a full word of the list with that makespan, which is below the initial one, and each full word before it has a greater one
+-- w is a full word of the list with a makespan below the initial one, and each full word before it
+-- has a greater makespan
 pub record IsFirstOf (t : WordTree) (initial : ℕ) (ws : List (List ℕ)) (value : ℕ) (w : List ℕ) : Type 0 where
   pub below : value < initial
   pub is : value ≡ t.makespan w
@@ -30,12 +34,12 @@ pub record IsFirstOf (t : WordTree) (initial : ℕ) (ws : List (List ℕ)) (valu
   pub split : ws ≡ before ++ w ∷ after
   pub greater : All (λ u. IsTrue (t.full u) → value < t.makespan u) before
 
--- the makespan is that of the initial schedule, or of the first such word
+-- a makespan is that of the initial schedule or of the first such word
 abbrev pub IsTakenFrom : WordTree → ℕ → List (List ℕ) → ℕ → Option (List ℕ) → Type 0
 IsTakenFrom t initial ws value None = value ≡ initial
 IsTakenFrom t initial ws value (Some w) = IsFirstOf t initial ws value w
 
--- f is the first of least makespan of the initial schedule and then the full words of a list
+-- f is the first of least makespan among the initial schedule and then the full words of a list
 pub record IsFirstLeast (t : WordTree) (initial : ℕ) (ws : List (List ℕ)) (f : Found) : Type 0 where
   pub at_most_initial : f.value ≤ initial
   pub at_most_words : All (λ w. IsTrue (t.full w) → f.value ≤ t.makespan w) ws
@@ -45,7 +49,7 @@ pub record IsFirstLeast (t : WordTree) (initial : ℕ) (ws : List (List ℕ)) (f
 unfoldable pub least : WordTree → ℕ → List ℕ → ℕ
 least t initial u = (best t (initial_found initial) (filter (λ w. is_before w u) (words t))).value
 
--- the bound of u is below the least before it, so that its children are visited where u is
+-- the bound of u is below the least makespan before it, so its children are visited if u is
 unfoldable pub is_open : WordTree → ℕ → List ℕ → Bool
 is_open t initial u = nat_lt (t.bound u) (least t initial u)
 

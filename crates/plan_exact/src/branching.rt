@@ -1,31 +1,32 @@
-//! The trait of the trees that can be searched.
+//! Trait of the trees that [`search`](crate::search) explores.
 
-ghost use Rattle.std.specs.Prelude.{◌≡◌, ℕ, ◌+◌, ◌<◌, List, [], ◌∷◌, ◌++◌, length, Contains, OnOk, OnErr, IsTrue};
+ghost use Rattle.std.specs.Prelude.{◌≡◌, ℕ, ◌+◌, ◌<◌, List, [], ◌∷◌, ◌++◌, length, Contains, OnOk};
+ghost use Rattle.std.specs.Prelude.{OnErr, IsTrue};
 ghost use Rattle.plan_exact.specs.Words.{WordTree};
 ghost use Rattle.plan_exact.specs.Laws.{LettersRise, WordsAreFinite, BoundHolds};
 
 use std::alloc::AllocError;
 
-/// A tree of words that stands at one of its words. A letter is the number, from 1 on, of what is
-/// placed next: a job of a shop, an activity of a project.
+/// A tree of words, at one of its words. A letter is the number, from 1, of the job of a shop or the
+/// activity of a project that is placed next.
 pub trait Branching {
-    /// What holds of every value of the type. The laws are asked of valid values alone.
+    /// The invariant of the type. The laws are required only of valid values.
     ghost is_valid: { Self → Type 0 };
 
     /// The tree as contracts see it.
     ghost tree: { Self → WordTree };
 
-    /// The word at which it stands.
+    /// The current word.
     ghost word: { Self → List ℕ };
 
-    /// How many pushes succeeded so far. No code can read it.
+    /// The number of successful pushes so far. No code can read it.
     ghost pushes: { Self → ℕ };
 
-    /// Tells a proof that the value is valid. It does nothing.
+    /// Gives a proof the fact that the value is valid. Does nothing at run time.
     fn known(&self)
         ensures { is_valid self.now };
 
-    /// Goes to the word with one letter more.
+    /// Appends a letter to the word.
     fn push(&mut self, letter: u32) -> Result<(), AllocError>
         requires { Contains ((tree self.old).letters (word self.old)) letter }
         ensures tree { tree self.new ≡ tree self.old }
@@ -34,32 +35,33 @@ pub trait Branching {
         ensures err { OnErr result (word self.new ≡ word self.old) }
         ensures err_count { OnErr result (pushes self.new ≡ pushes self.old) };
 
-    /// Goes back to the word without its last letter.
+    /// Removes the last letter of the word.
     fn pop(&mut self)
         requires { 0 < length (word self.old) }
         ensures tree { tree self.new ≡ tree self.old }
         ensures word { (u : List ℕ) (a : ℕ) → word self.old ≡ u ++ a ∷ [] → word self.new ≡ u }
         ensures count { pushes self.new ≡ pushes self.old };
 
-    /// Puts the letters that may follow behind those that the list has, so that one list serves
-    /// every word. After want of memory the list may end anywhere.
+    /// Appends the letters that may follow to the list, so that one list can serve all words of a
+    /// search. If memory runs out, only some of them may have been appended.
     fn letters(&self, list: &mut Vec<u32>) -> Result<(), AllocError>
-        ensures { OnOk result (list.new.items ≡ list.old.items ++ (tree self.now).letters (word self.now)) };
+        ensures { OnOk result (list.new.items ≡ list.old.items
+            ++ (tree self.now).letters (word self.now)) };
 
-    /// The bound of the word, in whole time units.
+    /// Returns the lower bound of the word, in whole time units.
     fn bound(&self) -> u64
         ensures { result ≡ (tree self.now).bound (word self.now) };
 
-    /// Whether the word is full.
+    /// Tests whether the word is full.
     fn full(&self) -> bool
         ensures { result ≡ (tree self.now).full (word self.now) };
 
-    /// The makespan of a full word, in whole time units.
+    /// Returns the makespan of a full word, in whole time units.
     fn makespan(&self) -> u64
         requires { IsTrue ((tree self.now).full (word self.now)) }
         ensures { result ≡ (tree self.now).makespan (word self.now) };
 
-    /// The letters after each word rise.
+    /// The letters after each word are in rising order.
     ghost letters_rise: { (x : Self) → is_valid x → LettersRise (tree x) };
 
     /// No word is longer than the tree is deep.

@@ -1,14 +1,14 @@
-//! Budgets as texts.
+//! Parser of budgets.
 
 ghost use Rattle.std.specs.Prelude.{◌≡◌, ℕ, IfOk, IfErr, IsTrue};
 ghost use Rattle.plan_exact.specs.Budgets as spec;
 ghost use Rattle.plan_exact.specs.declared.fault.ExactFault.TheVariants.{BadBudget};
 
 use crate::ExactFault;
-use crate::solving::GREATEST_BUDGET;
+use crate::shop_solution::GREATEST_BUDGET;
 
-// Whether a text begins with a digit that isn't 0.
-fn begins_above_zero(text: &str) -> bool
+/// Tests whether a text begins with a digit other than 0.
+pub fn begins_above_zero(text: &str) -> bool
     ensures yes { IsTrue result → spec.BeginsAboveZero text.now }
     ensures no { spec.BeginsAboveZero text.now → IsTrue result }
 {
@@ -18,12 +18,13 @@ fn begins_above_zero(text: &str) -> bool
     }
 }
 
-/// The budget that a text spells: 1 to 200,000 in decimal digits, the first of which isn't 0. Takes no memory.
+/// Parses a budget: a decimal number from 1 to 200,000 without leading zeros. Allocates nothing.
 ///
-/// Refused with [`ExactFault::BadBudget`] where it spells none.
+/// Fails with [`ExactFault::BadBudget`] for any other text.
 pub fn parse_budget(text: &str) -> Result<u64, ExactFault>
     ensures ok { IfOk result (spec.IsBudgetText text.now) }
-    ensures refused { IfErr result (λ fault. (fault ≡ BadBudget) × ((budget : ℕ) → spec.IsBudgetText text.now budget → ⊥)) }
+    ensures refused { IfErr result (λ fault.
+        (fault ≡ BadBudget) × ((budget : ℕ) → spec.IsBudgetText text.now budget → ⊥)) }
 {
     if !begins_above_zero(text) {
         return Err(ExactFault::BadBudget);

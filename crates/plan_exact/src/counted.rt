@@ -1,11 +1,11 @@
-//! The tree of a job shop's words as a search walks it.
+//! The tree of a job shop's words with a count of its pushes.
 
 use crate::{Branching, Pushes};
 use plan_shop::{Shop, ShopTree};
 use std::alloc::{AllocError, Global};
 use std::marker::Model;
 
-/// The tree of a shop's words with the count of its pushes, which contracts alone see.
+/// The tree of a shop's words with the count of its pushes. Only contracts can see the count.
 #[derive(Drop)]
 pub struct CountedTree<'a> {
     tree: ShopTree<'a>,
@@ -18,7 +18,8 @@ impl<'a> Model for CountedTree<'a> {
 
     ghost Value = { Counted };
 
-    ghost view = { λ t. record { shop = t.tree.shop; word = t.tree.word; pushes = t.pushes.count } };
+    ghost view = { λ t.
+        record { shop = t.tree.shop; word = t.tree.word; pushes = t.pushes.count } };
 
     ghost invariant = { λ t. IsShop t.tree.shop };
 }
@@ -26,11 +27,11 @@ impl<'a> Model for CountedTree<'a> {
 impl<'a> CountedTree<'a> {
     ghost use Rattle.std.specs.Prelude.{◌≡◌, [], IfOk};
 
-    /// The tree of a shop, at the empty word.
+    /// Returns the tree of a shop at the empty word.
     pub fn new(alloc: Global, shop: &'a Shop) -> Result<CountedTree<'a>, AllocError>
         ensures { IfOk result (λ tree. tree ≡ record { shop = shop.now; word = []; pushes = 0 }) }
     {
-        // Asking the shop for a number tells a proof that it is one.
+        // The proof needs the invariant of the shop, which this call states.
         let _machines = shop.machines();
         Ok(CountedTree {
             tree: ShopTree::new(alloc, shop)?,

@@ -1,11 +1,11 @@
-//! The tree of a project's words as a search walks it.
+//! The tree of a project's words with a count of its pushes.
 
 use crate::{Branching, Pushes};
 use plan_sgs::{Instance, ProjectTree};
 use std::alloc::{AllocError, Global};
 use std::marker::Model;
 
-/// The tree of a project's words with the count of its pushes, which contracts alone see.
+/// The tree of a project's words with the count of its pushes. Only contracts can see the count.
 #[derive(Drop)]
 pub struct CountedProjectTree<'a> {
     tree: ProjectTree<'a>,
@@ -18,7 +18,8 @@ impl<'a> Model for CountedProjectTree<'a> {
 
     ghost Value = { CountedProject };
 
-    ghost view = { λ t. record { instance = t.tree.instance; word = t.tree.word; pushes = t.pushes.count } };
+    ghost view = { λ t.
+        record { instance = t.tree.instance; word = t.tree.word; pushes = t.pushes.count } };
 
     ghost invariant = { λ t. IsInstance t.tree.instance };
 }
@@ -26,14 +27,15 @@ impl<'a> Model for CountedProjectTree<'a> {
 impl<'a> CountedProjectTree<'a> {
     ghost use Rattle.std.specs.Prelude.{◌≡◌, [], IfOk};
 
-    /// The tree of a project, at the empty word.
+    /// Returns the tree of a project at the empty word.
     pub fn new(
         alloc: Global,
         instance: &'a Instance<'a>,
     ) -> Result<CountedProjectTree<'a>, AllocError>
-        ensures { IfOk result (λ tree. tree ≡ record { instance = instance.now; word = []; pushes = 0 }) }
+        ensures { IfOk result (λ tree.
+            tree ≡ record { instance = instance.now; word = []; pushes = 0 }) }
     {
-        // Asking the instance for its network tells a proof that it is one.
+        // The proof needs the invariant of the instance, which this call states.
         let _network = instance.network();
         Ok(CountedProjectTree {
             tree: ProjectTree::new(alloc, instance)?,

@@ -1,4 +1,4 @@
-//! What a shop is refused for when its best schedule is asked for.
+//! Errors of this crate.
 
 ghost use Rattle.std.specs.Prelude.{◌≡◌};
 ghost use Rattle.plan_exact.specs.declared.fault.ExactFault.TheVariants.{NoMemory};
@@ -6,13 +6,13 @@ ghost use Rattle.plan_exact.specs.declared.fault.ExactFault.TheVariants.{NoMemor
 use std::alloc::AllocError;
 use thiserror::Error;
 
-/// Why a best schedule wasn't searched for.
+/// An error of a search for a best schedule.
 #[derive(Debug, Drop, Error)]
 pub enum ExactFault {
     /// Memory ran out.
     #[error("no memory")]
     NoMemory,
-    /// The shop has more than 100 steps.
+    /// The shop has more than 100 steps, or the project more than 40 activities.
     #[error("too large")]
     TooLarge,
     /// The budget is not from 1 to 200,000.

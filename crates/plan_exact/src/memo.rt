@@ -1,13 +1,15 @@
-//! Answers that are kept, so that a shop or a project asked for again is not searched again.
+//! Cache of answers, so that the same question is not searched twice.
 
-ghost use Rattle.std.specs.Prelude.{◌≡◌, ◌≢◌, ◌≤◌, ◌⊎◌, [], length, Contains, IfOk, IfErr, IfSome, IfNone, OnOk, OnErr};
+ghost use Rattle.std.specs.Prelude.{◌≡◌, ◌≢◌, ◌≤◌, ◌⊎◌, [], length, Contains, IfOk, IfErr, IfSome};
+ghost use Rattle.std.specs.Prelude.{IfNone, OnOk, OnErr};
 ghost use Rattle.std.specs.List.{AllPairs};
 ghost use Rattle.plan_sgs.specs.Problem.{IsActive, IsShortest, makespan};
 ghost use Rattle.plan_shop.specs.Shop.{problem_of};
 ghost use Rattle.plan_sgs.specs.Instances as projects;
 ghost use Rattle.plan_exact.specs.Solutions.{IsSolution, RefusesSolving};
 ghost use Rattle.plan_exact.specs.ProjectSolutions.{IsProjectSolution, RefusesProject};
-ghost use Rattle.plan_exact.specs.Memos.{Answers, asked_of_shop, asked_of_project, asked_by, Remembers};
+ghost use Rattle.plan_exact.specs.Memos.{Answers, asked_of_shop, asked_of_project, asked_by};
+ghost use Rattle.plan_exact.specs.Memos.{Remembers};
 ghost use Rattle.plan_exact.specs.declared.answer.Kind.TheVariants.{Optimal};
 
 use crate::questions::Question;
@@ -19,13 +21,14 @@ use std::alloc::{AllocError, Global};
 use std::marker::Model;
 use std::num::NonZeroUsize;
 
-/// The most answers that are kept.
+/// The greatest number of cached answers.
 pub const MOST_KEPT: usize = 64;
 
-// A copy of an answer.
+// Returns a copy of an answer.
 fn copy_of(alloc: Global, solved: &Solved) -> Result<Solved, AllocError>
     ensures kind { IfOk result (λ copy. copy.kind ≡ solved.now.kind) }
-    ensures starts { IfOk result (λ copy. copy.schedule.starts.items ≡ solved.now.schedule.starts.items) }
+    ensures starts { IfOk result (λ copy.
+        copy.schedule.starts.items ≡ solved.now.schedule.starts.items) }
     ensures makespan { IfOk result (λ copy. copy.schedule.makespan ≡ solved.now.schedule.makespan) }
 {
     let starts = Vec::from_slice(alloc, &solved.schedule.starts)?;
@@ -38,12 +41,13 @@ fn copy_of(alloc: Global, solved: &Solved) -> Result<Solved, AllocError>
     })
 }
 
-/// The answers to the last 64 questions that were asked, each question a whole shop with a budget, or a project's network, lags and
-/// needs with capacities and a budget. Contracts see the questions, the one asked last first.
+/// The answers to the last 64 questions. A question is a whole shop with a budget, or a project's
+/// network, lags and needs with capacities and a budget. Contracts see the list of questions, the
+/// most recent one first.
 #[derive(Drop)]
 pub struct Memo {
     alloc: Global,
-    // The hash has a fixed seed. Whoever picks the shops and projects can make no more than these 64 keys collide.
+    // The seed of the hash is fixed. Chosen inputs can make at most these 64 keys collide.
     kept: LruCache<Question, Solved>,
 }
 
@@ -59,7 +63,7 @@ impl Model for Memo {
 }
 
 impl Memo {
-    /// No answers so far.
+    /// Returns an empty cache.
     pub fn new(alloc: Global) -> Result<Memo, AllocError>
         ensures { IfOk result (λ memo. memo ≡ []) }
     {
@@ -68,7 +72,7 @@ impl Memo {
         Ok(Memo { alloc, kept })
     }
 
-    /// The number of answers that are kept.
+    /// Returns the number of cached answers.
     pub fn len(&self) -> usize
         ensures count { result ≡ length self.now }
         ensures most { result ≤ 64 }
@@ -78,16 +82,20 @@ impl Memo {
         self.kept.len()
     }
 
-    /// As [`solve_shop`], whatever is kept: an answer that is kept for the same shop and budget is answered again, and a new one
-    /// is kept where there is memory.
+    /// Answers as [`solve_shop`] does. The cached answer for the same shop and budget is returned if
+    /// there is one. A new answer is cached if there is memory for it.
     pub fn solve(&mut self, shop: &Shop, budget: u64) -> Result<Solved, ExactFault>
         ensures solution { IfOk result (IsSolution shop.now budget) }
-        ensures shortest { IfOk result (λ solved. solved.kind ≡ Optimal → IsShortest (problem_of shop.now) solved.schedule.starts.items) }
-        ensures active { IfOk result (λ solved. IsActive (problem_of shop.now) solved.schedule.starts.items) }
-        ensures makespan { IfOk result (λ solved. solved.schedule.makespan ≡ makespan (problem_of shop.now) solved.schedule.starts.items) }
+        ensures shortest { IfOk result (λ solved.
+            solved.kind ≡ Optimal → IsShortest (problem_of shop.now) solved.schedule.starts.items) }
+        ensures active { IfOk result (λ solved.
+            IsActive (problem_of shop.now) solved.schedule.starts.items) }
+        ensures makespan { IfOk result (λ solved. solved.schedule.makespan
+            ≡ makespan (problem_of shop.now) solved.schedule.starts.items) }
         ensures refused { IfErr result (RefusesSolving shop.now budget) }
-        // All questions stay as they were where there is no memory to keep this one.
-        ensures kept { OnOk result (Remembers self.old (asked_of_shop shop.now budget) self.new ⊎ (self.new ≡ self.old)) }
+        // The questions stay the same if there is no memory to cache this one.
+        ensures kept { OnOk result (Remembers self.old (asked_of_shop shop.now budget) self.new
+            ⊎ (self.new ≡ self.old)) }
         ensures unchanged { OnErr result (self.new ≡ self.old) }
     {
         match Question::of_shop(self.alloc, shop, budget) {
@@ -96,16 +104,22 @@ impl Memo {
         }
     }
 
-    /// As [`solve_project`], whatever is kept: an answer that is kept for the same network, lags, needs, capacities and budget is
-    /// answered again, and a new one is kept where there is memory.
+    /// Answers as [`solve_project`] does. The cached answer for the same network, lags, needs,
+    /// capacities and budget is returned if there is one. A new answer is cached if there is memory
+    /// for it.
     pub fn solve_project(&mut self, instance: &Instance, budget: u64) -> Result<Solved, ExactFault>
         ensures solution { IfOk result (IsProjectSolution instance.now budget) }
-        ensures shortest { IfOk result (λ solved. solved.kind ≡ Optimal → IsShortest (projects.problem_of instance.now) solved.schedule.starts.items) }
-        ensures active { IfOk result (λ solved. IsActive (projects.problem_of instance.now) solved.schedule.starts.items) }
-        ensures makespan { IfOk result (λ solved. solved.schedule.makespan ≡ makespan (projects.problem_of instance.now) solved.schedule.starts.items) }
+        ensures shortest { IfOk result (λ solved. solved.kind ≡ Optimal
+            → IsShortest (projects.problem_of instance.now) solved.schedule.starts.items) }
+        ensures active { IfOk result (λ solved.
+            IsActive (projects.problem_of instance.now) solved.schedule.starts.items) }
+        ensures makespan { IfOk result (λ solved. solved.schedule.makespan
+            ≡ makespan (projects.problem_of instance.now) solved.schedule.starts.items) }
         ensures refused { IfErr result (RefusesProject instance.now budget) }
-        // All questions stay as they were where there is no memory to keep this one.
-        ensures kept { OnOk result (Remembers self.old (asked_of_project instance.now budget) self.new ⊎ (self.new ≡ self.old)) }
+        // The questions stay the same if there is no memory to cache this one.
+        ensures kept { OnOk result
+            (Remembers self.old (asked_of_project instance.now budget) self.new
+            ⊎ (self.new ≡ self.old)) }
         ensures unchanged { OnErr result (self.new ≡ self.old) }
     {
         match Question::of_project(self.alloc, instance, budget) {
@@ -114,7 +128,7 @@ impl Memo {
         }
     }
 
-    // The answer to a question on a shop, kept or new.
+    // Returns the answer to a question on a shop, cached or new.
     fn shop_answer(
         &mut self,
         question: Question,
@@ -124,20 +138,21 @@ impl Memo {
         requires { asked_by question ≡ asked_of_shop shop.now budget }
         ensures solution { IfOk result (IsSolution shop.now budget) }
         ensures refused { IfErr result (RefusesSolving shop.now budget) }
-        // A question that is kept moves to the front; only a new one can fail to be kept.
-        ensures kept { OnOk result (Remembers self.old (asked_of_shop shop.now budget) self.new ⊎ ((Contains self.old (asked_of_shop shop.now budget) → ⊥) × (self.new ≡ self.old))) }
+        // A cached question moves to the front. Only a new one can fail to be cached.
+        ensures kept { OnOk result (Remembers self.old (asked_of_shop shop.now budget) self.new
+            ⊎ ((Contains self.old (asked_of_shop shop.now budget) → ⊥) × (self.new ≡ self.old))) }
         ensures unchanged { OnErr result (self.new ≡ self.old) }
     {
         if let Some(solved) = self.recall(&question)? {
             return Ok(solved);
         }
         let solved = solve_shop(self.alloc, shop, budget)?;
-        // Where there is no memory to keep it, it is answered all the same.
+        // The answer is returned even if there is no memory to cache it.
         let _ = self.keep(question, &solved);
         Ok(solved)
     }
 
-    // The answer to a question on a project, kept or new.
+    // Returns the answer to a question on a project, cached or new.
     fn project_answer(
         &mut self,
         question: Question,
@@ -147,24 +162,30 @@ impl Memo {
         requires { asked_by question ≡ asked_of_project instance.now budget }
         ensures solution { IfOk result (IsProjectSolution instance.now budget) }
         ensures refused { IfErr result (RefusesProject instance.now budget) }
-        // A question that is kept moves to the front; only a new one can fail to be kept.
-        ensures kept { OnOk result (Remembers self.old (asked_of_project instance.now budget) self.new ⊎ ((Contains self.old (asked_of_project instance.now budget) → ⊥) × (self.new ≡ self.old))) }
+        // A cached question moves to the front. Only a new one can fail to be cached.
+        ensures kept { OnOk result
+            (Remembers self.old (asked_of_project instance.now budget) self.new
+            ⊎ ((Contains self.old (asked_of_project instance.now budget) → ⊥)
+            × (self.new ≡ self.old))) }
         ensures unchanged { OnErr result (self.new ≡ self.old) }
     {
         if let Some(solved) = self.recall(&question)? {
             return Ok(solved);
         }
         let solved = solve_project(self.alloc, instance, budget)?;
-        // Where there is no memory to keep it, it is answered all the same.
+        // The answer is returned even if there is no memory to cache it.
         let _ = self.keep(question, &solved);
         Ok(solved)
     }
 
-    // A copy of the answer that is kept for a question, which becomes the most recently used.
+    // Returns a copy of the cached answer to a question, and makes it the most recently used.
     fn recall(&mut self, question: &Question) -> Result<Option<Solved>, AllocError>
         ensures found { IfOk result (λ found. IfSome found (Answers (asked_by question.now))) }
-        ensures moved { IfOk result (λ found. IfSome found (λ _. Remembers self.old (asked_by question.now) self.new)) }
-        ensures missing { IfOk result (λ found. IfNone found ((Contains self.old (asked_by question.now) → ⊥) × (self.new ≡ self.old))) }
+        ensures moved { IfOk result (λ found.
+            IfSome found (λ _. Remembers self.old (asked_by question.now) self.new)) }
+        ensures missing { IfOk result (λ found.
+            IfNone found ((Contains self.old (asked_by question.now) → ⊥)
+            × (self.new ≡ self.old))) }
         ensures unchanged { OnErr result (self.new ≡ self.old) }
     {
         let Some(solved) = self.kept.peek(question) else {
@@ -175,7 +196,7 @@ impl Memo {
         Ok(Some(copy))
     }
 
-    // Keeps a copy of an answer.
+    // Caches a copy of an answer.
     fn keep(&mut self, question: Question, solved: &Solved) -> Result<(), AllocError>
         requires new { Contains self.old (asked_by question) → ⊥ }
         requires answered { Answers (asked_by question) solved.now }

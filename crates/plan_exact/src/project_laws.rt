@@ -1,10 +1,11 @@
-//! Laws of the trees of projects, for proofs to cite. The functions do nothing.
+//! Laws of the trees of projects that proofs cite. The functions do nothing.
 
 ghost use Rattle.plan_sgs.specs.Instances.{Planned};
-ghost use Rattle.plan_exact.specs.ProjectTrees.{TreeHasProjectWords, ProjectTreesKeepLaws, FoundIsShortestProject};
+ghost use Rattle.plan_exact.specs.ProjectTrees.{TreeHasProjectWords, ProjectTreesKeepLaws};
+ghost use Rattle.plan_exact.specs.ProjectTrees.{FoundIsShortestProject};
 
-/// The words of a project make a tree that keeps the laws of trees, so that a search over it leaves
-/// out no better word.
+/// The words of a project form a tree that satisfies the laws of trees, so a search of it skips no
+/// better word.
 pub fn projects_make_trees()
     ensures words { (i : Planned) → TreeHasProjectWords i }
     ensures laws { ProjectTreesKeepLaws }

@@ -1,12 +1,12 @@
-//! A count of pushes that contracts alone see.
+//! Count of pushes that only contracts can see.
 
 ghost use Rattle.std.specs.Prelude.{◌≡◌, ◌+◌, ℕ};
 ghost use Rattle.std.specs.Borrow.{ftrue};
 
 use std::marker::Model;
 
-/// How many pushes of a tree succeeded. It takes no bytes, and no code can read it: a tree keeps one
-/// so that [`Branching`](crate::Branching) can speak of the count.
+/// The number of successful pushes of a tree. It has size 0, and no code can read it. A tree keeps
+/// one for the clauses of [`Branching`](crate::Branching) on the count.
 #[derive(Drop)]
 pub struct Pushes {
     pub ghost count: { ℕ },
@@ -17,14 +17,14 @@ impl Model for Pushes {
 }
 
 impl Pushes {
-    /// No pushes so far.
+    /// Returns the count 0.
     pub fn new() -> Pushes
         ensures { result.count ≡ 0 }
     {
         Pushes {}
     }
 
-    /// One push more.
+    /// Returns the count after one more push.
     pub fn raised(&self) -> Pushes
         ensures { result.count ≡ self.now.count + 1 }
     {

@@ -1,4 +1,4 @@
-//! What a memo is asked: all that a best schedule depends on.
+//! Questions to a memo: all data on which a best schedule depends.
 
 ghost use Rattle.std.specs.Prelude.{◌≡◌, map, IfOk};
 ghost use Rattle.plan_shop.specs.Shop.{IsShop};
@@ -11,7 +11,7 @@ use plan_sgs::Instance;
 use plan_shop::Shop;
 use std::alloc::{AllocError, Global};
 
-/// The whole shop and the budget.
+/// A whole shop and a budget.
 #[derive(PartialEq, Eq, Hash, Drop)]
 pub struct ShopQuestion {
     machines: u32,
@@ -20,7 +20,7 @@ pub struct ShopQuestion {
     budget: u64,
 }
 
-/// The network of a project with its lags, the needs, the capacities and the budget.
+/// The network of a project with its lags and needs, the capacities and a budget.
 #[derive(PartialEq, Eq, Hash, Drop)]
 pub struct ProjectQuestion {
     durations: Vec<u64>,
@@ -38,7 +38,7 @@ pub enum Question {
     Project(ProjectQuestion),
 }
 
-// The durations of the activities of a network.
+// Returns the durations of the activities of a network.
 fn durations_of(alloc: Global, network: &Network) -> Result<Vec<u64>, AllocError>
     ensures { IfOk result (λ durations. durations.items ≡ network.now.durations) }
 {
@@ -49,7 +49,7 @@ fn durations_of(alloc: Global, network: &Network) -> Result<Vec<u64>, AllocError
     Ok(durations)
 }
 
-// The lags of a network, arc by arc.
+// Returns the lags of a network in the order of its arcs.
 fn lags_of(alloc: Global, network: &Network) -> Result<Vec<u64>, AllocError>
     ensures { IfOk result (λ lags. lags.items ≡ network.now.lags) }
 {
@@ -61,9 +61,10 @@ fn lags_of(alloc: Global, network: &Network) -> Result<Vec<u64>, AllocError>
     Ok(lags)
 }
 
-// What the activities of an instance need, a row for each.
+// Returns the needs of the activities of an instance, one row for each.
 fn needs_of(alloc: Global, instance: &Instance) -> Result<Vec<Vec<u64>>, AllocError>
-    ensures { IfOk result (λ needs. map (λ row. row.items) needs.items ≡ instance.now.project.needs) }
+    ensures { IfOk result (λ needs.
+        map (λ row. row.items) needs.items ≡ instance.now.project.needs) }
 {
     let count = instance.network().len();
     let mut needs = Vec::with_capacity(alloc, count)?;
@@ -75,9 +76,10 @@ fn needs_of(alloc: Global, instance: &Instance) -> Result<Vec<Vec<u64>>, AllocEr
 }
 
 impl Question {
-    /// The question for a shop. Every shop has a step of each job for each machine.
+    /// Returns the question for a shop.
     pub fn of_shop(alloc: Global, shop: &Shop, budget: u64) -> Result<Question, AllocError>
-        ensures asked { IfOk result (λ question. asked_by question ≡ asked_of_shop shop.now budget) }
+        ensures asked { IfOk result (λ question.
+            asked_by question ≡ asked_of_shop shop.now budget) }
         ensures shop { IsShop shop.now }
     {
         let count = shop.jobs() * shop.machines();
@@ -93,13 +95,14 @@ impl Question {
         }))
     }
 
-    /// The question for a project against capacities.
+    /// Returns the question for a project and its capacities.
     pub fn of_project(
         alloc: Global,
         instance: &Instance,
         budget: u64,
     ) -> Result<Question, AllocError>
-        ensures asked { IfOk result (λ question. asked_by question ≡ asked_of_project instance.now budget) }
+        ensures asked { IfOk result (λ question.
+            asked_by question ≡ asked_of_project instance.now budget) }
         ensures instance { IsInstance instance.now }
     {
         let network = instance.network();

@@ -1,10 +1,10 @@
-//! Laws of the trees of job shops, for proofs to cite. The functions do nothing.
+//! Laws of the trees of job shops that proofs cite. The functions do nothing.
 
 ghost use Rattle.plan_shop.specs.Shop.{JobShop};
 ghost use Rattle.plan_exact.specs.ShopTrees.{TreeHasWords, ShopTreesKeepLaws, FoundIsShortest};
 
-/// The words of a shop make a tree that keeps the laws of trees, so that a search over it leaves
-/// out no better word.
+/// The words of a shop form a tree that satisfies the laws of trees, so a search of it skips no
+/// better word.
 pub fn shops_make_trees()
     ensures words { (s : JobShop) → TreeHasWords s }
     ensures laws { ShopTreesKeepLaws }

@@ -20,7 +20,7 @@ use Rattle.plan_shop.specs.Shop as shops
 use Rattle.plan_shop.specs.declared.rule.ShopRule.{ShopRule}
 use Rattle.plan_shop.proofs.OnceLemmas as rules
 use Rattle.plan_exact.specs.declared.answer.Kind.{Kind}
-use Rattle.plan_exact.specs.declared.solving.Solved.{Solved}
+use Rattle.plan_exact.specs.declared.shop_solution.Solved.{Solved}
 use Rattle.plan_exact.specs.declared.fault.ExactFault.{ExactFault}
 use Rattle.plan_exact.specs.declared.fault.ExactFault.TheVariants as exact
 use Rattle.plan_exact.specs.Budgets.{IsBudgetText}

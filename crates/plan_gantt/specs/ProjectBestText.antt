@@ -8,7 +8,7 @@ use Rattle.plan_sgs.specs.declared.fault.SgsFault.{SgsFault}
 use Rattle.plan_exact.specs.Budgets.{IsBudgetText}
 use Rattle.plan_exact.specs.ProjectSolutions.{HasFewActivities, IsProjectSolution}
 use Rattle.plan_exact.specs.declared.answer.Kind.TheVariants.{Optimal}
-use Rattle.plan_exact.specs.declared.solving.Solved.{Solved}
+use Rattle.plan_exact.specs.declared.shop_solution.Solved.{Solved}
 use Rattle.plan_exact.specs.declared.fault.ExactFault.{ExactFault}
 use Rattle.plan_exact.specs.declared.fault.ExactFault.TheVariants as exact
 use Rattle.plan_gantt.specs.BestText.{kind_line}

@@ -6,7 +6,7 @@ use Rattle.plan_shop.specs.Shop.{JobShop, problem_of, count_steps}
 use Rattle.plan_exact.specs.Budgets.{IsBudgetText}
 use Rattle.plan_exact.specs.Solutions.{IsSolution, HasFewSteps}
 use Rattle.plan_exact.specs.declared.answer.Kind.TheVariants.{Optimal}
-use Rattle.plan_exact.specs.declared.solving.Solved.{Solved}
+use Rattle.plan_exact.specs.declared.shop_solution.Solved.{Solved}
 use Rattle.plan_exact.specs.declared.fault.ExactFault.{ExactFault}
 use Rattle.plan_exact.specs.declared.fault.ExactFault.TheVariants as exact
 use Rattle.plan_gantt.specs.BestText.{best_text_of}

@@ -16,8 +16,8 @@ use Rattle.plan_shop.proofs.ShopBasics.{arcs_are_neighbours, capacities_keep_apa
 use Rattle.plan_prove.specs.Graphs.{time_in, KeepsArc, KeepsApart, KeepsClique, IsKept, IsBelow, NoneIsBelow, IsArcOf, IsPairOf, lasts_on, IsCliqueOf, IsGraphOf}
 use Rattle.plan_prove.specs.Proofs.{IsLowerBound, IsProofOf, IsSearchOf, HasTaken}
 use Rattle.plan_prove.specs.declared.graph.Graph.{Graph}
-use Rattle.plan_prove.specs.declared.proving.Proof.{Proof}
-use Rattle.plan_prove.specs.declared.searching.Search.{Search}
+use Rattle.plan_prove.specs.declared.proof.Proof.{Proof}
+use Rattle.plan_prove.specs.declared.search.Search.{Search}
 
 -- the times of the graph are those of the shop
 pub time_is : (s : JobShop) (g : Graph) → IsGraphOf s g → (x : ℕ) → time_in g x ≡ time_of s x

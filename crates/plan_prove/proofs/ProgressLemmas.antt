@@ -7,14 +7,7 @@ use Rattle.plan_prove.specs.States.{AreRefuted}
 use Rattle.plan_prove.specs.declared.graph.Graph.{Graph}
 use Rattle.plan_prove.specs.declared.state.State.{State}
 use Rattle.plan_prove.specs.Progress.{Progress, Hears, HearsNothing, IsProgressOf, HearsTruth, IsKnownTo, HearsKnown}
-use Rattle.plan_prove.specs.declared.searching.Search.{Search}
-
--- what is heard by one call and by another behind it
-pub truth_twice : (s : JobShop) (allowed : ℕ) (before between after : Progress → Type 0) → HearsTruth s allowed before between → HearsTruth s allowed between after → HearsTruth s allowed before after
-truth_twice s allowed before between after first second p was = elim (second p was) [
-  | inl earlier ↦ first p earlier
-  | inr true ↦ inr true
-]
+use Rattle.plan_prove.specs.declared.search.Search.{Search}
 
 pub known_twice : (search : Search) (before between after : Progress → Type 0) → HearsKnown search before between → HearsKnown search between after → HearsKnown search before after
 known_twice search before between after first second p was = elim (second p was) [
@@ -48,18 +41,3 @@ refuted_before old new limit states taken all = subst (λ (g : Graph). AreRefute
 
 pub refuted_behind : (old new : Search) (limit : ℕ) (states : List State) → HasTaken old new → AreRefuted old.graph limit states → AreRefuted new.graph limit states
 refuted_behind old new limit states taken all = subst (λ (g : Graph). AreRefuted g limit states) (sym taken.graph) all
-
--- what a search of a shop knows is true of the shop
-pub known_is_true : (s : JobShop) (search : Search) (before after : Progress → Type 0) → IsSearchOf s search → HearsKnown search before after → HearsTruth s search.most before after
-known_is_true s search before after is heard p was = elim (heard p was) [
-  | inl earlier ↦ inl earlier
-  | inr known ↦
-      let starts = search.proof.schedule.starts.items in
-      let least = is.proof.lower starts is.proof.schedule.active.feasible in
-      inr (record {
-        best = (starts, is.proof.schedule.active, known.best ∙ is.proof.schedule.makespan_is);
-        lower = λ other feasible. omega (arith, known.lower, is.proof.lower other feasible);
-        below = omega (arith, known.best, known.lower, least, is.proof.schedule.makespan_is);
-        within = known.within;
-      })
-]

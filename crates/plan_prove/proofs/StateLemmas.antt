@@ -5,7 +5,7 @@ use Rattle.std.specs.Prelude.{IfNone}
 use Rattle.std.proofs.lemmas.List.{get_or_default, get_or_append_left, get_or_at, length_push}
 use Rattle.std.proofs.lemmas.List.Elements.{All-push}
 use Rattle.plan_prove.specs.Graphs.{time_in, KeepsApart, IsKept, NoneIsBelow}
-use Rattle.plan_prove.specs.States.{GoesBefore, NotBefore, StaysAway, RaisesEnd, IsKnown, StartsFrom, Leaves, Deduces, Follows, IsRaised, KeepsSide, Holds, IsRefuted, IsRoot, IsWithSide, Covers, AreRefuted, AreOpened}
+use Rattle.plan_prove.specs.States.{GoesBefore, NotBefore, StaysAway, RaisesEnd, IsKnown, StartsFrom, Leaves, Deduces, Follows, IsRaised, KeepsSide, Holds, IsRefuted, IsRoot, IsWithSide, Covers, AreRefuted, AreFirstStates}
 use Rattle.plan_prove.specs.declared.graph.Pair.{Pair}
 use Rattle.plan_prove.specs.declared.graph.Graph.{Graph}
 use Rattle.plan_prove.specs.declared.state.Side.{Side}
@@ -133,7 +133,7 @@ root_refuted g limit root is refuted starts kept below = refuted starts (record 
 })
 
 -- the root alone waits at first
-pub root_waits : (g : Graph) (states : List State) (root : State) → states ≡ [] ++ root ∷ [] → IsRoot root → AreOpened g states
+pub root_waits : (g : Graph) (states : List State) (root : State) → states ≡ [] ++ root ∷ [] → IsRoot root → AreFirstStates g states
 root_waits g states root is nothing limit all = root_refuted g limit root nothing (all_but_last (IsRefuted g limit) [] states root is all).1
 
 -- the head of a step that starts there or later may be raised

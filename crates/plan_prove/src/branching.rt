@@ -1,4 +1,4 @@
-//! The pair that is decided next.
+//! Choice of the pair that is decided next.
 
 ghost use Rattle.std.specs.Prelude.{◌≡◌, ◌<◌, ◌⊎◌, length, IfSome};
 
@@ -7,15 +7,15 @@ use crate::known::{known_of, room};
 use crate::queue::Queue;
 use crate::state::{Side, State, side_at};
 
-/// A pair by its place, and whether its first step is to go first at first.
+/// A pair by its index, and whether the side in which its first step goes first is visited first.
 #[derive(Clone, Copy, Drop)]
 pub struct Choice {
     pub place: usize,
     pub is_forth: bool,
 }
 
-// An open pair by its place, the product of the room that its sides leave, and how often it came to
-// nothing.
+// An open pair by its index, with the product of the room that its sides leave and the number of
+// its failures.
 #[derive(Clone, Copy, Drop)]
 struct Candidate {
     place: usize,
@@ -23,7 +23,7 @@ struct Candidate {
     weight: u64,
 }
 
-// The start of a step, 0 where it has none.
+// Returns the start of a step, 0 if the list has none.
 fn start_in(guide: &[u64], step: u32) -> u64 {
     match guide.get(step as usize) {
         Some(start) => *start,
@@ -31,7 +31,7 @@ fn start_in(guide: &[u64], step: u32) -> u64 {
     }
 }
 
-// What an open pair would be as a choice.
+// Returns an open pair as a candidate.
 fn candidate_at(graph: &Graph, limit: u32, state: &State, queue: &Queue, place: usize) -> Candidate
     requires { place < length graph.now.pairs.items }
     ensures { result.place ≡ place }
@@ -47,12 +47,12 @@ fn candidate_at(graph: &Graph, limit: u32, state: &State, queue: &Queue, place: 
     }
 }
 
-// Whether one pair leaves no more room than another, by their weights.
+// Tests whether one pair leaves no more room per weight than another.
 fn is_as_tight(one: Candidate, other: Candidate) -> bool {
     one.room.saturating_mul(other.weight) <= other.room.saturating_mul(one.weight)
 }
 
-// The tighter of a pair that there may be and another.
+// Returns the tighter one of the best pair so far, if any, and another.
 fn tighter(best: Option<Candidate>, other: Candidate) -> Candidate
     ensures { (result ≡ other) ⊎ (best ≡ Some result) }
 {
@@ -62,7 +62,7 @@ fn tighter(best: Option<Candidate>, other: Candidate) -> Candidate
     }
 }
 
-// The open pair whose sides leave the least room, divided by its weight.
+// Returns the open pair with the least room per weight.
 fn tightest(graph: &Graph, limit: u32, state: &State, queue: &Queue) -> Option<Candidate>
     ensures { IfSome result (λ best. best.place < length graph.now.pairs.items) }
 {
@@ -76,8 +76,8 @@ fn tightest(graph: &Graph, limit: u32, state: &State, queue: &Queue) -> Option<C
     best
 }
 
-/// The open pair whose sides leave the least room, divided by its weight; `None` where no pair is
-/// open. First the side is visited that a schedule has.
+/// Returns the open pair with the least room per weight, or `None` if no pair is open. The side
+/// that the guiding schedule has is visited first.
 pub fn choose(
     graph: &Graph,
     limit: u32,

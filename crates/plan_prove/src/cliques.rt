@@ -1,4 +1,4 @@
-//! What the steps of each machine say together.
+//! Deductions from the steps of each machine together.
 
 ghost use Rattle.std.specs.Prelude.{◌<◌, length, IsTrue};
 ghost use Rattle.plan_prove.specs.States as spec;
@@ -8,7 +8,7 @@ use crate::graph::Graph;
 use crate::queue::Queue;
 use crate::state::{End, State};
 
-// Raises the head or the tail of a step of a clique, where a hint says that it goes beyond others.
+// Raises the head or the tail of a step of a clique if a hint says that it goes beyond others.
 fn raise_at(
     graph: &Graph,
     limit: u32,
@@ -27,8 +27,8 @@ fn raise_at(
     }
 }
 
-// Raises the heads of the steps of a clique that go behind others, or the tails of those that go
-// ahead of them.
+// Raises the heads of the steps of a clique that go behind others, or the tails of the steps that
+// go ahead of others.
 fn raise_all(
     graph: &Graph,
     limit: u32,
@@ -48,7 +48,7 @@ fn raise_all(
     Some(any)
 }
 
-// Whether the steps of a machine leave no room below the limit, as far as it is seen.
+// Tests whether the steps of a machine leave no room below the limit. May miss a case.
 fn leaves_none(
     graph: &Graph,
     limit: u32,
@@ -66,7 +66,7 @@ fn leaves_none(
     }
 }
 
-// What the steps of a machine say together.
+// Deduces from the steps of a machine together.
 fn bound_machine(
     graph: &Graph,
     limit: u32,
@@ -86,7 +86,7 @@ fn bound_machine(
     Some(later | longer)
 }
 
-// The same where the machine is to be bounded.
+// Deduces from the steps of a machine together if the machine is stale.
 fn bound_stale(
     graph: &Graph,
     limit: u32,
@@ -104,7 +104,7 @@ fn bound_stale(
     }
 }
 
-/// What the machines say that are to be bounded, up to the first that says something.
+/// Deduces from the stale machines, up to the first that raises a head or a tail.
 pub fn bound_machines(
     graph: &Graph,
     limit: u32,

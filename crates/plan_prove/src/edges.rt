@@ -1,17 +1,17 @@
-//! What the steps of one machine say together, since they take turns: that they leave no room, and
-//! that one of them goes behind others, or ahead of them (edge finding: Carlier and Pinson 1989).
+//! Edge finding (Carlier and Pinson 1989): the steps of one machine take turns, so they may leave
+//! no room, or one of them goes behind or ahead of others.
 
 ghost use Rattle.std.specs.Prelude.{◌≡◌, ◌≤◌, ◌<◌, ◌+◌, IfSome, IsTrue, Contains, sum_by};
 ghost use Rattle.plan_prove.specs.Graphs.{time_in};
 ghost use Rattle.plan_prove.specs.States as spec;
 
-use crate::finding::Hint;
+use crate::ends::raise_end;
+use crate::finder::Hint;
 use crate::graph::Graph;
 use crate::queue::Queue;
-use crate::raising::raise_end;
 use crate::state::{End, State, at};
 
-/// All steps of a clique but one that start at a head or later and leave a tail or more.
+/// All steps of a clique but one whose heads and tails are at least two given numbers.
 #[derive(Clone, Copy, Drop)]
 pub struct Others {
     pub head: u64,
@@ -19,7 +19,7 @@ pub struct Others {
     pub but: u32,
 }
 
-// The step at a place of a clique.
+// Returns the step at an index of a clique.
 fn step_at(clique: &Vec<u32>, place: u32) -> Option<u32>
     ensures { IfSome result (Contains clique.now.items) }
 {
@@ -30,7 +30,7 @@ fn step_at(clique: &Vec<u32>, place: u32) -> Option<u32>
     }
 }
 
-// Whether a step is one of the others.
+// Tests whether a step is one of the others.
 fn is_other(state: &State, others: Others, step: u32) -> bool
     ensures { result ≡ spec.is_other state.now others step }
 {
@@ -39,9 +39,10 @@ fn is_other(state: &State, others: Others, step: u32) -> bool
         && others.tail <= at(&state.tails, step)
 }
 
-// The times of the others of a clique. A sum beyond all limits may be less.
+// Returns the total time of the others of a clique. A saturated sum may be less.
 fn load(graph: &Graph, state: &State, clique: &Vec<u32>, others: Others) -> u64
-    ensures { result ≤ sum_by (time_in graph.now) (spec.others_of state.now others clique.now.items) }
+    ensures { result
+        ≤ sum_by (time_in graph.now) (spec.others_of state.now others clique.now.items) }
 {
     let mut times: u64 = 0;
     for step in clique {
@@ -52,8 +53,8 @@ fn load(graph: &Graph, state: &State, clique: &Vec<u32>, others: Others) -> u64
     times
 }
 
-// Whether the others and the step beside them fill the time from a start on up to a rest before the
-// limit.
+// Tests whether the times of the others and of the left-out step fill the time from `start` to
+// `rest` before the limit.
 fn fill(
     graph: &Graph,
     limit: u32,
@@ -69,7 +70,7 @@ fn fill(
     start.saturating_add(times).saturating_add(rest) >= limit as u64
 }
 
-// The others that are so near and so far, seen from an end.
+// Returns the others by their least distances from an end: near to it and far from it.
 fn others_from(end: End, near: u64, far: u64, but: u32) -> Others
     ensures value { result ≡ spec.others_from end near far but }
     ensures but { result.but ≡ but }
@@ -88,8 +89,8 @@ fn others_from(end: End, near: u64, far: u64, but: u32) -> Others
     }
 }
 
-// Whether a step goes behind all others, since none of these can be the last; or ahead of them, since
-// none can be the first.
+// Tests whether the left-out step goes behind all others because none of them can be last, or ahead
+// of them because none can be first.
 fn is_beyond(
     graph: &Graph,
     limit: u32,
@@ -114,7 +115,7 @@ fn is_beyond(
     }
 }
 
-/// Whether steps of a clique leave no room below the limit.
+/// Tests whether steps of a clique leave no room below the limit.
 pub fn leave_none(graph: &Graph, limit: u32, state: &State, clique: &Vec<u32>, hint: Hint) -> bool
     requires { spec.IsClique graph.now clique.now }
     ensures { IsTrue result → spec.IsRefuted graph.now limit state.now }
@@ -136,8 +137,8 @@ pub fn leave_none(graph: &Graph, limit: u32, state: &State, clique: &Vec<u32>, h
     )
 }
 
-/// Raises the head of a step to the end of others, where it goes behind them; or its tail to what they
-/// leave, where it goes ahead of them.
+/// Raises the head of a step that goes behind others to their end, or the tail of a step that goes
+/// ahead of others to the time that they take after it.
 pub fn go_beyond(
     graph: &Graph,
     limit: u32,

@@ -1,4 +1,4 @@
-//! What a shop is refused for when a proof of its optimum is asked for.
+//! Errors of this crate.
 
 ghost use Rattle.std.specs.Prelude.{◌≡◌};
 ghost use Rattle.plan_prove.specs.declared.fault.ProveFault.TheVariants.{NoMemory};
@@ -6,7 +6,7 @@ ghost use Rattle.plan_prove.specs.declared.fault.ProveFault.TheVariants.{NoMemor
 use std::alloc::AllocError;
 use thiserror::Error;
 
-/// Why no proof was sought.
+/// An error of a search for a proof.
 #[derive(Debug, Drop, Error)]
 pub enum ProveFault {
     /// Memory ran out.

@@ -1,4 +1,4 @@
-//! The disjunctive graph of a shop.
+//! Disjunctive graph of a shop.
 
 ghost use Rattle.std.specs.Prelude.{◌≡◌, ◌<◌, ◌≤◌, ◌↔◌, All, IfOk, OnOk, IsTrue};
 ghost use Rattle.plan_shop.specs.Shop as flat;
@@ -16,10 +16,10 @@ pub struct Pair {
     pub second: u32,
 }
 
-/// The times of the steps in flat order, the arcs that every schedule keeps, from step to step, and
-/// the pairs of steps of which one or the other goes first, and for each machine its steps that last,
-/// none of which may overlap. Beside them, for the search alone, the machine of each step and the
-/// rules in which it stands: an arc by its place, and a pair by its place behind all arcs.
+/// A disjunctive graph: the times of the steps in flat order, the arcs from step to step that every
+/// schedule keeps, the pairs of steps of which either may go first, and for each machine its steps
+/// of positive time, no two of which may overlap. The search alone uses the machine of each step
+/// and the rules of each step. Rules are numbered: first the arcs, then the pairs.
 #[derive(Drop)]
 pub struct Graph {
     pub times: Vec<u32>,
@@ -30,7 +30,7 @@ pub struct Graph {
     pub rules: Vec<Vec<u32>>,
 }
 
-// How many steps there are.
+// Returns the number of steps.
 fn count(shop: &Shop) -> u32
     ensures value { result ≡ flat.count_steps shop.now }
     ensures few { result ≤ 1000 }
@@ -39,7 +39,7 @@ fn count(shop: &Shop) -> u32
     shop.jobs() * shop.machines()
 }
 
-// The times of all steps.
+// Returns the times of all steps.
 fn times(alloc: Global, shop: &Shop) -> Result<Vec<u32>, AllocError>
     ensures times { IfOk result (λ times. times.items ≡ spec.times_of shop.now) }
     ensures shop { IsShop shop.now }
@@ -51,7 +51,7 @@ fn times(alloc: Global, shop: &Shop) -> Result<Vec<u32>, AllocError>
     Ok(times)
 }
 
-// The steps that follow each other in their jobs.
+// Returns the arcs: each step and its successor in the job.
 fn arcs(alloc: Global, shop: &Shop) -> Result<Vec<Pair>, AllocError>
     ensures { IfOk result (λ arcs. All (spec.IsArcOf shop.now) arcs.items) }
 {
@@ -66,7 +66,7 @@ fn arcs(alloc: Global, shop: &Shop) -> Result<Vec<Pair>, AllocError>
     Ok(arcs)
 }
 
-// Whether two steps are on one machine and both last.
+// Tests whether two steps are on one machine and both have positive time.
 fn compete(shop: &Shop, first: u32, second: u32) -> bool
     requires first { first < flat.count_steps shop.now }
     requires second { second < flat.count_steps shop.now }
@@ -76,7 +76,7 @@ fn compete(shop: &Shop, first: u32, second: u32) -> bool
     one.machine == other.machine && one.time > 0 && other.time > 0
 }
 
-// Puts the pairs of a step and those before it behind others.
+// Appends the pairs of a step and the steps before it.
 fn add_pairs(shop: &Shop, second: u32, pairs: &mut Vec<Pair>) -> Result<(), AllocError>
     requires step { second < flat.count_steps shop.now }
     requires pairs { All (spec.IsPairOf shop.now) pairs.old.items }
@@ -90,7 +90,7 @@ fn add_pairs(shop: &Shop, second: u32, pairs: &mut Vec<Pair>) -> Result<(), Allo
     Ok(())
 }
 
-// The pairs of steps that compete for a machine.
+// Returns the pairs of steps that compete for a machine.
 fn pairs(alloc: Global, shop: &Shop) -> Result<Vec<Pair>, AllocError>
     ensures { IfOk result (λ pairs. All (spec.IsPairOf shop.now) pairs.items) }
 {
@@ -101,7 +101,7 @@ fn pairs(alloc: Global, shop: &Shop) -> Result<Vec<Pair>, AllocError>
     Ok(pairs)
 }
 
-// Whether a step is on a machine and lasts.
+// Tests whether a step is on a machine and has positive time.
 fn lasts_on(shop: &Shop, x: u32, machine: u32) -> bool
     requires { x < flat.count_steps shop.now }
     ensures { result ≡ spec.lasts_on shop.now machine x }
@@ -110,7 +110,7 @@ fn lasts_on(shop: &Shop, x: u32, machine: u32) -> bool
     step.machine == machine && step.time > 0
 }
 
-// The steps of a machine that last.
+// Returns the steps of positive time of a machine.
 fn clique(alloc: Global, shop: &Shop, machine: u32) -> Result<Vec<u32>, AllocError>
     ensures { IfOk result (λ clique. clique.items ≡ spec.lasting_on shop.now machine) }
 {
@@ -123,7 +123,7 @@ fn clique(alloc: Global, shop: &Shop, machine: u32) -> Result<Vec<u32>, AllocErr
     Ok(clique)
 }
 
-// The steps that last, machine by machine.
+// Returns the steps of positive time, machine by machine.
 fn cliques(alloc: Global, shop: &Shop) -> Result<Vec<Vec<u32>>, AllocError>
     ensures { IfOk result (λ cliques. All (spec.IsCliqueOf shop.now) cliques.items) }
 {
@@ -134,7 +134,7 @@ fn cliques(alloc: Global, shop: &Shop) -> Result<Vec<Vec<u32>>, AllocError>
     Ok(cliques)
 }
 
-// The machines of all steps.
+// Returns the machines of all steps.
 fn machines(alloc: Global, shop: &Shop) -> Result<Vec<u32>, AllocError> {
     let mut machines = Vec::new(alloc);
     for x in 0..count(shop) {
@@ -143,7 +143,7 @@ fn machines(alloc: Global, shop: &Shop) -> Result<Vec<u32>, AllocError> {
     Ok(machines)
 }
 
-// Puts a rule behind those of a step.
+// Appends a rule to those of a step.
 fn add_rule(rules: &mut Vec<Vec<u32>>, step: u32, rule: u32) -> Result<(), AllocError> {
     if let Some(list) = rules.get_mut(step as usize) {
         list.push(rule)?;
@@ -151,7 +151,7 @@ fn add_rule(rules: &mut Vec<Vec<u32>>, step: u32, rule: u32) -> Result<(), Alloc
     Ok(())
 }
 
-// Puts rules behind those of their steps, numbered from one on, and answers the next number.
+// Appends rules to those of their steps, numbered from `from`. Returns the next number.
 fn add_rules(rules: &mut Vec<Vec<u32>>, pairs: &[Pair], from: u32) -> Result<u32, AllocError> {
     let mut rule = from;
     for pair in pairs {
@@ -162,7 +162,7 @@ fn add_rules(rules: &mut Vec<Vec<u32>>, pairs: &[Pair], from: u32) -> Result<u32
     Ok(rule)
 }
 
-// The rules of each step.
+// Returns the rules of each step.
 fn rules(
     alloc: Global,
     shop: &Shop,
@@ -178,7 +178,7 @@ fn rules(
     Ok(rules)
 }
 
-/// The disjunctive graph of a shop (Roy and Sussmann 1964).
+/// Returns the disjunctive graph of a shop (Roy and Sussmann 1964).
 pub fn graph_of(alloc: Global, shop: &Shop) -> Result<Graph, AllocError>
     ensures { IfOk result (spec.IsGraphOf shop.now) }
 {

@@ -1,4 +1,4 @@
-//! What is known of a step, and how much room two steps leave.
+//! Known times of a step, and the room that two steps leave.
 
 ghost use Rattle.std.specs.Prelude.{◌≡◌, ◌+◌, ◌-◌};
 ghost use Rattle.plan_prove.specs.States as spec;
@@ -6,7 +6,7 @@ ghost use Rattle.plan_prove.specs.States as spec;
 use crate::graph::Graph;
 use crate::state::{State, at};
 
-/// The head of a step, how long it takes, and its tail.
+/// The head, the time and the tail of a step.
 #[derive(Clone, Copy, Drop)]
 pub struct Known {
     pub head: u32,
@@ -14,7 +14,7 @@ pub struct Known {
     pub tail: u32,
 }
 
-/// What a state knows of a step.
+/// Returns the head, the time and the tail of a step in a state.
 pub fn known_of(graph: &Graph, state: &State, step: u32) -> Known
     ensures { spec.IsKnown graph.now state.now step result }
 {
@@ -26,14 +26,14 @@ pub fn known_of(graph: &Graph, state: &State, step: u32) -> Known
 }
 
 impl Known {
-    /// When the step ends at the earliest.
+    /// Returns the earliest end of the step.
     pub fn end(self) -> u64
         ensures { result ≡ self.head + self.time }
     {
         self.head as u64 + self.time as u64
     }
 
-    /// How much there is at least between its start and the bound on the makespan.
+    /// Returns the least time between its start and the bound on the makespan.
     pub fn rest(self) -> u64
         ensures { result ≡ self.time + self.tail }
     {
@@ -41,7 +41,7 @@ impl Known {
     }
 }
 
-/// How much room is left below the limit where one step goes before another; 0 where there is none.
+/// Returns the room below the limit if one step goes before the other, 0 if there is none.
 pub fn room(limit: u32, one: Known, other: Known) -> u64
     ensures { result ≡ limit - (one.head + one.time + (other.time + other.tail)) }
 {

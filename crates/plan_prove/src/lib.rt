@@ -1,25 +1,25 @@
-//! Proofs of optima of job shops: a search that refutes makespans, and the lower bounds that it leaves.
+//! Proofs of optima of job shops: a search that refutes makespans and so proves lower bounds.
 #![tactic(auto)]
 
 mod branching;
 mod cliques;
-mod deducing;
+mod deduction;
 mod edges;
+mod ends;
 mod fault;
-mod finding;
+mod finder;
 mod graph;
-mod guiding;
+mod guide;
 mod known;
 mod nodes;
-mod proving;
+mod proof;
 mod queue;
-mod raising;
-mod refuting;
-mod searching;
+mod refutation;
+mod search;
 mod state;
-mod watching;
+mod watcher;
 
 pub use fault::ProveFault;
 pub use nodes::parse_nodes;
-pub use proving::{MOST_NODES, Proof, prove, prove_watched};
-pub use watching::{Unwatched, Watcher};
+pub use proof::{MOST_NODES, Proof, prove, prove_watched};
+pub use watcher::{Unwatched, Watcher};

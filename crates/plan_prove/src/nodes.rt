@@ -1,31 +1,21 @@
-//! Numbers of nodes as texts.
+//! Parser of numbers of nodes.
 
-ghost use Rattle.std.specs.Prelude.{◌≡◌, ℕ, IfOk, IfErr, IsTrue};
-ghost use Rattle.plan_exact.specs.Budgets.{BeginsAboveZero};
+ghost use Rattle.std.specs.Prelude.{◌≡◌, ℕ, IfOk, IfErr};
 ghost use Rattle.plan_prove.specs.Nodes as spec;
 ghost use Rattle.plan_prove.specs.declared.fault.ProveFault.TheVariants.{BadNodes};
 
 use crate::fault::ProveFault;
-use crate::proving::MOST_NODES;
+use crate::proof::MOST_NODES;
+use plan_exact::begins_above_zero;
 
-// Whether a text begins with a digit that isn't 0.
-fn begins_above_zero(text: &str) -> bool
-    ensures yes { IsTrue result → BeginsAboveZero text.now }
-    ensures no { BeginsAboveZero text.now → IsTrue result }
-{
-    match text.as_bytes().first() {
-        Some(first) => (b'1'..=b'9').contains(first),
-        None => false,
-    }
-}
-
-/// The number of nodes that a text spells: 1 to 1,000,000,000 in decimal digits, the first of which
-/// isn't 0. Takes no memory.
+/// Parses a number of nodes: a decimal number from 1 to 1,000,000,000 without leading zeros.
+/// Allocates nothing.
 ///
-/// Refused with [`ProveFault::BadNodes`] where it spells none.
+/// Fails with [`ProveFault::BadNodes`] for any other text.
 pub fn parse_nodes(text: &str) -> Result<u64, ProveFault>
     ensures ok { IfOk result (spec.IsNodesText text.now) }
-    ensures refused { IfErr result (λ fault. (fault ≡ BadNodes) × ((nodes : ℕ) → spec.IsNodesText text.now nodes → ⊥)) }
+    ensures refused { IfErr result (λ fault.
+        (fault ≡ BadNodes) × ((nodes : ℕ) → spec.IsNodesText text.now nodes → ⊥)) }
 {
     if !begins_above_zero(text) {
         return Err(ProveFault::BadNodes);

@@ -1,15 +1,14 @@
-//! What a search has to look at again: steps, and machines.
+//! Queue of the steps and machines that a search has to handle again.
 
-use crate::finding::{Finder, Hint};
+use crate::finder::{Finder, Hint};
 use crate::graph::{Graph, Pair};
 use crate::state::{End, State, at};
 use std::alloc::{AllocError, Global};
 
-/// The steps whose head or tail has risen, first come first served and none twice; and the machines
-/// of which one has been looked at since they were last bounded, each with the places of its steps
-/// in the order of their tails, as it was last sorted; and how often each pair came to nothing. What
-/// it holds stands in no clause: a step that is missing costs the search some of what it could
-/// deduce.
+/// A first-in, first-out queue of the steps whose head or tail has risen, each at most once. Also
+/// the machines that are stale because one of their steps was handled since their last deduction,
+/// the finder of their hints, and the number of failures of each pair. No clause depends on the
+/// contents: a missing step can only cost the search a deduction.
 #[derive(Drop)]
 pub struct Queue {
     ring: Vec<u32>,
@@ -21,8 +20,8 @@ pub struct Queue {
     weights: Vec<u32>,
 }
 
-// The place after another one in a ring.
-fn following(place: usize, length: usize) -> usize {
+// Returns the index after another one in a ring.
+fn place_after(place: usize, length: usize) -> usize {
     if place < length && place + 1 < length {
         place + 1
     } else {
@@ -31,7 +30,7 @@ fn following(place: usize, length: usize) -> usize {
 }
 
 impl Queue {
-    /// An empty queue for the steps of a graph.
+    /// Returns an empty queue for the steps of a graph.
     pub fn new(alloc: Global, graph: &Graph) -> Result<Queue, AllocError> {
         let steps = graph.times.len();
         Ok(Queue {
@@ -45,37 +44,37 @@ impl Queue {
         })
     }
 
-    /// Puts a step into the queue, unless it is there.
+    /// Queues a step unless it is queued already.
     pub fn push(&mut self, step: u32) {
         let place = step as usize;
         if place < self.waits.len() && !self.waits[place] && self.back < self.ring.len() {
             self.waits[place] = true;
             self.ring[self.back] = step;
-            self.back = following(self.back, self.ring.len());
+            self.back = place_after(self.back, self.ring.len());
         }
     }
 
-    /// The same where it has risen.
+    /// Queues a step if its head or tail has risen.
     pub fn note(&mut self, step: u32, has_risen: bool) {
         if has_risen {
             self.push(step);
         }
     }
 
-    // Takes the step out that came first.
+    // Removes the first step.
     fn take(&mut self) -> Option<u32> {
         if self.front == self.back {
             return None;
         }
         let step = *self.ring.get(self.front)?;
-        self.front = following(self.front, self.ring.len());
+        self.front = place_after(self.front, self.ring.len());
         if (step as usize) < self.waits.len() {
             self.waits[step as usize] = false;
         }
         Some(step)
     }
 
-    /// Takes the step out that came first, whose machine is to be bounded again.
+    /// Removes the first step, and marks its machine as stale.
     pub fn pop(&mut self, graph: &Graph) -> Option<u32> {
         let step = self.take()?;
         let machine = at(&graph.machines, step) as usize;
@@ -85,7 +84,7 @@ impl Queue {
         Some(step)
     }
 
-    /// Whether a machine is to be bounded, which it isn't any more then.
+    /// Tests whether a machine is stale, and removes the mark.
     pub fn take_stale(&mut self, machine: usize) -> bool {
         if machine < self.stale.len() && self.stale[machine] {
             self.stale[machine] = false;
@@ -94,7 +93,7 @@ impl Queue {
         false
     }
 
-    /// Looks for hints for the steps of a machine; answers one of a set that leaves no room.
+    /// Stores hints for the steps of a machine. Returns a step of a set that leaves no room.
     pub fn look(
         &mut self,
         limit: u32,
@@ -105,20 +104,20 @@ impl Queue {
         self.finder.look(limit, state, clique, machine)
     }
 
-    /// The hint that a step goes behind others by its place in the clique, or ahead of them, seen
-    /// from the finish.
+    /// Returns the hint that the step at an index of the clique goes behind others, or ahead of
+    /// them if `end` is the finish.
     pub fn hint(&self, end: End, place: usize) -> Option<Hint> {
         self.finder.hint(end, place)
     }
 
-    // Leaves no machine to be bounded.
+    // Removes the marks of all stale machines.
     fn clear_machines(&mut self) {
         for machine in 0..self.stale.len() {
             self.take_stale(machine);
         }
     }
 
-    // Leaves no step in it.
+    // Removes all steps.
     fn clear_steps(&mut self) {
         for _step in 0..self.ring.len() {
             if self.take().is_none() {
@@ -127,7 +126,7 @@ impl Queue {
         }
     }
 
-    // Puts all steps into it.
+    // Queues all steps.
     fn push_all(&mut self) {
         let mut step: u32 = 0;
         for _place in 0..self.waits.len() {
@@ -136,7 +135,8 @@ impl Queue {
         }
     }
 
-    /// How often a pair came to nothing, and once more (Boussemart, Hemery, Lecoutre and Sais 2004).
+    /// Returns the number of failures of a pair plus 1 (Boussemart, Hemery, Lecoutre and Sais
+    /// 2004).
     pub fn weight(&self, place: usize) -> u64 {
         match self.weights.get(place) {
             Some(weight) => *weight as u64,
@@ -144,7 +144,7 @@ impl Queue {
         }
     }
 
-    /// Counts a rule that came to nothing, where it is a pair.
+    /// Counts a failure of a rule if it is a pair.
     pub fn blame(&mut self, graph: &Graph, rule: u32) {
         let arcs = graph.arcs.len();
         if (rule as usize) < arcs {
@@ -156,7 +156,7 @@ impl Queue {
         }
     }
 
-    /// Begins with the two steps of a pair, or with all steps where it is none.
+    /// Clears the queue, and queues the two steps of a pair, or all steps if there is no pair.
     pub fn restart(&mut self, pair: Option<&Pair>) {
         self.clear_steps();
         self.clear_machines();

@@ -1,4 +1,4 @@
-//! What a search knows of the schedules that it still looks for.
+//! States of a search: its knowledge of the schedules that it still looks for.
 
 ghost use Rattle.std.specs.Prelude.{◌≡◌, ◌<◌, ◌≤◌, ◌^◌, get_or, slice_index, IfSome, IfNone};
 ghost use Rattle.plan_prove.specs.States as spec;
@@ -7,7 +7,7 @@ ghost use Rattle.plan_prove.specs.declared.state.Side.TheVariants.{Open};
 use crate::graph::Graph;
 use std::alloc::{AllocError, Global};
 
-/// Which step of a pair goes first, where that is known.
+/// The step of a pair that goes first, if it is known.
 #[derive(Debug, Clone, Copy, PartialEq, Eq, Drop)]
 pub enum Side {
     Open,
@@ -15,17 +15,18 @@ pub enum Side {
     Second,
 }
 
-/// From which end of a schedule times count: heads from its start, tails from its finish.
+/// The end of a schedule from which times are measured: heads from its start, tails from its
+/// finish.
 #[derive(Debug, Clone, Copy, Drop)]
 pub enum End {
     Start,
     Finish,
 }
 
-/// Of the schedules that are still looked for: before when no step starts (its head), how much
-/// there is at least between its end and the bound on the makespan (its tail), and which pairs are
-/// decided. Beside them, for the search alone, the place of the pair that was decided last; behind
-/// all pairs where none was.
+/// The knowledge of the schedules that are still looked for: for each step its head (no schedule
+/// starts it earlier) and its tail (the least time between its end and the bound on the makespan),
+/// and the decided sides of the pairs. The search alone uses `last`, the index of the pair that was
+/// decided last, or the number of pairs if none was.
 #[derive(Drop)]
 pub struct State {
     pub heads: Vec<u32>,
@@ -34,7 +35,7 @@ pub struct State {
     pub last: usize,
 }
 
-/// The number at a place, and 0 where there is none.
+/// Returns the number at an index, 0 if there is none.
 pub fn at(list: &[u32], place: u32) -> u64
     ensures value { result ≡ slice_index list.now place }
     ensures small { result < 2 ^ 32 }
@@ -45,7 +46,7 @@ pub fn at(list: &[u32], place: u32) -> u64
     }
 }
 
-/// The side at a place, open where there is none.
+/// Returns the side at an index, open if there is none.
 pub fn side_at(sides: &[Side], place: usize) -> Side
     ensures { result ≡ get_or sides.now place Open }
 {
@@ -59,7 +60,7 @@ impl State {
     ghost use Rattle.std.specs.Prelude.{◌≤◌, IfOk, IfSome, IfNone};
     ghost use Rattle.plan_prove.specs.States as spec;
 
-    /// The state in which nothing is known.
+    /// Returns the state in which nothing is known.
     pub fn root(alloc: Global, graph: &Graph) -> Result<State, AllocError>
         ensures { IfOk result spec.IsRoot }
     {
@@ -72,8 +73,8 @@ impl State {
         })
     }
 
-    /// Raises the head or the tail of a step, where it is less; `Some(true)` where it was, `None`
-    /// where the new one isn't below the limit.
+    /// Raises the head or the tail of a step to a value. Returns whether it rose, or `None` if the
+    /// value isn't below the limit.
     pub fn raise(&mut self, end: End, step: u32, value: u64, limit: u32) -> Option<bool>
         ensures some { IfSome result (λ _. spec.RaisesEnd self.old self.new end step value) }
         ensures none { IfNone result (limit ≤ value) }
@@ -84,8 +85,8 @@ impl State {
         }
     }
 
-    /// The state with a side of a pair taken.
-    pub fn taking(self, place: usize, side: Side) -> State
+    /// Returns the state with a side of a pair taken.
+    pub fn with_side(self, place: usize, side: Side) -> State
         ensures { spec.IsWithSide self result place side }
     {
         let mut sides = self.sides;
@@ -98,8 +99,13 @@ impl State {
         }
     }
 
-    /// A copy with a side of a pair taken.
-    pub fn with_side(&self, alloc: Global, place: usize, side: Side) -> Result<State, AllocError>
+    /// Returns a copy with a side of a pair taken.
+    pub fn copy_with_side(
+        &self,
+        alloc: Global,
+        place: usize,
+        side: Side,
+    ) -> Result<State, AllocError>
         ensures { IfOk result (λ state. spec.IsWithSide self.now state place side) }
     {
         let mut state = State {
@@ -113,7 +119,7 @@ impl State {
     }
 }
 
-/// Raises the number at a place, where it is less; `Some(true)` where it was, `None` where the new one isn't
+/// Raises the number at an index to a value. Returns whether it rose, or `None` if the value isn't
 /// below the limit.
 pub fn raise(list: &mut Vec<u32>, place: u32, value: u64, limit: u32) -> Option<bool>
     ensures some { IfSome result (λ _. spec.IsRaised list.old.items list.new.items place value) }

@@ -11,7 +11,7 @@ use Rattle.plan_profile.specs.declared.profile.Profile.{Profile}
 use Rattle.plan_sgs.specs.Problem.{Link, duration, need, capacity, KeepsArcs, NeedsFit}
 use Rattle.plan_sgs.specs.Instances.{Planned, link_of, problem_of}
 use Rattle.plan_sgs.specs.Verdicts.{Breaks, IsNoLater, IsFirstBroken}
-use Rattle.plan_sgs.specs.Checking.{IsTooSoon, HoldsBefore}
+use Rattle.plan_sgs.specs.Checks.{IsTooSoon, HoldsBefore}
 use Rattle.plan_sgs.proofs.Shifts.{IsReleasedBy, IsRelease, IsAskedFor}
 use Rattle.plan_sgs.proofs.InstanceLemmas.{count-problem, duration-problem, need-problem}
 

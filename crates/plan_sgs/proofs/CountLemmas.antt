@@ -11,7 +11,7 @@ use Rattle.plan_net.specs.Network.{Net, count_of, IsArc, IsActivity, ListsRising
 use Rattle.plan_net.specs.Limits.{IsWithinLimits}
 use Rattle.plan_net.proofs.RisingLemmas.{place_in, rising_later}
 use Rattle.plan_net.proofs.RowLemmas.{arc_ends}
-use Rattle.plan_sgs.specs.Waiting.{AreInDegrees, arcs_between}
+use Rattle.plan_sgs.specs.Eligibility.{AreInDegrees, arcs_between}
 
 -- what an answer counts for
 abbrev pub tally : Bool → ℕ

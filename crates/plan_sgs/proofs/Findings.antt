@@ -4,7 +4,7 @@ use Rattle.std.proofs.lemmas.Bool.{cases_lt}
 use Rattle.std.proofs.lemmas.List.Elements.{All-contains}
 use Rattle.plan_sgs.specs.Problem.{Problem, Link, count, duration, capacity, total, usage, all_placed, KeepsArcs, KeepsCapacities, IsActive}
 use Rattle.plan_sgs.specs.Verdicts.{Breaks, IsNoLater, IsFirstBroken, IsOver, IsFirstVerdict}
-use Rattle.plan_sgs.specs.Checking.{IsBefore, IsOverAmong, IsOverAnswer}
+use Rattle.plan_sgs.specs.Checks.{IsBefore, IsOverAmong, IsOverAnswer}
 use Rattle.plan_sgs.specs.declared.verdict.Verdict.{Verdict}
 use Rattle.plan_sgs.specs.declared.verdict.Verdict.TheVariants.{Arc, Over, Shift, Active}
 use Rattle.plan_sgs.proofs.TotalLemmas.{total_none, total_rise}

@@ -4,7 +4,7 @@ use Rattle.std.proofs.lemmas.List.{length_push, get_or_push, get_or_append_left}
 use Rattle.std.proofs.lemmas.Bool.{cases_eq}
 use Rattle.plan_sgs.specs.Problem.{Problem, LinksInside}
 use Rattle.plan_sgs.specs.Rules.{IsNumberedList, places}
-use Rattle.plan_sgs.specs.Placing.{IsTurnList}
+use Rattle.plan_sgs.specs.Placement.{IsTurnList}
 use Rattle.plan_sgs.proofs.ListLemmas.{told_by_places, told_by_entries}
 
 -- the list has what f gives of each number below n

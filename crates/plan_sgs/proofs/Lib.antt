@@ -22,7 +22,7 @@ pub mod StartLemmas
 pub mod SumLemmas
 pub mod Findings
 pub mod Shifts
-pub mod Deciding
+pub mod VerdictLemmas
 pub mod BrokenLemmas
 pub mod WordLemmas
 pub mod PathTailLemmas

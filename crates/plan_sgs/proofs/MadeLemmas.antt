@@ -4,7 +4,7 @@ use Rattle.std.proofs.lemmas.List.{length-map}
 use Rattle.plan_sgs.specs.Problem.{Problem, count, duration, IsActive}
 use Rattle.plan_sgs.specs.Serial.{unplaced, serial, serial_from, start_or_zero}
 use Rattle.plan_sgs.specs.Rules.{places}
-use Rattle.plan_sgs.specs.Placing.{IsTurnList, EndsBy, AllEndBy}
+use Rattle.plan_sgs.specs.Placement.{IsTurnList, EndsBy, AllEndBy}
 use Rattle.plan_sgs.proofs.Bounds.{IsBounded}
 use Rattle.plan_sgs.proofs.SerialLemmas.{serial_active}
 use Rattle.plan_sgs.proofs.PlaceLemmas.{all_end}

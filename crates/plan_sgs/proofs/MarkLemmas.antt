@@ -11,7 +11,7 @@ use Rattle.plan_net.proofs.RisingLemmas.{place_in}
 use Rattle.plan_sgs.specs.Problem.{count, IsRanked}
 use Rattle.plan_sgs.specs.Rules.{is_member, is_eligible}
 use Rattle.plan_sgs.specs.Instances.{Planned, problem_of}
-use Rattle.plan_sgs.specs.Waiting.{AreMarksOf, IsReleased, CanCome}
+use Rattle.plan_sgs.specs.Eligibility.{AreMarksOf, IsReleased, CanCome}
 use Rattle.plan_sgs.proofs.InstanceLemmas.{count-problem}
 use Rattle.plan_sgs.proofs.SerialLemmas.{eligible_not, eligible_preds, eligible_from, member_last, member_other}
 use Rattle.plan_sgs.proofs.BoundedLemmas.{links_from, link_at}

@@ -5,7 +5,7 @@ use Rattle.std.proofs.lemmas.Bool.{cases_eq, cases_Bool, and_parts, eqb-true, eq
 use Rattle.plan_sgs.specs.Problem.{Problem, Link}
 use Rattle.plan_sgs.specs.Rules.{is_member, is_eligible}
 use Rattle.plan_sgs.specs.Instances.{Planned, problem_of, link_of}
-use Rattle.plan_sgs.specs.Waiting.{is_open, open_links, arcs_between}
+use Rattle.plan_sgs.specs.Eligibility.{is_open, open_links, arcs_between}
 use Rattle.plan_sgs.proofs.SerialLemmas.{eligible_not, member_last, member_other}
 use Rattle.plan_sgs.proofs.CountLemmas.{tally, all_fail, count_parted, count_images}
 

@@ -7,7 +7,7 @@ use Rattle.plan_profile.specs.Usage.{FitsEmpty, IsEarliest as IsEarliestIn}
 use Rattle.plan_sgs.specs.Problem.{Problem, count, duration, capacity, usage, NeedsFit}
 use Rattle.plan_sgs.specs.Serial.{release, earliest, unplaced, start_or_zero}
 use Rattle.plan_sgs.specs.Instances.{Planned, IsInstance, problem_of}
-use Rattle.plan_sgs.specs.Placing.{EndsBy, AllEndBy}
+use Rattle.plan_sgs.specs.Placement.{EndsBy, AllEndBy}
 use Rattle.plan_sgs.proofs.Bounds.{IsBounded}
 use Rattle.plan_sgs.proofs.AmountLemmas.{usage_ended}
 use Rattle.plan_sgs.proofs.InstanceLemmas.{count-problem, duration-problem, need-problem}

@@ -7,7 +7,7 @@ use Rattle.plan_sgs.specs.Problem.{Problem, duration}
 use Rattle.plan_sgs.specs.Serial.{end_from, end_of, serial, start_or_zero}
 use Rattle.plan_sgs.specs.Rules.{places, is_member, is_eligible, eligible}
 use Rattle.plan_sgs.specs.Instances.{problem_of}
-use Rattle.plan_sgs.specs.Placing.{AllEndBy}
+use Rattle.plan_sgs.specs.Placement.{AllEndBy}
 use Rattle.plan_sgs.specs.ProjectWords.{depth_of, placed_by, is_full, starts_by, makespan_by}
 use Rattle.plan_sgs.specs.ProjectTrees.{Standing, end_by}
 use Rattle.plan_sgs.proofs.TotalLemmas.{greatest_same, all_below_at}

@@ -11,9 +11,9 @@ use Rattle.plan_sgs.specs.Problem.{Problem, count, duration, greatest_below}
 use Rattle.plan_sgs.specs.Serial.{end_from, end_of, earliest, unplaced, serial_from}
 use Rattle.plan_sgs.specs.Rules.{places, takes_in_turn}
 use Rattle.plan_sgs.specs.Instances.{Planned, IsInstance, problem_of}
-use Rattle.plan_sgs.specs.Placing.{EndsBy, Holds}
+use Rattle.plan_sgs.specs.Placement.{EndsBy, Holds}
 use Rattle.plan_sgs.specs.PathTails.{tail_of}
-use Rattle.plan_sgs.specs.Waiting.{Lowers}
+use Rattle.plan_sgs.specs.Eligibility.{Lowers}
 use Rattle.plan_sgs.specs.ProjectWords.{depth_of, placed_by, letters_after, Follows, IsWord, reach_of}
 use Rattle.plan_sgs.specs.ProjectTrees.{Standing, standing, word_of, end_by, reach_by, IsTurn, AreTurns, AreProfiles, AreWaits, IsTree}
 use Rattle.plan_sgs.specs.declared.project_tree.Turn.{Turn}

@@ -8,7 +8,7 @@ use Rattle.plan_net.specs.Limits.{IsSound}
 use Rattle.plan_net.proofs.RowLemmas.{arc_ends}
 use Rattle.plan_sgs.specs.Rules.{places, is_member, is_eligible}
 use Rattle.plan_sgs.specs.Instances.{Planned, problem_of, link_of}
-use Rattle.plan_sgs.specs.Waiting.{AreInDegrees, Lowers, is_open, open_links, arcs_between}
+use Rattle.plan_sgs.specs.Eligibility.{AreInDegrees, Lowers, is_open, open_links, arcs_between}
 use Rattle.plan_sgs.specs.ProjectWords.{letters_after}
 use Rattle.plan_sgs.specs.ProjectTrees.{AreWaits}
 use Rattle.plan_sgs.proofs.SerialLemmas.{eligible_not}

@@ -1,5 +1,5 @@
 -- Queues of activities by their keys: what comes in, and what comes out first.
-use Rattle.std.proofs.Common.{ℕ, Bool, true, false, nat_eq, nat_lt, ◌&&◌, ◌≡◌, ◌+◌, ◌-◌, ◌≤◌, ◌<◌, ◌⊎◌, inl, inr, List, [], ◌∷◌, length, get_or, set, take, refl, sym, ◌∙◌, ap, subst, arith, get_or-set_same, get_or-set_other}
+use Rattle.std.proofs.Common.{ℕ, Bool, true, false, cond, nat_eq, nat_lt, ◌&&◌, ◌≡◌, ◌+◌, ◌-◌, ◌≤◌, ◌<◌, ◌⊎◌, inl, inr, List, [], ◌∷◌, length, get_or, set, take, refl, sym, ◌∙◌, ap, subst, arith, get_or-set_same, get_or-set_other}
 use Rattle.std.specs.List.{All}
 use Rattle.std.specs.List.Sorted.{IsPermutation, IsStrictlyIncreasing}
 use Rattle.std.specs.BinaryHeap.{IsHeap, KeepsHeap, PopsGreatest}
@@ -12,11 +12,11 @@ use Rattle.std.proofs.lemmas.List.{length-set, take_all}
 use Rattle.std.proofs.lemmas.List.Elements.{All-nil, All-cons, All-tail, Contains-get_or}
 use Rattle.std.proofs.lemmas.List.Sorted.{All-permutation, sum_by_pushed, sum_by_popped}
 use Rattle.std.proofs.lemmas.List.Sums.{sum_by_more}
-use Rattle.std.proofs.lemmas.Bool.{cases_eq, cases_order, true≢false, lt-ltb, le-ltb, ne_eqb, eq-eqb, and_left, and_right}
+use Rattle.std.proofs.lemmas.Bool.{cases_eq, cases_order, cases_lt, cases_Bool, true≢false, lt-ltb, le-ltb, ne_eqb, eq-eqb, and_left, and_right}
 use Rattle.plan_net.specs.Network.{Net, count_of, IsActivity, IsArc, ListsRising}
 use Rattle.plan_net.specs.Limits.{IsWithinLimits}
-use Rattle.plan_sgs.specs.Waiting.{Entry, by_key, IsKeyed, IsQueue, times_in, QueuesFree, Joins, Lowers}
-use Rattle.plan_sgs.proofs.CountLemmas.{tally, times_in_row, row_not_before, row_as_arcs}
+use Rattle.plan_sgs.specs.Eligibility.{Entry, by_key, IsKeyed, IsQueue, times_in, QueuesFree, Joins, Lowers}
+use Rattle.plan_sgs.proofs.CountLemmas.{tally, times_in_row, row_once, row_not_before, row_as_arcs}
 
 -- one more comes into a queue
 pub queue_pushed : (keys : List ℕ) (e : Entry) (old new : List Entry) → IsQueue keys old → IsKeyed keys e → IsPermutation (e ∷ old) new → KeepsHeap by_key old new → IsQueue keys new
@@ -160,90 +160,97 @@ raised_more row k old now rising from_one within inside raised = (
   inside' : i < length now
   inside' = omega (arith, inside, raised.size)
 
--- no more than before is waited for
-pub lowered_least : (row : List ℕ) (k : ℕ) (old now : List ℕ) → AreLowered row k old now → (h : ℕ) → h < length old → get_or now h 0 ≤ get_or old h 0
-lowered_least row k old now lowered h below = omega (arith, lowered.each h below)
-
--- the next comes into the queue where it now waits for none
-pub joins_more : (old now : List ℕ) (i : ℕ) (first before after : List Entry) → i < length now → 1 ≤ get_or now i 0 → get_or now i 0 ≤ get_or old i 0 → Joins old now first before
-    → ((h : ℕ) → times_in after h ≡ times_in before h + tally (nat_eq i h && nat_eq (get_or now i 0 - 1) 0)) → Joins old (set now i (get_or now i 0 - 1)) first after
-joins_more old now i first before after inside waits fell joined comes h below = elim (cases_eq i h) [
-  | inl same ↦ subst (λ (m : ℕ). times_in after m ≡ times_in first m + tally (nat_lt 0 (get_or old m 0) && nat_eq (get_or (set now i w) m 0) 0)) same here
-  | inr other ↦
-      let none : times_in after h ≡ times_in before h + 0 = comes h ∙ ap (λ b. times_in before h + tally (b && nat_eq w 0)) (ne_eqb i h other) in
-      let as_before : get_or (set now i w) h 0 ≡ get_or now h 0 = get_or-set_other now i h w 0 (λ same. other (sym same)) in
-      let joined' = joined h (omega (arith, below, length-set now i w)) in
-      let last : tally (nat_lt 0 (get_or old h 0) && nat_eq (get_or (set now i w) h 0) 0) ≡ tally (nat_lt 0 (get_or old h 0) && nat_eq (get_or now h 0) 0) = ap (λ (m : ℕ). tally (nat_lt 0 (get_or old h 0) && nat_eq m 0)) as_before in
-      omega (arith, none, joined', last)
-] where
-  w : ℕ
-  w = get_or now i 0 - 1
-
-  here : times_in after i ≡ times_in first i + tally (nat_lt 0 (get_or old i 0) && nat_eq (get_or (set now i w) i 0) 0)
-  here =
-      let waited : nat_lt 0 (get_or old i 0) ≡ true = lt-ltb 0 (get_or old i 0) (omega (arith, waits, fell)) in
-      let still : nat_eq (get_or now i 0) 0 ≡ false = ne_eqb (get_or now i 0) 0 (λ none. omega (arith, none, waits)) in
-      let none : times_in before i ≡ times_in first i + 0 = joined i inside ∙ ap (λ b. times_in first i + tally (b && nat_eq (get_or now i 0) 0)) waited ∙ ap (λ b. times_in first i + tally b) still in
-      let more : times_in after i ≡ times_in before i + tally (nat_eq w 0) = comes i ∙ ap (λ b. times_in before i + tally (b && nat_eq w 0)) (eq-eqb i i refl) in
-      let one : tally (nat_lt 0 (get_or old i 0) && nat_eq (get_or (set now i w) i 0) 0) ≡ tally (nat_eq w 0) =
-      ap (λ b. tally (b && nat_eq (get_or (set now i w) i 0) 0)) waited ∙ ap (λ (m : ℕ). tally (nat_eq m 0)) (get_or-set_same now i w 0 inside) in
-      omega (arith, none, more, one)
-
--- what is kept for the first k of a row
-pub record IsLowering (row : List ℕ) (k : ℕ) (old now keys : List ℕ) (first entries : List Entry) : Type 0 where
-  pub lowered : AreLowered row k old now
+-- the first k of a row are in a queue if they wait for none
+pub record AreJoining (row : List ℕ) (k : ℕ) (now keys : List ℕ) (first entries : List Entry) : Type 0 where
   pub queue : IsQueue keys entries
-  pub joins : Joins old now first entries
+  pub free : (h : ℕ) → times_in entries h ≡ times_in first h + cond (nat_eq (get_or now h 0) 0) (times_in_row (take k row) h) 0
 
-pub lowering_none : (row old keys : List ℕ) (entries : List Entry) → IsQueue keys entries → IsLowering row 0 old old keys entries entries
-lowering_none row old keys entries queue = record {
-  lowered = record { size = refl; each = λ h below. omega arith };
+pub joining_none : (row now keys : List ℕ) (first : List Entry) → IsQueue keys first → AreJoining row 0 now keys first first
+joining_none row now keys first queue = record {
   queue = queue;
-  joins = λ h below. let none = no_more (get_or old h 0) in omega (arith, none);
+  free = λ h. elim (cases_Bool (nat_eq (get_or now h 0) 0)) [
+    | inl is ↦ rw is (omega arith)
+    | inr isnt ↦ rw isnt (omega arith)
+  ];
+}
+
+-- one time more, if the place waits for none
+one_more : (b a : Bool) (n : ℕ) → cond b (n + tally a) 0 ≡ cond b n 0 + tally (a && b)
+one_more true true n = refl
+one_more true false n = refl
+one_more false true n = refl
+one_more false false n = refl
+
+-- the next of the row comes into the queue if it waits for none
+joining_more : (row : List ℕ) (k : ℕ) (now keys : List ℕ) (first before after : List Entry) → k < length row → AreJoining row k now keys first before → IsQueue keys after
+    → ((h : ℕ) → times_in after h ≡ times_in before h + tally (nat_eq (get_or row k 0 - 1) h && nat_eq (get_or now (get_or row k 0 - 1) 0) 0)) → AreJoining row (k + 1) now keys first after
+joining_more row k now keys first before after within joining queue comes = record {
+  queue = queue;
+  free = λ h.
+      let more : times_in_row (take (k + 1) row) h ≡ times_in_row (take k row) h + tally (nat_eq i h) = sum_by_more (λ j. tally (nat_eq (j - 1) h)) row k 0 within in
+      let next : cond (free h) (times_in_row (take (k + 1) row) h) 0 ≡ cond (free h) (times_in_row (take k row) h) 0 + tally (nat_eq i h && free h) =
+      ap (λ (n : ℕ). cond (free h) n 0) more ∙ one_more (free h) (nat_eq i h) (times_in_row (take k row) h) in
+      omega (arith, comes h, joining.free h, next, here h);
 } where
-  no_more : (n : ℕ) → tally (nat_lt 0 n && nat_eq n 0) ≡ 0
-  no_more n = elim (cases_eq n 0) [
-    | inl none ↦ ap tally (and_left (nat_lt 0 n) (nat_eq n 0) (le-ltb 0 n (omega (arith, none))))
-    | inr some ↦ ap tally (and_right (nat_lt 0 n) (nat_eq n 0) (ne_eqb n 0 some))
+  i : ℕ
+  i = get_or row k 0 - 1
+
+  free : ℕ → Bool
+  free h = nat_eq (get_or now h 0) 0
+
+  here : (h : ℕ) → tally (nat_eq i h && free i) ≡ tally (nat_eq i h && free h)
+  here h = elim (cases_eq i h) [
+    | inl same ↦ ap (λ (m : ℕ). tally (nat_eq i h && free m)) same
+    | inr other ↦ ap tally (and_left (nat_eq i h) (free i) (ne_eqb i h other)) ∙ sym (ap tally (and_left (nat_eq i h) (free h) (ne_eqb i h other)))
   ]
 
 and_true : (a b : Bool) → b ≡ true → (a && b) ≡ a
 and_true true b is = is
 and_true false b is = refl
 
--- the next is freed, and comes into the queue
-pub lowering_free : (row : List ℕ) (k : ℕ) (old now keys : List ℕ) (first before after : List Entry) (e : Entry) → k < length row → get_or row k 0 - 1 < length old → 1 ≤ get_or now (get_or row k 0 - 1) 0 → IsLowering row k old now keys first before
-    → get_or now (get_or row k 0 - 1) 0 - 1 ≡ 0 → IsKeyed keys e → e.0.1 ≡ get_or row k 0 → IsPermutation (e ∷ before) after → KeepsHeap by_key before after
-    → IsLowering row (k + 1) old (set now (get_or row k 0 - 1) (get_or now (get_or row k 0 - 1) 0 - 1)) keys first after
-lowering_free row k old now keys first before after e within inside waits low none keyed is same kept = record {
-  lowered = lowered_more row k old now within inside waits low.lowered;
-  queue = queue_pushed keys e before after low.queue keyed same kept;
-  joins = joins_more old now i first before after (omega (arith, inside, low.lowered.size)) waits (lowered_least row k old now low.lowered i inside) low.joins comes;
-} where
-  i : ℕ
-  i = get_or row k 0 - 1
+-- the next waits for none, and comes into the queue
+pub joining_push : (row : List ℕ) (k : ℕ) (now keys : List ℕ) (first before after : List Entry) (e : Entry) → k < length row → AreJoining row k now keys first before → get_or now (get_or row k 0 - 1) 0 ≡ 0 → IsKeyed keys e → e.0.1 ≡ get_or row k 0
+    → IsPermutation (e ∷ before) after → KeepsHeap by_key before after → AreJoining row (k + 1) now keys first after
+joining_push row k now keys first before after e within joining none keyed is same kept =
+    joining_more row k now keys first before after within joining (queue_pushed keys e before after joining.queue keyed same kept) comes where
+      i : ℕ
+      i = get_or row k 0 - 1
 
-  comes : (h : ℕ) → times_in after h ≡ times_in before h + tally (nat_eq i h && nat_eq (get_or now i 0 - 1) 0)
-  comes h =
-      let place : tally (nat_eq (e.0.1 - 1) h) ≡ tally (nat_eq i h) = ap (λ (n : ℕ). tally (nat_eq (n - 1) h)) is in
-      let both : tally (nat_eq i h && nat_eq (get_or now i 0 - 1) 0) ≡ tally (nat_eq i h) = ap tally (and_true (nat_eq i h) (nat_eq (get_or now i 0 - 1) 0) (eq-eqb (get_or now i 0 - 1) 0 none)) in
-      omega (arith, times_pushed e before after same h, place, both)
+      comes : (h : ℕ) → times_in after h ≡ times_in before h + tally (nat_eq i h && nat_eq (get_or now i 0) 0)
+      comes h =
+          let place : tally (nat_eq (e.0.1 - 1) h) ≡ tally (nat_eq i h) = ap (λ (n : ℕ). tally (nat_eq (n - 1) h)) is in
+          let both : tally (nat_eq i h && nat_eq (get_or now i 0) 0) ≡ tally (nat_eq i h) = ap tally (and_true (nat_eq i h) (nat_eq (get_or now i 0) 0) (eq-eqb (get_or now i 0) 0 none)) in
+          omega (arith, times_pushed e before after same h, place, both)
 
--- the next waits for more
-pub lowering_held : (row : List ℕ) (k : ℕ) (old now keys : List ℕ) (first before : List Entry) → k < length row → get_or row k 0 - 1 < length old → 1 ≤ get_or now (get_or row k 0 - 1) 0 → IsLowering row k old now keys first before
-    → (get_or now (get_or row k 0 - 1) 0 - 1 ≡ 0 → ⊥) → IsLowering row (k + 1) old (set now (get_or row k 0 - 1) (get_or now (get_or row k 0 - 1) 0 - 1)) keys first before
-lowering_held row k old now keys first before within inside waits low some = record {
-  lowered = lowered_more row k old now within inside waits low.lowered;
-  queue = low.queue;
-  joins = joins_more old now i first before before (omega (arith, inside, low.lowered.size)) waits (lowered_least row k old now low.lowered i inside) low.joins comes;
-} where
-  i : ℕ
-  i = get_or row k 0 - 1
+-- the next waits for some
+pub joining_skip : (row : List ℕ) (k : ℕ) (now keys : List ℕ) (first before : List Entry) → k < length row → AreJoining row k now keys first before → (get_or now (get_or row k 0 - 1) 0 ≡ 0 → ⊥) → AreJoining row (k + 1) now keys first before
+joining_skip row k now keys first before within joining some = joining_more row k now keys first before before within joining joining.queue (λ h.
+    let i = get_or row k 0 - 1 in
+    let none : tally (nat_eq i h && nat_eq (get_or now i 0) 0) ≡ 0 = ap tally (and_right (nat_eq i h) (nat_eq (get_or now i 0) 0) (ne_eqb (get_or now i 0) 0 some)) in
+    omega (arith, none))
 
-  comes : (h : ℕ) → times_in before h ≡ times_in before h + tally (nat_eq i h && nat_eq (get_or now i 0 - 1) 0)
-  comes h =
-      let none : tally (nat_eq i h && nat_eq (get_or now i 0 - 1) 0) ≡ 0 = ap tally (and_right (nat_eq i h) (nat_eq (get_or now i 0 - 1) 0) (ne_eqb (get_or now i 0 - 1) 0 some)) in
-      omega (arith, none)
+-- once the whole row was looked at, those have come in that wait for none now and did for some before
+pub joined_all : (net : Net) (j : ℕ) (row : List ℕ) (k : ℕ) (old now keys : List ℕ) (first entries : List Entry) → IsWithinLimits net → IsActivity net j → ListsRising (IsArc net j) row → ((m : ℕ) → m < length row → IsActivity net (get_or row m 0)) → length row ≤ k
+    → Lowers net j old now → AreJoining row k now keys first entries → Joins old now first entries
+joined_all net j row k old now keys first entries limits activity listed activities all lowers joining h below =
+    let whole : times_in_row (take k row) h ≡ times_in_row row h = ap (λ (xs : List ℕ). times_in_row xs h) (take_all k row all) in
+    let times = row_as_arcs net j row limits activity listed (λ m low. (activities m low).0) h in
+    let once = row_once row listed.rising (λ m low. (activities m low).0) h in
+    let lowered = lowers.each h (omega (arith, below, lowers.size)) in
+    elim (cases_eq (get_or now h 0) 0) [
+      | inl none ↦
+          let came : times_in entries h ≡ times_in first h + times_in_row (take k row) h =
+          joining.free h ∙ ap (λ (b : Bool). times_in first h + cond b (times_in_row (take k row) h) 0) (eq-eqb (get_or now h 0) 0 none) in
+          elim (cases_lt 0 (get_or old h 0)) [
+            | inl waited ↦ rw (lt-ltb 0 (get_or old h 0) waited, eq-eqb (get_or now h 0) 0 none) (omega (arith, came, whole, times, once, lowered, none, waited))
+            | inr free ↦ rw (le-ltb 0 (get_or old h 0) free) (omega (arith, came, whole, times, lowered, free))
+          ]
+      | inr some ↦
+          let came : times_in entries h ≡ times_in first h + 0 =
+          joining.free h ∙ ap (λ (b : Bool). times_in first h + cond b (times_in_row (take k row) h) 0) (ne_eqb (get_or now h 0) 0 some) in
+          let none : tally (nat_lt 0 (get_or old h 0) && nat_eq (get_or now h 0) 0) ≡ 0 = ap tally (and_right (nat_lt 0 (get_or old h 0)) (nat_eq (get_or now h 0) 0) (ne_eqb (get_or now h 0) 0 some)) in
+          omega (arith, came, none)
+    ]
 
 -- the next of the successors is an activity, and waits for one at least
 pub next_known : (net : Net) (j : ℕ) (row : List ℕ) (k : ℕ) (old now : List ℕ) → length old ≡ count_of net → ListsRising (IsArc net j) row → ((m : ℕ) → m < length row → IsActivity net (get_or row m 0)) → ((h : ℕ) → IsArc net j h → 1 ≤ get_or old (h - 1) 0) → k < length row
@@ -263,7 +270,3 @@ lowered_all net j row k old now limits activity listed activities all lowered = 
       let whole : times_in_row (take k row) h ≡ times_in_row row h = ap (λ (xs : List ℕ). times_in_row xs h) (take_all k row all) in
       omega (arith, lowered.each h below, whole, row_as_arcs net j row limits activity listed (λ m low. (activities m low).0) h);
 }
-
--- what is read where it was written
-pub read_written : (xs : List ℕ) (i n r : ℕ) → i < length xs → r ≡ get_or (set xs i n) i r → r ≡ n
-read_written xs i n r inside is = is ∙ get_or-set_same xs i n r inside

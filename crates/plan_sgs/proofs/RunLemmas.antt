@@ -5,7 +5,7 @@ use Rattle.std.proofs.lemmas.Option.{none-some}
 use Rattle.plan_sgs.specs.Problem.{Problem, count, duration}
 use Rattle.plan_sgs.specs.Serial.{earliest, unplaced, serial_from}
 use Rattle.plan_sgs.specs.Rules.{places, is_eligible, takes_in_turn, is_activity_list}
-use Rattle.plan_sgs.specs.Placing.{EndsBy}
+use Rattle.plan_sgs.specs.Placement.{EndsBy}
 use Rattle.plan_sgs.proofs.Bounds.{IsBounded, bound_of}
 use Rattle.plan_sgs.proofs.SerialLemmas.{TakenIs, taken_set, taken_open, taken_first, turn_parts, eligible_not, list_parts, unplaced_at}
 use Rattle.plan_sgs.proofs.StepLemmas.{ends_set, bound_more, bound_within}

@@ -13,7 +13,7 @@ use Rattle.plan_sgs.specs.Serial.{unplaced, serial}
 use Rattle.plan_sgs.specs.Rules.{rule_list}
 use Rattle.plan_sgs.specs.Instances.{Planned, IsInstance, problem_of, RefusesInstance}
 use Rattle.plan_sgs.specs.Keys.{IsKeyOf, IsRuleSchedule}
-use Rattle.plan_sgs.specs.Placing.{AllEndBy, latest_end}
+use Rattle.plan_sgs.specs.Placement.{AllEndBy, latest_end}
 use Rattle.plan_sgs.specs.ProjectWords.{placed_by, starts_by}
 use Rattle.plan_sgs.specs.ProjectLaws.{IsFullWord, rule_word, RuleWordIsFull, ProjectFullIsActive}
 use Rattle.plan_sgs.specs.declared.rule.Rule.{Rule}

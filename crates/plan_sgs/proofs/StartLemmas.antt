@@ -3,7 +3,7 @@ use Rattle.std.proofs.Common.{ℕ, zero, suc, ◌≡◌, ◌+◌, ◌*◌, ◌�
 use Rattle.std.proofs.lemmas.Bool.{cases_lt, cond-true, cond-false, and_from, and_left, and_right, le-leb, lt-leb, lt-ltb, le-ltb}
 use Rattle.std.proofs.lemmas.List.{get_or-map}
 use Rattle.plan_sgs.specs.Problem.{Problem, count, duration, need, total, amount_of, usage, all_placed, KeepsCapacities}
-use Rattle.plan_sgs.specs.Checking.{AreNeedsAt}
+use Rattle.plan_sgs.specs.Checks.{AreNeedsAt}
 use Rattle.plan_profile.specs.Usage.{Fits, used_with}
 use Rattle.plan_sgs.proofs.AmountLemmas.{amount_during, amount_before}
 use Rattle.plan_sgs.proofs.TotalLemmas.{total_same}

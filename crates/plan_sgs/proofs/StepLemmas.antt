@@ -6,7 +6,7 @@ use Rattle.plan_profile.specs.Usage.{Fits, IsEarliest as IsEarliestIn, used_with
 use Rattle.plan_sgs.specs.Problem.{Problem, count, duration, need, capacity, amount_of, usage, total, NeedsFit}
 use Rattle.plan_sgs.specs.Serial.{release, end_of, end_from, fits, earliest, IsEarliest}
 use Rattle.plan_sgs.specs.Rules.{is_member}
-use Rattle.plan_sgs.specs.Placing.{EndsBy}
+use Rattle.plan_sgs.specs.Placement.{EndsBy}
 use Rattle.plan_sgs.proofs.Bounds.{IsBounded, bound_of}
 use Rattle.plan_sgs.proofs.TotalLemmas.{total_changed, total_grows}
 use Rattle.plan_sgs.proofs.AmountLemmas.{fits_at, fits_from, usage_ended, earliest_is}

@@ -7,7 +7,7 @@ use Rattle.plan_psplib.specs.Tokens.{greatest}
 use Rattle.plan_sgs.specs.Problem.{Problem, capacity, usage, all_placed}
 use Rattle.plan_sgs.specs.Instances.{IsFirstAbove}
 use Rattle.plan_sgs.specs.Verdicts.{IsOver}
-use Rattle.plan_sgs.specs.Checking.{AreNeedsAt}
+use Rattle.plan_sgs.specs.Checks.{AreNeedsAt}
 use Rattle.plan_sgs.proofs.StartLemmas.{AreSums}
 
 -- no amount is above the greatest

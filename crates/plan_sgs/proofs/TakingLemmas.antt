@@ -14,8 +14,8 @@ use Rattle.plan_net.proofs.RowLemmas.{arc_ends}
 use Rattle.plan_sgs.specs.Problem.{count}
 use Rattle.plan_sgs.specs.Rules.{places, is_member, is_eligible, takes_in_turn, is_activity_list, rule_list_from, rule_list}
 use Rattle.plan_sgs.specs.Instances.{Planned, IsInstance, problem_of}
-use Rattle.plan_sgs.specs.Placing.{IsTurnList}
-use Rattle.plan_sgs.specs.Waiting.{AreMarksOf, CanCome, Entry, by_key, IsKeyed, IsQueue, AreInDegrees, Lowers, QueuesFree, Joins, times_in, open_links}
+use Rattle.plan_sgs.specs.Placement.{IsTurnList}
+use Rattle.plan_sgs.specs.Eligibility.{AreMarksOf, CanCome, Entry, by_key, IsKeyed, IsQueue, AreInDegrees, Lowers, QueuesFree, Joins, times_in, open_links}
 use Rattle.plan_sgs.proofs.InstanceLemmas.{count-problem}
 use Rattle.plan_sgs.proofs.SerialLemmas.{taken_count, taken_none, taken_more, list_parts, eligible_not}
 use Rattle.plan_sgs.proofs.ListLemmas.{turn_at, turns_push}

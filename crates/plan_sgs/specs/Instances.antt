@@ -1,4 +1,5 @@
--- Instances: a project and the capacities that it is planned against, as a scheduling problem (docs/definitions.md, "Schedules").
+-- Instances: a project and its capacities, as a scheduling problem (docs/definitions.md,
+-- "Schedules").
 use Rattle.std.specs.Prelude.{◌≡◌, ℕ, ◌-◌, ◌≤◌, ◌<◌, List, length, map, slice_index}
 use Rattle.plan_net.specs.Network.{Net, lag_of}
 use Rattle.plan_psplib.specs.Project.{Project, IsProject}
@@ -6,20 +7,20 @@ use Rattle.plan_sgs.specs.Problem.{Problem, Link, NeedsFit, IsFirstTooMuch}
 use Rattle.plan_sgs.specs.declared.fault.SgsFault.{SgsFault}
 use Rattle.plan_sgs.specs.declared.fault.SgsFault.TheVariants as fault
 
--- a project, and how much there is of each of its resources
+-- a project and the capacity of each of its resources
 pub record Planned : Type 0 where
   pub project : Project
   pub capacities : List ℕ
 
--- this project and these capacities
+-- the instance of a project and capacities
 abbrev pub planned : Project → List ℕ → Planned
 planned project capacities = record { project = project; capacities = capacities }
 
--- an arc with its lag, by the places of its ends
+-- an arc with its lag, by the indices of its ends
 abbrev pub link_of : Net → ℕ × ℕ → Link
 link_of net arc = record { from = arc.0 - 1; to = arc.1 - 1; lag = lag_of net arc.0 arc.1 }
 
--- the scheduling problem: activities and resources by their places from 0 on
+-- the scheduling problem of an instance: activities and resources are indexed from 0
 unfoldable pub problem_of : Planned → Problem
 problem_of i = record {
   durations = i.project.network.durations;
@@ -28,18 +29,20 @@ problem_of i = record {
   capacities = i.capacities;
 }
 
--- what holds of every instance: a project, a capacity for each of its resources, and no activity of positive duration needs more
+-- the invariant of an instance: it has a capacity for each resource of the project, and no activity
+-- of positive duration needs more than a capacity
 pub record IsInstance (i : Planned) : Type 0 where
   pub project : IsProject i.project
   pub capacities : length i.capacities ≡ length i.project.available
   pub fit : NeedsFit (problem_of i)
 
--- a project and capacities are refused for the first need that is too much, and for nothing else
+-- the only error of an instance is its first need that exceeds a capacity
 abbrev pub RefusesInstance : Planned → SgsFault → Type 0
 RefusesInstance i (fault.NeedsTooMuch act res) = IsFirstTooMuch (problem_of i) act res
 RefusesInstance i _ = ⊥
 
--- the place of the first need that is above its capacity
+-- the index of the first need that exceeds its capacity
 abbrev pub IsFirstAbove : List ℕ → List ℕ → ℕ → Type 0
 IsFirstAbove needs caps k =
-    (k < length caps) × (slice_index caps k < slice_index needs k) × ((q : ℕ) → q < k → slice_index needs q ≤ slice_index caps q)
+    (k < length caps) × (slice_index caps k < slice_index needs k)
+    × ((q : ℕ) → q < k → slice_index needs q ≤ slice_index caps q)

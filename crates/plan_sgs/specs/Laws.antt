@@ -1,37 +1,58 @@
--- Laws of serial generation (docs/definitions.md, "Schedules"; Kelley 1963, Sprecher, Kolisch and Drexl 1995).
+-- Laws of serial generation (docs/definitions.md, "Schedules"; Kelley 1963, Sprecher, Kolisch and
+-- Drexl 1995).
 use Rattle.std.specs.Prelude.{ℕ, ◌≤◌, ◌<◌, List, Option, get_or, take}
 use Rattle.plan_sgs.specs.Problem.{Problem, count, makespan, IsFeasible, IsActive, IsShortest, LinksInside, NeedsFit, IsRanked}
 use Rattle.plan_sgs.specs.Serial.{serial, earliest, IsEarliest}
 use Rattle.plan_sgs.specs.Rules.{IsActivityList, IsFirstBy, RisesBy, rule_list}
 
--- where no activity needs too much, its earliest start is the least instant from its release on at which it fits
+-- if no activity needs more than a capacity, the earliest start of an activity is the least instant
+-- from its release on at which it fits
 unfoldable pub EarliestIsLeast : Type 0
-EarliestIsLeast = (p : Problem) (placed : List (Option ℕ)) (j : ℕ) → NeedsFit p → j < count p → IsEarliest p placed j (earliest p placed j)
+EarliestIsLeast =
+    (p : Problem) (placed : List (Option ℕ)) (j : ℕ) → NeedsFit p → j < count p
+    → IsEarliest p placed j (earliest p placed j)
 
--- the serial schedule of an order of all activities that has each after its predecessors is active
+-- the serial schedule of an order of all activities, each after its predecessors, is active
 unfoldable pub SerialIsActive : Type 0
-SerialIsActive = (p : Problem) (js : List ℕ) → LinksInside p → NeedsFit p → IsActivityList p js → IsActive p (serial p js)
+SerialIsActive =
+    (p : Problem) (js : List ℕ) → LinksInside p → NeedsFit p → IsActivityList p js
+    → IsActive p (serial p js)
 
--- the list of any key is such an order, and each entry comes first, by the key and then by its number, of those that may come in its turn
+-- the list of any key is such an order, and each of its entries is the first, by the key and then by
+-- the number, of the activities that are eligible in its turn
 unfoldable pub RuleTakesFirst : Type 0
-RuleTakesFirst = (p : Problem) (rank key : ℕ → ℕ) → LinksInside p → IsRanked p rank → IsActivityList p (rule_list p key)
-    × ((k : ℕ) → k < count p → IsFirstBy p key (take k (rule_list p key)) (get_or (rule_list p key) k 0))
+RuleTakesFirst =
+    (p : Problem) (rank key : ℕ → ℕ) → LinksInside p → IsRanked p rank
+    → IsActivityList p (rule_list p key)
+    × ((k : ℕ) → k < count p
+    → IsFirstBy p key (take k (rule_list p key)) (get_or (rule_list p key) k 0))
 
--- the activities in the order of their starts, and among equal starts predecessors first
+-- the activities in the order of their starts; for equal starts predecessors come first
 abbrev pub by_starts : Problem → List ℕ → List ℕ
 by_starts p starts = rule_list p (λ i. get_or starts i 0)
 
--- the serial schedule of an order that rises by the starts of a feasible list starts nothing later than that list
+-- if an order is sorted by the starts of a feasible list, its serial schedule starts no activity
+-- later than that list
 unfoldable pub SerialIsNoLater : Type 0
-SerialIsNoLater = (p : Problem) (starts js : List ℕ) → LinksInside p → NeedsFit p → IsFeasible p starts → IsActivityList p js → RisesBy (λ i. get_or starts i 0) js
+SerialIsNoLater =
+    (p : Problem) (starts js : List ℕ) → LinksInside p → NeedsFit p → IsFeasible p starts
+    → IsActivityList p js → RisesBy (λ i. get_or starts i 0) js
     → (i : ℕ) → i < count p → get_or (serial p js) i 0 ≤ get_or starts i 0
 
--- the order by the starts of a feasible list is such an order, and its serial schedule is no longer than the list
+-- the order by the starts of a feasible list is such an order, and its serial schedule is no longer
+-- than the list
 unfoldable pub ByStartsIsNoLonger : Type 0
-ByStartsIsNoLonger = (p : Problem) (rank : ℕ → ℕ) (starts : List ℕ) → LinksInside p → NeedsFit p → IsRanked p rank → IsFeasible p starts
-    → IsActivityList p (by_starts p starts) × RisesBy (λ i. get_or starts i 0) (by_starts p starts) × (makespan p (serial p (by_starts p starts)) ≤ makespan p starts)
+ByStartsIsNoLonger =
+    (p : Problem) (rank : ℕ → ℕ) (starts : List ℕ) → LinksInside p → NeedsFit p → IsRanked p rank
+    → IsFeasible p starts
+    → IsActivityList p (by_starts p starts) × RisesBy (λ i. get_or starts i 0) (by_starts p starts)
+    × (makespan p (serial p (by_starts p starts)) ≤ makespan p starts)
 
--- a serial schedule that no serial schedule is shorter than is a shortest feasible list
+-- a serial schedule of least makespan among all serial schedules is a shortest feasible list
 unfoldable pub LeastOfOrdersIsShortest : Type 0
-LeastOfOrdersIsShortest = (p : Problem) (rank : ℕ → ℕ) (js : List ℕ) → LinksInside p → NeedsFit p → IsRanked p rank → IsActivityList p js
-    → ((other : List ℕ) → IsActivityList p other → makespan p (serial p js) ≤ makespan p (serial p other)) → IsShortest p (serial p js)
+LeastOfOrdersIsShortest =
+    (p : Problem) (rank : ℕ → ℕ) (js : List ℕ) → LinksInside p → NeedsFit p → IsRanked p rank
+    → IsActivityList p js
+    → ((other : List ℕ) → IsActivityList p other
+    → makespan p (serial p js) ≤ makespan p (serial p other))
+    → IsShortest p (serial p js)

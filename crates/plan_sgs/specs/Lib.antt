@@ -2,11 +2,11 @@ pub mod Problem
 pub mod Serial
 pub mod Rules
 pub mod Verdicts
-pub mod Checking
+pub mod Checks
 pub mod Instances
 pub mod Keys
-pub mod Placing
-pub mod Waiting
+pub mod Placement
+pub mod Eligibility
 pub mod Laws
 pub mod PathTails
 pub mod ProjectWords

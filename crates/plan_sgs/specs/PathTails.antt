@@ -10,13 +10,13 @@ use Rattle.plan_sgs.specs.Problem.{greatest_below}
 abbrev pub successors_of : Net → ℕ → List ℕ
 successors_of net j = map (λ arc. arc.1) (filter (λ arc. nat_eq arc.0 j) net.arcs)
 
--- what may follow j on a path with at most n arcs
+-- the continuations of a path after j with at most n arcs
 abbrev pub walks_from : Net → ℕ → ℕ → List (List ℕ)
 walks_from net zero j = [] ∷ []
 walks_from net (suc n) j =
     [] ∷ flat_map (λ k. map (λ others. k ∷ others) (walks_from net n k)) (successors_of net j)
 
--- the greatest of f on a list, 0 where it is empty
+-- the greatest value of f on a list, 0 if it is empty
 abbrev pub greatest_of : (List ℕ → ℕ) → List (List ℕ) → ℕ
 greatest_of f [] = 0
 greatest_of f (x ∷ xs) = max (f x) (greatest_of f xs)

@@ -70,7 +70,8 @@ pub record ReachesBy (i : Planned) (most : ℕ) : Type 0 where
 
 -- for every feasible list there is a full word with a makespan that is no greater
 unfoldable pub ProjectWordsReach : Type 0
-ProjectWordsReach = (i : Planned) (starts : List ℕ) → IsInstance i → IsFeasible (problem_of i) starts
+ProjectWordsReach =
+    (i : Planned) (starts : List ℕ) → IsInstance i → IsFeasible (problem_of i) starts
     → ReachesBy i (makespan (problem_of i) starts)
 
 -- a full word with the least makespan of all full words gives a shortest schedule

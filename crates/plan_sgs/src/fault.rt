@@ -1,19 +1,19 @@
-//! What a call of this crate is refused for.
+//! Errors of this crate.
 
 use std::alloc::{AllocError, AllocFailed};
 use thiserror::Error;
 
-/// Why an instance, a list or the name of a rule was refused.
+/// An error of an instance, a list or the name of a rule.
 #[derive(Debug, Drop, Error)]
 pub enum SgsFault {
     /// Memory ran out.
     #[error("no memory")]
     NoMemory,
-    /// Activity `act`, which lasts some time, needs more of resource `res` than there is: the least such activity, with its
-    /// least such resource.
+    /// Activity `act` has a positive duration and needs more of resource `res` than its capacity.
+    /// It is the least such activity, with its least such resource.
     #[error("activity {act} needs too much of resource {res}")]
     NeedsTooMuch { act: u32, res: u32 },
-    /// The list isn't an order of all activities that has each after its predecessors.
+    /// The list does not contain all activities, each once and after its predecessors.
     #[error("not an order of all activities that has each after its predecessors")]
     NotAList,
     /// No rule has this name.

@@ -1,6 +1,7 @@
-//! A project and the capacities that it is planned against.
+//! Instances: a project and its capacities.
 
-ghost use Rattle.std.specs.Prelude.{◌≡◌, ◌-◌, ◌≤◌, Some, length, slice_get, slice_index, EachIndex, IfOk, IfErr, IfSome, IfNone};
+ghost use Rattle.std.specs.Prelude.{◌≡◌, ◌-◌, ◌≤◌, Some, length, slice_get, slice_index, EachIndex};
+ghost use Rattle.std.specs.Prelude.{IfOk, IfErr, IfSome, IfNone};
 ghost use Rattle.plan_net.specs.Network.{IsActivity};
 ghost use Rattle.plan_psplib.specs.Project.{AreAmounts, IsProject};
 ghost use Rattle.plan_sgs.specs.Instances as spec;
@@ -11,8 +12,8 @@ use plan_net::Network;
 use plan_psplib::ProjectDoc;
 use std::marker::Model;
 
-/// A project and the capacities that it is planned against: no activity of positive duration needs more of a resource than
-/// there is. Activities and resources are numbered from 1.
+/// A project and a capacity for each of its resources. No activity of positive duration needs more
+/// of a resource than its capacity. Activities and resources are numbered from 1.
 #[derive(Drop)]
 pub struct Instance<'a> {
     project: &'a ProjectDoc,
@@ -26,14 +27,16 @@ impl<'a> Model for Instance<'a> {
 
     ghost view = { λ i. record { project = i.project.now; capacities = i.caps.now } };
 
-    ghost invariant = { λ i. IsInstance (record { project = i.project.now; capacities = i.caps.now }) };
+    ghost invariant = { λ i.
+        IsInstance (record { project = i.project.now; capacities = i.caps.now }) };
 }
 
-// The place of the first resource of which more is needed than there is.
+// Returns the index of the first resource whose need exceeds its capacity.
 pub(crate) fn first_above(needs: &[u64], caps: &[u64]) -> Option<usize>
     requires { length needs.now ≡ length caps.now }
     ensures some { IfSome result (spec.IsFirstAbove needs.now caps.now) }
-    ensures none { IfNone result (EachIndex caps.now (λ k. slice_index needs.now k ≤ slice_index caps.now k)) }
+    ensures none { IfNone result (EachIndex caps.now (λ k.
+        slice_index needs.now k ≤ slice_index caps.now k)) }
 {
     for k in 0..caps.len() {
         if needs[k] > caps[k] {
@@ -43,10 +46,12 @@ pub(crate) fn first_above(needs: &[u64], caps: &[u64]) -> Option<usize>
     None
 }
 
-// The first activity of positive duration that needs too much, with the first resource of which it does.
+// Returns the first activity of positive duration that needs more than a capacity, with the first
+// such resource.
 fn first_too_much(project: &ProjectDoc, caps: &[u64]) -> Option<(u32, u32)>
     requires { length caps.now ≡ length project.now.available }
-    ensures some { IfSome result (λ found. IsFirstTooMuch (spec.problem_of (spec.planned project.now caps.now)) found.0 found.1) }
+    ensures some { IfSome result (λ found.
+        IsFirstTooMuch (spec.problem_of (spec.planned project.now caps.now)) found.0 found.1) }
     ensures none { IfNone result (NeedsFit (spec.problem_of (spec.planned project.now caps.now))) }
     ensures project { IsProject project.now }
 {
@@ -63,10 +68,11 @@ fn first_too_much(project: &ProjectDoc, caps: &[u64]) -> Option<(u32, u32)>
 }
 
 impl<'a> Instance<'a> {
-    /// The project, planned against these capacities, one for each of its resources. Takes no memory.
+    /// Returns the instance of a project and a capacity for each of its resources. Allocates
+    /// nothing.
     ///
-    /// Refused with [`SgsFault::NeedsTooMuch`] where an activity of positive duration needs more of a resource than there is:
-    /// the least such activity, with its least such resource.
+    /// Fails with [`SgsFault::NeedsTooMuch`] if an activity of positive duration needs more of a
+    /// resource than its capacity. It names the least such activity and its least such resource.
     pub fn of_project(project: &'a ProjectDoc, caps: &'a [u64]) -> Result<Instance<'a>, SgsFault>
         requires { length caps.now ≡ length project.now.available }
         ensures ok { IfOk result (λ i. i ≡ spec.planned project.now caps.now) }
@@ -78,7 +84,7 @@ impl<'a> Instance<'a> {
         }
     }
 
-    /// The network of the activities.
+    /// Returns the network of the activities.
     pub fn network(&self) -> &Network
         ensures network { result.now ≡ self.now.project.network }
         ensures instance { spec.IsInstance self.now }
@@ -86,7 +92,7 @@ impl<'a> Instance<'a> {
         self.project.network()
     }
 
-    /// What activity `j` needs of each resource while it lasts.
+    /// Returns the need of activity `j` for each resource.
     pub fn needs(&self, j: u32) -> &[u64]
         requires { IsActivity self.now.project.network j }
         ensures row { slice_get self.now.project.needs (j - 1) ≡ Some result.now }
@@ -95,7 +101,7 @@ impl<'a> Instance<'a> {
         self.project.needs(j)
     }
 
-    /// How much there is of each resource.
+    /// Returns the capacity of each resource.
     pub fn caps(&self) -> &[u64]
         ensures { result.now ≡ self.now.capacities }
     {

@@ -1,4 +1,4 @@
-//! Numbers by which the rules choose: the less, the sooner an activity is taken.
+//! Keys of the priority rules. The activity with the least key is taken first.
 
 ghost use Rattle.std.specs.Prelude.{IfOk};
 ghost use Rattle.plan_cpm.specs.Dates.{AreDates};
@@ -10,7 +10,7 @@ use plan_cpm::{Dates, dates, total_successors};
 use plan_net::Network;
 use std::alloc::{AllocError, Global};
 
-// The latest finishes.
+// Returns the latest finishes.
 fn late_finishes(alloc: Global, network: &Network, table: &Dates) -> Result<Vec<u64>, AllocError>
     requires { AreDates network.now table.now }
     ensures { IfOk result (λ keys. AreKeysOf network.now Rule.LatestFinish keys.items) }
@@ -22,7 +22,7 @@ fn late_finishes(alloc: Global, network: &Network, table: &Dates) -> Result<Vec<
     Ok(keys)
 }
 
-// The total floats.
+// Returns the total floats.
 fn total_floats(alloc: Global, network: &Network, table: &Dates) -> Result<Vec<u64>, AllocError>
     requires { AreDates network.now table.now }
     ensures { IfOk result (λ keys. AreKeysOf network.now Rule.Slack keys.items) }
@@ -34,7 +34,7 @@ fn total_floats(alloc: Global, network: &Network, table: &Dates) -> Result<Vec<u
     Ok(keys)
 }
 
-// The durations.
+// Returns the durations.
 fn durations(alloc: Global, network: &Network) -> Result<Vec<u64>, AllocError>
     ensures { IfOk result (λ keys. AreKeysOf network.now Rule.ShortestTime keys.items) }
 {
@@ -45,7 +45,8 @@ fn durations(alloc: Global, network: &Network) -> Result<Vec<u64>, AllocError>
     Ok(keys)
 }
 
-// What the numbers of successors leave of the greatest number of their type.
+// Returns `u32::MAX` minus the number of direct and indirect successors, so that the most come
+// first.
 fn most_successors_first(
     alloc: Global,
     network: &Network,
@@ -61,7 +62,7 @@ fn most_successors_first(
     Ok(keys)
 }
 
-// The places.
+// Returns the indices of the activities.
 fn numbers(alloc: Global, network: &Network) -> Result<Vec<u64>, AllocError>
     ensures { IfOk result (λ keys. AreKeysOf network.now Rule.Number keys.items) }
 {
@@ -72,7 +73,7 @@ fn numbers(alloc: Global, network: &Network) -> Result<Vec<u64>, AllocError>
     Ok(keys)
 }
 
-/// The numbers by which a rule chooses, in the order of the activities.
+/// Returns the keys of a rule, in the order of the activities.
 pub fn keys_of(alloc: Global, network: &Network, rule: Rule) -> Result<Vec<u64>, AllocError>
     ensures { IfOk result (λ keys. AreKeysOf network.now rule keys.items) }
 {

@@ -1,31 +1,34 @@
-//! Laws of the definitions, for proofs of other crates to cite. The functions do nothing.
+//! Laws of the definitions that proofs of other crates cite. The functions do nothing.
 
-ghost use Rattle.plan_sgs.specs.Laws.{EarliestIsLeast, SerialIsActive, RuleTakesFirst, SerialIsNoLater, ByStartsIsNoLonger, LeastOfOrdersIsShortest};
+ghost use Rattle.plan_sgs.specs.Laws.{EarliestIsLeast, SerialIsActive, RuleTakesFirst};
+ghost use Rattle.plan_sgs.specs.Laws.{SerialIsNoLater, ByStartsIsNoLonger, LeastOfOrdersIsShortest};
 
-/// The earliest start of an activity, beside those placed before it, is the least instant from its release on at which it fits,
-/// where no activity needs more than there is.
+/// If no activity needs more than a capacity, the earliest start of an activity beside those placed
+/// before it is the least instant from its release on at which it fits.
 pub fn earliest_is_least()
     ensures { EarliestIsLeast }
 {}
 
-/// The serial schedule of an order of all activities that has each after its predecessors is feasible, and no activity of it can
-/// start earlier with all others where they are.
+/// The serial schedule of an order of all activities that has each after its predecessors is
+/// feasible, and no activity of it can start earlier with all others where they are.
 pub fn serial_is_active()
     ensures { SerialIsActive }
 {}
 
-/// The list of a priority rule, whatever its key, is such an order, and each of its entries comes first by the key, and then by its
-/// number, of those that may come in its turn.
+/// The list of a priority rule, whatever its key, is such an order, and each of its entries comes
+/// first by the key, and then by its number, of those that may come in its turn.
 pub fn rule_takes_first()
     ensures { RuleTakesFirst }
 {}
 
-/// The serial schedule of an order that rises by the starts of a feasible list starts nothing later than that list.
+/// The serial schedule of an order that rises by the starts of a feasible list starts nothing later
+/// than that list.
 pub fn serial_is_no_later()
     ensures { SerialIsNoLater }
 {}
 
-/// The order by the starts of a feasible list has a serial schedule that is no longer than the list.
+/// The order by the starts of a feasible list has a serial schedule that is no longer than the
+/// list.
 pub fn by_starts_is_no_longer()
     ensures { ByStartsIsNoLonger }
 {}

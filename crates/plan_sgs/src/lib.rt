@@ -1,23 +1,24 @@
-//! Schedules of projects with scarce resources: serial generation, priority rules, and a check of any list of starts.
+//! Schedules of projects with scarce resources: serial generation, priority rules, the tree of
+//! words for exact search, and a check of any list of starts.
 #![tactic(auto)]
 
-mod checking;
+mod checks;
+mod eligibility;
 mod fault;
 mod generation;
 mod instance;
 mod keys;
 mod laws;
 mod lists;
-mod placing;
+mod placement;
 mod project_laws;
 mod project_tree;
 mod rule;
 mod schedule;
 mod verdict;
 mod verdict_laws;
-mod waiting;
 
-pub use checking::check;
+pub use checks::check;
 pub use fault::SgsFault;
 pub use generation::{serial, serial_list};
 pub use instance::Instance;

@@ -1,20 +1,20 @@
-//! Orders of all activities that have each after its predecessors.
+//! Activity lists: orders of all activities, each after its predecessors.
 
 ghost use Rattle.std.specs.Prelude.{◌≡◌, ◌↔◌, length, slice_index, IsTrue, IfOk};
 ghost use Rattle.plan_net.specs.Network.{count_of};
 ghost use Rattle.plan_sgs.specs.Problem.{count};
 ghost use Rattle.plan_sgs.specs.Instances.{problem_of};
 ghost use Rattle.plan_sgs.specs.Rules as spec;
-ghost use Rattle.plan_sgs.specs.Placing.{IsTurnList};
-ghost use Rattle.plan_sgs.specs.Waiting.{CanCome};
+ghost use Rattle.plan_sgs.specs.Placement.{IsTurnList};
+ghost use Rattle.plan_sgs.specs.Eligibility.{CanCome};
 
+use crate::eligibility::{first_queue, first_waits, lower_waits, open_pred};
 use crate::instance::Instance;
-use crate::waiting::{first_queue, first_waits, lower_waits, open_pred};
 use plan_net::Network;
 use std::alloc::{AllocError, Global};
 use std::cmp::Reverse;
 
-// Whether a number is that of an activity that isn't taken and whose predecessors are.
+// Tests whether a number is that of an activity that isn't taken and whose predecessors are taken.
 fn can_come(network: &Network, taken: &[bool], j: u32) -> bool
     requires { length taken.now ≡ count_of network.now }
     ensures { IsTrue result ↔ CanCome network.now taken.now j }
@@ -25,7 +25,7 @@ fn can_come(network: &Network, taken: &[bool], j: u32) -> bool
     open_pred(network, taken, j).is_none()
 }
 
-/// Whether the numbers are an order of all activities that has each after its predecessors.
+/// Tests whether the numbers are an order of all activities, each after its predecessors.
 pub fn is_list(alloc: Global, instance: &Instance, list: &[u32]) -> Result<bool, AllocError>
     ensures { IfOk result (λ is. IsTrue is ↔ IsTurnList (problem_of instance.now) list.now) }
 {
@@ -43,19 +43,21 @@ pub fn is_list(alloc: Global, instance: &Instance, list: &[u32]) -> Result<bool,
     Ok(true)
 }
 
-/// The list of the rule with these keys, one for each activity.
+/// Returns the list of the rule with these keys, one for each activity.
 pub fn rule_list(alloc: Global, instance: &Instance, keys: &[u64]) -> Result<Vec<u32>, AllocError>
     requires { length keys.now ≡ count (problem_of instance.now) }
-    ensures list { IfOk result (λ list. spec.places list.items ≡ spec.rule_list (problem_of instance.now) (slice_index keys.now)) }
+    ensures list { IfOk result (λ list.
+        spec.places list.items
+        ≡ spec.rule_list (problem_of instance.now) (slice_index keys.now)) }
     ensures turns { IfOk result (λ list. IsTurnList (problem_of instance.now) list.items) }
 {
     let network = instance.network();
-    // the network's facts, on which the proof rests
+    // The proof needs the facts of the network, which this call states.
     let _order = network.order();
     let mut waits = first_waits(alloc, network)?;
     let mut queue = first_queue(alloc, network, &waits, keys)?;
     let mut list = Vec::new(alloc);
-    'turns: for _turn in 0..network.len() {
+    for _turn in 0..network.len() {
         let Some(Reverse((_, j))) = queue.pop() else {
             unreachable!();
         };

@@ -1,4 +1,4 @@
-//! The tree of a project's words.
+//! Tree of a project's words.
 
 ghost use Rattle.std.specs.Prelude.{◌≡◌, ◌+◌, ◌-◌, length, Contains, IfOk, OnOk};
 ghost use Rattle.plan_profile.specs.Usage.{IsInTime};
@@ -7,21 +7,21 @@ ghost use Rattle.plan_sgs.specs.Serial.{earliest};
 ghost use Rattle.plan_sgs.specs.ProjectWords as words;
 ghost use Rattle.plan_sgs.specs.ProjectTrees as spec;
 
-mod bounding;
-mod following;
+mod bound;
+mod letters;
 
+use crate::eligibility::{first_waits, lower_each, raise_each};
 use crate::instance::Instance;
-use crate::placing::{earliest_start, profile_with, starts_of};
+use crate::placement::{earliest_start, profile_with, starts_of};
 use crate::schedule::Schedule;
-use crate::waiting::{first_waits, lower_each, raise_each};
-use bounding::least_of_all;
+use bound::least_of_all;
 use plan_cpm::tails;
 use plan_profile::Profile;
 use std::alloc::{AllocError, Global};
 use std::marker::Model;
 
-// A letter of the word, with the greatest end of what is placed when it is, and the greatest start
-// and tail.
+// A letter of the word, with the greatest end and the greatest sum of start and tail of all
+// activities that are placed up to it.
 #[derive(Clone, Copy, Drop)]
 struct Turn {
     letter: u32,
@@ -29,12 +29,12 @@ struct Turn {
     reach: u64,
 }
 
-/// The tree of a project's words, which stands at one of them. A letter is the number, from 1 on,
-/// of the activity that is placed next by serial generation: one that isn't placed, with all its
-/// predecessors placed. The full words are the activity lists.
+/// The tree of a project's words, at one of its words. A letter is the number, from 1, of the
+/// activity that serial generation places next: an unplaced activity whose predecessors are all
+/// placed. The full words are the activity lists.
 ///
-/// The profile of a word is made when the first letter is placed behind it, out of that of the word
-/// before; a pop drops it. So a word at which a search turns back costs none.
+/// The profile of a word is computed from that of the shorter word when a letter is first pushed
+/// after it, and a pop drops it. A word at which a search turns back needs no profile.
 #[derive(Drop)]
 pub struct ProjectTree<'a> {
     instance: &'a Instance<'a>,
@@ -57,7 +57,7 @@ impl<'a> Model for ProjectTree<'a> {
         t.waits.items t.profiles.items t.turns.items };
 }
 
-// The start of one letter more. Where there is no profile of the word yet, it is made.
+// Returns the start of one more letter. Computes the profile of the word if there is none yet.
 fn start_of(
     instance: &Instance,
     profiles: &mut Vec<Profile>,
@@ -69,7 +69,8 @@ fn start_of(
     requires word { words.IsWord instance.now (spec.word_of turns.now) }
     requires placed { placed.now ≡ words.placed_by instance.now (spec.word_of turns.now) }
     requires profiles { spec.AreProfiles instance.now (spec.word_of turns.now) profiles.old.items }
-    requires letter { Contains (words.letters_after instance.now (spec.word_of turns.now)) activity }
+    requires letter { Contains
+        (words.letters_after instance.now (spec.word_of turns.now)) activity }
     ensures start { IfOk result (λ start.
         start ≡ earliest (problem_of instance.now) placed.now (activity - 1)) }
     ensures in_time { IfOk result IsInTime }
@@ -85,15 +86,16 @@ fn start_of(
 }
 
 impl<'a> ProjectTree<'a> {
-    ghost use Rattle.std.specs.Prelude.{◌≡◌, ℕ, ◌-◌, ◌≤◌, ◌<◌, List, [], ◌∷◌, ◌++◌, true, Some, None};
+    ghost use Rattle.std.specs.Prelude.{◌≡◌, ℕ, ◌-◌, ◌≤◌, ◌<◌, List, [], ◌∷◌, ◌++◌, true, Some};
+    ghost use Rattle.std.specs.Prelude.{None};
     ghost use Rattle.std.specs.Prelude.{length, get_or, Contains, IfOk, OnOk, OnErr};
     ghost use Rattle.plan_profile.specs.Usage.{IsInTime};
     ghost use Rattle.plan_sgs.specs.Instances.{IsInstance, problem_of};
-    ghost use Rattle.plan_sgs.specs.Placing.{AllEndBy, latest_end};
+    ghost use Rattle.plan_sgs.specs.Placement.{AllEndBy, latest_end};
     ghost use Rattle.plan_sgs.specs.ProjectWords as words;
     ghost use Rattle.plan_sgs.specs.ProjectTrees as spec;
 
-    /// The tree of a project and its capacities, at the empty word.
+    /// Returns the tree of an instance at the empty word.
     pub fn new(alloc: Global, instance: &'a Instance<'a>) -> Result<ProjectTree<'a>, AllocError>
         ensures { IfOk result (λ tree. tree ≡ spec.standing instance.now []) }
     {
@@ -116,7 +118,7 @@ impl<'a> ProjectTree<'a> {
         })
     }
 
-    // The greatest end of what the word places.
+    // Returns the greatest end of the placed activities.
     fn end(&self) -> u64
         ensures value { result ≡ spec.end_by self.now.instance self.now.word }
         ensures limit { result ≤ latest_end }
@@ -127,7 +129,7 @@ impl<'a> ProjectTree<'a> {
         }
     }
 
-    // The greatest start and tail of what the word places.
+    // Returns the greatest sum of start and tail of the placed activities.
     fn reach(&self) -> u64
         ensures { result ≡ spec.reach_by self.now.instance self.now.word }
     {
@@ -137,8 +139,8 @@ impl<'a> ProjectTree<'a> {
         }
     }
 
-    /// Goes to the word with one letter more: places the activity at its earliest start. After want
-    /// of memory the tree is as it was.
+    /// Appends a letter to the word: places the activity at its earliest start. If memory runs out,
+    /// the tree stays the same.
     pub fn push(&mut self, activity: u32) -> Result<(), AllocError>
         requires { Contains (words.letters_after self.old.instance self.old.word) activity }
         ensures ok { OnOk result
@@ -166,7 +168,7 @@ impl<'a> ProjectTree<'a> {
         Ok(())
     }
 
-    /// Goes back to the word without its last letter. Takes no memory.
+    /// Removes the last letter of the word. Allocates nothing.
     pub fn pop(&mut self)
         requires { 0 < length self.old.word }
         ensures instance { self.new.instance ≡ self.old.instance }
@@ -180,7 +182,7 @@ impl<'a> ProjectTree<'a> {
         raise_each(self.instance.network(), turn.letter, &mut self.waits);
     }
 
-    /// Whether all activities are placed.
+    /// Tests whether all activities are placed.
     pub fn full(&self) -> bool
         ensures value { result ≡ words.is_full self.now.instance self.now.word }
         ensures instance { IsInstance self.now.instance }
@@ -189,7 +191,7 @@ impl<'a> ProjectTree<'a> {
         self.turns.len() == self.placed.len()
     }
 
-    /// The start of activity `j`, which is placed.
+    /// Returns the start of the placed activity `j`.
     pub fn start(&self, j: u32) -> u64
         requires { Contains self.now.word j }
         ensures value { get_or (words.placed_by self.now.instance self.now.word) (j - 1) None
@@ -202,19 +204,19 @@ impl<'a> ProjectTree<'a> {
         }
     }
 
-    /// The makespan of a full word, in whole time units.
+    /// Returns the makespan of a full word, in whole time units.
     pub fn makespan(&self) -> u64
         requires { words.is_full self.now.instance self.now.word ≡ true }
         ensures value { result ≡ words.makespan_by self.now.instance self.now.word }
         ensures limit { result ≤ latest_end }
     {
-        // what the tree keeps, on which the proof rests
+        // The proof needs the invariant of the tree, which this access states.
         let _turns = &self.turns;
         self.end()
     }
 
-    /// The schedule of a full word: starts in the order of the activities and the makespan, in
-    /// whole time units.
+    /// Returns the schedule of a full word: starts in the order of the activities and the makespan,
+    /// in whole time units.
     pub fn schedule(&self, alloc: Global) -> Result<Schedule, AllocError>
         requires { words.is_full self.now.instance self.now.word ≡ true }
         ensures starts { IfOk result (λ s.

@@ -5,7 +5,7 @@ ghost use Rattle.plan_sgs.specs.Keys.{rule_text, RefusesWord};
 
 use crate::fault::SgsFault;
 
-/// Which of the activities that may be placed next comes first (Kolisch 1996). Among equal ones the least number comes first.
+/// A rule that chooses among the eligible activities (Kolisch 1996). Ties go to the least number.
 #[derive(Debug, Clone, Copy, PartialEq, Eq, Drop)]
 pub enum Rule {
     /// `lft`: the least latest finish.
@@ -21,9 +21,9 @@ pub enum Rule {
 }
 
 impl Rule {
-    /// The rule of this name: `lft`, `slk`, `spt`, `mts` or `num`. Takes no memory.
+    /// Returns the rule of this name: `lft`, `slk`, `spt`, `mts` or `num`. Allocates nothing.
     ///
-    /// Refused with [`SgsFault::UnknownRule`] where no rule has it.
+    /// Fails with [`SgsFault::UnknownRule`] for any other name.
     pub fn parse(text: &str) -> Result<Rule, SgsFault>
         ensures ok { IfOk result (λ rule. text.now ≡ rule_text rule) }
         ensures refused { IfErr result (RefusesWord text.now) }

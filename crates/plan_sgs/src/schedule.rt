@@ -1,6 +1,6 @@
-//! `Schedule`.
+//! Schedules.
 
-/// When each activity starts, in whole time units.
+/// The starts of all activities and the makespan, in whole time units.
 #[derive(Debug, Drop)]
 pub struct Schedule {
     /// The start of each activity, in the order of their numbers.

@@ -1,8 +1,8 @@
-//! Laws of verdicts, for proofs of other crates to cite. The functions do nothing.
+//! Law of verdicts that proofs of other crates cite. The function does nothing.
 
 ghost use Rattle.plan_sgs.specs.Verdicts.{OneVerdictIsFirst};
 
-/// On each list of starts there is one verdict that is the first, and no other one is.
+/// Each list of starts has exactly one first verdict.
 pub fn one_verdict_is_first()
     ensures { OneVerdictIsFirst }
 {}

@@ -7,7 +7,7 @@ use Rattle.plan_sgs.specs.Problem.{IsFeasible}
 use Rattle.plan_shop.specs.Shop.{JobShop, IsShop, count_steps, time_of, machine_of, job_of, place_of, times_from, problem_of}
 use Rattle.plan_shop.specs.Words.{first_least, Placed, steps_done, machine_free, next_step, ready, next_end, place, letter_of, jobs_after, is_full}
 use Rattle.plan_shop.specs.Bound.{pending}
-use Rattle.plan_shop.specs.Continuing.{Continues}
+use Rattle.plan_shop.specs.Continuation.{Continues}
 use Rattle.plan_shop.specs.Laws.{placed_in, LetterIsThere}
 use Rattle.plan_shop.proofs.NumberLemmas.{first_least_in, first_least_below}
 use Rattle.plan_shop.proofs.ShopBasics.{at, number_is, job_at, place_at, place_below, job_below, number_below, next_place, IsSound, apart_both, count_is, sound_from, feasible_from}

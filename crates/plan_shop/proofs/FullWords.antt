@@ -4,7 +4,7 @@ use Rattle.std.proofs.lemmas.Bool.{cases_eq, cond-true, cond-false, eq-eqb, ne_e
 use Rattle.plan_sgs.specs.Problem.{count, IsFeasible, IsShift}
 use Rattle.plan_shop.specs.Shop.{JobShop, IsShop, count_steps, time_of, machine_of, job_of, place_of, times_from, problem_of}
 use Rattle.plan_shop.specs.Words.{Placed, steps_done, job_end, machine_free, next_step, ready, next_end, IsWord, is_full, start_in, starts_of}
-use Rattle.plan_shop.specs.Continuing.{Agrees, Continues}
+use Rattle.plan_shop.specs.Continuation.{Agrees, Continues}
 use Rattle.plan_shop.specs.Laws.{placed_in, FullIsFeasible, FullIsActive}
 use Rattle.plan_shop.proofs.NumberLemmas.{length_table, get_or_table}
 use Rattle.plan_shop.proofs.ShopBasics.{at, number_is, job_at, place_at, place_below, job_below, number_below, IsSound, apart_both, count_is, sound_from, feasible_from}

@@ -6,7 +6,7 @@ mod HeldLemmas
 mod KeepLemmas
 mod TurnLemmas
 mod FullLemmas
-mod FollowingLemmas
+mod LetterLemmas
 mod PendingLemmas
 pub mod Rows
 pub mod NumberLemmas
@@ -18,8 +18,8 @@ pub mod Span
 pub mod ShopBound
 pub mod Earlier
 pub mod WordsReach
-pub mod Competing
-mod ChoosingLemmas
+pub mod CompetitorLemmas
+mod ChoiceLemmas
 mod RuleLemmas
 mod CheckLemmas
 mod RoomLemmas

@@ -7,7 +7,7 @@ use Rattle.plan_orlib.specs.declared.steps.Step.{Step}
 use Rattle.std.proofs.lemmas.Bool.{cases_eq, cond-true, cond-false, eq-eqb, ne_eqb, lt-ltb, le-ltb, and_from, and_left, and_right, ltb-true}
 use Rattle.std.proofs.lemmas.List.{get_or-set_same, get_or-set_other, get_or-replicate, length-set, length-replicate}
 use Rattle.std.proofs.lemmas.List.Sums.{sum_by_push}
-use Rattle.plan_shop.specs.declared.tree.bounding.Pending.{Pending}
+use Rattle.plan_shop.specs.declared.tree.bound.Pending.{Pending}
 use Rattle.plan_shop.specs.Shop.{JobShop, IsShop, count_steps, idle, time_of, machine_of, job_of, place_of, times_from, those_below}
 use Rattle.plan_shop.specs.Words.{least_of, Placed, steps_done, job_end, machine_free, is_placed, has_next, next_step, raised, ready}
 use Rattle.plan_shop.specs.Bound.{head_at, head_of, tail_of, pending, bound_of_pending, job_bound}
@@ -17,7 +17,7 @@ use Rattle.plan_shop.specs.Trees.{Standing, standing, placed, is_pending, OnMach
 use Rattle.plan_shop.proofs.ShopBasics.{job_at, place_at, number_below}
 use Rattle.plan_shop.proofs.TailLemmas.{step-is}
 use Rattle.plan_shop.proofs.PlacingLemmas.{time-short}
-use Rattle.plan_shop.proofs.FollowingLemmas.{those-yes, those-no}
+use Rattle.plan_shop.proofs.LetterLemmas.{those-yes, those-no}
 
 -- ---- heads
 

@@ -8,7 +8,7 @@ use Rattle.plan_sgs.proofs.TotalLemmas.{greatest_least, greatest_above}
 use Rattle.plan_shop.specs.Shop.{JobShop, IsShop, count_steps, time_of, machine_of, job_of, place_of, times_from, problem_of}
 use Rattle.plan_shop.specs.Words.{least_of, Placed, steps_done, job_end, machine_free, is_placed, has_next, next_step, raised, ready, starts_of, makespan_of, placed_by, Follows}
 use Rattle.plan_shop.specs.Bound.{head_at, head_of, tail_of, pending, bound_of_pending, job_bound, bound_of}
-use Rattle.plan_shop.specs.Continuing.{Continues}
+use Rattle.plan_shop.specs.Continuation.{Continues}
 use Rattle.plan_shop.specs.Laws.{placed_in, BoundIsLeast, ShopBoundHolds}
 use Rattle.plan_shop.proofs.NumberLemmas.{passes_there, those_each, those_rise, in_order_from, InOrder, least_of_first, least_of_rest}
 use Rattle.plan_shop.proofs.ShopBasics.{at, number_is, job_at, place_at, place_below, job_below, number_below, next_place, next_below, next_job, IsSound, duration_is, count_is, sound_from}

@@ -7,7 +7,7 @@ use Rattle.plan_sgs.specs.Problem.{makespan, count, duration, IsFeasible, IsActi
 use Rattle.plan_sgs.proofs.TotalLemmas.{greatest_grows}
 use Rattle.plan_shop.specs.Shop.{JobShop, IsShop, count_steps, job_of, place_of, problem_of}
 use Rattle.plan_shop.specs.Words.{Placed, steps_done, next_step, ready, place, letter_of, placed_by, jobs_after, letters_after, Follows, IsWord, is_full, start_in, starts_of, makespan_of}
-use Rattle.plan_shop.specs.Continuing.{Agrees, Continues}
+use Rattle.plan_shop.specs.Continuation.{Agrees, Continues}
 use Rattle.plan_shop.specs.Laws.{placed_in, IsContinued, Letter, FullIsFeasible, LetterIsThere, Reaches, WordsReach, LeastWordIsShortest, IsSpelled, ActiveIsSpelled}
 use Rattle.plan_shop.proofs.NumberLemmas.{length_table, get_or_table}
 use Rattle.plan_shop.proofs.ShopBasics.{at, number_below, IsSound, count_is, sound_from}

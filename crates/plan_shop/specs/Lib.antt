@@ -2,7 +2,7 @@ pub mod Shop
 pub mod Words
 pub mod Bound
 pub mod Rules
-pub mod Continuing
+pub mod Continuation
 pub mod Laws
 pub use Rattle.plan_profile.specs.Usage
 pub use Rattle.plan_sgs.specs.Problem

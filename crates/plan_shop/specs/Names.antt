@@ -1,4 +1,4 @@
--- The names of priority rules, and how each chooses (docs/definitions.md, "Job shops").
+-- Names and choices of the priority rules (docs/definitions.md, "Job shops").
 use Rattle.std.specs.Prelude.{◌≡◌, ℕ, Bool, nat_lt, List, [], ◌∷◌, Option, Some, None, codes}
 use Rattle.plan_shop.specs.Shop.{JobShop}
 use Rattle.plan_shop.specs.Words.{Placed, ready, letter_of, jobs_after}
@@ -14,23 +14,23 @@ rule_text rule.ShortestTime = codes "spt"
 rule_text rule.MostWorkRemaining = codes "mwkr"
 rule_text rule.FirstCome = codes "fcfs"
 
--- a text that is the name of no rule
+-- the error of a text that is the name of no rule
 abbrev pub RefusesWord : List ℕ → ShopFault → Type 0
 RefusesWord text f = (f ≡ fault.UnknownRule) × ((r : ShopRule) → text ≡ rule_text r → ⊥)
 
--- how a rule chooses among the jobs that may follow
+-- the choice of a rule among the jobs that may follow
 abbrev pub chooser_of : ShopRule → JobShop → List Placed → List ℕ → ℕ
 chooser_of rule.ShortestTime s = spt s
 chooser_of rule.MostWorkRemaining s = mwkr s
 chooser_of rule.FirstCome s = fcfs s
 
--- what a rule compares of a job
+-- the key by which a rule compares a job
 abbrev pub key_of : ShopRule → JobShop → List Placed → ℕ → ℕ
 key_of rule.ShortestTime s xs j = next_time s xs j
 key_of rule.MostWorkRemaining s xs j = time_left s xs j
 key_of rule.FirstCome s xs j = ready s xs j
 
--- whether a rule puts one key before another
+-- a rule puts one key before another
 abbrev pub comes_before : ShopRule → ℕ → ℕ → Bool
 comes_before rule.ShortestTime m n = nat_lt m n
 comes_before rule.MostWorkRemaining m n = nat_lt n m

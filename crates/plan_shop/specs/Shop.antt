@@ -1,16 +1,17 @@
--- Job shops by flat step numbers: step x belongs to job x / machines, both from 0 on; and a shop as a scheduling problem
--- (docs/definitions.md, "Job shops").
+-- Job shops by flat step numbers, and a shop as a scheduling problem (docs/definitions.md,
+-- "Job shops"). Step x belongs to job x / machines, both numbered from 0.
 use Rattle.std.specs.Prelude.{◌≡◌, ℕ, zero, suc, ◌+◌, ◌-◌, ◌*◌, ◌/◌, ◌%◌, ◌<◌, Bool, cond, List, [], ◌∷◌, ◌++◌, length, get_or, map, replicate, nat_eq, All}
 use Rattle.plan_orlib.specs.declared.steps.Step.{Step}
 use Rattle.plan_sgs.specs.Problem.{Problem, Link}
 
--- a job shop: jobs of as many steps each as there are machines, their steps one job after the other
+-- a job shop: each job has one step for each machine, and the steps are listed one job after the
+-- other
 pub record JobShop : Type 0 where
   pub machines : ℕ
   pub jobs : ℕ
   pub steps : List Step
 
--- there is a machine, each job has one step for each, and each step is on one of them
+-- a shop has a machine, each job has one step for each machine, and each step is on one of them
 pub record IsShop (s : JobShop) : Type 0 where
   pub some_machine : 0 < s.machines
   pub all_steps : length s.steps ≡ s.jobs * s.machines
@@ -28,29 +29,29 @@ time_of s x = (get_or s.steps x idle).time
 abbrev pub machine_of : JobShop → ℕ → ℕ
 machine_of s x = (get_or s.steps x idle).machine
 
--- the job of a flat number, and the place in its job, both from 0 on
+-- the job of a flat number, and the index in the job, both from 0
 abbrev pub job_of : JobShop → ℕ → ℕ
 job_of s x = x / s.machines
 
 abbrev pub place_of : JobShop → ℕ → ℕ
 place_of s x = x % s.machines
 
--- the times of n steps from x on
+-- the total time of n steps from x on
 abbrev pub times_from : JobShop → ℕ → ℕ → ℕ
 times_from s x zero = 0
 times_from s x (suc n) = time_of s x + times_from s (suc x) n
 
--- the numbers below n that pass, rising
+-- the numbers below n that pass f, in rising order
 abbrev pub those_below : ℕ → (ℕ → Bool) → List ℕ
 those_below zero f = []
 those_below (suc n) f = those_below n f ++ cond (f n) (n ∷ []) []
 
--- what f says of the numbers below n
+-- the values of f for the numbers below n
 abbrev pub table : ℕ → (ℕ → ℕ) → List ℕ
 table zero f = []
 table (suc n) f = table n f ++ f n ∷ []
 
--- 1 at the machine
+-- the needs of a step: 1 of its machine, 0 of the others
 abbrev pub machine_needs : ℕ → ℕ → List ℕ
 machine_needs n m = replicate m 0 ++ 1 ∷ replicate (n - suc m) 0
 

@@ -1,4 +1,5 @@
--- Where the tree of a shop stands, and what it keeps of what its word places (docs/definitions.md, "Job shops").
+-- The current word of the tree of a shop, and the data that the tree keeps for it
+-- (docs/definitions.md, "Job shops").
 use Rattle.std.specs.Prelude.{◌≡◌, ℕ, ◌≤◌, ◌<◌, ◌⊎◌, Bool, ◌&&◌, ◌*◌, not, nat_lt, nat_eq, List, [], ◌∷◌, Option, Some, None, length, map, slice_index, Contains}
 use Rattle.std.specs.List.{sum_by}
 use Rattle.plan_shop.specs.Shop.{JobShop, count_steps, time_of, machine_of, job_of, place_of, those_below}
@@ -7,9 +8,9 @@ use Rattle.plan_shop.specs.Bound.{tail_of, head_of}
 use Rattle.plan_shop.specs.Laws.{placed_in}
 use Rattle.plan_shop.specs.Docs.{IsSmallShop}
 use Rattle.plan_shop.specs.declared.tree.Turn.{Turn}
-use Rattle.plan_shop.specs.declared.tree.bounding.Pending.{Pending}
+use Rattle.plan_shop.specs.declared.tree.bound.Pending.{Pending}
 
--- a shop, and the word at which its tree stands
+-- a shop and the current word of its tree
 pub record Standing : Type 0 where
   pub shop : JobShop
   pub word : List ℕ
@@ -17,7 +18,7 @@ pub record Standing : Type 0 where
 abbrev pub standing : JobShop → List ℕ → Standing
 standing shop word = record { shop = shop; word = word }
 
--- what the word has placed
+-- the placed steps of the current word
 abbrev pub placed : Standing → List Placed
 placed t = placed_in t.shop t.word
 
@@ -25,18 +26,22 @@ placed t = placed_in t.shop t.word
 abbrev pub word_of : List Turn → List ℕ
 word_of turns = map (λ turn. turn.letter) turns
 
--- a turn has a letter that may follow, and how the end of its job and its machine stood
+-- the letter of a turn may follow, and the turn has the end of its job and the free instant of its
+-- machine before it
 pub record IsTurn (s : JobShop) (xs : List Placed) (turn : Turn) : Type 0 where
   pub follows : Contains (letters_after s xs) turn.letter
   pub end : turn.end ≡ job_end s xs (job_of_letter turn.letter)
-  pub free : turn.free ≡ machine_free s xs (machine_of s (next_step s xs (job_of_letter turn.letter)))
+  pub free : turn.free
+      ≡ machine_free s xs (machine_of s (next_step s xs (job_of_letter turn.letter)))
 
--- each turn is one after what those before it place
+-- each turn follows the steps that the turns before it place
 abbrev pub AreTurns : JobShop → List Placed → List Turn → Type 0
 AreTurns s xs [] = Unit {0}
-AreTurns s xs (turn ∷ turns) = IsTurn s xs turn × AreTurns s (place s xs (job_of_letter turn.letter)) turns
+AreTurns s xs (turn ∷ turns) =
+    IsTurn s xs turn × AreTurns s (place s xs (job_of_letter turn.letter)) turns
 
--- steps done and ends by job, when machines are free, and the starts of placed steps
+-- the lists of a tree: the numbers of placed steps and the ends by job, the free instants by
+-- machine, and the starts of the placed steps
 pub record Keeps (s : JobShop) (xs : List Placed) (done ends free starts : List ℕ) : Type 0 where
   pub done_size : length done ≡ s.jobs
   pub ends_size : length ends ≡ s.jobs
@@ -45,30 +50,34 @@ pub record Keeps (s : JobShop) (xs : List Placed) (done ends free starts : List 
   pub done_is : (j : ℕ) → j < s.jobs → slice_index done j ≡ steps_done xs j
   pub end_is : (j : ℕ) → j < s.jobs → slice_index ends j ≡ job_end s xs j
   pub free_is : (m : ℕ) → m < s.machines → slice_index free m ≡ machine_free s xs m
-  pub start_is : (x : ℕ) → x < count_steps s → place_of s x < steps_done xs (job_of s x) → slice_index starts x ≡ start_in xs x
+  pub start_is : (x : ℕ) → x < count_steps s → place_of s x < steps_done xs (job_of s x)
+      → slice_index starts x ≡ start_in xs x
 
 -- the tails of all steps
 pub record AreTails (s : JobShop) (tails : List ℕ) : Type 0 where
   pub size : length tails ≡ count_steps s
   pub each : (x : ℕ) → x < count_steps s → slice_index tails x ≡ tail_of s x
 
--- all that a tree keeps
+-- the data of a tree
 pub record IsKept (s : JobShop) (tails done ends free starts : List ℕ) (turns : List Turn) : Type 0 where
   pub small : IsSmallShop s
   pub tails_are : AreTails s tails
   pub turns_are : AreTurns s [] turns
   pub kept : Keeps s (placed_in s (word_of turns)) done ends free starts
 
--- what a tree keeps, and memory for the turns of all its words
+-- the invariant of a tree: its data, and memory for the turns of all words
 pub record IsTree (s : JobShop) (tails done ends free starts : List ℕ) (turns : List Turn) (capacity : ℕ) : Type 0 where
   pub kept : IsKept s tails done ends free starts turns
   pub room : count_steps s ≤ capacity
 
--- the next step of a job is on a machine, and could start before an instant
+-- the next step of a job is on a machine and could start before an instant
 abbrev pub is_rival : Standing → ℕ → ℕ → ℕ → Bool
-is_rival t machine end j = has_next t.shop (placed t) j && (nat_eq (machine_of t.shop (next_step t.shop (placed t) j)) machine && nat_lt (ready t.shop (placed t) j) end)
+is_rival t machine end j =
+    has_next t.shop (placed t) j
+    && (nat_eq (machine_of t.shop (next_step t.shop (placed t) j)) machine
+    && nat_lt (ready t.shop (placed t) j) end)
 
--- a job and an end: the first of some jobs whose next step would end first, and that end
+-- the first of some jobs whose next step would end first, and that end
 pub record IsFirstIn (t : Standing) (js : List ℕ) (first : ℕ × ℕ) : Type 0 where
   pub head : ℕ
   pub rest : List ℕ
@@ -76,40 +85,47 @@ pub record IsFirstIn (t : Standing) (js : List ℕ) (first : ℕ × ℕ) : Type 
   pub job : first.0 ≡ first_least (next_end t.shop (placed t)) head rest
   pub end : first.1 ≡ next_end t.shop (placed t) first.0
 
--- the same of all jobs that have a next step
+-- the first of all jobs whose next step would end first, and that end
 abbrev pub IsFirstToEnd : Standing → ℕ × ℕ → Type 0
 IsFirstToEnd t first = IsFirstIn t (with_next t.shop (placed t)) first
 
--- of a job that there may be and another behind it, each with its end, the one that ends first, and of equal ends the first
+-- the one of two jobs that ends first, with its end; the first one if both end together
 abbrev pub IsSooner : Option (ℕ × ℕ) → ℕ × ℕ → ℕ × ℕ → Type 0
 IsSooner None next chosen = chosen ≡ next
-IsSooner (Some first) next chosen = ((first.1 ≤ next.1) × (chosen ≡ first)) ⊎ ((next.1 < first.1) × (chosen ≡ next))
+IsSooner (Some first) next chosen =
+    ((first.1 ≤ next.1) × (chosen ≡ first)) ⊎ ((next.1 < first.1) × (chosen ≡ next))
 
--- an unplaced step of positive time is on a machine
+-- an unplaced step has positive time and is on a machine
 abbrev pub is_pending : Standing → ℕ → ℕ → Bool
-is_pending t m x = not (is_placed t.shop (placed t) x) && (nat_eq (machine_of t.shop x) m && nat_lt 0 (time_of t.shop x))
+is_pending t m x =
+    not (is_placed t.shop (placed t) x)
+    && (nat_eq (machine_of t.shop x) m && nat_lt 0 (time_of t.shop x))
 
--- the least head, all times and the least tail of what is pending on one machine
+-- the least head, the total time and the least tail of the pending steps of a machine
 pub record OnMachine : Type 0 where
   pub head : ℕ
   pub times : ℕ
   pub tail : ℕ
 
 abbrev pub on_machine : Pending → ℕ → OnMachine
-on_machine pending m = record { head = slice_index pending.heads m; times = slice_index pending.times m; tail = slice_index pending.tails m }
+on_machine pending m =
+    record { head = slice_index pending.heads m; times = slice_index pending.times m; tail = slice_index pending.tails m }
 
--- of some steps the sum of all times, the least head and the least tail; of none no time, and a head and a tail beyond all others
+-- the total time, the least head and the least tail of some steps; if there is none, the time is 0
+-- and head and tail are beyond all others
 abbrev pub IsPendingOf : Standing → List ℕ → OnMachine → Type 0
 IsPendingOf t [] p = (p.times ≡ 0) × (20000000 ≤ p.head) × (1000000 ≤ p.tail)
 IsPendingOf t (x ∷ zs) p =
     (0 < p.times) × (p.times ≡ sum_by (time_of t.shop) (x ∷ zs))
-    × (p.head ≡ least_of (head_of t.shop (placed t)) x zs) × (p.tail ≡ least_of (tail_of t.shop) x zs)
+    × (p.head ≡ least_of (head_of t.shop (placed t)) x zs)
+    × (p.tail ≡ least_of (tail_of t.shop) x zs)
     × (p.head ≤ 20000000) × (p.tail ≤ 1000000)
 
--- of the first n steps, machine by machine
+-- the pending steps among the first n, machine by machine
 pub record IsGathered (t : Standing) (n : ℕ) (pending : Pending) : Type 0 where
   pub heads_size : length pending.heads ≡ 20
   pub times_size : length pending.times ≡ 20
   pub tails_size : length pending.tails ≡ 20
-  pub each : (m : ℕ) → m < t.shop.machines → IsPendingOf t (those_below n (is_pending t m)) (on_machine pending m)
+  pub each : (m : ℕ) → m < t.shop.machines
+      → IsPendingOf t (those_below n (is_pending t m)) (on_machine pending m)
   pub few : (m : ℕ) → m < t.shop.machines → slice_index pending.times m ≤ n * 10000

@@ -17,13 +17,17 @@ use crate::tree::ShopTree;
 use plan_sgs::Schedule;
 use std::alloc::{AllocError, Global};
 
-/// The active schedule of a rule: step after step is placed, each time the next step of the job that the rule chooses among those
-/// that may follow. Starts stand in flat order, in whole time units; none is after 10,000,000. Want of memory is its one error.
+/// Returns the active schedule of a rule: steps are placed one after another, each time the next
+/// step of the job that the rule chooses among the letters that may follow. Starts are in flat
+/// order, in whole time units up to 10,000,000. The only error is [`ShopFault::NoMemory`].
 ///
-/// After B. Giffler and G. L. Thompson, "Algorithms for solving production-scheduling problems", Operations Research 8 (1960).
+/// The algorithm is that of B. Giffler and G. L. Thompson, "Algorithms for solving
+/// production-scheduling problems", Operations Research 8 (1960).
 pub fn giffler(alloc: Global, shop: &Shop, rule: ShopRule) -> Result<Schedule, ShopFault>
-    ensures starts { IfOk result (λ s. s.starts.items ≡ starts_of shop.now (placed_in shop.now (word_by rule shop.now))) }
-    ensures makespan { IfOk result (λ s. s.makespan ≡ makespan (problem_of shop.now) s.starts.items) }
+    ensures starts { IfOk result (λ s.
+        s.starts.items ≡ starts_of shop.now (placed_in shop.now (word_by rule shop.now))) }
+    ensures makespan { IfOk result (λ s.
+        s.makespan ≡ makespan (problem_of shop.now) s.starts.items) }
     ensures active { IfOk result (λ s. IsActive (problem_of shop.now) s.starts.items) }
     ensures within { IfOk result (λ s. All IsInTime s.starts.items) }
     ensures err { IfErr result (λ fault. fault ≡ NoMemory) }
@@ -32,7 +36,7 @@ pub fn giffler(alloc: Global, shop: &Shop, rule: ShopRule) -> Result<Schedule, S
     Ok(tree.schedule(alloc)?)
 }
 
-// The tree of a shop at the word of a rule.
+// Returns the tree of a shop at the word of a rule.
 fn at_word_of<'a>(alloc: Global, shop: &'a Shop, rule: ShopRule) -> Result<ShopTree<'a>, AllocError>
     ensures { IfOk result (λ tree. tree ≡ standing shop.now (word_by rule shop.now)) }
 {
@@ -41,7 +45,7 @@ fn at_word_of<'a>(alloc: Global, shop: &'a Shop, rule: ShopRule) -> Result<ShopT
     for _turn in 0..shop.jobs() * shop.machines() {
         letters.clear();
         tree.letters(&mut letters)?;
-        if let Some(letter) = tree.chosen(rule, &letters) {
+        if let Some(letter) = tree.choice(rule, &letters) {
             tree.push(letter)?;
         }
     }

@@ -1,15 +1,16 @@
-//! What a call of this crate is refused for.
+//! Errors of this crate.
 
 use std::alloc::{AllocError, AllocFailed};
 use thiserror::Error;
 
-/// Why a shop or the name of a rule was refused.
+/// An error of a shop or of the name of a rule.
 #[derive(Debug, Drop, Error)]
 pub enum ShopFault {
     /// Memory ran out.
     #[error("no memory")]
     NoMemory,
-    /// This machine is closed, and a step of positive time is on it: the least such machine. Machines are numbered from 0.
+    /// The least machine that is closed although a step of positive time is on it. Machines are
+    /// numbered from 0.
     #[error("machine {0} is closed")]
     MachineClosed(u32),
     /// No rule has this name.

@@ -1,4 +1,4 @@
-//! Laws of the definitions, for proofs of other crates to cite. The functions do nothing.
+//! Laws of the definitions that proofs of other crates cite. The functions do nothing.
 
 ghost use Rattle.plan_shop.specs.Shop.{JobShop, IsShop};
 ghost use Rattle.plan_shop.specs.Rules.{Chooses, spt, mwkr, fcfs};
@@ -22,23 +22,25 @@ ghost use Rattle.plan_shop.specs.Laws.{
   LeastWordIsShortest,
 };
 
-/// A shop as a scheduling problem says that each step follows the one before it in its job, and that
-/// no two steps of positive time on one machine overlap.
+/// The scheduling problem of a shop requires that each step follows its predecessor in the job and
+/// that no two steps of positive time overlap on a machine.
 pub fn problems_of_shops()
     ensures arcs { (s : JobShop) → IsShop s → ArcsAreNeighbours s }
     ensures needs { (s : JobShop) → NeedsAreMachines s }
     ensures apart { (s : JobShop) → IsShop s → CapacitiesKeepApart s }
 {}
 
-/// The schedules of full words are the active ones: feasible, and no step alone can start earlier.
+/// The schedules of full words are the active ones: they are feasible, and no single step can start
+/// earlier.
 pub fn full_words_are_active()
     ensures feasible { (s : JobShop) → IsShop s → FullIsFeasible s }
     ensures active { (s : JobShop) → IsShop s → FullIsActive s }
     ensures all_active { (s : JobShop) → IsShop s → ActiveIsSpelled s }
 {}
 
-/// The letters that may follow are those of the first next step of time 0, or, where there is none,
-/// of all steps that compete for the machine of the first end; and they rise.
+/// The letters that may follow are in rising order. If the next step of a job takes no time, the
+/// first such job is the only letter. Otherwise the letters are those of all steps that compete for
+/// the machine of the step that would end first.
 pub fn letters_compete()
     ensures these { (s : JobShop) → LettersAreThese s }
     ensures rising { (s : JobShop) → ShopLettersRise s }
@@ -49,8 +51,8 @@ pub fn words_are_finite()
     ensures { (s : JobShop) → ShopWordsAreFinite s }
 {}
 
-/// The rules choose the first job of their key, and the word of each rule that chooses one of the
-/// jobs that may follow is full, its schedule active.
+/// The rules choose the first job of their key. The word of each rule that chooses one of the jobs
+/// that may follow is full, and its schedule is active.
 pub fn rules_make_full_words()
     ensures first { (s : JobShop) → RulesChoose s }
     ensures member { (s : JobShop) → Chooses (spt s) × Chooses (mwkr s) × Chooses (fcfs s) }
@@ -65,8 +67,8 @@ pub fn bounds_hold()
     ensures below { (s : JobShop) → IsShop s → ShopBoundHolds s }
 {}
 
-/// Each feasible schedule leads, letter by letter, to a full word in which no step starts later. So
-/// a full word with the least makespan of all is a shortest schedule.
+/// For each feasible schedule there is a full word in which no step starts later. Therefore a full
+/// word of least makespan gives a shortest schedule.
 pub fn words_reach_shortest()
     ensures letter { (s : JobShop) → IsShop s → LetterIsThere s }
     ensures reach { (s : JobShop) → IsShop s → WordsReach s }

@@ -1,7 +1,7 @@
-//! Job shops: active schedules by priority rules, and the tree of words that exact search walks.
+//! Job shops: active schedules by priority rules, and the tree of words for exact search.
 #![tactic(auto)]
 
-mod checking;
+mod checks;
 mod dispatch;
 mod fault;
 mod laws;
@@ -9,7 +9,7 @@ mod rule;
 mod shop;
 mod tree;
 
-pub use checking::check;
+pub use checks::check;
 pub use dispatch::giffler;
 pub use fault::ShopFault;
 pub use laws::{

@@ -1,6 +1,7 @@
 //! Job shops in flat order.
 
-ghost use Rattle.std.specs.Prelude.{◌≡◌, ◌≤◌, ◌<◌, ◌↔◌, Some, length, slice_get, IfOk, IfErr, IfSome, IfNone, IsTrue};
+ghost use Rattle.std.specs.Prelude.{◌≡◌, ◌≤◌, ◌<◌, ◌↔◌, Some, length, slice_get, IfOk, IfErr};
+ghost use Rattle.std.specs.Prelude.{IfSome, IfNone, IsTrue};
 ghost use Rattle.plan_shop.specs.Docs as spec;
 
 use crate::fault::ShopFault;
@@ -8,8 +9,9 @@ use plan_orlib::{ShopDoc, Step};
 use std::alloc::{AllocError, Global};
 use std::marker::Model;
 
-/// A job shop: how many machines and jobs it has, and its steps in flat order, one job after the other. Each job has a step for
-/// each machine. Jobs are numbered from 1, machines and flat steps from 0.
+/// A job shop: the numbers of its machines and jobs, and its steps in flat order, one job after the
+/// other. Each job has one step for each machine. Jobs are numbered from 1, machines and flat steps
+/// from 0.
 #[derive(Drop)]
 pub struct Shop {
     machines: u32,
@@ -25,10 +27,11 @@ impl Model for Shop {
 
     ghost view = { λ s. record { machines = s.machines; jobs = s.jobs; steps = s.steps.items } };
 
-    ghost invariant = { λ s. IsSmallShop (record { machines = s.machines; jobs = s.jobs; steps = s.steps.items }) };
+    ghost invariant = { λ s.
+        IsSmallShop (record { machines = s.machines; jobs = s.jobs; steps = s.steps.items }) };
 }
 
-// The steps of all jobs, one job after the other.
+// Returns the steps of all jobs, one job after the other.
 fn flat_steps(alloc: Global, doc: &ShopDoc) -> Result<Vec<Step>, AllocError>
     ensures { IfOk result (λ steps. steps.items ≡ spec.flat_steps doc.now.jobs) }
 {
@@ -39,7 +42,7 @@ fn flat_steps(alloc: Global, doc: &ShopDoc) -> Result<Vec<Step>, AllocError>
     Ok(steps)
 }
 
-// Whether a step of positive time is on a machine.
+// Tests whether a step of positive time is on a machine.
 fn is_in_use(steps: &[Step], machine: u32) -> bool
     ensures { IsTrue result ↔ spec.IsInUse steps.now machine }
 {
@@ -48,7 +51,7 @@ fn is_in_use(steps: &[Step], machine: u32) -> bool
         .any(|step| step.machine == machine && step.time > 0)
 }
 
-// The first machine that may not be used, and is.
+// Returns the first machine that is in use although it is closed.
 fn first_closed(steps: &[Step], usable: &[bool]) -> Option<usize>
     requires { length usable.now ≤ 20 }
     ensures some { IfSome result (spec.IsFirstClosed steps.now usable.now) }
@@ -63,15 +66,18 @@ fn first_closed(steps: &[Step], usable: &[bool]) -> Option<usize>
 }
 
 impl Shop {
-    /// The shop of a file, where each machine may be used or not.
+    /// Returns the shop of a file. `usable` tells for each machine whether it may be used.
     ///
-    /// Refused with [`ShopFault::MachineClosed`] where a step of positive time is on a machine that may not be used: the least
-    /// such machine. Want of memory may come in place of any answer.
+    /// Fails with [`ShopFault::MachineClosed`] if a step of positive time is on a machine that may
+    /// not be used. It names the least such machine. Any call can fail with
+    /// [`ShopFault::NoMemory`].
     pub fn of_doc(alloc: Global, doc: &ShopDoc, usable: &[bool]) -> Result<Shop, ShopFault>
         requires { length usable.now ≡ doc.now.machines }
         ensures ok { IfOk result (λ shop. shop ≡ spec.shop_of doc.now) }
-        ensures open { IfOk result (λ _. spec.NoneIsClosed (spec.flat_steps doc.now.jobs) usable.now) }
-        ensures refused { IfErr result (spec.RefusesSteps (spec.flat_steps doc.now.jobs) usable.now) }
+        ensures open { IfOk result (λ _.
+            spec.NoneIsClosed (spec.flat_steps doc.now.jobs) usable.now) }
+        ensures refused { IfErr result
+            (spec.RefusesSteps (spec.flat_steps doc.now.jobs) usable.now) }
     {
         let machines = doc.machines();
         let steps = flat_steps(alloc, doc)?;
@@ -85,7 +91,7 @@ impl Shop {
         }
     }
 
-    /// How many machines there are.
+    /// Returns the number of machines.
     pub fn machines(&self) -> u32
         ensures value { result ≡ self.now.machines }
         ensures shop { spec.IsSmallShop self.now }
@@ -93,7 +99,7 @@ impl Shop {
         self.machines
     }
 
-    /// How many jobs there are.
+    /// Returns the number of jobs.
     pub fn jobs(&self) -> u32
         ensures value { result ≡ self.now.jobs }
         ensures shop { spec.IsSmallShop self.now }
@@ -101,7 +107,7 @@ impl Shop {
         self.jobs
     }
 
-    /// The step of a flat number. Takes no memory.
+    /// Returns the step of a flat number. Allocates nothing.
     pub fn step(&self, i: u32) -> Step
         requires { i < length self.now.steps }
         ensures value { slice_get self.now.steps i ≡ Some result }

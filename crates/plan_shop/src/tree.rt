@@ -4,16 +4,17 @@ ghost use Rattle.std.specs.Prelude.{◌≡◌, ◌<◌, length, cond, nat_lt, If
 ghost use Rattle.plan_shop.specs.Bound.{tail_of};
 ghost use Rattle.plan_shop.specs.Trees.{AreTails};
 
-mod bounding;
-mod choosing;
-mod following;
+mod bound;
+mod choice;
+mod letters;
 
 use crate::shop::Shop;
 use plan_orlib::Step;
 use std::alloc::{AllocError, Global};
 use std::marker::Model;
 
-// A letter of the word, and what its push changed: the end of its job, and when the machine of its step was free before.
+// A letter of the word and the state before its push: the end of its job, and the instant from
+// which the machine of its step was free.
 #[derive(Clone, Copy, Drop)]
 struct Turn {
     letter: u32,
@@ -21,12 +22,13 @@ struct Turn {
     free: u64,
 }
 
-/// The tree of a shop's words, which stands at one of them. A letter is the number of a job, from 1 on, whose next step is placed.
-/// Each push keeps what it changes, and each pop puts it back.
+/// The tree of a shop's words, at one of its words. A letter is the number of a job, from 1, whose
+/// next step is placed. Each push saves the state that it changes, and each pop restores it.
 ///
-/// Words are those by which Giffler and Thompson (1960) generate active schedules: where the next step of a job takes no time, the
-/// first such job may follow alone; else the jobs whose next step is on the machine of the step that would end first, and
-/// would start before that end.
+/// The words are those by which Giffler and Thompson (1960) generate active schedules. If the next
+/// step of a job takes no time, the first such job is the only letter that may follow. Otherwise
+/// the jobs may follow whose next step is on the machine of the step that would end first and would
+/// start before that end.
 #[derive(Drop)]
 pub struct ShopTree<'a> {
     shop: &'a Shop,
@@ -46,17 +48,19 @@ impl<'a> Model for ShopTree<'a> {
 
     ghost view = { λ t. record { shop = t.shop.now; word = word_of t.turns.items } };
 
-    ghost invariant = { λ t. IsTree t.shop.now t.tails.items t.done.items t.ends.items t.free.items t.starts.items t.turns.items (vec_capacity t.turns) };
+    ghost invariant = { λ t.
+        IsTree t.shop.now t.tails.items t.done.items t.ends.items t.free.items t.starts.items
+        t.turns.items (vec_capacity t.turns) };
 }
 
-// When a machine is free behind a step that ends at an instant.
+// Returns the instant from which a machine is free after a step that ends at `end`.
 fn free_after(free: u64, end: u64, time: u64) -> u64
     ensures { result ≡ cond (nat_lt 0 time) end free }
 {
     if time > 0 { end } else { free }
 }
 
-// The times after a step in its job.
+// Returns the total time of the steps after a step in its job.
 fn tail(shop: &Shop, i: u32) -> u64
     requires { i < length shop.now.steps }
     ensures { result ≡ tail_of shop.now i }
@@ -69,7 +73,7 @@ fn tail(shop: &Shop, i: u32) -> u64
     total
 }
 
-// The tails of all steps.
+// Returns the tails of all steps.
 fn tails(alloc: Global, shop: &Shop) -> Result<Vec<u64>, AllocError>
     ensures { IfOk result (λ tails. AreTails shop.now tails.items) }
 {
@@ -81,13 +85,14 @@ fn tails(alloc: Global, shop: &Shop) -> Result<Vec<u64>, AllocError>
 }
 
 impl<'a> ShopTree<'a> {
-    ghost use Rattle.std.specs.Prelude.{◌≡◌, ℕ, ◌≤◌, ◌<◌, List, [], ◌∷◌, ◌++◌, true, length, max, Contains, IfOk, IsOk, OnOk, OnErr};
+    ghost use Rattle.std.specs.Prelude.{◌≡◌, ℕ, ◌≤◌, ◌<◌, List, [], ◌∷◌, ◌++◌, true, length, max};
+    ghost use Rattle.std.specs.Prelude.{Contains, IfOk, IsOk, OnOk, OnErr};
     ghost use Rattle.plan_shop.specs.Words as words;
     ghost use Rattle.plan_shop.specs.Shop as flat;
     ghost use Rattle.plan_shop.specs.Trees as spec;
     ghost use Rattle.plan_shop.specs.Docs.{IsSmallShop};
 
-    /// The tree of a shop, at the empty word.
+    /// Returns the tree of a shop at the empty word.
     pub fn new(alloc: Global, shop: &'a Shop) -> Result<ShopTree<'a>, AllocError>
         ensures { IfOk result (λ tree. tree ≡ spec.standing shop.now []) }
     {
@@ -104,7 +109,7 @@ impl<'a> ShopTree<'a> {
         })
     }
 
-    // Whether a job, numbered from 0, has a step that isn't placed.
+    // Tests whether a job, numbered from 0, has an unplaced step.
     fn has_next(&self, job: u32) -> bool
         requires { job < self.now.shop.jobs }
         ensures { result ≡ words.has_next self.now.shop (spec.placed self.now) job }
@@ -112,7 +117,7 @@ impl<'a> ShopTree<'a> {
         self.done[job as usize] < self.shop.machines()
     }
 
-    // The flat number of the next step of a job.
+    // Returns the flat number of the next step of a job.
     fn next_number(&self, job: u32) -> u32
         requires job { job < self.now.shop.jobs }
         requires next { words.has_next self.now.shop (spec.placed self.now) job ≡ true }
@@ -122,22 +127,28 @@ impl<'a> ShopTree<'a> {
         job * self.shop.machines() + self.done[job as usize]
     }
 
-    // The next step of a job.
+    // Returns the next step of a job.
     fn next_step(&self, job: u32) -> Step
         requires job { job < self.now.shop.jobs }
         requires next { words.has_next self.now.shop (spec.placed self.now) job ≡ true }
-        ensures machine { result.machine ≡ flat.machine_of self.now.shop (words.next_step self.now.shop (spec.placed self.now) job) }
-        ensures time { result.time ≡ flat.time_of self.now.shop (words.next_step self.now.shop (spec.placed self.now) job) }
+        ensures machine { result.machine
+            ≡ flat.machine_of self.now.shop
+            (words.next_step self.now.shop (spec.placed self.now) job) }
+        ensures time { result.time
+            ≡ flat.time_of self.now.shop
+            (words.next_step self.now.shop (spec.placed self.now) job) }
         ensures on { result.machine < self.now.shop.machines }
         ensures short { result.time ≤ 10000 }
     {
         self.shop.step(self.next_number(job))
     }
 
-    // An instant, raised to where the machine is free for a step of positive time.
-    fn raised(&self, at: u64, step: Step) -> u64
+    // Returns the first instant from `at` on at which the machine is free for a step.
+    fn start_after(&self, at: u64, step: Step) -> u64
         requires { step.machine < self.now.shop.machines }
-        ensures value { result ≡ words.raised step.time at (words.machine_free self.now.shop (spec.placed self.now) step.machine) }
+        ensures value { result
+            ≡ words.raised step.time at
+            (words.machine_free self.now.shop (spec.placed self.now) step.machine) }
         ensures within { result ≤ max at 10000000 }
     {
         if step.time == 0 {
@@ -147,21 +158,22 @@ impl<'a> ShopTree<'a> {
         }
     }
 
-    // The head of the next step of a job.
+    // Returns the head of the next step of a job: its earliest start after the placed steps.
     fn ready(&self, job: u32) -> u64
         requires job { job < self.now.shop.jobs }
         requires next { words.has_next self.now.shop (spec.placed self.now) job ≡ true }
         ensures value { result ≡ words.ready self.now.shop (spec.placed self.now) job }
         ensures within { result ≤ 10000000 }
     {
-        self.raised(self.ends[job as usize], self.next_step(job))
+        self.start_after(self.ends[job as usize], self.next_step(job))
     }
 
-    /// Goes to the word with one letter more. Takes no memory, so it never fails: a tree has memory for all its words from the
-    /// first.
+    /// Appends a letter to the word. Never fails, because [`ShopTree::new`] allocates the memory
+    /// for all words.
     pub fn push(&mut self, job: u32) -> Result<(), AllocError>
         requires { Contains (words.letters_after self.old.shop (spec.placed self.old)) job }
-        ensures ok { OnOk result (self.new ≡ spec.standing self.old.shop (self.old.word ++ job ∷ [])) }
+        ensures ok { OnOk result (self.new
+            ≡ spec.standing self.old.shop (self.old.word ++ job ∷ [])) }
         ensures err { OnErr result (self.new ≡ self.old) }
         ensures succeeds { IsOk result }
     {
@@ -184,7 +196,7 @@ impl<'a> ShopTree<'a> {
         Ok(())
     }
 
-    /// Goes back to the word without its last letter. Takes no memory.
+    /// Removes the last letter of the word. Allocates nothing.
     pub fn pop(&mut self)
         requires { 0 < length self.old.word }
         ensures shop { self.new.shop ≡ self.old.shop }
@@ -203,7 +215,7 @@ impl<'a> ShopTree<'a> {
         self.free[step.machine as usize] = turn.free;
     }
 
-    /// Whether all steps are placed.
+    /// Tests whether all steps are placed.
     pub fn full(&self) -> bool
         ensures value { result ≡ words.is_full self.now.shop (spec.placed self.now) }
         ensures shop { IsSmallShop self.now.shop }
@@ -217,7 +229,7 @@ impl<'a> ShopTree<'a> {
         true
     }
 
-    /// The start of the step of a flat number, which is placed.
+    /// Returns the start of a placed step by its flat number.
     pub fn start(&self, i: u32) -> u64
         requires step { i < flat.count_steps self.now.shop }
         requires placed { words.is_placed self.now.shop (spec.placed self.now) i ≡ true }
@@ -227,7 +239,7 @@ impl<'a> ShopTree<'a> {
         self.starts[i as usize]
     }
 
-    /// The makespan of a full word, in whole time units.
+    /// Returns the makespan of a full word, in whole time units.
     pub fn makespan(&self) -> u64
         requires { words.is_full self.now.shop (spec.placed self.now) ≡ true }
         ensures { result ≡ words.makespan_of self.now.shop (spec.placed self.now) }

@@ -2,7 +2,7 @@
 use Rattle.std.proofs.Common.{ℕ, Bool, false, ◌≡◌, List, get_or, replicate, sym, ◌∙◌, ap, subst, arith, rules}
 use Rattle.std.proofs.lemmas.Bool.{false≢true, iff_false}
 use Rattle.plan_net.specs.Network.{Net, count_of}
-use Rattle.plan_sgs.specs.Waiting.{CanCome}
+use Rattle.plan_sgs.specs.Eligibility.{CanCome}
 use Rattle.plan_sgs.proofs.TakingLemmas.{taken_at_first, taken_one_more, comes_in_turn, all_taken, other_length}
 use Rattle.plan_sgs.proofs.lists.is_list.Goals as goal
 

@@ -3,7 +3,7 @@ use Rattle.std.proofs.Common.{◌≡◌, ◌+◌, List, length, sym, ◌∙◌, 
 use Rattle.std.proofs.lemmas.List.{length-map, length_push}
 use Rattle.plan_profile.specs.declared.profile.Profile.{Profile}
 use Rattle.plan_sgs.specs.Instances.{problem_of}
-use Rattle.plan_sgs.specs.Placing.{Holds}
+use Rattle.plan_sgs.specs.Placement.{Holds}
 use Rattle.plan_sgs.specs.ProjectWords.{placed_by}
 use Rattle.plan_sgs.specs.ProjectTrees.{standing, word_of, AreProfiles}
 use Rattle.plan_sgs.specs.declared.project_tree.Turn.{Turn}
@@ -16,20 +16,15 @@ profile_with-requires-clause-activity c =
     let before = behind c.args.instance.now c.args.turns.now c.args.placed.now c.args.profiles.now.items c.requires.instance c.requires.word c.requires.placed c.requires.profiles (omega (arith, c.if-len-at.true, c.len.ensures, c.args.profiles.now.ok.0)) in
     before.last.activity
 
-pub profile_with-requires-clause-size : goal.profile_with-requires-clause-size
-profile_with-requires-clause-size c =
+pub profile_with-requires-clause-partial : goal.profile_with-requires-clause-partial
+profile_with-requires-clause-partial c =
     let facts = facts_of c.args.instance.now (word_of c.args.turns.now) c.args.placed.now c.requires.instance c.requires.word c.requires.placed in
-    facts.size
+    record { size = facts.size; ends = facts.ends }
 
 pub profile_with-requires-clause-last : goal.profile_with-requires-clause-last
 profile_with-requires-clause-last c =
     let before = behind c.args.instance.now c.args.turns.now c.args.placed.now c.args.profiles.now.items c.requires.instance c.requires.word c.requires.placed c.requires.profiles (omega (arith, c.if-len-at.true, c.len.ensures, c.args.profiles.now.ok.0)) in
     before.last.last
-
-pub profile_with-requires-clause-ends : goal.profile_with-requires-clause-ends
-profile_with-requires-clause-ends c =
-    let facts = facts_of c.args.instance.now (word_of c.args.turns.now) c.args.placed.now c.requires.instance c.requires.word c.requires.placed in
-    facts.ends
 
 pub profile_with-requires-clause-holds : goal.profile_with-requires-clause-holds
 profile_with-requires-clause-holds c =
@@ -41,15 +36,10 @@ earliest_start-requires-clause-activity c =
     let facts = facts_of c.args.instance.now (word_of c.args.turns.now) c.args.placed.now c.requires.instance c.requires.word c.requires.placed in
     (can_place (standing c.args.instance.now (word_of c.args.turns.now)) c.args.placed.now c.args.activity facts c.requires.letter).activity
 
-pub earliest_start-requires-clause-size : goal.earliest_start-requires-clause-size
-earliest_start-requires-clause-size c =
+pub earliest_start-requires-clause-partial : goal.earliest_start-requires-clause-partial
+earliest_start-requires-clause-partial c =
     let facts = facts_of c.args.instance.now (word_of c.args.turns.now) c.args.placed.now c.requires.instance c.requires.word c.requires.placed in
-    facts.size
-
-pub earliest_start-requires-clause-ends : goal.earliest_start-requires-clause-ends
-earliest_start-requires-clause-ends c =
-    let facts = facts_of c.args.instance.now (word_of c.args.turns.now) c.args.placed.now c.requires.instance c.requires.word c.requires.placed in
-    facts.ends
+    record { size = facts.size; ends = facts.ends }
 
 pub earliest_start-requires-clause-holds : goal.earliest_start-requires-clause-holds
 earliest_start-requires-clause-holds c =

@@ -1,6 +1,6 @@
 use Rattle.plan_sgs.specs.Verdicts.{OneVerdictIsFirst}
 use Rattle.plan_sgs.proofs.Findings.{verdict_once}
-use Rattle.plan_sgs.proofs.Deciding.{verdict_there}
+use Rattle.plan_sgs.proofs.VerdictLemmas.{verdict_there}
 use Rattle.plan_sgs.proofs.verdict_laws.one_verdict_is_first.Goals as goal
 
 pub returns : goal.returns

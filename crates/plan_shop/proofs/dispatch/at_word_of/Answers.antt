@@ -16,7 +16,7 @@ loop-turn-init c =
 pub push-requires : goal.push-requires
 push-requires c =
     let count : c.jobs.result * c.machines.result ≡ c.args.shop.now.jobs * c.args.shop.now.machines = ap (λ (n : ℕ). n * c.machines.result) c.jobs.ensures.value ∙ ap (λ (n : ℕ). c.args.shop.now.jobs * n) c.machines.ensures.value in
-    let next = next-letter c.args.rule c.args.shop.now c.loop-turn.tree c.loop-turn._turn c.loop-turn.invariant (omega (arith, count, c.loop-turn-test.true)) c.chosen.result c.chosen.ensures c.in-Some.letter c.in-Some.is in
+    let next = next-letter c.args.rule c.args.shop.now c.loop-turn.tree c.loop-turn._turn c.loop-turn.invariant (omega (arith, count, c.loop-turn-test.true)) c.choice.result c.choice.ensures c.in-Some.letter c.in-Some.is in
     let Q : JobShop → Type 0 = λ s. Contains (letters_after s (placed_in s c.loop-turn.tree.word)) c.in-Some.letter in
     subst Q (sym c.loop-turn.invariant.shop) next.follows
 
@@ -24,9 +24,9 @@ pub loop-turn-preserved : goal.loop-turn-preserved
 loop-turn-preserved c =
     let count : c.jobs.result * c.machines.result ≡ c.args.shop.now.jobs * c.args.shop.now.machines = ap (λ (n : ℕ). n * c.machines.result) c.jobs.ensures.value ∙ ap (λ (n : ℕ). c.args.shop.now.jobs * n) c.machines.ensures.value in
     let less : c.loop-turn._turn < c.args.shop.now.jobs * c.args.shop.now.machines = omega (arith, count, c.loop-turn-test.true) in
-    rw add-one (elim c.match-chosen.branch [
+    rw add-one (elim c.match-choice.branch [
       | in-Some+in_ok-push w ↦
-          let next = next-letter c.args.rule c.args.shop.now c.loop-turn.tree c.loop-turn._turn c.loop-turn.invariant less c.chosen.result c.chosen.ensures w.in-Some.letter w.in-Some.is in
-          goes-more c.args.rule c.args.shop.now c.loop-turn.tree c.match-chosen.tree c.loop-turn._turn w.in-Some.letter c.loop-turn.invariant less next (w.tree-is ∙ w.in_ok-push.ensures.ok)
-      | in_default w ↦ absurd (next-none c.args.rule c.args.shop.now c.loop-turn.tree c.loop-turn._turn c.loop-turn.invariant less c.chosen.result c.chosen.ensures w.in_default.is)
+          let next = next-letter c.args.rule c.args.shop.now c.loop-turn.tree c.loop-turn._turn c.loop-turn.invariant less c.choice.result c.choice.ensures w.in-Some.letter w.in-Some.is in
+          goes-more c.args.rule c.args.shop.now c.loop-turn.tree c.match-choice.tree c.loop-turn._turn w.in-Some.letter c.loop-turn.invariant less next (w.tree-is ∙ w.in_ok-push.ensures.ok)
+      | in_default w ↦ absurd (next-none c.args.rule c.args.shop.now c.loop-turn.tree c.loop-turn._turn c.loop-turn.invariant less c.choice.result c.choice.ensures w.in_default.is)
     ])

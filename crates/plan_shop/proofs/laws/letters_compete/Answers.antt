@@ -1,5 +1,5 @@
 use Rattle.plan_shop.proofs.WordCount.{letters_rise}
-use Rattle.plan_shop.proofs.Competing.{letters_are_these}
+use Rattle.plan_shop.proofs.CompetitorLemmas.{letters_are_these}
 use Rattle.plan_shop.proofs.laws.letters_compete.Goals as goal
 
 pub returns-clause-these : goal.returns-clause-these

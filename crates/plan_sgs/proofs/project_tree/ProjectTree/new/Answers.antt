@@ -5,10 +5,10 @@ use Rattle.plan_profile.specs.InUse.{in_use}
 use Rattle.plan_sgs.specs.Problem.{count}
 use Rattle.plan_sgs.specs.Serial.{unplaced}
 use Rattle.plan_sgs.specs.Instances.{problem_of}
-use Rattle.plan_sgs.specs.Waiting.{AreInDegrees}
+use Rattle.plan_sgs.specs.Eligibility.{AreInDegrees}
 use Rattle.plan_sgs.specs.ProjectWords.{placed_by, IsWord}
 use Rattle.plan_profile.specs.declared.profile.Profile.{Profile}
-use Rattle.plan_sgs.specs.Placing.{Holds}
+use Rattle.plan_sgs.specs.Placement.{Holds}
 use Rattle.plan_sgs.specs.ProjectTrees.{word_of, AreTurns, AreProfiles, AreWaits}
 use Rattle.plan_sgs.proofs.ProjectWaitLemmas.{waits_first}
 use Rattle.plan_sgs.proofs.ProjectTurnLemmas.{first_profile}

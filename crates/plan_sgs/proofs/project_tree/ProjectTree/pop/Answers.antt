@@ -1,7 +1,7 @@
 -- One turn less.
 use Rattle.std.proofs.Common.{length, ap, subst, arith}
 use Rattle.plan_net.specs.Network.{Net, count_of}
-use Rattle.plan_sgs.specs.Waiting.{Lowers}
+use Rattle.plan_sgs.specs.Eligibility.{Lowers}
 use Rattle.plan_sgs.specs.ProjectTrees.{word_of}
 use Rattle.plan_sgs.proofs.ProjectTurnLemmas.{can_pop, tree_pop, popped}
 use Rattle.plan_sgs.proofs.ProjectWaitLemmas.{waits_limit}

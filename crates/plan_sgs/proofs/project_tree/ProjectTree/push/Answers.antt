@@ -4,7 +4,7 @@ use Rattle.plan_net.specs.Network.{Net, IsArc, count_of, duration_of}
 use Rattle.plan_sgs.specs.Problem.{duration}
 use Rattle.plan_sgs.specs.Serial.{earliest}
 use Rattle.plan_sgs.specs.Instances.{problem_of}
-use Rattle.plan_sgs.specs.Waiting.{Lowers}
+use Rattle.plan_sgs.specs.Eligibility.{Lowers}
 use Rattle.plan_sgs.specs.ProjectTrees.{Standing, word_of, IsTurn, AreProfiles}
 use Rattle.plan_sgs.specs.declared.project_tree.Turn.{Turn}
 use Rattle.plan_sgs.proofs.PlaceLemmas.{duration_place}

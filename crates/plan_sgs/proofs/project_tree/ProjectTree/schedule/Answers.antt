@@ -2,7 +2,7 @@
 use Rattle.std.proofs.Common.{ℕ, List, Option, map, sym, ap, subst, ◌∙◌}
 use Rattle.plan_sgs.specs.Serial.{start_or_zero}
 use Rattle.plan_sgs.specs.Instances.{problem_of}
-use Rattle.plan_sgs.specs.Placing.{AllEndBy}
+use Rattle.plan_sgs.specs.Placement.{AllEndBy}
 use Rattle.plan_sgs.proofs.ProjectTurnLemmas.{tree_facts}
 use Rattle.plan_sgs.proofs.ProjectReadLemmas.{starts_are, starts_end}
 use Rattle.plan_sgs.proofs.project_tree.ProjectTree.schedule.Goals as goal

@@ -1,7 +1,7 @@
 use Rattle.std.proofs.Common.{ap, sym, ◌∙◌, arith}
 use Rattle.std.proofs.lemmas.Bool.{and_from, eq-eqb}
 use Rattle.plan_shop.specs.Trees.{Standing, placed}
-use Rattle.plan_shop.proofs.FollowingLemmas.{at_once-first, those-none}
+use Rattle.plan_shop.proofs.LetterLemmas.{at_once-first, those-none}
 use Rattle.plan_shop.proofs.tree.ShopTree.first_at_once.Goals as goal
 
 pub returns-then-next_step-eq0-clause-some : goal.returns-then-next_step-eq0-clause-some

@@ -1,7 +1,7 @@
 use Rattle.std.proofs.Common.{◌≡◌, ◌+◌, ℕ, Option, suc, ap, sym, add-one, refl, subst, arith}
 use Rattle.plan_shop.specs.Words.{next_end}
 use Rattle.plan_shop.specs.Trees.{Standing, placed}
-use Rattle.plan_shop.proofs.FollowingLemmas.{IsSoFar, so_far-none, so_far-skips, so_far-more, if-some, if-none}
+use Rattle.plan_shop.proofs.LetterLemmas.{IsSoFar, so_far-none, so_far-skips, so_far-more, if-some, if-none}
 use Rattle.plan_shop.proofs.tree.ShopTree.first_to_end.Goals as goal
 use Rattle.plan_shop.proofs.tree.ShopTree.first_to_end.Goals.{then-has_next, else-has_next}
 

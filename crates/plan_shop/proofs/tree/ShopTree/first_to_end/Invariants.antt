@@ -1,5 +1,5 @@
 -- The first to end of the jobs so far.
-use Rattle.plan_shop.proofs.FollowingLemmas.{IsSoFar}
+use Rattle.plan_shop.proofs.LetterLemmas.{IsSoFar}
 use Rattle.plan_shop.proofs.tree.ShopTree.first_to_end.Given as goal
 
 abbrev pub invariant-loop-job : goal.invariant-loop-job

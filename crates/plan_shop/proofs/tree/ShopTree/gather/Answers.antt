@@ -2,7 +2,7 @@ use Rattle.std.proofs.Common.{◌≡◌, ◌+◌, ◌-◌, ◌*◌, ◌<◌, ◌
 use Rattle.std.specs.Prelude.{nat_eq}
 use Rattle.std.proofs.lemmas.Bool.{cond-true, cond-false, eq-eqb, ne_eqb}
 use Rattle.plan_shop.specs.Shop.{JobShop}
-use Rattle.plan_shop.specs.declared.tree.bounding.Pending.{Pending}
+use Rattle.plan_shop.specs.declared.tree.bound.Pending.{Pending}
 use Rattle.plan_shop.specs.Words.{Placed, steps_done, machine_free, raised}
 use Rattle.plan_shop.specs.Bound.{head_of, tail_of}
 use Rattle.plan_shop.specs.Trees.{Standing, placed, OnMachine, on_machine, IsGathered}

@@ -2,7 +2,7 @@ use Rattle.std.proofs.Common.{◌≡◌, ◌++◌, ℕ, List, [], ◌∷◌, map
 use Rattle.plan_shop.specs.Shop.{those_below}
 use Rattle.plan_shop.specs.Words.{letter_of}
 use Rattle.plan_shop.specs.Trees.{Standing, is_rival}
-use Rattle.plan_shop.proofs.FollowingLemmas.{first-next, letters-none, letters-rivals, rivals-yes, rivals-no}
+use Rattle.plan_shop.proofs.LetterLemmas.{first-next, letters-none, letters-rivals, rivals-yes, rivals-no}
 use Rattle.plan_shop.proofs.tree.ShopTree.letters.Goals as goal
 use Rattle.plan_shop.proofs.tree.ShopTree.letters.Goals.{then-is_rival+in_ok-push-2, else-is_rival}
 

@@ -8,7 +8,7 @@ unfolding ready
 returns-clause-value c =
     let h = held _ _ _ _ _ _ _ _ c.self.view_is c.self.invariant.kept in
     let r = end-read _ _ _ _ _ _ h c.args.job c.index.result.now c.requires.job c.index.ensures in
-    let a = c.raised.ensures.value in
+    let a = c.start_after.ensures.value in
     let b = c.next_step.ensures.time in
     let d = c.next_step.ensures.machine in
     cc

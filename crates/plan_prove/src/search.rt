@@ -1,0 +1,297 @@
+//! Sequence of searches between a lower bound and the best schedule.
+
+ghost use Rattle.std.specs.Prelude.{◌≡◌, ◌+◌, ◌≤◌, IfOk};
+ghost use Rattle.plan_prove.specs.Graphs.{NoneIsBelow};
+ghost use Rattle.plan_prove.specs.States.{AreRefuted};
+ghost use Rattle.plan_prove.specs.Progress.{HearsKnown, HearsTruth};
+ghost use Rattle.plan_prove.specs.Proofs as spec;
+ghost use Rattle.plan_prove.specs.declared.refutation.Outcome.TheVariants.{Refuted, Stopped};
+
+use crate::graph::{Graph, graph_of};
+use crate::guide::active_schedule;
+use crate::proof::Proof;
+use crate::queue::Queue;
+use crate::refutation::{Outcome, first_states, refute};
+use crate::state::State;
+use crate::watcher::Watcher;
+use plan_sgs::Schedule;
+use plan_shop::Shop;
+use std::alloc::{AllocError, Global};
+
+/// The greatest number of short searches with the same number of nodes.
+const MOST_HALVINGS: u32 = 64;
+
+/// The number of nodes of the first search below the best makespan. Later searches get more.
+const FIRST_PATIENCE: u64 = 1_000;
+
+/// The number of nodes between two reports to a watcher.
+const NODES_BETWEEN: u64 = 500_000;
+
+/// A search: the graph of a shop, its queue, the proof so far, the number of nodes that may be
+/// visited in all, the number that is left, and the number of nodes until the next report to a
+/// watcher.
+#[derive(Drop)]
+pub struct Search {
+    pub graph: Graph,
+    pub queue: Queue,
+    pub proof: Proof,
+    pub most: u64,
+    pub left: u64,
+    until_told: u64,
+}
+
+// Returns the limit of the next search: a hundredth below the best makespan, and at most half way
+// to the lower bound.
+fn target(best: u64, lower: u64) -> u64 {
+    let gap = best.saturating_sub(lower);
+    best - (best / 100).min(gap / 2)
+}
+
+impl Search {
+    /// Returns a search of at most `nodes` nodes that starts from an active schedule.
+    pub fn new(
+        alloc: Global,
+        shop: &Shop,
+        schedule: Schedule,
+        nodes: u64,
+    ) -> Result<Search, AllocError>
+        requires { spec.IsActiveSchedule shop.now schedule }
+        ensures search { IfOk result (spec.IsSearchOf shop.now) }
+        ensures most { IfOk result (λ search. search.most ≡ nodes) }
+    {
+        let graph = graph_of(alloc, shop)?;
+        let queue = Queue::new(alloc, &graph)?;
+        let proof = Proof {
+            schedule,
+            lower: 0,
+            nodes: 0,
+        };
+        Ok(Search {
+            graph,
+            queue,
+            proof,
+            most: nodes,
+            left: nodes,
+            until_told: NODES_BETWEEN,
+        })
+    }
+
+    // Counts used nodes, and reports to the watcher if it is time to.
+    fn count<W: Watcher>(&mut self, used: u64, watcher: &mut W)
+        requires used { used ≤ self.old.left }
+        requires left { self.old.left ≤ self.old.most }
+        ensures taken { spec.HasTaken self.old self.new }
+        ensures left { self.new.left + used ≡ self.old.left }
+        ensures told { HearsKnown self.old (W.was_told watcher.old) (W.was_told watcher.new) }
+    {
+        self.left -= used;
+        self.until_told = self.until_told.saturating_sub(used);
+        if self.until_told == 0 {
+            self.until_told = NODES_BETWEEN;
+            let makespan = self.proof.schedule.makespan;
+            watcher.tell(makespan, self.proof.lower, self.most - self.left);
+        }
+    }
+
+    // Continues a search of the waiting states until it has an outcome, has used the granted nodes,
+    // or it is time to report.
+    fn advance<W: Watcher>(
+        &mut self,
+        alloc: Global,
+        limit: u32,
+        waiting: &mut Vec<State>,
+        granted: &mut u64,
+        watcher: &mut W,
+    ) -> Result<Outcome, AllocError>
+        requires granted { granted.old ≤ self.old.left }
+        requires left { self.old.left ≤ self.old.most }
+        ensures refuted { IfOk result (λ outcome.
+            outcome ≡ Refuted → AreRefuted self.old.graph limit waiting.old.items) }
+        ensures stopped { IfOk result (λ outcome.
+            outcome ≡ Stopped → AreRefuted self.old.graph limit waiting.new.items
+            → AreRefuted self.old.graph limit waiting.old.items) }
+        ensures taken { spec.HasTaken self.old self.new }
+        ensures granted { granted.new ≤ self.new.left }
+        ensures told { HearsKnown self.old (W.was_told watcher.old) (W.was_told watcher.new) }
+    {
+        let part = (*granted).min(self.until_told);
+        let mut unused = part;
+        let starts = &self.proof.schedule.starts;
+        let outcome = refute(
+            alloc,
+            &self.graph,
+            limit,
+            waiting,
+            &mut self.queue,
+            starts,
+            &mut unused,
+        )?;
+        *granted -= part - unused;
+        self.count(part - unused, watcher);
+        Ok(outcome)
+    }
+
+    // Returns the outcome of a search for a schedule below a limit, with at most the allowed nodes.
+    fn outcome<W: Watcher>(
+        &mut self,
+        alloc: Global,
+        limit: u32,
+        allowed: u64,
+        watcher: &mut W,
+    ) -> Result<Outcome, AllocError>
+        requires { self.old.left ≤ self.old.most }
+        ensures refuted { IfOk result (λ outcome.
+            outcome ≡ Refuted → NoneIsBelow self.old.graph limit) }
+        ensures taken { spec.HasTaken self.old self.new }
+        ensures told { HearsKnown self.old (W.was_told watcher.old) (W.was_told watcher.new) }
+    {
+        let mut waiting = first_states(alloc, &self.graph)?;
+        let mut granted = allowed.min(self.left);
+        for _part in 0..granted {
+            match self.advance(alloc, limit, &mut waiting, &mut granted, watcher)? {
+                Outcome::Stopped if granted > 0 => {}
+                outcome => return Ok(outcome),
+            }
+        }
+        Ok(Outcome::Stopped)
+    }
+
+    // Searches once for a schedule below a target. Returns whether that improved the proof.
+    fn attempt<W: Watcher>(
+        &mut self,
+        alloc: Global,
+        shop: &Shop,
+        target: u64,
+        allowed: u64,
+        watcher: &mut W,
+    ) -> Result<bool, AllocError>
+        requires { spec.IsSearchOf shop.now self.old }
+        ensures search { IfOk result (λ _. spec.IsSearchOf shop.now self.new) }
+        ensures most { self.new.most ≡ self.old.most }
+        ensures told { HearsTruth shop.now self.old.most (W.was_told watcher.old)
+            (W.was_told watcher.new) }
+    {
+        let Ok(limit) = u32::try_from(target) else {
+            return Ok(false);
+        };
+        let outcome = self.outcome(alloc, limit, allowed, watcher)?;
+        match outcome {
+            Outcome::Stopped => Ok(false),
+            Outcome::Refuted => {
+                self.proof.lower = self.proof.lower.max(target);
+                Ok(true)
+            }
+            Outcome::Leaf(heads) => improve(alloc, shop, &heads, &mut self.proof),
+        }
+    }
+
+    /// Halves the gap between the lower bound and the best makespan by searches of `allowed` nodes
+    /// each. After a search without an outcome the next target is lower.
+    pub fn halve<W: Watcher>(
+        &mut self,
+        alloc: Global,
+        shop: &Shop,
+        allowed: u64,
+        watcher: &mut W,
+    ) -> Result<(), AllocError>
+        requires { spec.IsSearchOf shop.now self.old }
+        ensures search { IfOk result (λ _. spec.IsSearchOf shop.now self.new) }
+        ensures most { self.new.most ≡ self.old.most }
+        ensures told { HearsTruth shop.now self.old.most (W.was_told watcher.old)
+            (W.was_told watcher.new) }
+    {
+        let mut above = self.proof.schedule.makespan;
+        for _halving in 0..MOST_HALVINGS {
+            above = above.min(self.proof.schedule.makespan);
+            if self.proof.lower >= above || self.left == 0 {
+                break;
+            }
+            let target = above - (above - self.proof.lower) / 2;
+            if !self.attempt(alloc, shop, target, allowed, watcher)? {
+                above = target.saturating_sub(1);
+            }
+        }
+        Ok(())
+    }
+
+    // Searches below a target. If that has no outcome, it searches right below the best makespan
+    // with a third more nodes and the weights of the first search. Returns the number of nodes that
+    // are allowed next.
+    fn step_down<W: Watcher>(
+        &mut self,
+        alloc: Global,
+        shop: &Shop,
+        allowed: u64,
+        watcher: &mut W,
+    ) -> Result<u64, AllocError>
+        requires { spec.IsSearchOf shop.now self.old }
+        ensures search { IfOk result (λ _. spec.IsSearchOf shop.now self.new) }
+        ensures most { self.new.most ≡ self.old.most }
+        ensures told { HearsTruth shop.now self.old.most (W.was_told watcher.old)
+            (W.was_told watcher.new) }
+    {
+        let (best, lower) = (self.proof.schedule.makespan, self.proof.lower);
+        if self.attempt(alloc, shop, target(best, lower), allowed, watcher)? {
+            return Ok(allowed);
+        }
+        let more = allowed.saturating_add(allowed / 3);
+        self.attempt(alloc, shop, best, more, watcher)?;
+        Ok(more)
+    }
+
+    /// Searches below the best makespan until it is the lower bound or no nodes are left.
+    pub fn close<W: Watcher>(
+        &mut self,
+        alloc: Global,
+        shop: &Shop,
+        watcher: &mut W,
+    ) -> Result<(), AllocError>
+        requires { spec.IsSearchOf shop.now self.old }
+        ensures search { IfOk result (λ _. spec.IsSearchOf shop.now self.new) }
+        ensures most { self.new.most ≡ self.old.most }
+        ensures told { HearsTruth shop.now self.old.most (W.was_told watcher.old)
+            (W.was_told watcher.new) }
+    {
+        let mut allowed = FIRST_PATIENCE;
+        for _step in 0..self.left {
+            if self.proof.lower >= self.proof.schedule.makespan || self.left == 0 {
+                break;
+            }
+            allowed = self.step_down(alloc, shop, allowed, watcher)?;
+        }
+        Ok(())
+    }
+
+    /// Halves the gap with more and more nodes, and then searches below the best makespan.
+    pub fn run<W: Watcher>(
+        &mut self,
+        alloc: Global,
+        shop: &Shop,
+        watcher: &mut W,
+    ) -> Result<(), AllocError>
+        requires { spec.IsSearchOf shop.now self.old }
+        ensures search { IfOk result (λ _. spec.IsSearchOf shop.now self.new) }
+        ensures most { self.new.most ≡ self.old.most }
+        ensures told { HearsTruth shop.now self.old.most (W.was_told watcher.old)
+            (W.was_told watcher.new) }
+    {
+        self.halve(alloc, shop, 1, watcher)?;
+        self.halve(alloc, shop, 100, watcher)?;
+        self.halve(alloc, shop, 10_000, watcher)?;
+        self.close(alloc, shop, watcher)
+    }
+}
+
+// Keeps the active schedule of the heads of a leaf if it is shorter. Returns whether it is.
+fn improve(alloc: Global, shop: &Shop, heads: &[u32], proof: &mut Proof) -> Result<bool, AllocError>
+    requires { spec.IsProofOf shop.now proof.old }
+    ensures { IfOk result (λ _. spec.IsProofOf shop.now proof.new) }
+{
+    match active_schedule(alloc, shop, heads)? {
+        Some(schedule) if schedule.makespan < proof.schedule.makespan => {
+            proof.schedule = schedule;
+            Ok(true)
+        }
+        _ => Ok(false),
+    }
+}

@@ -1,7 +1,0 @@
-use Rattle.std.proofs.Common.{ℕ, ◌<◌, get_or}
-use Rattle.plan_sgs.specs.Checking.{IsTooSoon}
-use Rattle.plan_sgs.proofs.checking.broken.first_too_soon.Given as goal
-
--- none of the successors so far starts too soon
-abbrev pub invariant-succs : goal.invariant-succs
-invariant-succs l = (m : ℕ) → m < l.j-index → IsTooSoon l.network l.starts l.i (get_or l.j-items m 0) → ⊥

@@ -1,7 +1,0 @@
-use Rattle.plan_sgs.specs.Instances.{problem_of}
-use Rattle.plan_sgs.proofs.StartLemmas.{AreSums}
-use Rattle.plan_sgs.proofs.checking.overloads.needs_at.Given as goal
-
--- the sums are those of the activities so far
-abbrev pub invariant-all : goal.invariant-all
-invariant-all l = AreSums (problem_of l.instance) l.starts l.t l.k l.sums.items

@@ -1,0 +1,10 @@
+use Rattle.std.proofs.Common.{ℕ, ◌≡◌, ◌+◌, ◌-◌, ◌≤◌, ◌<◌, ◌⊎◌, get_or}
+use Rattle.plan_net.specs.Network.{IsArc, lag_of, duration_of}
+use Rattle.plan_sgs.proofs.checks.shifts.release_of.Given as goal
+
+-- `latest` is the greatest of the predecessors so far
+abbrev pub invariant-loop-k : goal.invariant-loop-k
+invariant-loop-k l = record {
+  above : (m : ℕ) → m < l.k → get_or l.starts (get_or l.i-items m 0 - 1) 0 + duration_of l.network (get_or l.i-items m 0) + lag_of l.network (get_or l.i-items m 0) l.j ≤ l.latest;
+  reached : (l.latest ≡ 0) ⊎ ((i : ℕ) × IsArc l.network i l.j × (l.latest ≡ get_or l.starts (i - 1) 0 + duration_of l.network i + lag_of l.network i l.j));
+}

@@ -1,8 +1,0 @@
--- How many of the arcs so far lead to each activity.
-use Rattle.std.proofs.Common.{take}
-use Rattle.plan_net.specs.Network.{count_of}
-use Rattle.plan_sgs.specs.Waiting.{AreInDegrees}
-use Rattle.plan_sgs.proofs.waiting.first_waits.Given as goal
-
-abbrev pub invariant-loop-j : goal.invariant-loop-j
-invariant-loop-j l = AreInDegrees (count_of l.network) (take l.j-index l.j-items) l.waits.items

@@ -1,6 +1,0 @@
--- The successors so far wait for one less.
-use Rattle.plan_sgs.proofs.QueueLemmas.{AreLowered}
-use Rattle.plan_sgs.proofs.waiting.lower_each.Given as goal
-
-abbrev pub invariant-loop-h : goal.invariant-loop-h
-invariant-loop-h l = AreLowered l.h-items l.h-index l.fn.waits.items l.waits.items

@@ -1,6 +1,0 @@
--- The successors so far wait for one more.
-use Rattle.plan_sgs.proofs.QueueLemmas.{AreLowered}
-use Rattle.plan_sgs.proofs.waiting.raise_each.Given as goal
-
-abbrev pub invariant-loop-h : goal.invariant-loop-h
-invariant-loop-h l = AreLowered l.h-items l.h-index l.waits.items l.fn.waits.items

@@ -1,7 +1,0 @@
-use Rattle.std.proofs.Common.{ℕ, ◌<◌}
-use Rattle.plan_shop.specs.Checks.{IsBrokenAfter}
-use Rattle.plan_shop.proofs.checking.broken.first_broken.Given as goal
-
--- none of the steps so far is followed too soon
-abbrev pub invariant-all : goal.invariant-all
-invariant-all l = (h : ℕ) → h < l.x → IsBrokenAfter l.shop l.starts h → ⊥

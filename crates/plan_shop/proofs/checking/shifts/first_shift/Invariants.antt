@@ -1,8 +1,0 @@
-use Rattle.std.proofs.Common.{ℕ, ◌<◌}
-use Rattle.plan_sgs.specs.Verdicts.{HasShift}
-use Rattle.plan_shop.specs.Shop.{problem_of}
-use Rattle.plan_shop.proofs.checking.shifts.first_shift.Given as goal
-
--- no step so far can start earlier
-abbrev pub invariant-all : goal.invariant-all
-invariant-all l = (h : ℕ) → h < l.x → HasShift (problem_of l.shop) l.starts h → ⊥
