@@ -181,9 +181,6 @@ full_done s xs full j l = elim (cases_lt (steps_done xs j) s.machines) [
   false≢true' : false ≡ true → ⊥
   false≢true' e = cc
 
-pub full_from : (s : JobShop) (xs : List Placed) → ((j : ℕ) → j < s.jobs → s.machines ≤ steps_done xs j) → is_full s xs ≡ true
-full_from s xs all = all_below_from s.jobs (λ j. not (has_next s xs j)) (λ j l. ap not (le-ltb (steps_done xs j) s.machines (all j l)))
-
 -- and one of time 0 follows, or there is one of the first end
 pub choice : (s : JobShop) (xs : List Placed) → is_full s xs ≡ false → (j : ℕ) × (IsZero s xs j ⊎ IsSoonest s xs j)
 choice s xs e =
