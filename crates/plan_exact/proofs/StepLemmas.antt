@@ -1,6 +1,6 @@
 -- One step of the search: a word, then its children.
 use Rattle.std.proofs.Common.{◌≡◌, ℕ, zero, suc, ◌-◌, ◌<◌, ◌≤◌, ◌||◌, nat_le, nat_eq, List, [], ◌∷◌, ◌++◌, fold, length, Contains, refl, sym, ap, ◌∙◌, subst, length-append, arith}
-use Rattle.std.proofs.lemmas.Bool.{cond-true, cond-false, or_from, or_right, ne_eqb, le-leb, lt-leb}
+use Rattle.std.proofs.lemmas.Bool.{cond-false, or_from, ne_eqb, lt-leb}
 use Rattle.plan_exact.specs.Words.{WordTree, IsWord}
 use Rattle.plan_exact.specs.Laws.{WordsAreFinite}
 use Rattle.plan_exact.specs.Explored.{Standing, after_word, explored, child_explored, children_explored}

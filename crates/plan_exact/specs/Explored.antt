@@ -35,7 +35,11 @@ outcome_so_far s = record { optimal = not s.cut; found = s.found }
 -- the state of a search by its data
 abbrev pub standing_of : Progress → Standing
 standing_of p =
-    record { left = p.left; found = record { value = p.value; word = cond p.found (Some p.word.items) None }; cut = p.cut }
+    record {
+      left = p.left;
+      found = record { value = p.value; word = cond p.found (Some p.word.items) None };
+      cut = p.cut;
+    }
 
 -- the state after a search of the words that begin with u
 abbrev pub explored_from : WordTree → List ℕ → Standing → Standing

@@ -25,7 +25,8 @@ best t f ws = fold (better t) f ws
 
 -- w is a full word of the list with a makespan below the initial one, and each full word before it
 -- has a greater makespan
-pub record IsFirstOf (t : WordTree) (initial : ℕ) (ws : List (List ℕ)) (value : ℕ) (w : List ℕ) : Type 0 where
+pub record IsFirstOf (t : WordTree) (initial : ℕ) (ws : List (List ℕ)) (value : ℕ) (w : List ℕ)
+    : Type 0 where
   pub below : value < initial
   pub is : value ≡ t.makespan w
   pub full : IsTrue (t.full w)

@@ -9,7 +9,8 @@ pub enum Kind {
     Budget,
 }
 
-/// The best schedule of a search: a full word of the tree, or no word if it is the initial schedule.
+/// The best schedule of a search: a full word of the tree, or no word if it is the initial
+/// schedule.
 #[derive(Debug, PartialEq, Eq, Drop)]
 pub struct Answer {
     pub kind: Kind,

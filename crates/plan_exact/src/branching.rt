@@ -7,8 +7,8 @@ ghost use Rattle.plan_exact.specs.Laws.{LettersRise, WordsAreFinite, BoundHolds}
 
 use std::alloc::AllocError;
 
-/// A tree of words, at one of its words. A letter is the number, from 1, of the job of a shop or the
-/// activity of a project that is placed next.
+/// A tree of words, at one of its words. A letter is the number, from 1, of the job of a shop or
+/// the activity of a project that is placed next.
 pub trait Branching {
     /// The invariant of the type. The laws are required only of valid values.
     ghost is_valid: { Self → Type 0 };

@@ -1,5 +1,5 @@
-//! Depth-first search in the order of the letters, with one list for the letters of all words on the
-//! current path.
+//! Depth-first search in the order of the letters, with one list for the letters of all words on
+//! the current path.
 
 ghost use Rattle.std.specs.Prelude.{◌≡◌, ◌+◌, ◌<◌, ◌≤◌, [], Contains, IfOk, OnOk};
 ghost use Rattle.plan_exact.specs.Words.{IsWord};

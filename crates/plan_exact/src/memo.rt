@@ -82,8 +82,8 @@ impl Memo {
         self.kept.len()
     }
 
-    /// Answers as [`solve_shop`] does. The cached answer for the same shop and budget is returned if
-    /// there is one. A new answer is cached if there is memory for it.
+    /// Answers as [`solve_shop`] does. The cached answer for the same shop and budget is returned
+    /// if there is one. A new answer is cached if there is memory for it.
     pub fn solve(&mut self, shop: &Shop, budget: u64) -> Result<Solved, ExactFault>
         ensures solution { IfOk result (IsSolution shop.now budget) }
         ensures shortest { IfOk result (λ solved.

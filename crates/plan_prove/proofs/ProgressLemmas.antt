@@ -1,12 +1,10 @@
 -- What a watcher hears in several calls, and that it is true of the shop.
-use Rattle.std.proofs.Common.{◌≡◌, ℕ, ◌≤◌, inl, inr, List, ap, sym, ◌∙◌, subst, arith}
-use Rattle.plan_sgs.specs.Problem.{makespan}
-use Rattle.plan_shop.specs.Shop.{JobShop, problem_of}
-use Rattle.plan_prove.specs.Proofs.{IsSearchOf, HasTaken}
+use Rattle.std.proofs.Common.{ℕ, inl, inr, List, ap, sym, ◌∙◌, subst, arith}
+use Rattle.plan_prove.specs.Proofs.{HasTaken}
 use Rattle.plan_prove.specs.States.{AreRefuted}
 use Rattle.plan_prove.specs.declared.graph.Graph.{Graph}
 use Rattle.plan_prove.specs.declared.state.State.{State}
-use Rattle.plan_prove.specs.Progress.{Progress, Hears, HearsNothing, IsProgressOf, HearsTruth, IsKnownTo, HearsKnown}
+use Rattle.plan_prove.specs.Progress.{Progress, HearsKnown}
 use Rattle.plan_prove.specs.declared.search.Search.{Search}
 
 pub known_twice : (search : Search) (before between after : Progress → Type 0) → HearsKnown search before between → HearsKnown search between after → HearsKnown search before after

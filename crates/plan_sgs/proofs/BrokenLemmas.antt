@@ -1,18 +1,24 @@
 -- The links of an instance are the arcs of its network.
-use Rattle.std.proofs.Common.{ℕ, ◌≡◌, ◌≢◌, ◌+◌, ◌-◌, ◌≤◌, ◌<◌, ◌⊎◌, inl, inr, List, [], ◌∷◌, length, get_or, Some, refl, sym, ◌∙◌, ap, subst, arith}
+use Rattle.std.proofs.Common.{ℕ, ◌≡◌, ◌≢◌, ◌+◌, ◌-◌, ◌≤◌, ◌<◌, inl, inr, List, [], ◌∷◌, length, get_or, Option, Some, None, refl, sym, ◌∙◌, ap, subst, arith}
 use Rattle.std.specs.List.{All, Contains, slice_get}
 use Rattle.std.proofs.lemmas.Bool.{cases_lt, cases_order}
-use Rattle.std.proofs.lemmas.List.{length-map, get_or-map}
+use Rattle.std.proofs.lemmas.List.{length-map, get_or-map, get_or_past}
+use Rattle.std.proofs.lemmas.Option.{none-some, same_Some}
 use Rattle.std.proofs.lemmas.List.Elements.{All-map, All-weaker, All-contains, All-contains_itself}
 use Rattle.plan_net.specs.Network.{Net, IsActivity, IsArc, IsLeast, count_of, duration_of, lag_of}
 use Rattle.plan_net.specs.Limits.{IsSound}
+use Rattle.plan_profile.specs.Usage.{IsInTime}
 use Rattle.plan_profile.specs.InUse.{in_use, capacities}
 use Rattle.plan_profile.specs.declared.profile.Profile.{Profile}
-use Rattle.plan_sgs.specs.Problem.{Link, duration, need, capacity, KeepsArcs, NeedsFit}
-use Rattle.plan_sgs.specs.Instances.{Planned, link_of, problem_of}
+use Rattle.plan_sgs.specs.Problem.{Problem, Link, count, duration, need, capacity, all_placed, KeepsArcs, NeedsFit}
+use Rattle.plan_sgs.specs.Serial.{release, end_of}
+use Rattle.plan_sgs.specs.Instances.{Planned, IsInstance, link_of, problem_of}
+use Rattle.plan_sgs.specs.Placement.{IsPartialSchedule}
 use Rattle.plan_sgs.specs.Verdicts.{Breaks, IsNoLater, IsFirstBroken}
 use Rattle.plan_sgs.specs.Checks.{IsTooSoon, HoldsBefore}
-use Rattle.plan_sgs.proofs.Shifts.{IsReleasedBy, IsRelease, IsAskedFor}
+use Rattle.plan_sgs.proofs.BoundedLemmas.{bounded}
+use Rattle.plan_sgs.proofs.PlacingLemmas.{end_of-placed, release_above, release_least}
+use Rattle.plan_sgs.proofs.Shifts.{IsRelease, IsAskedFor}
 use Rattle.plan_sgs.proofs.InstanceLemmas.{count-problem, duration-problem, need-problem}
 
 -- what holds of each arc's link holds of each link
@@ -82,40 +88,47 @@ broken_first i s n j sound none least = (
             inr (equal, omega (arith, order))
       ]
 
--- the greatest end and lag of a predecessor is the release
-pub release_is : (i : Planned) (s : List ℕ) (j r : ℕ) → IsSound i.project.network → IsActivity i.project.network j
-    → ((h : ℕ) → IsArc i.project.network h j → get_or s (h - 1) 0 + duration_of i.project.network h + lag_of i.project.network h j ≤ r)
-    → (r ≡ 0) ⊎ ((h : ℕ) × IsArc i.project.network h j × (r ≡ get_or s (h - 1) 0 + duration_of i.project.network h + lag_of i.project.network h j))
-    → IsRelease (problem_of i) s (j - 1) r
-unfolding problem_of
-release_is i s j r sound activity above reached = record { released = released; least = λ t by. least t by reached } where
-  released : IsReleasedBy (problem_of i) s (j - 1) r
-  released = links_have i (λ a. a.to ≡ j - 1 → a.from ≢ j - 1 → get_or s a.from 0 + duration (problem_of i) a.from + a.lag ≤ r) each where
-    each : (h k : ℕ) → IsArc i.project.network h k → k - 1 ≡ j - 1 → h - 1 ≢ j - 1 → get_or s (h - 1) 0 + duration_of i.project.network h + lag_of i.project.network h k ≤ r
-    each h k arc to from =
-        let ends = ends_of i h k sound arc in
-        let same : k ≡ j = omega (arith, to, ends.1.0, activity.0) in
-        omega (arith, above h (subst (λ (x : ℕ). IsArc i.project.network h x) same arc), ap (λ (x : ℕ). lag_of i.project.network h x) same)
+-- no link leads from an activity to itself
+links_apart : (i : Planned) → IsSound i.project.network → All (λ a. a.from ≢ a.to) (problem_of i).links
+links_apart i sound = links_have i (λ a. a.from ≢ a.to) (λ h j arc same.
+    let ends = ends_of i h j sound arc in
+    let one : h ≡ j = omega (arith, same, ends.0.0, ends.1.0) in
+    no_loop i.project.network j sound ends.1 (subst (λ (x : ℕ). IsArc i.project.network x j) one arc))
 
-  least : (t : ℕ) → IsReleasedBy (problem_of i) s (j - 1) t → (r ≡ 0) ⊎ ((h : ℕ) × IsArc i.project.network h j × (r ≡ get_or s (h - 1) 0 + duration_of i.project.network h + lag_of i.project.network h j)) → r ≤ t
-  least t by (inl none) = omega (arith, none)
-  least t by (inr (h, arc, is)) =
-      let ends = ends_of i h j sound arc in
-      let apart : h - 1 ≢ j - 1 = λ same. no_loop i.project.network j sound activity (subst (λ (x : ℕ). IsArc i.project.network x j) (let e : h ≡ j = omega (arith, same, ends.0.0, activity.0) in e) arc) in
-      let link = link_of i.project.network (h, j) in
-      let kept : get_or s (h - 1) 0 + duration_of i.project.network h + lag_of i.project.network h j ≤ t =
-      All-contains (λ (a : Link). a.to ≡ j - 1 → a.from ≢ j - 1 → get_or s a.from 0 + duration (problem_of i) a.from + a.lag ≤ t) (problem_of i).links link by (link_there i h j arc) refl apart in
-      omega (arith, kept, is)
+-- the start of an activity in a list of starts
+placed_start : (s : List ℕ) (h : ℕ) → h < length s → get_or (all_placed s) h None ≡ Some (get_or s h 0)
+placed_start s h within = get_or-map Some s h 0 None within
 
--- the same, told of a network that is the instance's
-pub release_at : (i : Planned) (net : Net) (s : List ℕ) (j r : ℕ) → net ≡ i.project.network → IsSound i.project.network → IsActivity i.project.network j
-    → ((h : ℕ) → IsArc net h j → get_or s (h - 1) 0 + duration_of net h + lag_of net h j ≤ r)
-    → (r ≡ 0) ⊎ ((h : ℕ) × IsArc net h j × (r ≡ get_or s (h - 1) 0 + duration_of net h + lag_of net h j))
-    → IsRelease (problem_of i) s (j - 1) r
-release_at i net s j r is sound activity above reached =
-    release_is i s j r sound activity
-    (subst (λ (n : Net). (h : ℕ) → IsArc n h j → get_or s (h - 1) 0 + duration_of n h + lag_of n h j ≤ r) is above)
-    (subst (λ (n : Net). (r ≡ 0) ⊎ ((h : ℕ) × IsArc n h j × (r ≡ get_or s (h - 1) 0 + duration_of n h + lag_of n h j))) is reached)
+-- a list of starts is a partial schedule that places all activities
+pub whole_schedule : (i : Planned) (s : List ℕ) → IsInstance i → length s ≡ count (problem_of i) → All IsInTime s → IsPartialSchedule i (all_placed s) 10010000
+whole_schedule i s instance size limit = record {
+  size = length-map s Some ∙ size;
+  ends = λ h start is. elim (cases_lt h (length s)) [
+    | inl within ↦
+        let same : get_or s h 0 ≡ start = same_Some (get_or s h 0) start (sym (placed_start s h within) ∙ is) in
+        omega (arith, same, limit h 0 within, (bounded i instance).lasting h)
+    | inr past ↦ absurd (none-some start (sym (get_or_past (all_placed s) h None (omega (arith, past, length-map s Some))) ∙ is))
+  ];
+}
+
+-- with all activities placed, the release is that of a list of starts
+pub release_whole : (i : Planned) (s : List ℕ) (j : ℕ) → IsInstance i → length s ≡ count (problem_of i) → IsRelease (problem_of i) s j (release (problem_of i) (all_placed s) j)
+release_whole i s j instance size = record {
+  released = λ k d within to apart. omega (arith, end_at k d within, release_above p placed j k d within to);
+  least = λ t by. release_least p placed j t (λ k d within to.
+      omega (arith, end_at k d within, by k d within to (λ same. links_apart i instance.project.network k d within (same ∙ sym to))));
+} where
+  p : Problem
+  p = problem_of i
+
+  placed : List (Option ℕ)
+  placed = all_placed s
+
+  end_at : (k : ℕ) (d : Link) → k < length p.links → end_of p placed (get_or p.links k d).from ≡ get_or s (get_or p.links k d).from 0 + duration p (get_or p.links k d).from
+  end_at k d within =
+      let h = (get_or p.links k d).from in
+      let inside : h < length s = omega (arith, ((bounded i instance).inside k d within).0, size) in
+      end_of-placed p placed h (get_or s h 0) (placed_start s h inside)
 
 -- a profile that holds all needs before an instant is what an activity that starts by then asks for
 pub asked_at : (i : Planned) (net : Net) (s : List ℕ) (j end d : ℕ) (profile : Profile) (row : List ℕ) → net ≡ i.project.network → IsActivity i.project.network j → HoldsBefore end (problem_of i) s profile → get_or s (j - 1) 0 ≤ end

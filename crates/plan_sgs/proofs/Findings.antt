@@ -1,8 +1,8 @@
 -- What is found wrong with a list of starts: the first overload is at a start, and there is at most one verdict.
-use Rattle.std.proofs.Common.{ℕ, zero, suc, ◌≡◌, ◌+◌, ◌-◌, ◌≤◌, ◌<◌, ◌↔◌, ◌⊎◌, inl, inr, List, length, get_or, Option, Some, None, refl, sym, subst, below_more, arith}
+use Rattle.std.proofs.Common.{ℕ, zero, suc, ◌≡◌, ◌+◌, ◌-◌, ◌≤◌, ◌<◌, ◌⊎◌, inl, inr, List, length, get_or, Option, Some, None, refl, sym, subst, below_more, arith}
 use Rattle.std.proofs.lemmas.Bool.{cases_lt}
 use Rattle.std.proofs.lemmas.List.Elements.{All-contains}
-use Rattle.plan_sgs.specs.Problem.{Problem, Link, count, duration, capacity, total, usage, all_placed, KeepsArcs, KeepsCapacities, IsActive}
+use Rattle.plan_sgs.specs.Problem.{Problem, Link, count, duration, capacity, total, usage, all_placed, KeepsArcs, KeepsCapacities}
 use Rattle.plan_sgs.specs.Verdicts.{Breaks, IsNoLater, IsFirstBroken, IsOver, IsFirstVerdict}
 use Rattle.plan_sgs.specs.Checks.{IsBefore, IsOverAmong, IsOverAnswer}
 use Rattle.plan_sgs.specs.declared.verdict.Verdict.{Verdict}
@@ -135,7 +135,3 @@ verdict_once p s Active (Arc i j) a b = absurd (broken_not_kept p s (i - 1) (j -
 verdict_once p s Active (Over t k) a b = absurd (over_is_more p s t (k - 1) a.feasible.capacities b.1.over)
 verdict_once p s Active (Shift h) a b = let has = b.1.shift in absurd (a.no_shift has.other (h - 1) has.inside has.shift has.feasible)
 verdict_once p s Active Active a b = refl
-
--- active is said exactly of active lists
-pub active_exactly : (p : Problem) (s : List ℕ) (v : Verdict) → IsFirstVerdict p s v → (v ≡ Active) ↔ IsActive p s
-active_exactly p s v first = (λ is. subst (IsFirstVerdict p s) is first, λ active. verdict_once p s v Active first active)

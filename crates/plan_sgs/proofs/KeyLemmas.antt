@@ -12,9 +12,6 @@ pub record AreValues (f : ℕ → ℕ) (keys : List ℕ) (n : ℕ) : Type 0 wher
   pub size : length keys ≡ n
   pub each : (h : ℕ) → h < n → get_or keys h 0 ≡ f h
 
-pub values_first : (f : ℕ → ℕ) (keys : List ℕ) → keys ≡ [] → AreValues f keys 0
-values_first f keys none = record { size = ap (λ (xs : List ℕ). length xs) none; each = λ h below. absurd (omega (arith, below)) }
-
 pub values_push : (f : ℕ → ℕ) (keys after : List ℕ) (n v : ℕ) → AreValues f keys n → after ≡ keys ++ v ∷ [] → v ≡ f n → AreValues f after (n + 1)
 values_push f keys after n v are pushed is = subst (λ (xs : List ℕ). AreValues f xs (n + 1)) (sym pushed) (record {
   size = length_push keys v ∙ ap (λ (k : ℕ). k + 1) are.size;

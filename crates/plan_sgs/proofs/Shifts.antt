@@ -1,5 +1,5 @@
 -- When an activity of a feasible list can start earlier with all others where they are.
-use Rattle.std.proofs.Common.{ℕ, ◌≡◌, ◌≢◌, ◌+◌, ◌-◌, ◌≤◌, ◌<◌, ◌↔◌, ◌⊎◌, inl, inr, List, length, get_or, set, Some, sym, ◌∙◌, ap, arith}
+use Rattle.std.proofs.Common.{ℕ, ◌≡◌, ◌≢◌, ◌+◌, ◌-◌, ◌≤◌, ◌<◌, ◌⊎◌, inl, inr, List, length, get_or, set, Some, sym, ◌∙◌, ap, arith}
 use Rattle.std.specs.List.{All}
 use Rattle.std.proofs.lemmas.Bool.{cases_lt, cases_eq}
 use Rattle.std.proofs.lemmas.List.{length-set, get_or-set_same, get_or-set_other}
@@ -119,10 +119,6 @@ start_from_shift p s j feasible has =
             omega (arith, usage_before p s other j u k feasible.each_started has.feasible.each_started has.inside has.shift.rest before, amount_during p u k j (get_or other j 0) since lasts, has.feasible.capacities u k within);
       },
     )
-
--- a left shift is there exactly where an activity can start at some earlier instant
-pub shift_exactly : (p : Problem) (s : List ℕ) (j : ℕ) → IsFeasible p s → j < count p → HasShift p s j ↔ ((t : ℕ) × CanStartAt p s j t)
-shift_exactly p s j feasible inside = (start_from_shift p s j feasible, λ can. shift_from_start p s j can.0 feasible inside can.1)
 
 -- the least instant at which the predecessors let an activity start
 pub record IsRelease (p : Problem) (s : List ℕ) (j r : ℕ) : Type 0 where

@@ -54,11 +54,16 @@ end_of-limit p placed i last ends = by_start (get_or placed i None) refl where
   by_start None is = let none : end_of p placed i ≡ 0 = ap (end_from (duration p i)) is in omega (arith, none)
   by_start (Some s) is = let here : end_of p placed i ≡ s + duration p i = ap (end_from (duration p i)) is in omega (arith, here, ends i s is)
 
+-- the release of an activity is soon after the end of what is placed
+pub release_soon : (p : Problem) (placed : List (Option ℕ)) (j last : ℕ) → IsBounded p → EndsBy p placed last → release p placed j ≤ last + 10000
+release_soon p placed j last bounded ends =
+    release_least p placed j (last + 10000) (λ k d within to. let lag : (get_or p.links k d).lag ≤ 10000 = bounded.lags k d within in omega (arith, end_of-limit p placed (get_or p.links k d).from last ends, lag))
+
 -- an activity is placed soon after the end of what is placed
 pub earliest_soon : (p : Problem) (placed : List (Option ℕ)) (j last : ℕ) → IsBounded p → j < count p → EndsBy p placed last → earliest p placed j ≤ last + 10000
 earliest_soon p placed j last bounded inside ends =
     (earliest_is p placed j bounded.fit inside).least (last + 10000)
-    (release_least p placed j (last + 10000) (λ k d within to. let lag : (get_or p.links k d).lag ≤ 10000 = bounded.lags k d within in omega (arith, end_of-limit p placed (get_or p.links k d).from last ends, lag)))
+    (release_soon p placed j last bounded ends)
     (fits_from p placed j (last + 10000) (λ x k low within.
     let none : usage p placed (last + 10000 + x) k ≡ 0 = usage_ended p placed (last + 10000 + x) k (λ i s is. omega (arith, ends i s is)) in
     omega (arith, none, bounded.fit j k inside (omega (arith, low)) within)))

@@ -18,8 +18,8 @@ SerialIsActive =
     (p : Problem) (js : List ℕ) → LinksInside p → NeedsFit p → IsActivityList p js
     → IsActive p (serial p js)
 
--- the list of any key is such an order, and each of its entries is the first, by the key and then by
--- the number, of the activities that are eligible in its turn
+-- the list of any key is such an order, and each of its entries is the first, by the key and then
+-- by the number, of the activities that are eligible in its turn
 unfoldable pub RuleTakesFirst : Type 0
 RuleTakesFirst =
     (p : Problem) (rank key : ℕ → ℕ) → LinksInside p → IsRanked p rank

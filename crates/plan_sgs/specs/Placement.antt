@@ -13,6 +13,11 @@ use Rattle.plan_sgs.specs.Instances.{Planned, problem_of}
 abbrev pub latest_end : ℕ
 latest_end = 6020000
 
+-- the instant by which the activities of every list of starts have ended: starts are at most
+-- 10,000,000 and durations at most 10,000
+abbrev pub greatest_end : ℕ
+greatest_end = 10010000
+
 -- all placed activities end by an instant
 abbrev pub EndsBy : Problem → List (Option ℕ) → ℕ → Type 0
 EndsBy p placed last = (i s : ℕ) → get_or placed i None ≡ Some s → s + duration p i ≤ last
@@ -21,10 +26,10 @@ EndsBy p placed last = (i s : ℕ) → get_or placed i None ≡ Some s → s + d
 abbrev pub AllEndBy : Problem → List ℕ → ℕ → Type 0
 AllEndBy p starts last = (i : ℕ) → i < count p → get_or starts i 0 + duration p i ≤ last
 
--- an entry for each activity, and all placed activities end in time
-pub record IsPartialSchedule (i : Planned) (placed : List (Option ℕ)) : Type 0 where
+-- an entry for each activity, and all placed activities end by an instant
+pub record IsPartialSchedule (i : Planned) (placed : List (Option ℕ)) (last : ℕ) : Type 0 where
   pub size : length placed ≡ count (problem_of i)
-  pub ends : EndsBy (problem_of i) placed latest_end
+  pub ends : EndsBy (problem_of i) placed last
 
 -- the profile has the capacities of the problem, and holds the usage of the placed activities
 pub record Holds (profile : Profile) (p : Problem) (placed : List (Option ℕ)) : Type 0 where

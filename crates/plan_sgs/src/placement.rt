@@ -8,21 +8,20 @@ ghost use Rattle.plan_sgs.specs.Problem as problem;
 ghost use Rattle.plan_sgs.specs.Serial as spec;
 ghost use Rattle.plan_sgs.specs.Instances.{IsInstance, problem_of};
 ghost use Rattle.plan_sgs.specs.Placement.{IsPartialSchedule, EndsBy, AllEndBy, Holds};
-ghost use Rattle.plan_sgs.specs.Placement.{IsTurnList, latest_end};
+ghost use Rattle.plan_sgs.specs.Placement.{IsTurnList, greatest_end, latest_end};
 ghost use Rattle.plan_sgs.specs.Rules.{places};
 
 use crate::instance::Instance;
 use crate::schedule::Schedule;
-use plan_net::LONGEST_LAG;
 use plan_profile::Profile;
 use std::alloc::{AllocError, Global};
 
 // Returns the end of an activity, or 0 if it isn't placed.
 fn end_of(instance: &Instance, placed: &[Option<u64>], j: u32) -> u64
     requires activity { IsActivity instance.now.project.network j }
-    requires partial { IsPartialSchedule instance.now placed.now }
+    requires partial { IsPartialSchedule instance.now placed.now greatest_end }
     ensures value { result ≡ spec.end_of (problem_of instance.now) placed.now (j - 1) }
-    ensures limit { result ≤ latest_end }
+    ensures limit { result ≤ greatest_end }
 {
     match placed[j as usize - 1] {
         Some(start) => start + instance.network().duration(j),
@@ -31,11 +30,10 @@ fn end_of(instance: &Instance, placed: &[Option<u64>], j: u32) -> u64
 }
 
 // Returns the least start that the predecessors of an activity and the lags allow.
-fn release_of(instance: &Instance, placed: &[Option<u64>], j: u32) -> u64
+pub(crate) fn release_of(instance: &Instance, placed: &[Option<u64>], j: u32) -> u64
     requires activity { IsActivity instance.now.project.network j }
-    requires partial { IsPartialSchedule instance.now placed.now }
-    ensures value { result ≡ spec.release (problem_of instance.now) placed.now (j - 1) }
-    ensures limit { result ≤ latest_end + LONGEST_LAG }
+    requires partial { IsPartialSchedule instance.now placed.now greatest_end }
+    ensures { result ≡ spec.release (problem_of instance.now) placed.now (j - 1) }
 {
     let network = instance.network();
     let lags = network.lags_into(j);
@@ -55,7 +53,7 @@ pub(crate) fn earliest_start(
     j: u32,
 ) -> u64
     requires activity { IsActivity instance.now.project.network j }
-    requires partial { IsPartialSchedule instance.now placed.now }
+    requires partial { IsPartialSchedule instance.now placed.now latest_end }
     requires holds { Holds profile.now (problem_of instance.now) placed.now }
     ensures start { result ≡ spec.earliest (problem_of instance.now) placed.now (j - 1) }
     ensures in_time { IsInTime result }
@@ -74,7 +72,7 @@ fn place_next(
     j: u32,
 ) -> Result<(), AllocError>
     requires activity { IsActivity instance.now.project.network j }
-    requires partial { IsPartialSchedule instance.now placed.old.items }
+    requires partial { IsPartialSchedule instance.now placed.old.items latest_end }
     requires open { get_or placed.old.items (j - 1) None ≡ None }
     requires holds { Holds profile.old (problem_of instance.now) placed.old.items }
     ensures ok { OnOk result (placed.new.items ≡ set placed.old.items (j - 1)
@@ -95,7 +93,7 @@ pub(crate) fn profile_with(
     j: u32,
 ) -> Result<Profile, AllocError>
     requires activity { IsActivity instance.now.project.network j }
-    requires partial { IsPartialSchedule instance.now placed.now }
+    requires partial { IsPartialSchedule instance.now placed.now latest_end }
     requires last { get_or placed.now (j - 1) None
         ≡ Some (spec.earliest (problem_of instance.now) (set placed.now (j - 1) None) (j - 1)) }
     requires holds { Holds profile.now (problem_of instance.now) (set placed.now (j - 1) None) }

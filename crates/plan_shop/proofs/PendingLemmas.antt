@@ -191,10 +191,6 @@ pending-bound t [] p is = cond-true (nat_eq p.times 0) 0 (p.head + p.times + p.t
 pending-bound t (x ∷ zs) p is =
     omega (arith, cond-false (nat_eq p.times 0) 0 (p.head + p.times + p.tail) (ne_eqb p.times 0 (λ e. omega (arith, e, is.0))), is.1, is.2, is.3)
 
-pub pending-small : (t : Standing) (zs : List ℕ) (p : OnMachine) → IsPendingOf t zs p → 0 < p.times → (p.head ≤ 20000000) × (p.tail ≤ 1000000)
-pending-small t [] p is some = absurd (omega (arith, is.0, some))
-pending-small t (x ∷ zs) p is some = (is.4, is.5)
-
 -- ---- the step at a place of a job, as it is read
 
 pub record IsAt (t : Standing) (j i : ℕ) (step : Step) : Type 0 where
@@ -271,12 +267,6 @@ pub machine_bound-is : (t : Standing) (ps : Pending) → IsShop t.shop → IsGat
 machine_bound-is t ps shop g m b below is =
     is ∙ pending-bound t (those_below (t.shop.jobs * t.shop.machines) (is_pending t m)) (on_machine ps m) (g.each m below)
     ∙ ap (λ n. bound_of_pending t.shop (placed t) (those_below n (is_pending t m))) (sym shop.all_steps)
-
-pub gathered-small : (t : Standing) (n : ℕ) (ps : Pending) → IsGathered t n ps → n ≤ 1000 → (m : ℕ) → m < t.shop.machines → 0 < (on_machine ps m).times
-    → (on_machine ps m).head + (on_machine ps m).times + (on_machine ps m).tail < 1000000000
-gathered-small t n ps g few m below some =
-    let small = pending-small t (those_below n (is_pending t m)) (on_machine ps m) (g.each m below) some in
-    omega (arith, small.0, small.1, g.few m below, few)
 
 -- the time left of a job that has a next step
 pub time_left-next : (t : Standing) (j time tail : ℕ) → has_next t.shop (placed t) j ≡ true → time ≡ time_of t.shop (next_step t.shop (placed t) j) → tail ≡ tail_of t.shop (next_step t.shop (placed t) j) → time + tail ≡ time_left t.shop (placed t) j

@@ -3,7 +3,7 @@ use Rattle.std.proofs.Common.{◌≡◌, ◌≢◌, ℕ, zero, suc, ◌+◌, ◌
 use Rattle.std.specs.List.{Contains}
 use Rattle.std.proofs.lemmas.Bool.{cases_lt, cases_eq, cond-true, cond-false, and_parts, and_from, and_left, and_right, eq-eqb, ne_eqb, eqb-true, lt-ltb, le-ltb, ltb-true, not-false}
 use Rattle.std.proofs.lemmas.List.{get_or-map, length-map}
-use Rattle.plan_sgs.proofs.TotalLemmas.{all_below_at, all_below_from, all_below_not}
+use Rattle.plan_sgs.proofs.TotalLemmas.{all_below_at, all_below_not}
 use Rattle.plan_shop.specs.Shop.{JobShop, IsShop, count_steps, time_of, machine_of, job_of, place_of, times_from}
 use Rattle.plan_shop.specs.Words.{first_least, Placed, steps_done, job_end, machine_free, has_next, next_step, ready, next_end, place, letter_of, job_of_letter, placed_by, with_next, with_zero, rivals, rivals_of_first, jobs_by, jobs_after, Follows, is_full}
 use Rattle.plan_shop.specs.Continuation.{Agrees, Continues}
@@ -180,9 +180,6 @@ full_done s xs full j l = elim (cases_lt (steps_done xs j) s.machines) [
 ] where
   false≢true' : false ≡ true → ⊥
   false≢true' e = cc
-
-pub full_from : (s : JobShop) (xs : List Placed) → ((j : ℕ) → j < s.jobs → s.machines ≤ steps_done xs j) → is_full s xs ≡ true
-full_from s xs all = all_below_from s.jobs (λ j. not (has_next s xs j)) (λ j l. ap not (le-ltb (steps_done xs j) s.machines (all j l)))
 
 -- and one of time 0 follows, or there is one of the first end
 pub choice : (s : JobShop) (xs : List Placed) → is_full s xs ≡ false → (j : ℕ) × (IsZero s xs j ⊎ IsSoonest s xs j)

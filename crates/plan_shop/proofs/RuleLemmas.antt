@@ -1,5 +1,5 @@
 -- The word of a rule, letter by letter.
-use Rattle.std.proofs.Common.{◌≡◌, ℕ, suc, ◌-◌, ◌*◌, ◌<◌, true, false, List, [], ◌∷◌, ◌++◌, Option, Some, None, length, refl, sym, ap, ◌∙◌, subst, append_assoc, append-nil, arith}
+use Rattle.std.proofs.Common.{◌≡◌, ℕ, suc, ◌-◌, ◌*◌, ◌<◌, true, false, List, [], ◌∷◌, ◌++◌, Option, Some, None, length, refl, sym, ap, ◌∙◌, subst, append_assoc, arith}
 use Rattle.std.specs.Prelude.{Contains}
 use Rattle.std.proofs.lemmas.List.{length-append}
 use Rattle.plan_sgs.specs.Problem.{IsActive}
@@ -95,9 +95,3 @@ goes-more rule s t u n a goes less next is =
           ∙ ap (λ m. t.word ++ rule_word s (chooser_of rule s) m xs) (sym left)
           ∙ goes.rest;
     })
-
-pub goes-last : (rule : ShopRule) (s : JobShop) (t : Standing) (n : ℕ) → GoesOn rule s t n → n ≡ s.jobs * s.machines → t ≡ standing s (word_by rule s)
-goes-last rule s t n goes all =
-    let none : s.jobs * s.machines - n ≡ 0 = omega (arith, all) in
-    let word : t.word ≡ word_by rule s = sym (append-nil t.word) ∙ ap (λ m. t.word ++ rule_word s (chooser_of rule s) m (placed_in s t.word)) (sym none) ∙ goes.rest in
-    ap (λ (v : JobShop). standing v t.word) goes.shop ∙ ap (λ (w : List ℕ). standing s w) word

@@ -10,7 +10,9 @@ use Rattle.plan_shop.specs.Words.{least_of, Placed, steps_done, job_end, machine
 abbrev pub head_at : JobShop → List Placed → ℕ → ℕ → ℕ
 head_at s xs j zero = ready s xs j
 head_at s xs j (suc k) =
-    raised (time_of s (next_step s xs j + suc k)) (head_at s xs j k + time_of s (next_step s xs j + k)) (machine_free s xs (machine_of s (next_step s xs j + suc k)))
+    raised (time_of s (next_step s xs j + suc k))
+    (head_at s xs j k + time_of s (next_step s xs j + k))
+    (machine_free s xs (machine_of s (next_step s xs j + suc k)))
 
 -- the head of an unplaced step
 abbrev pub head_of : JobShop → List Placed → ℕ → ℕ
@@ -34,7 +36,9 @@ bound_of_pending s xs (x ∷ zs) =
 
 abbrev pub job_bound : JobShop → List Placed → ℕ → ℕ
 job_bound s xs j =
-    cond (has_next s xs j) (ready s xs j + times_from s (next_step s xs j) (s.machines - steps_done xs j)) (job_end s xs j)
+    cond (has_next s xs j)
+    (ready s xs j + times_from s (next_step s xs j) (s.machines - steps_done xs j))
+    (job_end s xs j)
 
 -- the bound of the placed steps
 unfoldable pub bound_of : JobShop → List Placed → ℕ

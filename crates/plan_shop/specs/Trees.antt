@@ -66,7 +66,8 @@ pub record IsKept (s : JobShop) (tails done ends free starts : List ℕ) (turns 
   pub kept : Keeps s (placed_in s (word_of turns)) done ends free starts
 
 -- the invariant of a tree: its data, and memory for the turns of all words
-pub record IsTree (s : JobShop) (tails done ends free starts : List ℕ) (turns : List Turn) (capacity : ℕ) : Type 0 where
+pub record IsTree (s : JobShop) (tails done ends free starts : List ℕ) (turns : List Turn)
+    (capacity : ℕ) : Type 0 where
   pub kept : IsKept s tails done ends free starts turns
   pub room : count_steps s ≤ capacity
 
@@ -109,7 +110,11 @@ pub record OnMachine : Type 0 where
 
 abbrev pub on_machine : Pending → ℕ → OnMachine
 on_machine pending m =
-    record { head = slice_index pending.heads m; times = slice_index pending.times m; tail = slice_index pending.tails m }
+    record {
+      head = slice_index pending.heads m;
+      times = slice_index pending.times m;
+      tail = slice_index pending.tails m;
+    }
 
 -- the total time, the least head and the least tail of some steps; if there is none, the time is 0
 -- and head and tail are beyond all others

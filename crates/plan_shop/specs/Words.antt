@@ -35,8 +35,9 @@ job_end s (p ∷ xs) j = cond (nat_eq p.job j) (p.start + time_of s p.step) (job
 abbrev pub machine_free : JobShop → List Placed → ℕ → ℕ
 machine_free s [] m = 0
 machine_free s (p ∷ xs) m =
-    cond (nat_eq (machine_of s p.step) m
-    && nat_lt 0 (time_of s p.step)) (max (p.start + time_of s p.step) (machine_free s xs m)) (machine_free s xs m)
+    cond (nat_eq (machine_of s p.step) m && nat_lt 0 (time_of s p.step))
+    (max (p.start + time_of s p.step) (machine_free s xs m))
+    (machine_free s xs m)
 
 abbrev pub is_placed : JobShop → List Placed → ℕ → Bool
 is_placed s xs x = nat_lt (place_of s x) (steps_done xs (job_of s x))
@@ -55,7 +56,8 @@ raised time h f = cond (nat_eq time 0) h (max h f)
 -- the head of the next step of a job
 unfoldable pub ready : JobShop → List Placed → ℕ → ℕ
 ready s xs j =
-    raised (time_of s (next_step s xs j)) (job_end s xs j) (machine_free s xs (machine_of s (next_step s xs j)))
+    raised (time_of s (next_step s xs j)) (job_end s xs j)
+    (machine_free s xs (machine_of s (next_step s xs j)))
 
 -- the end of the next step of a job if it is placed now
 abbrev pub next_end : JobShop → List Placed → ℕ → ℕ

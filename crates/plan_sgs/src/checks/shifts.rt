@@ -1,8 +1,7 @@
 //! The first activity that can start earlier.
 
-ghost use Rattle.std.specs.Prelude.{◌≡◌, ℕ, ◌+◌, ◌-◌, ◌≤◌, ◌↔◌, ◌⊎◌, length, All, IfOk, IsTrue};
-ghost use Rattle.std.specs.Prelude.{slice_index};
-ghost use Rattle.plan_net.specs.Network.{IsActivity, IsArc, count_of, duration_of, lag_of};
+ghost use Rattle.std.specs.Prelude.{◌≡◌, ◌-◌, ◌↔◌, length, All, IfOk, IsTrue};
+ghost use Rattle.plan_net.specs.Network.{IsActivity, count_of};
 ghost use Rattle.plan_profile.specs.Usage.{IsInTime};
 ghost use Rattle.plan_sgs.specs.Instances.{problem_of};
 ghost use Rattle.plan_sgs.specs.Problem.{IsFeasible, KeepsCapacities, all_placed};
@@ -10,7 +9,7 @@ ghost use Rattle.plan_sgs.specs.Verdicts.{HasShift};
 ghost use Rattle.plan_sgs.specs.Checks.{HoldsBefore, IsShiftAnswer};
 
 use crate::instance::Instance;
-use plan_net::Network;
+use crate::placement::release_of;
 use plan_profile::{END, Profile};
 use std::alloc::{AllocError, Global};
 
@@ -32,32 +31,30 @@ fn profile_of(alloc: Global, instance: &Instance, starts: &[u64]) -> Result<Prof
     Ok(profile)
 }
 
-// Returns the least instant at which the predecessors of activity `j` allow it to start.
-fn release_of(network: &Network, starts: &[u64], j: u32) -> u64
-    requires activity { IsActivity network.now j }
-    requires whole { length starts.now ≡ count_of network.now }
-    requires limit { All IsInTime starts.now }
-    ensures above { (i : ℕ) → IsArc network.now i j
-        → slice_index starts.now (i - 1) + duration_of network.now i + lag_of network.now i j
-        ≤ result }
-    ensures reached { (result ≡ 0) ⊎ ((i : ℕ) × IsArc network.now i j × (result
-        ≡ slice_index starts.now (i - 1) + duration_of network.now i + lag_of network.now i j)) }
+// Returns the starts as a schedule in which all activities are placed.
+fn placed_at(alloc: Global, starts: &[u64]) -> Result<Vec<Option<u64>>, AllocError>
+    ensures { IfOk result (λ placed. placed.items ≡ all_placed starts.now) }
 {
-    let lags = network.lags_into(j);
-    let mut latest = 0u64;
-    for (k, &i) in network.preds(j).iter().enumerate() {
-        let end = starts[i as usize - 1] + network.duration(i);
-        latest = latest.max(end + lags[k]);
+    let mut placed = Vec::with_capacity(alloc, starts.len())?;
+    for &start in starts {
+        placed.push(Some(start))?;
     }
-    latest
+    Ok(placed)
 }
 
 // Tests whether activity `j` can start earlier while all others keep their starts. A shifted
 // interval that ends after the old start covers the last instant before it, so there the activity
 // must fit by itself.
-fn can_shift(instance: &Instance, profile: &Profile, starts: &[u64], j: u32) -> bool
+fn can_shift(
+    instance: &Instance,
+    profile: &Profile,
+    starts: &[u64],
+    placed: &[Option<u64>],
+    j: u32,
+) -> bool
     requires activity { IsActivity instance.now.project.network j }
     requires limit { All IsInTime starts.now }
+    requires placed { placed.now ≡ all_placed starts.now }
     requires feasible { IsFeasible (problem_of instance.now) starts.now }
     requires holds { HoldsBefore END (problem_of instance.now) starts.now profile.now }
     ensures { IsTrue result ↔ HasShift (problem_of instance.now) starts.now (j - 1) }
@@ -65,7 +62,7 @@ fn can_shift(instance: &Instance, profile: &Profile, starts: &[u64], j: u32) -> 
     let network = instance.network();
     let needs = instance.needs(j);
     let start = starts[j as usize - 1];
-    let release = release_of(network, starts, j);
+    let release = release_of(instance, placed, j);
     if start <= release {
         return false;
     }
@@ -84,9 +81,10 @@ pub(super) fn first_shift(
     ensures { IfOk result (IsShiftAnswer (problem_of instance.now) starts.now) }
 {
     let profile = profile_of(alloc, instance, starts)?;
+    let placed = placed_at(alloc, starts)?;
     for k in 0..instance.network().len() {
         let j = k as u32 + 1;
-        if can_shift(instance, &profile, starts, j) {
+        if can_shift(instance, &profile, starts, &placed, j) {
             return Ok(Some(j));
         }
     }

@@ -21,5 +21,5 @@ pub returns-in-Some-clause-limit : goal.returns-in-Some-clause-limit
 returns-in-Some-clause-limit c =
     let lasts : c.duration.result ≡ duration (problem_of c.args.instance.now) (c.args.j - 1) =
     c.duration.ensures.value ∙ ap (λ (n : Net). duration_of n c.args.j) c.network.ensures.network ∙ duration_place c.args.instance.now c.args.j c.requires.activity in
-    let limit : c.in-Some.start + duration (problem_of c.args.instance.now) (c.args.j - 1) ≤ 6020000 = c.requires.partial.ends (c.args.j - 1) c.in-Some.start c.in-Some.is in
+    let limit : c.in-Some.start + duration (problem_of c.args.instance.now) (c.args.j - 1) ≤ 10010000 = c.requires.partial.ends (c.args.j - 1) c.in-Some.start c.in-Some.is in
     omega (arith, lasts, limit)

@@ -29,10 +29,10 @@ loop-k-preserved c =
     let value : c.end_of.result + get_or c.lags_into-lags.result.now c.loop-k.k 0 ≡ end_of (problem_of c.args.instance.now) c.args.placed.now (get_or items c.loop-k.k 0 - 1) + lag_of c.args.instance.now.project.network (get_or items c.loop-k.k 0) c.args.j = omega (arith, lag, c.end_of.ensures.value) in
     let more = greatest_more (λ i. IsArc c.args.instance.now.project.network i c.args.j) (λ i. end_of (problem_of c.args.instance.now) c.args.placed.now (i - 1) + lag_of c.args.instance.now.project.network i c.args.j)
     items c.loop-k.k c.loop-k.from (c.end_of.result + get_or c.lags_into-lags.result.now c.loop-k.k 0) c.max-from.result c.max-from.ensures arc' value c.loop-k.invariant.above c.loop-k.invariant.reached in
-    record { above = more.0; reached = more.1; limit = omega (arith, c.max-from.ensures, c.loop-k.invariant.limit, c.end_of.ensures.limit, c.lags_into-lags.ensures.limit c.loop-k.k within.0) }
+    record { above = more.0; reached = more.1 }
 
-pub returns-clause-value : goal.returns-clause-value
-returns-clause-value c =
+pub returns : goal.returns
+returns c =
     let net = c.network-network.ensures.network in
     release_is c.args.instance.now c.args.placed.now c.args.j c.loop-k.from c.network-network.ensures.instance.project.network c.requires.activity
     (λ h arc. each_of_rising (λ i. IsArc c.network-network.result.now i c.args.j) (λ i. end_of (problem_of c.args.instance.now) c.args.placed.now (i - 1) + lag_of c.args.instance.now.project.network i c.args.j ≤ c.loop-k.from) c.preds-i-items.result.now c.preds-i-items.ensures.exact

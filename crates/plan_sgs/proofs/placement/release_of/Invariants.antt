@@ -9,5 +9,4 @@ abbrev pub invariant-loop-k : goal.invariant-loop-k
 invariant-loop-k l = record {
   above : (m : ℕ) → m < l.k → end_of (problem_of l.instance) l.placed (get_or l.i-items m 0 - 1) + lag_of l.instance.project.network (get_or l.i-items m 0) l.j ≤ l.from;
   reached : (l.from ≡ 0) ⊎ ((i : ℕ) × IsArc l.instance.project.network i l.j × (l.from ≡ end_of (problem_of l.instance) l.placed (i - 1) + lag_of l.instance.project.network i l.j));
-  limit : l.from ≤ 6030000;
 }
