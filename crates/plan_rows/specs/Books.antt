@@ -59,8 +59,8 @@ module _ {B : Type 0} (shelf : Shelf B) (old new : B) where
     pub wanted : IfErr result (λ fault. fault ≡ NoMemory → shelf.denials new ≡ shelf.denials old)
     pub denied : IfErr result (λ fault. fault ≡ Store → shelf.denials new ≡ shelf.denials old + 1)
 
-  -- A call that writes: if it succeeds, the tables are changed, and a crash leaves them as they are.
-  -- If it fails, they are as before, and a crash may also leave the changed ones.
+  -- A call that writes: if it succeeds, the tables are changed, and a crash leaves them as they
+  -- are. If it fails, they are as before, and a crash may also leave the changed ones.
   pub record Writes {X : Type 0} (result : Result X BookFault) (change : World → World) : Type 0 where
     pub honesty : shelf.honest new → shelf.honest old
     pub stood : shelf.honest new → shelf.stands new → shelf.stands old

@@ -1,5 +1,5 @@
--- The changes of an office, and the rows after each (docs/definitions.md, "Desks"). A change names no
--- desk. It is made for the desk of the request, so it changes no row of another desk.
+-- The changes of an office, and the rows after each (docs/definitions.md, "Desks"). A change names
+-- no desk. It is made for the desk of the request, so it changes no row of another desk.
 use Rattle.std.specs.Prelude.{ℕ, ◌+◌, Bool, true, false, not, if◌then◌else◌, ◌==◌, List, [], ◌∷◌, ◌++◌, Option, Some, None, map, filter}
 use Rattle.std.specs.List.{list_any}
 use Rattle.plan_rows.specs.declared.kinds.Kind.{Kind}

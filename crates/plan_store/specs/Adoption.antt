@@ -59,8 +59,9 @@ IsOpenAfter NotOurs s = HasCleanDisk s → IsTrue s.is_open
 IsOpenAfter Version s = HasCleanDisk s → IsTrue s.is_open
 IsOpenAfter _ s = Unit {0}
 
--- The tables are adopted, and a crash leaves them and nothing else. Or they don't change, and a crash
--- may leave anything that it could leave before, or migrated tables if memory or the store failed.
+-- The tables are adopted, and a crash leaves them and nothing else. Or they don't change, and a
+-- crash may leave anything that it could leave before, or migrated tables if memory or the store
+-- failed.
 pub record Takes (old new : State) {X : Type 0} (result : Result X StoreFault) : Type 0 where
   pub outside : new.in_transaction ≡ false
   pub honesty : HasCleanDisk new → HasCleanDisk old

@@ -10,8 +10,8 @@ use Rattle.plan_rows.specs.Plans.{in_order, code_before}
 use Rattle.plan_rows.specs.KeyedRows.{desk_before, plan_key_before, bind_key_before, lag_key_before}
 use Rattle.plan_summary.specs.declared.summary.Summary.{Summary}
 
--- The values of a row are separated by blanks. Digests are in lower-case hexadecimal digits, and the
--- name and the file of a plan in upper-case ones.
+-- The values of a row are separated by blanks. Digests are in lower-case hexadecimal digits, and
+-- the name and the file of a plan in upper-case ones.
 abbrev pub office_line : Digest → Text
 office_line digest = codes "office " ++ encode_lower digest ++ codes "\n"
 

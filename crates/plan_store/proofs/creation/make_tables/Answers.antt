@@ -14,10 +14,10 @@ returns-in-Ok-made g c =
     created_all g.S.Store c.args.digest.now c.digits_of.ensures.known c.args.conn.now new c.requires.empty did.outside (rw (c.as_slice.ensures, c.in-Ok.ensures.digits) at did.survives)
     (λ trees live may. g.met.S.Store.settled new.store trees live may) (rw (c.as_slice.ensures, c.in-Ok.ensures.digits) at did.made) (Ok tt) refl
 
-pub returns-in-Err-made : goal.returns-in-Err-made
-returns-in-Err-made g c =
+pub returns-in-Err : goal.returns-in-Err
+returns-in-Err g c =
     let new = c.run_all-made.new.conn in
-    let did = c.in-Err-made.ensures in
+    let did = c.in-Err.ensures in
     let settled = c.is_autocommit-settled.ensures in
     created_none g.S.Store c.args.digest.now c.digits_of.ensures.known c.args.conn.now new c.requires.empty did.outside (rw (c.as_slice.ensures, c.in-Ok.ensures.digits) at did.survives)
     (λ outside live. settled.settled (rw (settled.value, outside) refl) live) c.requires.outside (λ clean live. did.neither clean live) (Err c.store_fault_of.result) c.store_fault_of.result refl (c.store_fault_of.ensures.ours, c.store_fault_of.ensures.known)

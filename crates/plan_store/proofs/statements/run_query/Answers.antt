@@ -7,8 +7,8 @@ use Rattle.sqlite.proofs.Callers.{IsPlain}
 use Rattle.plan_store.proofs.QueryEffectLemmas.{queries_then, if_ok, read_from}
 use Rattle.plan_store.proofs.statements.run_query.Goals as goal
 
-pub shown-requires-clause-plain : goal.shown-requires-clause-plain
-shown-requires-clause-plain g c clean =
+pub run-requires-clause-plain : goal.run-requires-clause-plain
+run-requires-clause-plain g c clean =
     let first = c.in_ok-statement.ensures in
     let did = first.answer clean in
     let same = first.same clean did.0 in
