@@ -20,7 +20,7 @@ use Rattle.plan_rows.specs.Plans.{has_arc}
 use Rattle.plan_rows.specs.Rules.{AllDiffer, IsThereAnd, IsPlanRow, IsOwned, IsLagRow, IsWorld, is_desk_row}
 use Rattle.plan_rows.specs.Tables.{head_of, head_seen, lag_kept}
 use Rattle.plan_rows.specs.RowTests.{Tells, GivesFile, RowKey, HeldKey, shown_key, same_key, KeysDiffer, RowsAreGood}
-use Rattle.plan_rows.specs.Reviewing.{holds_key, has_row, is_arc_key, lag_key_of, is_owner, arc_key, HasArc, SomeHasArc, AreOnArcs, IsStruck, IsStruckBy, IsLeft, SomeLeft, IsSeen, AreSeen, key_at}
+use Rattle.plan_rows.specs.PlanReview.{holds_key, has_row, is_arc_key, lag_key_of, is_owner, arc_key, HasArc, SomeHasArc, AreOnArcs, IsStruck, IsStruckBy, IsLeft, SomeLeft, IsSeen, AreSeen, key_at}
 use Rattle.plan_rows.proofs.KeyLemmas.{one_plan_key, one_plan}
 use Rattle.plan_rows.proofs.KeyedLemmas.{same_key_swap, plan_key, lag_key}
 use Rattle.plan_rows.proofs.OwnerLemmas.{text_from_same, same_text_refl}

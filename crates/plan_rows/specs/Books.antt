@@ -1,4 +1,4 @@
--- What the calls of a book promise, whatever keeps its tables (docs/definitions.md, "Books").
+-- The contracts of a book's calls, for any storage (docs/definitions.md, "Books").
 use Rattle.std.specs.Prelude.{◌≡◌, ◌⊎◌, ℕ, ◌+◌, ◌-◌, ◌^◌, ◌≤◌, min, List, Option, Some, None, Result, IfOk, IfErr, OnOk, OnErr, map, string_bytes}
 use Rattle.plan_rows.specs.declared.fault.BookFault.{BookFault}
 use Rattle.plan_rows.specs.declared.fault.BookFault.TheVariants.{NoMemory, Store}
@@ -15,33 +15,33 @@ use Rattle.plan_rows.specs.Views.{View}
 use Rattle.plan_rows.specs.Plans.{in_order, lags_of, places_of}
 use Rattle.plan_rows.specs.Plans.{code_before, plan_before}
 
--- What contracts see of a book of some type.
+-- The functions and facts of a type of book that contracts use.
 pub record Shelf (B : Type 0) : Type 1 where
-  -- what its tables hold
+  -- the rows of its tables
   pub world : B → World
-  -- the tables can be seen: a store that a fault has shut stands no more
+  -- the tables can be read; after an error that closes the store they can't
   pub stands : B → Type 0
   -- the disk has returned what was written
   pub honest : B → Type 0
-  -- a book of the type may refuse at all
+  -- calls on a book of the type can fail for the store
   pub can_refuse : Type 0
-  -- what a crash may leave as the last call ended: an office, or tables that are none
+  -- a crash after the last call may leave this office, or tables that hold no office
   pub may_leave : B → Option World → Type 0
-  -- how many writing calls were made, and how many were refused
+  -- the numbers of writing calls that succeeded and that failed
   pub made : B → ℕ
   pub refused : B → ℕ
-  -- how many calls, reading or writing, were answered that the store refused
+  -- the number of calls, reading or writing, that failed for the store
   pub denials : B → ℕ
-  -- how many times the disk failed or refused
+  -- the number of errors of the disk
   pub faults : B → ℕ
 
--- a count of faults rose, unless it is at the top of 64 bits
+-- the count of errors rose, unless it is 2^64 - 1
 abbrev pub MoreFaults : ℕ → ℕ → Type 0
 MoreFaults old new = min (old + 1) (2 ^ 64 - 1) ≤ new
 
 module _ {B : Type 0} (shelf : Shelf B) (old new : B) where
-  -- a call that reads: its answer is true of the tables, which stay, and it adds nothing to what a
-  -- crash may leave
+  -- A call that reads: its result is correct for the tables, which don't change, and a crash leaves
+  -- nothing that it couldn't leave before.
   pub record Reads {X : Type 0} (result : Result X BookFault) (Is : X → Type 0) : Type 0 where
     pub honesty : shelf.honest new → shelf.honest old
     pub stood : shelf.honest new → shelf.stands new → shelf.stands old
@@ -51,16 +51,16 @@ module _ {B : Type 0} (shelf : Shelf B) (old new : B) where
     pub store : IfErr result (λ fault. fault ≡ Store → shelf.can_refuse)
     pub made : shelf.made new ≡ shelf.made old
     pub refused : shelf.refused new ≡ shelf.refused old
-    -- no fault is forgotten, and only a counted one shuts the tables
+    -- errors are counted, and only a counted error closes the tables
     pub counts : shelf.faults old ≤ shelf.faults new
     pub closes : shelf.honest new → shelf.stands old → shelf.stands new ⊎ MoreFaults (shelf.faults old) (shelf.faults new)
-    -- a refusal of the store is counted, and nothing else is counted as one
+    -- failures of the store are counted, and nothing else is
     pub told : OnOk result (shelf.denials new ≡ shelf.denials old)
     pub wanted : IfErr result (λ fault. fault ≡ NoMemory → shelf.denials new ≡ shelf.denials old)
     pub denied : IfErr result (λ fault. fault ≡ Store → shelf.denials new ≡ shelf.denials old + 1)
 
-  -- a call that writes: where it is made, the tables are changed, and a crash leaves them alone; where
-  -- it is refused, they are as they were, and a crash may leave the change besides
+  -- A call that writes: if it succeeds, the tables are changed, and a crash leaves them as they
+  -- are. If it fails, they are as before, and a crash may also leave the changed ones.
   pub record Writes {X : Type 0} (result : Result X BookFault) (change : World → World) : Type 0 where
     pub honesty : shelf.honest new → shelf.honest old
     pub stood : shelf.honest new → shelf.stands new → shelf.stands old
@@ -78,7 +78,7 @@ module _ {B : Type 0} (shelf : Shelf B) (old new : B) where
     pub wanted : IfErr result (λ fault. fault ≡ NoMemory → shelf.denials new ≡ shelf.denials old)
     pub denied : IfErr result (λ fault. fault ≡ Store → shelf.denials new ≡ shelf.denials old + 1)
 
--- an answer matches a row that is there, or there is neither
+-- an answer matches a row, or there is neither
 abbrev pub Matches : {A X : Type 0} → (A → X → Type 0) → Option A → Option X → Type 0
 Matches Is None None = Unit {0}
 Matches Is None (Some x) = ⊥
@@ -96,7 +96,7 @@ pub record IsCapacityAnswer (row : Published) (answer : Kind × ℕ) : Type 0 wh
 abbrev pub published_in : CodeRow → Published
 published_in row = record { code = string_bytes row.code; kind = row.kind; capacity = row.capacity }
 
--- all published codes, rising
+-- all published codes in ascending order
 abbrev pub ListsCodes : List Published → List CodeRow → Type 0
 ListsCodes rows answer = map published_in answer ≡ in_order code_before rows
 
@@ -106,7 +106,7 @@ entry_of row = (row.n, row.kind)
 abbrev pub entry_in : PlanEntry → ℕ × PlanKind
 entry_in entry = (entry.n, entry.kind)
 
--- the plans of a desk by their numbers and kinds, rising by number
+-- the numbers and kinds of a desk's plans, by number
 abbrev pub ListsPlans : List Plan → List PlanEntry → Type 0
 ListsPlans rows answer = map entry_in answer ≡ map entry_of (in_order plan_before rows)
 
@@ -116,7 +116,7 @@ bind_in entry = (entry.place, string_bytes entry.code)
 abbrev pub lag_in : LagEntry → ℕ × ℕ × ℕ
 lag_in entry = (entry.from, entry.to, entry.lag)
 
--- a plan that a desk sees, with its bound places and its lags, both rising
+-- a plan of a desk, with its binds and its lags in ascending order
 pub record IsPlanAnswer (v : View) (row : Plan) (answer : PlanRow) : Type 0 where
   pub kind : answer.kind ≡ row.kind
   pub name : string_bytes answer.name ≡ row.name

@@ -1,6 +1,5 @@
--- What a command changes: one constructor for each, and the rows after it (docs/definitions.md,
--- "Desks"). A change names no desk. It is made for the desk that the request names, so that it can
--- touch no row of another.
+-- The changes of an office, and the rows after each (docs/definitions.md, "Desks"). A change names
+-- no desk. It is made for the desk of the request, so it changes no row of another desk.
 use Rattle.std.specs.Prelude.{ℕ, ◌+◌, Bool, true, false, not, if◌then◌else◌, ◌==◌, List, [], ◌∷◌, ◌++◌, Option, Some, None, map, filter}
 use Rattle.std.specs.List.{list_any}
 use Rattle.plan_rows.specs.declared.kinds.Kind.{Kind}
@@ -18,15 +17,15 @@ pub data Change : Type 0 where
   SetCalendar : (n : ℕ) (start days : Text) → Change
   SetLag : (n source target lag : ℕ) → Change
 
--- the rows that pass, changed where they stand
+-- the rows, with those that pass the test changed in place
 abbrev pub changed : {A : Type 0} → (A → Bool) → (A → A) → List A → List A
 changed p f rows = map (λ row. if p row then f row else row) rows
 
--- the rows that pass, changed where they stand, or one more row where none does
+-- the rows, with those that pass the test changed in place, or with a new row if none passes
 abbrev pub put : {A : Type 0} → (A → Bool) → (A → A) → A → List A → List A
 put p f new rows = if list_any p rows then changed p f rows else rows ++ new ∷ []
 
--- the rows that don't pass
+-- the rows that don't pass the test
 abbrev pub without : {A : Type 0} → (A → Bool) → List A → List A
 without p rows = filter (λ row. not (p row)) rows
 
@@ -47,7 +46,7 @@ with_digest digest row = record row { digest = digest }
 abbrev pub risen : Desk → Desk
 risen row = record row { next = row.next + 1 }
 
--- the number that the next plan gets
+-- the number of the next plan
 abbrev pub next_of : Option Desk → ℕ
 next_of None = 0
 next_of (Some row) = row.next
@@ -82,7 +81,7 @@ lags_after desk n source target lag rows =
 -- the tables after a change that is made for a desk
 abbrev pub apply : Text → Change → World → World
 apply desk Keep w = w
--- a known code gets the capacity, and a new one a row
+-- the capacity of a published code is set; a new code is added
 apply desk (Publish code kind capacity) w =
     record w {
       published = put (is_code code) (with_capacity capacity) (new_code code kind capacity) w.published;
@@ -96,7 +95,7 @@ apply desk (AddPlan kind name body) w =
       desks = changed (is_desk desk) risen w.desks;
       plans = w.plans ++ new_plan desk (next_of (desk_in w desk)) kind name body ∷ [];
     }
--- a plan goes with its binds and lags
+-- a plan is removed with its binds and lags
 apply desk (RemovePlan n) w =
     record w {
       plans = without (is_plan desk n) w.plans;

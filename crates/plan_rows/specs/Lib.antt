@@ -6,6 +6,7 @@ pub mod Plans
 pub mod Rules
 pub mod Books
 pub mod Tables
-pub mod Listing
+pub mod KeyedRows
 pub mod RowTests
-pub mod Reviewing
+pub mod PlanReview
+pub mod BookCalls

@@ -1,5 +1,5 @@
--- What a plan is worked out from: its file, the lags of its desk, and the published capacities of
--- the codes that are bound to its places (docs/definitions.md, "Desks").
+-- The problem of a plan: its file, its lags, and the published capacities of the codes that are
+-- bound to its places (docs/definitions.md, "Desks").
 use Rattle.std.specs.Prelude.{◌≡◌, ℕ, zero, suc, ◌+◌, Bool, true, ◌&&◌, ◌||◌, not, ◌==◌, nat_lt, if◌then◌else◌, List, [], ◌∷◌, ◌++◌, length, map, filter, find, Option, Some, None, unwrap_or, option_map, option_and_then}
 use Rattle.std.specs.List.{list_any}
 use Rattle.std.specs.Cmp.Lexicographic.{slice_cmp}
@@ -19,13 +19,13 @@ use Rattle.plan_rows.specs.World.{Text, Published, Plan, Bind, Lag, code_in}
 use Rattle.plan_rows.specs.Names.{is_from_to, begins_with}
 use Rattle.plan_rows.specs.Views.{View}
 
--- a row, put before the first that it comes before
+-- a row, inserted before the first one that it comes before
 abbrev pub put_in_order : {A : Type 0} → (A → A → Bool) → A → List A → List A
 put_in_order before x [] = x ∷ []
 put_in_order before x (y ∷ ys) =
     if before y x then y ∷ put_in_order before x ys else x ∷ y ∷ ys
 
--- the rows, rising
+-- the rows in ascending order
 abbrev pub in_order : {A : Type 0} → (A → A → Bool) → List A → List A
 in_order before [] = []
 in_order before (x ∷ xs) = put_in_order before x (in_order before xs)
@@ -37,7 +37,7 @@ code_before a b = is_lt (slice_cmp nat_cmp a.code b.code)
 abbrev pub plan_before : Plan → Plan → Bool
 plan_before a b = nat_lt a.n b.n
 
--- 1 to 7 digits without a zero in front
+-- 1–7 digits without a leading zero
 abbrev pub plan_number : Text → Option ℕ
 plan_number text =
     if is_from_to 1 7 (length text) && not (begins_with 48 text) then number text else None
@@ -45,7 +45,7 @@ plan_number text =
 abbrev pub has_number : ℕ → Plan → Bool
 has_number n row = row.n == n
 
--- the plan of a number that a text spells, among those of the desk
+-- the plan of the desk whose number is this text
 abbrev pub plan_seen : View → Text → Option Plan
 plan_seen v text = option_and_then (λ n. find (has_number n) v.plans) (plan_number text)
 
@@ -57,7 +57,7 @@ lag_before a b =
 abbrev pub arc_of : Lag → ℕ × ℕ × ℕ
 arc_of row = (row.source, row.target, row.lag)
 
--- the arcs of a plan that have lags, rising
+-- the arcs of a plan that have lags, in ascending order
 abbrev pub lags_of : View → ℕ → List (ℕ × ℕ × ℕ)
 lags_of v n = map arc_of (in_order lag_before (filter (λ row. row.n == n) v.lags))
 
@@ -67,7 +67,7 @@ bind_before a b = nat_lt a.place b.place
 abbrev pub place_of : Bind → ℕ × Text
 place_of row = (row.place, row.code)
 
--- the bound places of a plan, rising
+-- the binds of a plan, by place
 abbrev pub places_of : View → ℕ → List (ℕ × Text)
 places_of v n = map place_of (in_order bind_before (filter (λ row. row.n == n) v.binds))
 
@@ -89,14 +89,14 @@ abbrev pub IsProjectOf : View → Plan → Project → Type 0
 IsProjectOf v plan p =
     (said : Project) × files.SaysProject plan.body said × (p ≡ lagged_by (lags_of v plan.n) said)
 
--- from a place on, the published capacities of the bound codes, else those of the file
+-- from a place on, the published capacities of the bound codes, otherwise those of the file
 abbrev pub capacities_from : View → ℕ → ℕ → List ℕ → List ℕ
 capacities_from v n place [] = []
 capacities_from v n place (available ∷ others) =
     unwrap_or (option_map (λ row. row.capacity) (code_at v n place)) available
     ∷ capacities_from v n (place + 1) others
 
--- a project against the capacities that are bound to its resources, which have places from 1 on
+-- a project with the capacities that are bound to its resources, whose places are numbered from 1
 abbrev pub bound_project : View → Plan → Project → Planned
 bound_project v plan p = planned p (capacities_from v plan.n 1 p.available)
 
@@ -105,7 +105,7 @@ abbrev pub is_open : Option Published → Bool
 is_open None = true
 is_open (Some row) = not (row.capacity == 0)
 
--- which of the first n machines are open; they have places from 0 on
+-- for the first n machines, whether they are open; places are numbered from 0
 abbrev pub open_machines : View → ℕ → ℕ → List Bool
 open_machines v n zero = []
 open_machines v n (suc machines) = open_machines v n machines ++ is_open (code_at v n machines) ∷ []
@@ -114,13 +114,13 @@ open_machines v n (suc machines) = open_machines v n machines ++ is_open (code_a
 abbrev pub IsShopOf : Plan → JobShop → Type 0
 IsShopOf plan s = (doc : docs.Shop) × Says plan.name plan.body doc × (s ≡ shop_of doc)
 
--- how many places a plan has: the resources of its project, or the machines of its shop
+-- the number of places of a plan: the resources of its project, or the machines of its shop
 abbrev pub HasPlaces : PlanKind → Text → Text → ℕ → Type 0
 HasPlaces kinds.Project name body count =
     (p : Project) × files.SaysProject body p × (count ≡ length p.available)
 HasPlaces kinds.Shop name body count = (doc : docs.Shop) × Says name body doc × (count ≡ doc.machines)
 
--- the place is one of so many: of a project from 1 on, of a shop from 0 on
+-- the place is one of n, numbered from 1 for a project and from 0 for a shop
 abbrev pub is_place : PlanKind → ℕ → ℕ → Bool
 is_place kinds.Project count place = is_from_to 1 count place
 is_place kinds.Shop count place = nat_lt place count

@@ -19,7 +19,7 @@ abbrev pub AllDiffer : {A : Type 0} → (A → A → Bool) → List A → Type 0
 AllDiffer alike [] = Unit {0}
 AllDiffer alike (x ∷ xs) = AllByRecursion (λ y. alike x y ≡ false) xs × AllDiffer alike xs
 
--- there is a row, and this holds of it
+-- there is a row, and it has this property
 abbrev pub IsThereAnd : {A : Type 0} → Option A → (A → Type 0) → Type 0
 IsThereAnd None P = ⊥
 IsThereAnd (Some x) P = P x
@@ -28,7 +28,7 @@ IsThereAnd (Some x) P = P x
 abbrev pub greatest_number : ℕ
 greatest_number = 1000000
 
--- the most plans of a desk
+-- the most plans that a desk can have
 abbrev pub most_plans : ℕ
 most_plans = 100
 
@@ -48,31 +48,31 @@ abbrev pub HasCalendar : Text → Text → Type 0
 HasCalendar start days =
     ((start ≡ []) × (days ≡ [])) ⊎ ((c : Workdays) × IsCalendar start days c)
 
--- a plan has a number, a file that is read without a fault, and a calendar or none
+-- a plan has a number, a valid file, and a calendar or none
 pub record IsPlanRow (row : Plan) : Type 0 where
   pub number : is_from_to 1 greatest_number row.n ≡ true
   pub name : HasName row.kind row.name
   pub reads : (count : ℕ) × HasPlaces row.kind row.name row.body count
   pub calendar : HasCalendar row.start row.days
 
--- the plan of a bind is there and has the place, and its code is published and of the plan's kind
+-- the plan of a bind exists and has the place, and its code is published and of the plan's kind
 abbrev pub IsBindRow : World → Bind → Type 0
 IsBindRow w row = IsThereAnd (plan_in w row.desk row.n) (λ plan.
     ((count : ℕ) × HasPlaces plan.kind plan.name plan.body count × (is_place plan.kind count row.place ≡ true))
     × IsThereAnd (code_in w.published row.code) (λ code. same_kind code.kind (takes plan.kind) ≡ true))
 
--- the plan of a lag is a project, there and with the arc; the lag is at least 1, and not too long
+-- the plan of a lag exists and is a project with the arc, and the lag is in range
 abbrev pub IsLagRow : World → Lag → Type 0
 IsLagRow w row = IsThereAnd (plan_in w row.desk row.n) (λ plan.
     (plan.kind ≡ kinds.Project)
     × ((p : Project) × files.SaysProject plan.body p × (has_arc p.network row.source row.target ≡ true))
     × (is_from_to 1 longest_lag row.lag ≡ true))
 
--- the desk of a plan is there, and its next number is above the plan's
+-- the desk of a plan exists, and its next number is above the plan's
 abbrev pub IsOwned : World → Plan → Type 0
 IsOwned w row = IsThereAnd (desk_in w row.desk) (λ desk. row.n < desk.next)
 
--- each row keeps its rules, and the rows of each table have their keys once
+-- each row keeps its rules, and the rows of each table have distinct keys
 pub record IsWorld (w : World) : Type 0 where
   pub office : is_digest w.office ≡ true
   pub published : AllByRecursion (λ row. is_published_row row ≡ true) w.published

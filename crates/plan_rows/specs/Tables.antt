@@ -1,4 +1,4 @@
--- What the rows that code keeps stand for (docs/definitions.md, "Books").
+-- The office that tables in memory hold (docs/definitions.md, "Books").
 use Rattle.std.specs.Prelude.{List, [], map, string_bytes}
 use Rattle.plan_rows.specs.declared.row_tests.beside.Beside.{Beside}
 use Rattle.plan_rows.specs.declared.row_tests.beside.PlanSeen.{PlanSeen}
@@ -66,7 +66,7 @@ head_of plan = record {
   days = [];
 }
 
--- the head of a plan, as it was seen
+-- the head of a tested plan
 abbrev pub head_seen : PlanSeen → Plan
 head_seen row = record {
   desk = string_bytes row.desk;
@@ -78,7 +78,7 @@ head_seen row = record {
   days = [];
 }
 
--- the rows of all tables, where these are the plans
+-- the rows of all tables, with these plans
 abbrev pub world_beside : Beside → List Plan → World
 world_beside beside plans = record {
   office = beside.office.now;

@@ -1,4 +1,4 @@
--- What one desk sees of the office (docs/definitions.md, "Desks").
+-- The rows of the office that one desk sees (docs/definitions.md, "Desks").
 use Rattle.std.specs.Prelude.{◌≡◌, List, Option, option_to_list, filter, IsPermutation}
 use Rattle.plan_rows.specs.World.{Text, Digest, Published, Desk, Plan, Bind, Lag, World, is_plan_of, is_bind_by, is_lag_by, desk_in}
 
@@ -33,7 +33,7 @@ alone v = record {
   lags = v.lags;
 }
 
--- two views have the same rows, in whatever order each was written
+-- two views have the same rows, in any order
 pub record Agree (v u : View) : Type 0 where
   pub office : v.office ≡ u.office
   pub published : IsPermutation v.published u.published

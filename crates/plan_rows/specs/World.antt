@@ -1,5 +1,5 @@
--- What an office keeps: the rows of all desks together, in the order in which they were written
--- (docs/definitions.md, "Desks").
+-- An office: the rows of all desks together, in the order of writing (docs/definitions.md,
+-- "Desks").
 use Rattle.std.specs.Prelude.{ℕ, Bool, true, false, ◌&&◌, ◌==◌, List, [], Option, find, bytes_eq}
 use Rattle.plan_rows.specs.declared.kinds.Kind.{Kind}
 use Rattle.plan_rows.specs.declared.kinds.PlanKind.{PlanKind}
@@ -14,20 +14,20 @@ Text = List ℕ
 abbrev pub Digest : Type 0
 Digest = List ℕ
 
--- a code that all desks may bind, and how much there is of what it stands for
+-- a code that all desks can bind, and its capacity
 pub record Published : Type 0 where
   pub code : Text
   pub kind : Kind
   pub capacity : ℕ
 
--- a desk, the digest of its key, and the number that its next plan gets
+-- a desk, the digest of its key, and the number of its next plan
 pub record Desk : Type 0 where
   pub desk : Text
   pub digest : Digest
   pub next : ℕ
 
--- A plan of a desk: the file as it was sent, and for a shop the instance in it. The start date and
--- the marks of its calendar are both empty without one.
+-- A plan of a desk: the file as it was sent, and the name of a shop's instance. The start date and
+-- the workdays are empty if it has no calendar.
 pub record Plan : Type 0 where
   pub desk : Text
   pub n : ℕ
@@ -75,12 +75,12 @@ same_kind Machine Machine = true
 same_kind Crew Machine = false
 same_kind Machine Crew = false
 
--- the kind of code that a plan takes
+-- the kind of code that a plan can use
 abbrev pub takes : PlanKind → Kind
 takes Project = Crew
 takes Shop = Machine
 
--- which row it is: a desk is found by its whole name
+-- the tests that find rows by their keys
 abbrev pub is_code : Text → Published → Bool
 is_code code row = same_text row.code code
 

@@ -1,4 +1,4 @@
-//! Why a call of a book failed.
+//! The errors of a book's calls.
 
 ghost use Rattle.std.specs.Prelude.{◌≡◌};
 ghost use Rattle.plan_rows.specs.declared.fault.BookFault.TheVariants.{NoMemory};
@@ -12,7 +12,7 @@ pub enum BookFault {
     /// Memory ran out.
     #[error("no memory")]
     NoMemory,
-    /// The store refused.
+    /// The store failed.
     #[error("the store refused")]
     Store,
 }

@@ -1,20 +1,20 @@
-//! What published codes and plans are.
+//! The kinds of published codes and of plans.
 
-/// What a published code stands for, and so which plans can take it.
+/// The kind of a published code. It decides which plans can use the code.
 #[derive(Debug, Clone, Copy, PartialEq, Eq, Drop)]
 pub enum Kind {
-    /// A crew, which projects take: its capacity is how much of the crew there is.
+    /// A crew, for projects. Its capacity is the number of units of the crew.
     Crew,
-    /// A machine, which shops take: at capacity 0 it is closed.
+    /// A machine, for shops. It is closed if its capacity is 0.
     Machine,
 }
 
-/// What a plan is made of.
+/// The kind of a plan.
 #[derive(Debug, Clone, Copy, PartialEq, Eq, Drop)]
 pub enum PlanKind {
-    /// A project, from a PSPLIB text.
+    /// A project, from a PSPLIB file.
     Project,
-    /// A job shop, from an OR-Library text.
+    /// A job shop, from an OR-Library file.
     Shop,
 }
 
@@ -22,7 +22,7 @@ impl Kind {
     ghost use Rattle.std.specs.Prelude.{◌≡◌, ◌≢◌, MatchOption};
     ghost use Rattle.plan_rows.specs.Names.{kind_text};
 
-    /// Its word: `crew` or `machine`.
+    /// Returns its name: `crew` or `machine`.
     pub fn word(self) -> &'static str
         ensures { result.now ≡ kind_text self }
     {
@@ -32,9 +32,10 @@ impl Kind {
         }
     }
 
-    /// The kind of a word, if it is one of theirs.
+    /// Returns the kind of this name, if there is one.
     pub fn of_word(word: &[u8]) -> Option<Self>
-        ensures { MatchOption result ((kind : Kind) → word.now ≢ kind_text kind) (λ kind. word.now ≡ kind_text kind) }
+        ensures { MatchOption result ((kind : Kind) → word.now ≢ kind_text kind)
+            (λ kind. word.now ≡ kind_text kind) }
     {
         if word == b"crew".as_slice() {
             Some(Kind::Crew)
@@ -50,7 +51,7 @@ impl PlanKind {
     ghost use Rattle.std.specs.Prelude.{◌≡◌, ◌≢◌, MatchOption};
     ghost use Rattle.plan_rows.specs.Names.{plan_kind_text};
 
-    /// Its word: `project` or `shop`.
+    /// Returns its name: `project` or `shop`.
     pub fn word(self) -> &'static str
         ensures { result.now ≡ plan_kind_text self }
     {
@@ -60,9 +61,10 @@ impl PlanKind {
         }
     }
 
-    /// The kind of a word, if it is one of theirs.
+    /// Returns the kind of this name, if there is one.
     pub fn of_word(word: &[u8]) -> Option<Self>
-        ensures { MatchOption result ((kind : PlanKind) → word.now ≢ plan_kind_text kind) (λ kind. word.now ≡ plan_kind_text kind) }
+        ensures { MatchOption result ((kind : PlanKind) → word.now ≢ plan_kind_text kind)
+            (λ kind. word.now ≡ plan_kind_text kind) }
     {
         if word == b"project".as_slice() {
             Some(PlanKind::Project)

@@ -1,7 +1,7 @@
-//! The limits of an office as constants.
+//! The limits of an office.
 
-/// The most plans of a desk.
+/// The most plans that a desk can have.
 pub const MOST_PLANS: usize = 100;
 
-/// The greatest number of a plan: a desk gives 1, 2, .. and none again.
+/// The greatest number of a plan. A desk numbers its plans 1, 2, .. and uses no number twice.
 pub const GREATEST_NUMBER: u64 = 1_000_000;

@@ -1,4 +1,4 @@
-//! The texts that name things: desks and codes, keys, and the numbers of plans.
+//! The names of desks and codes, keys, and the numbers of plans.
 
 ghost use Rattle.std.specs.Prelude.{◌≡◌, option_map};
 ghost use Rattle.std.specs.List.{list_all};
@@ -8,7 +8,7 @@ ghost use Rattle.plan_rows.specs.Plans as plans;
 use plan_psplib::number;
 use sha2::{Digest, Sha256};
 
-// The most bytes of the name of a desk, or of a code.
+// The most bytes of the name of a desk or of a code.
 const LONGEST_NAME: usize = 32;
 
 // The least and the most bytes of a key.
@@ -19,7 +19,7 @@ const LONGEST_KEY: usize = 64;
 // The most digits of a plan's number.
 const LONGEST_NUMBER: usize = 7;
 
-// `a` to `z`, `0` to `9` or `-`.
+// Returns whether a byte is `a` to `z`, `0` to `9` or `-`.
 fn is_name_byte(byte: u8) -> bool
     ensures { result ≡ spec.is_name_byte byte }
 {
@@ -41,8 +41,8 @@ fn begins_with(byte: u8, text: &[u8]) -> bool
     }
 }
 
-/// Whether a text can be the name of a desk, or a code: 1 to 32 of `a` to `z`, `0` to `9` and `-`, of
-/// which the first is no `-`.
+/// Returns whether a text is a valid name of a desk or a valid code: 1–32 characters `a` to `z`,
+/// `0` to `9` and `-`, the first of which isn't `-`.
 pub fn is_name(text: &[u8]) -> bool
     ensures { result ≡ spec.is_name text.now }
 {
@@ -58,14 +58,14 @@ fn are_printed(text: &[u8]) -> bool
     text.iter().all(|byte| (33..=126).contains(byte))
 }
 
-/// Whether a text can be a key: 8 to 64 printed characters of ASCII with no blank.
+/// Returns whether a text is a valid key: 8–64 printable ASCII characters without blanks.
 pub fn is_key(text: &[u8]) -> bool
     ensures { result ≡ spec.is_key text.now }
 {
     text.len() >= SHORTEST_KEY && text.len() <= LONGEST_KEY && are_printed(text)
 }
 
-/// The SHA-256 of a key, or none of a text that can't be one. Takes no memory.
+/// Returns the SHA-256 of a key, or `None` if the text isn't a valid key. It needs no memory.
 pub fn key_digest(text: &[u8]) -> Option<[u8; 32]>
     ensures { result ≡ spec.key_digest_of text.now }
 {
@@ -76,7 +76,7 @@ pub fn key_digest(text: &[u8]) -> Option<[u8; 32]>
     }
 }
 
-/// Whether a key was sent that has this digest.
+/// Returns whether a key was sent that has this digest.
 pub fn has_key(key: Option<&[u8]>, digest: &[u8; 32]) -> bool
     ensures { result ≡ spec.has_key (option_map (λ k. k.now) key.entry) digest.now }
 {
@@ -89,7 +89,7 @@ pub fn has_key(key: Option<&[u8]>, digest: &[u8; 32]) -> bool
     }
 }
 
-/// The number of a plan that a text spells: 1 to 7 digits without a zero in front.
+/// Parses the number of a plan: 1–7 digits without a leading zero.
 pub fn plan_number(text: &[u8]) -> Option<u64>
     ensures { result ≡ plans.plan_number text.now }
 {

@@ -1,4 +1,4 @@
-//! Tests of the rules of rows, for tables that someone else wrote.
+//! Tests of the rules of rows, for untrusted tables.
 
 mod beside;
 mod files;

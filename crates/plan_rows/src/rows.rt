@@ -1,8 +1,8 @@
-//! What a book answers: rows as code sees them.
+//! The rows that a book returns.
 
 use crate::kinds::{Kind, PlanKind};
 
-/// A desk: the SHA-256 of its key, and the number that its next plan gets.
+/// A desk: the SHA-256 of its key, and the number of its next plan.
 #[derive(Debug, Drop)]
 pub struct DeskRow {
     pub digest: [u8; 32],
@@ -24,8 +24,8 @@ pub struct PlanEntry {
     pub kind: PlanKind,
 }
 
-/// A code that is bound to a place: a resource of a project, from 1 on, or a machine of a shop, from
-/// 0 on.
+/// A code that is bound to a place. Places are the resources of a project, numbered from 1, or the
+/// machines of a shop, numbered from 0.
 #[derive(Debug, Drop)]
 pub struct BindEntry {
     pub place: u64,
@@ -40,8 +40,8 @@ pub struct LagEntry {
     pub lag: u64,
 }
 
-/// A plan: its file as it was sent, for a shop the name of the instance, its calendar (two empty
-/// texts without one), its bound places and its lags, both rising.
+/// A plan: its file as it was sent, the name of a shop's instance, its calendar (two empty texts if
+/// it has none), and its binds and lags in ascending order.
 #[derive(Debug, Drop)]
 pub struct PlanRow {
     pub kind: PlanKind,

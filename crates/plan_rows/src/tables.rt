@@ -1,20 +1,20 @@
 //! The tables of an office in memory.
 
 mod binds;
+mod changes;
 pub mod codes;
 pub mod desks;
 pub mod digests;
 mod lags;
 mod ordered;
 pub mod plans;
-mod reading;
+mod queries;
 mod records;
-mod writing;
 
 use crate::rows::CodeRow;
 pub use records::{BindRecord, DeskRecord, LagRecord, PlanRecord};
 
-/// The rows of an office, each table in the order in which its rows were written.
+/// The rows of an office, each table in the order of writing.
 #[derive(Debug, Drop)]
 pub struct Tables {
     pub office: [u8; 32],

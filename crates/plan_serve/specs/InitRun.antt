@@ -14,9 +14,9 @@ use Rattle.plan_store.specs.declared.fault.StoreFault.TheVariants as store
 use Rattle.plan_store.specs.Tables.{no_schema}
 use Rattle.plan_store.specs.Offices.{HasOfficeTables}
 use Rattle.plan_store.specs.Stores.{world_of}
-use Rattle.plan_store.specs.Serving.{Stands}
+use Rattle.plan_store.specs.BookCalls.{Stands}
 use Rattle.plan_store.specs.SqlBooks.{Counted}
-use Rattle.plan_store.specs.Creating.{IsNewStore}
+use Rattle.plan_store.specs.Creation.{IsNewStore}
 use Rattle.plan_door.specs.declared.fault.ServeFault.{ServeFault}
 use Rattle.plan_door.specs.declared.fault.ServeFault.TheVariants as fault
 use Rattle.plan_serve.specs.Faults.{fault_of}

@@ -1,4 +1,4 @@
--- Which tables are taken, and why others aren't.
+-- The adoption of tables and the reasons for its failure.
 use Rattle.std.proofs.Common.{◌≡◌, ◌≢◌, ◌⊎◌, inl, inr, ℕ, ℤ, pos, List, [], ◌∷◌, length, Result, Ok, Err, IsTrue, false, refl, sym, ap, subst, ◌∙◌, arith}
 use Rattle.sqlite_value.specs.declared.value.Value.{Value}
 use Rattle.sqlite_value.specs.declared.value.Value.TheVariants.{Int}
@@ -16,14 +16,11 @@ use Rattle.plan_store.specs.declared.layout.Layout.TheVariants.{First, Second}
 use Rattle.plan_store.specs.declared.leftover.Leftover.TheVariants as left
 use Rattle.plan_store.specs.Stores.{IsStore}
 use Rattle.plan_store.specs.Layouts.{schema_of, IsOfficeAt}
-use Rattle.plan_store.specs.Rereading.{IsStoreOf}
-use Rattle.plan_store.specs.Opening.{IsLaid}
-use Rattle.plan_store.specs.Adopting.{version_of, other_version, IsTaken, IsMigrated, IsCause, IsOpenAfter, Takes, IsWhole, IsRefused}
+use Rattle.plan_store.specs.Reload.{IsStoreOf}
+use Rattle.plan_store.specs.TableTests.{IsLaid}
+use Rattle.plan_store.specs.Adoption.{version_of, other_version, IsTaken, IsMigrated, IsCause, IsOpenAfter, Takes, IsWhole, IsRefused}
 
 -- ---- tables have one layout and say one version
-
-table_count : Layout → ℕ
-table_count layout = length (schema_of layout).tables
 
 one_layout : (a b : Layout) → schema_of a ≡ schema_of b → a ≡ b
 one_layout First First e = refl
@@ -43,7 +40,7 @@ one_version : (a b : Layout) (v w : ℤ) (db : Database) → IsOfficeAt a v db �
 unfolding integer_in version_said
 one_version a b v w db h k = (one_layout a b (sym h.schema ∙ k.schema), ap version_said (sym h.meta ∙ k.meta))
 
--- ---- why tables aren't taken
+-- ---- the reason for a failed adoption
 
 pub no_layout : (db : Database) → ((layout : Layout) → db.schema ≢ schema_of layout) → IsCause NotOurs db
 no_layout db other = (λ h. other h.0 h.1.schema, λ h. other h.0 h.2.schema)
@@ -64,7 +61,7 @@ crossed layout db it = (
   λ h. let same = one_version h.0 layout h.1 (other_version layout) db h.2 it in h.4 (same.1 ∙ ap other_version (sym same.0)),
 )
 
--- ---- taking
+-- ---- adoption
 
 open_after : (s : State) (fault : StoreFault) → (HasCleanDisk s → IsTrue s.is_open) → IsOpenAfter fault s
 open_after s NotOurs live = live
@@ -109,7 +106,7 @@ takes_second s r is outside laid office settled = subst (Takes s s) (sym is) (re
 pub refuses_laid : (layout : Layout) (s : State) (r : Result (Unit {0}) StoreFault) (fault : StoreFault) → r ≡ Err fault → s.in_transaction ≡ false → (HasCleanDisk s → IsLaid layout s) → (HasCleanDisk s → IsCause fault s.now) → Takes s s r
 refuses_laid layout s r fault is outside laid = refuses s r fault is outside (λ clean. (laid clean).in_order.is_open)
 
--- tables that were only looked at, and then taken or not
+-- tables that were only read, and then adopted or not
 module _ (old mid new : State) (clean_before : HasCleanDisk mid → HasCleanDisk old) (same : HasCleanDisk mid → mid.now ≡ old.now) (before : HasCleanDisk mid → (trees : Trees) → mid.may_leave trees → old.may_leave trees) where
   pub takes_after : (r : Result (Unit {0}) StoreFault) → Takes mid new r → Takes old new r
   takes_after (Ok tt) it = record {
@@ -138,7 +135,7 @@ module _ (old mid new : State) (clean_before : HasCleanDisk mid → HasCleanDisk
       left clean trees (inl may) = inl (before (it.honesty clean) trees may)
       left clean trees (inr made) = inr (made.0, made.1, subst (λ db. IsMigrated db trees) (same (it.honesty clean)) made.2)
 
--- ---- what is handed back
+-- ---- the connection or store of a failed adoption
 
 no_cause : (fault : StoreFault) (db : Database) → fault ≢ NotOurs → fault ≢ Version → IsCause fault db
 no_cause NotOurs db ours known = absurd (ours refl)

@@ -1,4 +1,4 @@
--- From what a call does to a connection to what it does to a book.
+-- The effect of a call on a book, from its effect on the connection.
 use Rattle.std.proofs.Common.{◌≡◌, ◌⊎◌, inl, inr, ◌+◌, ℕ, Option, Some, None, Ok, Err, Result, IfErr, OnOk, OnErr, refl, sym, ap, subst, ◌∙◌}
 use Rattle.sqlite_trees.specs.declared.store.Store.{Ghosts}
 use Rattle.sqlite_trees.specs.Tree.{Trees}
@@ -10,17 +10,17 @@ use Rattle.plan_rows.specs.declared.fault.BookFault.TheVariants.{NoMemory, Store
 use Rattle.plan_rows.specs.Books.{MoreFaults, Reads, Writes}
 use Rattle.plan_rows.specs.World.{World}
 use Rattle.plan_store.specs.Stores.{world_of}
-use Rattle.plan_store.specs.Enduring.{Endures}
-use Rattle.plan_store.specs.Serving.{Stands, IsReady, IsStoreLeft, may_leave, Asks, Changes}
+use Rattle.plan_store.specs.Endurance.{Endures}
+use Rattle.plan_store.specs.BookCalls.{Stands, IsReady, IsStoreLeft, may_leave, Asks, Changes}
 use Rattle.plan_store.specs.SqlBooks.{Counted, sql_shelf}
-use Rattle.plan_store.proofs.ServingLemmas.{store_left}
-use Rattle.plan_store.proofs.AskingLemmas.{if_ok}
+use Rattle.plan_store.proofs.BookCallLemmas.{store_left}
+use Rattle.plan_store.proofs.QueryEffectLemmas.{if_ok}
 
--- a store that is ready stands until a fault is counted
+-- a store that is ready stands until an error is counted
 closed : (before after : State) → IsReady after → Endures before after → HasCleanDisk after → Stands before → Stands after ⊎ MoreFaults before.faults after.faults
 closed before after ready endures clean stands = elim (endures.closes clean stands.is_open) [ inl live ↦ inl (ready.stands clean live) | inr fault ↦ inr fault ]
 
--- what is told of the refusals of the store
+-- the count of failures of the store
 pub record Notes {X : Type 0} (r : Result X BookFault) (before after : ℕ) : Type 0 where
   pub told : OnOk r (after ≡ before)
   pub wanted : IfErr r (λ fault. fault ≡ NoMemory → after ≡ before)
@@ -61,12 +61,12 @@ module _ {S : Type 0} (g : Ghosts S) (old new : Counted S) (ready : IsReady (sta
   abbrev after : State
   after = state g new.conn
 
-  -- tables that are no others than those of a store that stands leave its office
+  -- tables equal to those of a store that stands hold its office
   leaves_now : Stands after → (w : Option World) → ((trees : Trees) → after.may_leave trees → trees ≡ after.now.trees) → may_leave after w → w ≡ Some (world_of after.now.trees)
   leaves_now stands (Some w) only h = ap Some (h.3 ∙ ap world_of (only h.0 h.1))
   leaves_now stands None only h = absurd (h.2 (subst IsStoreLeft (sym (only h.0 h.1)) (store_left after.now stands.store)))
 
-  -- what may be left is what might be left before, or the change
+  -- a crash may leave anything that it could leave before, or the change
   leaves_change : (w : Option World) → ((trees : Trees) → after.may_leave trees → before.may_leave trees ⊎ (Rattle.std.proofs.Common.IsTrue before.is_open × IsStoreLeft trees × (world_of trees ≡ change (world_of before.now.trees))))
       → HasCleanDisk before → may_leave after w → may_leave before w ⊎ (Stands before × (w ≡ Some (change (world_of before.now.trees))))
   leaves_change (Some w) might clean h = elim (might h.0 h.1) [

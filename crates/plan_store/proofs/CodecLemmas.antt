@@ -27,12 +27,12 @@ use Rattle.plan_rows.specs.Names.{kind_text, plan_kind_text}
 use Rattle.plan_rows.specs.Names.{is_digest}
 use Rattle.plan_rows.specs.World.{Digest, Published, Desk, Plan, Bind, Lag, same_text, is_code, is_desk, is_plan, is_bind_of, is_bind, is_lag_of, is_lag}
 use Rattle.plan_store.specs.Tables as tables
-use Rattle.plan_store.specs.Kept.{row_at}
+use Rattle.plan_store.specs.TableRows.{row_at}
 use Rattle.plan_store.specs.Rows.{kind_in, plan_kind_in, digest_in, digest_value, decoded, written_code, read_code, written_desk, read_desk, written_plan, read_plan, written_bind, read_bind, written_lag, read_lag}
 use Rattle.plan_store.proofs.QueryForms.{is_given}
 use Rattle.plan_store.proofs.EditLemmas.{cast_int}
 
--- ---- columns take what is written
+-- ---- columns accept the written values
 
 pub code_casts : (row : Published) → cast_all tables.published.columns (written_code row) ≡ written_code row
 code_casts row = ap (λ v. Text row.code ∷ Text (kind_text row.kind) ∷ v ∷ []) (cast_int (pos row.capacity))
@@ -53,7 +53,7 @@ lag_casts row =
     (cast_int (pos row.n)) (cast_int (pos row.source))
     ∙ ap₂ (λ v w. Text row.desk ∷ Int (pos row.n) ∷ Int (pos row.source) ∷ v ∷ w ∷ []) (cast_int (pos row.target)) (cast_int (pos row.lag))
 
--- ---- what is written is read back
+-- ---- written rows are read back
 
 pub kind_back : (kind : Kind) → kind_in (Text (kind_text kind)) ≡ kind
 kind_back Crew = refl

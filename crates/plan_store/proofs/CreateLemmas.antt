@@ -1,4 +1,4 @@
--- What the statements that make a store leave.
+-- The effect of the statements that create a store.
 use Rattle.std.proofs.Common.{◌≡◌, ◌≢◌, ℕ, pos, true, false, List, [], ◌∷◌, map, None, Ok, Err, Result, IsTrue, refl, sym, ap, subst, ◌∙◌}
 use Rattle.std.specs.List.{AllByRecursion}
 use Rattle.sqlite_value.specs.Order.{Row}
@@ -26,16 +26,16 @@ use Rattle.plan_rows.specs.World.{Digest, empty_world}
 use Rattle.plan_store.specs.declared.fault.StoreFault.{StoreFault}
 use Rattle.plan_store.specs.declared.fault.StoreFault.TheVariants.{NotOurs, Version}
 use Rattle.plan_store.specs.Tables.{no_schema, meta, store_schema}
-use Rattle.plan_store.specs.Kept.{Keeps}
+use Rattle.plan_store.specs.TableRows.{Keeps}
 use Rattle.plan_store.specs.Rows.{digest_value, meta_row, office_in}
 use Rattle.plan_store.specs.Stores.{world_of, IsStore}
-use Rattle.plan_store.specs.Running.{Statement, LeavesAll, MayMake}
-use Rattle.plan_store.specs.Serving.{IsStoreLeft}
-use Rattle.plan_store.specs.Creating.{IsNewStore, Creates}
+use Rattle.plan_store.specs.Transactions.{Statement, LeavesAll, MayMake}
+use Rattle.plan_store.specs.BookCalls.{IsStoreLeft}
+use Rattle.plan_store.specs.Creation.{IsNewStore, Creates}
 use Rattle.plan_store.proofs.EditLemmas.{cast_int, cast_null}
 use Rattle.plan_store.proofs.EffectLemmas.{went, same_value}
 use Rattle.plan_store.proofs.CodecLemmas.{digest_back}
-use Rattle.plan_store.proofs.ServingLemmas.{store_left}
+use Rattle.plan_store.proofs.BookCallLemmas.{store_left}
 use Rattle.plan_store.proofs.TransactionLemmas.{survives_itself}
 use Rattle.plan_store.proofs.CreateMeanings.{IsCreation, with_meta, with_published, with_desks, with_plans, with_binds, create_meta, creates_meta, create_published, creates_published, create_desks, creates_desks, create_plans, creates_plans, create_binds, creates_binds, create_lags, creates_lags, fill_meta, fill_terms, fill_is, fill_plain}
 
@@ -185,7 +185,7 @@ news g digest good old has db leaves =
     (subst IsDatabase (sym is) last.sound) in
     (r1.2, made.0, made.1)
 
--- ---- from a transaction to what a call does
+-- ---- the effect of a call, from that of its transaction
 
 module _ {S : Type 0} (g : Ghosts S) (digest : Digest) (good : is_digest digest ≡ true) (old new : Held S) (has : (state g old).now.schema ≡ no_schema) (outside : (state g new).in_transaction ≡ false)
     (survives : Survives (state g old) (state g new) (MayMake g (new_statements digest) old)) where

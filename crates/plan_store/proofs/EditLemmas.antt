@@ -1,4 +1,4 @@
--- What an edit makes of the rows of a table, as a list of numbers and of what was written.
+-- The effect of an edit on a table, as a list of rowids and written rows.
 use Rattle.std.proofs.Common.{◌≡◌, ℤ, pos, ◌+ℤ◌, ◌<ℤ◌, Bool, true, false, not, cond, List, [], ◌∷◌, ◌++◌, map, filter, fold, drop, IsPermutation, refl, sym, ap, ap₂, ◌∙◌, arith, int_cmp, Greater}
 use Rattle.std.specs.List.{AllByRecursion}
 use Rattle.std.specs.Ordering.{match_ordering}
@@ -22,7 +22,7 @@ use Rattle.sqlite_keyed.proofs.KeyedLemmas.{Less-from_lt}
 use Rattle.sqlite_keyed.proofs.SliceLemmas.{insert_next}
 use Rattle.sqlite_keyed.proofs.WriteLemmas.{removes_delete}
 use Rattle.sqlite_typed.proofs.RowLemmas.{puts-map, deletes-map}
-use Rattle.plan_store.specs.Kept.{row_at}
+use Rattle.plan_store.specs.TableRows.{row_at}
 
 either : (b : Bool) (x : Value) → cond b x x ≡ x
 either true x = refl
@@ -73,7 +73,7 @@ module _ {A : Type 0} where
   kept_above : (n : ℤ) (p : ℤ × A → Bool) (xs : List (ℤ × A)) → AllByRecursion (λ x. n <ℤ x.0) xs → AllByRecursion (λ x. n <ℤ x.0) (delete_where p xs)
   kept_above n p = all-filter (λ x. n <ℤ x.0) (λ x. not (p x))
 
-  -- rows that were taken out and are put back changed stand where they stood
+  -- rows that are removed and inserted again keep their order
   pub put_back : (p : ℤ × A → Bool) (change : A → A) (xs : List (ℤ × A)) → IsKeyedBy number_of xs
       → fold (insert_by number_of) (delete_where p xs) (map (at_number change) (filter p xs)) ≡ update_where p (at_number change) xs
   put_back p change [] up = refl
@@ -101,7 +101,7 @@ module _ {A : Type 0} where
       go false true s t more = rw (s) more
       go false false s t more = more
 
-  -- the order in which rows are taken out makes no difference
+  -- the order of removals makes no difference
   taken_in_any_order : (a b : List ℤ) → IsPermutation a b → TakesOutAlike A a b
   taken_in_any_order = along_permutation (TakesOutAlike A) (λ a xs. refl) (λ n a b same xs. same (without_key number_of xs n))
       (λ m n a xs. ap (λ l. fold (without_key number_of) l a) (filters_turned _ _ xs)) (λ a b c p q xs. p xs ∙ q xs)
@@ -127,14 +127,14 @@ module _ {A : Type 0} (written : A → Row) where
     cast_entry : (x : ℤ × A) → cast_row table (entry_row x) ≡ entry_row x
     cast_entry x = ap₂ ◌∷◌ (cast_int x.0) (casts x.1)
 
-    -- a new row stands behind the others
+    -- a new row comes after the others
     pub row_inserted : (a : A) → edited db (edit_of db table [] Chosen 0 ((Null ∷ written a) ∷ [])) ≡ map entry_row (xs ++ (next_key number_of xs, a) ∷ [])
     row_inserted a =
         ap (λ c. put_row (with_rowid Chosen (db table.tree) c) (db table.tree)) (ap₂ ◌∷◌ cast_null (casts a))
         ∙ ap (λ rows. put_row (Int (next_rowid rows) ∷ written a) rows) are ∙ ap (λ k. put_row (Int k ∷ written a) (map entry_row xs)) (next_is xs)
         ∙ puts-map number_of entry_row (λ _. refl) ((next_key number_of xs, a) ∷ []) xs ∙ ap (map entry_row) (insert_next number_of xs (next_key number_of xs, a) up refl)
 
-    -- what an UPDATE shows of a row: its number, and the row that it becomes
+    -- the rowid of a row that an UPDATE reads, and its new row
     abbrev pub changed_row : (A → A) → ℤ × A → Row
     changed_row change x = Int x.0 ∷ entry_row (at_number change x)
 

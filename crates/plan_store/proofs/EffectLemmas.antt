@@ -1,4 +1,4 @@
--- What a statement that writes leaves in the trees.
+-- The trees after a statement that writes.
 use Rattle.std.proofs.Common.{◌≡◌, ◌≢◌, ◌⊎◌, inl, inr, ◌≤◌, ℕ, ℤ, ◌/◌, Bool, List, [], ◌∷◌, ◌++◌, length, map, filter, IsPermutation, Option, None, Ok, Err, Result, refl, sym, ap, subst, ◌∙◌, arith}
 use Rattle.std.specs.List.{list_all}
 use Rattle.std.proofs.lemmas.List.{length-map}
@@ -29,7 +29,7 @@ use Rattle.sqlite_keyed.specs.Keyed.{IsKeyedBy, next_key}
 use Rattle.sqlite_keyed.specs.Lists.{update_where, delete_where}
 use Rattle.sqlite_keyed.proofs.ListLemmas.{map-map}
 use Rattle.sqlite_typed.proofs.AnswerLemmas.{at_end, last_table, matches_are}
-use Rattle.plan_store.specs.Kept.{row_at}
+use Rattle.plan_store.specs.TableRows.{row_at}
 use Rattle.plan_store.specs.Tables.{keyed_table}
 use Rattle.plan_store.proofs.QueryForms.{of_table, alone}
 use Rattle.plan_store.proofs.EditLemmas.{number_of, at_number, changed_row, row_inserted, rows_updated, rows_deleted}
@@ -48,7 +48,7 @@ pub record Sets (schema : Schema) (tree : ℕ) (rows : List Row) (old : Trees) (
   pub rows_are : after.trees tree ≡ rows
   pub others : (t : ℕ) → t ≢ tree → IsNoIndex schema t → after.trees t ≡ old t
 
--- no foreign key acts on what is written to the table
+-- no foreign key applies to a row that is written to the table
 abbrev pub ActsNowhere : Schema → ℕ → Type 0
 ActsNowhere schema tree = (olds news : List Row) → works schema Enforced 0 tree olds news ≡ []
 
@@ -59,8 +59,8 @@ module _ {A : Type 0} (written : A → Row) (tree : ℕ) (test project : List Te
   abbrev query : Query
   query = of_table tree test project []
 
-  pub rows_shown : (rows : List Row) → IsAnswer query db params rows → IsPermutation (map show (filter p xs)) rows
-  rows_shown rows answer =
+  pub run_query : (rows : List Row) → IsAnswer query db params rows → IsPermutation (map show (filter p xs)) rows
+  run_query rows answer =
       let found = matches_are query db params (last_table db tree (row_at written) number_of xs are up (at_end db)) p tests in
       let env = λ (x : ℤ × A). params ∷ row_at written x ∷ [] in
       let all : answer.kept ≡ map (λ x. output query (env x)) (filter p xs) =
@@ -90,7 +90,7 @@ module _ (schema : Schema) (limit : Option ℕ) (mode : Mode) (name : List ℕ) 
   concluded : (w : Written) (out : Tally × Database) → Concludes task mode None w (Ok out) → out.1 ≡ record { schema = schema; trees = w.trees }
   concluded w out h = ap (λ (p : Tally × Database). p.1) (same_value (went (went h).2).2)
 
-  -- what an edit of the table leaves, where the statement ends with its trees
+  -- the trees after an edit of the table
   leaves : (edit : Edit) (next : Trees) (after : Database) (rows : List Row) → edit.table ≡ table → Applies schema Enforced db edit next → edited db edit ≡ rows
       → after ≡ record { schema = schema; trees = next } → Sets schema tree rows db after
   leaves edit next after rows same it are_rows is = record {
@@ -125,7 +125,7 @@ module _ (schema : Schema) (limit : Option ℕ) (mode : Mode) (name : List ℕ) 
         let show = changed_row written table casts db xs are up change in
         let rows : asked.0 ≡ map show (filter p xs) =
         few_alike (map show (filter p xs)) asked.0 (subst (λ n. n ≤ 1) (sym (length-map (filter p xs) show)) few)
-        (rows_shown written tree test project params (overlay db []) xs (low ∙ are) up p tests show shows asked.0 (asked.1.answer Null)) in
+        (run_query written tree test project params (overlay db []) xs (low ∙ are) up p tests show shows asked.0 (asked.1.answer Null)) in
         let edit = edit_of db table (ids_of asked.0) Given 1 asked.0 in
         let it = one_step schema Enforced db put.0 edit (acts (taken_by db edit) edit.news) put.1 in
         leaves edit put.0 out.1 _ refl it (rows_updated written table casts db xs are up p change asked.0 rows)
@@ -139,7 +139,7 @@ module _ (schema : Schema) (limit : Option ℕ) (mode : Mode) (name : List ℕ) 
         let put = went asked.2 in
         let trees : done.0.trees ≡ put.0 = ap (λ (it : Written). it.trees) (same_value put.2) in
         let show = λ (x : ℤ × A). Int x.0 ∷ [] in
-        let rows = rows_shown written tree test (col 1 0 ∷ []) params (overlay db []) xs (low ∙ are) up p tests show (λ x. refl) asked.0 (asked.1.answer Null) in
+        let rows = run_query written tree test (col 1 0 ∷ []) params (overlay db []) xs (low ∙ are) up p tests show (λ x. refl) asked.0 (asked.1.answer Null) in
         let ids : IsPermutation (map number_of (filter p xs)) (ids_of asked.0) =
         subst (λ l. IsPermutation l (ids_of asked.0)) (map-map (λ r. id_in (rowid r)) show (filter p xs)) (IsPermutation-map (λ r. id_in (rowid r)) (map show (filter p xs)) asked.0 rows) in
         let edit = edit_of db table (ids_of asked.0) Given 0 [] in

@@ -2,7 +2,7 @@
 use Rattle.std.proofs.Common.{inl, inr, arith}
 use Rattle.sqlite_trees.specs.Tree.{Trees}
 use Rattle.sqlite.specs.State.{State, HasCleanDisk, Survives}
-use Rattle.plan_store.specs.Enduring.{Endures}
+use Rattle.plan_store.specs.Endurance.{Endures}
 
 pub endures_itself : (s : State) → Endures s s
 endures_itself s = record { counts = omega arith; closes = λ clean live. inl live }
@@ -16,6 +16,6 @@ endures_then a b c honesty one two = record {
   ];
 }
 
--- what survives a call endures it
+-- a state that survives a call endures it
 pub endures_by : (a b : State) (Commits : Trees → Type 0) → Survives a b Commits → Endures a b
 endures_by a b Commits survives = record { counts = survives.counts; closes = survives.closes }

@@ -22,7 +22,7 @@ use Rattle.plan_rows.specs.Names.{is_name, is_name_byte, is_digest, begins_with,
 use Rattle.plan_rows.specs.Rules.{IsWorld, IsThereAnd, IsOwned, IsBindRow, IsLagRow, IsPlanRow, HasCalendar, is_published_row, is_desk_row}
 use Rattle.plan_rows.specs.Plans.{has_arc}
 use Rattle.plan_rows.proofs.RuleLemmas.{found_has}
-use Rattle.plan_store.specs.Taking.{HoldsCode, HoldsDesk, HoldsPlan, HoldsBind, HoldsLag}
+use Rattle.plan_store.specs.UntrustedRows.{HoldsCode, HoldsDesk, HoldsPlan, HoldsBind, HoldsLag}
 
 -- ---- texts
 

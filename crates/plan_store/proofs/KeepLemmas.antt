@@ -12,7 +12,7 @@ use Rattle.sqlite_keyed.proofs.KeyedLemmas.{IsKeyedBy-insert_by, IsKeyedBy-updat
 use Rattle.sqlite_keyed.proofs.SliceLemmas.{insert_next}
 use Rattle.plan_rows.specs.Changes.{changed, without}
 use Rattle.plan_rows.specs.Rules.{AllDiffer}
-use Rattle.plan_store.specs.Kept.{row_at, Keeps}
+use Rattle.plan_store.specs.TableRows.{row_at, Keeps}
 use Rattle.plan_store.proofs.EditLemmas.{number_of, at_number}
 
 module _ {A : Type 0} (written : A → Row) (read : Row → A) where
@@ -26,7 +26,7 @@ module _ {A : Type 0} (written : A → Row) (read : Row → A) where
   abbrev IsRead : ℤ × A → Type 0
   IsRead x = read (row_at written x) ≡ x.1
 
-  -- what a table is read as is what its entries hold
+  -- a table is read as its entries
   pub reads_entries : {rows : List Row} → (it : Keeps written read rows) → map read rows ≡ map content it.entries
   reads_entries it = ap (map read) it.are ∙ read_back it.entries it.back
 
@@ -104,7 +104,7 @@ module _ {A : Type 0} (written : A → Row) (read : Row → A) where
           go true e more = rw (none e xs apart.0) (omega arith)
           go false e more = more
 
-      -- where each row has a key of its own, one row or none passes a test of the key
+      -- if all keys differ, at most one row passes a test of the key
       pub few_pass : (alike : A → A → Bool) → ((a b : A) → p a ≡ true → p b ≡ true → alike a b ≡ true) → AllDiffer alike (map read rows)
           → length (filter (λ x. p x.1) it.entries) ≤ 1
       few_pass alike both apart = few_among alike both it.entries (subst (AllDiffer alike) (reads_entries it) apart)

@@ -1,4 +1,4 @@
--- What is read of each table of a layout.
+-- The rows that are read from each table of a layout.
 use Rattle.std.proofs.Common.{◌≡◌, ℕ, ℤ, true, ◌&&◌, List, [], ◌∷◌, length, map, drop, Option, Some, None, option_map, refl, sym, ap, subst, ◌∙◌, arith, Contains, IsTrue, Vec, Global, codes, option_and_then}
 use Rattle.std.specs.List.{AllByRecursion, AllZip}
 use Rattle.std.proofs.lemmas.Bool.{and_parts}
@@ -28,20 +28,20 @@ use Rattle.plan_rows.specs.declared.tables.records.LagRecord.{LagRecord}
 use Rattle.plan_rows.specs.Books.{published_in}
 use Rattle.plan_rows.specs.Tables.{desk_kept, bind_kept, lag_kept}
 use Rattle.plan_rows.specs.World.{Plan}
-use Rattle.plan_store.specs.Reviewed.{IsGoodPlan, TakesGood}
+use Rattle.plan_store.specs.PlanReview.{IsGoodPlan, TakesGood}
 use Rattle.plan_store.specs.declared.layout.Layout.{Layout}
 use Rattle.plan_store.specs.declared.layout.Layout.TheVariants.{First, Second}
 use Rattle.plan_store.specs.Tables as tables
-use Rattle.plan_store.specs.Kept.{row_at}
+use Rattle.plan_store.specs.TableRows.{row_at}
 use Rattle.plan_store.specs.Rows.{number_value, digest_value, written_code, read_code, written_desk, read_desk, written_plan, read_plan, written_bind, read_bind, written_lag, read_lag}
-use Rattle.plan_store.specs.Querying.{meaning_under}
+use Rattle.plan_store.specs.QueryEffect.{meaning_under}
 use Rattle.plan_store.specs.Layouts.{schema_of, AreNumbered, meta_at}
-use Rattle.plan_store.specs.Opening.{IsLaid}
-use Rattle.plan_store.specs.Taking.{Meta, shown_meta, HoldsMeta, TakesMeta, only_one, HoldsCode, HoldsDesk, HoldsBind, HoldsLag, TakesRow, TakesAll, TakesTable, TakesLags, ListsTaken, taken_as}
+use Rattle.plan_store.specs.TableTests.{IsLaid}
+use Rattle.plan_store.specs.UntrustedRows.{Meta, shown_meta, HoldsMeta, TakesMeta, only_one, HoldsCode, HoldsDesk, HoldsBind, HoldsLag, TakesRow, TakesAll, TakesTable, TakesLags, ListsTaken, taken_as}
 use Rattle.plan_store.proofs.CodecLemmas.{code_back, desk_back, plan_back, bind_back, lag_back}
 use Rattle.plan_store.proofs.QueryForms.{of_table, alone, by}
-use Rattle.plan_store.proofs.NumberedRowLemmas.{as_is, entry_of, cells, all_shown, all_full, IsFilled, IsFull, is_entry, width}
-use Rattle.plan_store.proofs.TakingLemmas.{table_taken, all_contains}
+use Rattle.plan_store.proofs.NumberedRowLemmas.{as_is, entry_of, cells, read_all, all_full, IsFilled, IsFull, is_entry, width}
+use Rattle.plan_store.proofs.UntrustedListLemmas.{table_taken, all_contains}
 use Rattle.plan_store.proofs.TableMeanings as means
 
 -- a row that has a value of its type in each column
@@ -100,13 +100,13 @@ module _ (layout : Layout) (db : Database) {A X : Type 0} (written : A → Row) 
   abbrev takes : Row → Option X → Type 0
   takes row found = TakesRow written Holds row (option_map kept found)
 
-  -- what is made of the rows that are shown
+  -- the values of the rows of a query
   table_listed : AreNumbered (db.trees tree) → AllByRecursion (IsFull columns filled) (db.trees tree) → (found : Option (List X)) (rows : List Row) → Reads (meaning_under (schema_of layout) text) db [] rows
       → TakesAll takes rows found → TakesTable written read Holds (db.trees tree) (option_map (map kept) found)
   table_listed numbered full found rows reads h =
       let answer = answer_of layout text (of_table tree [] project (by 0 ∷ [])) names is db rows reads in
       let show = λ (e : ℤ × Row). cells (row_at as_is e) 1 (length columns) in
-      let are = all_shown tree project (overlay db.trees []) (subst AreNumbered (sym whole) numbered) show shows rows answer ∙ ap (λ l. map show (map entry_of l)) whole ∙ all_full columns filled (db.trees tree) numbered.1 full in
+      let are = read_all tree project (overlay db.trees []) (subst AreNumbered (sym whole) numbered) show shows rows answer ∙ ap (λ l. map show (map entry_of l)) whole ∙ all_full columns filled (db.trees tree) numbered.1 full in
       table_taken written read Holds back kept (db.trees tree) numbered found (subst (λ l. TakesAll takes l found) are h)
 
   table_read : AreNumbered (db.trees tree) → AllByRecursion (IsFull columns filled) (db.trees tree) → (found : Option (Vec X Global)) → ListsTaken takes layout text db found
@@ -170,7 +170,7 @@ lags_read_in Second is s laid found h = lags_read s laid found h
 abbrev meta_columns : List Column
 meta_columns = tables.filled (codes "version") Integer ∷ tables.filled (codes "office") kinds.Text ∷ []
 
--- a row of the first table has a number, nothing in the column that the number stands for, and two values
+-- a row of the first table has a rowid, NULL in the column of its integer key, and two values
 meta_rest : (n : ℤ) (r : Row) → are_typed (Some 0) 1 meta_columns r ≡ true → are_present (Some 0) 1 meta_columns (Int n ∷ Null ∷ r) ≡ true → r ≡ column r 0 ∷ column r 1 ∷ []
 meta_rest n [] typed present = cc
 meta_rest n (v ∷ []) typed present = absurd (let e = width 1 meta_columns (Int n ∷ Null ∷ []) (v ∷ []) (refl, (refl, tt)) refl typed present in omega (arith, e))
@@ -220,5 +220,5 @@ pub meta_read : (layout : Layout) (s : State) → IsLaid layout s → (found : O
 meta_read layout s laid found rows reads takes =
     let table = meta_laid layout s laid in
     let answer = answer_of layout means.meta_text means.meta_query _ (means.meta_is layout) s.now rows reads in
-    let are = all_shown 0 means.meta_query.project (overlay s.now.trees []) table.0 show_meta (λ x. refl) rows answer in
+    let are = read_all 0 means.meta_query.project (overlay s.now.trees []) table.0 show_meta (λ x. refl) rows answer in
     takes_meta (s.now.trees 0) table.0.1 table.1 found (subst (λ l. TakesAll (TakesRow shown_meta HoldsMeta) l found) are takes)

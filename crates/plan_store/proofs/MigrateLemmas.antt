@@ -1,4 +1,4 @@
--- What the statements that bring tables of the first version to the second leave.
+-- The effect of the statements that migrate tables of the first version to the second.
 use Rattle.std.proofs.Common.{◌≡◌, ◌≢◌, ℕ, ℤ, pos, Bool, true, false, List, [], ◌∷◌, map, filter, ◌⊎◌, inl, inr, Option, None, Result, Ok, Err, IsTrue, refl, sym, ap, subst, ◌∙◌, arith, codes, int_eq}
 use Rattle.sqlite_value.specs.declared.value.Value.TheVariants.{Null, Int}
 use Rattle.sqlite_value.specs.declared.keys.Collation.TheVariants.{Binary}
@@ -31,20 +31,20 @@ use Rattle.plan_rows.specs.World.{Digest}
 use Rattle.plan_rows.specs.Rules.{IsWorld}
 use Rattle.plan_store.specs.declared.layout.Layout.TheVariants.{First}
 use Rattle.plan_store.specs.Tables.{meta, store_schema}
-use Rattle.plan_store.specs.Kept.{Keeps}
+use Rattle.plan_store.specs.TableRows.{Keeps}
 use Rattle.plan_store.specs.Rows.{digest_value, meta_row, office_in, written_code, read_code, written_desk, read_desk, written_plan, read_plan, written_bind, read_bind, read_lag}
 use Rattle.plan_store.specs.Stores.{world_of, IsStore}
 use Rattle.plan_store.specs.Layouts.{meta_at, world_in, IsOfficeAt}
-use Rattle.plan_store.specs.Running.{Statement, LeavesAll, MayMake}
-use Rattle.plan_store.specs.Serving.{IsStoreLeft}
-use Rattle.plan_store.specs.Adopting.{Takes, IsMigrated}
+use Rattle.plan_store.specs.Transactions.{Statement, LeavesAll, MayMake}
+use Rattle.plan_store.specs.BookCalls.{IsStoreLeft}
+use Rattle.plan_store.specs.Adoption.{Takes, IsMigrated}
 use Rattle.plan_store.specs.declared.fault.StoreFault.{StoreFault}
 use Rattle.plan_store.specs.declared.fault.StoreFault.TheVariants.{NotOurs, Version, NoMemory, Store}
 use Rattle.plan_store.proofs.EditLemmas.{number_of, changed_row, rows_updated, cast_int, cast_null}
-use Rattle.plan_store.proofs.EffectLemmas.{Sets, went, same_value, few_alike, rows_shown}
+use Rattle.plan_store.proofs.EffectLemmas.{Sets, went, same_value, few_alike, run_query}
 use Rattle.plan_store.proofs.QueryForms.{of_table, alone}
 use Rattle.plan_store.proofs.CodecLemmas.{digest_back}
-use Rattle.plan_store.proofs.ServingLemmas.{store_left}
+use Rattle.plan_store.proofs.BookCallLemmas.{store_left}
 use Rattle.plan_store.proofs.CreateMeanings.{with_binds, create_lags, creates_lags}
 use Rattle.plan_store.proofs.CreateLemmas.{makes_table}
 
@@ -102,7 +102,7 @@ module _ (limit : Option ℕ) (mode : Mode) (db : Trees) (version : ℤ) (office
       let show = changed_row written_meta meta meta_casts db xs are up second in
       let tests = λ (x : ℤ × (ℤ × Digest)). last_term (at_ints false Eq x.0 (pos 1)) in
       let rows : asked.0 ≡ map show (filter p xs) =
-      few_alike (map show (filter p xs)) asked.0 (omega arith) (rows_shown written_meta 0 bump_test bump_project [] (overlay db []) xs are up p tests show (λ x. refl) asked.0 (asked.1.answer Null)) in
+      few_alike (map show (filter p xs)) asked.0 (omega arith) (run_query written_meta 0 bump_test bump_project [] (overlay db []) xs are up p tests show (λ x. refl) asked.0 (asked.1.answer Null)) in
       let edit = edit_of db meta (ids_of asked.0) Given 1 asked.0 in
       let it = one_step store_schema Enforced db put.0 edit refl put.1 in
       let now : out.1 ≡ record { schema = store_schema; trees = done.0.trees } = ap (λ (q : Tally × Database). q.1) (same_value (went (went done.2).2).2) in
@@ -177,7 +177,7 @@ migrates g old it db leaves =
     (subst IsDatabase (sym is) last.1) in
     (r1.2, both.0, both.1)
 
--- ---- from the transaction to what the call does
+-- ---- the effect of the call, from that of its transaction
 
 module _ {S : Type 0} (g : Ghosts S) (old new : Held S) (first : HasCleanDisk (state g old) → IsOfficeAt First (pos 1) (state g old).now) (outside : (state g new).in_transaction ≡ false)
     (survives : Survives (state g old) (state g new) (MayMake g migration old)) where
@@ -202,13 +202,13 @@ module _ {S : Type 0} (g : Ghosts S) (old new : Held S) (first : HasCleanDisk (s
     is_open = tt;
   })
 
-  no_cause : (fault : StoreFault) (db : Database) → fault ≢ NotOurs → fault ≢ Version → Rattle.plan_store.specs.Adopting.IsCause fault db
+  no_cause : (fault : StoreFault) (db : Database) → fault ≢ NotOurs → fault ≢ Version → Rattle.plan_store.specs.Adoption.IsCause fault db
   no_cause NotOurs db ours known = absurd (ours refl)
   no_cause Version db ours known = absurd (known refl)
   no_cause NoMemory db ours known = tt
   no_cause Store db ours known = tt
 
-  no_other : (fault : StoreFault) → fault ≢ NotOurs → fault ≢ Version → Rattle.plan_store.specs.Adopting.IsOpenAfter fault (state g new)
+  no_other : (fault : StoreFault) → fault ≢ NotOurs → fault ≢ Version → Rattle.plan_store.specs.Adoption.IsOpenAfter fault (state g new)
   no_other NotOurs ours known = absurd (ours refl)
   no_other Version ours known = absurd (known refl)
   no_other NoMemory ours known = tt

@@ -9,7 +9,7 @@ use Rattle.plan_rows.specs.World.{Desk, World, same_text, is_desk, desk_in}
 use Rattle.plan_rows.specs.Changes.{apply, changed, risen, next_of, new_plan, AddPlan}
 use Rattle.plan_rows.specs.Rules.{AllDiffer}
 use Rattle.plan_store.specs.Stores.{world_of}
-use Rattle.plan_store.specs.Serving.{IsReady, IsNextNumber, numbered_plan}
+use Rattle.plan_store.specs.BookCalls.{IsReady, IsNextNumber, numbered_plan}
 
 module _ (desk : List ℕ) (n : ℕ) where
   numbered : Desk → Desk

@@ -1,4 +1,4 @@
--- Rows of a table whose numbers rise, whatever else they have.
+-- Rows of a table whose rowids rise.
 use Rattle.std.proofs.Common.{◌≡◌, ◌+◌, ℕ, zero, suc, ℤ, pos, true, false, not, ◌||◌, List, [], ◌∷◌, ◌++◌, length, map, drop, None, IsTrue, refl, sym, ap, ap₂, subst, ◌∙◌, arith, append_assoc, length-append, Less}
 use Rattle.std.specs.List.{AllByRecursion}
 use Rattle.std.proofs.lemmas.Bool.{and_parts}
@@ -18,7 +18,7 @@ use Rattle.sqlite_keyed.specs.Keyed.{IsKeyedBy}
 use Rattle.sqlite_keyed.proofs.ListLemmas.{filter_all, all_of, ascending_from_map, ascending_weaker}
 use Rattle.sqlite_keyed.proofs.KeyedLemmas.{lt_from_Less}
 use Rattle.sqlite_value.proofs.OrderLemmas.{value_cmp-Int}
-use Rattle.plan_store.specs.Kept.{row_at}
+use Rattle.plan_store.specs.TableRows.{row_at}
 use Rattle.plan_store.specs.Layouts.{AreNumbered}
 use Rattle.plan_store.proofs.QueryForms.{of_table, by}
 use Rattle.plan_store.proofs.QueryLemmas.{rows_by_number}
@@ -31,7 +31,7 @@ abbrev pub whole_in : Value → ℤ
 whole_in (Int n) = n
 whole_in _ = pos 0
 
--- the number of a row, and what stands behind it
+-- the rowid of a row, and its columns
 abbrev pub entry_of : Row → ℤ × Row
 entry_of row = (whole_in (column row 0), drop 1 row)
 
@@ -55,10 +55,10 @@ entries_rise rows numbered =
     let up = ascending_from_map Below (row_at as_is) (map entry_of rows) (subst (IsAscending Below) (are_entries rows numbered.1) numbered.0) in
     ascending_weaker _ _ (λ a b h. lt_from_Less _ _ (sym (value_cmp-Int a.0 b.0) ∙ h)) (map entry_of rows) up
 
--- what a query of all rows shows, in the order of their numbers
-pub all_shown : (tree : ℕ) (project : List Term) (db : Trees) → AreNumbered (db tree) → (show : ℤ × Row → Row) → ((x : ℤ × Row) → eval_all project ([] ∷ row_at as_is x ∷ []) ≡ show x)
+-- the rows of a query of all rows, in the order of their rowids
+pub read_all : (tree : ℕ) (project : List Term) (db : Trees) → AreNumbered (db tree) → (show : ℤ × Row → Row) → ((x : ℤ × Row) → eval_all project ([] ∷ row_at as_is x ∷ []) ≡ show x)
     → (rows : List Row) → IsAnswer (of_table tree [] project (by 0 ∷ [])) db [] rows → rows ≡ map show (map entry_of (db tree))
-all_shown tree project db numbered show shows rows answer =
+read_all tree project db numbered show shows rows answer =
     let entries = map entry_of (db tree) in
     rows_by_number as_is tree [] project [] db entries (are_entries (db tree) numbered.1) (entries_rise (db tree) numbered) (λ _. true) (λ x. refl) show shows rows answer
     ∙ ap (map show) (filter_all (λ _. true) entries (all_of (λ _. true ≡ true) (λ x. refl) entries))

@@ -27,7 +27,7 @@ of_table tree test shown order = record {
 abbrev pub alone : Query → Program
 alone q = record { lets = []; body = q }
 
--- the column at a place is what was given at another
+-- the column at a place is the value that was given at another place
 abbrev pub is_given : ℕ → ℕ → Term
 is_given column given = op2 (Compare Eq Binary) (col 1 column) (col 0 given)
 

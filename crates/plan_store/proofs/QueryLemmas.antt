@@ -12,7 +12,7 @@ use Rattle.sqlite_keyed.specs.Lists.{sort_by, insert_sorted}
 use Rattle.sqlite_typed.proofs.AnswerLemmas.{at_end, last_table, answer_by_keys, answer_sorted, IsNoTie}
 use Rattle.sqlite_typed.proofs.TestLemmas.{last_key}
 use Rattle.plan_rows.specs.Plans.{put_in_order, in_order}
-use Rattle.plan_store.specs.Kept.{row_at}
+use Rattle.plan_store.specs.TableRows.{row_at}
 use Rattle.plan_store.proofs.QueryForms.{of_table, by}
 use Rattle.plan_store.proofs.EditLemmas.{number_of}
 

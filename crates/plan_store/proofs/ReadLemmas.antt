@@ -1,4 +1,4 @@
--- What each query answers of the office that the tables hold.
+-- The result of each query on the office in the tables.
 use Rattle.std.proofs.Common.{◌≡◌, ◌<ℤ◌, ℕ, ℤ, pos, Bool, true, false, ◌&&◌, ◌||◌, ◌==◌, nat_lt, cond, List, [], ◌∷◌, length, map, filter, find, slice_get, Option, Some, None, IfSome, option_map, refl, sym, ap, ap₂, subst, ◌∙◌, string_bytes, Ordering, Less, Equal, Greater, is_gt, is_lt, int_cmp, nat_cmp, arith}
 use Rattle.std.specs.List.{AllByRecursion, AllZip, list_any}
 use Rattle.std.specs.Ordering.{ordering_then, ordering_reverse}
@@ -36,13 +36,13 @@ use Rattle.plan_rows.specs.World.{Digest, Published, Desk, Plan, Bind, Lag, Worl
 use Rattle.plan_rows.specs.Views.{view}
 use Rattle.plan_rows.specs.Plans.{in_order, bind_before, lag_before, place_of, arc_of, places_of, lags_of}
 use Rattle.plan_rows.specs.Books.{Matches, IsPlanAnswer, IsDeskAnswer, IsCapacityAnswer, ListsCodes, ListsPlans, published_in, entry_in, entry_of, bind_in, lag_in}
-use Rattle.plan_store.specs.declared.shown.PlanPart.{PlanPart}
-use Rattle.plan_store.specs.Kept.{row_at, Keeps}
+use Rattle.plan_store.specs.declared.query_rows.PlanPart.{PlanPart}
+use Rattle.plan_store.specs.TableRows.{row_at, Keeps}
 use Rattle.plan_store.specs.Rows.{kind_in, plan_kind_in, text_in, blob_in, number_in, digest_in, digest_value, number_value, written_code, read_code, written_desk, read_desk, written_plan, read_plan, written_bind, read_bind, written_lag, read_lag, office_in}
 use Rattle.plan_store.specs.Stores.{world_of, HoldRows}
-use Rattle.plan_store.specs.Running.{meaning_of}
-use Rattle.plan_store.specs.Serving.{Stands}
-use Rattle.plan_store.specs.Shown.{ShowsDesk, ShowsCapacity, ShowsCode, ShowsEntry, ShowsBind, ShowsLag, ShowsPlan, IsPlanPart, ListsShown, FirstShown, OfficeShown, AnyShown, CountShown}
+use Rattle.plan_store.specs.Transactions.{meaning_of}
+use Rattle.plan_store.specs.BookCalls.{Stands}
+use Rattle.plan_store.specs.QueryRows.{ShowsDesk, ShowsCapacity, ShowsCode, ShowsEntry, ShowsBind, ShowsLag, ShowsPlan, IsPlanPart, ListsShown, FirstShown, OfficeShown, AnyShown, CountShown}
 use Rattle.plan_store.proofs.QueryForms.{alone, by, is_given}
 use Rattle.plan_store.proofs.KeepLemmas.{finds_entry, reads_entries}
 use Rattle.plan_store.proofs.CodecLemmas.{kind_back, plan_kind_back, code_tested, desk_tested, plan_tested, owner_tested, bind_of_tested, bind_tested, lag_of_tested, lag_tested}
@@ -113,7 +113,7 @@ module _ {A : Type 0} (written : A → Row) (read : Row → A) (rows : List Row)
   pub any_read : (answer : List Row) → answer ≡ map show (filter (λ x. p x.1) it.entries) → nat_lt 0 (length answer) ≡ list_any p (map read rows)
   any_read answer is = ap (λ l. nat_lt 0 (length l)) is ∙ any_among show p it.entries ∙ ap (list_any p) (sym (reads_entries written read it))
 
--- ---- how many rows there are
+-- ---- the number of rows
 
 module _ {A : Type 0} (written : A → Row) (read : Row → A) (rows : List Row) (it : Keeps written read rows) (p : A → Bool) (show : ℤ × A → Row) where
   pub rows_counted : (answer : List Row) → answer ≡ map show (filter (λ x. p x.1) it.entries) → length answer ≡ length (filter p (map read rows))
@@ -366,7 +366,7 @@ module _ (w : World) (desk : List ℕ) (n : ℕ) (row : PlanRow) (part : PlanPar
   pub whole_plan : Matches IsPlanPart (plan_in w desk n) (Some part) → Matches (IsPlanAnswer (view desk w)) (plan_in w desk n) (Some row)
   whole_plan = with_parts (plan_in w desk n) refl
 
--- where no part of a plan is read there is no plan
+-- if no part of a plan is read, there is no plan
 pub no_plan : (w : World) (desk : List ℕ) (n : ℕ) → Matches IsPlanPart (plan_in w desk n) None → Matches (IsPlanAnswer (view desk w)) (plan_in w desk n) None
 no_plan w desk n = go (plan_in w desk n)
   where

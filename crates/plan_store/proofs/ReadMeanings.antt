@@ -1,4 +1,4 @@
--- What each statement that reads means under the schema of a store.
+-- The meaning of each statement that reads, under the schema of a store.
 use Rattle.std.proofs.Common.{◌≡◌, ℕ, List, [], ◌∷◌, codes, false, refl}
 use Rattle.sqlite_sql.specs.Term.{col}
 use Rattle.sqlite_sql.specs.Query.{Query}

@@ -1,4 +1,4 @@
--- What each statement that writes makes of the office that the tables hold.
+-- The effect of each statement that writes on the office in the tables.
 use Rattle.std.proofs.Common.{◌≡◌, ℕ, ℤ, true, ◌&&◌, ◌==◌, List, [], ◌∷◌, ◌++◌, Ok, None, refl, sym, ap, subst, ◌∙◌, codes, arith}
 use Rattle.std.proofs.lemmas.Bool.{and_parts, and_from}
 use Rattle.std.proofs.lemmas.Bool.Decides.{nat_tests}
@@ -19,7 +19,7 @@ use Rattle.plan_rows.specs.Rules.{IsWorld}
 use Rattle.plan_rows.specs.World.{Digest, Published, Desk, Plan, Bind, Lag, same_text, is_code, is_desk, is_plan, is_bind_of, is_bind, is_lag_of, is_lag}
 use Rattle.plan_store.specs.Tables as tables
 use Rattle.plan_store.specs.Tables.{store_schema}
-use Rattle.plan_store.specs.Kept.{row_at}
+use Rattle.plan_store.specs.TableRows.{row_at}
 use Rattle.plan_store.specs.Rows.{digest_value, number_value, written_code, read_code, written_desk, read_desk, written_plan, read_plan, written_bind, read_bind, written_lag, read_lag}
 use Rattle.plan_store.specs.Stores.{world_of, HoldRows}
 use Rattle.plan_store.proofs.QueryForms.{alone, is_given}

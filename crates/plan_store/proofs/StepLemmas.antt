@@ -1,11 +1,11 @@
--- What one statement makes of the office that the tables hold.
+-- The effect of one edit on the office in the tables.
 use Rattle.std.proofs.Common.{◌≡◌, ℤ, Bool, [], ◌∷◌, ◌++◌, IsTrue, ap, ◌∙◌}
 use Rattle.sqlite.specs.Effect.{IsDatabase}
 use Rattle.sqlite.specs.State.{State}
 use Rattle.plan_rows.specs.World.{Published, Desk, Plan, Bind, Lag, World}
 use Rattle.plan_rows.specs.Changes.{changed, without}
 use Rattle.plan_store.specs.Tables.{store_schema}
-use Rattle.plan_store.specs.Kept.{row_at}
+use Rattle.plan_store.specs.TableRows.{row_at}
 use Rattle.plan_store.specs.Rows.{written_code, read_code, written_desk, read_desk, written_plan, read_plan, written_bind, read_bind, written_lag, read_lag}
 use Rattle.plan_store.specs.Stores.{world_of, HoldRows}
 use Rattle.plan_store.proofs.EffectLemmas.{Sets}
@@ -41,16 +41,6 @@ module _ (old new : State) (held : HoldRows old.now.trees) (was_open : IsTrue ol
     sound = sound;
   }
 
-  pub code_deleted : (p : Published → Bool)
-      → Sets store_schema 1 (with_none written_code read_code held.published p) old.now.trees new.now → Steps old new (λ w. record w { published = without p w.published })
-  code_deleted p it = record {
-    was_open = was_open;
-    schema = it.schema_is;
-    rows = code_rows (with_none written_code read_code held.published p) held it (keeps_others written_code read_code held.published p);
-    world = code_world (with_none written_code read_code held.published p) held it ∙ ap (λ l. record (world_of old.now.trees) { published = l }) (reads_others written_code read_code held.published p);
-    sound = sound;
-  }
-
   pub desk_inserted : (row : Desk) → ((n : ℤ) → read_desk (row_at written_desk (n, row)) ≡ row)
       → Sets store_schema 3 (with_row written_desk read_desk held.desks row) old.now.trees new.now → Steps old new (λ w. record w { desks = w.desks ++ row ∷ [] })
   desk_inserted row good it = record {
@@ -69,16 +59,6 @@ module _ (old new : State) (held : HoldRows old.now.trees) (was_open : IsTrue ol
     schema = it.schema_is;
     rows = desk_rows (with_change written_desk read_desk held.desks p change) held it (keeps_change written_desk read_desk held.desks p change good);
     world = desk_world (with_change written_desk read_desk held.desks p change) held it ∙ ap (λ l. record (world_of old.now.trees) { desks = l }) (reads_change written_desk read_desk held.desks p change good);
-    sound = sound;
-  }
-
-  pub desk_deleted : (p : Desk → Bool)
-      → Sets store_schema 3 (with_none written_desk read_desk held.desks p) old.now.trees new.now → Steps old new (λ w. record w { desks = without p w.desks })
-  desk_deleted p it = record {
-    was_open = was_open;
-    schema = it.schema_is;
-    rows = desk_rows (with_none written_desk read_desk held.desks p) held it (keeps_others written_desk read_desk held.desks p);
-    world = desk_world (with_none written_desk read_desk held.desks p) held it ∙ ap (λ l. record (world_of old.now.trees) { desks = l }) (reads_others written_desk read_desk held.desks p);
     sound = sound;
   }
 

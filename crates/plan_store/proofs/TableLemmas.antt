@@ -1,10 +1,10 @@
--- What is left of an office where one table has other rows.
+-- The office after a change of one table.
 use Rattle.std.proofs.Common.{◌≡◌, List, [], ◌∷◌, map, sym, subst}
 use Rattle.sqlite_value.specs.Order.{Row}
 use Rattle.sqlite_trees.specs.Tree.{Trees}
 use Rattle.sqlite.specs.Effect.{Database}
 use Rattle.plan_store.specs.Tables.{store_schema}
-use Rattle.plan_store.specs.Kept.{Keeps}
+use Rattle.plan_store.specs.TableRows.{Keeps}
 use Rattle.plan_store.specs.Rows.{written_code, read_code, written_desk, read_desk, written_plan, read_plan, written_bind, read_bind, written_lag, read_lag, meta_row, office_in}
 use Rattle.plan_store.specs.Stores.{world_of, HoldRows}
 use Rattle.plan_store.proofs.EffectLemmas.{Sets}

@@ -1,4 +1,4 @@
--- What each statement that reads a whole table means under the schemas of both layouts.
+-- The meaning of each statement that reads a whole table, under the schemas of both layouts.
 use Rattle.std.proofs.Common.{◌≡◌, ℕ, List, [], ◌∷◌, codes, refl}
 use Rattle.sqlite_sql.specs.Term.{col}
 use Rattle.sqlite_sql.specs.Query.{Query}
@@ -7,7 +7,7 @@ use Rattle.sqlite.specs.Listing.{understood}
 use Rattle.sqlite_tied.specs.Compute.{everything}
 use Rattle.plan_store.specs.declared.layout.Layout.{Layout}
 use Rattle.plan_store.specs.declared.layout.Layout.TheVariants.{First, Second}
-use Rattle.plan_store.specs.Querying.{meaning_under, IsQueryUnder}
+use Rattle.plan_store.specs.QueryEffect.{meaning_under, IsQueryUnder}
 use Rattle.plan_store.specs.Layouts.{schema_of}
 use Rattle.plan_store.proofs.QueryForms.{of_table, alone, by}
 

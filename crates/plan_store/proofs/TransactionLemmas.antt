@@ -11,7 +11,7 @@ use Rattle.sqlite.specs.Held.{Held, state}
 use Rattle.sqlite.proofs.InsideLemmas.{unchanged_keeps}
 use Rattle.sqlite.proofs.StateLemmas.{survives_then}
 use Rattle.sqlite.proofs.Callers.{survives_begin}
-use Rattle.plan_store.specs.Running.{Statement, said, RanAll, LeavesAll, MayMake}
+use Rattle.plan_store.specs.Transactions.{Statement, said, RanAll, LeavesAll, MayMake}
 
 pub keeps_itself : (s : State) → KeepsCommit s s
 keeps_itself s = record { was_open = λ h. h; committed = λ _. refl }

@@ -1,4 +1,4 @@
--- Faults of a connection as faults of a book (docs/definitions.md, "Tables").
+-- The error of a book for an error of its connection (docs/definitions.md, "Tables").
 use Rattle.sqlite.specs.declared.error.ErrorCode.TheVariants.{OutOfMemory}
 use Rattle.sqlite.specs.declared.error.Error.{Error}
 use Rattle.sqlite.specs.declared.error.Error.TheVariants.{SqliteFailure}
@@ -7,12 +7,12 @@ use Rattle.plan_rows.specs.declared.fault.BookFault.TheVariants.{NoMemory, Store
 use Rattle.plan_store.specs.declared.fault.StoreFault.{StoreFault}
 use Rattle.plan_store.specs.declared.fault.StoreFault.TheVariants as made
 
--- want of memory is the error of that name, and each other one is a refusal of the store
+-- out of memory is `NoMemory`, and each other error is `Store`
 abbrev pub book_fault : Error → BookFault
 book_fault (SqliteFailure OutOfMemory) = NoMemory
 book_fault _ = Store
 
--- the same where a book is being made
+-- the same for a book that is created or adopted
 abbrev pub making_fault : BookFault → StoreFault
 making_fault NoMemory = made.NoMemory
 making_fault Store = made.Store

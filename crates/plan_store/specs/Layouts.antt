@@ -1,4 +1,4 @@
--- The tables that a store may have, and the office that is in them (docs/definitions.md, "Tables").
+-- The layouts of an office's tables, and the office in them (docs/definitions.md, "Tables").
 use Rattle.std.specs.Prelude.{◌≡◌, ℕ, ◌+◌, ℤ, true, List, [], ◌∷◌, IsTrue, IsUtf8}
 use Rattle.std.specs.Borrow.{Bor}
 use Rattle.std.specs.List.{AllByRecursion}
@@ -16,8 +16,8 @@ use Rattle.plan_rows.specs.World.{Digest, Plan, World}
 use Rattle.plan_rows.specs.Rules.{IsWorld}
 use Rattle.plan_store.specs.declared.layout.Layout.{Layout}
 use Rattle.plan_store.specs.declared.layout.Layout.TheVariants.{First, Second}
-use Rattle.plan_store.specs.Tables.{filled, key_index, meta, published, desks, plans, binds, store_schema}
-use Rattle.plan_store.specs.Kept.{Keeps}
+use Rattle.plan_store.specs.Tables.{filled, first_schema, store_schema}
+use Rattle.plan_store.specs.TableRows.{Keeps}
 use Rattle.plan_store.specs.Rows.{read_code, written_code, read_desk, written_desk, read_plan, written_plan, read_bind, written_bind, read_lag, written_lag, number_value, digest_value}
 use Rattle.plan_store.specs.Stores.{world_of}
 
@@ -25,7 +25,7 @@ use Rattle.plan_store.specs.Stores.{world_of}
 abbrev pub filled_of : Bor (List ℕ) × Kind → Column
 filled_of c = filled c.0.now c.1
 
--- the index of a key, by its own name and the place of its table
+-- the index of a key, by its name and the tree of its table
 abbrev pub key_index_named : List ℕ → ℕ → List ℕ → Index
 key_index_named name tree places = record {
   name = name;
@@ -34,16 +34,6 @@ key_index_named name tree places = record {
   columns = places;
   order = plain;
   is_unique = true;
-}
-
--- the tables of the first version, which had no lags
-abbrev pub first_schema : Schema
-first_schema = record {
-  tables = meta ∷ published ∷ desks ∷ plans ∷ binds ∷ [];
-  indexes =
-      key_index published (1 ∷ []) ∷ key_index desks (1 ∷ []) ∷ key_index plans (1 ∷ 2 ∷ [])
-      ∷ key_index binds (1 ∷ 2 ∷ 3 ∷ []) ∷ [];
-  views = [];
 }
 
 abbrev pub schema_of : Layout → Schema
@@ -63,7 +53,7 @@ KeepsLags Second trees = Keeps written_lag read_lag (trees 9)
 abbrev pub meta_at : ℤ → Digest → Row
 meta_at version office = number_value 1 ∷ Null ∷ Int version ∷ digest_value office ∷ []
 
--- Tables of this layout hold an office, and say that they are of this version. Texts are UTF-8.
+-- Tables of this layout hold an office and have this version. Texts are UTF-8.
 pub record IsOfficeAt (layout : Layout) (version : ℤ) (db : Database) : Type 0 where
   pub schema : db.schema ≡ schema_of layout
   pub meta : db.trees 0 ≡ meta_at version (world_of db.trees).office ∷ []
@@ -76,7 +66,7 @@ pub record IsOfficeAt (layout : Layout) (version : ℤ) (db : Database) : Type 0
   pub rules : IsWorld (world_in layout db.trees)
   pub sound : IsDatabase db
 
--- the rows of a table have whole numbers of SQL's own, which rise
+-- the rowids of a table are integers and rise
 abbrev pub AreNumbered : List Row → Type 0
 AreNumbered rows = IsTable rows × AllByRecursion (λ row. IsTrue (is_int (rowid row))) rows
 

@@ -9,18 +9,18 @@ use Rattle.sqlite.specs.Start.{FindsIn}
 use Rattle.plan_store.specs.declared.fault.StoreFault.{StoreFault}
 use Rattle.plan_store.specs.declared.fault.StoreFault.TheVariants.{NotOurs, Version}
 use Rattle.plan_store.specs.declared.leftover.Leftover.{Leftover}
-use Rattle.plan_store.specs.Serving.{Stands}
-use Rattle.plan_store.specs.Adopting.{IsTaken, IsRefused}
+use Rattle.plan_store.specs.BookCalls.{Stands}
+use Rattle.plan_store.specs.Adoption.{IsTaken, IsRefused}
 
 module _ {F S : Type 0} (first : start.Ghosts F) where
-  -- the tables that the files held were taken
+  -- the tables in the files were adopted
   abbrev pub IsTakenFrom : Held S → Ghosts S → Type 0
   IsTakenFrom conn g =
       HasCleanDisk (state g conn)
       → Stands (state g conn)
       × ((opened : Held S) × FindsIn (image_at first) (state g opened) × IsTaken (state g opened).now (state g conn).now)
 
-  -- the files weren't opened, or the tables that they held were refused
+  -- the files weren't opened, or the tables in them were rejected
   abbrev pub IsRefusedFrom : StoreFault → Option (Leftover S) → Ghosts S → Type 0
   IsRefusedFrom fault None g = (fault ≢ NotOurs) × (fault ≢ Version)
   IsRefusedFrom fault (Some leftover) g =

@@ -1,4 +1,4 @@
--- How the rows of an office are written in SQL and read back (docs/definitions.md, "Tables").
+-- The rows of an office as rows in SQL (docs/definitions.md, "Tables").
 use Rattle.std.specs.Prelude.{ℕ, ℤ, pos, negsuc, List, [], ◌∷◌, Result, Ok, Err, if◌then◌else◌, codes}
 use Rattle.hex.specs.Hex.{encode_lower, decode_sized}
 use Rattle.hex.specs.declared.error.FromHexError.{FromHexError}
@@ -13,7 +13,7 @@ use Rattle.plan_rows.specs.Names.{kind_text, plan_kind_text}
 use Rattle.plan_rows.specs.World as world
 use Rattle.plan_rows.specs.World.{Digest, Published, Desk, Plan, Bind, Lag, World, same_text}
 
--- what a value says, where it is of the kind that is asked for
+-- the contents of a value, if it has the type
 abbrev pub text_in : Value → world.Text
 text_in (Text t) = t
 text_in _ = []
@@ -40,7 +40,7 @@ abbrev pub decoded : Result Digest FromHexError → Digest
 decoded (Ok digest) = digest
 decoded (Err e) = []
 
--- 64 hexadecimal digits, as 32 bytes
+-- the 32 bytes of 64 hexadecimal digits
 abbrev pub digest_in : Value → Digest
 digest_in v = decoded (decode_sized (text_in v) 32)
 
@@ -51,8 +51,8 @@ digest_value digest = Text (encode_lower digest)
 abbrev pub number_value : ℕ → Value
 number_value n = Int (pos n)
 
--- each kind of row: its columns as they are written, and a row of SQL, whose column 0 is a number of
--- SQL's own, as it is read
+-- For each table: the columns of a row, and the row that is read from SQL, whose column 0 is the
+-- rowid.
 abbrev pub written_code : Published → Row
 written_code row = Text row.code ∷ Text (kind_text row.kind) ∷ number_value row.capacity ∷ []
 

@@ -1,4 +1,4 @@
--- What contracts see of a book in SQL (docs/definitions.md, "Tables").
+-- A book in SQL as contracts use it (docs/definitions.md, "Tables").
 use Rattle.std.specs.Prelude.{ℕ, IsTrue, Option, Some, IfSome, string_bytes, refl}
 use Rattle.std.proofs.Common.{sym, subst, ap}
 use Rattle.std.proofs.Math.Logic.{∥∥₁_elim}
@@ -11,10 +11,10 @@ use Rattle.sqlite.specs.Held.{Held, held_code, state}
 use Rattle.plan_rows.specs.Books.{Shelf}
 use Rattle.plan_store.specs.Stores.{world_of, IsStore}
 use Rattle.plan_store.specs.declared.next_plan.NextPlan.{NextPlan}
-use Rattle.plan_store.specs.Serving.{Stands, IsReady, IsNextNumber, IsStoreLeft, may_leave}
+use Rattle.plan_store.specs.BookCalls.{Stands, IsReady, IsNextNumber, IsStoreLeft, may_leave}
 
--- A book is seen as its connection, how many writing calls were made and refused, and how many
--- calls the store refused.
+-- The connection of a book, the numbers of writing calls that succeeded and failed, and the number
+-- of calls that failed for the store.
 pub record Counted (S : Type 0) : Type 0 where
   pub conn : Held S
   pub made : ℕ
@@ -27,12 +27,12 @@ book_code {S} store =
     (λ b. (b.conn, (b.made, (b.refused, b.denials))))
     (λ p. record { conn = p.0; made = p.1.0; refused = p.1.1.0; denials = p.1.1.1 }) (λ _. refl)
 
--- Its connection is ready, and what is kept of a desk is the number that its next plan gets.
+-- Its connection is ready, and the kept number is that of the desk's next plan.
 pub record IsServing (s : State) (kept : Option NextPlan) : Type 0 where
   pub ready : IsReady s
   pub next : IfSome kept (λ next. IsNextNumber s (string_bytes next.desk) next.n)
 
--- It may refuse, and stands as long as its store is open.
+-- Its calls can fail, and it stands as long as its store is open.
 abbrev pub sql_shelf : {S : Type 0} → Ghosts S → Shelf (Counted S)
 sql_shelf {S} g = record {
   world = λ book. world_of (state g book.conn).now.trees;
@@ -46,7 +46,7 @@ sql_shelf {S} g = record {
   faults = λ book. (state g book.conn).faults;
 }
 
--- a crash may leave what the tables hold
+-- a crash may leave the tables as they are
 pub sql_now_may : (s : State) → Stands s → (IsTrue s.is_open → s.may_leave s.committed.trees)
     → may_leave s (Some (world_of s.now.trees))
 sql_now_may s stands stays =

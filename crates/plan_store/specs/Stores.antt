@@ -1,15 +1,14 @@
--- The office that tables in SQL hold, and when they are those of a store (docs/definitions.md,
--- "Tables").
+-- The office in tables in SQL, and the tables of a store (docs/definitions.md, "Tables").
 use Rattle.std.specs.Prelude.{◌≡◌, [], ◌∷◌, map}
 use Rattle.sqlite_trees.specs.Tree.{Trees}
 use Rattle.sqlite.specs.Effect.{Database, IsDatabase}
 use Rattle.plan_rows.specs.World.{World}
 use Rattle.plan_rows.specs.Rules.{IsWorld}
 use Rattle.plan_store.specs.Tables.{store_schema}
-use Rattle.plan_store.specs.Kept.{Keeps}
+use Rattle.plan_store.specs.TableRows.{Keeps}
 use Rattle.plan_store.specs.Rows.{read_code, written_code, read_desk, written_desk, read_plan, written_plan, read_bind, written_bind, read_lag, written_lag, meta_row, office_in}
 
--- the rows of all tables, in the order of their numbers, which is that of their writing
+-- the rows of all tables, in the order of their rowids, which is the order of writing
 abbrev pub world_of : Trees → World
 world_of trees = record {
   office = office_in (trees 0);
@@ -20,7 +19,7 @@ world_of trees = record {
   lags = map read_lag (trees 9);
 }
 
--- each table has the rows that were written of an office
+-- each table holds rows that were written for an office
 pub record HoldRows (trees : Trees) : Type 0 where
   pub meta : trees 0 ≡ meta_row (world_of trees).office ∷ []
   pub published : Keeps written_code read_code (trees 1)
@@ -29,7 +28,7 @@ pub record HoldRows (trees : Trees) : Type 0 where
   pub binds : Keeps written_bind read_bind (trees 7)
   pub lags : Keeps written_lag read_lag (trees 9)
 
--- the tables of a store: they hold an office that keeps the rules of rows
+-- the tables of a store hold an office that keeps the rules of rows
 pub record IsStore (db : Database) : Type 0 where
   pub schema : db.schema ≡ store_schema
   pub rows : HoldRows db.trees

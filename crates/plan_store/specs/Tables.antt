@@ -1,4 +1,4 @@
--- The tables of a store as SQL keeps them (docs/definitions.md, "Tables").
+-- The tables of a store in SQL (docs/definitions.md, "Tables").
 use Rattle.std.specs.Prelude.{ℕ, ◌+◌, true, false, List, [], ◌∷◌, ◌++◌, Some, None, codes}
 use Rattle.sqlite_value.specs.declared.value.Value.TheVariants.{Null}
 use Rattle.sqlite_value.specs.declared.keys.Collation.TheVariants.{Binary}
@@ -25,7 +25,7 @@ filled name kind = record {
   collation = Binary;
 }
 
--- a table whose rows are told apart by the columns at these places, counted from 1
+-- a table whose key is the columns at these places, where place 0 is the rowid
 abbrev pub keyed_table : List ℕ → ℕ → List ℕ → List Column → Table
 keyed_table name tree places columns = record {
   name = name;
@@ -42,7 +42,7 @@ keyed_table name tree places columns = record {
   is_counted = false;
 }
 
--- the index of that key, which stands behind its table
+-- the index of that key, whose tree follows the table's
 abbrev pub key_index : Table → List ℕ → Index
 key_index table places = record {
   name = codes "sqlite_autoindex_" ++ (table.name ++ codes "_1");
@@ -98,12 +98,20 @@ lags = keyed_table (codes "lags") 9 (1 ∷ 2 ∷ 3 ∷ 4 ∷ [])
     (filled (codes "desk") Text ∷ filled (codes "n") Integer ∷ filled (codes "src") Integer
     ∷ filled (codes "dst") Integer ∷ filled (codes "lag") Integer ∷ [])
 
--- the tables of a store, and no others
-abbrev pub store_schema : Schema
-store_schema = record {
-  tables = meta ∷ published ∷ desks ∷ plans ∷ binds ∷ lags ∷ [];
+-- the tables of the first version, which had no lags
+abbrev pub first_schema : Schema
+first_schema = record {
+  tables = meta ∷ published ∷ desks ∷ plans ∷ binds ∷ [];
   indexes =
       key_index published (1 ∷ []) ∷ key_index desks (1 ∷ []) ∷ key_index plans (1 ∷ 2 ∷ [])
-      ∷ key_index binds (1 ∷ 2 ∷ 3 ∷ []) ∷ key_index lags (1 ∷ 2 ∷ 3 ∷ 4 ∷ []) ∷ [];
+      ∷ key_index binds (1 ∷ 2 ∷ 3 ∷ []) ∷ [];
+  views = [];
+}
+
+-- the tables of a store, which are of the second version: those of the first and the lags
+abbrev pub store_schema : Schema
+store_schema = record {
+  tables = first_schema.tables ++ lags ∷ [];
+  indexes = first_schema.indexes ++ key_index lags (1 ∷ 2 ∷ 3 ∷ 4 ∷ []) ∷ [];
   views = [];
 }

@@ -1,4 +1,4 @@
-//! Faults of a store, and faults of a connection as faults of a book.
+//! The errors of a store, and their relation to the errors of SQLite.
 
 ghost use Rattle.std.specs.Prelude.{◌≡◌, ◌≢◌};
 ghost use Rattle.plan_store.specs.declared.fault.StoreFault.TheVariants.{NotOurs, Version};
@@ -8,27 +8,26 @@ use plan_rows::BookFault;
 use sqlite::{Error, ErrorCode};
 use thiserror::Error as Fault;
 
-/// Why there is no store.
+/// Why a store wasn't created or adopted.
 #[derive(Debug, Clone, Copy, PartialEq, Eq, Fault, Drop)]
 pub enum StoreFault {
-    /// The database has tables already, where a store is made; or they aren't those of an office,
-    /// where one is opened.
+    /// `create_in` found tables, or `adopt` found tables that aren't those of an office.
     #[error("the tables are not those of an office")]
     NotOurs,
-    /// The version of the tables isn't known.
+    /// The tables have an unknown version.
     #[error("the version of the tables is not known")]
     Version,
     /// Memory ran out.
     #[error("no memory")]
     NoMemory,
-    /// The store refused.
+    /// SQLite or the disk failed.
     #[error("the store refused")]
     Store,
 }
 
-// Want of memory is told as such, and all else is the store's.
-pub(crate) fn fault_of(error: &Error) -> BookFault
-    ensures { result ≡ book_fault error.now }
+// Returns the fault of a book for an error of its connection.
+pub(crate) fn fault_of(error: Error) -> BookFault
+    ensures { result ≡ book_fault error }
 {
     match error {
         Error::SqliteFailure(ErrorCode::OutOfMemory) => BookFault::NoMemory,
@@ -36,11 +35,11 @@ pub(crate) fn fault_of(error: &Error) -> BookFault
     }
 }
 
-// A fault of a book that is being made.
-pub(crate) fn store_fault_of(error: &Error) -> StoreFault
+// Returns the fault of a book that is being created or adopted.
+pub(crate) fn store_fault_of(error: Error) -> StoreFault
     ensures ours { result ≢ NotOurs }
     ensures known { result ≢ Version }
-    ensures told { result ≡ making_fault (book_fault error.now) }
+    ensures told { result ≡ making_fault (book_fault error) }
 {
     match error {
         Error::SqliteFailure(ErrorCode::OutOfMemory) => StoreFault::NoMemory,

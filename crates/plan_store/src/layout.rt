@@ -1,24 +1,29 @@
-//! The tables that a store may have, and whether a database has them and no others.
+//! The layouts of an office's tables, and the test for them.
 
-ghost use Rattle.std.specs.Prelude.{◌≡◌, ◌≢◌, ◌<◌, ◌↔◌, [], ◌∷◌, map, false, IsTrue, MatchOption};
-ghost use Rattle.plan_store.specs.Tables.{filled, keyed_table, meta, published, desks, plans, binds, lags, store_schema};
-ghost use Rattle.plan_store.specs.Layouts.{filled_of, key_index_named, first_schema, schema_of};
+ghost use Rattle.std.specs.Prelude.{◌≡◌, ◌≢◌, ◌<◌, ◌↔◌, [], ◌∷◌, map};
+ghost use Rattle.std.specs.Prelude.{false, IsTrue, MatchOption};
+ghost use Rattle.plan_store.specs.Tables.{filled, keyed_table, meta, published, desks};
+ghost use Rattle.plan_store.specs.Tables.{plans, binds, lags, first_schema, store_schema};
+ghost use Rattle.plan_store.specs.Layouts.{filled_of, key_index_named, schema_of};
 ghost use Rattle.sqlite_value.specs.Keys.{plain};
 ghost use Rattle.plan_store.specs.declared.layout.Layout.{Layout as ALayout};
 
+use crate::schema::{
+    BIND_COLUMNS, DESK_COLUMNS, LAG_COLUMNS, META_COLUMNS, PLAN_COLUMNS, PUBLISHED_COLUMNS,
+};
 use sqlite_items::Items;
 use sqlite_schema::schema::{Column, Index, Kind, Schema, Table};
 use sqlite_value::keys::{Collation, Order};
 use sqlite_value::value::Value;
 
-/// The tables of the first version, which had no lags, and those of the second.
+/// A version of the tables. The first has no lags.
 #[derive(Debug, Clone, Copy, PartialEq, Eq)]
 pub enum Layout {
     First,
     Second,
 }
 
-// Whether it is a column of this name that holds a value of this kind, never NULL.
+// Returns whether a column has this name and holds a value of this kind, never NULL.
 fn is_column(column: &Column, name: &str, kind: Kind) -> bool
     ensures { IsTrue result ↔ (column.now ≡ filled name.now kind) }
 {
@@ -30,7 +35,7 @@ fn is_column(column: &Column, name: &str, kind: Kind) -> bool
         && column.collation == Collation::Binary
 }
 
-// Whether these are columns of these names and kinds.
+// Returns whether columns have these names and kinds.
 fn are_columns(columns: &[Column], wanted: &[(&str, Kind)]) -> bool
     ensures { IsTrue result ↔ (columns.now ≡ map filled_of wanted.now) }
 {
@@ -45,10 +50,12 @@ fn are_columns(columns: &[Column], wanted: &[(&str, Kind)]) -> bool
     true
 }
 
-// Whether a table has nothing but columns and keys.
+// Returns whether a table has nothing but columns and keys.
 fn is_plain(table: &Table) -> bool
-    ensures { IsTrue result ↔ ((table.now.checks ≡ []) × (table.now.references ≡ []) × (table.now.computed ≡ [])
-        × (table.now.stamps ≡ record { places = []; terms = []; formats = [] }) × (table.now.is_counted ≡ false)) }
+    ensures { IsTrue result ↔ ((table.now.checks ≡ [])
+        × (table.now.references ≡ []) × (table.now.computed ≡ [])
+        × (table.now.stamps ≡ record { places = []; terms = []; formats = [] })
+        × (table.now.is_counted ≡ false)) }
 {
     table.checks.roots.is_empty()
         && table.references.is_empty()
@@ -59,29 +66,29 @@ fn is_plain(table: &Table) -> bool
         && !table.is_counted
 }
 
-// Whether these are the same places.
+// Returns whether these are the same places.
 fn are_places(found: &[usize], places: &[usize]) -> bool
     ensures { IsTrue result ↔ (found.now ≡ places.now) }
 {
     found == places
 }
 
-// Whether these places are the only key.
+// Returns whether these places are the only key.
 fn is_one_key(keys: &[Items<usize>], places: &[usize]) -> bool
     ensures { IsTrue result ↔ (keys.now ≡ places.now ∷ []) }
 {
     keys.len() == 1 && are_places(keys[0].as_slice(), places)
 }
 
-// Whether one order is there, in which each column ascends by its bytes.
+// Returns whether there is one order, in which each column ascends by its bytes.
 fn is_one_plain(orders: &[Order]) -> bool
     ensures { IsTrue result ↔ (orders.now ≡ plain ∷ []) }
 {
     orders.len() == 1 && orders[0] == Order::PLAIN
 }
 
-// Whether it is a table of this name with these columns, whose rows are told apart by the columns at
-// these places.
+// Returns whether a table has this name and these columns, with the columns at these places as its
+// key.
 fn is_keyed(
     table: &Table,
     name: &str,
@@ -89,7 +96,8 @@ fn is_keyed(
     places: &[usize],
     columns: &[(&str, Kind)],
 ) -> bool
-    ensures { IsTrue result ↔ (table.now ≡ keyed_table name.now tree places.now (map filled_of columns.now)) }
+    ensures { IsTrue result
+        ↔ (table.now ≡ keyed_table name.now tree places.now (map filled_of columns.now)) }
 {
     table.name.as_slice() == name.as_bytes()
         && table.tree == tree
@@ -106,14 +114,7 @@ fn is_meta(table: &Table) -> bool
 {
     table.name.as_slice() == b"meta".as_slice()
         && table.tree == 0
-        && are_columns(
-            table.columns.as_slice(),
-            &[
-                ("id", Kind::Integer),
-                ("version", Kind::Integer),
-                ("office", Kind::Text),
-            ],
-        )
+        && are_columns(table.columns.as_slice(), &META_COLUMNS)
         && table.key == Some(0)
         && are_places(table.primary.as_slice(), &[0])
         && table.uniques.is_empty()
@@ -124,91 +125,34 @@ fn is_meta(table: &Table) -> bool
 fn is_published(table: &Table) -> bool
     ensures { IsTrue result ↔ (table.now ≡ published) }
 {
-    is_keyed(
-        table,
-        "published",
-        1,
-        &[1],
-        &[
-            ("code", Kind::Text),
-            ("kind", Kind::Text),
-            ("capacity", Kind::Integer),
-        ],
-    )
+    is_keyed(table, "published", 1, &[1], &PUBLISHED_COLUMNS)
 }
 
 fn are_desks(table: &Table) -> bool
     ensures { IsTrue result ↔ (table.now ≡ desks) }
 {
-    is_keyed(
-        table,
-        "desks",
-        3,
-        &[1],
-        &[
-            ("desk", Kind::Text),
-            ("digest", Kind::Text),
-            ("next", Kind::Integer),
-        ],
-    )
+    is_keyed(table, "desks", 3, &[1], &DESK_COLUMNS)
 }
 
 fn are_plans(table: &Table) -> bool
     ensures { IsTrue result ↔ (table.now ≡ plans) }
 {
-    is_keyed(
-        table,
-        "plans",
-        5,
-        &[1, 2],
-        &[
-            ("desk", Kind::Text),
-            ("n", Kind::Integer),
-            ("kind", Kind::Text),
-            ("name", Kind::Text),
-            ("body", Kind::Blob),
-            ("start", Kind::Text),
-            ("days", Kind::Text),
-        ],
-    )
+    is_keyed(table, "plans", 5, &[1, 2], &PLAN_COLUMNS)
 }
 
 fn are_binds(table: &Table) -> bool
     ensures { IsTrue result ↔ (table.now ≡ binds) }
 {
-    is_keyed(
-        table,
-        "binds",
-        7,
-        &[1, 2, 3],
-        &[
-            ("desk", Kind::Text),
-            ("n", Kind::Integer),
-            ("place", Kind::Integer),
-            ("code", Kind::Text),
-        ],
-    )
+    is_keyed(table, "binds", 7, &[1, 2, 3], &BIND_COLUMNS)
 }
 
 fn are_lags(table: &Table) -> bool
     ensures { IsTrue result ↔ (table.now ≡ lags) }
 {
-    is_keyed(
-        table,
-        "lags",
-        9,
-        &[1, 2, 3, 4],
-        &[
-            ("desk", Kind::Text),
-            ("n", Kind::Integer),
-            ("src", Kind::Integer),
-            ("dst", Kind::Integer),
-            ("lag", Kind::Integer),
-        ],
-    )
+    is_keyed(table, "lags", 9, &[1, 2, 3, 4], &LAG_COLUMNS)
 }
 
-// Whether it is the index of the key of a table, which stands behind it.
+// Returns whether an index is that of the key of a table. Its tree follows the table's.
 fn is_key_index(index: &Index, name: &str, tree: u32, places: &[usize]) -> bool
     requires { tree < 65536 }
     ensures { IsTrue result ↔ (index.now ≡ key_index_named name.now tree places.now) }
@@ -221,7 +165,7 @@ fn is_key_index(index: &Index, name: &str, tree: u32, places: &[usize]) -> bool
         && index.is_unique
 }
 
-// Whether these are the tables of the first version.
+// Returns whether these are the tables of the first version.
 fn are_first_tables(tables: &[Table]) -> bool
     ensures { IsTrue result ↔ (tables.now ≡ first_schema.tables) }
 {
@@ -233,20 +177,7 @@ fn are_first_tables(tables: &[Table]) -> bool
         && are_binds(&tables[4])
 }
 
-// Whether these are the tables of the second version.
-fn are_second_tables(tables: &[Table]) -> bool
-    ensures { IsTrue result ↔ (tables.now ≡ store_schema.tables) }
-{
-    tables.len() == 6
-        && is_meta(&tables[0])
-        && is_published(&tables[1])
-        && are_desks(&tables[2])
-        && are_plans(&tables[3])
-        && are_binds(&tables[4])
-        && are_lags(&tables[5])
-}
-
-// Whether these are the indexes of the first version.
+// Returns whether these are the indexes of the first version.
 fn are_first_indexes(indexes: &[Index]) -> bool
     ensures { IsTrue result ↔ (indexes.now ≡ first_schema.indexes) }
 {
@@ -257,15 +188,19 @@ fn are_first_indexes(indexes: &[Index]) -> bool
         && is_key_index(&indexes[3], "sqlite_autoindex_binds_1", 7, &[1, 2, 3])
 }
 
-// Whether these are the indexes of the second version.
+// Returns whether these are the tables of the second version: those of the first and the lags.
+fn are_second_tables(tables: &[Table]) -> bool
+    ensures { IsTrue result ↔ (tables.now ≡ store_schema.tables) }
+{
+    tables.len() == 6 && are_first_tables(&tables[..5]) && are_lags(&tables[5])
+}
+
+// Returns whether these are the indexes of the second version: those of the first and of the lags.
 fn are_second_indexes(indexes: &[Index]) -> bool
     ensures { IsTrue result ↔ (indexes.now ≡ store_schema.indexes) }
 {
     indexes.len() == 5
-        && is_key_index(&indexes[0], "sqlite_autoindex_published_1", 1, &[1])
-        && is_key_index(&indexes[1], "sqlite_autoindex_desks_1", 3, &[1])
-        && is_key_index(&indexes[2], "sqlite_autoindex_plans_1", 5, &[1, 2])
-        && is_key_index(&indexes[3], "sqlite_autoindex_binds_1", 7, &[1, 2, 3])
+        && are_first_indexes(&indexes[..4])
         && is_key_index(&indexes[4], "sqlite_autoindex_lags_1", 9, &[1, 2, 3, 4])
 }
 
@@ -285,9 +220,11 @@ fn is_second(schema: &Schema) -> bool
         && schema.views.is_empty()
 }
 
-/// Which tables of a store a database has, if it has those and no other table, index or view.
+/// Returns the layout of a database that has the tables of an office and no other table, index or
+/// view.
 pub fn layout_of(schema: &Schema) -> Option<Layout>
-    ensures { MatchOption result ((layout : ALayout) → schema.now ≢ schema_of layout) (λ layout. schema.now ≡ schema_of layout) }
+    ensures { MatchOption result ((layout : ALayout) → schema.now ≢ schema_of layout)
+        (λ layout. schema.now ≡ schema_of layout) }
 {
     if is_second(schema) {
         Some(Layout::Second)

@@ -1,8 +1,8 @@
-//! What is handed back where a connection isn't taken.
+//! The connection or store that a failed adoption returns.
 
 use sqlite::{Alter, Connection};
 
-/// A connection that wasn't taken, outside a transaction; or its store alone, where the tables
+/// The connection of a failed adoption, outside a transaction, or its store alone if the tables
 /// couldn't be read again.
 #[derive(Drop)]
 pub enum Leftover<S: Alter> {

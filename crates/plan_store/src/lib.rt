@@ -1,29 +1,30 @@
 //! The tables of an office in SQLite.
 #![tactic(auto)]
 
-mod adopting;
-mod asking;
+mod adoption;
 mod cells;
-mod creating;
+mod changes;
+mod creation;
 mod fault;
+mod keyed_rows;
 mod layout;
 mod leftover;
-mod listing;
-mod migrating;
+mod migration;
 mod next_plan;
 mod numbers;
 mod offices;
 mod on_disk;
-mod opening;
-mod reading;
-mod rereading;
-mod reviewing;
-mod running;
-mod shown;
+mod plan_review;
+mod queries;
+mod query_rows;
+mod reload;
+mod schema;
 mod sql_book;
-mod taken;
-mod taking;
-mod writing;
+mod statements;
+mod transaction;
+mod untrusted_rows;
+mod untrusted_tables;
+mod version;
 
 pub use fault::StoreFault;
 pub use leftover::Leftover;

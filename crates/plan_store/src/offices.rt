@@ -1,4 +1,4 @@
-//! Whether a database has the tables of an office.
+//! The test for the tables of an office.
 
 ghost use Rattle.std.specs.Prelude.{◌↔◌, IsTrue};
 ghost use Rattle.sqlite.specs.Held.{state};
@@ -7,8 +7,8 @@ ghost use Rattle.plan_store.specs.Offices.{HasOfficeTables};
 use crate::layout::layout_of;
 use sqlite::{Alter, Connection};
 
-/// Whether a database has the tables of an office and no other table, index or view. Neither the rows
-/// nor the version that they say are looked at.
+/// Returns whether a database has the tables of an office and no other table, index or view. It
+/// reads no row, so it doesn't test the version.
 pub fn has_office_tables<S: Alter>(conn: &Connection<S>) -> bool
     ensures { IsTrue result ↔ HasOfficeTables (state S.Store conn.now).now.schema }
 {

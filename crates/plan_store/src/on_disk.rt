@@ -1,7 +1,6 @@
 //! Books in files.
 
 ghost use Rattle.std.specs.Prelude.{◌≡◌, ◌≢◌, true, false, IsTrue, IfOk, IfErr};
-ghost use Rattle.sqlite_trees.specs.Tree.{Trees};
 ghost use Rattle.sqlite_wal.specs.Files.{image_at};
 ghost use Rattle.sqlite_std_file.specs.File.{file_is_usable, IsFresh};
 ghost use Rattle.sqlite.specs.State.{HasCleanDisk};
@@ -9,6 +8,7 @@ ghost use Rattle.sqlite.specs.Held.{IsNew};
 ghost use Rattle.sqlite.specs.Start.{FindsIn};
 ghost use Rattle.sqlite.specs.Files.{file_state, over_files};
 ghost use Rattle.plan_store.specs.declared.fault.StoreFault.TheVariants.{NotOurs, Version};
+ghost use Rattle.plan_store.specs.BookCalls.{IsDurable};
 ghost use Rattle.plan_store.specs.OnDisk.{IsTakenFrom, IsRefusedFrom};
 
 use crate::fault::{StoreFault, store_fault_of};
@@ -20,10 +20,10 @@ use std::hash::{BuildHasher, RandomState};
 use std::io::ErrorKind;
 use std::rt::HostRuntime;
 
-// How many pages of the database are kept in memory: a megabyte, which takes little time to make.
+// The number of database pages that are kept in memory. They take 1 MB.
 const PAGES_KEPT: usize = 256;
 
-// The files at a path, which is no name that SQLite takes in another way.
+// Opens the files at a path. It rejects the names that SQLite doesn't read as a path.
 fn files_at<F: Start>(
     rt: &HostRuntime,
     path: &str,
@@ -48,9 +48,9 @@ fn files_at<F: Start>(
     }
 }
 
-// How the files are kept: as the kit does, but for the pages. The log begins at a random number.
+// Returns the default options, except for the pages in memory. The log begins at a random number.
 fn options(rt: &HostRuntime) -> Result<Options, StoreFault>
-    // The log is copied back as often as the kit does it, so it doesn't grow for ever.
+    // A checkpoint after 1,000 frames bounds the size of the log.
     ensures log { IfOk result (λ options. options.checkpoint_frames ≡ 1000) }
     ensures pages { IfOk result (λ options. options.cache_pages ≡ 256) }
     ensures ours { IfErr result (λ fault. fault ≢ NotOurs) }
@@ -64,13 +64,14 @@ fn options(rt: &HostRuntime) -> Result<Options, StoreFault>
     Ok(options)
 }
 
-// A connection to the files at a path.
+// Opens a connection to the files at a path.
 fn open_at<F: Start>(
     rt: &HostRuntime,
     path: &str,
     start: F,
 ) -> Result<Connection<FileStore<FileFrom<F>>>, StoreFault>
-    ensures found { IfOk result (λ c. HasCleanDisk (file_state c) → FindsIn (image_at F.Start) (file_state c)) }
+    ensures found { IfOk result (λ c. HasCleanDisk (file_state c)
+        → FindsIn (image_at F.Start) (file_state c)) }
     ensures fresh { IfOk result IsNew }
     ensures ours { IfErr result (λ fault. fault ≢ NotOurs) }
     ensures known { IfErr result (λ fault. fault ≢ Version) }
@@ -79,14 +80,15 @@ fn open_at<F: Start>(
     let options = options(rt)?;
     match Connection::open_files(rt.alloc(), files, options) {
         Ok(conn) => Ok(conn),
-        Err((error, _)) => Err(store_fault_of(&error)),
+        Err((error, _)) => Err(store_fault_of(error)),
     }
 }
 
 impl<F: Start> SqlBook<FileStore<FileFrom<F>>> {
-    /// The book in the database file at a path and the log beside it. A file that is missing or empty
-    /// has no tables and is `NotOurs`; one that is no database, or may not be opened, is `Store`. No
-    /// clause ties the files to the path: these lines, and `sqlite_std_file::open`, have to be read.
+    /// Opens the book in the database file at a path and the log beside it. A missing or empty file
+    /// has no tables, so the error is `NotOurs`. If the file is no database or can't be opened, it
+    /// is `Store`. No clause relates the files to the path: review `files_at` and
+    /// `sqlite_std_file::open`.
     pub fn open_from(
         rt: &HostRuntime,
         path: &str,
@@ -96,8 +98,7 @@ impl<F: Start> SqlBook<FileStore<FileFrom<F>>> {
         (StoreFault, Option<Leftover<FileStore<FileFrom<F>>>>),
     >
         ensures found { IfOk result (λ b. IsTakenFrom F.Start b.conn over_files) }
-        ensures durable { IfOk result (λ b. HasCleanDisk (file_state b.conn)
-            → (trees : Trees) → (file_state b.conn).may_leave trees → trees ≡ (file_state b.conn).now.trees) }
+        ensures durable { IfOk result (λ b. IsDurable (file_state b.conn)) }
         ensures refused { IfErr result (λ e. IsRefusedFrom F.Start e.0 e.1 over_files) }
     {
         let conn = match open_at(rt, path, start) {

@@ -1,6 +1,6 @@
 //! A book in SQL.
 
-ghost use Rattle.std.specs.Prelude.{◌≡◌, ◌≢◌, ◌↔◌, false, IsTrue, IfOk, IfErr};
+ghost use Rattle.std.specs.Prelude.{◌≡◌, ◌≢◌, ◌↔◌, false, IfOk, IfErr};
 ghost use Rattle.sqlite_trees.specs.Tree.{Trees};
 ghost use Rattle.sqlite.specs.State.{HasCleanDisk, Survives};
 ghost use Rattle.sqlite.specs.Held.{state};
@@ -9,24 +9,24 @@ ghost use Rattle.plan_rows.specs.World.{empty_world};
 ghost use Rattle.plan_store.specs.declared.fault.StoreFault.TheVariants.{NotOurs, Version};
 ghost use Rattle.plan_store.specs.Tables.{no_schema};
 ghost use Rattle.plan_store.specs.Stores.{world_of};
-ghost use Rattle.plan_store.specs.Serving.{Stands};
-ghost use Rattle.plan_store.specs.Creating.{IsNewStore};
-ghost use Rattle.plan_store.specs.Adopting.{IsTaken, IsRefused};
+ghost use Rattle.plan_store.specs.BookCalls.{Stands, IsDurable};
+ghost use Rattle.plan_store.specs.Creation.{IsNewBook, IsNewStore, IsAsBefore};
+ghost use Rattle.plan_store.specs.Adoption.{IsTaken, IsRefused};
 
-use crate::adopting::take_tables;
-use crate::creating::{is_empty, make_tables};
-use crate::fault::StoreFault;
-use crate::leftover::Leftover;
-use crate::listing::rows_in;
-use crate::next_plan::{NextPlan, next_told, number_kept};
-use crate::reading::{
-    capacity_found, codes_in, desk_found, office_in, plan_found, plans_counted, plans_in,
-};
-use crate::rereading::reread;
-use crate::writing::{
+use crate::adoption::take_tables;
+use crate::changes::{
     add_plan_in, bind_place, open_desk_in, publish_in, remove_plan_in, set_calendar_in, set_key_in,
     set_lag_in,
 };
+use crate::creation::{is_empty, make_tables};
+use crate::fault::StoreFault;
+use crate::keyed_rows::list_by_key;
+use crate::leftover::Leftover;
+use crate::next_plan::{NextPlan, known_number, next_plan_of};
+use crate::queries::{
+    count_plans, find_capacity, find_desk, find_plan, list_codes, list_plans, office_in,
+};
+use crate::reload::reload;
 use plan_rows::{
     Book, BookFault, Calls, CodeRow, DeskRow, Kind, Listing, PlanEntry, PlanKind, PlanRow,
     RowsByKey,
@@ -35,17 +35,16 @@ use sqlite::{Alter, Connection, MemStore};
 use std::alloc::Global;
 use std::marker::Model;
 
-/// The tables of an office in SQL, over any store that the connection has. Each writing call is one
-/// transaction.
+/// The tables of an office in SQL, on any store. Each call that writes is one transaction.
 #[derive(Drop)]
 pub struct SqlBook<S: Alter> {
     alloc: Global,
     conn: Connection<S>,
-    // the writing calls
+    // counts the calls that write
     calls: Calls,
-    // all calls, by whether the store refused them
+    // counts the calls that the store refused
     denials: Calls,
-    // what the last reading of a desk's row told, until a call writes
+    // the number in the desk's row that was read last, until a call writes
     next_plan: Option<NextPlan>,
 }
 
@@ -68,27 +67,25 @@ impl<S: Alter> Model for SqlBook<S> {
 }
 
 impl<S: Alter> SqlBook<S> {
-    /// A book without a row, of an office with the digest of its key, in a database with no table,
-    /// index or view. An `Err` hands the connection back.
+    /// Creates a book without rows, for an office with this digest of its key. The database must
+    /// have no table, index or view. An `Err` returns the connection.
     pub fn create_in(
         alloc: Global,
         conn: Connection<S>,
         digest: &[u8; 32],
     ) -> Result<SqlBook<S>, (StoreFault, Connection<S>)>
         requires outside { (state S.Store conn).in_transaction ≡ false }
-        ensures made { IfOk result (λ b. HasCleanDisk (state S.Store b.conn)
-            → Stands (state S.Store b.conn) × (world_of (state S.Store b.conn).now.trees ≡ empty_world digest.now)) }
-        // Once it is made, a crash leaves it and nothing else.
-        ensures durable { IfOk result (λ b. HasCleanDisk (state S.Store b.conn)
-            → (trees : Trees) → (state S.Store b.conn).may_leave trees → trees ≡ (state S.Store b.conn).now.trees) }
+        ensures made { IfOk result (λ b. IsNewBook digest.now (state S.Store b.conn)) }
+        ensures durable { IfOk result (λ b. IsDurable (state S.Store b.conn)) }
         ensures empty { IfOk result (λ _. (state S.Store conn).now.schema ≡ no_schema) }
-        ensures ours { IfErr result (λ e. (e.0 ≡ NotOurs) ↔ ((state S.Store conn).now.schema ≢ no_schema)) }
+        ensures ours { IfErr result
+            (λ e. (e.0 ≡ NotOurs) ↔ ((state S.Store conn).now.schema ≢ no_schema)) }
         ensures known { IfErr result (λ e. e.0 ≢ Version) }
         ensures untouched { IfErr result (λ e. e.0 ≡ NotOurs → e.1 ≡ conn) }
         ensures outside { IfErr result (λ e. (state S.Store e.1).in_transaction ≡ false) }
-        ensures kept { IfErr result (λ e. HasCleanDisk (state S.Store e.1) → IsTrue (state S.Store e.1).is_open
-            → ((state S.Store e.1).now ≡ (state S.Store conn).now) × ((state S.Store e.1).committed ≡ (state S.Store conn).committed)) }
-        ensures crash { IfErr result (λ e. Survives (state S.Store conn) (state S.Store e.1) (IsNewStore digest.now)) }
+        ensures kept { IfErr result (λ e. IsAsBefore (state S.Store conn) (state S.Store e.1)) }
+        ensures crash { IfErr result
+            (λ e. Survives (state S.Store conn) (state S.Store e.1) (IsNewStore digest.now)) }
     {
         let mut conn = conn;
         if !is_empty(conn.schema()) {
@@ -106,7 +103,7 @@ impl<S: Alter> SqlBook<S> {
         }
     }
 
-    /// The connection, outside a transaction, with the tables as they are.
+    /// Returns the connection, outside a transaction.
     pub fn into_connection(self) -> Connection<S>
         ensures same { result ≡ self.conn }
         ensures outside { (state S.Store result).in_transaction ≡ false }
@@ -123,23 +120,23 @@ impl<S: Alter> SqlBook<S> {
 }
 
 impl<S: Alter + Drop> SqlBook<S> {
-    /// The book that the tables of a connection hold. Tables of the second version are taken as they
-    /// are; those of the first are brought to the second in one transaction, with no lags. Any other
-    /// tables are refused, `NotOurs` or `Version`, and stay as they are.
+    /// Opens the book in the tables of a connection. Tables of the first version are migrated to
+    /// the second in one transaction, without lags. Other tables are rejected with `NotOurs` or
+    /// `Version` and stay as they are.
     pub fn adopt(
         alloc: Global,
         conn: Connection<S>,
     ) -> Result<SqlBook<S>, (StoreFault, Leftover<S>)>
         requires outside { (state S.Store conn).in_transaction ≡ false }
         ensures taken { IfOk result (λ b. HasCleanDisk (state S.Store b.conn)
-            → Stands (state S.Store b.conn) × IsTaken (state S.Store conn).now (state S.Store b.conn).now) }
-        ensures honesty { IfOk result (λ b. HasCleanDisk (state S.Store b.conn) → HasCleanDisk (state S.Store conn)) }
-        // Once they are taken, a crash leaves them and nothing else.
-        ensures durable { IfOk result (λ b. HasCleanDisk (state S.Store b.conn)
-            → (trees : Trees) → (state S.Store b.conn).may_leave trees → trees ≡ (state S.Store b.conn).now.trees) }
+            → Stands (state S.Store b.conn)
+            × IsTaken (state S.Store conn).now (state S.Store b.conn).now) }
+        ensures honesty { IfOk result
+            (λ b. HasCleanDisk (state S.Store b.conn) → HasCleanDisk (state S.Store conn)) }
+        ensures durable { IfOk result (λ b. IsDurable (state S.Store b.conn)) }
         ensures refused { IfErr result (λ e. IsRefused S.Store (state S.Store conn) e.0 e.1) }
     {
-        let mut conn = match reread(alloc, conn) {
+        let mut conn = match reload(alloc, conn) {
             Ok(conn) => conn,
             Err((fault, store)) => return Err((fault, Leftover::Store(store))),
         };
@@ -157,16 +154,18 @@ impl<S: Alter + Drop> SqlBook<S> {
 }
 
 impl SqlBook<MemStore> {
-    /// A book without a row in a database in memory.
+    /// Creates a book without rows in a database in memory.
     pub fn open_in_memory(alloc: Global, digest: &[u8; 32]) -> Result<SqlBook<MemStore>, StoreFault>
-        ensures made { IfOk result (λ b. Stands (state over_memory b.conn) × (world_of (state over_memory b.conn).now.trees ≡ empty_world digest.now)) }
-        ensures durable { IfOk result (λ b. (trees : Trees) → (state over_memory b.conn).may_leave trees → trees ≡ (state over_memory b.conn).now.trees) }
+        ensures made { IfOk result (λ b. Stands (state over_memory b.conn)
+            × (world_of (state over_memory b.conn).now.trees ≡ empty_world digest.now)) }
+        ensures durable { IfOk result (λ b. (trees : Trees)
+            → (state over_memory b.conn).may_leave trees
+            → trees ≡ (state over_memory b.conn).now.trees) }
         ensures ours { IfErr result (λ fault. fault ≢ NotOurs) }
         ensures known { IfErr result (λ fault. fault ≢ Version) }
     {
-        let conn = match Connection::open_in_memory(alloc) {
-            Ok(conn) => conn,
-            Err(_) => return Err(StoreFault::NoMemory),
+        let Ok(conn) = Connection::open_in_memory(alloc) else {
+            return Err(StoreFault::NoMemory);
         };
         match SqlBook::create_in(alloc, conn, digest) {
             Ok(book) => Ok(book),
@@ -196,8 +195,8 @@ impl<S: Alter> Book for SqlBook<S> {
     }
 
     fn desk(&mut self, name: &str) -> Result<Option<DeskRow>, BookFault> {
-        let answer = desk_found(&mut self.conn, name);
-        self.next_plan = next_told(self.alloc, name, &answer);
+        let answer = find_desk(&mut self.conn, name);
+        self.next_plan = next_plan_of(self.alloc, name, &answer);
         self.denials.note(answer)
     }
 
@@ -223,27 +222,27 @@ impl<S: Alter> Book for SqlBook<S> {
     }
 
     fn capacity(&mut self, code: &str) -> Result<Option<(Kind, u64)>, BookFault> {
-        let answer = capacity_found(&mut self.conn, code);
+        let answer = find_capacity(&mut self.conn, code);
         self.denials.note(answer)
     }
 
     fn capacities(&mut self) -> Result<Vec<CodeRow>, BookFault> {
-        let answer = codes_in(self.alloc, &mut self.conn);
+        let answer = list_codes(self.alloc, &mut self.conn);
         self.denials.note(answer)
     }
 
     fn plans(&mut self, desk: &str) -> Result<Vec<PlanEntry>, BookFault> {
-        let answer = plans_in(self.alloc, &mut self.conn, desk);
+        let answer = list_plans(self.alloc, &mut self.conn, desk);
         self.denials.note(answer)
     }
 
     fn count_plans(&mut self, desk: &str) -> Result<usize, BookFault> {
-        let answer = plans_counted(&mut self.conn, desk);
+        let answer = count_plans(&mut self.conn, desk);
         self.denials.note(answer)
     }
 
     fn plan(&mut self, desk: &str, n: u64) -> Result<Option<PlanRow>, BookFault> {
-        let answer = plan_found(self.alloc, &mut self.conn, desk, n);
+        let answer = find_plan(self.alloc, &mut self.conn, desk, n);
         self.denials.note(answer)
     }
 
@@ -254,7 +253,7 @@ impl<S: Alter> Book for SqlBook<S> {
         name: &str,
         body: &[u8],
     ) -> Result<(), BookFault> {
-        let next = number_kept(&self.next_plan, desk);
+        let next = known_number(&self.next_plan, desk);
         self.next_plan = None;
         let answer = add_plan_in(&mut self.conn, desk, next, kind, name, body);
         let counted = self.calls.count(answer);
@@ -305,7 +304,7 @@ impl<S: Alter> Book for SqlBook<S> {
 
 impl<S: Alter> Listing for SqlBook<S> {
     fn list(&mut self) -> Result<RowsByKey, BookFault> {
-        let answer = rows_in(self.alloc, &mut self.conn);
+        let answer = list_by_key(self.alloc, &mut self.conn);
         self.denials.note(answer)
     }
 }

@@ -1,10 +1,10 @@
-//! What is kept of an office while its plans are tested one at a time.
+//! The rows of an office that stay in memory while its plans are tested one at a time.
 
 use crate::kinds::PlanKind;
 use crate::rows::CodeRow;
 use crate::tables::{BindRecord, DeskRecord, LagRecord};
 
-/// The rows of an office beside its plans.
+/// The rows of an office except its plans.
 #[derive(Clone, Copy, Drop)]
 pub struct Beside<'a> {
     pub office: &'a [u8; 32],
@@ -14,8 +14,7 @@ pub struct Beside<'a> {
     pub lags: &'a [LagRecord],
 }
 
-/// A plan that keeps the rules of rows, once its file was let go: its key, its kind, and how many
-/// places it has.
+/// A tested plan without its file: its key, its kind and the number of its places.
 #[derive(Debug, Drop)]
 pub struct PlanSeen {
     pub desk: String,

@@ -1,4 +1,4 @@
-//! What the files of plans give.
+//! The contents of the files of plans.
 
 ghost use Rattle.std.specs.Prelude.{IfOk};
 ghost use Rattle.plan_rows.specs.declared.kinds.PlanKind.TheVariants.{Project, Shop};
@@ -10,14 +10,14 @@ use plan_orlib::read_shop;
 use plan_psplib::{FileCode, read_sm};
 use std::alloc::{AllocError, Global};
 
-/// What the file of a plan gives: how many places, and the network of a project.
+/// The contents of a plan's file: the number of places, and the network of a project.
 #[derive(Drop)]
 pub struct PlanFile {
     pub places: u64,
     pub network: Option<Network>,
 }
 
-// What the file of a project gives.
+// Reads the file of a project.
 fn read_project(alloc: Global, name: &str, body: &[u8]) -> Result<Option<PlanFile>, AllocError>
     ensures { IfOk result (FileTold Project name.now body.now) }
 {
@@ -36,7 +36,7 @@ fn read_project(alloc: Global, name: &str, body: &[u8]) -> Result<Option<PlanFil
     }
 }
 
-// What the file of a shop gives.
+// Reads the file of a shop.
 fn read_instance(alloc: Global, name: &str, body: &[u8]) -> Result<Option<PlanFile>, AllocError>
     ensures { IfOk result (FileTold Shop name.now body.now) }
 {
@@ -52,7 +52,7 @@ fn read_instance(alloc: Global, name: &str, body: &[u8]) -> Result<Option<PlanFi
     }
 }
 
-/// What the file of a plan gives, or nothing of one that isn't read.
+/// Reads the file of a plan. It returns `None` if the file is invalid.
 pub fn read_file(
     alloc: Global,
     kind: PlanKind,

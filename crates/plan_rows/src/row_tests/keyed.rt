@@ -1,4 +1,4 @@
-//! Rows that have keys, each once.
+//! The test that rows have distinct keys.
 
 ghost use Rattle.std.specs.Prelude.{◌≡◌, List, IfOk};
 ghost use Rattle.plan_rows.specs.World.{Plan};
@@ -6,7 +6,7 @@ ghost use Rattle.plan_rows.specs.Rules.{AllDiffer};
 ghost use Rattle.plan_rows.specs.Books.{published_in};
 ghost use Rattle.plan_rows.specs.Tables.{world_beside, desk_kept, head_seen, bind_kept, lag_kept};
 ghost use Rattle.plan_rows.specs.RowTests.{Tells, KeysDiffer, RowKey, same_key};
-ghost use Rattle.plan_rows.specs.Reviewing.{AreKeys, AreSeen};
+ghost use Rattle.plan_rows.specs.PlanReview.{AreKeys, AreSeen};
 
 use crate::row_tests::beside::{Beside, PlanSeen};
 use crate::rows::CodeRow;
@@ -19,7 +19,7 @@ pub trait Keyed {
     /// Its key.
     ghost key_of: { Self → RowKey };
 
-    /// Its key: a text, and three numbers, which are 0 where the key has fewer.
+    /// Returns its key: a text and three numbers. Numbers that the key doesn't have are 0.
     fn key(&self) -> (&str, u64, u64, u64)
         ensures { (result.0.now, result.1, result.2, result.3) ≡ key_of self.now };
 }
@@ -57,7 +57,12 @@ impl Keyed for BindRecord {
 }
 
 impl Keyed for LagRecord {
-    ghost key_of = { λ row. ((lag_kept row).desk, (lag_kept row).n, (lag_kept row).source, (lag_kept row).target) };
+    ghost key_of = { λ row. (
+      (lag_kept row).desk,
+      (lag_kept row).n,
+      (lag_kept row).source,
+      (lag_kept row).target,
+    ) };
 
     fn key(&self) -> (&str, u64, u64, u64) {
         (
@@ -69,7 +74,7 @@ impl Keyed for LagRecord {
     }
 }
 
-// Whether all rows have keys of their own. The keys are kept in a set, from the last row on.
+// Returns whether all rows have distinct keys. It inserts the keys from the last row to the first.
 fn all_differ<T: Keyed>(alloc: Global, rows: &[T]) -> Result<bool, AllocError>
     ensures { IfOk result
         (λ good. Tells good (AllDiffer (λ a b. same_key (T.key_of a) (T.key_of b)) rows.now)) }
@@ -84,7 +89,7 @@ fn all_differ<T: Keyed>(alloc: Global, rows: &[T]) -> Result<bool, AllocError>
     Ok(true)
 }
 
-/// The keys of rows, from the last row on.
+/// Returns the set of the keys of rows.
 pub fn keys_of<'a, T: Keyed>(
     alloc: Global,
     rows: &'a [T],
@@ -98,7 +103,7 @@ pub fn keys_of<'a, T: Keyed>(
     Ok(keys)
 }
 
-/// Whether the rows of each table have their keys once.
+/// Returns whether the rows of each table have distinct keys.
 pub fn keys_differ(
     alloc: Global,
     beside: &Beside<'_>,

@@ -1,4 +1,4 @@
-//! Where rows stand by their keys, and how many plans each desk has.
+//! The indexes of rows by their keys, and the number of plans of each desk.
 
 ghost use Rattle.std.specs.Prelude.{◌≡◌, List, IfOk, filter, length};
 ghost use Rattle.std.specs.List.{position};
@@ -14,7 +14,7 @@ use crate::row_tests::keyed::Keyed;
 use std::alloc::{AllocError, Global};
 use std::collections::HashMap;
 
-// The first place of each key. The last row comes first, so that the first one stays.
+// Maps each key to the index of its first row. It inserts the rows from the last to the first.
 fn places_of<'a, T: Keyed>(
     alloc: Global,
     rows: &'a [T],
@@ -28,7 +28,7 @@ fn places_of<'a, T: Keyed>(
     Ok(places)
 }
 
-// How many plans each desk has.
+// Counts the plans of each desk.
 fn counts_of<'a>(alloc: Global, rows: &'a [PlanSeen]) -> Result<HashMap<&'a str, usize>, AllocError>
     ensures { IfOk result (λ counts. AreCounts counts rows.now) }
 {
@@ -41,7 +41,7 @@ fn counts_of<'a>(alloc: Global, rows: &'a [PlanSeen]) -> Result<HashMap<&'a str,
     Ok(counts)
 }
 
-/// Where the codes, desks and plans of an office stand, and how many plans each desk has.
+/// The indexes of codes, desks and plans by their keys, and the number of plans of each desk.
 #[derive(Drop)]
 pub struct Places<'a> {
     codes: HashMap<(&'a str, u64, u64, u64), usize>,
@@ -51,7 +51,7 @@ pub struct Places<'a> {
 }
 
 impl<'a> Places<'a> {
-    /// Those of these rows.
+    /// Computes them for these rows.
     pub fn of(
         alloc: Global,
         beside: &Beside<'a>,
@@ -71,7 +71,7 @@ impl<'a> Places<'a> {
         })
     }
 
-    /// The place of a code.
+    /// Finds the index of a code.
     pub fn code_at(&self, code: &str) -> Option<usize>
         ensures { (o : Others) (seen : List Seen) → ArePlaces o seen self.now
             → result ≡ position (λ row. is_code code.now (published_in row)) o.published.now }
@@ -79,7 +79,7 @@ impl<'a> Places<'a> {
         self.codes.get(&(code, 0, 0, 0)).copied()
     }
 
-    /// The place of a desk.
+    /// Finds the index of a desk.
     pub fn desk_at(&self, desk: &str) -> Option<usize>
         ensures { (o : Others) (seen : List Seen) → ArePlaces o seen self.now
             → result ≡ position (λ row. is_desk desk.now (desk_kept row)) o.desks.now }
@@ -87,7 +87,7 @@ impl<'a> Places<'a> {
         self.desks.get(&(desk, 0, 0, 0)).copied()
     }
 
-    /// The place of a plan.
+    /// Finds the index of a plan.
     pub fn plan_at(&self, desk: &str, n: u64) -> Option<usize>
         ensures { (o : Others) (seen : List Seen) → ArePlaces o seen self.now
             → result ≡ position (λ row. is_plan desk.now n (head_seen row)) seen }
@@ -95,7 +95,7 @@ impl<'a> Places<'a> {
         self.plans.get(&(desk, n, 0, 0)).copied()
     }
 
-    /// How many plans a desk has.
+    /// Returns the number of plans of a desk.
     pub fn count_plans(&self, desk: &str) -> usize
         ensures { (o : Others) (seen : List Seen) → ArePlaces o seen self.now
             → result ≡ length (filter (λ row. is_plan_of desk.now (head_seen row)) seen) }

@@ -1,17 +1,17 @@
-//! Plans that are tested one at a time, and the other rows beside them. The file of a plan may be let
-//! go once it was read.
+//! The test of an office that has the file of one plan at a time in memory.
 
-ghost use Rattle.std.specs.Prelude.{◌≡◌, ◌&&◌, ◌++◌, ◌∷◌, [], true, not, List, IfOk};
+ghost use Rattle.std.specs.Prelude.{◌≡◌, ◌&&◌, ◌++◌, ◌∷◌, [], true, not};
+ghost use Rattle.std.specs.Prelude.{List, IfOk};
 ghost use Rattle.std.specs.Bool.{MatchBool};
 ghost use Rattle.std.specs.List.{AllByRecursion, position};
 ghost use Rattle.plan_rows.specs.World.{Plan};
 ghost use Rattle.plan_rows.specs.Rules.{IsPlanRow, IsWorld};
 ghost use Rattle.plan_rows.specs.Tables.{world_beside, head_of, plan_kept, head_seen};
 ghost use Rattle.plan_rows.specs.RowTests.{Tells, GivesFile, HeldKey, AreFirst};
-ghost use Rattle.plan_rows.specs.Reviewing.{holds_key, has_row, is_arc_key, key_at};
-ghost use Rattle.plan_rows.specs.Reviewing.{lag_key_of, is_owner, owner_key_of};
-ghost use Rattle.plan_rows.specs.Reviewing.{IsStruckBy, IsStruck, SomeLeft};
-ghost use Rattle.plan_rows.specs.Reviewing.{HasReviewed};
+ghost use Rattle.plan_rows.specs.PlanReview.{holds_key, has_row, is_arc_key, key_at};
+ghost use Rattle.plan_rows.specs.PlanReview.{lag_key_of, is_owner, owner_key_of};
+ghost use Rattle.plan_rows.specs.PlanReview.{IsStruckBy, IsStruck, SomeLeft};
+ghost use Rattle.plan_rows.specs.PlanReview.{HasReviewed};
 
 use crate::row_tests::beside::{Beside, PlanSeen};
 use crate::row_tests::files::PlanFile;
@@ -24,7 +24,7 @@ use crate::tables::{LagRecord, PlanRecord};
 use std::alloc::{AllocError, Global};
 use std::collections::{HashMap, HashSet};
 
-/// Tests plans one at a time, beside the other rows of their office.
+/// A test of plans, one at a time, and of the other rows of their office.
 #[derive(Drop)]
 pub struct Review<'a> {
     alloc: Global,
@@ -34,14 +34,14 @@ pub struct Review<'a> {
     plans: Vec<PlanSeen>,
 }
 
-// The key of the plan of a lag.
+// Returns the key of the plan of a lag.
 fn owner_key(lag: &LagRecord) -> (&str, u64, u64, u64)
     ensures { (result.0.now, result.1, result.2, result.3) ≡ owner_key_of lag.now }
 {
     (lag.desk.as_str(), lag.n, 0, 0)
 }
 
-// Where the first lag of each plan stands.
+// Maps each plan to the index of its first lag.
 fn owners_of<'a>(
     alloc: Global,
     lags: &'a [LagRecord],
@@ -55,14 +55,14 @@ fn owners_of<'a>(
     Ok(places)
 }
 
-// The key of an arc of a plan.
+// Returns the key of an arc of a plan.
 fn arc_key<'a>(desk: &'a str, n: u64, arc: &(u32, u32)) -> (&'a str, u64, u64, u64)
     ensures { (result.0.now, result.1, result.2, result.3) ≡ key_at desk.now n arc.now }
 {
     (desk, n, u64::from(arc.0), u64::from(arc.1))
 }
 
-// Takes out the keys of arcs of a plan.
+// Removes the keys of arcs of a plan.
 fn strike_arcs<'a>(
     pending: &mut HashSet<(&'a str, u64, u64, u64)>,
     desk: &'a str,
@@ -77,7 +77,7 @@ fn strike_arcs<'a>(
     }
 }
 
-// Where the first lag of a plan stands.
+// Finds the index of the first lag of a plan.
 fn owner_at(owners: &HashMap<(&str, u64, u64, u64), usize>, row: &PlanRecord) -> Option<usize>
     ensures { (lags : List LagRecord) → AreFirst owner_key_of owners.now lags
         → result ≡ position (is_owner (plan_kept row.now)) lags }
@@ -85,7 +85,7 @@ fn owner_at(owners: &HashMap<(&str, u64, u64, u64), usize>, row: &PlanRecord) ->
     (&*owners).get(&(row.desk.as_str(), row.n, 0, 0)).copied()
 }
 
-// Takes out the keys of the arcs that a plan has, if there are lags of it.
+// Removes the keys of the arcs of a plan, if it has lags.
 fn strike<'a>(
     lags: &'a [LagRecord],
     owner: Option<usize>,
@@ -108,7 +108,7 @@ fn strike<'a>(
     strike_arcs(pending, lags[at].desk.as_str(), row.n, network.arcs());
 }
 
-// Whether no row has a key that is left.
+// Returns whether no row has one of the remaining keys.
 fn are_struck(pending: &HashSet<(&str, u64, u64, u64)>, rows: &[LagRecord]) -> bool
     ensures { MatchBool result
         (AllByRecursion (λ row. IsStruck pending.now.keys (lag_key_of row)) rows.now)
@@ -122,7 +122,7 @@ fn are_struck(pending: &HashSet<(&str, u64, u64, u64)>, rows: &[LagRecord]) -> b
     true
 }
 
-// What is kept of a plan that has so many places.
+// Returns a plan without its file, with this number of places.
 fn seen(alloc: Global, row: &PlanRecord, places: u64) -> Result<PlanSeen, AllocError>
     ensures head { IfOk result (λ seen. head_seen seen ≡ head_of (plan_kept row.now)) }
     ensures places { IfOk result (λ seen. seen.places ≡ places) }
@@ -136,7 +136,7 @@ fn seen(alloc: Global, row: &PlanRecord, places: u64) -> Result<PlanSeen, AllocE
 }
 
 impl<'a> Review<'a> {
-    /// A review of no plan so far, beside these rows.
+    /// Begins a review with these other rows.
     pub fn new(alloc: Global, beside: Beside<'a>) -> Result<Review<'a>, AllocError>
         ensures fresh { IfOk result (HasReviewed []) }
         ensures beside { IfOk result (λ review. review.beside ≡ beside.entry) }
@@ -152,7 +152,7 @@ impl<'a> Review<'a> {
         })
     }
 
-    /// Whether the next plan keeps the rules of rows.
+    /// Tests the next plan and returns whether it keeps the rules of rows.
     pub fn read(&mut self, row: &PlanRecord) -> Result<bool, AllocError>
         requires { (plans : List Plan) × HasReviewed plans self.old }
         ensures same { self.new.beside ≡ self.old.beside }
@@ -176,7 +176,7 @@ impl<'a> Review<'a> {
         Ok(true)
     }
 
-    /// Whether all rows keep the rules of rows, where the plans are those that were read.
+    /// Returns whether the plans that were read and the other rows keep the rules of rows.
     pub fn is_world(&self) -> Result<bool, AllocError>
         ensures { (plans : List Plan) → HasReviewed plans self.now → IfOk result
             (λ good. Tells good (IsWorld (world_beside self.now.beside plans))) }

@@ -1,4 +1,4 @@
-//! The rules of one row.
+//! The rules of single rows.
 
 ghost use Rattle.std.specs.Prelude.{◌≡◌, IfOk};
 ghost use Rattle.plan_rows.specs.Names.{is_from_to};
@@ -18,14 +18,14 @@ use plan_calendar::Calendar;
 use plan_psplib::GREATEST_AMOUNT;
 use std::alloc::{AllocError, Global};
 
-/// Whether a published code keeps the rules of rows.
+/// Returns whether a published code keeps the rules of rows.
 pub fn is_published_row(row: &CodeRow) -> bool
     ensures { result ≡ rules.is_published_row (published_in row.now) }
 {
     is_name(row.code.as_bytes()) && row.capacity <= GREATEST_AMOUNT
 }
 
-/// Whether a desk keeps the rules of rows.
+/// Returns whether a desk keeps the rules of rows.
 pub fn is_desk_row(row: &DeskRecord) -> bool
     ensures { result ≡ rules.is_desk_row (desk_kept row.now) }
 {
@@ -58,7 +58,7 @@ fn is_number(n: u64) -> bool
     1 <= n && n <= GREATEST_NUMBER
 }
 
-// Whether a plan keeps the rules of rows, but for its file.
+// Returns whether a plan keeps the rules of rows that don't concern its file.
 fn has_head(row: &PlanRecord) -> bool
     ensures { Tells result (HasHead (plan_kept row.now)) }
 {
@@ -71,7 +71,7 @@ fn has_head(row: &PlanRecord) -> bool
     has_calendar(row.start.as_str(), row.days.as_str())
 }
 
-/// What the file of a plan gives that keeps the rules of rows, or nothing of one that doesn't.
+/// Reads the file of a plan. It returns `None` if the plan breaks the rules of rows.
 pub fn read_row(alloc: Global, row: &PlanRecord) -> Result<Option<PlanFile>, AllocError>
     ensures { IfOk result (PlanTold (plan_kept row.now)) }
 {
@@ -81,7 +81,7 @@ pub fn read_row(alloc: Global, row: &PlanRecord) -> Result<Option<PlanFile>, All
     read_file(alloc, row.kind, row.name.as_str(), row.body.as_slice())
 }
 
-/// Whether a plan keeps the rules of rows.
+/// Returns whether a plan keeps the rules of rows.
 pub fn is_plan_row(alloc: Global, row: &PlanRecord) -> Result<bool, AllocError>
     ensures { IfOk result (λ good. Tells good (rules.IsPlanRow (plan_kept row.now))) }
 {

@@ -1,4 +1,4 @@
-//! Rows that are tested beside the other tables.
+//! The rules of rows that concern the other tables.
 
 ghost use Rattle.std.specs.Prelude.{◌≡◌, true, List, map};
 ghost use Rattle.std.specs.List.{AllByRecursion};
@@ -12,7 +12,7 @@ ghost use Rattle.plan_rows.specs.Rules as rules;
 ghost use Rattle.plan_rows.specs.Books.{published_in};
 ghost use Rattle.plan_rows.specs.Tables.{world_beside, desk_kept, head_seen, bind_kept, lag_kept};
 ghost use Rattle.plan_rows.specs.RowTests.{Tells, ArePlaces, IsDeskOf, RowsAreGood};
-ghost use Rattle.plan_rows.specs.Reviewing.{AreSeen};
+ghost use Rattle.plan_rows.specs.PlanReview.{AreSeen};
 
 use crate::kinds::{Kind, PlanKind};
 use crate::limits::MOST_PLANS;
@@ -23,12 +23,12 @@ use crate::rows::CodeRow;
 use crate::tables::{BindRecord, DeskRecord, LagRecord};
 use plan_net::LONGEST_LAG;
 
-/// A row that is tested beside the other rows, where the files of the plans were let go.
+/// A row whose rules concern the other rows. The files of the plans aren't in memory.
 pub trait Tested {
-    /// It keeps its rules.
+    /// The row keeps its rules.
     ghost keeps: { spec.World → Self → Type 0 };
 
-    /// Whether it keeps its rules.
+    /// Returns whether it keeps its rules.
     fn is_good(&self, beside: &Beside<'_>, plans: &[PlanSeen], places: &Places<'_>) -> bool
         requires places { ArePlaces beside.now plans.now places.now }
         ensures { (known : List Plan) → AreSeen known plans.now
@@ -83,10 +83,11 @@ fn is_taken(kind: PlanKind, code: Kind) -> bool
     }
 }
 
-// Whether a code is published, and of the kind that a plan takes.
+// Returns whether a code is published with the kind that a plan can use.
 fn has_code(beside: &Beside<'_>, places: &Places<'_>, kind: PlanKind, code: &str) -> bool
     requires { (seen : List Seen) × ArePlaces beside.now seen places.now }
-    ensures { Tells result (rules.IsThereAnd (spec.code_in (map published_in beside.now.published.now) code.now)
+    ensures { Tells result (rules.IsThereAnd
+        (spec.code_in (map published_in beside.now.published.now) code.now)
         (λ row. spec.same_kind row.kind (spec.takes kind) ≡ true)) }
 {
     match places.code_at(code) {
@@ -124,7 +125,7 @@ impl Tested for LagRecord {
     }
 }
 
-// Whether all rows of a table keep their rules.
+// Returns whether all rows of a table keep their rules.
 fn all_good<T: Tested>(
     rows: &[T],
     beside: &Beside<'_>,
@@ -143,7 +144,7 @@ fn all_good<T: Tested>(
     true
 }
 
-/// Whether the rows of all tables keep their rules beside the others, but for the arcs of lags.
+/// Returns whether the rows of all tables keep their rules, except that lags are on arcs.
 pub fn rows_are_good(beside: &Beside<'_>, plans: &[PlanSeen], places: &Places<'_>) -> bool
     requires places { ArePlaces beside.now plans.now places.now }
     ensures { (known : List Plan) → AreSeen known plans.now

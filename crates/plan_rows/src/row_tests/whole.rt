@@ -1,4 +1,4 @@
-//! All tables together.
+//! The test of all tables together.
 
 ghost use Rattle.std.specs.Prelude.{◌≡◌, [], IfOk, map};
 ghost use Rattle.std.specs.Bool.{MatchBool};
@@ -6,14 +6,14 @@ ghost use Rattle.std.specs.List.{AllByRecursion};
 ghost use Rattle.plan_rows.specs.Rules.{IsWorld, IsPlanRow};
 ghost use Rattle.plan_rows.specs.Tables.{world_kept, plan_kept};
 ghost use Rattle.plan_rows.specs.RowTests.{Tells};
-ghost use Rattle.plan_rows.specs.Reviewing.{HasReviewed};
+ghost use Rattle.plan_rows.specs.PlanReview.{HasReviewed};
 
 use crate::row_tests::beside::Beside;
 use crate::row_tests::review::Review;
 use crate::tables::{PlanRecord, Tables};
 use std::alloc::{AllocError, Global};
 
-// Whether all plans keep the rules of rows. The file of each is read once.
+// Returns whether all plans keep the rules of rows. It reads each file once.
 fn review_all(review: &mut Review<'_>, plans: &[PlanRecord]) -> Result<bool, AllocError>
     requires { HasReviewed [] review.old }
     ensures same { review.new.beside ≡ review.old.beside }
@@ -29,7 +29,7 @@ fn review_all(review: &mut Review<'_>, plans: &[PlanRecord]) -> Result<bool, All
     Ok(true)
 }
 
-/// Whether tables keep the rules of rows. Each file is read once, and rows are found by their keys.
+/// Returns whether tables keep the rules of rows. It reads each file once and finds rows by key.
 pub fn is_world(alloc: Global, tables: &Tables) -> Result<bool, AllocError>
     ensures { IfOk result (λ good. Tells good (IsWorld (world_kept tables.now))) }
 {

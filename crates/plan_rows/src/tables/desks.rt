@@ -1,6 +1,7 @@
 //! The table of desks.
 
-ghost use Rattle.std.specs.Prelude.{◌≡◌, ◌++◌, ◌∷◌, [], ◌<◌, map, OnOk, OnErr, IfSome, find};
+ghost use Rattle.std.specs.Prelude.{◌≡◌, ◌++◌, ◌∷◌, [], ◌<◌, map};
+ghost use Rattle.std.specs.Prelude.{OnOk, OnErr, IfSome, find};
 ghost use Rattle.std.specs.List.{position};
 ghost use Rattle.plan_rows.specs.World.{is_desk, same_text};
 ghost use Rattle.plan_rows.specs.Changes.{changed, with_digest, risen, new_desk, next_of};
@@ -10,14 +11,14 @@ ghost use Rattle.plan_rows.specs.Tables.{desk_kept};
 use crate::tables::records::DeskRecord;
 use std::alloc::{AllocError, Global};
 
-/// The place of a desk.
+/// Finds the index of a desk.
 pub fn desk_at(rows: &[DeskRecord], desk: &str) -> Option<usize>
     ensures { result ≡ position (λ row. is_desk desk.now (desk_kept row)) rows.now }
 {
     rows.iter().position(|row| row.desk.as_str() == desk)
 }
 
-/// The number that the next plan of a desk gets.
+/// Returns the number of a desk's next plan.
 pub fn next_number(rows: &[DeskRecord], desk: &str) -> u64
     ensures { result ≡ next_of (find (is_desk desk.now) (map desk_kept rows.now)) }
 {
@@ -47,7 +48,7 @@ pub fn add_desk(
     Ok(())
 }
 
-/// Gives a desk another key.
+/// Sets the key of a desk.
 pub fn give_digest(rows: &mut Vec<DeskRecord>, desk: &str, digest: &[u8; 32])
     requires { AllDiffer (λ a b. same_text a.desk b.desk) (map desk_kept rows.old.items) }
     ensures { map desk_kept rows.new.items ≡ changed (is_desk desk.now) (with_digest digest.now)

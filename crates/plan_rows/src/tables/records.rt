@@ -1,8 +1,8 @@
-//! The rows of an office's tables, as code keeps them.
+//! The rows of an office's tables.
 
 use crate::kinds::PlanKind;
 
-/// A desk: its name, the SHA-256 of its key, and the number that its next plan gets.
+/// A desk: its name, the SHA-256 of its key, and the number of its next plan.
 #[derive(Debug, Drop)]
 pub struct DeskRecord {
     pub desk: String,
@@ -10,8 +10,8 @@ pub struct DeskRecord {
     pub next: u64,
 }
 
-/// A plan of a desk: its file as it was sent, for a shop the name of the instance, and its calendar
-/// (two empty texts without one).
+/// A plan of a desk: its file as it was sent, the name of a shop's instance, and its calendar (two
+/// empty texts if it has none).
 #[derive(Debug, Drop)]
 pub struct PlanRecord {
     pub desk: String,

@@ -1,5 +1,5 @@
 use Rattle.std.proofs.Common.{◌≡◌, arith, drop, subst}
-use Rattle.plan_rows.specs.Reviewing.{AreKeys}
+use Rattle.plan_rows.specs.PlanReview.{AreKeys}
 use Rattle.plan_rows.proofs.KeyedLemmas.{seen_more}
 use Rattle.plan_rows.proofs.row_tests.keyed.keys_of.Goals as goal
 

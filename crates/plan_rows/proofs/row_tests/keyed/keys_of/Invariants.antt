@@ -1,5 +1,5 @@
 use Rattle.std.proofs.Common.{drop}
-use Rattle.plan_rows.specs.Reviewing.{AreKeys}
+use Rattle.plan_rows.specs.PlanReview.{AreKeys}
 use Rattle.plan_rows.proofs.row_tests.keyed.keys_of.Given as goal
 
 -- the keys are those of the rows from that on

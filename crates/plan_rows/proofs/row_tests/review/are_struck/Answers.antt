@@ -1,6 +1,6 @@
 use Rattle.std.proofs.Common.{◌∙◌, sym, arith}
 use Rattle.std.proofs.lemmas.Bool.{both_ways}
-use Rattle.plan_rows.specs.Reviewing.{IsStruck, lag_key_of}
+use Rattle.plan_rows.specs.PlanReview.{IsStruck, lag_key_of}
 use Rattle.plan_rows.proofs.TestedLemmas.{all_from_index}
 use Rattle.plan_rows.proofs.ReviewLemmas.{left_at, struck_more}
 use Rattle.plan_rows.proofs.row_tests.review.are_struck.Goals as goal

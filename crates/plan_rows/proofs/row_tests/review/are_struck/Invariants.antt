@@ -1,6 +1,6 @@
 use Rattle.std.proofs.Common.{◌<◌, ℕ, get_or}
 use Rattle.plan_rows.specs.declared.tables.records.LagRecord.{LagRecord}
-use Rattle.plan_rows.specs.Reviewing.{IsStruck, lag_key_of}
+use Rattle.plan_rows.specs.PlanReview.{IsStruck, lag_key_of}
 use Rattle.plan_rows.proofs.row_tests.review.are_struck.Given as goal
 
 -- the keys of the rows so far are taken out

@@ -1,7 +1,7 @@
 use Rattle.std.proofs.Common.{◌∙◌, ap}
 use Rattle.std.specs.List.{position}
 use Rattle.plan_rows.specs.RowTests.{same_key}
-use Rattle.plan_rows.specs.Reviewing.{owner_key_of}
+use Rattle.plan_rows.specs.PlanReview.{owner_key_of}
 use Rattle.plan_rows.proofs.row_tests.review.owner_at.Goals as goal
 
 pub returns : goal.returns

@@ -3,7 +3,7 @@ use Rattle.std.specs.List.{position_from}
 use Rattle.std.specs.HashMap.{get_by}
 use Rattle.std.proofs.lemmas.Iterator.Adapters.{position_from-zero}
 use Rattle.plan_rows.specs.RowTests.{shown_key, same_key}
-use Rattle.plan_rows.specs.Reviewing.{owner_key_of}
+use Rattle.plan_rows.specs.PlanReview.{owner_key_of}
 use Rattle.plan_rows.proofs.LookupLemmas.{placed_more}
 use Rattle.plan_rows.proofs.row_tests.review.owners_of.Goals as goal
 

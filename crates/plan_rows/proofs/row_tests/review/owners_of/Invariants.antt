@@ -2,7 +2,7 @@ use Rattle.std.proofs.Common.{◌≡◌, drop}
 use Rattle.std.specs.List.{position_from}
 use Rattle.std.specs.HashMap.{get_by}
 use Rattle.plan_rows.specs.RowTests.{HeldKey, shown_key, same_key}
-use Rattle.plan_rows.specs.Reviewing.{owner_key_of}
+use Rattle.plan_rows.specs.PlanReview.{owner_key_of}
 use Rattle.plan_rows.proofs.row_tests.review.owners_of.Given as goal
 
 -- the first places of the plans of the lags from i on

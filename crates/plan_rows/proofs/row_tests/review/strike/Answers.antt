@@ -2,7 +2,7 @@ use Rattle.std.proofs.Common.{◌&&◌, false, not, sym, ap, ◌∙◌, string_b
 use Rattle.plan_rows.specs.declared.tables.records.LagRecord.{LagRecord}
 use Rattle.plan_rows.specs.Tables.{plan_kept}
 use Rattle.plan_rows.specs.RowTests.{shown_key}
-use Rattle.plan_rows.specs.Reviewing.{holds_key, is_arc_key}
+use Rattle.plan_rows.specs.PlanReview.{holds_key, is_arc_key}
 use Rattle.plan_rows.proofs.ReviewLemmas.{none_struck, no_owner, no_network, owner_name, owner_below, tells_arc}
 use Rattle.plan_rows.proofs.row_tests.review.strike.Goals as goal
 

@@ -1,5 +1,5 @@
 use Rattle.std.proofs.Common.{◌≡◌, ◌&&◌, arith, not, subst}
-use Rattle.plan_rows.specs.Reviewing.{holds_key, is_arc_key}
+use Rattle.plan_rows.specs.PlanReview.{holds_key, is_arc_key}
 use Rattle.plan_rows.proofs.RowTestLemmas.{take_all}
 use Rattle.plan_rows.proofs.ReviewLemmas.{arcs_step, none_struck}
 use Rattle.plan_rows.proofs.row_tests.review.strike_arcs.Goals as goal

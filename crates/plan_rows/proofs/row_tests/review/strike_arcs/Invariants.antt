@@ -1,6 +1,6 @@
 use Rattle.std.proofs.Common.{◌≡◌, ◌&&◌, not, take}
 use Rattle.plan_rows.specs.RowTests.{HeldKey}
-use Rattle.plan_rows.specs.Reviewing.{holds_key, is_arc_key}
+use Rattle.plan_rows.specs.PlanReview.{holds_key, is_arc_key}
 use Rattle.plan_rows.proofs.row_tests.review.strike_arcs.Given as goal
 
 -- the keys of the arcs so far are taken out

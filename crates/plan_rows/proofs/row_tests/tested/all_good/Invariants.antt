@@ -1,7 +1,7 @@
 use Rattle.std.proofs.Common.{ℕ, ◌<◌, List, get_or}
 use Rattle.plan_rows.specs.World.{Plan}
 use Rattle.plan_rows.specs.Tables.{world_beside}
-use Rattle.plan_rows.specs.Reviewing.{AreSeen}
+use Rattle.plan_rows.specs.PlanReview.{AreSeen}
 use Rattle.plan_rows.proofs.row_tests.tested.all_good.Given as goal
 
 -- those so far keep their rules

@@ -11,7 +11,7 @@ use Rattle.plan_rows.specs.Books.{published_in}
 use Rattle.plan_rows.specs.Rules.{IsWorld, IsPlanRow}
 use Rattle.plan_rows.specs.RowTests.{Tells}
 use Rattle.plan_rows.specs.Tables.{world_kept, world_beside, desk_kept, plan_kept, bind_kept, lag_kept}
-use Rattle.plan_rows.specs.Reviewing.{HasReviewed}
+use Rattle.plan_rows.specs.PlanReview.{HasReviewed}
 use Rattle.plan_rows.proofs.ReviewLemmas.{match_true, match_false}
 use Rattle.plan_rows.proofs.row_tests.whole.is_world.Goals as goal
 

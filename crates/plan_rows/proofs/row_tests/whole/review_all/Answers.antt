@@ -1,7 +1,7 @@
 use Rattle.std.proofs.Common.{◌∙◌, ◌++◌, ◌∷◌, [], arith, ap, subst, map, take}
 use Rattle.plan_rows.specs.Rules.{IsPlanRow}
 use Rattle.plan_rows.specs.Tables.{plan_kept}
-use Rattle.plan_rows.specs.Reviewing.{HasReviewed}
+use Rattle.plan_rows.specs.PlanReview.{HasReviewed}
 use Rattle.plan_rows.proofs.RowTestLemmas.{take_all}
 use Rattle.plan_rows.proofs.TestedLemmas.{one_bad}
 use Rattle.plan_rows.proofs.ReviewLemmas.{match_true, match_false, take_more}

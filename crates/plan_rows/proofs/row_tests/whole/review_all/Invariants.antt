@@ -1,6 +1,6 @@
 use Rattle.std.proofs.Common.{◌≡◌, map, take}
 use Rattle.plan_rows.specs.Tables.{plan_kept}
-use Rattle.plan_rows.specs.Reviewing.{HasReviewed}
+use Rattle.plan_rows.specs.PlanReview.{HasReviewed}
 use Rattle.plan_rows.proofs.row_tests.whole.review_all.Given as goal
 
 -- the plans so far were tested

@@ -8,7 +8,7 @@ pub returns : goal.returns
 returns g c =
     let at = c.self.inside in
     let was : Counted g.row.S.Denot = record { conn = at.conn; made = at.calls.made; refused = at.calls.refused; denials = at.denials.refused } in
-    let now : Counted g.row.S.Denot = record { conn = c.codes_in-answer.new.conn; made = at.calls.made; refused = at.calls.refused; denials = c.note.new.self.refused } in
+    let now : Counted g.row.S.Denot = record { conn = c.list_codes-answer.new.conn; made = at.calls.made; refused = at.calls.refused; denials = c.note.new.self.refused } in
     subst (λ old. Reads (sql_shelf g.S.Store) old now c.note.result (λ rows. ListsCodes ((sql_shelf g.S.Store).world old).published rows.items)) c.self.view_is
-    (reads_from g.S.Store was now c.self.invariant.ready c.codes_in-answer.result c.note.result _ c.note.ensures.answer c.codes_in-answer.ensures refl refl
+    (reads_from g.S.Store was now c.self.invariant.ready c.list_codes-answer.result c.note.result _ c.note.ensures.answer c.list_codes-answer.ensures refl refl
     (record { told = c.note.ensures.told; wanted = c.note.ensures.wanted; denied = c.note.ensures.denied }))

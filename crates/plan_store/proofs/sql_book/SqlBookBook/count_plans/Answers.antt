@@ -9,7 +9,7 @@ pub returns : goal.returns
 returns g c =
     let at = c.self.inside in
     let was : Counted g.row.S.Denot = record { conn = at.conn; made = at.calls.made; refused = at.calls.refused; denials = at.denials.refused } in
-    let now : Counted g.row.S.Denot = record { conn = c.plans_counted-answer.new.conn; made = at.calls.made; refused = at.calls.refused; denials = c.note.new.self.refused } in
+    let now : Counted g.row.S.Denot = record { conn = c.count_plans-answer.new.conn; made = at.calls.made; refused = at.calls.refused; denials = c.note.new.self.refused } in
     subst (λ old. Reads (sql_shelf g.S.Store) old now c.note.result (λ count. count ≡ length (view c.args.desk.now ((sql_shelf g.S.Store).world old)).plans)) c.self.view_is
-    (reads_from g.S.Store was now c.self.invariant.ready c.plans_counted-answer.result c.note.result _ c.note.ensures.answer c.plans_counted-answer.ensures refl refl
+    (reads_from g.S.Store was now c.self.invariant.ready c.count_plans-answer.result c.note.result _ c.note.ensures.answer c.count_plans-answer.ensures refl refl
     (record { told = c.note.ensures.told; wanted = c.note.ensures.wanted; denied = c.note.ensures.denied }))

@@ -1,6 +1,6 @@
 use Rattle.std.proofs.Common.{refl, subst}
 use Rattle.plan_rows.specs.Books.{Reads}
-use Rattle.plan_rows.specs.Listing.{AreRowsByKey}
+use Rattle.plan_rows.specs.KeyedRows.{AreRowsByKey}
 use Rattle.plan_store.specs.SqlBooks.{Counted, sql_shelf}
 use Rattle.plan_store.proofs.BookLemmas.{reads_from}
 use Rattle.plan_store.proofs.sql_book.SqlBookListing.list.Goals as goal
@@ -9,7 +9,7 @@ pub returns : goal.returns
 returns g c =
     let at = c.self.inside in
     let was : Counted g.row.S.Denot = record { conn = at.conn; made = at.calls.made; refused = at.calls.refused; denials = at.denials.refused } in
-    let now : Counted g.row.S.Denot = record { conn = c.rows_in-answer.new.conn; made = at.calls.made; refused = at.calls.refused; denials = c.note.new.self.refused } in
+    let now : Counted g.row.S.Denot = record { conn = c.list_by_key-answer.new.conn; made = at.calls.made; refused = at.calls.refused; denials = c.note.new.self.refused } in
     subst (λ old. Reads (sql_shelf g.S.Store) old now c.note.result (AreRowsByKey ((sql_shelf g.S.Store).world old))) c.self.view_is
-    (reads_from g.S.Store was now c.self.invariant.ready c.rows_in-answer.result c.note.result _ c.note.ensures.answer c.rows_in-answer.ensures refl refl
+    (reads_from g.S.Store was now c.self.invariant.ready c.list_by_key-answer.result c.note.result _ c.note.ensures.answer c.list_by_key-answer.ensures refl refl
     (record { told = c.note.ensures.told; wanted = c.note.ensures.wanted; denied = c.note.ensures.denied }))

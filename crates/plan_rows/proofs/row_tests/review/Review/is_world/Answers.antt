@@ -1,7 +1,7 @@
 use Rattle.std.proofs.Common.{sym, subst}
 use Rattle.std.specs.List.{AllByRecursion}
 use Rattle.plan_rows.specs.Tables.{world_beside}
-use Rattle.plan_rows.specs.Reviewing.{IsStruck, SomeLeft, AreSeen, lag_key_of}
+use Rattle.plan_rows.specs.PlanReview.{IsStruck, SomeLeft, AreSeen, lag_key_of}
 use Rattle.plan_rows.proofs.RowTestLemmas.{tells_same, tells_true, tells_false}
 use Rattle.plan_rows.proofs.ReviewLemmas.{match_true, match_false, on_arcs, off_arcs, seen_good, world_of_parts, parts_of_world, arcs_of_world, keys_of_world}
 use Rattle.plan_rows.proofs.row_tests.review.Review.is_world.Goals as goal

@@ -2,7 +2,7 @@ use Rattle.std.proofs.Common.{sym, subst, ◌++◌, ◌∷◌, []}
 use Rattle.plan_rows.specs.Tables.{plan_kept}
 use Rattle.plan_rows.specs.RowTests.{PlanTold}
 use Rattle.plan_rows.specs.Plans.{HasPlaces}
-use Rattle.plan_rows.specs.Reviewing.{AreSeen}
+use Rattle.plan_rows.specs.PlanReview.{AreSeen}
 use Rattle.plan_rows.proofs.RowTestLemmas.{has_places}
 use Rattle.plan_rows.proofs.ReviewLemmas.{pending_more, seen_more}
 use Rattle.plan_rows.proofs.row_tests.review.Review.read.Goals as goal

@@ -1,0 +1,17 @@
+use Rattle.sqlite.specs.Held.{state}
+use Rattle.plan_store.proofs.QueryEffectLemmas.{asks_map}
+use Rattle.plan_store.proofs.ReadMeanings.{capacity_plain, capacity_listed}
+use Rattle.plan_store.proofs.ReadLemmas.{capacity_read}
+use Rattle.plan_store.proofs.queries.find_capacity.Goals as goal
+
+pub first_row-requires-clause-plain : goal.first_row-requires-clause-plain
+first_row-requires-clause-plain g c = capacity_plain
+
+pub first_row-requires-clause-ours : goal.first_row-requires-clause-ours
+first_row-requires-clause-ours g c = capacity_listed
+
+pub returns : goal.returns
+returns g c =
+    let old = state g.S.Store c.args.conn.now in
+    let new = state g.S.Store c.first_row.new.conn in
+    asks_map old new c.requires.ready c.first_row.result _ _ (λ x stands h. capacity_read old stands c.args.code.now x (rw (c.params-to_sql.ensures) at h)) c.first_row.ensures

@@ -1,7 +1,0 @@
-use Rattle.std.proofs.Common.{take}
-use Rattle.std.specs.List.{AllZip}
-use Rattle.plan_store.proofs.shown.all_shown.Given as goal
-
--- the values so far are those of the rows so far
-abbrev pub invariant-loop-row : goal.invariant-loop-row
-invariant-loop-row g l = AllZip g.T.FromShown.shows (take l.row-index l.rows) l.all.items

@@ -1,7 +1,0 @@
-use Rattle.std.proofs.Common.{take, Some}
-use Rattle.std.specs.List.{AllZip}
-use Rattle.plan_store.proofs.taken.all_taken.Given as goal
-
--- the values so far are those of the rows so far
-abbrev pub invariant-loop-row : goal.invariant-loop-row
-invariant-loop-row g l = AllZip (λ row x. g.T.FromTaken.takes row (Some x)) (take l.row-index l.rows) l.all.items
