@@ -12,14 +12,14 @@ use Rattle.std.specs.Global.{Global}
 use Rattle.plan_desk.specs.Pages.{bound_in, IsBound}
 use Rattle.plan_rows.specs.declared.fault.BookFault.{BookFault}
 use Rattle.plan_rows.specs.declared.fault.BookFault.TheVariants.{NoMemory, Store}
-use Rattle.plan_desk.specs.declared.finding.FoundPlan.{FoundPlan}
+use Rattle.plan_desk.specs.declared.lookup.FoundPlan.{FoundPlan}
 use Rattle.plan_rows.specs.declared.rows.PlanRow.{PlanRow}
 use Rattle.plan_rows.specs.World.{Text, Published, Plan, World}
 use Rattle.plan_rows.specs.Views.{View}
 use Rattle.plan_rows.specs.Plans.{plan_number, plan_seen, has_number}
 use Rattle.plan_rows.specs.Books.{Shelf, MoreFaults, Reads, Matches, IsPlanAnswer, bind_in}
-use Rattle.plan_desk.specs.Finding.{IsNumbered, with_capacity_of, HasCapacities}
-use Rattle.plan_desk.specs.Deciding.{Quiet, Finds, Knows}
+use Rattle.plan_desk.specs.Lookup.{IsNumbered, with_capacity_of, HasCapacities}
+use Rattle.plan_desk.specs.BookSteps.{Quiet, Finds, Knows}
 use Rattle.plan_rows.proofs.RuleLemmas.{found_has}
 
 module _ {B : Type 0} (shelf : Shelf B) where

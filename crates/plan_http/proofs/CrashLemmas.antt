@@ -10,7 +10,7 @@ use Rattle.plan_desk.specs.Calls.{Request, Reply, subject, writes, is_accepted}
 use Rattle.plan_desk.specs.Stories.{IsWant}
 use Rattle.plan_desk.specs.Decisions.{IsStep, IsDecision}
 use Rattle.plan_rows.specs.Books.{Shelf}
-use Rattle.plan_desk.specs.Deciding.{Handled}
+use Rattle.plan_desk.specs.BookSteps.{Handled}
 use Rattle.plan_desk.proofs.SortedLemmas.{Keeps, Makes, sorted_decision}
 use Rattle.plan_desk.proofs.DecidingLemmas.{Closes, closes_then}
 use Rattle.plan_http.specs.Judges.{asks, Judges}

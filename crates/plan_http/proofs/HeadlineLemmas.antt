@@ -10,7 +10,7 @@ use Rattle.plan_rows.specs.Rules.{IsWorld}
 use Rattle.plan_desk.specs.Laws.{AloneKeepsRules}
 use Rattle.plan_desk.specs.Promises.{IsPromised, PagesArePromised}
 use Rattle.plan_rows.specs.Books.{Shelf}
-use Rattle.plan_desk.specs.Deciding.{Handled}
+use Rattle.plan_desk.specs.BookSteps.{Handled}
 use Rattle.plan_desk.proofs.AloneLemmas.{alone_keeps_rules}
 use Rattle.plan_desk.proofs.PromiseLemmas.{pages_are_promised}
 use Rattle.plan_http.specs.declared.runs.RunFault.{RunFault}

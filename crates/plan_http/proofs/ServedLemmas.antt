@@ -4,7 +4,7 @@ use Rattle.plan_rows.specs.World.{Text, World}
 use Rattle.plan_rows.specs.Views.{view}
 use Rattle.plan_rows.specs.Books.{Shelf}
 use Rattle.plan_desk.specs.Calls.{Request, Reply}
-use Rattle.plan_desk.specs.Deciding.{Handled}
+use Rattle.plan_desk.specs.BookSteps.{Handled}
 use Rattle.plan_desk.specs.Stories.{IsWant}
 use Rattle.plan_desk.specs.Decisions.{IsStep, IsRealStep, IsRun, AreTold}
 use Rattle.plan_desk.specs.Laws.{DesksAreApart}

@@ -6,7 +6,7 @@ use Rattle.plan_desk.specs.Calls.{Request, Reply, writes, is_accepted}
 use Rattle.plan_desk.specs.Stories.{IsWant}
 use Rattle.plan_desk.specs.Decisions.{IsStep}
 use Rattle.plan_rows.specs.Books.{Shelf, MoreFaults}
-use Rattle.plan_desk.specs.Deciding.{Handled}
+use Rattle.plan_desk.specs.BookSteps.{Handled}
 use Rattle.plan_http.specs.Clients.{Known, OfBytes}
 use Rattle.plan_http.specs.Judges.{asks, Judges}
 use Rattle.plan_http.specs.Answers.{Decision, handled, failed, starved}

@@ -4,7 +4,7 @@ use Rattle.std.specs.Io.KnownBytes.{Appends}
 use Rattle.plan_io.specs.Devices.{HasFailed}
 use Rattle.plan_rows.specs.World.{Text}
 use Rattle.plan_rows.specs.Books.{Shelf}
-use Rattle.plan_desk.specs.Deciding.{Handled}
+use Rattle.plan_desk.specs.BookSteps.{Handled}
 use Rattle.plan_http.specs.declared.runs.RunFault.{RunFault}
 use Rattle.plan_http.specs.declared.serving.ConnEnd.{ConnEnd}
 use Rattle.plan_http.specs.declared.serving.ConnEnd.TheVariants.{Replied, ReadFailed, WriteFailed}

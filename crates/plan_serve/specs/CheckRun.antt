@@ -5,7 +5,7 @@ use Rattle.sqlite_disk.specs.declared.start.Start as start
 use Rattle.sqlite_trees.specs.declared.store.Store.{Ghosts}
 use Rattle.plan_rows.specs.World.{Text}
 use Rattle.plan_rows.specs.Books.{Shelf}
-use Rattle.plan_desk.specs.Deciding.{Quiet}
+use Rattle.plan_desk.specs.BookSteps.{Quiet}
 use Rattle.plan_store.specs.SqlBooks.{Counted, sql_shelf}
 use Rattle.plan_store.specs.OnDisk.{IsTakenFrom}
 use Rattle.plan_summary.specs.declared.summary.Summary.{Summary}

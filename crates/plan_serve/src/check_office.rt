@@ -2,7 +2,7 @@
 
 ghost use Rattle.std.specs.Prelude.{◌≡◌, ◌⊎◌, ◌+◌, ◌≤◌, IfErr, IsErrOf, OnOk};
 ghost use Rattle.plan_io.specs.Devices.{most_calls, HasFailed};
-ghost use Rattle.plan_desk.specs.Deciding.{Quiet};
+ghost use Rattle.plan_desk.specs.BookSteps.{Quiet};
 ghost use Rattle.plan_serve.specs.CheckRun.{Writes};
 
 use crate::fault::book_told;
