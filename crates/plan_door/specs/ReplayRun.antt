@@ -5,7 +5,7 @@ use Rattle.std.specs.Io.KnownBytes.{Appends}
 use Rattle.plan_rows.specs.World.{Text}
 use Rattle.plan_rows.specs.Books.{Shelf}
 use Rattle.plan_http.specs.Answers.{Decision}
-use Rattle.plan_http.specs.Serving.{Serving, Stops, response_of}
+use Rattle.plan_http.specs.Connections.{Serving, Stops, response_of}
 use Rattle.plan_door.specs.declared.fault.ServeFault.{ServeFault}
 use Rattle.plan_door.specs.declared.fault.ServeFault.TheVariants as fault
 

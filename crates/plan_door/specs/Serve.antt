@@ -2,7 +2,7 @@
 use Rattle.std.specs.Prelude.{◌≡◌, List, [], ◌∷◌}
 use Rattle.plan_rows.specs.Books.{Shelf}
 use Rattle.plan_http.specs.Answers.{Decision}
-use Rattle.plan_http.specs.Serving.{Moves}
+use Rattle.plan_http.specs.Connections.{Moves}
 
 -- the office moved by decisions, one after another
 abbrev pub MovedBy : {B : Type 0} → Shelf B → B → List Decision → B → Type 0

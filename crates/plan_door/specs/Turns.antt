@@ -3,11 +3,11 @@ use Rattle.std.specs.Prelude.{◌≡◌, ◌<◌, ℕ, Bool, true, List, [], ◌
 use Rattle.plan_io.specs.declared.traits.DeviceFault.{DeviceFault}
 use Rattle.plan_rows.specs.World.{Text}
 use Rattle.plan_rows.specs.Books.{Shelf}
-use Rattle.plan_http.specs.declared.serving.ConnEnd.{ConnEnd}
-use Rattle.plan_http.specs.declared.serving.ConnEnd.TheVariants.{Replied, ReadFailed, WriteFailed}
+use Rattle.plan_http.specs.declared.connection.ConnEnd.{ConnEnd}
+use Rattle.plan_http.specs.declared.connection.ConnEnd.TheVariants.{Replied, ReadFailed, WriteFailed}
 use Rattle.plan_http.specs.Clients.{Known, IsFresh}
 use Rattle.plan_http.specs.Answers.{Decision, IsOn}
-use Rattle.plan_http.specs.Serving.{Moves, Serving, response_of}
+use Rattle.plan_http.specs.Connections.{Moves, Serving, response_of}
 use Rattle.plan_http.specs.Crashes.{Outlasts}
 use Rattle.plan_http.specs.Isolated.{IsApart}
 

@@ -4,7 +4,7 @@ ghost use Rattle.std.specs.Prelude.{◌≡◌, ◌⊎◌, ◌+◌, ◌≤◌, Li
 ghost use Rattle.std.specs.List.{flat_map};
 ghost use Rattle.plan_io.specs.Devices.{most_calls, HasFailed};
 ghost use Rattle.plan_http.specs.Answers.{Decision};
-ghost use Rattle.plan_http.specs.Serving.{Serving, Stops};
+ghost use Rattle.plan_http.specs.Connections.{Serving, Stops};
 ghost use Rattle.plan_door.specs.ReplayRun as spec;
 
 use crate::fault::ServeFault;

@@ -3,7 +3,7 @@
 ghost use Rattle.std.specs.Prelude.{◌≡◌, ◌⊎◌, ◌↔◌, ◌+◌, ◌≤◌, ℕ, [], List, length, Option, Some, Result, IsTrue, IfOk, OnOk, IsErrOf, IfErr};
 ghost use Rattle.plan_io.specs.Devices.{IsCounted};
 ghost use Rattle.plan_io.specs.declared.traits.DeviceFault.{DeviceFault};
-ghost use Rattle.plan_http.specs.declared.serving.ConnEnd.{ConnEnd};
+ghost use Rattle.plan_http.specs.declared.connection.ConnEnd.{ConnEnd};
 ghost use Rattle.plan_http.specs.Clients.{IsFresh};
 ghost use Rattle.plan_http.specs.Answers.{Decision};
 ghost use Rattle.plan_door.specs.Serve.{MovedBy};

@@ -1,6 +1,6 @@
 use Rattle.std.proofs.Common.{◌≡◌, ◌∙◌, ap, subst, map, vec_items, ◌++◌, IfOk}
 use Rattle.std.specs.List.{flat_map}
-use Rattle.plan_http.specs.Serving.{response_of}
+use Rattle.plan_http.specs.Connections.{response_of}
 use Rattle.plan_door.proofs.ReplayLemmas.{joined_all, joined_none}
 use Rattle.plan_door.proofs.replay.responses.Goals as goal
 

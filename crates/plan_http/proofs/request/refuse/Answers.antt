@@ -1,7 +1,7 @@
 use Rattle.std.proofs.Common.{◌<◌, ◌≤◌, length, inl, inr, refl}
 use Rattle.plan_http.proofs.ClientLemmas.{reads_map}
 use Rattle.plan_http.proofs.BodyLemmas.{left_behind}
-use Rattle.plan_http.proofs.asking.refuse.Goals as goal
+use Rattle.plan_http.proofs.request.refuse.Goals as goal
 
 pub returns-in-Ok-true-clause-refused : goal.returns-in-Ok-true-clause-refused
 returns-in-Ok-true-clause-refused g c =

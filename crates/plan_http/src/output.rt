@@ -1,4 +1,4 @@
-//! Writing two texts, one behind the other, in as few writes as there may be.
+//! The output of two texts, one after the other, in as few writes as possible.
 
 ghost use Rattle.std.specs.Prelude.{◌≡◌, ◌+◌, ◌<◌, ◌≤◌, ◌++◌, length, take, drop, IfErr, OnOk};
 ghost use Rattle.std.specs.Io.KnownBytes.{Appends};
@@ -6,15 +6,16 @@ ghost use Rattle.plan_io.specs.Devices.{most_calls, HasFailed};
 
 use plan_io::{MOST_CALLS, OutputError, Sink};
 
-// How many bytes go out together at first: most responses whole.
+// The number of bytes of the first write: most responses fit.
 const ROOM: usize = 4096;
 
-// Puts a text and what fits of a second one side by side, and answers how much of that fits.
+// Copies a text and the part of a second text that fits, and returns the length of that part.
 fn join(room: &mut [u8; 4096], first: &[u8], second: &[u8]) -> usize
     requires { length first.now ≤ 256 }
     ensures within { result ≤ length second.now }
     ensures fits { length first.now + result ≤ 4096 }
-    ensures joined { take (length first.now + result) room.new ≡ first.now ++ take result second.now }
+    ensures joined { take (length first.now + result) room.new ≡ first.now
+        ++ take result second.now }
 {
     let start = first.len();
     let count = second.len().min(ROOM - start);
@@ -23,7 +24,7 @@ fn join(room: &mut [u8; 4096], first: &[u8], second: &[u8]) -> usize
     count
 }
 
-// A front of what is left of two texts, behind so many bytes; not empty, where some are left.
+// The next bytes of two texts after the first `sent` bytes; not empty if some are left.
 fn rest_of<'a>(first: &'a [u8], second: &'a [u8], sent: usize) -> &'a [u8]
     requires { sent ≤ length first.now + length second.now }
     ensures front { result.now ≡ take (length result.now) (drop sent (first.now ++ second.now)) }
@@ -36,16 +37,19 @@ fn rest_of<'a>(first: &'a [u8], second: &'a [u8], sent: usize) -> &'a [u8]
     &second[sent - first.len()..]
 }
 
-// Writes two texts. A write that takes none is tried again, and one that failed isn't.
+// Writes two texts. A write of 0 bytes is repeated, a failed write isn't.
 fn send_parts<W: Sink>(writer: &mut W, first: &[u8], second: &[u8]) -> Result<(), OutputError>
     requires { length first.now ≤ 4096 }
     ensures calls { W.calls writer.new ≤ W.calls writer.old + most_calls }
-    ensures written { OnOk result (Appends (W.taken writer.old) (W.taken writer.new) (first.now ++ second.now)) }
+    ensures written { OnOk result
+        (Appends (W.taken writer.old) (W.taken writer.new) (first.now ++ second.now)) }
     ensures fine { OnOk result (W.faults writer.new ≡ W.faults writer.old) }
     ensures part { IfErr result (λ e. (e.sent < length (first.now ++ second.now))
-        × Appends (W.taken writer.old) (W.taken writer.new) (take e.sent (first.now ++ second.now))) }
+        × Appends (W.taken writer.old) (W.taken writer.new)
+        (take e.sent (first.now ++ second.now))) }
     ensures failed { IfErr result (λ _.
-        HasFailed (W.calls writer.old) (W.calls writer.new) (W.faults writer.old) (W.faults writer.new)) }
+        HasFailed (W.calls writer.old) (W.calls writer.new) (W.faults writer.old)
+        (W.faults writer.new)) }
 {
     let total = first.len() + second.len();
     let mut sent = 0;
@@ -64,17 +68,20 @@ fn send_parts<W: Sink>(writer: &mut W, first: &[u8], second: &[u8]) -> Result<()
     Err(OutputError { sent })
 }
 
-/// Writes two texts, with no more calls than one text may take: in one write where both are short.
-/// A write that takes none is tried again, and one that failed isn't.
+/// Writes two texts with at most as many calls as for one text: in one write if both are short. A
+/// write of 0 bytes is repeated, a failed write isn't.
 pub(crate) fn send<W: Sink>(writer: &mut W, first: &[u8], second: &[u8]) -> Result<(), OutputError>
     requires { length first.now ≤ 256 }
     ensures calls { W.calls writer.new ≤ W.calls writer.old + most_calls }
-    ensures written { OnOk result (Appends (W.taken writer.old) (W.taken writer.new) (first.now ++ second.now)) }
+    ensures written { OnOk result
+        (Appends (W.taken writer.old) (W.taken writer.new) (first.now ++ second.now)) }
     ensures fine { OnOk result (W.faults writer.new ≡ W.faults writer.old) }
     ensures part { IfErr result (λ e. (e.sent < length (first.now ++ second.now))
-        × Appends (W.taken writer.old) (W.taken writer.new) (take e.sent (first.now ++ second.now))) }
+        × Appends (W.taken writer.old) (W.taken writer.new)
+        (take e.sent (first.now ++ second.now))) }
     ensures failed { IfErr result (λ _.
-        HasFailed (W.calls writer.old) (W.calls writer.new) (W.faults writer.old) (W.faults writer.new)) }
+        HasFailed (W.calls writer.old) (W.calls writer.new) (W.faults writer.old)
+        (W.faults writer.new)) }
 {
     let mut room = [0; ROOM];
     let count = join(&mut room, first, second);

@@ -2,7 +2,7 @@ use Rattle.std.proofs.Common.{ap, sym, ◌∙◌, bytes_eq, codes}
 use Rattle.plan_http.specs.Checks.{first_failing}
 use Rattle.plan_http.proofs.ClientLemmas.{reads_none, reads_map}
 use Rattle.plan_http.proofs.JudgingLemmas.{checks_at, length_at, head_told}
-use Rattle.plan_http.proofs.asking.behind_head.Goals as goal
+use Rattle.plan_http.proofs.request.behind_head.Goals as goal
 
 pub returns-in-Err-clause-asked : goal.returns-in-Err-clause-asked
 returns-in-Err-clause-asked g c =

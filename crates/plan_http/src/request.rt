@@ -1,18 +1,20 @@
-//! From the bytes of a connection to a request.
+//! Requests, read from the bytes of a connection.
 
-ghost use Rattle.std.specs.Prelude.{◌≡◌, ℕ, ◌+◌, ◌≤◌, List, Some, None, bytes_eq, IfOk, option_map, map, length, All, codes};
+ghost use Rattle.std.specs.Prelude.{◌≡◌, ℕ, ◌+◌, ◌≤◌, List, Some, None, bytes_eq, IfOk, option_map, length, All, codes};
 ghost use Rattle.httparse.specs.Grammar.{RequestHead};
-ghost use Rattle.httparse.specs.Spans.{IsWithin, IsHeaderWithin, header_bytes, span_bytes, IsRequestWithin, IsRequestAt};
+ghost use Rattle.httparse.specs.Spans.{IsWithin, IsHeaderWithin, span_bytes};
+ghost use Rattle.httparse.specs.Spans.{IsRequestWithin, IsRequestAt};
 ghost use Rattle.plan_io.specs.Devices.{most_calls};
 ghost use Rattle.plan_desk.specs.Requests.{request_in};
 ghost use Rattle.plan_http.specs.Checks.{longest_body};
-ghost use Rattle.plan_http.specs.Fields.{values_of, only_of};
+ghost use Rattle.plan_http.specs.Fields.{fields_in, values_of, only_of};
 ghost use Rattle.plan_http.specs.Head.{BeginsWithHead};
 ghost use Rattle.plan_http.specs.Clients.{OfBytes};
 ghost use Rattle.plan_http.specs.Pieces.{Reads, IsSplit};
 ghost use Rattle.plan_http.specs.Targets as targets;
-ghost use Rattle.plan_http.specs.declared.asking.Asked.TheVariants as made;
-ghost use Rattle.plan_http.specs.Asked.{IsAsked, AskedFaults, IsRequestOr, IsRefused, IsPassed, IsOnRoute};
+ghost use Rattle.plan_http.specs.declared.request.Asked.TheVariants as made;
+ghost use Rattle.plan_http.specs.Asked.{IsAsked, AskedFaults, IsRequestOr, IsRefused};
+ghost use Rattle.plan_http.specs.Asked.{IsPassed, IsOnRoute};
 
 use crate::body::{BodyEnd, read_body, skip_body};
 use crate::calls::call_at;
@@ -25,15 +27,15 @@ use httparse::spans::{EMPTY_HEADER_SPAN, HeaderSpan, RequestSpans};
 use plan_desk::Request;
 use std::alloc::{AllocError, Global};
 
-/// What the bytes of a connection were read as.
+/// The result of reading a request.
 #[derive(Debug, Drop)]
 pub enum Asked {
     /// A request.
     Request(Request),
-    /// The first check that fails.
+    /// The first check that the bytes fail.
     Fails {
         check: Check,
-        /// The route, where it has another method.
+        /// The route, if the request has another method than the route.
         route: Option<Route>,
         /// Whether the response ends after its head.
         is_head: bool,
@@ -44,7 +46,7 @@ pub enum Asked {
     ReadFailed,
 }
 
-// A check that fails, on no route.
+// The result for a failed check without a route.
 fn fails(check: Check, is_head: bool) -> Asked
     ensures { result ≡ made.Fails check None is_head }
 {
@@ -55,14 +57,15 @@ fn fails(check: Check, is_head: bool) -> Asked
     }
 }
 
-// The value of the one field with a key.
+// The key that was sent: the value of the `Desk-Key` field, if there is exactly one.
 fn key_in(
     alloc: Global,
     front: &[u8],
     headers: &[HeaderSpan],
 ) -> Result<Option<Vec<u8>>, AllocError>
     requires { All (IsHeaderWithin (length front.now)) headers.now }
-    ensures { IfOk result (λ key. option_map (λ key. key.items) key ≡ only_of (values_of (codes "desk-key") (map (header_bytes front.now) headers.now))) }
+    ensures { IfOk result (λ key. option_map (λ key. key.items) key
+        ≡ only_of (values_of (codes "desk-key") (fields_in front.now headers.now))) }
 {
     match only_value(front, headers, "desk-key") {
         Some(key) => Ok(Some(Vec::from_slice(alloc, key)?)),
@@ -80,7 +83,7 @@ fn request_at(
 ) -> Result<Request, AllocError>
     requires { All (IsHeaderWithin (length front.now)) headers.now }
     ensures { IfOk result (λ request. request_in request ≡ record {
-      key = only_of (values_of (codes "desk-key") (map (header_bytes front.now) headers.now));
+      key = only_of (values_of (codes "desk-key") (fields_in front.now headers.now));
       call = targets.call_at route target.now body.items;
     }) }
 {
@@ -90,7 +93,7 @@ fn request_at(
     })
 }
 
-// The request of a route, whose body was read whole.
+// Returns the request of a route with a complete body.
 fn whole_request(
     alloc: Global,
     front: &[u8],
@@ -102,7 +105,7 @@ fn whole_request(
     requires { All (IsHeaderWithin (length front.now)) headers.now }
     ensures faults { AskedFaults 0 0 result }
     ensures made { IsRequestOr (record {
-      key = only_of (values_of (codes "desk-key") (map (header_bytes front.now) headers.now));
+      key = only_of (values_of (codes "desk-key") (fields_in front.now headers.now));
       call = targets.call_at route target.now body.items;
     }) result }
 {
@@ -112,8 +115,8 @@ fn whole_request(
     }
 }
 
-// Reads the body of a request that fails a check of its route, and keeps none of it. A body that
-// isn't whole is told first.
+// Reads and discards the body of a request that fails a check of its route. An incomplete body is
+// reported first.
 fn refuse<R: Client>(
     reader: &mut R,
     got: &[u8],
@@ -122,7 +125,8 @@ fn refuse<R: Client>(
     check: Check,
     route: Option<Route>,
 ) -> Asked
-    ensures refused { Reads (R.known reader.old) (R.known reader.new) (λ had _. (after : List ℕ) → IsSplit after got.now had
+    ensures refused { Reads (R.known reader.old) (R.known reader.new)
+        (λ had _. (after : List ℕ) → IsSplit after got.now had
         → IsRefused after count check route is_head result) }
     ensures calls { R.calls reader.new ≤ R.calls reader.old + count }
     ensures faults { AskedFaults (R.faults reader.old) (R.faults reader.new) result }
@@ -138,7 +142,7 @@ fn refuse<R: Client>(
     }
 }
 
-// Reads the body of a request on a route, and then the request.
+// Reads the body of a request on a route, and returns the request.
 fn accept<R: Client>(
     alloc: Global,
     reader: &mut R,
@@ -150,8 +154,10 @@ fn accept<R: Client>(
     target: &str,
 ) -> Asked
     requires within { IsRequestWithin front.now headers.now spans.now }
-    ensures asked { Reads (R.known reader.old) (R.known reader.new) (λ had _. (bytes : List ℕ) (h : RequestHead) → BeginsWithHead bytes h
-        → IsRequestAt front.now headers.now spans.now h → IsSplit bytes front.now had → IsOnRoute h count route target.now → IsAsked bytes result) }
+    ensures asked { Reads (R.known reader.old) (R.known reader.new)
+        (λ had _. (bytes : List ℕ) (h : RequestHead) → BeginsWithHead bytes h
+        → IsRequestAt front.now headers.now spans.now h → IsSplit bytes front.now had
+        → IsOnRoute h count route target.now → IsAsked bytes result) }
     ensures calls { R.calls reader.new ≤ R.calls reader.old + count }
     ensures faults { AskedFaults (R.faults reader.old) (R.faults reader.new) result }
 {
@@ -173,10 +179,11 @@ fn is_head(front: &[u8], spans: &RequestSpans) -> bool
     spans.method.of(front) == "HEAD".as_bytes()
 }
 
-// The target of a head, which is text in each head that was read.
+// The target of a head. It is valid UTF-8 in each head that was parsed.
 fn target_of<'a>(front: &'a [u8], headers: &[HeaderSpan], spans: &RequestSpans) -> Option<&'a str>
     requires within { IsRequestWithin front.now headers.now spans.now }
-    ensures target { (h : RequestHead) → IsRequestAt front.now headers.now spans.now h → option_map (λ text. text.now) result ≡ Some h.target }
+    ensures target { (h : RequestHead) → IsRequestAt front.now headers.now spans.now h
+        → option_map (λ text. text.now) result ≡ Some h.target }
 {
     match str::from_utf8(spans.path.of(front)) {
         Ok(target) => Some(target),
@@ -184,7 +191,7 @@ fn target_of<'a>(front: &'a [u8], headers: &[HeaderSpan], spans: &RequestSpans) 
     }
 }
 
-// The checks of the route, and what is behind the head.
+// Checks the route and its method, and then reads the bytes behind the head.
 fn on_target<R: Client>(
     alloc: Global,
     routes: &Routes,
@@ -195,8 +202,10 @@ fn on_target<R: Client>(
     count: u32,
 ) -> Asked
     requires within { IsRequestWithin front.now headers.now spans.now }
-    ensures asked { Reads (R.known reader.old) (R.known reader.new) (λ had _. (bytes : List ℕ) (h : RequestHead) → BeginsWithHead bytes h
-        → IsRequestAt front.now headers.now spans.now h → IsSplit bytes front.now had → IsPassed h count → IsAsked bytes result) }
+    ensures asked { Reads (R.known reader.old) (R.known reader.new)
+        (λ had _. (bytes : List ℕ) (h : RequestHead) → BeginsWithHead bytes h
+        → IsRequestAt front.now headers.now spans.now h → IsSplit bytes front.now had
+        → IsPassed h count → IsAsked bytes result) }
     ensures calls { R.calls reader.new ≤ R.calls reader.old + count }
     ensures faults { AskedFaults (R.faults reader.old) (R.faults reader.new) result }
 {
@@ -214,7 +223,7 @@ fn on_target<R: Client>(
     accept(alloc, reader, front, headers, spans, count, route, target)
 }
 
-// The checks behind a head, of which all bytes that were read are in front.
+// Checks the head, and then reads the request. `front` has all bytes that were read so far.
 fn behind_head<R: Client>(
     alloc: Global,
     routes: &Routes,
@@ -224,8 +233,10 @@ fn behind_head<R: Client>(
     spans: &RequestSpans,
 ) -> Asked
     requires within { IsRequestWithin front.now headers.now spans.now }
-    ensures asked { Reads (R.known reader.old) (R.known reader.new) (λ had _. (bytes : List ℕ) (h : RequestHead) → BeginsWithHead bytes h
-        → IsRequestAt front.now headers.now spans.now h → IsSplit bytes front.now had → IsAsked bytes result) }
+    ensures asked { Reads (R.known reader.old) (R.known reader.new)
+        (λ had _. (bytes : List ℕ) (h : RequestHead) → BeginsWithHead bytes h
+        → IsRequestAt front.now headers.now spans.now h → IsSplit bytes front.now had
+        → IsAsked bytes result) }
     ensures calls { R.calls reader.new ≤ R.calls reader.old + longest_body }
     ensures faults { AskedFaults (R.faults reader.old) (R.faults reader.new) result }
 {
@@ -235,11 +246,12 @@ fn behind_head<R: Client>(
     }
 }
 
-/// Reads the request of a connection, or its first failing check. It parses after each read, and
-/// reads on only while the head is unfinished, or with the checks of the head passed the body is
-/// short. Where there is no route for it, the body is read and takes no memory.
+/// Reads the request of a connection, or returns its first failing check. It parses after each
+/// read, and reads on only while the head is incomplete, or if the head passes its checks and the
+/// body is incomplete. The body of a request without a route is read without memory.
 pub fn read_request<R: Client>(alloc: Global, routes: &Routes, reader: &mut R) -> Asked
-    ensures asked { OfBytes (R.known reader.old) (R.known reader.new) (λ bytes. IsAsked bytes result) }
+    ensures asked { OfBytes (R.known reader.old) (R.known reader.new)
+        (λ bytes. IsAsked bytes result) }
     ensures calls { R.calls reader.new ≤ R.calls reader.old + most_calls }
     ensures faults { AskedFaults (R.faults reader.old) (R.faults reader.new) result }
 {

@@ -2,7 +2,7 @@ use Rattle.std.proofs.Common.{◌<◌, ap, sym, ◌∙◌, subst, bytes_eq, code
 use Rattle.plan_http.specs.Head.{after_head}
 use Rattle.plan_http.proofs.ClientLemmas.{reads_map}
 use Rattle.plan_http.proofs.JudgingLemmas.{after_split, short_told, request_told, may_want}
-use Rattle.plan_http.proofs.asking.accept.Goals as goal
+use Rattle.plan_http.proofs.request.accept.Goals as goal
 
 pub returns-in-Read-clause-asked : goal.returns-in-Read-clause-asked
 returns-in-Read-clause-asked g c =

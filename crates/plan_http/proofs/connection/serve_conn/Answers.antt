@@ -3,15 +3,15 @@ use Rattle.std.specs.Option.{option_map}
 use Rattle.plan_desk.specs.Requests.{request_in}
 use Rattle.plan_desk.specs.Replies.{reply_of}
 use Rattle.plan_http.specs.Routes.{method_of}
-use Rattle.plan_http.specs.Answers.{handled, failed, starved}
+use Rattle.plan_http.specs.Answers.{answered, failed, starved}
 use Rattle.plan_http.proofs.ServingLemmas.{ends}
 use Rattle.plan_http.proofs.CrashLemmas.{one_left}
-use Rattle.plan_http.proofs.serving.serve_conn.Goals as goal
+use Rattle.plan_http.proofs.connection.serve_conn.Goals as goal
 
 pub returns-in-Request-clause-ends : goal.returns-in-Request-clause-ends
 returns-in-Request-clause-ends g c =
     ends g.B.Book.shelf c.args.office.now c.handle-reply.new.self (g.R.Client.known c.args.reader.now) (g.R.Client.known c.read_request.new.reader) (g.W.Sink.taken c.args.writer.now) (g.W.Sink.taken c.answer.new.writer) c.answer.result
-    (handled (request_in c.in-Request.request) (reply_of c.handle-reply.result)) _ c.in-Request.ensures.asked c.handle-reply.ensures refl c.answer.ensures.responds
+    (answered (request_in c.in-Request.request) (reply_of c.handle-reply.result)) _ c.in-Request.ensures.asked c.handle-reply.ensures refl c.answer.ensures.responds
 
 pub returns-in-Fails-clause-ends : goal.returns-in-Fails-clause-ends
 returns-in-Fails-clause-ends g c =
@@ -27,5 +27,5 @@ returns-in-NoMemory-clause-ends g c =
 
 pub returns-in-Request-clause-crash : goal.returns-in-Request-clause-crash
 returns-in-Request-clause-crash g c honest left may =
-    one_left g.B.Book.shelf (g.R.Client.known c.args.reader.now) (g.R.Client.known c.read_request.new.reader) c.args.office.now c.handle-reply.new.self (handled (request_in c.in-Request.request) (reply_of c.handle-reply.result))
+    one_left g.B.Book.shelf (g.R.Client.known c.args.reader.now) (g.R.Client.known c.read_request.new.reader) c.args.office.now c.handle-reply.new.self (answered (request_in c.in-Request.request) (reply_of c.handle-reply.result))
     c.in-Request.ensures.asked c.handle-reply.ensures honest left may

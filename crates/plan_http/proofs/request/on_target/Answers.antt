@@ -4,7 +4,7 @@ use Rattle.plan_http.specs.Head.{after_head}
 use Rattle.plan_http.specs.Routes.{route_of, method_of}
 use Rattle.plan_http.proofs.ClientLemmas.{reads_map}
 use Rattle.plan_http.proofs.JudgingLemmas.{after_split, refused_told, no_route, other_method, not_same, same_then}
-use Rattle.plan_http.proofs.asking.on_target.Goals as goal
+use Rattle.plan_http.proofs.request.on_target.Goals as goal
 
 pub returns-in_default-of-clause-asked : goal.returns-in_default-of-clause-asked
 returns-in_default-of-clause-asked g c =

@@ -1,6 +1,6 @@
 use Rattle.plan_http.proofs.ClientLemmas.{reads_map, reads_then, of_bytes}
 use Rattle.plan_http.proofs.JudgingLemmas.{head_missing}
-use Rattle.plan_http.proofs.asking.read_request.Goals as goal
+use Rattle.plan_http.proofs.request.read_request.Goals as goal
 
 pub returns-in-Found-clause-asked : goal.returns-in-Found-clause-asked
 returns-in-Found-clause-asked g c =

@@ -1,4 +1,4 @@
-//! One connection, from bytes to bytes.
+//! Connections: one request and its response.
 
 ghost use Rattle.std.specs.Prelude.{◌≡◌, ◌+◌, ◌≤◌, Option, option_map};
 ghost use Rattle.plan_rows.specs.World.{World};
@@ -7,28 +7,28 @@ ghost use Rattle.plan_desk.specs.declared.reply.ReplyKind.TheVariants.{Plain};
 ghost use Rattle.plan_desk.specs.Replies.{reply_of};
 ghost use Rattle.plan_http.specs.Routes.{method_of};
 ghost use Rattle.plan_http.specs.Answers as spec;
-ghost use Rattle.plan_http.specs.Serving.{Responds, ReaderFaults, WriterFaults, Ends};
+ghost use Rattle.plan_http.specs.Connections.{Responds, ReaderFaults, WriterFaults, Ends};
 ghost use Rattle.plan_http.specs.Crashes.{LeavesOne};
 
-use crate::asking::{Asked, read_request};
 use crate::checks::Check;
 use crate::client::Client;
+use crate::request::{Asked, read_request};
 use crate::response::respond;
 use crate::routes::{Route, Routes};
 use plan_desk::{Body, Book, Office, Reply, ReplyKind};
 use plan_io::Sink;
 use std::alloc::Global;
 
-/// How the serving of a connection ended.
+/// The end of a connection.
 #[derive(Debug, Clone, Copy, PartialEq, Eq, Drop)]
 pub enum ConnEnd {
-    /// A response with this status was written whole.
+    /// A response with this status was written completely.
     Replied(u16),
-    /// The reader failed: nothing was decided, and nothing written.
+    /// The reader failed: nothing was decided or written.
     ReadFailed,
-    /// The writer failed: what was decided stands, and it took the first bytes of the response.
+    /// The writer failed: the decision stands, and the first bytes of the response were written.
     WriteFailed {
-        /// How many bytes it took.
+        /// The number of bytes that were written.
         sent: usize,
     },
 }
@@ -71,7 +71,8 @@ fn answer<W: Sink>(writer: &mut W, reply: &Reply, route: Option<Route>, is_head:
       is_head = is_head;
     }) result }
     ensures calls { W.calls writer.new ≤ W.calls writer.old + most_calls }
-    ensures faults { WriterFaults (W.calls writer.old) (W.calls writer.new) (W.faults writer.old) (W.faults writer.new) result }
+    ensures faults { WriterFaults (W.calls writer.old) (W.calls writer.new) (W.faults writer.old)
+        (W.faults writer.new) result }
 {
     match respond(writer, reply, route, is_head) {
         Ok(()) => ConnEnd::Replied(reply.status),
@@ -79,9 +80,9 @@ fn answer<W: Sink>(writer: &mut W, reply: &Reply, route: Option<Route>, is_head:
     }
 }
 
-/// Serves one connection: reads its request, handles it, and writes the response; or answers the
-/// first check that fails. Want of memory before anything is decided is answered too, of a request
-/// that passes the checks of its head and its route.
+/// Serves one connection: reads its request, handles it, and writes the response. A request that
+/// fails a check gets the response of the first failing check. If memory runs out before the
+/// decision, a request that passes the checks of its head and its route gets a response too.
 pub fn serve_conn<R: Client, W: Sink, B: Book>(
     alloc: Global,
     routes: &Routes,
@@ -89,12 +90,16 @@ pub fn serve_conn<R: Client, W: Sink, B: Book>(
     reader: &mut R,
     writer: &mut W,
 ) -> ConnEnd
-    ensures ends { Ends B.shelf office.old office.new (R.known reader.old) (R.known reader.new) (W.taken writer.old) (W.taken writer.new) result }
-    ensures crash { B.shelf.honest office.new → (left : Option World) → B.shelf.may_leave office.new left → LeavesOne B.shelf office.old office.new (R.known reader.old) (R.known reader.new) left }
+    ensures ends { Ends B.shelf office.old office.new (R.known reader.old) (R.known reader.new)
+        (W.taken writer.old) (W.taken writer.new) result }
+    ensures crash { B.shelf.honest office.new → (left : Option World)
+        → B.shelf.may_leave office.new left
+        → LeavesOne B.shelf office.old office.new (R.known reader.old) (R.known reader.new) left }
     ensures reads { R.calls reader.new ≤ R.calls reader.old + most_calls }
     ensures writes { W.calls writer.new ≤ W.calls writer.old + most_calls }
     ensures reader_faults { ReaderFaults (R.faults reader.old) (R.faults reader.new) result }
-    ensures writer_faults { WriterFaults (W.calls writer.old) (W.calls writer.new) (W.faults writer.old) (W.faults writer.new) result }
+    ensures writer_faults { WriterFaults (W.calls writer.old) (W.calls writer.new)
+        (W.faults writer.old) (W.faults writer.new) result }
 {
     match read_request(alloc, routes, reader) {
         Asked::Request(request) => {
