@@ -7,8 +7,8 @@ use Rattle.plan_rows.specs.Books.{Shelf}
 use Rattle.plan_door.specs.declared.fault.ServeFault.{ServeFault}
 use Rattle.plan_door.specs.declared.fault.ServeFault.TheVariants as fault
 use Rattle.plan_door.specs.ReplayRun.{ReplaysFrom, AreAnswered, AreAnsweredInPart}
-use Rattle.plan_serve.specs.declared.keeping.Report.{Report}
-use Rattle.plan_serve.specs.declared.keeping.Report.TheVariants as report
+use Rattle.plan_serve.specs.declared.commands.Report.{Report}
+use Rattle.plan_serve.specs.declared.commands.Report.TheVariants as report
 use Rattle.plan_serve.specs.Causes.{IsFileFault}
 use Rattle.plan_serve.specs.CheckRun.{ChecksFrom, ChecksOnFiles, IsPrinted, IsPrintedInPart}
 use Rattle.plan_serve.specs.ReplayFiles.{ReplaysOnFiles}

@@ -1,4 +1,4 @@
-//! What stands at the name of an office, and why it can't be opened.
+//! The causes for which the file of an office can't be opened.
 
 ghost use Rattle.std.specs.Prelude.{IfErr, OnOk};
 ghost use Rattle.plan_serve.specs.Causes.{IsFileCause, IsFileFault, IsLookFault, IsOpenCause, IsThere};
@@ -9,10 +9,10 @@ use sqlite_std_file::OpenError;
 use std::fs::Metadata;
 use std::io::{self, ErrorKind};
 
-// The fewest bytes of a database: those of a page of the least size.
+// The least size of a database in bytes: one page of the least size.
 const SHORTEST: u64 = 512;
 
-// Why a file can't be opened, by what the system tells.
+// The fault of a file, from the system's error.
 fn file_fault(kind: ErrorKind) -> ServeFault
     ensures { IsFileCause kind result }
 {
@@ -28,9 +28,10 @@ fn file_fault(kind: ErrorKind) -> ServeFault
     ServeFault::Store
 }
 
-/// Tells why no office is at a name where what the system tells of it says so: nothing is there, it
-/// can't be reached, or it is shorter than any database. Nothing is opened, so nothing is made or grows.
-pub(crate) fn look(looked: io::Result<Metadata>) -> Result<(), ServeFault>
+/// Fails if the system's answer for a name shows that it is no office: there is no file, the file
+/// isn't accessible, or it is shorter than any database. Nothing is opened, so no file is created
+/// or grows.
+pub(crate) fn check_name(looked: io::Result<Metadata>) -> Result<(), ServeFault>
     ensures there { OnOk result (IsThere looked) }
     ensures which { IfErr result (IsLookFault looked) }
 {
@@ -41,8 +42,8 @@ pub(crate) fn look(looked: io::Result<Metadata>) -> Result<(), ServeFault>
     }
 }
 
-// Why the files of a database can't be opened, by what opening them came to. Files that can be are the
-// store's to refuse.
+// The fault of the files of a database, from the result of opening them. If they can be opened, the
+// store refused them.
 fn opening_fault<T: Drop>(opened: Result<T, OpenError>) -> ServeFault
     ensures { IsOpenCause opened result }
 {
@@ -54,7 +55,7 @@ fn opening_fault<T: Drop>(opened: Result<T, OpenError>) -> ServeFault
     }
 }
 
-/// Why the files at a name can't be opened, where the store has refused them: they are tried once more.
+/// Returns the cause for which the store refused the files of this name: it opens them once more.
 #[tactic(auto, using(crate::proofs::CauseLemmas::open_fault))]
 pub(crate) fn refusal<F: Start>(rt: &HostRuntime, path: &str, start: F) -> ServeFault
     ensures { IsFileFault result }

@@ -1,6 +1,6 @@
 use Rattle.std.proofs.Common.{◌≡◌}
 use Rattle.plan_door.proofs.TurnLemmas.{counted_ok, fresh_sides}
-use Rattle.plan_door.proofs.socket.CallersVisitors.admit.Goals as goal
+use Rattle.plan_door.proofs.socket.SocketVisitorsVisitors.admit.Goals as goal
 
 pub returns-clause-untouched : goal.returns-clause-untouched
 returns-clause-untouched c =
@@ -8,5 +8,5 @@ returns-clause-untouched c =
 
 pub returns-clause-fresh : goal.returns-clause-fresh
 returns-clause-fresh c =
-    fresh_sides (λ sides. sides.0.heard.bytes) (λ sides. sides.0.is_ended) (λ sides. sides.1.told.bytes) c.count.result
+    fresh_sides (λ sides. sides.0.received.bytes) (λ sides. sides.0.is_ended) (λ sides. sides.1.sent.bytes) c.count.result
     (counted_ok _ c.next_sides-sides.result c.count.result c.next_sides-sides.ensures.fresh c.count.ensures.answer)

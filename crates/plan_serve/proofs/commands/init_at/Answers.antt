@@ -1,5 +1,5 @@
 use Rattle.plan_serve.proofs.InitLemmas.{has_made}
-use Rattle.plan_serve.proofs.keeping.init_at.Goals as goal
+use Rattle.plan_serve.proofs.commands.init_at.Goals as goal
 
 pub returns-in-Ok-clause-made : goal.returns-in-Ok-clause-made
 returns-in-Ok-clause-made g c =

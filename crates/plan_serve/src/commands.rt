@@ -1,4 +1,4 @@
-//! The commands on an office wherever its database is.
+//! The commands on an office in any database.
 
 ghost use Rattle.std.specs.Prelude.{◌≡◌, ◌≢◌, ◌⊎◌, ◌+◌, ◌≤◌, length, map, vec_items, Ok, is_some, IfOk, IfErr, IfNone, IsSome, IsErrOf, OnOk, OnErr, MatchResult};
 ghost use Rattle.plan_io.specs.Devices.{most_calls, HasFailed};
@@ -8,7 +8,7 @@ ghost use Rattle.plan_serve.specs.Reports.{ReportsFrom, IsReported, IsReportedIn
 ghost use Rattle.plan_door.specs.Ports.{IsPortFault, ServesFrom};
 
 use crate::check_office::check_office_run;
-use crate::fault::told;
+use crate::fault::store_fault;
 use crate::init::{Place, init_run};
 use plan_desk::Book;
 use plan_door::{ServeFault, Service, replay_book, serve_book};
@@ -18,22 +18,22 @@ use plan_store::{Leftover, SqlBook, StoreFault};
 use sqlite::{Alter, Connection};
 use std::alloc::Global;
 
-/// The tables of an office that were opened, or why they weren't and what is left.
+/// The opened tables of an office, or the fault and what is left.
 type Opened<S> = Result<SqlBook<S>, (StoreFault, Option<Leftover<S>>)>;
 
-/// What is written of an office.
+/// A report of an office.
 #[derive(Drop)]
 pub(crate) enum Report<'a> {
-    /// How many rows it has in each table, and a digest of them.
+    /// The number of rows in each table, and a digest of the rows.
     Rows,
     /// The responses to connections with these bytes.
     Responses(&'a [Vec<u8>]),
 }
 
-/// The outcome of a command, and the connection that is open after it.
+/// The result of a command, and the connection that is open after it.
 pub(crate) type Ended<S> = (Result<(), ServeFault>, Option<Connection<S>>);
 
-/// Makes the tables of an office, by the key that is the first line of a text.
+/// Creates the tables of an office, whose key is the first line of a text.
 #[tactic(auto, using(crate::proofs::InitLemmas::init_faults, crate::proofs::InitLemmas::told_there))]
 pub(crate) fn init_at<R: Source, P: Place>(
     alloc: Global,
@@ -43,9 +43,12 @@ pub(crate) fn init_at<R: Source, P: Place>(
     ensures made { OnOk result.0 (HasMade P.Kept.Store (P.opens place)) }
     ensures which { IfErr result.0 IsInitFault }
     ensures tables { IfErr result.0 (IsToldThere P.Kept.Store (P.opens place)) }
-    // The connection comes back, if one was opened.
+    // The connection is returned, if one was opened.
     ensures back { OnOk result.0 (IsSome result.1) }
-    ensures left { IfErr result.0 (λ e. MakesNone P.Kept.Store (P.opens place) (P.refuses place) (R.remaining reader.old) (R.remaining reader.new) e result.1) }
+    ensures left { IfErr result.0
+        (λ e.
+        MakesNone P.Kept.Store (P.opens place) (P.refuses place) (R.remaining reader.old)
+        (R.remaining reader.new) e result.1) }
 {
     match init_run(alloc, reader, place) {
         Ok(book) => (Ok(()), Some(book.into_connection())),
@@ -53,7 +56,7 @@ pub(crate) fn init_at<R: Source, P: Place>(
     }
 }
 
-// The tables that were opened.
+// The book of the opened tables, or the fault of the command.
 fn book_of<S: Alter + Drop>(opened: Opened<S>) -> Result<SqlBook<S>, ServeFault>
     ensures book { IfOk result (λ book. opened ≡ Ok book) }
     ensures none { OnErr result (IfOk opened (λ _. ⊥)) }
@@ -61,7 +64,7 @@ fn book_of<S: Alter + Drop>(opened: Opened<S>) -> Result<SqlBook<S>, ServeFault>
 {
     match opened {
         Ok(book) => Ok(book),
-        Err((fault, _)) => Err(told(fault)),
+        Err((fault, _)) => Err(store_fault(fault)),
     }
 }
 
@@ -75,7 +78,7 @@ fn connection_of<S: Alter + Drop>(book: Option<SqlBook<S>>) -> Option<Connection
     }
 }
 
-// Writes a report of an office over a book. The book comes back, unless memory runs out before the
+// Writes a report of an office over a book, and returns the book, unless memory runs out before the
 // first response.
 #[tactic(auto, using(crate::proofs::CheckLemmas::checks, crate::proofs::CheckLemmas::checks_not, crate::proofs::CheckLemmas::printed, crate::proofs::CheckLemmas::printed_in_part, crate::proofs::ReportLemmas::replays_not))]
 fn report_over<B: Listing + Drop, W: Sink>(
@@ -84,14 +87,18 @@ fn report_over<B: Listing + Drop, W: Sink>(
     report: Report<'_>,
     writer: &mut W,
 ) -> (Result<(), ServeFault>, Option<B>)
-    ensures reports { OnOk result.0 (ReportsFrom B.shelf book report.entry (W.taken writer.old) (W.taken writer.new)) }
+    ensures reports { OnOk result.0
+        (ReportsFrom B.shelf book report.entry (W.taken writer.old) (W.taken writer.new)) }
     ensures ok { OnOk result.0 (IsReported report.entry (W.taken writer.old) (W.taken writer.new)) }
-    ensures part { IsErrOf result.0 ServeFault.Output → IsReportedInPart report.entry (W.taken writer.old) (W.taken writer.new) }
+    ensures part { IsErrOf result.0 ServeFault.Output
+        → IsReportedInPart report.entry (W.taken writer.old) (W.taken writer.new) }
     ensures writes { W.calls writer.new ≤ W.calls writer.old + most_calls }
-    ensures quiet { IfErr result.0 (λ e. (e ≡ ServeFault.Output) ⊎ (writer.new ≡ writer.old)) }
+    ensures quiet { IfErr result.0
+        (λ e. (e ≡ ServeFault.Output) ⊎ (writer.new ≡ writer.old)) }
     ensures fine { OnOk result.0 (W.faults writer.new ≡ W.faults writer.old) }
     ensures output { IsErrOf result.0 ServeFault.Output →
-        HasFailed (W.calls writer.old) (W.calls writer.new) (W.faults writer.old) (W.faults writer.new) }
+        HasFailed (W.calls writer.old) (W.calls writer.new) (W.faults writer.old)
+        (W.faults writer.new) }
     ensures which { IfErr result.0 IsWriteFault }
     ensures back { IfNone result.1 (KeepsNone report.entry result.0) }
 {
@@ -104,22 +111,30 @@ fn report_over<B: Listing + Drop, W: Sink>(
     }
 }
 
-/// Writes a report of the office that was opened.
+/// Writes a report of the opened office.
 pub(crate) fn report_opened<S: Alter + Drop, W: Sink>(
     alloc: Global,
     opened: Opened<S>,
     report: Report<'_>,
     writer: &mut W,
 ) -> Ended<S>
-    ensures reports { OnOk result.0 (MatchResult opened (λ book. ReportsFrom ⟦<SqlBook<S> as Book>⟧.shelf book report.entry (W.taken writer.old) (W.taken writer.new)) (λ _. ⊥)) }
+    ensures reports { OnOk result.0
+        (MatchResult opened
+        (λ book.
+        ReportsFrom ⟦<SqlBook<S> as Book>⟧.shelf book report.entry (W.taken writer.old)
+        (W.taken writer.new)) (λ _. ⊥)) }
     ensures ok { OnOk result.0 (IsReported report.entry (W.taken writer.old) (W.taken writer.new)) }
-    ensures part { IsErrOf result.0 ServeFault.Output → IsReportedInPart report.entry (W.taken writer.old) (W.taken writer.new) }
+    ensures part { IsErrOf result.0 ServeFault.Output
+        → IsReportedInPart report.entry (W.taken writer.old) (W.taken writer.new) }
     ensures writes { W.calls writer.new ≤ W.calls writer.old + most_calls }
-    ensures quiet { IfErr result.0 (λ e. (e ≡ ServeFault.Output) ⊎ (writer.new ≡ writer.old)) }
+    ensures quiet { IfErr result.0
+        (λ e. (e ≡ ServeFault.Output) ⊎ (writer.new ≡ writer.old)) }
     ensures fine { OnOk result.0 (W.faults writer.new ≡ W.faults writer.old) }
     ensures output { IsErrOf result.0 ServeFault.Output →
-        HasFailed (W.calls writer.old) (W.calls writer.new) (W.faults writer.old) (W.faults writer.new) }
-    ensures which { IfErr result.0 (λ told. MatchResult opened (λ _. IsWriteFault told) (λ e. told ≡ fault_of e.0)) }
+        HasFailed (W.calls writer.old) (W.calls writer.new) (W.faults writer.old)
+        (W.faults writer.new) }
+    ensures which { IfErr result.0
+        (λ told. MatchResult opened (λ _. IsWriteFault told) (λ e. told ≡ fault_of e.0)) }
     ensures back { IfOk opened (λ _. IfNone result.1 (KeepsNone report.entry result.0)) }
 {
     let book = match book_of(opened) {
@@ -130,14 +145,17 @@ pub(crate) fn report_opened<S: Alter + Drop, W: Sink>(
     (done, connection_of(book))
 }
 
-/// Serves connections on a port of this machine alone, by the office that was opened.
+/// Serves connections on a local port, by the opened office.
 pub(crate) fn serve_opened<S: Alter + Drop>(
     rt: &HostRuntime,
     opened: Opened<S>,
     service: &Service<'_>,
 ) -> Ended<S>
-    ensures ok { OnOk result.0 (MatchResult opened (λ book. ServesFrom ⟦<SqlBook<S> as Book>⟧.shelf book service.now.count) (λ _. ⊥)) }
-    ensures which { IfErr result.0 (λ told. MatchResult opened (λ _. IsPortFault told) (λ e. told ≡ fault_of e.0)) }
+    ensures ok { OnOk result.0
+        (MatchResult opened
+        (λ book. ServesFrom ⟦<SqlBook<S> as Book>⟧.shelf book service.now.count) (λ _. ⊥)) }
+    ensures which { IfErr result.0
+        (λ told. MatchResult opened (λ _. IsPortFault told) (λ e. told ≡ fault_of e.0)) }
     ensures back { IfOk opened (λ _. IfNone result.1 (IsErrOf result.0 ServeFault.Memory)) }
 {
     let book = match book_of(opened) {
