@@ -38,7 +38,8 @@ module _ {B : Type 0} (shelf : Shelf B) where
       ((shelf.made new ≡ shelf.made old + 1) × (left ≡ Some (shelf.world new)))
       ⊎ ((shelf.made new ≡ shelf.made old) × (shelf.may_leave old left
       ⊎ ((shelf.refused new ≡ shelf.refused old + 1) × (request : Request)
-      × OfBytes before after (λ bytes. Judges bytes (asks request)) × WouldMake (shelf.world old) request left)))
+      × OfBytes before after (λ bytes. Judges bytes (asks request))
+      × WouldMake (shelf.world old) request left)))
 
   -- In a run, a writing call was refused for lack of memory or by the store: a crash leaves the
   -- rows that the call would have made from the rows at the start.
@@ -59,8 +60,8 @@ module _ {B : Type 0} (shelf : Shelf B) where
     pub would : WouldMake (shelf.world old) request left
 
   -- the last command that a run accepted, and the office after it
-  pub record LastAccepted (old new : B) (conns : List Text) (decisions : List Decision) (settled : B)
-      : Type 0 where
+  pub record LastAccepted (old new : B) (conns : List Text) (decisions : List Decision)
+      (settled : B) : Type 0 where
     pub place : ℕ
     pub accepted : IsAcceptedAt decisions place
     pub made : Serving shelf old (take (suc place) conns) (take (suc place) decisions) settled
@@ -76,7 +77,8 @@ module _ {B : Type 0} (shelf : Shelf B) where
       × (shelf.may_leave old left ⊎ LeavesRefused old new conns decisions left))
       ⊎ ((settled : B) × (last : LastAccepted old new conns decisions settled)
       × ((left ≡ Some (shelf.world settled))
-      ⊎ LeavesRefused settled new (drop (suc last.place) conns) (drop (suc last.place) decisions) left))
+      ⊎ LeavesRefused settled new (drop (suc last.place) conns) (drop (suc last.place) decisions)
+      left))
 
   -- The rows that are left come after the command at this place: they are the rows after some
   -- connections that include this one, or those rows with one refused writing call.
@@ -98,7 +100,8 @@ module _ {B : Type 0} (shelf : Shelf B) where
     pub written : responses ≡ map response_of (take (length responses) decisions)
     pub last : length decisions ≤ length responses + 1
     -- as many writing calls were made as commands were accepted
-    pub made : shelf.honest new → shelf.made new ≡ shelf.made old + length (filter accepts decisions)
+    pub made : shelf.honest new
+        → shelf.made new ≡ shelf.made old + length (filter accepts decisions)
     pub leaves : shelf.honest new → (left : Option World) → shelf.may_leave new left
         → LeavesRun old new (take (length decisions) conns) decisions left
     -- no accepted command is lost

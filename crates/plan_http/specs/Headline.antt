@@ -55,14 +55,17 @@ pub record Alike {A B : Type 0} (first : Shelf A) (second : Shelf B) (a : A) (b 
       (answered_of others answers) answers
   -- and equal stories received equal responses, byte for byte
   pub equal : (story told given : List Text)
-      → IsStoryOf desk (view desk (first.world a)) (answered_of conns responses) responses story told
-      → IsStoryOf desk (view desk (second.world b)) (answered_of others answers) answers story given
+      → IsStoryOf desk (view desk (first.world a)) (answered_of conns responses) responses
+      story told
+      → IsStoryOf desk (view desk (second.world b)) (answered_of others answers) answers
+      story given
       → told ≡ given
 
 module _ {A B : Type 0} (first : Shelf A) (second : Shelf B) where
   -- two runs are alike if in each the desk receives the replies of an office with its rows alone
   unfoldable pub ApartRunsAreAlike : Type 0
-  ApartRunsAreAlike = (a left : A) (b right : B) (conns responses others answers : List Text) (desk : Text)
+  ApartRunsAreAlike = (a left : A) (b right : B) (conns responses others answers : List Text)
+      (desk : Text)
       → IsApart first a left conns responses desk → IsApart second b right others answers desk
       → IsWorld (first.world a) → IsWorld (second.world b)
       → Agree (view desk (first.world a)) (view desk (second.world b))

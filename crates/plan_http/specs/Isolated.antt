@@ -42,7 +42,8 @@ module _ {B : Type 0} (shelf : Shelf B) where
   -- A desk in a complete or stopped run. The responses are those of the decisions, or of all but
   -- the last.
   pub record IsApart (old new : B) (conns responses : List Text) (desk : Text) : Type 0 where
-    pub told : IsToldAlone desk (view desk (shelf.world old)) (take (length responses) conns) responses
+    pub told : IsToldAlone desk (view desk (shelf.world old))
+        (take (length responses) conns) responses
     pub decisions : List Decision
     pub unseen : ServingUnseen desk old (take (length decisions) conns) decisions new
     pub written : responses ≡ map response_of (take (length responses) decisions)

@@ -26,7 +26,8 @@ pub record IsSplit (bytes front : List ℕ) (left : Option (List ℕ)) : Type 0 
   pub whole : bytes ≡ front ++ more
 
 -- the bytes begin with a head, and the spans cover it in the front
-pub record HasHeadAt (bytes front : List ℕ) (headers : List HeaderSpan) (spans : RequestSpans) : Type 0 where
+pub record HasHeadAt (bytes front : List ℕ) (headers : List HeaderSpan) (spans : RequestSpans)
+    : Type 0 where
   pub head : RequestHead
   pub begins : BeginsWithHead bytes head
   pub at : IsRequestAt front headers spans head

@@ -56,7 +56,8 @@ IsStoryOf desk v (bytes ∷ conns) (response ∷ responses) story told =
     (IsOutside desk v bytes × IsStoryOf desk v conns responses story told)
     ⊎ ((r : Request) × IsInside desk v bytes r × ((more : List Text) × (others : List Text)
     × (story ≡ bytes ∷ more) × (told ≡ response ∷ others) × ((after : World)
-    × IsAnswered v r response after × IsStoryOf desk (view desk after) conns responses more others)))
+    × IsAnswered v r response after
+    × IsStoryOf desk (view desk after) conns responses more others)))
 IsStoryOf desk v conns responses story told = ⊥
 
 -- a connection of the desk's story was refused for lack of memory or by the store
