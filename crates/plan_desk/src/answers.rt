@@ -130,7 +130,7 @@ fn push_codes(text: &mut String, rows: &[CodeRow]) -> Result<(), AllocError>
     ensures { OnOk result
         (string_bytes text.new ≡ string_bytes text.old ++ texts.texts_of_codes rows.now) }
 {
-    'all: for (i, row) in rows.iter().enumerate() {
+    for (i, row) in rows.iter().enumerate() {
         push_comma(text, i)?;
         push_code(text, row.code.as_str(), row.kind, row.capacity)?;
     }
@@ -141,7 +141,7 @@ fn push_plans(text: &mut String, rows: &[PlanEntry]) -> Result<(), AllocError>
     ensures { OnOk result
         (string_bytes text.new ≡ string_bytes text.old ++ texts.texts_of_entries rows.now) }
 {
-    'all: for (i, row) in rows.iter().enumerate() {
+    for (i, row) in rows.iter().enumerate() {
         push_comma(text, i)?;
         push_plan(text, row)?;
     }

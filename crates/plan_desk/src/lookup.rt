@@ -65,7 +65,7 @@ fn find_capacities<B: Book>(
         (λ w places. HasCapacities w.published binds.now places.items) result }
 {
     let mut places = Vec::with_capacity(alloc, binds.len())?;
-    'all: for bind in binds {
+    for bind in binds {
         let place = find_capacity(book, bind)?;
         places.push(place)?;
     }
