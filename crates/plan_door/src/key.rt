@@ -53,19 +53,18 @@ fn first_line(text: &[u8]) -> &[u8]
 
 // Reads one byte, or none at the end.
 fn next_byte<R: Source>(reader: &mut R) -> Result<Option<u8>, DeviceFault>
-    ensures counted { IsCounted (R.calls reader.old) (R.calls reader.new) (R.faults reader.old)
-        (R.faults reader.new) result }
+    ensures counted { IsCounted (R.calls reader.old) (R.calls reader.new)
+        (R.faults reader.old) (R.faults reader.new) result }
     ensures byte { IfOk result (λ next. MatchOption next
         (IsAtEnd (R.remaining reader.new)
         × Consumes (R.remaining reader.old) (R.remaining reader.new) [])
         (λ byte. Consumes (R.remaining reader.old) (R.remaining reader.new) (byte ∷ []))) }
 {
     let mut bytes = [0];
-    match reader.read(&mut bytes) {
-        Ok(0) => Ok(None),
-        Ok(_) => Ok(Some(bytes[0])),
-        Err(fault) => Err(fault),
+    if reader.read(&mut bytes)? == 0 {
+        return Ok(None);
     }
+    Ok(Some(bytes[0]))
 }
 
 // Adds a byte.
@@ -73,10 +72,7 @@ fn push_byte(line: &mut Vec<u8>, byte: u8) -> Result<(), ServeFault>
     ensures kept { OnOk result (line.new.items ≡ line.old.items ++ byte ∷ []) }
     ensures memory { IfErr result (λ e. e ≡ ServeFault.Memory) }
 {
-    match line.push(byte) {
-        Ok(()) => Ok(()),
-        Err(_) => Err(ServeFault::Memory),
-    }
+    line.push(byte).map_err(|_| ServeFault::Memory)
 }
 
 // Reads bytes up to and including the first line feed, but no more than the longest line has.
@@ -116,12 +112,6 @@ pub fn read_key<R: Source>(alloc: Global, reader: &mut R) -> Result<[u8; 32], Se
     ensures input { IsErrOf result ServeFault.Input
         → R.faults reader.new ≡ R.faults reader.old + 1 }
 {
-    let line = match read_line(alloc, reader) {
-        Ok(line) => line,
-        Err(fault) => return Err(fault),
-    };
-    match key_digest(first_line(&line)) {
-        Some(digest) => Ok(digest),
-        None => Err(ServeFault::Key),
-    }
+    let line = read_line(alloc, reader)?;
+    key_digest(first_line(&line)).ok_or(ServeFault::Key)
 }

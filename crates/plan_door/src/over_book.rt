@@ -25,8 +25,8 @@ pub fn replay_book<B: Book + Drop, W: Sink>(
     writer: &mut W,
 ) -> (Result<(), ServeFault>, Option<B>)
     ensures replays { OnOk result.0
-        (ReplaysFrom B.shelf book (map vec_items conns.now) (W.taken writer.old)
-        (W.taken writer.new)) }
+        (ReplaysFrom B.shelf book (map vec_items conns.now)
+        (W.taken writer.old) (W.taken writer.new)) }
     ensures ok { OnOk result.0
         (AreAnswered (length conns.now) (W.taken writer.old) (W.taken writer.new)) }
     ensures part { IsErrOf result.0 ServeFault.Output
@@ -36,14 +36,13 @@ pub fn replay_book<B: Book + Drop, W: Sink>(
         (λ e. (e ≡ ServeFault.Output) ⊎ (writer.new ≡ writer.old)) }
     ensures fine { OnOk result.0 (W.faults writer.new ≡ W.faults writer.old) }
     ensures output { IsErrOf result.0 ServeFault.Output →
-        HasFailed (W.calls writer.old) (W.calls writer.new) (W.faults writer.old)
-        (W.faults writer.new) }
+        HasFailed (W.calls writer.old) (W.calls writer.new)
+        (W.faults writer.old) (W.faults writer.new) }
     ensures which { IfErr result.0 (λ e. (e ≡ ServeFault.Memory) ⊎ (e ≡ ServeFault.Output)) }
     ensures back { IfNone result.1 (IsErrOf result.0 ServeFault.Memory) }
 {
-    let mut office = match Office::new(alloc, book) {
-        Ok(office) => office,
-        Err(_) => return (Err(ServeFault::Memory), None),
+    let Ok(mut office) = Office::new(alloc, book) else {
+        return (Err(ServeFault::Memory), None);
     };
     let done = replay_run(alloc, &mut office, conns, writer);
     (done, Some(office.into_book()))
@@ -86,10 +85,7 @@ fn serve_by<B: Book>(
     match TcpListener::bind(rt, (Ipv4Addr::LOCALHOST, service.port)) {
         Ok(listener) => {
             announce(rt, service);
-            match serve_listener(rt, office, &listener, service) {
-                Ok(()) => Ok(()),
-                Err(fault) => Err(fault),
-            }
+            serve_listener(rt, office, &listener, service)
         }
         Err(error) => Err(port_fault(error.kind())),
     }
@@ -106,9 +102,8 @@ pub fn serve_book<B: Book + Drop>(
     ensures which { IfErr result.0 IsPortFault }
     ensures back { IfNone result.1 (IsErrOf result.0 ServeFault.Memory) }
 {
-    let mut office = match Office::new(rt.alloc(), book) {
-        Ok(office) => office,
-        Err(_) => return (Err(ServeFault::Memory), None),
+    let Ok(mut office) = Office::new(rt.alloc(), book) else {
+        return (Err(ServeFault::Memory), None);
     };
     let done = serve_by(rt, &mut office, service);
     (done, Some(office.into_book()))

@@ -65,8 +65,8 @@ pub fn replay_run<B: Book, W: Sink>(
     ensures quiet { IfErr result (λ e. (e ≡ ServeFault.Output) ⊎ (writer.new ≡ writer.old)) }
     ensures fine { OnOk result (W.faults writer.new ≡ W.faults writer.old) }
     ensures output { IsErrOf result ServeFault.Output →
-        HasFailed (W.calls writer.old) (W.calls writer.new) (W.faults writer.old)
-        (W.faults writer.new) }
+        HasFailed (W.calls writer.old) (W.calls writer.new)
+        (W.faults writer.old) (W.faults writer.new) }
 {
     let Ok(text) = responses(alloc, office, conns) else {
         return Err(ServeFault::Memory);

@@ -96,8 +96,8 @@ const PIECE: usize = 4096;
 // Reads and discards bytes, and returns their number.
 fn skip<R: Client>(reader: &mut R, piece: &mut [u8]) -> Result<usize, DeviceFault>
     requires { 0 < length piece.old }
-    ensures counted { IsCounted (R.calls reader.old) (R.calls reader.new) (R.faults reader.old)
-        (R.faults reader.new) result }
+    ensures counted { IsCounted (R.calls reader.old) (R.calls reader.new)
+        (R.faults reader.old) (R.faults reader.new) result }
     ensures within { IfOk result (λ came. came ≤ length piece.new) }
     ensures bytes { Reads (R.known reader.old) (R.known reader.new)
         (λ had left. Skips had left result) }

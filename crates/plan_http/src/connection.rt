@@ -71,8 +71,8 @@ fn answer<W: Sink>(writer: &mut W, reply: &Reply, route: Option<Route>, is_head:
       is_head = is_head;
     }) result }
     ensures calls { W.calls writer.new ≤ W.calls writer.old + most_calls }
-    ensures faults { WriterFaults (W.calls writer.old) (W.calls writer.new) (W.faults writer.old)
-        (W.faults writer.new) result }
+    ensures faults { WriterFaults (W.calls writer.old) (W.calls writer.new)
+        (W.faults writer.old) (W.faults writer.new) result }
 {
     match respond(writer, reply, route, is_head) {
         Ok(()) => ConnEnd::Replied(reply.status),

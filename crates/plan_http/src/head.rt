@@ -41,8 +41,8 @@ pub(crate) fn fill<R: Client>(
     filled: usize,
 ) -> Result<usize, DeviceFault>
     requires { filled < length buf.old }
-    ensures counted { IsCounted (R.calls reader.old) (R.calls reader.new) (R.faults reader.old)
-        (R.faults reader.new) result }
+    ensures counted { IsCounted (R.calls reader.old) (R.calls reader.new)
+        (R.faults reader.old) (R.faults reader.new) result }
     ensures within { IfOk result (λ came. filled + came ≤ length buf.new) }
     ensures bytes { Reads (R.known reader.old) (R.known reader.new)
         (λ had left. Fills buf.old filled had buf.new left result) }

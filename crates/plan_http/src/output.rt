@@ -48,8 +48,8 @@ fn send_parts<W: Sink>(writer: &mut W, first: &[u8], second: &[u8]) -> Result<()
         × Appends (W.taken writer.old) (W.taken writer.new)
         (take e.sent (first.now ++ second.now))) }
     ensures failed { IfErr result (λ _.
-        HasFailed (W.calls writer.old) (W.calls writer.new) (W.faults writer.old)
-        (W.faults writer.new)) }
+        HasFailed (W.calls writer.old) (W.calls writer.new)
+        (W.faults writer.old) (W.faults writer.new)) }
 {
     let total = first.len() + second.len();
     let mut sent = 0;
@@ -80,8 +80,8 @@ pub(crate) fn send<W: Sink>(writer: &mut W, first: &[u8], second: &[u8]) -> Resu
         × Appends (W.taken writer.old) (W.taken writer.new)
         (take e.sent (first.now ++ second.now))) }
     ensures failed { IfErr result (λ _.
-        HasFailed (W.calls writer.old) (W.calls writer.new) (W.faults writer.old)
-        (W.faults writer.new)) }
+        HasFailed (W.calls writer.old) (W.calls writer.new)
+        (W.faults writer.old) (W.faults writer.new)) }
 {
     let mut room = [0; ROOM];
     let count = join(&mut room, first, second);

@@ -119,8 +119,8 @@ pub fn respond<W: Sink>(
         × Appends (W.taken writer.old) (W.taken writer.new)
         (take e.sent (response_on (reply_of reply.now) route is_head))) }
     ensures failed { IfErr result (λ _.
-        HasFailed (W.calls writer.old) (W.calls writer.new) (W.faults writer.old)
-        (W.faults writer.new)) }
+        HasFailed (W.calls writer.old) (W.calls writer.new)
+        (W.faults writer.old) (W.faults writer.new)) }
 {
     let head = head_of(reply, route);
     send(writer, head.as_bytes(), sent_body(is_head, body_of(reply)))

@@ -48,10 +48,7 @@ fn add(out: &mut Vec<Vec<u8>>, response: Vec<u8>) -> Result<(), RunFault>
         (λ _. map vec_items out.new.items ≡ map vec_items out.old.items ++ response.items ∷ [])
         (λ _. map vec_items out.new.items ≡ map vec_items out.old.items) }
 {
-    match out.push(response) {
-        Ok(()) => Ok(()),
-        Err(_) => Err(RunFault),
-    }
+    out.push(response).map_err(|_| RunFault)
 }
 
 // Serves one connection, and adds its response.
@@ -68,10 +65,8 @@ fn serve_next<B: Book>(
         (λ _. (d : Decision) × IsOn conn.now d × Moves B.shelf office.old office.new d
         × (map vec_items out.new.items ≡ map vec_items out.old.items)) }
 {
-    match response_to(alloc, routes, office, conn) {
-        Ok(response) => add(out, response),
-        Err(fault) => Err(fault),
-    }
+    let response = response_to(alloc, routes, office, conn)?;
+    add(out, response)
 }
 
 // Serves connections one after another, and adds the response of each.
@@ -94,10 +89,7 @@ fn serve_each<B: Book>(
         return Err(RunFault);
     };
     for conn in conns {
-        match serve_next(alloc, &routes, office, conn, out) {
-            Ok(()) => {}
-            Err(fault) => return Err(fault),
-        }
+        serve_next(alloc, &routes, office, conn, out)?;
     }
     Ok(())
 }

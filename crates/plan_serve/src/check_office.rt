@@ -29,8 +29,8 @@ pub fn check_office_run<B: Listing, W: Sink>(
         (λ e. (e ≡ ServeFault.Output) ⊎ (writer.new ≡ writer.old)) }
     ensures fine { OnOk result (W.faults writer.new ≡ W.faults writer.old) }
     ensures output { IsErrOf result ServeFault.Output →
-        HasFailed (W.calls writer.old) (W.calls writer.new) (W.faults writer.old)
-        (W.faults writer.new) }
+        HasFailed (W.calls writer.old) (W.calls writer.new)
+        (W.faults writer.old) (W.faults writer.new) }
 {
     let summary = match summary_of(alloc, book) {
         Ok(summary) => summary,

@@ -45,10 +45,9 @@ pub(crate) fn init_at<R: Source, P: Place>(
     ensures tables { IfErr result.0 (IsToldThere P.Kept.Store (P.opens place)) }
     // The connection is returned, if one was opened.
     ensures back { OnOk result.0 (IsSome result.1) }
-    ensures left { IfErr result.0
-        (λ e.
-        MakesNone P.Kept.Store (P.opens place) (P.refuses place) (R.remaining reader.old)
-        (R.remaining reader.new) e result.1) }
+    ensures left { IfErr result.0 (λ e.
+        MakesNone P.Kept.Store (P.opens place) (P.refuses place)
+        (R.remaining reader.old) (R.remaining reader.new) e result.1) }
 {
     match init_run(alloc, reader, place) {
         Ok(book) => (Ok(()), Some(book.into_connection())),
@@ -97,8 +96,8 @@ fn report_over<B: Listing + Drop, W: Sink>(
         (λ e. (e ≡ ServeFault.Output) ⊎ (writer.new ≡ writer.old)) }
     ensures fine { OnOk result.0 (W.faults writer.new ≡ W.faults writer.old) }
     ensures output { IsErrOf result.0 ServeFault.Output →
-        HasFailed (W.calls writer.old) (W.calls writer.new) (W.faults writer.old)
-        (W.faults writer.new) }
+        HasFailed (W.calls writer.old) (W.calls writer.new)
+        (W.faults writer.old) (W.faults writer.new) }
     ensures which { IfErr result.0 IsWriteFault }
     ensures back { IfNone result.1 (KeepsNone report.entry result.0) }
 {
@@ -118,11 +117,10 @@ pub(crate) fn report_opened<S: Alter + Drop, W: Sink>(
     report: Report<'_>,
     writer: &mut W,
 ) -> Ended<S>
-    ensures reports { OnOk result.0
-        (MatchResult opened
-        (λ book.
-        ReportsFrom ⟦<SqlBook<S> as Book>⟧.shelf book report.entry (W.taken writer.old)
-        (W.taken writer.new)) (λ _. ⊥)) }
+    ensures reports { OnOk result.0 (MatchResult opened
+        (λ book. ReportsFrom ⟦<SqlBook<S> as Book>⟧.shelf book report.entry
+        (W.taken writer.old) (W.taken writer.new))
+        (λ _. ⊥)) }
     ensures ok { OnOk result.0 (IsReported report.entry (W.taken writer.old) (W.taken writer.new)) }
     ensures part { IsErrOf result.0 ServeFault.Output
         → IsReportedInPart report.entry (W.taken writer.old) (W.taken writer.new) }
@@ -131,8 +129,8 @@ pub(crate) fn report_opened<S: Alter + Drop, W: Sink>(
         (λ e. (e ≡ ServeFault.Output) ⊎ (writer.new ≡ writer.old)) }
     ensures fine { OnOk result.0 (W.faults writer.new ≡ W.faults writer.old) }
     ensures output { IsErrOf result.0 ServeFault.Output →
-        HasFailed (W.calls writer.old) (W.calls writer.new) (W.faults writer.old)
-        (W.faults writer.new) }
+        HasFailed (W.calls writer.old) (W.calls writer.new)
+        (W.faults writer.old) (W.faults writer.new) }
     ensures which { IfErr result.0
         (λ told. MatchResult opened (λ _. IsWriteFault told) (λ e. told ≡ fault_of e.0)) }
     ensures back { IfOk opened (λ _. IfNone result.1 (KeepsNone report.entry result.0)) }
@@ -151,9 +149,9 @@ pub(crate) fn serve_opened<S: Alter + Drop>(
     opened: Opened<S>,
     service: &Service<'_>,
 ) -> Ended<S>
-    ensures ok { OnOk result.0
-        (MatchResult opened
-        (λ book. ServesFrom ⟦<SqlBook<S> as Book>⟧.shelf book service.now.count) (λ _. ⊥)) }
+    ensures ok { OnOk result.0 (MatchResult opened
+        (λ book. ServesFrom ⟦<SqlBook<S> as Book>⟧.shelf book service.now.count)
+        (λ _. ⊥)) }
     ensures which { IfErr result.0
         (λ told. MatchResult opened (λ _. IsPortFault told) (λ e. told ≡ fault_of e.0)) }
     ensures back { IfOk opened (λ _. IfNone result.1 (IsErrOf result.0 ServeFault.Memory)) }

@@ -126,10 +126,7 @@ fn add(conns: &mut Vec<Vec<u8>>, conn: Vec<u8>) -> Result<(), ServeFault>
     ensures added { OnOk result (length conns.new.items ≡ length conns.old.items + 1) }
     ensures memory { IfErr result (λ e. e ≡ ServeFault.Memory) }
 {
-    match conns.push(conn) {
-        Ok(()) => Ok(()),
-        Err(_) => Err(ServeFault::Memory),
-    }
+    conns.push(conn).map_err(|_| ServeFault::Memory)
 }
 
 // Reads the bytes of connections, each from a file.
@@ -156,8 +153,8 @@ fn report_at<F: Start, W: Sink>(
     writer: &mut W,
 ) -> Result<(), ServeFault>
     ensures reports { OnOk result
-        (ReportsOnFiles F.Start ⟦<Kept<F> as Store>⟧ report.entry (W.taken writer.old)
-        (W.taken writer.new)) }
+        (ReportsOnFiles F.Start ⟦<Kept<F> as Store>⟧ report.entry
+        (W.taken writer.old) (W.taken writer.new)) }
     ensures ok { OnOk result (IsReported report.entry (W.taken writer.old) (W.taken writer.new)) }
     ensures part { IsErrOf result ServeFault.Output
         → IsReportedInPart report.entry (W.taken writer.old) (W.taken writer.new) }
@@ -165,8 +162,8 @@ fn report_at<F: Start, W: Sink>(
     ensures quiet { IfErr result (λ e. (e ≡ ServeFault.Output) ⊎ (writer.new ≡ writer.old)) }
     ensures fine { OnOk result (W.faults writer.new ≡ W.faults writer.old) }
     ensures output { IsErrOf result ServeFault.Output →
-        HasFailed (W.calls writer.old) (W.calls writer.new) (W.faults writer.old)
-        (W.faults writer.new) }
+        HasFailed (W.calls writer.old) (W.calls writer.new)
+        (W.faults writer.old) (W.faults writer.new) }
     ensures which { IfErr result IsReportFault }
     ensures there { OnOk result (IsThere looked) }
     ensures tables { IfErr result (IsOfTables F.Start ⟦<Kept<F> as Store>⟧ looked) }
@@ -201,8 +198,8 @@ pub fn replay_on_files<W: Sink>(
     ensures quiet { IfErr result (λ e. (e ≡ ServeFault.Output) ⊎ (writer.new ≡ writer.old)) }
     ensures fine { OnOk result (W.faults writer.new ≡ W.faults writer.old) }
     ensures output { IsErrOf result ServeFault.Output →
-        HasFailed (W.calls writer.old) (W.calls writer.new) (W.faults writer.old)
-        (W.faults writer.new) }
+        HasFailed (W.calls writer.old) (W.calls writer.new)
+        (W.faults writer.old) (W.faults writer.new) }
     ensures which { IfErr result IsReplayFault }
     ensures tables { IfErr result
         (IsOfTablesAtName ⟦<Unknown as Start>⟧ ⟦<Kept<Unknown> as Store>⟧) }
@@ -222,8 +219,8 @@ pub fn replay_from<F: Start, W: Sink>(
     writer: &mut W,
 ) -> Result<(), ServeFault>
     ensures replays { OnOk result
-        (ReplaysOnFiles F.Start ⟦<Kept<F> as Store>⟧ (length requests.now) (W.taken writer.old)
-        (W.taken writer.new)) }
+        (ReplaysOnFiles F.Start ⟦<Kept<F> as Store>⟧ (length requests.now)
+        (W.taken writer.old) (W.taken writer.new)) }
     // A response for each file is written, or a part of these responses, or nothing.
     ensures ok { OnOk result
         (AreAnswered (length requests.now) (W.taken writer.old) (W.taken writer.new)) }
@@ -234,8 +231,8 @@ pub fn replay_from<F: Start, W: Sink>(
     ensures quiet { IfErr result (λ e. (e ≡ ServeFault.Output) ⊎ (writer.new ≡ writer.old)) }
     ensures fine { OnOk result (W.faults writer.new ≡ W.faults writer.old) }
     ensures output { IsErrOf result ServeFault.Output →
-        HasFailed (W.calls writer.old) (W.calls writer.new) (W.faults writer.old)
-        (W.faults writer.new) }
+        HasFailed (W.calls writer.old) (W.calls writer.new)
+        (W.faults writer.old) (W.faults writer.new) }
     ensures which { IfErr result IsReplayFault }
     ensures there { OnOk result (IsThere looked) }
     ensures tables { IfErr result (IsOfTables F.Start ⟦<Kept<F> as Store>⟧ looked) }
@@ -256,8 +253,8 @@ pub fn check_office_on_file<W: Sink>(
     writer: &mut W,
 ) -> Result<(), ServeFault>
     ensures checks { OnOk result
-        (ChecksOnFiles ⟦<Unknown as Start>⟧ ⟦<Kept<Unknown> as Store>⟧ (W.taken writer.old)
-        (W.taken writer.new)) }
+        (ChecksOnFiles ⟦<Unknown as Start>⟧ ⟦<Kept<Unknown> as Store>⟧
+        (W.taken writer.old) (W.taken writer.new)) }
     ensures ok { OnOk result (IsPrinted (W.taken writer.old) (W.taken writer.new)) }
     ensures part { IsErrOf result ServeFault.Output
         → IsPrintedInPart (W.taken writer.old) (W.taken writer.new) }
@@ -267,8 +264,8 @@ pub fn check_office_on_file<W: Sink>(
         (λ e. (e ≡ ServeFault.Output) ⊎ (writer.new ≡ writer.old)) }
     ensures fine { OnOk result (W.faults writer.new ≡ W.faults writer.old) }
     ensures output { IsErrOf result ServeFault.Output →
-        HasFailed (W.calls writer.old) (W.calls writer.new) (W.faults writer.old)
-        (W.faults writer.new) }
+        HasFailed (W.calls writer.old) (W.calls writer.new)
+        (W.faults writer.old) (W.faults writer.new) }
     ensures which { IfErr result IsReportFault }
     ensures tables { IfErr result
         (IsOfTablesAtName ⟦<Unknown as Start>⟧ ⟦<Kept<Unknown> as Store>⟧) }
@@ -296,8 +293,8 @@ pub fn check_office_from<F: Start, W: Sink>(
         (λ e. (e ≡ ServeFault.Output) ⊎ (writer.new ≡ writer.old)) }
     ensures fine { OnOk result (W.faults writer.new ≡ W.faults writer.old) }
     ensures output { IsErrOf result ServeFault.Output →
-        HasFailed (W.calls writer.old) (W.calls writer.new) (W.faults writer.old)
-        (W.faults writer.new) }
+        HasFailed (W.calls writer.old) (W.calls writer.new)
+        (W.faults writer.old) (W.faults writer.new) }
     ensures which { IfErr result IsReportFault }
     ensures there { OnOk result (IsThere looked) }
     ensures tables { IfErr result (IsOfTables F.Start ⟦<Kept<F> as Store>⟧ looked) }

@@ -53,8 +53,8 @@ pub fn init_run<R: Source, P: Place>(
     place: P,
 ) -> Result<SqlBook<P::Kept>, (ServeFault, Option<Connection<P::Kept>>)>
     ensures calls { R.calls reader.new ≤ R.calls reader.old + 66 }
-    ensures inits { Inits P.Kept.Store (P.opens place) (P.refuses place) (R.remaining reader.old)
-        (R.remaining reader.new) result }
+    ensures inits { Inits P.Kept.Store (P.opens place) (P.refuses place)
+        (R.remaining reader.old) (R.remaining reader.new) result }
     ensures heard { IfErr result
         (λ e. (e.0 ≡ ServeFault.Input) ⊎ (R.faults reader.new ≡ R.faults reader.old)) }
     ensures input { IfErr result

@@ -1,6 +1,6 @@
 use Rattle.std.proofs.Common.{rules, ◌++◌, arith}
 use Rattle.plan_http.proofs.SendingLemmas.{sent_next}
-use Rattle.plan_http.proofs.sending.send_parts.Goals as goal
+use Rattle.plan_http.proofs.output.send_parts.Goals as goal
 
 pub loop-preserved : goal.loop-preserved
 loop-preserved g c = record {

@@ -1,6 +1,6 @@
 use Rattle.std.proofs.Common.{◌≡◌, ◌+◌, ◌≤◌, ◌++◌, length, take}
 use Rattle.std.specs.Io.KnownBytes.{Appends}
-use Rattle.plan_http.proofs.sending.send_parts.Given as goal
+use Rattle.plan_http.proofs.output.send_parts.Given as goal
 
 -- no call failed, and the sink took the front of both texts
 abbrev pub invariant-loop : goal.invariant-loop
