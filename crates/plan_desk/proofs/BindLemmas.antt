@@ -8,7 +8,7 @@ use Rattle.plan_gantt.specs.CalendarFaultText.{calendar_fault_text_of}
 use Rattle.plan_calendar.specs.declared.calendar.CalendarFault.{CalendarFault}
 use Rattle.plan_rows.specs.declared.kinds.Kind.{Kind}
 use Rattle.plan_rows.specs.declared.kinds.PlanKind.{PlanKind}
-use Rattle.plan_desk.specs.declared.finding.FoundPlan.{FoundPlan}
+use Rattle.plan_desk.specs.declared.lookup.FoundPlan.{FoundPlan}
 use Rattle.plan_rows.specs.World.{Text, Published, takes, code_in}
 use Rattle.plan_rows.specs.Changes.{Keep, BindPlace, SetCalendar, SetLag}
 use Rattle.plan_desk.specs.Calls.{Reply, answer}
@@ -21,9 +21,9 @@ use Rattle.plan_rows.specs.Books.{Matches, IsCapacityAnswer}
 use Rattle.plan_desk.specs.PlanRoutes.{of_plan, Binds, Calendars, SetsLag}
 use Rattle.plan_desk.specs.Refusals.{not_found, bad_body, bad_calendar}
 use Rattle.plan_desk.specs.RouteRefusals.{bind_refusal_of, lag_refusal_of}
-use Rattle.plan_desk.specs.Finding.{IsNumbered}
+use Rattle.plan_desk.specs.Lookup.{IsNumbered}
 use Rattle.plan_desk.specs.FoundFiles.{RowHasPlaces, IsProjectOfRow}
-use Rattle.plan_desk.proofs.RefusedLemmas.{given_there, kind_bound, binds_refused, binds_made, IsProjectIn, not_none, sets_lag_refused, sets_lag_made}
+use Rattle.plan_desk.proofs.RefusedLemmas.{given_there, binds_refused, binds_made, IsProjectIn, not_none, sets_lag_refused, sets_lag_made}
 use Rattle.plan_desk.proofs.RouteLemmas.{given_nothing}
 use Rattle.plan_desk.proofs.FoundFileLemmas.{places_of_row}
 
@@ -78,17 +78,16 @@ project_in v text found is None shop = sym is.answer.kind ∙ shop
 project_in v text found is (Some p) said = (sym is.answer.kind ∙ said.0, subst (λ (t : Text). SaysProject t p) is.answer.body said.1)
 
 pub sets_lag_not : (v : View) (text body : Text) (found : FoundPlan) (project : Option Project) (b : LagBody) (reply : Reply) → IsNumbered v text found
-    → IsProjectOfRow found.plan project → lag_body body ≡ Some b → lag_refusal_of (Some b) project ≡ Some reply → SetsLag v text body reply Keep
+    → IsProjectOfRow found.plan project → lag_body body ≡ Some b → lag_refusal_of b project ≡ Some reply → SetsLag v text body reply Keep
 sets_lag_not v text body found project b reply is of says refused =
-    sets_lag_refused v is.row project text body reply is.seen (project_in v text found is project of)
-    (subst (λ (o : Option LagBody). lag_refusal_of o project ≡ Some reply) (sym says) refused)
+    sets_lag_refused v is.row project text body b reply is.seen (project_in v text found is project of) says refused
 
 pub sets_lag_so : (v : View) (text body : Text) (found : FoundPlan) (project : Option Project) (b : LagBody) → IsNumbered v text found
-    → IsProjectOfRow found.plan project → lag_body body ≡ Some b → lag_refusal_of (Some b) project ≡ None
-    → SetsLag v text body (answer 200 (lag_text b.source b.target b.lag)) (SetLag found.n b.source b.target b.lag)
+    → IsProjectOfRow found.plan project → lag_body body ≡ Some b → lag_refusal_of b project ≡ None
+    → SetsLag v text body (answer 200 (lag_text b.from b.to b.lag)) (SetLag found.n b.from b.to b.lag)
 sets_lag_so v text body found None b is of says passed = absurd (not_none _ passed)
 sets_lag_so v text body found (Some p) b is of says passed =
-    subst (λ (n : ℕ). SetsLag v text body (answer 200 (lag_text b.source b.target b.lag)) (SetLag n b.source b.target b.lag)) is.number
+    subst (λ (n : ℕ). SetsLag v text body (answer 200 (lag_text b.from b.to b.lag)) (SetLag n b.from b.to b.lag)) is.number
     (sets_lag_made v is.row p text body b is.seen (project_in v text found is (Some p) of) says passed)
 
 -- ---- a bind
@@ -106,43 +105,46 @@ kind_answered (Some code) None h = absurd h
 kind_answered (Some code) (Some x) h = ap Some (sym h.kind)
 
 -- what is judged by the kinds that two functions give
-pub judged_so : (b : BindBody) (published known : Option Kind) (kind taken : Kind) (o : Option Reply) → published ≡ known → kind ≡ taken
-    → bind_refusal_of (Some b) published kind ≡ o → bind_refusal_of (Some b) known taken ≡ o
-judged_so b published known kind taken o same alike e =
-    subst (λ (k : Kind). bind_refusal_of (Some b) known k ≡ o) alike (subst (λ (p : Option Kind). bind_refusal_of (Some b) p kind ≡ o) same e)
+pub judged_so : (published known : Option Kind) (kind taken : Kind) (o : Option Reply) → published ≡ known → kind ≡ taken
+    → bind_refusal_of published kind ≡ o → bind_refusal_of known taken ≡ o
+judged_so published known kind taken o same alike e =
+    subst (λ (k : Kind). bind_refusal_of known k ≡ o) alike (subst (λ (p : Option Kind). bind_refusal_of p kind ≡ o) same e)
 
 pub binds_nothing : (v : View) (text body : Text) (found : FoundPlan) (count : ℕ) → IsNumbered v text found → RowHasPlaces found.plan count
     → bind_body (is_place found.plan.kind count) body ≡ None → Binds v text body bad_body Keep
+unfolding Binds of_plan some
 binds_nothing v text body found count is has none =
-    binds_refused v is.row text body count bad_body is.seen (places_of_row v text found is count has)
-    (subst (λ (o : Option BindBody). bind_refusal_of o (kind_bound v.published o) (takes is.row.kind) ≡ Some bad_body)
-    (sym (subst (λ (k : PlanKind). bind_body (is_place k count) body ≡ None) is.answer.kind none)) refl)
+    given_there (plan_seen v text) is.row not_found _ _ _ is.seen (
+      count,
+      places_of_row v text found is count has,
+      given_nothing (bind_body (is_place is.row.kind count) body) bad_body _
+          (subst (λ (k : PlanKind). bind_body (is_place k count) body ≡ None) is.answer.kind none),
+    )
 
 -- what is refused, by the tables
 refusal_there : (v : View) (code : Text) (kind other : PlanKind) (b : BindBody) (row : Option (Kind × ℕ)) (o : Option Reply) → kind ≡ other → code ≡ b.code
     → Matches IsCapacityAnswer (code_in v.published code) row
-    → bind_refusal_of (Some b) (option_map (λ (known : Kind × ℕ). known.0) row) (takes kind) ≡ o
-    → bind_refusal_of (Some b) (option_map (λ (found : Published). found.kind) (code_in v.published b.code)) (takes other) ≡ o
+    → bind_refusal_of (option_map (λ (known : Kind × ℕ). known.0) row) (takes kind) ≡ o
+    → bind_refusal_of (option_map (λ (found : Published). found.kind) (code_in v.published b.code)) (takes other) ≡ o
 refusal_there v code kind other b row o alike same answered refused =
     let known = kind_answered (code_in v.published code) row answered in
-    subst (λ (k : PlanKind). bind_refusal_of (Some b) (option_map (λ (found : Published). found.kind) (code_in v.published b.code)) (takes k) ≡ o) alike
-    (subst (λ (t : Text). bind_refusal_of (Some b) (option_map (λ (found : Published). found.kind) (code_in v.published t)) (takes kind) ≡ o) same
-    (subst (λ (published : Option Kind). bind_refusal_of (Some b) published (takes kind) ≡ o) (sym known) refused))
+    subst (λ (k : PlanKind). bind_refusal_of (option_map (λ (found : Published). found.kind) (code_in v.published b.code)) (takes k) ≡ o) alike
+    (subst (λ (t : Text). bind_refusal_of (option_map (λ (found : Published). found.kind) (code_in v.published t)) (takes kind) ≡ o) same
+    (subst (λ (published : Option Kind). bind_refusal_of published (takes kind) ≡ o) (sym known) refused))
 
 pub binds_not : (v : View) (text body code : Text) (found : FoundPlan) (count : ℕ) (b : BindBody) (row : Option (Kind × ℕ)) (reply : Reply) → IsNumbered v text found
     → RowHasPlaces found.plan count → bind_body (is_place found.plan.kind count) body ≡ Some b → code ≡ b.code
     → Matches IsCapacityAnswer (code_in v.published code) row
-    → bind_refusal_of (Some b) (option_map (λ (known : Kind × ℕ). known.0) row) (takes found.plan.kind) ≡ Some reply → Binds v text body reply Keep
+    → bind_refusal_of (option_map (λ (known : Kind × ℕ). known.0) row) (takes found.plan.kind) ≡ Some reply → Binds v text body reply Keep
 binds_not v text body code found count b row reply is has says same answered refused =
-    binds_refused v is.row text body count reply is.seen (places_of_row v text found is count has)
-    (subst (λ (o : Option BindBody). bind_refusal_of o (kind_bound v.published o) (takes is.row.kind) ≡ Some reply)
-    (sym (subst (λ (k : PlanKind). bind_body (is_place k count) body ≡ Some b) is.answer.kind says))
-    (refusal_there v code found.plan.kind is.row.kind b row (Some reply) is.answer.kind same answered refused))
+    binds_refused v is.row text body count b reply is.seen (places_of_row v text found is count has)
+    (subst (λ (k : PlanKind). bind_body (is_place k count) body ≡ Some b) is.answer.kind says)
+    (refusal_there v code found.plan.kind is.row.kind b row (Some reply) is.answer.kind same answered refused)
 
 pub binds_so : (v : View) (text body code : Text) (found : FoundPlan) (count : ℕ) (b : BindBody) (row : Option (Kind × ℕ)) → IsNumbered v text found
     → RowHasPlaces found.plan count → bind_body (is_place found.plan.kind count) body ≡ Some b → code ≡ b.code
     → Matches IsCapacityAnswer (code_in v.published code) row
-    → bind_refusal_of (Some b) (option_map (λ (known : Kind × ℕ). known.0) row) (takes found.plan.kind) ≡ None
+    → bind_refusal_of (option_map (λ (known : Kind × ℕ). known.0) row) (takes found.plan.kind) ≡ None
     → Binds v text body (answer 200 (bind_text b.code b.place)) (BindPlace found.n b.place b.code)
 binds_so v text body code found count b row is has says same answered passed =
     subst (λ (n : ℕ). Binds v text body (answer 200 (bind_text b.code b.place)) (BindPlace n b.place b.code)) is.number

@@ -12,14 +12,14 @@ use Rattle.std.specs.Global.{Global}
 use Rattle.plan_desk.specs.Pages.{bound_in, IsBound}
 use Rattle.plan_rows.specs.declared.fault.BookFault.{BookFault}
 use Rattle.plan_rows.specs.declared.fault.BookFault.TheVariants.{NoMemory, Store}
-use Rattle.plan_desk.specs.declared.finding.FoundPlan.{FoundPlan}
+use Rattle.plan_desk.specs.declared.lookup.FoundPlan.{FoundPlan}
 use Rattle.plan_rows.specs.declared.rows.PlanRow.{PlanRow}
 use Rattle.plan_rows.specs.World.{Text, Published, Plan, World}
 use Rattle.plan_rows.specs.Views.{View}
 use Rattle.plan_rows.specs.Plans.{plan_number, plan_seen, has_number}
 use Rattle.plan_rows.specs.Books.{Shelf, MoreFaults, Reads, Matches, IsPlanAnswer, bind_in}
-use Rattle.plan_desk.specs.Finding.{IsNumbered, with_capacity_of, HasCapacities}
-use Rattle.plan_desk.specs.Deciding.{Quiet, Finds, Knows}
+use Rattle.plan_desk.specs.Lookup.{IsNumbered, with_capacity_of, HasCapacities}
+use Rattle.plan_desk.specs.BookSteps.{Quiet, Finds, Knows}
 use Rattle.plan_rows.proofs.RuleLemmas.{found_has}
 
 module _ {B : Type 0} (shelf : Shelf B) where
@@ -93,18 +93,6 @@ module _ {B : Type 0} (shelf : Shelf B) where
   pub known_then : {Y : Type 0} (Is : World → Y → Type 0) (a b : B) (y : Y) → Finds shelf a b Is (Ok y) → Knows shelf b (λ w. Is w y)
   known_then Is a b y f h s = subst (λ w. Is w y) (sym (f.quiet.same h s)) (f.found h (f.quiet.stood h s)).1
 
-  -- a read that failed
-  pub failed_by : {X Y : Type 0} (Is : World → Y → Type 0) (P : X → Type 0) (a b : B) (fault : BookFault) → Reads shelf a b (Err fault) P
-      → Finds shelf a b Is (Err fault)
-  failed_by Is P a b fault r = record {
-    quiet = quiet_reads a b _ P r;
-    found = tt;
-    blamed = λ is h s. r.store is;
-    told = tt;
-    wanted = r.wanted;
-    denied = λ is h s. r.denied is;
-  }
-
   -- want of memory between two calls
   pub failed_here : {Y : Type 0} (Is : World → Y → Type 0) (a b : B) → Quiet shelf a b → shelf.denials b ≡ shelf.denials a → Finds shelf a b Is (Err NoMemory)
   failed_here Is a b q told = record {
@@ -122,12 +110,6 @@ module _ {B : Type 0} (shelf : Shelf B) where
 
       memory_is_no_store : NoMemory ≡ Store → ⊥
       memory_is_no_store e = absurd (subst IsMemory e tt)
-
-  -- the same where the fault is handed on
-  pub failed_as : {X Y : Type 0} (Is : World → Y → Type 0) (P : X → Type 0) (a b : B) (fault : BookFault) (result : Result Y BookFault) → Reads shelf a b (Err fault) P
-      → IsErr result × IsErrAnd result (λ handed. handed ≡ fault) → Finds shelf a b Is result
-  failed_as Is P a b fault (Ok y) r h = absurd h.1
-  failed_as Is P a b fault (Err handed) r h = subst (λ f. Finds shelf a b Is (Err f)) (sym h.1) (failed_by Is P a b fault r)
 
   pub short_of_memory : {Y : Type 0} (Is : World → Y → Type 0) (a b : B) (result : Result Y BookFault) → Quiet shelf a b → shelf.denials b ≡ shelf.denials a
       → IsErr result × IsErrAnd result (λ handed. handed ≡ NoMemory) → Finds shelf a b Is result
@@ -194,12 +176,6 @@ module _ {B : Type 0} (shelf : Shelf B) where
     wanted = tt;
     denied = tt;
   }
-
-  -- what is found means another thing
-  pub found_so : {X : Type 0} (Is And : World → X → Type 0) (a b : B) (result : Result X BookFault)
-      → Finds shelf a b Is result → ((w : World) (x : X) → Is w x → And w x) → Finds shelf a b And result
-  found_so Is And a b (Ok x) f then = found_other Is And a b x x f (λ w is. then w x is)
-  found_so Is And a b (Err fault) f then = record { quiet = f.quiet; found = tt; blamed = f.blamed; told = tt; wanted = f.wanted; denied = f.denied }
 
   -- what isn't found
   pub lost : {X Y : Type 0} (Is : World → X → Type 0) (And : World → Y → Type 0) (a b : B) (fault : BookFault) (result : Result Y BookFault)

@@ -302,7 +302,7 @@ unfolding calendar_body is_utf8 chars serde_json_on_literals
 calendar_read = refl
 
 -- a lag of 4 from activity 2 to activity 3
-lag_read : lag_body (codes "{\"from\":2,\"to\":3,\"lag\":4}") ≡ Some (record { source = 2; target = 3; lag = 4 })
+lag_read : lag_body (codes "{\"from\":2,\"to\":3,\"lag\":4}") ≡ Some (record { from = 2; to = 3; lag = 4 })
 unfolding lag_body is_utf8 chars serde_json_on_literals
 lag_read = refl
 

@@ -29,7 +29,7 @@ use Rattle.plan_rows.specs.Plans.{has_arc}
 use Rattle.plan_desk.specs.PageRoutes.{Dates, OfSchedule, OfShopSchedule, Schedules, Charts, OfCalendar, Days}
 use Rattle.plan_desk.specs.BestRoutes.{OfProjectBest, OfShopBest, Best}
 use Rattle.plan_rows.specs.declared.kinds.Kind.TheVariants as codes_of
-use Rattle.plan_desk.specs.Deciding.{HasRows, Allows}
+use Rattle.plan_desk.specs.BookSteps.{HasRows, Allows}
 use Rattle.plan_desk.specs.Decisions.{Answers, IsDecision, IsStep}
 use Rattle.plan_rows.specs.Rules.{IsThereAnd, HasName, IsWorld}
 use Rattle.plan_desk.specs.Laws.{StepsKeepRules}
@@ -320,7 +320,7 @@ fit_sets_lag : (s : Text) (w : World) (n body : Text) → IsFit s w (SetsLag (vi
 unfolding SetsLag
 fit_sets_lag s w n body =
     fit_of_plan s w _ _ _ (λ plan seen. fit_given s w _ _ _ (λ b e. fit_by_kind s w _ _ _
-    (λ kind. fit_some s w _ _ (λ p says. fit_unless s w _ _ _ (λ arc. fit_makes s w _ _ _ ((subst (λ o. IsThereAnd o (λ found. (found.kind ≡ kinds.Project) × ((q : Project) × SaysProject found.body q × (has_arc q.network b.source b.target ≡ true)))) (sym (seen_there s w n plan seen)) (kind, (p, says, not-false (has_arc p.network b.source b.target) arc)), lag_says body b e), some_there (plan_in w s plan.n) plan (seen_there s w n plan seen)))))
+    (λ kind. fit_some s w _ _ (λ p says. fit_unless s w _ _ _ (λ arc. fit_makes s w _ _ _ ((subst (λ o. IsThereAnd o (λ found. (found.kind ≡ kinds.Project) × ((q : Project) × SaysProject found.body q × (has_arc q.network b.from b.to ≡ true)))) (sym (seen_there s w n plan seen)) (kind, (p, says, not-false (has_arc p.network b.from b.to) arc)), lag_says body b e), some_there (plan_in w s plan.n) plan (seen_there s w n plan seen)))))
     (λ kind. fit_refuses s w _)))
 
 fit_dates : (s : Text) (w : World) (n : Text) → IsFit s w (Dates (view s w) n)

@@ -6,16 +6,16 @@ use Rattle.plan_rows.specs.declared.kinds.PlanKind.{PlanKind}
 use Rattle.plan_rows.specs.declared.kinds.PlanKind.TheVariants as kinds
 use Rattle.plan_rows.specs.declared.fault.BookFault.{BookFault}
 use Rattle.plan_rows.specs.declared.fault.BookFault.TheVariants.{Store}
-use Rattle.plan_desk.specs.declared.finding.FoundPlan.{FoundPlan}
+use Rattle.plan_desk.specs.declared.lookup.FoundPlan.{FoundPlan}
 use Rattle.plan_rows.specs.declared.rows.PlanRow.{PlanRow}
 use Rattle.plan_rows.specs.World.{Text, World, is_plan}
 use Rattle.plan_rows.specs.Views.{View, view}
 use Rattle.plan_rows.specs.Plans.{HasPlaces}
 use Rattle.plan_rows.specs.Rules.{IsWorld, IsPlanRow}
 use Rattle.plan_rows.specs.Books.{Shelf}
-use Rattle.plan_desk.specs.Finding.{IsNumbered, FindsPlan}
+use Rattle.plan_desk.specs.Lookup.{IsNumbered, FindsPlan}
 use Rattle.plan_desk.specs.FoundFiles.{RowHasPlaces}
-use Rattle.plan_desk.specs.Deciding.{Finds}
+use Rattle.plan_desk.specs.BookSteps.{Finds}
 use Rattle.plan_desk.proofs.FitLemmas.{seen_there}
 use Rattle.plan_rows.proofs.RuleLemmas.{found_has}
 

@@ -13,7 +13,7 @@ use Rattle.plan_desk.specs.Stories.{IsWant, belongs}
 use Rattle.plan_desk.specs.Decisions.{IsDecision, IsStep, IsRealStep}
 use Rattle.plan_rows.specs.Books.{Shelf, Writes}
 use Rattle.plan_desk.specs.Replies.{reply_of}
-use Rattle.plan_desk.specs.Deciding.{Quiet, Finds, CarriesOut, Handled, IsDecided, Allows, change_in, owner_of, want_of}
+use Rattle.plan_desk.specs.BookSteps.{Quiet, Finds, CarriesOut, Handled, IsDecided, Allows, change_in, owner_of, want_of}
 use Rattle.plan_rows.specs.Rules.{IsWorld}
 use Rattle.plan_desk.proofs.FitLemmas.{decision_allows}
 use Rattle.plan_desk.proofs.DecidingLemmas.{Closes, closes_then, quiet_then}

@@ -10,7 +10,7 @@ use Rattle.plan_desk.specs.Calls.{Request, Reply, no_key, admits}
 use Rattle.plan_desk.specs.Stories.{decided}
 use Rattle.plan_desk.specs.Decisions.{Answers, IsDecision}
 use Rattle.plan_desk.specs.Replies.{reply_of}
-use Rattle.plan_desk.specs.Deciding.{IsDecided}
+use Rattle.plan_desk.specs.BookSteps.{IsDecided}
 use Rattle.plan_desk.proofs.RouteLemmas.{decides_kept}
 
 admitted : (v : View) (r : Request) (reply : Reply) (c : Change) → admits v r ≡ true → Answers v r.call reply c → IsDecision v r reply c

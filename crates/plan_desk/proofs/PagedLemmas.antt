@@ -5,7 +5,7 @@ use Rattle.plan_rows.specs.declared.fault.BookFault.{BookFault}
 use Rattle.plan_desk.specs.declared.reply.Reply as whole
 use Rattle.plan_desk.specs.declared.change.Change.TheVariants as made
 use Rattle.plan_desk.specs.declared.change.Decision.{Decision}
-use Rattle.plan_desk.specs.declared.finding.FoundPlan.{FoundPlan}
+use Rattle.plan_desk.specs.declared.lookup.FoundPlan.{FoundPlan}
 use Rattle.plan_desk.specs.declared.pages.by_rule.RulePage.{RulePage}
 use Rattle.plan_desk.specs.declared.pages.by_rule.RulePage.TheVariants as rule_page
 use Rattle.plan_rows.specs.World.{Text, World}
@@ -23,8 +23,8 @@ use Rattle.plan_desk.specs.RulePages.{ByRule}
 use Rattle.plan_desk.specs.Replies.{reply_of}
 use Rattle.plan_rows.specs.Books.{Shelf}
 use Rattle.plan_desk.specs.Pages.{MakesPage, IsFound}
-use Rattle.plan_desk.specs.Finding.{IsNumbered}
-use Rattle.plan_desk.specs.Deciding.{Finds, IsDecided}
+use Rattle.plan_desk.specs.Lookup.{IsNumbered}
+use Rattle.plan_desk.specs.BookSteps.{Finds, IsDecided}
 use Rattle.plan_desk.proofs.DecidingLemmas.{found_other}
 use Rattle.plan_desk.proofs.RouteLemmas.{decides_kept, given_nothing}
 use Rattle.plan_desk.proofs.AloneLemmas.{alone_keeps_rules}

@@ -1,6 +1,6 @@
 -- What the functions of values refuse is what the routes answer.
 use Rattle.std.proofs.Common.{◌≡◌, inl, inr, ℕ, Bool, true, false, Option, Some, None, List, length, refl, sym, ap, subst}
-use Rattle.std.specs.Prelude.{option_map, option_and_then, unwrap_or, is_some, not, if◌then◌else◌, nat_le}
+use Rattle.std.specs.Prelude.{option_map, unwrap_or, is_some, not, if◌then◌else◌, nat_le}
 use Rattle.std.proofs.lemmas.Bool.{both_ways, lt-leb, le-leb}
 use Rattle.plan_rows.specs.declared.kinds.Kind.{Kind}
 use Rattle.plan_rows.specs.declared.kinds.PlanKind.{PlanKind}
@@ -96,32 +96,26 @@ unfolding unless
 test_passed true r Rest reply c e rest = rest
 test_passed false r Rest reply c e rest = absurd (not_none r e)
 
-code_refused : (b : BindBody) (code : Option Published) (kind : Kind) (Rest : Outcome) (reply : Reply)
-    → bind_refusal_of (Some b) (option_map (λ (row : Published). row.kind) code) kind ≡ Some reply
+code_refused : (code : Option Published) (kind : Kind) (Rest : Outcome) (reply : Reply)
+    → bind_refusal_of (option_map (λ (row : Published). row.kind) code) kind ≡ Some reply
     → unless (not (is_some code)) unpublished (unless (is_other_kind kind code) kind_differs Rest) reply Keep
 unfolding unless refuses
-code_refused b None kind Rest reply e = (sym (same_reply _ _ e), refl)
-code_refused b (Some row) kind Rest reply e = test_refused (same_kind row.kind kind) kind_differs Rest reply e
+code_refused None kind Rest reply e = (sym (same_reply _ _ e), refl)
+code_refused (Some row) kind Rest reply e = test_refused (same_kind row.kind kind) kind_differs Rest reply e
 
--- the kind of the code that a body binds, where it is published
-abbrev pub kind_bound : List Published → Option BindBody → Option Kind
-kind_bound rows o = option_and_then (λ (b : BindBody). option_map (λ (row : Published). row.kind) (code_in rows b.code)) o
-
-body_refused : (o : Option BindBody) (rows : List Published) (kind : Kind) (Rest : BindBody → Outcome) (reply : Reply)
-    → bind_refusal_of o (kind_bound rows o) kind ≡ Some reply
-    → given o bad_body (λ b. unless (not (is_some (code_in rows b.code))) unpublished (unless (is_other_kind kind (code_in rows b.code)) kind_differs (Rest b))) reply Keep
-unfolding given refuses
-body_refused None rows kind Rest reply e = (sym (same_reply _ _ e), refl)
-body_refused (Some b) rows kind Rest reply e = code_refused b (code_in rows b.code) kind (Rest b) reply e
-
--- what is refused of a bind is what the desk is answered
-pub binds_refused : (v : View) (plan : Plan) (n body : Text) (count : ℕ) (reply : Reply) → plan_seen v n ≡ Some plan → HasPlaces plan.kind plan.name plan.body count
-    → bind_refusal_of (bind_body (is_place plan.kind count) body) (kind_bound v.published (bind_body (is_place plan.kind count) body)) (takes plan.kind) ≡ Some reply
+-- the refusal of a bind is the reply to the desk
+pub binds_refused : (v : View) (plan : Plan) (n body : Text) (count : ℕ) (b : BindBody) (reply : Reply) → plan_seen v n ≡ Some plan
+    → HasPlaces plan.kind plan.name plan.body count → bind_body (is_place plan.kind count) body ≡ Some b
+    → bind_refusal_of (option_map (λ (row : Published). row.kind) (code_in v.published b.code)) (takes plan.kind) ≡ Some reply
     → Binds v n body reply Keep
 unfolding Binds of_plan some
-binds_refused v plan n body count reply there has e =
-    given_there (plan_seen v n) plan not_found _ reply Keep there
-    (count, has, body_refused (bind_body (is_place plan.kind count) body) v.published (takes plan.kind) _ reply e)
+binds_refused v plan n body count b reply there has says e =
+    given_there (plan_seen v n) plan not_found _ reply Keep there (
+      count,
+      has,
+      given_there (bind_body (is_place plan.kind count) body) b bad_body _ reply Keep says
+          (code_refused (code_in v.published b.code) (takes plan.kind) _ reply e),
+    )
 
 -- the project of a plan, unless the plan is a shop
 abbrev pub IsProjectIn : Plan → Option Project → Type 0
@@ -132,35 +126,35 @@ pub of_kind : (kind other : PlanKind) (OfProject OfShop : Outcome) (reply : Repl
     → by_kind other OfProject OfShop reply c
 of_kind kind other OfProject OfShop reply c is h = subst (λ (k : PlanKind). by_kind k OfProject OfShop reply c) (sym is) h
 
-lag_refused : (o : Option LagBody) (plan : Plan) (project : Option Project) (Rest : LagBody → Project → Outcome) (reply : Reply) → IsProjectIn plan project
-    → lag_refusal_of o project ≡ Some reply
-    → given o bad_body (λ b. by_kind plan.kind
-    (some (SaysProject plan.body) (λ p. unless (not (has_arc p.network b.source b.target)) bad_body (Rest b p))) (refuses other_kind)) reply Keep
-unfolding given refuses by_kind some
-lag_refused None plan project Rest reply is e = (sym (same_reply _ _ e), refl)
-lag_refused (Some b) plan None Rest reply is e = of_kind kinds.Shop plan.kind _ _ reply Keep is (sym (same_reply _ _ e), refl)
-lag_refused (Some b) plan (Some p) Rest reply is e =
+lag_refused : (b : LagBody) (plan : Plan) (project : Option Project) (Rest : Project → Outcome) (reply : Reply) → IsProjectIn plan project
+    → lag_refusal_of b project ≡ Some reply
+    → by_kind plan.kind
+    (some (SaysProject plan.body) (λ p. unless (not (has_arc p.network b.from b.to)) bad_body (Rest p))) (refuses other_kind) reply Keep
+unfolding refuses by_kind some
+lag_refused b plan None Rest reply is e = of_kind kinds.Shop plan.kind _ _ reply Keep is (sym (same_reply _ _ e), refl)
+lag_refused b plan (Some p) Rest reply is e =
     of_kind kinds.Project plan.kind _ _ reply Keep is.0
-    (p, is.1, test_refused (has_arc p.network b.source b.target) bad_body (Rest b p) reply e)
+    (p, is.1, test_refused (has_arc p.network b.from b.to) bad_body (Rest p) reply e)
 
--- what is refused of a lag is what the desk is answered
-pub sets_lag_refused : (v : View) (plan : Plan) (project : Option Project) (n body : Text) (reply : Reply) → plan_seen v n ≡ Some plan → IsProjectIn plan project
-    → lag_refusal_of (lag_body body) project ≡ Some reply → SetsLag v n body reply Keep
+-- the refusal of a lag is the reply to the desk
+pub sets_lag_refused : (v : View) (plan : Plan) (project : Option Project) (n body : Text) (b : LagBody) (reply : Reply) → plan_seen v n ≡ Some plan
+    → IsProjectIn plan project → lag_body body ≡ Some b → lag_refusal_of b project ≡ Some reply → SetsLag v n body reply Keep
 unfolding SetsLag of_plan
-sets_lag_refused v plan project n body reply there is e =
-    given_there (plan_seen v n) plan not_found _ reply Keep there (lag_refused (lag_body body) plan project _ reply is e)
+sets_lag_refused v plan project n body b reply there is says e =
+    given_there (plan_seen v n) plan not_found _ reply Keep there
+    (given_there (lag_body body) b bad_body _ reply Keep says (lag_refused b plan project _ reply is e))
 
-code_passed : (b : BindBody) (code : Option Published) (kind : Kind) (Rest : Outcome) (reply : Reply) (c : Change)
-    → bind_refusal_of (Some b) (option_map (λ (row : Published). row.kind) code) kind ≡ None → Rest reply c
+code_passed : (code : Option Published) (kind : Kind) (Rest : Outcome) (reply : Reply) (c : Change)
+    → bind_refusal_of (option_map (λ (row : Published). row.kind) code) kind ≡ None → Rest reply c
     → unless (not (is_some code)) unpublished (unless (is_other_kind kind code) kind_differs Rest) reply c
 unfolding unless
-code_passed b None kind Rest reply c e rest = absurd (not_none _ e)
-code_passed b (Some row) kind Rest reply c e rest = test_passed (same_kind row.kind kind) kind_differs Rest reply c e rest
+code_passed None kind Rest reply c e rest = absurd (not_none _ e)
+code_passed (Some row) kind Rest reply c e rest = test_passed (same_kind row.kind kind) kind_differs Rest reply c e rest
 
 -- a bind of which nothing is refused is made
 pub binds_made : (v : View) (plan : Plan) (n body : Text) (count : ℕ) (b : BindBody) → plan_seen v n ≡ Some plan
     → HasPlaces plan.kind plan.name plan.body count → bind_body (is_place plan.kind count) body ≡ Some b
-    → bind_refusal_of (Some b) (option_map (λ (row : Published). row.kind) (code_in v.published b.code)) (takes plan.kind) ≡ None
+    → bind_refusal_of (option_map (λ (row : Published). row.kind) (code_in v.published b.code)) (takes plan.kind) ≡ None
     → Binds v n body (answer 200 (bind_text b.code b.place)) (BindPlace plan.n b.place b.code)
 unfolding Binds of_plan some makes
 binds_made v plan n body count b there has says e =
@@ -168,16 +162,16 @@ binds_made v plan n body count b there has says e =
       count,
       has,
       given_there (bind_body (is_place plan.kind count) body) b bad_body _ _ _ says
-          (code_passed b (code_in v.published b.code) (takes plan.kind) _ _ _ e (refl, refl)),
+          (code_passed (code_in v.published b.code) (takes plan.kind) _ _ _ e (refl, refl)),
     )
 
 -- a lag of which nothing is refused is set
 pub sets_lag_made : (v : View) (plan : Plan) (p : Project) (n body : Text) (b : LagBody) → plan_seen v n ≡ Some plan → IsProjectIn plan (Some p)
-    → lag_body body ≡ Some b → lag_refusal_of (Some b) (Some p) ≡ None
-    → SetsLag v n body (answer 200 (lag_text b.source b.target b.lag)) (SetLag plan.n b.source b.target b.lag)
+    → lag_body body ≡ Some b → lag_refusal_of b (Some p) ≡ None
+    → SetsLag v n body (answer 200 (lag_text b.from b.to b.lag)) (SetLag plan.n b.from b.to b.lag)
 unfolding SetsLag of_plan by_kind some makes
 sets_lag_made v plan p n body b there is says e =
     given_there (plan_seen v n) plan not_found _ _ _ there
     (given_there (lag_body body) b bad_body _ _ _ says
     (of_kind kinds.Project plan.kind _ _ _ _ is.0
-    (p, is.1, test_passed (has_arc p.network b.source b.target) bad_body _ _ _ e (refl, refl))))
+    (p, is.1, test_passed (has_arc p.network b.from b.to) bad_body _ _ _ e (refl, refl))))

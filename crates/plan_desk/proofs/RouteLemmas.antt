@@ -23,7 +23,7 @@ use Rattle.plan_desk.specs.PlanRoutes.{of_plan, Removes}
 use Rattle.plan_desk.specs.JsonTexts.{code_text, desk_text, number_text}
 use Rattle.plan_desk.specs.Refusals.{not_found, bad_body, desk_exists, kind_differs}
 use Rattle.plan_desk.specs.Replies.{reply_of}
-use Rattle.plan_desk.specs.Deciding.{IsDecided, change_in, owner_of}
+use Rattle.plan_desk.specs.BookSteps.{IsDecided, change_in, owner_of}
 use Rattle.plan_rows.specs.declared.rows.DeskRow.{DeskRow}
 use Rattle.plan_rows.specs.Books.{Matches, IsDeskAnswer}
 use Rattle.plan_desk.proofs.FitLemmas.{desk_says}

@@ -17,7 +17,7 @@ use Rattle.plan_desk.specs.PlanRoutes.{of_plan, by_kind, Imports, ImportsProject
 use Rattle.plan_desk.specs.PageRoutes.{Dates, OfSchedule, OfShopSchedule, Schedules, Charts, OfCalendar, Days}
 use Rattle.plan_desk.specs.BestRoutes.{OfProjectBest, OfShopBest, Best}
 use Rattle.plan_desk.specs.Decisions.{Answers, IsDecision}
-use Rattle.plan_desk.specs.Deciding.{want_of}
+use Rattle.plan_desk.specs.BookSteps.{want_of}
 
 -- a change that changes something
 abbrev pub IsMade : Change → Type 0

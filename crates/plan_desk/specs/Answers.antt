@@ -11,7 +11,7 @@ text_of_code row = code_text (string_bytes row.code) row.kind row.capacity
 abbrev pub text_of_entry : PlanEntry → Text
 text_of_entry row = plan_text row.n row.kind
 
--- what stands before a text of a list, by how many come before it
+-- the text before an element of a list, by the number of elements before it
 abbrev pub comma_before : ℕ → Text
 comma_before zero = []
 comma_before (suc n) = codes ","

@@ -1,4 +1,4 @@
--- Best schedules of plans as a book answers them, for private clauses alone (docs/definitions.md,
+-- Best schedules of the plans that a book returns, for private clauses only (docs/definitions.md,
 -- "Books").
 use Rattle.std.specs.Prelude.{◌≡◌, ◌⊎◌, Bool, List}
 use Rattle.plan_psplib.specs.Project.{Project}
@@ -13,11 +13,11 @@ use Rattle.plan_rows.specs.Plans.{IsShopOf}
 use Rattle.plan_desk.specs.BestRoutes.{TellsNoShopBest}
 use Rattle.plan_desk.specs.PlanValues.{IsProjectIn, row_in, planned_in, open_in}
 
--- a text tells the best schedule of a shop of which all machines in use are open
+-- a text shows the best schedule of a shop whose machines in use are all open
 abbrev pub IsOpenBest : Text → JobShop → List Bool → Text → Type 0
 IsOpenBest word s usable text = NoneIsClosed s.steps usable × IsBestTextOf word s text
 
--- a text tells the best schedule of a plan within the budget that a word spells
+-- a text shows the best schedule of a plan within the budget that another text spells
 abbrev pub IsBestOf : BoundPlan → Text → Text → Type 0
 IsBestOf bound word text =
     ((bound.plan.kind ≡ kinds.Project)
@@ -26,7 +26,7 @@ IsBestOf bound word text =
     ⊎ ((bound.plan.kind ≡ kinds.Shop)
     × ((s : JobShop) × IsShopOf (row_in bound.plan) s × IsOpenBest word s (open_in bound s) text))
 
--- a line tells why a plan has none
+-- a line refuses the search of a plan
 abbrev pub TellsNoBest : BoundPlan → Text → Text → Type 0
 TellsNoBest bound word line =
     ((bound.plan.kind ≡ kinds.Project)

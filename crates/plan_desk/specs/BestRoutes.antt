@@ -1,6 +1,6 @@
--- What is answered to a desk's questions for a best schedule (docs/definitions.md, "Desks"): the
--- answer that the definition of the search fixes, an active schedule, and one of least makespan
--- among all feasible ones where it is called optimal.
+-- The route of a desk's queries for a best schedule (docs/definitions.md, "Desks"): the answer of
+-- the search, an active schedule. If it is called optimal, its makespan is the least among all
+-- feasible schedules.
 use Rattle.std.specs.Prelude.{◌≡◌, ◌⊎◌, Bool, List}
 use Rattle.plan_shop.specs.Shop.{JobShop}
 use Rattle.plan_shop.specs.Docs.{NoneIsClosed}
@@ -14,20 +14,20 @@ use Rattle.plan_desk.specs.PlanRoutes.{of_plan, by_kind}
 use Rattle.plan_desk.specs.PageRoutes.{TellsClosed}
 use Rattle.plan_desk.specs.Refusals.{bad_schedule}
 
--- the best schedule of a project within the budget that a word spells, or why it isn't searched
+-- the best schedule of a project within the budget that a text spells, or its refusal
 unfoldable pub OfProjectBest : View → Plan → Text → Outcome
 OfProjectBest v plan word = some (IsProjectOf v plan) (λ p.
     why_or (TellsBestProjectRefusal word (bound_project v plan p)) bad_schedule
     (IsBestProjectTextOf word (bound_project v plan p))
     (λ text. shows (λ shown. shown ≡ text)))
 
--- a line tells why a shop isn't searched: a machine in use is closed, else it is too large, else a
--- word is no budget
+-- a line refuses the search of a shop: a machine in use is closed, else the shop is too large, else
+-- the text is no budget
 abbrev pub TellsNoShopBest : Text → JobShop → List Bool → Text → Type 0
 TellsNoShopBest word s usable line =
     TellsClosed s usable line ⊎ (NoneIsClosed s.steps usable × TellsBestRefusal word s line)
 
--- the best schedule of a shop within the budget that a word spells, or why it isn't searched
+-- the best schedule of a shop within the budget that a text spells, or its refusal
 unfoldable pub OfShopBest : View → Plan → Text → Outcome
 OfShopBest v plan word = some (IsShopOf plan) (λ s.
     why_or (TellsNoShopBest word s (open_machines v plan.n s.machines)) bad_schedule
@@ -35,4 +35,5 @@ OfShopBest v plan word = some (IsShopOf plan) (λ s.
     (λ text. shows (λ shown. shown ≡ text)))
 
 unfoldable pub Best : View → Text → Text → Outcome
-Best v n word = of_plan v n (λ plan. by_kind plan.kind (OfProjectBest v plan word) (OfShopBest v plan word))
+Best v n word =
+    of_plan v n (λ plan. by_kind plan.kind (OfProjectBest v plan word) (OfShopBest v plan word))

@@ -1,6 +1,6 @@
--- What a JSON body says, or None where it is to be refused (docs/definitions.md, "Desks"; RFC 8259).
--- A body is read as serde_json reads it: of equal names the last one counts, a whole number is one
--- that `as_u64` gives, and at most 127 arrays and objects nest.
+-- The content of a JSON body, or None if the body is refused (docs/definitions.md, "Desks"; RFC
+-- 8259). serde_json reads a body: for equal names the last member counts, a whole number is one
+-- that `as_u64` returns, and at most 127 arrays and objects nest.
 use Rattle.std.specs.Prelude.{ℕ, Bool, true, nat_le, if◌then◌else◌, Option, Some, None, option_map, option_and_then, codes}
 use Rattle.std.specs.Str.{is_utf8}
 use Rattle.serde_json.specs.Data.{Data}
@@ -17,15 +17,16 @@ use Rattle.plan_rows.specs.Names.{kind_text, is_name, is_key, is_from_to}
 abbrev pub json : Text → Option Data
 json body = if is_utf8 body then read body else None
 
--- a value that passes
+-- a value, if it passes the test
 abbrev pub passing : {A : Type 0} → (A → Bool) → A → Option A
 passing passes x = if passes x then Some x else None
 
--- a member of an object, where it is a text that passes
+-- the member of an object, if it is a text that passes the test
 abbrev pub text_in : (Text → Bool) → Text → Data → Option Text
-text_in passes name value = option_and_then (passing passes) (option_and_then as_str (get name value))
+text_in passes name value =
+    option_and_then (passing passes) (option_and_then as_str (get name value))
 
--- a member of an object, where it is a whole number that passes
+-- the member of an object, if it is a whole number that passes the test
 abbrev pub number_in : (ℕ → Bool) → Text → Data → Option ℕ
 number_in passes name value =
     option_and_then (passing passes)
@@ -72,7 +73,7 @@ desk_members value =
 unfoldable pub desk_body : Text → Option DeskBody
 desk_body body = option_and_then desk_members (json body)
 
--- the desk that such a body names, be its other members right or not
+-- the desk that such a body names, whether its other members are valid or not
 unfoldable pub desk_named : Text → Option Text
 desk_named body = option_and_then (text_in any_text (codes "desk")) (json body)
 
@@ -80,7 +81,7 @@ desk_named body = option_and_then (text_in any_text (codes "desk")) (json body)
 unfoldable pub key_body : Text → Option Text
 key_body body = option_and_then (text_in is_key (codes "key")) (json body)
 
--- a published code, and the place that it is bound to
+-- a published code, and the place that the code is bound to
 pub record BindBody : Type 0 where
   pub code : Text
   pub place : ℕ
@@ -92,11 +93,11 @@ bind_members is_place value =
     (number_in is_place (codes "place") value))
     (text_in is_name (codes "code") value)
 
--- the place has to be one of the plan
+-- the place must be a place of the plan
 unfoldable pub bind_body : (ℕ → Bool) → Text → Option BindBody
 bind_body is_place body = option_and_then (bind_members is_place) (json body)
 
--- a start date and seven marks, as texts: what they say is judged later
+-- a start date and seven marks, as texts: they are checked later
 pub record CalendarBody : Type 0 where
   pub start : Text
   pub days : Text
@@ -113,14 +114,14 @@ calendar_body body = option_and_then calendar_members (json body)
 
 -- the ends of an arc, and its lag
 pub record LagBody : Type 0 where
-  pub source : ℕ
-  pub target : ℕ
+  pub from : ℕ
+  pub to : ℕ
   pub lag : ℕ
 
 abbrev pub lag_members : Data → Option LagBody
 lag_members value =
-    option_and_then (λ source. option_and_then (λ target. option_map
-    (λ lag. record { source = source; target = target; lag = lag })
+    option_and_then (λ from. option_and_then (λ to. option_map
+    (λ lag. record { from = from; to = to; lag = lag })
     (number_in (λ n. nat_le n longest_lag) (codes "lag") value))
     (number_in (is_from_to 1 most_activities) (codes "to") value))
     (number_in (is_from_to 1 most_activities) (codes "from") value)

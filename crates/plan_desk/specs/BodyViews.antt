@@ -1,4 +1,4 @@
--- Bodies as code keeps them once they are judged.
+-- The bodies that values of the code stand for (docs/definitions.md, "Desks").
 use Rattle.std.specs.Prelude.{string_bytes}
 use Rattle.plan_desk.specs.Bodies as bodies
 use Rattle.plan_desk.specs.declared.bodies.PublishBody.{PublishBody}
@@ -20,4 +20,4 @@ abbrev pub calendar_in : CalendarBody → bodies.CalendarBody
 calendar_in b = record { start = string_bytes b.start; days = string_bytes b.days }
 
 abbrev pub lag_body_in : LagBody → bodies.LagBody
-lag_body_in b = record { source = b.source; target = b.target; lag = b.lag }
+lag_body_in b = record { from = b.from; to = b.to; lag = b.lag }

@@ -7,7 +7,7 @@ use Rattle.plan_rows.specs.Names.{has_key, unlocks}
 use Rattle.plan_desk.specs.Bodies.{desk_named}
 use Rattle.plan_rows.specs.Views.{View}
 
--- One call for each route. What stands in a path is a text as it came, and so is a body.
+-- One call for each route. The parts of a path and the bodies are the texts that were sent.
 pub data Call : Type 0 where
   publish : (body : Text) → Call
   open_desk : (body : Text) → Call
@@ -26,12 +26,12 @@ pub data Call : Type 0 where
   days : (desk n rule : Text) → Call
   best : (desk n budget : Text) → Call
 
--- the key that was sent along, if there was one, and the call
+-- the key that was sent with the call, if there was one, and the call
 pub record Request : Type 0 where
   pub key : Option Text
   pub call : Call
 
--- a status by RFC 9110, what the body is, and the body
+-- a status of RFC 9110, the media type, and the body
 pub record Reply : Type 0 where
   pub status : ℕ
   pub kind : ReplyKind
@@ -49,15 +49,15 @@ refusal status text = record { status = status; kind = Plain; body = line text }
 abbrev pub answer : ℕ → Text → Reply
 answer status text = record { status = status; kind = Json; body = line text }
 
--- a whole text, which has its ends of lines
+-- a page is a complete text with its line feeds
 abbrev pub page : Text → Reply
 page text = record { status = 200; kind = Plain; body = text }
 
--- the refusal of a request without the key that its call takes: always the same
+-- the refusal of every request without the key that its call needs
 abbrev pub no_key : Reply
 no_key = refusal 403 (codes "E01 key")
 
--- the desk that a call names: one on its path, or the one that an opening body names
+-- the desk that a call names: on its path, or in the body that opens a desk
 abbrev pub desk_of : Call → Option Text
 desk_of (publish body) = None
 desk_of (open_desk body) = desk_named body
@@ -76,23 +76,23 @@ desk_of (chart desk n rule) = Some desk
 desk_of (days desk n rule) = Some desk
 desk_of (best desk n budget) = Some desk
 
--- the desk whose view decides: no desk has the empty name, which stands for none
+-- the desk whose view decides; the empty name, which no desk has, stands for none
 abbrev pub subject : Request → Text
 subject r = unwrap_or (desk_of r.call) []
 
--- it publishes a code
+-- the call publishes a code
 abbrev pub is_publish : Call → Bool
 is_publish (publish body) = true
 is_publish _ = false
 
--- a call of the office, which takes the office's key
+-- a call of the office, which needs the office's key
 abbrev pub is_of_office : Call → Bool
 is_of_office (publish body) = true
 is_of_office (open_desk body) = true
 is_of_office (set_key desk body) = true
 is_of_office _ = false
 
--- a command: it changes rows where it is accepted
+-- a command: it changes rows if it is accepted
 abbrev pub writes : Call → Bool
 writes (capacities desk) = false
 writes (plans desk) = false
@@ -107,6 +107,6 @@ writes _ = true
 abbrev pub is_accepted : Request → Reply → Bool
 is_accepted r reply = writes r.call && nat_lt reply.status 300
 
--- the request has the key that its call takes: the office's, or that of the desk on its path
+-- the request has the key that its call needs: the office's, or that of the desk on the path
 abbrev pub admits : View → Request → Bool
 admits v r = if is_of_office r.call then has_key r.key v.office else unlocks r.key v.desk

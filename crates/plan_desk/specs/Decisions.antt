@@ -1,6 +1,6 @@
--- What each call is answered, by what its desk sees, and which change that makes: all routes
--- (docs/definitions.md, "Desks"). Of several refusals the first of their order is answered; each
--- route is told in that order.
+-- All routes: the reply to each call, by the view of its desk, and the change that it makes
+-- (docs/definitions.md, "Desks"). If several refusals apply, the first one in the order of the
+-- route is the reply.
 use Rattle.std.specs.Prelude.{List}
 use Rattle.plan_rows.specs.World.{Text, World}
 use Rattle.plan_rows.specs.Changes.{Change}
@@ -32,15 +32,15 @@ Answers v (chart desk n rule) = Charts v n rule
 Answers v (days desk n rule) = Days v n rule
 Answers v (best desk n budget) = Best v n budget
 
--- in a view a request is given this reply, and makes this change
+-- in the view, the request gets this reply and makes this change
 unfoldable pub IsDecision : View → Request → Reply → Change → Type 0
 IsDecision = story.IsDecided Answers
 
--- a step of the office: decide by what the desk sees, then apply
+-- a step of the office: decide by the view of the desk, then apply the change
 unfoldable pub IsStep : World → Request → Reply → World → Type 0
 IsStep = story.IsStep Answers
 
--- a step, or a refusal for want of memory or by the store, with the rows as they were
+-- a step, or a refusal for lack of memory or by the store that leaves the rows unchanged
 unfoldable pub IsRealStep : World → Request → Reply → World → Type 0
 IsRealStep = story.IsRealStep Answers
 
@@ -48,14 +48,14 @@ IsRealStep = story.IsRealStep Answers
 unfoldable pub IsRun : World → List Request → List Reply → List World → Type 0
 IsRun = story.IsRun Answers
 
--- what the requests of a list that belong to a desk are told, by its view
+-- the replies to the requests of a list that belong to a desk, by its view
 unfoldable pub AreTold : Text → View → List Request → List Reply → Type 0
 AreTold = story.AreTold Answers
 
--- the story of a view in a list of requests, and what it was told
+-- the story of a desk in a list of requests, and its replies
 unfoldable pub IsStoryOf : Text → View → List Request → List Reply → List Request → List Reply → Type 0
 IsStoryOf = story.IsStoryOf Answers
 
--- a request of the story was answered for want
+-- a request of the story was refused for lack of memory or by the store
 unfoldable pub IsWanting : Text → View → List Request → List Reply → Type 0
 IsWanting = story.IsWanting Answers

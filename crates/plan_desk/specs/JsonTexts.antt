@@ -1,5 +1,5 @@
--- The answers in JSON: objects without blanks, their members in the order of their names
--- (docs/definitions.md, "Desks"; RFC 8259). Names and kinds need no escape.
+-- The answers in JSON: objects without white space, with their members in the order of their names
+-- (docs/definitions.md, "Desks"; RFC 8259). Names and kinds need no escapes.
 use Rattle.std.specs.Prelude.{ℕ, List, [], ◌∷◌, ◌++◌, map, codes, decimal}
 use Rattle.plan_rows.specs.declared.kinds.Kind.{Kind}
 use Rattle.plan_rows.specs.declared.kinds.PlanKind.{PlanKind}
@@ -18,21 +18,24 @@ desk_text desk = codes "{\"desk\":\"" ++ desk ++ codes "\"}"
 
 -- a plan, by its number and kind
 abbrev pub plan_text : ℕ → PlanKind → Text
-plan_text n kind = codes "{\"kind\":\"" ++ plan_kind_text kind ++ codes "\",\"n\":" ++ decimal n ++ codes "}"
+plan_text n kind =
+    codes "{\"kind\":\"" ++ plan_kind_text kind ++ codes "\",\"n\":" ++ decimal n ++ codes "}"
 
 abbrev pub number_text : ℕ → Text
 number_text n = codes "{\"n\":" ++ decimal n ++ codes "}"
 
 abbrev pub bind_text : Text → ℕ → Text
-bind_text code place = codes "{\"code\":\"" ++ code ++ codes "\",\"place\":" ++ decimal place ++ codes "}"
+bind_text code place =
+    codes "{\"code\":\"" ++ code ++ codes "\",\"place\":" ++ decimal place ++ codes "}"
 
 abbrev pub calendar_text : Text → Text → Text
-calendar_text start days = codes "{\"days\":\"" ++ days ++ codes "\",\"start\":\"" ++ start ++ codes "\"}"
+calendar_text start days =
+    codes "{\"days\":\"" ++ days ++ codes "\",\"start\":\"" ++ start ++ codes "\"}"
 
 abbrev pub lag_text : ℕ → ℕ → ℕ → Text
-lag_text source target lag =
-    codes "{\"from\":" ++ decimal source ++ codes ",\"lag\":" ++ decimal lag ++ codes ",\"to\":"
-    ++ decimal target ++ codes "}"
+lag_text from to lag =
+    codes "{\"from\":" ++ decimal from ++ codes ",\"lag\":" ++ decimal lag ++ codes ",\"to\":"
+    ++ decimal to ++ codes "}"
 
 -- texts with a comma between each two
 abbrev pub separated : List Text → Text
@@ -40,11 +43,16 @@ separated [] = []
 separated (text ∷ []) = text
 separated (text ∷ other ∷ texts) = text ++ codes "," ++ separated (other ∷ texts)
 
--- the published codes, rising byte by byte
+-- the published codes, in ascending order of their bytes
 abbrev pub codes_text : List Published → Text
 codes_text rows =
-    codes "{\"capacities\":[" ++ separated (map (λ row. code_text row.code row.kind row.capacity) (in_order code_before rows)) ++ codes "]}"
+    codes "{\"capacities\":["
+    ++ separated (map (λ row. code_text row.code row.kind row.capacity) (in_order code_before rows))
+    ++ codes "]}"
 
--- the plans of a desk, rising by number
+-- the plans of a desk, in ascending order of their numbers
 abbrev pub plans_text : List Plan → Text
-plans_text rows = codes "{\"plans\":[" ++ separated (map (λ row. plan_text row.n row.kind) (in_order plan_before rows)) ++ codes "]}"
+plans_text rows =
+    codes "{\"plans\":["
+    ++ separated (map (λ row. plan_text row.n row.kind) (in_order plan_before rows))
+    ++ codes "]}"

@@ -16,11 +16,11 @@ pub mod BodyViews
 pub mod Replies
 pub mod RouteRefusals
 pub mod Pages
-pub mod Deciding
+pub mod BookSteps
 pub mod Requests
 pub mod Answers
-pub mod Finding
-pub mod Recovering
+pub mod Lookup
+pub mod Recovery
 pub mod Whole
 pub mod MemBooks
 pub mod PlanValues

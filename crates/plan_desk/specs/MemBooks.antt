@@ -1,4 +1,4 @@
--- What contracts see of a book in memory (docs/definitions.md, "Books").
+-- The rows and the shelf of a book in memory (docs/definitions.md, "Books").
 use Rattle.std.specs.Prelude.{◌≡◌, Some}
 use Rattle.plan_desk.specs.declared.mem_book.MemBook.{MemBook}
 use Rattle.plan_rows.specs.World.{World}
@@ -11,8 +11,8 @@ use Rattle.plan_desk.specs.Whole.{whole_of}
 abbrev pub memory_world : MemBook → World
 memory_world book = world_kept book.tables
 
--- it can always be seen, never refuses but for want of memory, has no disk that could fail, and a
--- crash leaves what it holds
+-- it always stands, fails only if memory runs out, has no disk that could fail, and a crash leaves
+-- its rows
 abbrev pub memory_shelf : Shelf MemBook
 memory_shelf = record {
   world = memory_world;

@@ -1,4 +1,4 @@
--- The words in which answers are told: an outcome says which replies and changes may come
+-- The vocabulary of the routes: an outcome is a relation of replies and changes
 -- (docs/definitions.md, "Desks").
 use Rattle.std.specs.Prelude.{◌≡◌, ◌⊎◌, ℕ, Bool, true, false, Option, Some, None}
 use Rattle.plan_rows.specs.World.{Text}
@@ -16,7 +16,7 @@ refuses refusal reply change = (reply ≡ refusal) × (change ≡ Keep)
 unfoldable pub tells : Text → Outcome
 tells text reply change = (reply ≡ answer 200 text) × (change ≡ Keep)
 
--- a text of which this holds, and nothing changes
+-- a page whose text has this property, and nothing changes
 unfoldable pub shows : (Text → Type 0) → Outcome
 shows IsText reply change = (text : Text) × IsText text × (reply ≡ page text) × (change ≡ Keep)
 
@@ -24,21 +24,22 @@ shows IsText reply change = (text : Text) × IsText text × (reply ≡ page text
 unfoldable pub makes : ℕ → Text → Change → Outcome
 makes status text made reply change = (reply ≡ answer status text) × (change ≡ made)
 
--- a refusal where a test holds, else the rest
+-- a refusal if the test holds, else the rest
 unfoldable pub unless : Bool → Reply → Outcome → Outcome
 unless true refusal Rest = refuses refusal
 unless false refusal Rest = Rest
 
--- a refusal where there is nothing, else the rest of what is there
+-- a refusal if there is no value, else the rest for the value
 unfoldable pub given : {A : Type 0} → Option A → Reply → (A → Outcome) → Outcome
 given None refusal Rest = refuses refusal
 given (Some x) refusal Rest = Rest x
 
--- the rest of a value of which this holds
+-- the rest for a value with this property
 unfoldable pub some : {A : Type 0} → (A → Type 0) → (A → Outcome) → Outcome
 some {A} P Rest reply change = (x : A) × P x × Rest x reply change
 
--- a refusal whose text tells why there is no value, or the rest of the value: no value has both
-unfoldable pub why_or : {A : Type 0} → (Text → Type 0) → (Text → Reply) → (A → Type 0) → (A → Outcome) → Outcome
+-- a refusal whose text gives the cause, or the rest for a value: never both
+unfoldable pub why_or : {A : Type 0} → (Text → Type 0) → (Text → Reply) → (A → Type 0)
+    → (A → Outcome) → Outcome
 why_or Tells refusal P Rest reply change =
     some Tells (λ line. refuses (refusal line)) reply change ⊎ some P Rest reply change

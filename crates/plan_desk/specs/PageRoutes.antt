@@ -1,7 +1,7 @@
--- What is answered to a desk's questions about a plan: dates, schedules, charts, working days and
--- best schedules (docs/definitions.md, "Desks"). Each is for a request with the desk's key. A
--- project is planned with the lags of the desk and against the published capacities that are bound
--- to its resources; a shop with the machines that are open.
+-- The routes of a desk's queries about a plan: dates, schedules, charts and working days
+-- (docs/definitions.md, "Desks"). Each is for a request with the desk's key. A project is scheduled
+-- with the lags of the desk and the published capacities that are bound to its resources; a shop
+-- with the machines that are open.
 use Rattle.std.specs.Prelude.{◌≡◌, ◌⊎◌, ℕ, Bool, List, length, nat_eq}
 use Rattle.plan_sgs.specs.Problem.{makespan}
 use Rattle.plan_sgs.specs.Instances.{Planned, problem_of}
@@ -47,20 +47,21 @@ pub record IsScheduleBy (i : Planned) (name : Text) (starts : List ℕ) : Type 0
   pub named : name ≡ rule_text rule
   pub schedule : IsSchedule i rule starts
 
--- the schedule of a project by the rule of a name, or why there is none: a need that is too much,
--- else a name that is no rule's
+-- the schedule of a project by the rule of this name, or its refusal: a need exceeds its capacity,
+-- else the name is no rule's
 unfoldable pub OfSchedule : View → Plan → Text → (Planned → List ℕ → Outcome) → Outcome
 OfSchedule v plan rule Rest = some (IsProjectOf v plan) (λ p.
     why_or (TellsRefusal rule (bound_project v plan p)) bad_schedule
     (IsScheduleBy (bound_project v plan p) rule)
     (Rest (bound_project v plan p)))
 
--- a line tells which machine in use is closed
+-- a line gives the first machine in use that is closed
 abbrev pub TellsClosed : JobShop → List Bool → Text → Type 0
 TellsClosed s usable line =
-    (m : ℕ) × IsFirstClosed s.steps usable m × (line ≡ shop_fault_text_of (shop_fault.MachineClosed m))
+    (m : ℕ) × IsFirstClosed s.steps usable m
+    × (line ≡ shop_fault_text_of (shop_fault.MachineClosed m))
 
--- a line tells why a shop has no schedule by the rule of a name: the name is no rule's, or else a
+-- a line refuses the schedule of a shop by the rule of this name: the name is no rule's, else a
 -- machine in use is closed
 abbrev pub TellsShopRefusal : Text → JobShop → List Bool → Text → Type 0
 TellsShopRefusal name s usable line =
@@ -69,14 +70,15 @@ TellsShopRefusal name s usable line =
 
 -- the starts are those of the active schedule of a shop by the rule of a name, all machines in use
 -- open
-pub record IsShopScheduleBy (s : JobShop) (usable : List Bool) (name : Text) (starts : List ℕ) : Type 0 where
+pub record IsShopScheduleBy (s : JobShop) (usable : List Bool) (name : Text) (starts : List ℕ)
+    : Type 0 where
   pub rule : ShopRule
   pub named : name ≡ shop_names.rule_text rule
   pub opened : NoneIsClosed s.steps usable
   pub starts_are : starts ≡ rule_starts rule s
   pub active : IsActive (shops.problem_of s) starts
 
--- the schedule of a shop by the rule of a name, or why there is none
+-- the schedule of a shop by the rule of this name, or its refusal
 unfoldable pub OfShopSchedule : View → Plan → Text → (JobShop → List ℕ → Outcome) → Outcome
 OfShopSchedule v plan rule Rest = some (IsShopOf plan) (λ s.
     why_or (TellsShopRefusal rule s (open_machines v plan.n s.machines)) bad_schedule
@@ -94,11 +96,13 @@ Schedules v n rule = of_plan v n (λ plan. by_kind plan.kind
 unfoldable pub Charts : View → Text → Text → Outcome
 Charts v n rule = of_plan v n (λ plan. by_kind plan.kind
     (OfSchedule v plan rule (λ i starts. shows (λ text.
-    text ≡ chart_text (makespan (problem_of i) starts) (activity_intervals i.project.network starts) 1 (length i.project.network.durations))))
+    text ≡ chart_text (makespan (problem_of i) starts)
+    (activity_intervals i.project.network starts) 1 (length i.project.network.durations))))
     (OfShopSchedule v plan rule (λ s starts. shows (λ text.
-    text ≡ chart_text (makespan (shops.problem_of s) starts) (machine_intervals s starts) 0 s.machines))))
+    text ≡ chart_text (makespan (shops.problem_of s) starts)
+    (machine_intervals s starts) 0 s.machines))))
 
--- a day that is to be shown is beyond the calendar, which is told by one line
+-- a day of the table is beyond the calendar, and a line says so
 abbrev pub TellsBeyond : (Workdays → Type 0) → Text → Text → Text → Type 0
 TellsBeyond IsBeyond start days line =
     (c : Workdays) × IsCalendar start days c × IsBeyond c
@@ -108,8 +112,8 @@ TellsBeyond IsBeyond start days line =
 abbrev pub ShowsDays : (Workdays → Text → Type 0) → Text → Text → Text → Type 0
 ShowsDays IsTable start days text = (c : Workdays) × IsCalendar start days c × IsTable c text
 
--- a table of working days by the plan's calendar, or why there is none: no calendar is set, else a
--- day that is to be shown is beyond it
+-- the table of working days in the plan's calendar, or its refusal: no calendar is set, else a day
+-- of the table is beyond the calendar
 unfoldable pub OfCalendar : Plan → (Workdays → Text → Type 0) → (Workdays → Type 0) → Outcome
 OfCalendar plan IsTable IsBeyond =
     unless (nat_eq (length plan.start) 0) (bad_calendar missing_calendar_text)
@@ -120,6 +124,8 @@ OfCalendar plan IsTable IsBeyond =
 unfoldable pub Days : View → Text → Text → Outcome
 Days v n rule = of_plan v n (λ plan. by_kind plan.kind
     (OfSchedule v plan rule (λ i starts.
-    OfCalendar plan (λ c. IsCalendarTable c i.project.network starts) (λ c. HasActivityBeyond c i.project.network starts)))
+    OfCalendar plan (λ c. IsCalendarTable c i.project.network starts)
+    (λ c. HasActivityBeyond c i.project.network starts)))
     (OfShopSchedule v plan rule (λ s starts.
-    OfCalendar plan (λ c. IsShopCalendarTable c s starts) (λ c. HasStepBeyond c s starts))))
+    OfCalendar plan (λ c. IsShopCalendarTable c s starts)
+    (λ c. HasStepBeyond c s starts))))

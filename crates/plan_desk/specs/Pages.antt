@@ -1,4 +1,5 @@
--- What is made of a plan that a desk sees, as a book answers it (docs/definitions.md, "Books").
+-- The pages of a plan that a desk sees, built from the rows of a book (docs/definitions.md,
+-- "Books").
 use Rattle.std.specs.Prelude.{◌≡◌, ℕ, List, Option, Some, Result, IfOk, IfErr, map, option_map}
 use Rattle.plan_rows.specs.declared.fault.BookFault.{BookFault}
 use Rattle.plan_rows.specs.declared.fault.BookFault.TheVariants.{Store}
@@ -15,7 +16,7 @@ use Rattle.plan_rows.specs.Rules.{IsWorld}
 use Rattle.plan_rows.specs.Books.{IsPlanAnswer}
 use Rattle.plan_desk.specs.Replies.{reply_of}
 
--- the capacity of a code, where it is published
+-- the capacity of a code, if it is published
 abbrev pub capacity_of : List Published → Text → Option ℕ
 capacity_of rows code = option_map (λ row. row.capacity) (code_in rows code)
 
@@ -39,8 +40,11 @@ pub record IsBound (v : View) (n : Text) (bound : BoundPlan) : Type 0 where
   pub answer : IsPlanAnswer v row bound.plan
   pub places : map bound_in bound.places.items ≡ capacities_at v row.n
 
--- The reply that is made of a plan is one that its route gives to whoever sees the plan so, and
--- nothing changes. The store is blamed only for a plan that no office has whose rows keep their rules.
-pub record MakesPage (IsSeen : View → Text → Type 0) (Route : View → Text → Outcome) (result : Result made.Reply BookFault) : Type 0 where
-  pub shown : IfOk result (λ reply. (v : View) (n : Text) → IsSeen v n → Route v n (reply_of reply) Keep)
-  pub blamed : IfErr result (λ fault. fault ≡ Store → (v : View) (n : Text) → IsSeen v n → IsWorld (alone v) → ⊥)
+-- The reply is the route's reply in each view that contains the plan, and nothing changes. The
+-- store is blamed only for a plan that breaks the rules of rows.
+pub record MakesPage (IsSeen : View → Text → Type 0) (Route : View → Text → Outcome)
+    (result : Result made.Reply BookFault) : Type 0 where
+  pub shown : IfOk result (λ reply.
+      (v : View) (n : Text) → IsSeen v n → Route v n (reply_of reply) Keep)
+  pub blamed : IfErr result (λ fault. fault ≡ Store
+      → (v : View) (n : Text) → IsSeen v n → IsWorld (alone v) → ⊥)

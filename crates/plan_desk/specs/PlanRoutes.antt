@@ -1,4 +1,4 @@
--- What a desk's commands on its plans are answered (docs/definitions.md, "Desks"). Each is for a
+-- The routes of a desk's commands on its plans (docs/definitions.md, "Desks"). Each is for a
 -- request with the desk's key.
 use Rattle.std.specs.Prelude.{◌≡◌, ◌+◌, not, nat_le, is_some, [], length}
 use Rattle.plan_psplib.specs.Project.{Project}
@@ -30,22 +30,27 @@ unfoldable pub by_kind : PlanKind → Outcome → Outcome → Outcome
 by_kind kinds.Project OfProject OfShop = OfProject
 by_kind kinds.Shop OfProject OfShop = OfShop
 
--- a file is kept as a plan with the desk's next number, or the first check that it fails is told
-unfoldable pub Imports : {A : Type 0} → View → PlanKind → Text → Text → (Text → Type 0) → (A → Type 0) → Outcome
+-- a file is stored as a plan with the desk's next number, or refused with the first check that it
+-- fails
+unfoldable pub Imports : {A : Type 0} → View → PlanKind → Text → Text → (Text → Type 0)
+    → (A → Type 0) → Outcome
 Imports v kind name body Tells Reads = given v.desk not_found (λ row.
     unless (nat_le most_plans (length v.plans)) many_plans
     (unless (nat_le (greatest_number + 1) row.next) numbers_spent
-    (why_or Tells bad_file Reads (λ read. makes 201 (plan_text row.next kind) (AddPlan kind name body)))))
+    (why_or Tells bad_file Reads
+    (λ read. makes 201 (plan_text row.next kind) (AddPlan kind name body)))))
 
 -- the project of a PSPLIB text
 unfoldable pub ImportsProject : View → Text → Outcome
-ImportsProject v body = Imports v kinds.Project [] body (TellsFirstFailing body) (files.SaysProject body)
+ImportsProject v body =
+    Imports v kinds.Project [] body (TellsFirstFailing body) (files.SaysProject body)
 
 -- the shop of an instance in an OR-Library text
 unfoldable pub ImportsShop : View → Text → Text → Outcome
-ImportsShop v name body = Imports v kinds.Shop name body (TellsFirstShopFault name body) (Says name body)
+ImportsShop v name body =
+    Imports v kinds.Shop name body (TellsFirstShopFault name body) (Says name body)
 
--- a plan goes
+-- a plan is removed
 unfoldable pub Removes : View → Text → Outcome
 Removes v n = of_plan v n (λ plan. makes 200 (number_text plan.n) (RemovePlan plan.n))
 
@@ -57,7 +62,7 @@ Binds v n body = of_plan v n (λ plan. some (HasPlaces plan.kind plan.name plan.
     (unless (is_other_kind (takes plan.kind) (code_in v.published b.code)) kind_differs
     (makes 200 (bind_text b.code b.place) (BindPlace plan.n b.place b.code))))))
 
--- a line tells what the texts of a calendar are refused for
+-- a line gives the fault of the texts of a calendar
 abbrev pub TellsTexts : Text → Text → Text → Type 0
 TellsTexts start marks line =
     (fault : CalendarFault) × RefusesTexts start marks fault × (line ≡ calendar_fault_text_of fault)
@@ -73,6 +78,6 @@ unfoldable pub SetsLag : View → Text → Text → Outcome
 SetsLag v n body = of_plan v n (λ plan. given (lag_body body) bad_body (λ b.
     by_kind plan.kind
     (some (files.SaysProject plan.body) (λ p.
-    unless (not (has_arc p.network b.source b.target)) bad_body
-    (makes 200 (lag_text b.source b.target b.lag) (SetLag plan.n b.source b.target b.lag))))
+    unless (not (has_arc p.network b.from b.to)) bad_body
+    (makes 200 (lag_text b.from b.to b.lag) (SetLag plan.n b.from b.to b.lag))))
     (refuses other_kind)))

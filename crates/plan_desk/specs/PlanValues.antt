@@ -1,5 +1,4 @@
--- What is worked out from a plan as a book answers it, for private clauses alone
--- (docs/definitions.md, "Books").
+-- Values of a plan that a book returns, for private clauses only (docs/definitions.md, "Books").
 use Rattle.std.specs.Prelude.{◌≡◌, ℕ, zero, suc, ◌+◌, ◌≤◌, Bool, true, ◌==◌, not, List, [], ◌∷◌, ◌++◌, map, find, All, Option, Some, None, unwrap_or, option_and_then, string_bytes}
 use Rattle.plan_net.specs.Limits.{longest_lag}
 use Rattle.plan_net.specs.Network.{IsArc}
@@ -26,11 +25,11 @@ abbrev pub IsProjectIn : PlanRow → Project → Type 0
 IsProjectIn plan p =
     (said : Project) × SaysProject plan.body.items said × (p ≡ lagged_by (lags_in plan) said)
 
--- each is on an arc of the project, and not too long
+-- each lag is on an arc of the project, and at most the longest
 abbrev pub TakesLags : Project → List (ℕ × ℕ × ℕ) → Type 0
 TakesLags p arcs = All (λ arc. IsArc p.network arc.0 arc.1 × (arc.2 ≤ longest_lag)) arcs
 
--- the file says a project, and any that it says has the arcs that have lags
+-- the file spells a project, and any project that it spells has the arcs of the lags
 pub record HasProject (plan : PlanRow) : Type 0 where
   pub says : (p : Project) × SaysProject plan.body.items p
   pub takes : (p : Project) → SaysProject plan.body.items p → TakesLags p (lags_in plan)
@@ -47,11 +46,11 @@ row_in plan = record {
   days = string_bytes plan.days;
 }
 
--- the file says a shop by the name of the plan's instance
+-- the file spells a shop by the name of the plan's instance
 abbrev pub HasShop : PlanRow → Type 0
 HasShop plan = (doc : docs.Shop) × Says (string_bytes plan.name) plan.body.items doc
 
--- what the rules of rows say of a plan
+-- the plan keeps the rules of rows
 pub record IsSoundPlan (plan : PlanRow) : Type 0 where
   pub project : plan.kind ≡ kinds.Project → HasProject plan
   pub shop : plan.kind ≡ kinds.Shop → HasShop plan
@@ -61,7 +60,7 @@ pub record IsSoundPlan (plan : PlanRow) : Type 0 where
 abbrev pub capacity_at : List BoundPlace → ℕ → Option ℕ
 capacity_at places place = option_and_then (λ b. b.capacity) (find (λ b. b.place == place) places)
 
--- from a place on, the published capacities of the bound codes, else those of the file
+-- from a place on, the published capacity of the bound code, else the capacity in the file
 abbrev pub capacities_in : List BoundPlace → ℕ → List ℕ → List ℕ
 capacities_in places place [] = []
 capacities_in places place (available ∷ others) =

@@ -1,7 +1,7 @@
--- What the pages of a plan show, in the words of the field (docs/definitions.md, "Desks"): dates by
--- the greatest lengths of paths, feasible and active schedules, and a schedule that is called optimal
--- of least makespan among all feasible ones; of the plan's file with the lags of the desk, and with
--- the capacities that are bound and published at that moment.
+-- The content of the pages of a plan, in the words of the field (docs/definitions.md, "Desks"):
+-- dates that are greatest lengths of paths, feasible and active schedules, and for a schedule that
+-- is called optimal the least makespan among all feasible ones. They use the plan's file, the lags
+-- of the desk, and the capacities that are bound and published at that moment.
 use Rattle.std.specs.Prelude.{◌≡◌, ◌⊎◌, ℕ, List, Some, length}
 use Rattle.plan_psplib.specs.Project.{Project}
 use Rattle.plan_cpm.specs.Dates.{DateTable, AreDates}
@@ -30,7 +30,7 @@ use Rattle.plan_desk.specs.Calls.{Call, Request, Reply, dates, schedule, chart, 
 use Rattle.plan_rows.specs.Plans.{plan_seen, IsProjectOf, IsShopOf, bound_project, open_machines}
 use Rattle.plan_desk.specs.Decisions.{IsDecision}
 
--- the dates of the greatest lengths of paths
+-- a page shows the dates that are greatest lengths of paths
 pub record ShowsDates (v : View) (n text : Text) : Type 0 where
   pub plan : Plan
   pub project : Project
@@ -40,8 +40,9 @@ pub record ShowsDates (v : View) (n text : Text) : Type 0 where
   pub longest : AreDates project.network table
   pub shown : text ≡ date_table_text project.network table
 
--- an active schedule of a project
-pub record ShowsSchedule (v : View) (n : Text) (IsText : Plan → Planned → List ℕ → Text → Type 0) (text : Text) : Type 0 where
+-- a page shows an active schedule of a project
+pub record ShowsSchedule (v : View) (n : Text)
+    (IsText : Plan → Planned → List ℕ → Text → Type 0) (text : Text) : Type 0 where
   pub plan : Plan
   pub project : Project
   pub starts : List ℕ
@@ -50,8 +51,9 @@ pub record ShowsSchedule (v : View) (n : Text) (IsText : Plan → Planned → Li
   pub active : IsActive (problem_of (bound_project v plan project)) starts
   pub shown : IsText plan (bound_project v plan project) starts text
 
--- an active schedule of a shop, all machines in use open
-pub record ShowsShopSchedule (v : View) (n : Text) (IsText : Plan → JobShop → List ℕ → Text → Type 0) (text : Text) : Type 0 where
+-- a page shows an active schedule of a shop whose machines in use are all open
+pub record ShowsShopSchedule (v : View) (n : Text)
+    (IsText : Plan → JobShop → List ℕ → Text → Type 0) (text : Text) : Type 0 where
   pub plan : Plan
   pub shop : JobShop
   pub starts : List ℕ
@@ -61,7 +63,8 @@ pub record ShowsShopSchedule (v : View) (n : Text) (IsText : Plan → JobShop �
   pub active : IsActive (shops.problem_of shop) starts
   pub shown : IsText plan shop starts text
 
--- the best schedule that was found of a project, with its makespan: where it is called optimal, it is
+-- a page shows the best schedule found for a project: if it is called optimal, its makespan is
+-- least
 pub record ShowsBest (v : View) (n text : Text) : Type 0 where
   pub plan : Plan
   pub project : Project
@@ -69,11 +72,13 @@ pub record ShowsBest (v : View) (n text : Text) : Type 0 where
   pub seen : plan_seen v n ≡ Some plan
   pub said : IsProjectOf v plan project
   pub active : IsActive (problem_of (bound_project v plan project)) solved.schedule.starts.items
-  pub shortest : solved.kind ≡ Optimal → IsShortest (problem_of (bound_project v plan project)) solved.schedule.starts.items
-  pub makespan : solved.schedule.makespan ≡ makespan (problem_of (bound_project v plan project)) solved.schedule.starts.items
+  pub shortest : solved.kind ≡ Optimal
+      → IsShortest (problem_of (bound_project v plan project)) solved.schedule.starts.items
+  pub makespan : solved.schedule.makespan
+      ≡ makespan (problem_of (bound_project v plan project)) solved.schedule.starts.items
   pub shown : text ≡ best_project_text_of (bound_project v plan project) solved
 
--- and of a shop
+-- the same for a shop
 pub record ShowsShopBest (v : View) (n text : Text) : Type 0 where
   pub plan : Plan
   pub shop : JobShop
@@ -82,38 +87,52 @@ pub record ShowsShopBest (v : View) (n text : Text) : Type 0 where
   pub said : IsShopOf plan shop
   pub opened : NoneIsClosed shop.steps (open_machines v plan.n shop.machines)
   pub active : IsActive (shops.problem_of shop) solved.schedule.starts.items
-  pub shortest : solved.kind ≡ Optimal → IsShortest (shops.problem_of shop) solved.schedule.starts.items
-  pub makespan : solved.schedule.makespan ≡ makespan (shops.problem_of shop) solved.schedule.starts.items
+  pub shortest : solved.kind ≡ Optimal
+      → IsShortest (shops.problem_of shop) solved.schedule.starts.items
+  pub makespan : solved.schedule.makespan
+      ≡ makespan (shops.problem_of shop) solved.schedule.starts.items
   pub shown : text ≡ best_text_of shop solved
 
 abbrev pub IsTable : Plan → Planned → List ℕ → Text → Type 0
-IsTable plan i starts text = text ≡ schedule_table_text i.project.network starts (makespan (problem_of i) starts)
+IsTable plan i starts text =
+    text ≡ schedule_table_text i.project.network starts (makespan (problem_of i) starts)
 
 abbrev pub IsShopTable : Plan → JobShop → List ℕ → Text → Type 0
-IsShopTable plan s starts text = text ≡ shop_table_text s starts (makespan (shops.problem_of s) starts)
+IsShopTable plan s starts text =
+    text ≡ shop_table_text s starts (makespan (shops.problem_of s) starts)
 
 abbrev pub IsChart : Plan → Planned → List ℕ → Text → Type 0
-IsChart plan i starts text = text ≡ chart_text (makespan (problem_of i) starts) (activity_intervals i.project.network starts) 1 (length i.project.network.durations)
+IsChart plan i starts text =
+    text ≡ chart_text (makespan (problem_of i) starts)
+    (activity_intervals i.project.network starts) 1 (length i.project.network.durations)
 
 abbrev pub IsShopChart : Plan → JobShop → List ℕ → Text → Type 0
-IsShopChart plan s starts text = text ≡ chart_text (makespan (shops.problem_of s) starts) (machine_intervals s starts) 0 s.machines
+IsShopChart plan s starts text =
+    text ≡ chart_text (makespan (shops.problem_of s) starts)
+    (machine_intervals s starts) 0 s.machines
 
 abbrev pub AreDays : Plan → Planned → List ℕ → Text → Type 0
-AreDays plan i starts text = (c : Workdays) × IsCalendar plan.start plan.days c × IsCalendarTable c i.project.network starts text
+AreDays plan i starts text =
+    (c : Workdays) × IsCalendar plan.start plan.days c
+    × IsCalendarTable c i.project.network starts text
 
 abbrev pub AreShopDays : Plan → JobShop → List ℕ → Text → Type 0
-AreShopDays plan s starts text = (c : Workdays) × IsCalendar plan.start plan.days c × IsShopCalendarTable c s starts text
+AreShopDays plan s starts text =
+    (c : Workdays) × IsCalendar plan.start plan.days c × IsShopCalendarTable c s starts text
 
--- what the page shows that a call asks for
+-- the page that a call asks for shows what it promises
 abbrev pub IsPromised : View → Call → Text → Type 0
 IsPromised v (dates desk n) text = ShowsDates v n text
-IsPromised v (schedule desk n rule) text = ShowsSchedule v n IsTable text ⊎ ShowsShopSchedule v n IsShopTable text
-IsPromised v (chart desk n rule) text = ShowsSchedule v n IsChart text ⊎ ShowsShopSchedule v n IsShopChart text
-IsPromised v (days desk n rule) text = ShowsSchedule v n AreDays text ⊎ ShowsShopSchedule v n AreShopDays text
+IsPromised v (schedule desk n rule) text =
+    ShowsSchedule v n IsTable text ⊎ ShowsShopSchedule v n IsShopTable text
+IsPromised v (chart desk n rule) text =
+    ShowsSchedule v n IsChart text ⊎ ShowsShopSchedule v n IsShopChart text
+IsPromised v (days desk n rule) text =
+    ShowsSchedule v n AreDays text ⊎ ShowsShopSchedule v n AreShopDays text
 IsPromised v (best desk n budget) text = ShowsBest v n text ⊎ ShowsShopBest v n text
 IsPromised v _ text = Unit {0}
 
--- each page that a decision shows is what it promises
+-- each page of a decision shows what it promises
 unfoldable pub PagesArePromised : Type 0
 PagesArePromised = (v : View) (r : Request) (reply : Reply) (change : Change)
     → IsDecision v r reply change → reply.status ≡ 200 → IsPromised v r.call reply.body

@@ -1,4 +1,4 @@
--- Replies as code keeps them (docs/definitions.md, "Desks").
+-- The replies that values of the code stand for (docs/definitions.md, "Desks").
 use Rattle.std.specs.Prelude.{string_bytes}
 use Rattle.plan_desk.specs.declared.reply.Body.{Body}
 use Rattle.plan_desk.specs.declared.reply.Body.TheVariants.{Fixed, Owned}

@@ -1,4 +1,4 @@
--- Requests as code keeps them (docs/definitions.md, "Desks").
+-- The requests that values of the code stand for (docs/definitions.md, "Desks").
 use Rattle.std.specs.Prelude.{[], string_bytes, option_map, unwrap_or}
 use Rattle.plan_desk.specs.declared.request.Call as rows
 use Rattle.plan_desk.specs.declared.request.Call.TheVariants as made
@@ -13,13 +13,16 @@ call_in (made.SetKey desk body) = set_key (string_bytes desk) body.items
 call_in (made.Capacities desk) = capacities (string_bytes desk)
 call_in (made.Plans desk) = plans (string_bytes desk)
 call_in (made.ImportProject desk body) = import_project (string_bytes desk) body.items
-call_in (made.ImportShop desk instance body) = import_shop (string_bytes desk) (string_bytes instance) body.items
+call_in (made.ImportShop desk instance body) =
+    import_shop (string_bytes desk) (string_bytes instance) body.items
 call_in (made.Remove desk n) = remove (string_bytes desk) (string_bytes n)
 call_in (made.Bind desk n body) = bind (string_bytes desk) (string_bytes n) body.items
-call_in (made.SetCalendar desk n body) = set_calendar (string_bytes desk) (string_bytes n) body.items
+call_in (made.SetCalendar desk n body) =
+    set_calendar (string_bytes desk) (string_bytes n) body.items
 call_in (made.SetLag desk n body) = set_lag (string_bytes desk) (string_bytes n) body.items
 call_in (made.Dates desk n) = dates (string_bytes desk) (string_bytes n)
-call_in (made.Schedule desk n rule) = schedule (string_bytes desk) (string_bytes n) (string_bytes rule)
+call_in (made.Schedule desk n rule) =
+    schedule (string_bytes desk) (string_bytes n) (string_bytes rule)
 call_in (made.Chart desk n rule) = chart (string_bytes desk) (string_bytes n) (string_bytes rule)
 call_in (made.Days desk n rule) = days (string_bytes desk) (string_bytes n) (string_bytes rule)
 call_in (made.Best desk n budget) = best (string_bytes desk) (string_bytes n) (string_bytes budget)
@@ -27,7 +30,7 @@ call_in (made.Best desk n budget) = best (string_bytes desk) (string_bytes n) (s
 abbrev pub request_in : sent.Request → Request
 request_in r = record { key = option_map (λ key. key.items) r.key; call = call_in r.call }
 
--- the desk of a call's path: none of one that publishes or opens a desk
+-- the desk on the path of a call: empty for a call that publishes a code or opens a desk
 abbrev pub path_of : Call → Text
 path_of (publish body) = []
 path_of (open_desk body) = []
@@ -46,6 +49,6 @@ path_of (chart desk n rule) = desk
 path_of (days desk n rule) = desk
 path_of (best desk n budget) = desk
 
--- the desk whose view decides: no desk has the empty name, which stands for none
+-- the desk whose view decides; the empty name, which no desk has, stands for none
 abbrev pub subject_of : Call → Text
 subject_of call = unwrap_or (desk_of call) []

@@ -1,5 +1,5 @@
--- What a route refuses, if anything, as a function or relation of values (docs/definitions.md,
--- "Desks"). Of several refusals the first of their order is answered.
+-- The refusals of the routes, as functions or relations of values (docs/definitions.md, "Desks").
+-- If several apply, the first one in their order is the answer.
 use Rattle.std.specs.Prelude.{◌≡◌, ◌⊎◌, ◌+◌, ◌≤◌, ◌<◌, ℕ, if◌then◌else◌, Option, Some, None}
 use Rattle.plan_psplib.specs.Project.{Project, SaysProject}
 use Rattle.plan_orlib.specs.Shop as docs
@@ -10,7 +10,7 @@ use Rattle.plan_rows.specs.declared.kinds.PlanKind.{PlanKind}
 use Rattle.plan_rows.specs.declared.kinds.PlanKind.TheVariants as kinds
 use Rattle.plan_rows.specs.World.{Text, same_kind}
 use Rattle.plan_desk.specs.Calls.{Reply}
-use Rattle.plan_desk.specs.Bodies.{BindBody, LagBody}
+use Rattle.plan_desk.specs.Bodies.{LagBody}
 use Rattle.plan_rows.specs.Plans.{has_arc}
 use Rattle.plan_rows.specs.Rules.{greatest_number, most_plans}
 use Rattle.plan_desk.specs.Refusals.{bad_body, unpublished, kind_differs, other_kind, many_plans, numbers_spent, bad_file}
@@ -31,25 +31,21 @@ IsFileRefusal kind name body None = IsRead kind name body
 IsFileRefusal kind name body (Some reply) =
     (line : Text) × TellsFileFault kind name body line × (reply ≡ bad_file line)
 
--- an import by a desk that holds so many plans and gives its next one this number: the desk is full,
--- else its numbers are spent, else the file is judged
+-- an import by a desk that holds so many plans and gives its next one this number: the desk is
+-- full, else its numbers are spent, else the file is judged
 abbrev pub IsImportRefusal : ℕ → ℕ → PlanKind → Text → Text → Option Reply → Type 0
 IsImportRefusal held next kind name body refusal =
     ((most_plans ≤ held) × (refusal ≡ Some many_plans))
     ⊎ (((held < most_plans) × (greatest_number + 1 ≤ next) × (refusal ≡ Some numbers_spent))
     ⊎ ((held < most_plans) × (next < greatest_number + 1) × IsFileRefusal kind name body refusal))
 
--- a bind, by what its body says, the kind of the code where it is published, and the kind that the
--- plan takes
-abbrev pub bind_refusal_of : Option BindBody → Option Kind → Kind → Option Reply
-bind_refusal_of None published takes = Some bad_body
-bind_refusal_of (Some b) None takes = Some unpublished
-bind_refusal_of (Some b) (Some kind) takes =
-    if same_kind kind takes then None else Some kind_differs
+-- the refusal of a bind, by the kind of the published code and the kind of code that the plan takes
+abbrev pub bind_refusal_of : Option Kind → Kind → Option Reply
+bind_refusal_of None takes = Some unpublished
+bind_refusal_of (Some kind) takes = if same_kind kind takes then None else Some kind_differs
 
--- a lag, by what its body says, and the project of the plan: a shop has none
-abbrev pub lag_refusal_of : Option LagBody → Option Project → Option Reply
-lag_refusal_of None project = Some bad_body
-lag_refusal_of (Some b) None = Some other_kind
-lag_refusal_of (Some b) (Some p) =
-    if has_arc p.network b.source b.target then None else Some bad_body
+-- the refusal of a lag, by its body and the project of the plan: None for a shop
+abbrev pub lag_refusal_of : LagBody → Option Project → Option Reply
+lag_refusal_of b None = Some other_kind
+lag_refusal_of b (Some p) =
+    if has_arc p.network b.from b.to then None else Some bad_body

@@ -1,5 +1,4 @@
--- What is answered to a desk's question for a page of a plan's schedule by a rule, by the page
--- (docs/definitions.md, "Desks").
+-- The routes of the pages of a plan's schedule by a rule (docs/definitions.md, "Desks").
 use Rattle.plan_rows.specs.World.{Text}
 use Rattle.plan_rows.specs.Views.{View}
 use Rattle.plan_desk.specs.declared.pages.by_rule.RulePage.{RulePage}

@@ -1,4 +1,4 @@
--- Schedules of plans as a book answers them, for private clauses alone (docs/definitions.md,
+-- Schedules of the plans that a book returns, for private clauses only (docs/definitions.md,
 -- "Books").
 use Rattle.std.specs.Prelude.{◌≡◌, ◌⊎◌, ℕ, ◌≤◌, Bool, List, length, EachIndex, slice_index}
 use Rattle.plan_net.specs.Network.{count_of}
@@ -26,7 +26,7 @@ use Rattle.plan_rows.specs.Plans.{IsShopOf}
 use Rattle.plan_desk.specs.PageRoutes.{IsScheduleBy, IsShopScheduleBy, TellsShopRefusal}
 use Rattle.plan_desk.specs.PlanValues.{IsProjectIn, row_in, planned_in, open_in}
 
--- a schedule of so many activities or steps, which texts can show
+-- a schedule of this number of activities or steps, within the limits of texts
 pub record CanBeShown (count : ℕ) (schedule : Schedule) : Type 0 where
   pub each_started : length schedule.starts.items ≡ count
   pub in_time : EachIndex schedule.starts.items (λ k.
@@ -40,7 +40,8 @@ pub record IsMade (i : Planned) (name : Text) (schedule : Schedule) : Type 0 whe
   pub fits : CanBeShown (count_of i.project.network) schedule
 
 -- the schedule of a shop by the rule of a name
-pub record IsMadeOfShop (s : JobShop) (usable : List Bool) (name : Text) (schedule : Schedule) : Type 0 where
+pub record IsMadeOfShop (s : JobShop) (usable : List Bool) (name : Text) (schedule : Schedule)
+    : Type 0 where
   pub by : IsShopScheduleBy s usable name schedule.starts.items
   pub makespan : schedule.makespan ≡ makespan (shops.problem_of s) schedule.starts.items
   pub fits : CanBeShown (count_steps s) schedule
@@ -54,7 +55,7 @@ IsScheduled bound name (made.Shop s schedule) =
     (bound.plan.kind ≡ kinds.Shop) × IsShopOf (row_in bound.plan) s
     × IsMadeOfShop s (open_in bound s) name schedule
 
--- a line tells why a plan has none
+-- a line refuses the schedule of a plan
 abbrev pub TellsUnscheduled : BoundPlan → Text → Text → Type 0
 TellsUnscheduled bound name line =
     ((bound.plan.kind ≡ kinds.Project)
@@ -63,7 +64,7 @@ TellsUnscheduled bound name line =
     × ((s : JobShop) × IsShopOf (row_in bound.plan) s
     × TellsShopRefusal name s (open_in bound s) line))
 
--- texts can show it
+-- the schedule is within the limits of texts
 abbrev pub ScheduleFits : Scheduled → Type 0
 ScheduleFits (made.Project p schedule) = CanBeShown (count_of p.network) schedule
 ScheduleFits (made.Shop s schedule) = CanBeShown (count_steps s) schedule
@@ -87,7 +88,7 @@ abbrev pub IsDaysTableOf : Scheduled → Workdays → Text → Type 0
 IsDaysTableOf (made.Project p schedule) c = IsCalendarTable c p.network schedule.starts.items
 IsDaysTableOf (made.Shop s schedule) c = IsShopCalendarTable c s schedule.starts.items
 
--- a day that is shown of it is beyond the calendar
+-- a day of its table is beyond the calendar
 abbrev pub HasDayBeyondOf : Scheduled → Workdays → Type 0
 HasDayBeyondOf (made.Project p schedule) c = HasActivityBeyond c p.network schedule.starts.items
 HasDayBeyondOf (made.Shop s schedule) c = HasStepBeyond c s schedule.starts.items

@@ -1,6 +1,6 @@
--- Steps of the office, runs of them, and what of a run belongs to one desk (docs/definitions.md,
--- "Desks"). What is answered to an admitted call, and which change that makes, is told by what the
--- call's desk sees: it is a parameter here, and all routes are in Decisions.
+-- Steps of the office, runs of steps, and the part of a run that belongs to one desk
+-- (docs/definitions.md, "Desks"). The reply to an admitted call and its change follow from the view
+-- of the call's desk: they are a parameter here, and all routes are in Decisions.
 use Rattle.std.specs.Prelude.{◌≡◌, ◌⊎◌, Bool, true, false, ◌&&◌, ◌||◌, List, [], ◌∷◌, Option, Some, None, codes}
 use Rattle.plan_rows.specs.World.{Text, World, same_text}
 use Rattle.plan_rows.specs.Changes.{Change, Keep, apply}
@@ -11,37 +11,37 @@ abbrev pub names : Text → Option Text → Bool
 names desk None = false
 names desk (Some text) = same_text text desk
 
--- a call on a path of the desk, one that opens it or sets its key, or one that publishes
+-- a call on a path of the desk, a call that opens it or sets its key, or a publication
 abbrev pub concerns : Text → Call → Bool
 concerns desk call = is_publish call || names desk (desk_of call)
 
--- a request of the desk's story: it concerns the desk, and has the key that its call takes in the
--- view of that moment
+-- a request of the desk's story: it concerns the desk, and has the key that its call needs in the
+-- current view
 abbrev pub belongs : Text → View → Request → Bool
 belongs desk v r = concerns desk r.call && admits v r
 
--- a refusal for want of memory, or by the store
+-- a refusal for lack of memory, or by the store
 abbrev pub IsWant : Reply → Type 0
 IsWant reply =
     (reply ≡ refusal 503 (codes "E90 memory")) ⊎ (reply ≡ refusal 507 (codes "E91 store"))
 
--- a decision for an admitted request, or the one refusal of all others
+-- the decision for an admitted request, or the one refusal of all others
 abbrev pub decided : Bool → (Reply → Change → Type 0) → Reply → Change → Type 0
 decided true Rest reply change = Rest reply change
 decided false Rest reply change = (reply ≡ no_key) × (change ≡ Keep)
 
 module _ (Answers : View → Call → Reply → Change → Type 0) where
-  -- in a view a request is given a reply, and makes a change
+  -- in the view, the request gets this reply and makes this change
   abbrev pub IsDecided : View → Request → Reply → Change → Type 0
   IsDecided v r reply change = decided (admits v r) (Answers v r.call) reply change
 
-  -- decide by what the desk sees, then apply
+  -- decide by the view of the desk, then apply the change
   abbrev pub IsStep : World → Request → Reply → World → Type 0
   IsStep w r reply after =
       (change : Change) × IsDecided (view (subject r) w) r reply change
       × (after ≡ apply (subject r) change w)
 
-  -- a step, or a refusal for want of memory or by the store, with the rows as they were
+  -- a step, or a refusal for lack of memory or by the store that leaves the rows unchanged
   abbrev pub IsRealStep : World → Request → Reply → World → Type 0
   IsRealStep w r reply after = IsStep w r reply after ⊎ (IsWant reply × (after ≡ w))
 
@@ -52,8 +52,9 @@ module _ (Answers : View → Call → Reply → Change → Type 0) where
       IsRealStep w r reply after × IsRun after requests replies worlds
   IsRun w requests replies worlds = ⊥
 
-  -- A request that doesn't belong to the desk is passed over. One that does is answered as in an
-  -- office that has the rows of the view and no others, or for want, and then no more is said.
+  -- A request that doesn't belong to the desk is skipped. A request that does gets the reply of an
+  -- office that has the rows of the view and no others; or it is refused for lack of memory or by
+  -- the store, and then nothing more is claimed.
   abbrev pub AreTold : Text → View → List Request → List Reply → Type 0
   AreTold desk v [] [] = Unit {0}
   AreTold desk v (r ∷ requests) (reply ∷ replies) =
@@ -62,8 +63,8 @@ module _ (Answers : View → Call → Reply → Change → Type 0) where
       × IsStep (alone v) r reply after × AreTold desk (view desk after) requests replies)))
   AreTold desk v requests replies = ⊥
 
-  -- the requests of a list that belong to a desk, each judged in the view that the earlier ones of
-  -- the story leave, and what they were told: none of them for want
+  -- the requests of a list that belong to a desk, each in the view after the earlier requests of
+  -- the story, and their replies: none is a refusal for lack of memory or by the store
   abbrev pub IsStoryOf : Text → View → List Request → List Reply → List Request → List Reply → Type 0
   IsStoryOf desk v [] [] story told = (story ≡ []) × (told ≡ [])
   IsStoryOf desk v (r ∷ requests) (reply ∷ replies) story told =
@@ -74,7 +75,7 @@ module _ (Answers : View → Call → Reply → Change → Type 0) where
       × IsStoryOf desk (view desk after) requests replies more others)))
   IsStoryOf desk v requests replies story told = ⊥
 
-  -- a request of the desk's story was answered for want
+  -- a request of the desk's story was refused for lack of memory or by the store
   abbrev pub IsWanting : Text → View → List Request → List Reply → Type 0
   IsWanting desk v (r ∷ requests) (reply ∷ replies) =
       ((belongs desk v r ≡ false) × IsWanting desk v requests replies)

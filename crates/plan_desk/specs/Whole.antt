@@ -1,4 +1,4 @@
--- The rules of rows, where they are known to be kept: a book keeps them in this way.
+-- The rules of rows, recovered from the fact that they are known to hold: a book keeps that fact.
 use Rattle.std.specs.Prelude.{◌≡◌, ℕ, ◌<◌, ◌≤◌, true, [], length, filter}
 use Rattle.std.proofs.Common.{refl}
 use Rattle.std.proofs.Math.Logic.{∥∥₁_elim, ∥∥₁_map}
@@ -11,7 +11,7 @@ use Rattle.plan_rows.specs.Plans.{is_place}
 use Rattle.plan_rows.specs.Plans.{has_arc}
 use Rattle.plan_rows.specs.Names.{is_from_to, is_digest}
 use Rattle.plan_rows.specs.Rules.{greatest_number, most_plans, IsWorld, IsPlanRow, IsBindRow, IsLagRow, IsOwned, HasName, is_published_row, is_desk_row}
-use Rattle.plan_desk.specs.Recovering.{Recovers, single, equal, each, pair, there, differ, project, places, has_calendar}
+use Rattle.plan_desk.specs.Recovery.{Recovers, single, equal, each, pair, there, differ, project, places, has_calendar}
 
 has_name : (kind : PlanKind) (name : Text) → Recovers (HasName kind name)
 has_name kinds.Project name t = single (empty name) t

@@ -1,11 +1,12 @@
-//! What the JSON bodies of requests say.
+//! The JSON bodies of requests.
 
 ghost use Rattle.std.specs.Prelude.{◌≡◌, ◌≤◌, IfOk, IfSome, option_map, string_bytes, codes};
 ghost use Rattle.plan_rows.specs.Plans as plans;
 ghost use Rattle.serde_json.specs.View.{view};
 ghost use Rattle.plan_desk.specs.Bodies as spec;
 ghost use Rattle.plan_rows.specs.Names as names;
-ghost use Rattle.plan_desk.specs.BodyViews.{publish_in, desk_body_in, bind_body_in, calendar_in, lag_body_in};
+ghost use Rattle.plan_desk.specs.BodyViews.{publish_in, desk_body_in, bind_body_in};
+ghost use Rattle.plan_desk.specs.BodyViews.{calendar_in, lag_body_in};
 
 use plan_net::{LONGEST_LAG, MOST_ACTIVITIES};
 use plan_psplib::GREATEST_AMOUNT;
@@ -21,21 +22,21 @@ pub(crate) struct PublishBody {
     pub capacity: u64,
 }
 
-// The name of a desk, and its key.
+// The name of a desk, and the key that it gets.
 #[derive(Drop)]
 pub(crate) struct DeskBody {
     pub desk: String,
     pub key: String,
 }
 
-// A published code, and the place that it is bound to.
+// A published code, and the place that the code is bound to.
 #[derive(Drop)]
 pub(crate) struct BindBody {
     pub code: String,
     pub place: u64,
 }
 
-// A start date and seven marks, as texts.
+// A start date and the marks of seven days, as texts.
 #[derive(Drop)]
 pub(crate) struct CalendarBody {
     pub start: String,
@@ -45,12 +46,12 @@ pub(crate) struct CalendarBody {
 // The ends of an arc, and its lag.
 #[derive(Clone, Copy, Drop)]
 pub(crate) struct LagBody {
-    pub source: u32,
-    pub target: u32,
+    pub from: u32,
+    pub to: u32,
     pub lag: u64,
 }
 
-// The value that a body spells, or none where it is no JSON.
+// The value that a body spells, or None if the body is no JSON.
 fn json(alloc: Global, body: &[u8]) -> Result<Option<Value>, AllocError>
     ensures { IfOk result (λ value. option_map view value ≡ spec.json body.now) }
 {
@@ -66,30 +67,34 @@ fn json(alloc: Global, body: &[u8]) -> Result<Option<Value>, AllocError>
     }
 }
 
-// A member that is a text.
+// The member of this name, if it is a text.
 fn text_in<'v>(name: &str, value: &'v Value) -> Option<&'v str>
-    ensures { option_map (λ s. s.now) result ≡ spec.text_in spec.any_text name.now (view value.now) }
+    ensures { option_map (λ s. s.now) result
+        ≡ spec.text_in spec.any_text name.now (view value.now) }
 {
     value.get(name).and_then(Value::as_str)
 }
 
-// A member that can be the name of a desk, or a code.
+// The member of this name, if it can be the name of a desk or a code.
 fn name_in<'v>(name: &str, value: &'v Value) -> Option<&'v str>
-    ensures { option_map (λ s. s.now) result ≡ spec.text_in names.is_name name.now (view value.now) }
+    ensures { option_map (λ s. s.now) result
+        ≡ spec.text_in names.is_name name.now (view value.now) }
 {
     text_in(name, value).filter(|text| is_name(text.as_bytes()))
 }
 
-// A member that can be a key.
+// The member of this name, if it can be a key.
 fn key_in<'v>(name: &str, value: &'v Value) -> Option<&'v str>
-    ensures { option_map (λ s. s.now) result ≡ spec.text_in names.is_key name.now (view value.now) }
+    ensures { option_map (λ s. s.now) result
+        ≡ spec.text_in names.is_key name.now (view value.now) }
 {
     text_in(name, value).filter(|text| is_key(text.as_bytes()))
 }
 
-// A member that is a whole number from one to another.
+// The member of this name, if it is a whole number from `least` to `most`.
 fn number_in(name: &str, least: u64, most: u64, value: &Value) -> Option<u64>
-    ensures value { result ≡ spec.number_in (names.is_from_to least most) name.now (view value.now) }
+    ensures value { result
+        ≡ spec.number_in (names.is_from_to least most) name.now (view value.now) }
     ensures most { IfSome result (λ n. n ≤ most) }
 {
     value
@@ -105,7 +110,8 @@ fn kind_named(text: &str) -> Option<Kind>
 }
 
 fn publish_members(alloc: Global, value: &Value) -> Result<Option<PublishBody>, AllocError>
-    ensures { IfOk result (λ b. option_map publish_in b ≡ spec.publish_members (view value.now)) }
+    ensures { IfOk result (λ b. option_map publish_in b
+        ≡ spec.publish_members (view value.now)) }
 {
     let Some(code) = name_in("code", value) else {
         return Ok(None);
@@ -123,7 +129,7 @@ fn publish_members(alloc: Global, value: &Value) -> Result<Option<PublishBody>, 
     }))
 }
 
-// What a body that publishes a code says.
+// Parses a body that publishes a code.
 #[tactic(auto, unfolding(crate::specs::Bodies::publish_body))]
 pub(crate) fn publish_body(alloc: Global, body: &[u8]) -> Result<Option<PublishBody>, AllocError>
     ensures { IfOk result (λ b. option_map publish_in b ≡ spec.publish_body body.now) }
@@ -149,7 +155,7 @@ fn desk_members(alloc: Global, value: &Value) -> Result<Option<DeskBody>, AllocE
     }))
 }
 
-// What a body that opens a desk says.
+// Parses a body that opens a desk.
 #[tactic(auto, unfolding(crate::specs::Bodies::desk_body))]
 pub(crate) fn desk_body(alloc: Global, body: &[u8]) -> Result<Option<DeskBody>, AllocError>
     ensures { IfOk result (λ b. option_map desk_body_in b ≡ spec.desk_body body.now) }
@@ -161,7 +167,8 @@ pub(crate) fn desk_body(alloc: Global, body: &[u8]) -> Result<Option<DeskBody>, 
 }
 
 fn key_member(alloc: Global, value: &Value) -> Result<Option<String>, AllocError>
-    ensures { IfOk result (λ key. option_map string_bytes key ≡ spec.text_in names.is_key (codes "key") (view value.now)) }
+    ensures { IfOk result (λ key. option_map string_bytes key
+        ≡ spec.text_in names.is_key (codes "key") (view value.now)) }
 {
     match key_in("key", value) {
         Some(key) => Ok(Some(String::from_str(alloc, key)?)),
@@ -169,7 +176,7 @@ fn key_member(alloc: Global, value: &Value) -> Result<Option<String>, AllocError
     }
 }
 
-// What a body that sets a key says.
+// Parses a body that sets a key.
 #[tactic(auto, unfolding(crate::specs::Bodies::key_body))]
 pub(crate) fn key_body(alloc: Global, body: &[u8]) -> Result<Option<String>, AllocError>
     ensures { IfOk result (λ key. option_map string_bytes key ≡ spec.key_body body.now) }
@@ -180,7 +187,7 @@ pub(crate) fn key_body(alloc: Global, body: &[u8]) -> Result<Option<String>, All
     }
 }
 
-// Whether a plan of so many places has a place.
+// Whether a plan with `count` places has this place.
 fn is_place(kind: PlanKind, count: u64, place: u64) -> bool
     ensures { result ≡ plans.is_place kind count place }
 {
@@ -191,7 +198,8 @@ fn is_place(kind: PlanKind, count: u64, place: u64) -> bool
 }
 
 fn place_in(kind: PlanKind, count: u64, value: &Value) -> Option<u64>
-    ensures { result ≡ spec.number_in (plans.is_place kind count) (codes "place") (view value.now) }
+    ensures { result
+        ≡ spec.number_in (plans.is_place kind count) (codes "place") (view value.now) }
 {
     value
         .get("place")
@@ -205,7 +213,8 @@ fn bind_members(
     count: u64,
     value: &Value,
 ) -> Result<Option<BindBody>, AllocError>
-    ensures { IfOk result (λ b. option_map bind_body_in b ≡ spec.bind_members (plans.is_place kind count) (view value.now)) }
+    ensures { IfOk result (λ b. option_map bind_body_in b
+        ≡ spec.bind_members (plans.is_place kind count) (view value.now)) }
 {
     let Some(code) = name_in("code", value) else {
         return Ok(None);
@@ -219,7 +228,7 @@ fn bind_members(
     }))
 }
 
-// What a body that binds a code says, to a plan of so many places.
+// Parses a body that binds a code to a place of a plan with `count` places.
 #[tactic(auto, unfolding(crate::specs::Bodies::bind_body))]
 pub(crate) fn bind_body(
     alloc: Global,
@@ -227,7 +236,8 @@ pub(crate) fn bind_body(
     count: u64,
     body: &[u8],
 ) -> Result<Option<BindBody>, AllocError>
-    ensures { IfOk result (λ b. option_map bind_body_in b ≡ spec.bind_body (plans.is_place kind count) body.now) }
+    ensures { IfOk result (λ b. option_map bind_body_in b
+        ≡ spec.bind_body (plans.is_place kind count) body.now) }
 {
     match json(alloc, body)? {
         Some(value) => bind_members(alloc, kind, count, &value),
@@ -236,7 +246,8 @@ pub(crate) fn bind_body(
 }
 
 fn calendar_members(alloc: Global, value: &Value) -> Result<Option<CalendarBody>, AllocError>
-    ensures { IfOk result (λ b. option_map calendar_in b ≡ spec.calendar_members (view value.now)) }
+    ensures { IfOk result (λ b. option_map calendar_in b
+        ≡ spec.calendar_members (view value.now)) }
 {
     let Some(start) = text_in("start", value) else {
         return Ok(None);
@@ -250,7 +261,7 @@ fn calendar_members(alloc: Global, value: &Value) -> Result<Option<CalendarBody>
     }))
 }
 
-// What a body that sets a calendar says.
+// Parses a body that sets a calendar.
 #[tactic(auto, unfolding(crate::specs::Bodies::calendar_body))]
 pub(crate) fn calendar_body(alloc: Global, body: &[u8]) -> Result<Option<CalendarBody>, AllocError>
     ensures { IfOk result (λ b. option_map calendar_in b ≡ spec.calendar_body body.now) }
@@ -264,17 +275,17 @@ pub(crate) fn calendar_body(alloc: Global, body: &[u8]) -> Result<Option<Calenda
 fn lag_members(value: &Value) -> Option<LagBody>
     ensures { option_map lag_body_in result ≡ spec.lag_members (view value.now) }
 {
-    let source = number_in("from", 1, MOST_ACTIVITIES as u64, value)?;
-    let target = number_in("to", 1, MOST_ACTIVITIES as u64, value)?;
+    let from = number_in("from", 1, MOST_ACTIVITIES as u64, value)?;
+    let to = number_in("to", 1, MOST_ACTIVITIES as u64, value)?;
     let lag = number_in("lag", 0, LONGEST_LAG, value)?;
     Some(LagBody {
-        source: source as u32,
-        target: target as u32,
+        from: from as u32,
+        to: to as u32,
         lag,
     })
 }
 
-// What a body that sets a lag says.
+// Parses a body that sets a lag.
 #[tactic(auto, unfolding(crate::specs::Bodies::lag_body))]
 pub(crate) fn lag_body(alloc: Global, body: &[u8]) -> Result<Option<LagBody>, AllocError>
     ensures { IfOk result (λ b. option_map lag_body_in b ≡ spec.lag_body body.now) }

@@ -1,4 +1,4 @@
-//! What a request decides: a reply that is whole, and the change that is then made.
+//! Decisions: the complete reply to a request, and the change that follows.
 
 ghost use Rattle.std.specs.Prelude.{◌≡◌};
 ghost use Rattle.plan_desk.specs.declared.change.Change.TheVariants.{Keep};
@@ -6,7 +6,7 @@ ghost use Rattle.plan_desk.specs.declared.change.Change.TheVariants.{Keep};
 use crate::reply::Reply;
 use plan_rows::{Kind, PlanKind};
 
-// What a command changes, one variant for each writing call of a book.
+// A change of the rows: one variant for each writing call of a book, and one for no call.
 #[derive(Drop)]
 pub(crate) enum Change<'a> {
     Keep,
@@ -48,14 +48,15 @@ pub(crate) enum Change<'a> {
     },
 }
 
+// A reply, and the change that is made before the reply is sent.
 #[derive(Drop)]
 pub(crate) struct Decision<'a> {
     pub reply: Reply,
     pub change: Change<'a>,
 }
 
-// A reply by which nothing changes.
-pub(crate) fn kept(reply: Reply) -> Decision<'static>
+// The decision to send a reply and to change nothing.
+pub(crate) fn without_change(reply: Reply) -> Decision<'static>
     ensures reply { result.reply ≡ reply }
     ensures change { result.change ≡ Keep }
 {

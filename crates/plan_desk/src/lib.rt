@@ -1,14 +1,16 @@
-//! The desks of an office: what each request is answered and changes, and why no desk sees another.
+//! The desks of an office: the reply to each request, the change that it makes, and the isolation
+//! of the desks from each other.
 #![tactic(auto)]
 
+mod admission;
 mod answers;
 mod bodies;
 mod bound;
-mod carrying;
 mod change;
-mod finding;
-mod judging;
+mod dispatch;
+mod execution;
 mod laws;
+mod lookup;
 mod mem_book;
 mod office;
 mod pages;

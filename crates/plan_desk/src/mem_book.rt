@@ -11,7 +11,7 @@ use plan_rows::{
 };
 use std::alloc::{AllocError, Global};
 
-/// The tables of an office in memory. It refuses only for want of memory, and keeps the rules of
+/// The tables of an office in memory. Its calls fail only if memory runs out, and keep the rules of
 /// rows.
 #[derive(Drop)]
 pub struct MemBook {
@@ -21,8 +21,8 @@ pub struct MemBook {
     ghost whole: { ∥ IsWorld (world_kept tables) ∥₁ },
 }
 
-// What tables in memory answer, as a book answers it.
-fn told(answer: Result<(), AllocError>) -> Result<(), BookFault>
+// The answer of tables in memory, as the answer of a book.
+fn book_answer(answer: Result<(), AllocError>) -> Result<(), BookFault>
     ensures { MatchResult answer (λ _. IsOk result) (λ _. result ≡ Err NoMemory) }
 {
     Ok(answer?)
@@ -35,7 +35,7 @@ impl MemBook {
     ghost use Rattle.plan_rows.specs.Tables.{world_kept};
     ghost use Rattle.plan_desk.specs.MemBooks.{memory_world};
 
-    /// A book without a row, of an office with the digest of its key.
+    /// Returns a book without rows for an office whose key has this digest.
     pub fn new(alloc: Global, digest: [u8; 32]) -> MemBook
         ensures { memory_world result ≡ empty_world digest }
     {
@@ -47,7 +47,7 @@ impl MemBook {
         }
     }
 
-    /// A book of tables that keep the rules of rows, or none where one of the rules is broken.
+    /// Returns a book of these tables, or None if they break one of the rules of rows.
     pub fn of_tables(alloc: Global, tables: Tables) -> Result<Option<MemBook>, AllocError>
         ensures { IfOk result (λ book. MatchOption book (IsWorld (world_kept tables) → ⊥)
             (λ book. IsWorld (world_kept tables) × (memory_world book ≡ world_kept tables))) }
@@ -85,7 +85,7 @@ impl Book for MemBook {
 
     fn open_desk(&mut self, name: &str, digest: &[u8; 32]) -> Result<(), BookFault> {
         let answer = self.tables.open_desk(self.alloc, name, digest);
-        self.calls.count(told(answer))
+        self.calls.count(book_answer(answer))
     }
 
     fn set_key(&mut self, name: &str, digest: &[u8; 32]) -> Result<(), BookFault> {
@@ -95,7 +95,7 @@ impl Book for MemBook {
 
     fn publish(&mut self, code: &str, kind: Kind, capacity: u64) -> Result<(), BookFault> {
         let answer = self.tables.publish(self.alloc, code, kind, capacity);
-        self.calls.count(told(answer))
+        self.calls.count(book_answer(answer))
     }
 
     fn capacity(&mut self, code: &str) -> Result<Option<(Kind, u64)>, BookFault> {
@@ -127,7 +127,7 @@ impl Book for MemBook {
         body: &[u8],
     ) -> Result<(), BookFault> {
         let answer = self.tables.add_plan(self.alloc, desk, kind, name, body);
-        self.calls.count(told(answer))
+        self.calls.count(book_answer(answer))
     }
 
     fn remove_plan(&mut self, desk: &str, n: u64) -> Result<(), BookFault> {
@@ -137,7 +137,7 @@ impl Book for MemBook {
 
     fn bind(&mut self, desk: &str, n: u64, place: u64, code: &str) -> Result<(), BookFault> {
         let answer = self.tables.bind(self.alloc, desk, n, place, code);
-        self.calls.count(told(answer))
+        self.calls.count(book_answer(answer))
     }
 
     fn set_calendar(
@@ -148,7 +148,7 @@ impl Book for MemBook {
         days: &str,
     ) -> Result<(), BookFault> {
         let answer = self.tables.set_calendar(self.alloc, desk, n, start, days);
-        self.calls.count(told(answer))
+        self.calls.count(book_answer(answer))
     }
 
     fn set_lag(
@@ -160,6 +160,6 @@ impl Book for MemBook {
         lag: u64,
     ) -> Result<(), BookFault> {
         let answer = self.tables.set_lag(self.alloc, desk, n, from, to, lag);
-        self.calls.count(told(answer))
+        self.calls.count(book_answer(answer))
     }
 }

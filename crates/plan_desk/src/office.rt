@@ -1,12 +1,12 @@
-//! The office: from each request to its reply.
+//! The office: it handles a request and returns the reply.
 
 ghost use Rattle.std.specs.Prelude.{◌≡◌, MatchResult};
-ghost use Rattle.plan_desk.specs.Deciding.{Handled, want_of};
+ghost use Rattle.plan_desk.specs.BookSteps.{Handled, want_of};
 ghost use Rattle.plan_desk.specs.Replies.{reply_of};
 ghost use Rattle.plan_desk.specs.Requests.{request_in};
 
-use crate::carrying::carry_out;
-use crate::judging::judge;
+use crate::dispatch::judge;
+use crate::execution::carry_out;
 use crate::reply::{Reply, no_memory, store_refused};
 use crate::request::Request;
 use plan_exact::Memo;
@@ -14,8 +14,8 @@ use plan_rows::{Book, BookFault};
 use std::alloc::Global;
 use std::marker::Model;
 
-/// An office over a book: it answers the requests of all desks. Contracts see its book. Best schedules
-/// that were found are kept, of all desks together, by what was asked: no reply depends on what is kept.
+/// An office over a book: it answers the requests of all desks. Contracts see its book. It caches
+/// best schedules, for all desks together, by the question; no reply depends on the cache.
 #[derive(Drop)]
 pub struct Office<B: Book> {
     alloc: Global,
@@ -29,7 +29,7 @@ impl<B: Book> Model for Office<B> {
     ghost view = { λ office. office.book };
 }
 
-// What a request is answered, or why a book could not do what was asked.
+// Answers a request, or returns the fault of the book.
 fn answer<B: Book>(
     book: &mut B,
     alloc: Global,
@@ -48,7 +48,7 @@ fn answer<B: Book>(
 }
 
 impl<B: Book> Office<B> {
-    /// An office over a book. The book comes back where there is no memory.
+    /// Returns an office over a book. If memory runs out, it returns the book.
     pub fn new(alloc: Global, book: B) -> Result<Office<B>, B>
         ensures { MatchResult result (λ office. office ≡ book) (λ back. back ≡ book) }
     {
@@ -58,16 +58,16 @@ impl<B: Book> Office<B> {
         }
     }
 
-    /// The book of the office.
+    /// Returns the book of the office.
     pub fn into_book(self) -> B
         ensures { result ≡ self }
     {
         self.book
     }
 
-    /// Handles a request. Its reply is whole before anything is written; where a command was accepted it
-    /// is written, and what is refused for want of memory (`E90 memory`) or by the store (`E91 store`)
-    /// leaves the tables as they were.
+    /// Handles a request. The reply is complete before anything is written. An accepted command
+    /// makes one writing call. A request that fails for lack of memory (`E90 memory`) or by the
+    /// store (`E91 store`) leaves the tables as they were.
     pub fn handle(&mut self, request: &Request) -> Reply
         ensures { Handled B.shelf self.old self.new (request_in request.now) (reply_of result) }
     {

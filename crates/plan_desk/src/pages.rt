@@ -1,4 +1,4 @@
-//! The pages of plans, each made of a plan as a book answers it.
+//! The pages of plans, each built from the rows that a book returned.
 
 mod best;
 mod by_rule;

@@ -1,4 +1,4 @@
-//! The files of plans, read again.
+//! The files of plans, read from the stored bodies.
 
 ghost use Rattle.std.specs.Prelude.{◌≡◌, IfOk, IfErr, OnOk, map};
 ghost use Rattle.plan_psplib.specs.Faults.{IsWantOfMemory};
@@ -15,8 +15,9 @@ use plan_psplib::{FileCode, FileFault, ProjectDoc, read_sm};
 use plan_rows::{BookFault, LagEntry, PlanRow};
 use std::alloc::Global;
 
-// Want of memory, or a body that no plan of a sound store has.
-fn unread(fault: FileFault) -> BookFault
+// The fault of a book whose plan has a body that fails a check: memory ran out, or no sound store
+// has this body.
+fn book_fault(fault: FileFault) -> BookFault
     ensures blamed { result ≡ Store → IsWantOfMemory fault → ⊥ }
     ensures wanted { result ≡ NoMemory → fault.code ≡ FileCode.Memory }
 {
@@ -27,32 +28,32 @@ fn unread(fault: FileFault) -> BookFault
     }
 }
 
-// The project that the body of a plan says.
-pub(crate) fn said_project(alloc: Global, body: &[u8]) -> Result<ProjectDoc, BookFault>
+// Reads the project in the body of a plan.
+pub(crate) fn read_project_file(alloc: Global, body: &[u8]) -> Result<ProjectDoc, BookFault>
     ensures said { IfOk result (files.SaysProject body.now) }
     ensures blamed { IfErr result (λ fault. fault ≡ Store →
         (p : files.Project) → files.SaysProject body.now p → ⊥) }
 {
     match read_sm(alloc, body) {
         Ok(project) => Ok(project),
-        Err(fault) => Err(unread(fault)),
+        Err(fault) => Err(book_fault(fault)),
     }
 }
 
-// The shop that the body of a plan says by the name of its instance.
+// Reads the shop in the body of a plan, by the name of its instance.
 #[tactic(auto, using(plan_orlib::proofs::OnceLemmas::said_fails_none))]
-pub(crate) fn said_shop(alloc: Global, name: &str, body: &[u8]) -> Result<ShopDoc, BookFault>
+pub(crate) fn read_shop_file(alloc: Global, name: &str, body: &[u8]) -> Result<ShopDoc, BookFault>
     ensures said { IfOk result (Says name.now body.now) }
     ensures blamed { IfErr result (λ fault. fault ≡ Store →
         (shop : docs.Shop) → Says name.now body.now shop → ⊥) }
 {
     match read_shop(alloc, body, name.as_bytes()) {
         Ok(shop) => Ok(shop),
-        Err(fault) => Err(unread(fault)),
+        Err(fault) => Err(book_fault(fault)),
     }
 }
 
-// Gives the arcs of a project their lags.
+// Sets the lags of the arcs of a project.
 fn set_lags(project: &mut ProjectDoc, lags: &[LagEntry]) -> Result<(), BookFault>
     ensures ok { OnOk result (project.new ≡ lagged_by (map lag_in lags.now) project.old) }
     ensures blamed { IfErr result (λ fault. fault ≡ Store →
@@ -66,12 +67,12 @@ fn set_lags(project: &mut ProjectDoc, lags: &[LagEntry]) -> Result<(), BookFault
     Ok(())
 }
 
-// The project of a plan, with its lags.
-pub(crate) fn project_of(alloc: Global, plan: &PlanRow) -> Result<ProjectDoc, BookFault>
+// The project of a plan, with the lags of the desk.
+pub(crate) fn lagged_project(alloc: Global, plan: &PlanRow) -> Result<ProjectDoc, BookFault>
     ensures ok { IfOk result (IsProjectIn plan.now) }
     ensures blamed { IfErr result (λ fault. fault ≡ Store → HasProject plan.now → ⊥) }
 {
-    let mut project = said_project(alloc, plan.body.as_slice())?;
+    let mut project = read_project_file(alloc, plan.body.as_slice())?;
     set_lags(&mut project, plan.lags.as_slice())?;
     Ok(project)
 }

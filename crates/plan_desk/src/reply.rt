@@ -1,4 +1,4 @@
-//! Replies as code makes them: refusals, answers and whole texts.
+//! Replies: refusals, answers in JSON, and pages.
 
 ghost use Rattle.std.specs.Prelude.{◌≡◌, ◌++◌, IfOk, string_bytes, codes};
 ghost use Rattle.plan_desk.specs.declared.reply.ReplyKind.TheVariants.{Plain};
@@ -8,7 +8,7 @@ ghost use Rattle.plan_desk.specs.Replies.{reply_of};
 
 use std::alloc::{AllocError, Global};
 
-/// What the body of a reply is.
+/// The media type of a reply.
 #[derive(Debug, Clone, Copy, PartialEq, Eq, Drop)]
 pub enum ReplyKind {
     /// Plain text.
@@ -17,16 +17,16 @@ pub enum ReplyKind {
     Json,
 }
 
-/// The body of a reply, with its end of line.
+/// The body of a reply, with its last line feed.
 #[derive(Debug, Drop)]
 pub enum Body {
-    /// One that is always the same, which takes no memory.
+    /// A constant text, which needs no memory.
     Fixed(&'static str),
-    /// One that was made.
+    /// A text that was built for this reply.
     Owned(String),
 }
 
-/// A reply: a status by RFC 9110, what the body is, and the body.
+/// A reply: a status of RFC 9110, the media type, and the body.
 #[derive(Debug, Drop)]
 pub struct Reply {
     pub status: u16,
@@ -34,8 +34,8 @@ pub struct Reply {
     pub body: Body,
 }
 
-// A refusal of which the whole line is known.
-fn fixed(status: u16, line: &'static str) -> Reply
+// A refusal with a constant line.
+fn fixed_reply(status: u16, line: &'static str) -> Reply
     ensures { reply_of result ≡ record { status = status; kind = Plain; body = line.now } }
 {
     Reply {
@@ -48,71 +48,71 @@ fn fixed(status: u16, line: &'static str) -> Reply
 pub(crate) fn no_key() -> Reply
     ensures { reply_of result ≡ calls.no_key }
 {
-    fixed(403, "E01 key\n")
+    fixed_reply(403, "E01 key\n")
 }
 
 pub(crate) fn not_found() -> Reply
     ensures { reply_of result ≡ refusals.not_found }
 {
-    fixed(404, "E02 not found\n")
+    fixed_reply(404, "E02 not found\n")
 }
 
 pub(crate) fn bad_body() -> Reply
     ensures { reply_of result ≡ refusals.bad_body }
 {
-    fixed(400, "E03 body\n")
+    fixed_reply(400, "E03 body\n")
 }
 
 pub(crate) fn desk_exists() -> Reply
     ensures { reply_of result ≡ refusals.desk_exists }
 {
-    fixed(409, "E04 desk exists\n")
+    fixed_reply(409, "E04 desk exists\n")
 }
 
 pub(crate) fn unpublished() -> Reply
     ensures { reply_of result ≡ refusals.unpublished }
 {
-    fixed(404, "E05 code not published\n")
+    fixed_reply(404, "E05 code not published\n")
 }
 
 pub(crate) fn kind_differs() -> Reply
     ensures { reply_of result ≡ refusals.kind_differs }
 {
-    fixed(409, "E06 kind differs\n")
+    fixed_reply(409, "E06 kind differs\n")
 }
 
 pub(crate) fn other_kind() -> Reply
     ensures { reply_of result ≡ refusals.other_kind }
 {
-    fixed(409, "E07 other kind of plan\n")
+    fixed_reply(409, "E07 other kind of plan\n")
 }
 
 pub(crate) fn many_plans() -> Reply
     ensures { reply_of result ≡ refusals.many_plans }
 {
-    fixed(409, "E08 100 plans\n")
+    fixed_reply(409, "E08 100 plans\n")
 }
 
 pub(crate) fn numbers_spent() -> Reply
     ensures { reply_of result ≡ refusals.numbers_spent }
 {
-    fixed(409, "E09 numbers spent\n")
+    fixed_reply(409, "E09 numbers spent\n")
 }
 
-// Want of memory.
+// Memory ran out.
 pub(crate) fn no_memory() -> Reply
     ensures { reply_of result ≡ calls.refusal 503 (codes "E90 memory") }
 {
-    fixed(503, "E90 memory\n")
+    fixed_reply(503, "E90 memory\n")
 }
 
 pub(crate) fn store_refused() -> Reply
     ensures { reply_of result ≡ calls.refusal 507 (codes "E91 store") }
 {
-    fixed(507, "E91 store\n")
+    fixed_reply(507, "E91 store\n")
 }
 
-// A line that begins so.
+// A line of two texts.
 fn line(alloc: Global, front: &str, text: &str) -> Result<String, AllocError>
     ensures { IfOk result (λ made. string_bytes made ≡ calls.line (front.now ++ text.now)) }
 {
@@ -122,7 +122,8 @@ fn line(alloc: Global, front: &str, text: &str) -> Result<String, AllocError>
     Ok(made)
 }
 
-fn unusable(alloc: Global, front: &str, text: &str) -> Result<Reply, AllocError>
+// A refusal with status 422, whose line gives the cause.
+fn unusable_reply(alloc: Global, front: &str, text: &str) -> Result<Reply, AllocError>
     ensures { IfOk result (λ reply. reply_of reply ≡ calls.refusal 422 (front.now ++ text.now)) }
 {
     Ok(Reply {
@@ -132,25 +133,25 @@ fn unusable(alloc: Global, front: &str, text: &str) -> Result<Reply, AllocError>
     })
 }
 
-// The line of a file fault.
+// The refusal of a file: the line of its fault.
 pub(crate) fn bad_file(alloc: Global, text: &str) -> Result<Reply, AllocError>
     ensures { IfOk result (λ reply. reply_of reply ≡ refusals.bad_file text.now) }
 {
-    unusable(alloc, "E10 ", text)
+    unusable_reply(alloc, "E10 ", text)
 }
 
-// Why there is no schedule.
+// The refusal of a schedule: the cause.
 pub(crate) fn bad_schedule(alloc: Global, text: &str) -> Result<Reply, AllocError>
     ensures { IfOk result (λ reply. reply_of reply ≡ refusals.bad_schedule text.now) }
 {
-    unusable(alloc, "E11 ", text)
+    unusable_reply(alloc, "E11 ", text)
 }
 
-// Why a calendar can't be used.
+// The refusal of a calendar: the cause.
 pub(crate) fn bad_calendar(alloc: Global, text: &str) -> Result<Reply, AllocError>
     ensures { IfOk result (λ reply. reply_of reply ≡ refusals.bad_calendar text.now) }
 {
-    unusable(alloc, "E12 ", text)
+    unusable_reply(alloc, "E12 ", text)
 }
 
 // An answer in JSON.
@@ -164,7 +165,7 @@ pub(crate) fn answer(alloc: Global, status: u16, text: &str) -> Result<Reply, Al
     })
 }
 
-// A whole text, which has its ends of lines.
+// A page: a complete text with its line feeds.
 pub(crate) fn page(text: String) -> Reply
     ensures { reply_of result ≡ calls.page (string_bytes text) }
 {

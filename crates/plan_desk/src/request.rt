@@ -3,8 +3,8 @@
 ghost use Rattle.std.specs.Prelude.{◌≡◌};
 ghost use Rattle.plan_desk.specs.Requests.{call_in, path_of};
 
-/// A call, one variant for each route. What stands in a path is a text as it came, and so is a body:
-/// both are judged when the call is handled.
+/// A call, one variant for each route. The parts of a path and the bodies are the texts that were
+/// sent; they are checked when the call is handled.
 #[derive(Debug, Drop)]
 pub enum Call {
     /// Publishes a code, or gives a published one another capacity.
@@ -28,12 +28,12 @@ pub enum Call {
     Plans {
         desk: String,
     },
-    /// Keeps the project of a PSPLIB text as a plan.
+    /// Stores the project of a PSPLIB text as a plan.
     ImportProject {
         desk: String,
         body: Vec<u8>,
     },
-    /// Keeps the job shop of an instance in an OR-Library text as a plan.
+    /// Stores the job shop of an instance in an OR-Library text as a plan.
     ImportShop {
         desk: String,
         instance: String,
@@ -62,30 +62,30 @@ pub enum Call {
         n: String,
         body: Vec<u8>,
     },
-    /// The dates of a project.
+    /// Shows the dates of a project.
     Dates {
         desk: String,
         n: String,
     },
-    /// The schedule of a plan by a rule.
+    /// Shows the schedule of a plan by a rule.
     Schedule {
         desk: String,
         n: String,
         rule: String,
     },
-    /// The chart of a schedule.
+    /// Shows the chart of a schedule.
     Chart {
         desk: String,
         n: String,
         rule: String,
     },
-    /// The working days of a schedule.
+    /// Shows the working days of a schedule.
     Days {
         desk: String,
         n: String,
         rule: String,
     },
-    /// The best schedule of a plan that a search within a budget finds.
+    /// Shows the best schedule of a plan that a search within a budget finds.
     Best {
         desk: String,
         n: String,
@@ -93,7 +93,7 @@ pub enum Call {
     },
 }
 
-/// A call, and the key that was sent along, if there was one.
+/// A call, and the key that was sent with it, if there was one.
 #[derive(Debug, Drop)]
 pub struct Request {
     pub key: Option<Vec<u8>>,
@@ -101,7 +101,7 @@ pub struct Request {
 }
 
 impl Call {
-    // The desk of its path: none of a call that publishes or opens a desk.
+    // The desk on the path: empty for a call that publishes a code or opens a desk.
     pub(crate) fn path(&self) -> &str
         ensures { result.now ≡ path_of (call_in self.now) }
     {

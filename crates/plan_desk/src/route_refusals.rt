@@ -1,14 +1,14 @@
-//! What each route refuses, in the order of its refusals.
+//! The refusals of the routes, each in its order.
 
 ghost use Rattle.std.specs.Prelude.{◌≡◌, ◌⊎◌, ◌+◌, ◌≤◌, IfOk, IfNone, IfSome, IsOk, option_map};
 ghost use Rattle.plan_psplib.specs.Faults.{IsWantOfMemory};
 ghost use Rattle.plan_gantt.specs.FaultText.{file_fault_text_of};
 ghost use Rattle.plan_rows.specs.Plans as plans;
-ghost use Rattle.plan_desk.specs.BodyViews.{bind_body_in, lag_body_in};
+ghost use Rattle.plan_desk.specs.BodyViews.{lag_body_in};
 ghost use Rattle.plan_desk.specs.Replies.{reply_of};
 ghost use Rattle.plan_desk.specs.RouteRefusals as spec;
 
-use crate::bodies::{BindBody, LagBody};
+use crate::bodies::LagBody;
 use crate::reply::{
     Reply, bad_body, bad_file, kind_differs, many_plans, numbers_spent, other_kind, unpublished,
 };
@@ -19,10 +19,11 @@ use plan_psplib::{FileCode, FileFault, ProjectDoc, read_sm};
 use plan_rows::{GREATEST_NUMBER, Kind, MOST_PLANS, PlanKind};
 use std::alloc::{AllocError, Global};
 
-// The first check that a file fails, or none of a file that is read.
+// The first check that a file fails, if it fails one.
 fn file_fault(alloc: Global, kind: PlanKind, name: &str, body: &[u8]) -> Option<FileFault>
     ensures read { IfNone result (spec.IsRead kind name.now body.now) }
-    ensures fault { IfSome result (λ fault. IsWantOfMemory fault ⊎ spec.TellsFileFault kind name.now body.now (file_fault_text_of fault)) }
+    ensures fault { IfSome result (λ fault. IsWantOfMemory fault
+        ⊎ spec.TellsFileFault kind name.now body.now (file_fault_text_of fault)) }
 {
     match kind {
         PlanKind::Project => match read_sm(alloc, body) {
@@ -36,14 +37,15 @@ fn file_fault(alloc: Global, kind: PlanKind, name: &str, body: &[u8]) -> Option<
     }
 }
 
-// What is refused of a file.
+// The refusal of a file, if it fails a check.
 fn file_refusal(
     alloc: Global,
     kind: PlanKind,
     name: &str,
     body: &[u8],
 ) -> Result<Option<Reply>, AllocError>
-    ensures { IfOk result (λ refusal. spec.IsFileRefusal kind name.now body.now (option_map reply_of refusal)) }
+    ensures { IfOk result (λ refusal.
+        spec.IsFileRefusal kind name.now body.now (option_map reply_of refusal)) }
 {
     let Some(fault) = file_fault(alloc, kind, name, body) else {
         return Ok(None);
@@ -55,7 +57,8 @@ fn file_refusal(
     Ok(Some(bad_file(alloc, text.as_str())?))
 }
 
-// What is refused of an import, by how many plans the desk has, and the number of its next one.
+// The refusal of an import, if there is one, by the number of plans that the desk has and the
+// number of its next plan.
 pub(crate) fn import_refusal(
     alloc: Global,
     held: usize,
@@ -64,8 +67,9 @@ pub(crate) fn import_refusal(
     name: &str,
     body: &[u8],
 ) -> Result<Option<Reply>, AllocError>
-    ensures told { IfOk result (λ refusal. spec.IsImportRefusal held next kind name.now body.now (option_map reply_of refusal)) }
-    // What is told before the file is read takes no memory.
+    ensures told { IfOk result (λ refusal.
+        spec.IsImportRefusal held next kind name.now body.now (option_map reply_of refusal)) }
+    // A refusal before the file is read needs no memory.
     ensures early { (MOST_PLANS ≤ held) ⊎ (GREATEST_NUMBER + 1 ≤ next) → IsOk result }
 {
     if held >= MOST_PLANS {
@@ -77,18 +81,11 @@ pub(crate) fn import_refusal(
     file_refusal(alloc, kind, name, body)
 }
 
-// What is refused of a bind, by what its body says, the kind of the code where it is published, and
-// the kind that the plan takes.
-pub(crate) fn bind_refusal(
-    body: Option<&BindBody>,
-    published: Option<Kind>,
-    takes: Kind,
-) -> Option<Reply>
-    ensures { option_map reply_of result ≡ spec.bind_refusal_of (option_map (λ b. bind_body_in b.now) body.entry) published takes }
+// The refusal of a bind, if there is one, by the kind of the published code and the kind of code
+// that the plan takes.
+pub(crate) fn bind_refusal(published: Option<Kind>, takes: Kind) -> Option<Reply>
+    ensures { option_map reply_of result ≡ spec.bind_refusal_of published takes }
 {
-    if body.is_none() {
-        return Some(bad_body());
-    }
     match published {
         None => Some(unpublished()),
         Some(kind) if kind != takes => Some(kind_differs()),
@@ -96,26 +93,24 @@ pub(crate) fn bind_refusal(
     }
 }
 
-fn has_arc(network: &Network, source: u32, target: u32) -> bool
-    ensures { result ≡ plans.has_arc network.now source target }
+fn has_arc(network: &Network, from: u32, to: u32) -> bool
+    ensures { result ≡ plans.has_arc network.now from to }
 {
     network
         .arcs()
         .iter()
-        .any(|arc| arc.0 == source && arc.1 == target)
+        .any(|arc| arc.0 == from && arc.1 == to)
 }
 
-// What is refused of a lag, by what its body says, and the project of the plan: a shop has none.
-pub(crate) fn lag_refusal(body: Option<LagBody>, project: Option<&ProjectDoc>) -> Option<Reply>
-    ensures { option_map reply_of result ≡ spec.lag_refusal_of (option_map lag_body_in body) (option_map (λ p. p.now) project.entry) }
+// The refusal of a lag, if there is one, by its body and the project of the plan: None for a shop.
+pub(crate) fn lag_refusal(body: LagBody, project: Option<&ProjectDoc>) -> Option<Reply>
+    ensures { option_map reply_of result
+        ≡ spec.lag_refusal_of (lag_body_in body) (option_map (λ p. p.now) project.entry) }
 {
-    let Some(body) = body else {
-        return Some(bad_body());
-    };
     let Some(project) = project else {
         return Some(other_kind());
     };
-    if has_arc(project.network(), body.source, body.target) {
+    if has_arc(project.network(), body.from, body.to) {
         None
     } else {
         Some(bad_body())

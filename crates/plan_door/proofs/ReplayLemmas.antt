@@ -6,7 +6,7 @@ use Rattle.std.specs.List.{flat_map}
 use Rattle.plan_rows.specs.World.{Text}
 use Rattle.plan_rows.specs.Books.{Shelf}
 use Rattle.plan_http.specs.Answers.{Decision}
-use Rattle.plan_http.specs.Serving.{Serving, Stops, response_of}
+use Rattle.plan_http.specs.Connections.{Serving, Stops, response_of}
 use Rattle.plan_door.specs.ReplayRun.{responses}
 
 flat : {A : Type 0} (f : A → Text) (xs : List A) → flat_map f xs ≡ flat_map (λ text. text) (map f xs)
@@ -21,7 +21,7 @@ joined_responses f xs decisions same =
 -- all connections were served
 pub all_served : {B : Type 0} (shelf : Shelf B) (old new : B) (conns : List Text) (decisions : List Decision) → Serving shelf old conns decisions new → Stops shelf old new conns decisions
 all_served shelf old new conns decisions served = record {
-  answered = length conns;
+  count = length conns;
   within = omega arith;
   middle = new;
   served = subst (λ cs. Serving shelf old cs decisions new) (sym (take_all (length conns) conns (omega arith))) served;

@@ -5,11 +5,11 @@ use Rattle.std.specs.Io.KnownBytes.{Appends}
 use Rattle.plan_io.specs.declared.traits.DeviceFault.{DeviceFault}
 use Rattle.plan_rows.specs.World.{Text}
 use Rattle.plan_rows.specs.Books.{Shelf}
-use Rattle.plan_http.specs.declared.serving.ConnEnd.{ConnEnd}
-use Rattle.plan_http.specs.declared.serving.ConnEnd.TheVariants as end
+use Rattle.plan_http.specs.declared.connection.ConnEnd.{ConnEnd}
+use Rattle.plan_http.specs.declared.connection.ConnEnd.TheVariants as end
 use Rattle.plan_http.specs.Clients.{Known, IsFresh}
 use Rattle.plan_http.specs.Answers.{Decision, IsOn}
-use Rattle.plan_http.specs.Serving.{Serving, Serves, Ends, response_of}
+use Rattle.plan_http.specs.Connections.{Serving, Serves, Ends, response_of}
 use Rattle.plan_http.proofs.ClientLemmas.{of_heard}
 use Rattle.plan_http.proofs.WholeRunLemmas.{outlasts, is_apart}
 use Rattle.plan_door.specs.Serve.{MovedBy}

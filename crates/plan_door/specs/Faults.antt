@@ -1,9 +1,9 @@
--- The lines that tell why a command failed that keeps an office (docs/definitions.md, "Runs").
+-- The lines of the faults of commands on an office (docs/definitions.md, "Runs").
 use Rattle.std.specs.Prelude.{ℕ, List, codes}
 use Rattle.plan_door.specs.declared.fault.ServeFault.{ServeFault}
 use Rattle.plan_door.specs.declared.fault.ServeFault.TheVariants as fault
 
--- the line of a fault, without its end
+-- the line of a fault, without its line feed
 abbrev pub line_of : ServeFault → List ℕ
 line_of fault.Memory = codes "E90 memory"
 line_of fault.Store = codes "E91 store"

@@ -7,8 +7,8 @@ use Rattle.plan_door.specs.declared.fault.ServeFault.{ServeFault}
 use Rattle.plan_door.specs.declared.fault.ServeFault.TheVariants as fault
 use Rattle.plan_door.specs.Turns.{Turn, Runs}
 
--- why nothing listens on a port: another program does, it may not be, there is no memory, or for
--- another cause
+-- the fault of binding a port: another program listens, the permission is denied, memory ran out,
+-- or another cause
 abbrev pub IsPortCause : ErrorKind → ServeFault → Type 0
 IsPortCause k fault.PortTaken = k ≡ kind.AddrInUse
 IsPortCause k fault.PortDenied = k ≡ kind.PermissionDenied
@@ -17,7 +17,7 @@ IsPortCause k fault.Socket =
     (k ≢ kind.AddrInUse) × (k ≢ kind.PermissionDenied) × (k ≢ kind.OutOfMemory)
 IsPortCause k e = ⊥
 
--- why an office isn't served on a port
+-- the faults of serving an office on a port
 abbrev pub IsPortFault : ServeFault → Type 0
 IsPortFault fault.Memory = Unit {0}
 IsPortFault fault.PortTaken = Unit {0}
@@ -25,7 +25,7 @@ IsPortFault fault.PortDenied = Unit {0}
 IsPortFault fault.Socket = Unit {0}
 IsPortFault e = ⊥
 
--- so many turns were served, one after another, by an office over this book
+-- `count` turns were served, one after another, by an office over this book
 abbrev pub ServesFrom : {B : Type 0} → Shelf B → B → ℕ → Type 0
 ServesFrom {B} shelf book count =
     (after : B) × (turns : List Turn) × (length turns ≡ count) × Runs shelf book after turns

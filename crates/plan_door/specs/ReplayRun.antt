@@ -1,27 +1,30 @@
--- What is written for connections that are answered one after another (docs/definitions.md, "Runs").
+-- The output of a replay: the responses to connections, one after another (docs/definitions.md,
+-- "Runs").
 use Rattle.std.specs.Prelude.{◌≡◌, ℕ, ◌<◌, List, Option, length, take, Result, Ok, Err}
 use Rattle.std.specs.List.{flat_map}
 use Rattle.std.specs.Io.KnownBytes.{Appends}
 use Rattle.plan_rows.specs.World.{Text}
 use Rattle.plan_rows.specs.Books.{Shelf}
 use Rattle.plan_http.specs.Answers.{Decision}
-use Rattle.plan_http.specs.Serving.{Serving, Stops, response_of}
+use Rattle.plan_http.specs.Connections.{Serving, Stops, response_of}
 use Rattle.plan_door.specs.declared.fault.ServeFault.{ServeFault}
 use Rattle.plan_door.specs.declared.fault.ServeFault.TheVariants as fault
 
--- the most bytes that a connection is read for: 8,192 of a head, and 1,048,576 of a body
+-- the greatest number of bytes of a connection: 8,192 of a head and 1,048,576 of a body
 abbrev pub longest_request : ℕ
 longest_request = 1056768
 
--- the responses of decisions, one behind another
+-- the responses of decisions, one after another
 abbrev pub responses : List Decision → Text
 responses decisions = flat_map response_of decisions
 
--- Connections were served, and a sink has taken all their responses, in order; or a part from the
--- front, where the output failed; or memory ran out in the run, or once it was done, and it took none.
-abbrev pub Replays : {B : Type 0} → Shelf B → B → B → List Text → Option Text → Option Text → Result (Unit {0}) ServeFault → Type 0
+-- Connections were served, and all their responses were written, in order; or the first part of
+-- them, if the output failed; or memory ran out during or after the run, and nothing was written.
+abbrev pub Replays : {B : Type 0} → Shelf B → B → B → List Text → Option Text → Option Text
+    → Result (Unit {0}) ServeFault → Type 0
 Replays shelf old new conns taken after (Ok _) =
-    (decisions : List Decision) × Serving shelf old conns decisions new × Appends taken after (responses decisions)
+    (decisions : List Decision) × Serving shelf old conns decisions new
+    × Appends taken after (responses decisions)
 Replays shelf old new conns taken after (Err fault.Memory) =
     (decisions : List Decision) × Stops shelf old new conns decisions × (after ≡ taken)
 Replays shelf old new conns taken after (Err fault.Output) =
@@ -29,18 +32,20 @@ Replays shelf old new conns taken after (Err fault.Output) =
     × (n < length (responses decisions)) × Appends taken after (take n (responses decisions))
 Replays shelf old new conns taken after (Err e) = ⊥
 
--- connections were served by an office over this book, and a sink has taken all their responses
+-- connections were served by an office over this book, and all their responses were written
 abbrev pub ReplaysFrom : {B : Type 0} → Shelf B → B → List Text → Option Text → Option Text → Type 0
 ReplaysFrom {B} shelf book conns taken after =
     (next : B) × Replays shelf book next conns taken after (Ok tt)
 
--- a sink has taken so many responses, one behind another
+-- `count` responses were written, one after another
 abbrev pub AreAnswered : ℕ → Option Text → Option Text → Type 0
 AreAnswered count taken after =
-    (decisions : List Decision) × (length decisions ≡ count) × Appends taken after (responses decisions)
+    (decisions : List Decision) × (length decisions ≡ count)
+    × Appends taken after (responses decisions)
 
--- it has taken a part of them from the front
+-- the first part of them was written
 abbrev pub AreAnsweredInPart : ℕ → Option Text → Option Text → Type 0
 AreAnsweredInPart count taken after =
-    (decisions : List Decision) × (n : ℕ) × (length decisions ≡ count) × (n < length (responses decisions))
+    (decisions : List Decision) × (n : ℕ) × (length decisions ≡ count)
+    × (n < length (responses decisions))
     × Appends taken after (take n (responses decisions))

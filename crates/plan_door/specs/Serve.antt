@@ -1,10 +1,10 @@
--- An office whose connections come from anywhere (docs/definitions.md, "Connections").
+-- The changes of an office by decisions (docs/definitions.md, "Connections").
 use Rattle.std.specs.Prelude.{◌≡◌, List, [], ◌∷◌}
 use Rattle.plan_rows.specs.Books.{Shelf}
 use Rattle.plan_http.specs.Answers.{Decision}
-use Rattle.plan_http.specs.Serving.{Moves}
+use Rattle.plan_http.specs.Connections.{Moves}
 
--- the office moved by decisions, one after another
+-- the office changed by decisions, one after another
 abbrev pub MovedBy : {B : Type 0} → Shelf B → B → List Decision → B → Type 0
 MovedBy shelf old [] new = new ≡ old
 MovedBy {B} shelf old (d ∷ decisions) new =

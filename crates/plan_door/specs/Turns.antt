@@ -1,18 +1,18 @@
--- Connections that come from anywhere, served turn by turn (docs/definitions.md, "Connections").
+-- Connections from any source, served turn by turn (docs/definitions.md, "Connections").
 use Rattle.std.specs.Prelude.{◌≡◌, ◌<◌, ℕ, Bool, true, List, [], ◌∷◌, ◌++◌, length, take, map, Option, Some, None, Result, Ok, Err}
 use Rattle.plan_io.specs.declared.traits.DeviceFault.{DeviceFault}
 use Rattle.plan_rows.specs.World.{Text}
 use Rattle.plan_rows.specs.Books.{Shelf}
-use Rattle.plan_http.specs.declared.serving.ConnEnd.{ConnEnd}
-use Rattle.plan_http.specs.declared.serving.ConnEnd.TheVariants.{Replied, ReadFailed, WriteFailed}
+use Rattle.plan_http.specs.declared.connection.ConnEnd.{ConnEnd}
+use Rattle.plan_http.specs.declared.connection.ConnEnd.TheVariants.{Replied, ReadFailed, WriteFailed}
 use Rattle.plan_http.specs.Clients.{Known, IsFresh}
 use Rattle.plan_http.specs.Answers.{Decision, IsOn}
-use Rattle.plan_http.specs.Serving.{Moves, Serving, response_of}
+use Rattle.plan_http.specs.Connections.{Moves, Serving, response_of}
 use Rattle.plan_http.specs.Crashes.{Outlasts}
 use Rattle.plan_http.specs.Isolated.{IsApart}
 
--- A connection that was served: the bytes that its reads returned, and whether their end was seen;
--- those that its writes accepted; how that ended, and what was decided, if anything.
+-- A served connection: the bytes that its reads returned, and whether their end was seen; the bytes
+-- that its writes accepted; its end, and the decision, if there was one.
 pub record Visit : Type 0 where
   pub read : Text
   pub ended : Bool
@@ -20,14 +20,14 @@ pub record Visit : Type 0 where
   pub ending : ConnEnd
   pub decided : Option Decision
 
--- the bytes of the connection may be these: those that were read and any behind them, but none once
+-- the bytes of the connection may be these: the bytes that were read, followed by any bytes unless
 -- the end was seen
 pub record MayBe (v : Visit) (bytes : Text) : Type 0 where
   pub more : Text
   pub whole : bytes ≡ v.read ++ more
   pub none : v.ended ≡ true → more ≡ []
 
--- what was sent of a response by the end: all of it, or its first bytes
+-- the bytes of a response that were sent at the end: all of them, or the first ones
 abbrev pub IsSent : Text → Text → ConnEnd → Type 0
 IsSent sent response (Replied status) = sent ≡ response
 IsSent sent response ReadFailed = ⊥
@@ -38,7 +38,7 @@ pub data Turn : Type 0 where
   missed : Turn
   visited : Visit → Turn
 
--- what was decided of one connection, as a list
+-- the decision on a connection, as a list
 abbrev pub decision_in : Option Decision → List Decision
 decision_in None = []
 decision_in (Some d) = d ∷ []
@@ -54,8 +54,7 @@ abbrev pub IsConn : Visit → Option Decision → List Text → Type 0
 IsConn v None conns = conns ≡ []
 IsConn v (Some d) conns = (bytes : Text) × (conns ≡ bytes ∷ []) × MayBe v bytes
 
--- the connections that were decided in turns, one for each decision and in their order, may have these
--- bytes
+-- the connections with a decision, in the order of their turns, may have these bytes
 abbrev pub AreConns : List Turn → List Text → Type 0
 AreConns [] conns = conns ≡ []
 AreConns (missed ∷ turns) conns = AreConns turns conns
@@ -63,7 +62,7 @@ AreConns (visited v ∷ turns) conns =
     (first : List Text) × (rest : List Text) × (conns ≡ first ++ rest)
     × IsConn v v.decided first × AreConns turns rest
 
--- the bytes that were read of these connections
+-- the bytes that were read from these connections
 abbrev pub read_in : Visit → Option Decision → List Text
 read_in v None = []
 read_in v (Some d) = v.read ∷ []
@@ -80,7 +79,7 @@ module _ {B : Type 0} (shelf : Shelf B) where
     pub moves : Moves shelf old new d
     pub told : IsSent v.sent (response_of d) v.ending
 
-  -- a connection was served once: by this decision; or by none, since the reader failed
+  -- a connection was served once: by this decision, or without one because the reader failed
   abbrev pub IsServed : B → B → Visit → Option Decision → Type 0
   IsServed old new v None = (v.ending ≡ ReadFailed) × (new ≡ old) × (v.sent ≡ [])
   IsServed old new v (Some d) = IsServedBy old new v d
@@ -93,27 +92,29 @@ module _ {B : Type 0} (shelf : Shelf B) where
   -- the office in turns, one after another
   abbrev pub AreTurns : B → List Turn → B → Type 0
   AreTurns old [] new = new ≡ old
-  AreTurns old (turn ∷ turns) new = (middle : B) × IsTurn old middle turn × AreTurns middle turns new
+  AreTurns old (turn ∷ turns) new =
+      (middle : B) × IsTurn old middle turn × AreTurns middle turns new
 
-  -- Connections with these bytes were served by these decisions: what a crash may leave, and what each
-  -- desk is told by the responses.
+  -- Connections with these bytes were served by these decisions: with the rows that a crash may
+  -- leave, and the responses to each desk.
   pub record IsRun (old new : B) (conns : List Text) (decisions : List Decision) : Type 0 where
     pub served : Serving shelf old conns decisions new
     pub crash : Outlasts shelf old new conns (map response_of decisions)
     pub apart : shelf.honest new → (desk : Text)
         → IsApart shelf old new conns (map response_of decisions) desk
 
-  -- Turns are a run, whatever the connections sent behind what was read of them. So they are one of
-  -- connections that sent what was read.
+  -- Turns are a run, whatever the connections sent after the bytes that were read. So they are a
+  -- run of connections that sent exactly the bytes that were read.
   pub record Runs (old new : B) (turns : List Turn) : Type 0 where
     pub turns_are : AreTurns old turns new
     pub run : (conns : List Text) → AreConns turns conns → IsRun old new conns (decisions_of turns)
     pub read : AreConns turns (read_of turns)
 
 module _ {V R W : Type 0} (known : R → Known) (taken : W → Option Text)
-    (Admits : V → V → Result (R × W) DeviceFault → Type 0) (Dismisses : V → V → R → W → ConnEnd → Type 0) where
-  -- A connection was admitted, of which nothing was read and which was sent nothing, and dismissed after
-  -- these bytes were read of it and those sent.
+    (Admits : V → V → Result (R × W) DeviceFault → Type 0)
+    (Dismisses : V → V → R → W → ConnEnd → Type 0) where
+  -- A connection was admitted before any read or write, and closed after these bytes were read and
+  -- those were sent.
   pub record IsVisit (came went : V) (v : Visit) : Type 0 where
     pub reader : R
     pub writer : W
@@ -128,20 +129,21 @@ module _ {V R W : Type 0} (known : R → Known) (taken : W → Option Text)
     pub sent : taken told ≡ Some v.sent
     pub dismissed : Dismisses between went heard told v.ending
 
-  -- where connections come from, in one turn
+  -- the source of connections in one turn
   abbrev pub IsVisited : V → V → Turn → Type 0
   IsVisited came went missed = (e : DeviceFault) × Admits came went (Err e)
   IsVisited came went (visited v) = IsVisit came went v
 
-  -- the same in turns: one is awaited after the one before was dismissed
+  -- the same in turns: a connection is awaited after the previous one was closed
   abbrev pub AreVisited : V → List Turn → V → Type 0
   AreVisited came [] went = went ≡ came
   AreVisited came (turn ∷ turns) went =
       (between : V) × IsVisited came between turn × AreVisited between turns went
 
-  -- So many turns: each connection that was admitted was served by one serving, in the order of
-  -- admission, and dismissed after it, before the next was awaited. And they are a run.
-  pub record Visiting {B : Type 0} (shelf : Shelf B) (old new : B) (came went : V) (count : ℕ) : Type 0 where
+  -- `count` turns: each admitted connection was served once, in the order of admission, and closed
+  -- before the next one was awaited. And they are a run.
+  pub record Visiting {B : Type 0} (shelf : Shelf B) (old new : B) (came went : V) (count : ℕ)
+      : Type 0 where
     pub turns : List Turn
     pub many : length turns ≡ count
     pub served : Runs shelf old new turns

@@ -1,8 +1,8 @@
-//! Why a command that keeps an office failed.
+//! The faults of the commands on an office.
 
 use thiserror::Error;
 
-/// Why a command that keeps an office failed: one line of text.
+/// The fault of a command on an office: one line of text.
 #[derive(Clone, Copy, Debug, Drop, PartialEq, Eq, Error)]
 pub enum ServeFault {
     /// Memory ran out.
@@ -14,37 +14,37 @@ pub enum ServeFault {
     /// The database has other tables than those of an office.
     #[error("K1 not ours")]
     NotOurs,
-    /// The tables are of a version that isn't known.
+    /// The tables have an unknown version.
     #[error("K2 version")]
     Version,
-    /// The key of the office isn't one.
+    /// The text is no key.
     #[error("K3 key")]
     Key,
     /// A file or standard input can't be read.
     #[error("I1 file")]
     Input,
-    /// Nothing listens on the port, or too many connections in a row couldn't be accepted.
+    /// The port can't be bound, or too many consecutive accepts failed.
     #[error("I2 socket")]
     Socket,
-    /// The output can't be written whole.
+    /// The output can't be written completely.
     #[error("I3 output")]
     Output,
     /// Another process has the file of the office open.
     #[error("K4 in use")]
     Locked,
-    /// Nothing is at the name.
+    /// There is no file of this name.
     #[error("K5 not there")]
     Missing,
-    /// The file, its log or their folder may not be written.
+    /// The file, its log or their folder isn't writable.
     #[error("K6 not writable")]
     Denied,
-    /// The database has the tables of an office where none may be.
+    /// The database has the tables of an office already.
     #[error("K7 office there already")]
     Taken,
     /// Another program listens on the port.
     #[error("I4 port in use")]
     PortTaken,
-    /// The port may not be opened.
+    /// The port may not be bound.
     #[error("I5 port denied")]
     PortDenied,
 }
@@ -53,7 +53,7 @@ impl ServeFault {
     ghost use Rattle.std.specs.Prelude.{◌≡◌};
     ghost use Rattle.plan_door.specs.Faults.{line_of};
 
-    /// The line, without its end.
+    /// Returns the line, without its line feed.
     pub fn line(self) -> &'static str
         ensures { result.now ≡ line_of self }
     {

@@ -1,7 +1,6 @@
-//! The first line of what a client sends.
+//! The first line of a request, for the log.
 
-/// The first line of what is read of a connection, without empty lines in front. Of a longer one no
-/// more is kept than a route has with the longest names.
+/// The first line that is not empty. A line over 256 bytes, which no route needs, is cut.
 #[derive(Drop)]
 pub(crate) struct FirstLine {
     bytes: [u8; 256],
@@ -10,7 +9,7 @@ pub(crate) struct FirstLine {
 }
 
 impl FirstLine {
-    /// Of a connection of which nothing was read yet.
+    /// Returns the line before the first byte.
     pub(crate) fn new() -> FirstLine {
         FirstLine {
             bytes: [0; 256],
@@ -19,8 +18,8 @@ impl FirstLine {
         }
     }
 
-    // Takes one byte more.
-    fn take(&mut self, byte: u8) {
+    // Adds a byte.
+    fn push_byte(&mut self, byte: u8) {
         if byte == b'\r' || byte == b'\n' {
             self.is_whole = self.length > 0;
             return;
@@ -31,17 +30,17 @@ impl FirstLine {
         self.length = self.length.saturating_add(1);
     }
 
-    /// Takes what was read, as far as it belongs to the line.
-    pub(crate) fn hear(&mut self, bytes: &[u8]) {
+    /// Adds the bytes that belong to the line.
+    pub(crate) fn push(&mut self, bytes: &[u8]) {
         for &byte in bytes {
             if self.is_whole {
                 return;
             }
-            self.take(byte);
+            self.push_byte(byte);
         }
     }
 
-    // The line, if it came whole and isn't too long.
+    // The line, if it is complete and not too long.
     fn text(&self) -> Option<&str> {
         if !self.is_whole {
             return None;
@@ -49,9 +48,9 @@ impl FirstLine {
         str::from_utf8(self.bytes.get(..self.length)?).ok()
     }
 
-    /// Its first two words: the method and the target of a request.
-    pub(crate) fn words(&self) -> Option<(&str, &str)> {
-        let mut words = self.text()?.split(' ');
-        Some((words.next()?, words.next()?))
+    /// Returns its first two tokens: the method and the target of a request.
+    pub(crate) fn method_and_target(&self) -> Option<(&str, &str)> {
+        let mut tokens = self.text()?.split(' ');
+        Some((tokens.next()?, tokens.next()?))
     }
 }

@@ -1,4 +1,4 @@
-//! The key of an office, from the first line of a text.
+//! The key of an office, read from the first line of a text.
 
 ghost use Rattle.std.specs.Prelude.{◌≡◌, ◌⊎◌, ◌+◌, ◌≤◌, ◌∷◌, ◌++◌, [], MatchOption, IfOk, OnOk, IfErr, IsErrOf};
 ghost use Rattle.std.specs.Io.KnownBytes.{Consumes, IsAtEnd};
@@ -12,7 +12,7 @@ use plan_desk::key_digest;
 use plan_io::{DeviceFault, Source};
 use std::alloc::Global;
 
-// How many bytes are read at most: those of the longest key, a carriage return and a line feed.
+// The greatest number of bytes that are read: the longest key, a carriage return and a line feed.
 const LONGEST_LINE: u32 = 66;
 
 // A line without a carriage return at its end.
@@ -25,14 +25,14 @@ fn without_return(line: &[u8]) -> &[u8]
     }
 }
 
-// Where the first line feed stands.
+// The place of the first line feed.
 fn line_feed_in(text: &[u8]) -> Option<usize>
     ensures { result ≡ position is_line_feed text.now }
 {
     text.iter().position(|&byte| byte == b'\n')
 }
 
-// What stands before the first line feed.
+// The text before the first line feed.
 #[tactic(auto, using(crate::proofs::KeyLemmas::cut_at, crate::proofs::KeyLemmas::uncut))]
 fn before_line_feed(text: &[u8]) -> &[u8]
     ensures { result.now ≡ before_first is_line_feed text.now }
@@ -53,36 +53,36 @@ fn first_line(text: &[u8]) -> &[u8]
 
 // Reads one byte, or none at the end.
 fn next_byte<R: Source>(reader: &mut R) -> Result<Option<u8>, DeviceFault>
-    ensures counted { IsCounted (R.calls reader.old) (R.calls reader.new) (R.faults reader.old) (R.faults reader.new) result }
+    ensures counted { IsCounted (R.calls reader.old) (R.calls reader.new)
+        (R.faults reader.old) (R.faults reader.new) result }
     ensures byte { IfOk result (λ next. MatchOption next
-        (IsAtEnd (R.remaining reader.new) × Consumes (R.remaining reader.old) (R.remaining reader.new) [])
+        (IsAtEnd (R.remaining reader.new)
+        × Consumes (R.remaining reader.old) (R.remaining reader.new) [])
         (λ byte. Consumes (R.remaining reader.old) (R.remaining reader.new) (byte ∷ []))) }
 {
     let mut bytes = [0];
-    match reader.read(&mut bytes) {
-        Ok(0) => Ok(None),
-        Ok(_) => Ok(Some(bytes[0])),
-        Err(fault) => Err(fault),
+    if reader.read(&mut bytes)? == 0 {
+        return Ok(None);
     }
+    Ok(Some(bytes[0]))
 }
 
 // Adds a byte.
-fn keep(line: &mut Vec<u8>, byte: u8) -> Result<(), ServeFault>
+fn push_byte(line: &mut Vec<u8>, byte: u8) -> Result<(), ServeFault>
     ensures kept { OnOk result (line.new.items ≡ line.old.items ++ byte ∷ []) }
     ensures memory { IfErr result (λ e. e ≡ ServeFault.Memory) }
 {
-    match line.push(byte) {
-        Ok(()) => Ok(()),
-        Err(_) => Err(ServeFault::Memory),
-    }
+    line.push(byte).map_err(|_| ServeFault::Memory)
 }
 
-// Reads bytes up to the first line feed, that too, but no more than the longest line has.
+// Reads bytes up to and including the first line feed, but no more than the longest line has.
 fn read_line<R: Source>(alloc: Global, reader: &mut R) -> Result<Vec<u8>, ServeFault>
     ensures calls { R.calls reader.new ≤ R.calls reader.old + 66 }
-    ensures front { IfOk result (λ line. spec.IsFront (R.remaining reader.old) (R.remaining reader.new) line.items) }
+    ensures front { IfOk result
+        (λ line. spec.IsFront (R.remaining reader.old) (R.remaining reader.new) line.items) }
     ensures fine { OnOk result (R.faults reader.new ≡ R.faults reader.old) }
-    ensures refused { IfErr result (λ e. ((e ≡ ServeFault.Memory) × (R.faults reader.new ≡ R.faults reader.old))
+    ensures refused { IfErr result
+        (λ e. ((e ≡ ServeFault.Memory) × (R.faults reader.new ≡ R.faults reader.old))
         ⊎ ((e ≡ ServeFault.Input) × (R.faults reader.new ≡ R.faults reader.old + 1))) }
 {
     let mut line = Vec::new(alloc);
@@ -92,7 +92,7 @@ fn read_line<R: Source>(alloc: Global, reader: &mut R) -> Result<Vec<u8>, ServeF
             Ok(None) => return Ok(line),
             Err(_) => return Err(ServeFault::Input),
         };
-        keep(&mut line, byte)?;
+        push_byte(&mut line, byte)?;
         if byte == b'\n' {
             return Ok(line);
         }
@@ -100,22 +100,18 @@ fn read_line<R: Source>(alloc: Global, reader: &mut R) -> Result<Vec<u8>, ServeF
     Ok(line)
 }
 
-/// The digest of the key that the first line of a text is, without a carriage return and a line feed
-/// at its end. At most 66 bytes are read, and none behind the line feed.
+/// Reads a key from the first line of a text, without the carriage return and the line feed at its
+/// end, and returns its digest. It reads at most 66 bytes, and none after the line feed.
 pub fn read_key<R: Source>(alloc: Global, reader: &mut R) -> Result<[u8; 32], ServeFault>
     ensures calls { R.calls reader.new ≤ R.calls reader.old + 66 }
     ensures takes { spec.TakesKey (R.remaining reader.old) (R.remaining reader.new) result }
     ensures fine { OnOk result (R.faults reader.new ≡ R.faults reader.old) }
-    // A fault of the reader is told as such.
-    ensures heard { IfErr result (λ e. (e ≡ ServeFault.Input) ⊎ (R.faults reader.new ≡ R.faults reader.old)) }
-    ensures input { IsErrOf result ServeFault.Input → R.faults reader.new ≡ R.faults reader.old + 1 }
+    // A fault of the reader is reported as a fault of the input.
+    ensures heard { IfErr result
+        (λ e. (e ≡ ServeFault.Input) ⊎ (R.faults reader.new ≡ R.faults reader.old)) }
+    ensures input { IsErrOf result ServeFault.Input
+        → R.faults reader.new ≡ R.faults reader.old + 1 }
 {
-    let line = match read_line(alloc, reader) {
-        Ok(line) => line,
-        Err(fault) => return Err(fault),
-    };
-    match key_digest(first_line(&line)) {
-        Some(digest) => Ok(digest),
-        None => Err(ServeFault::Key),
-    }
+    let line = read_line(alloc, reader)?;
+    key_digest(first_line(&line)).ok_or(ServeFault::Key)
 }

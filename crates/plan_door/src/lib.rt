@@ -1,6 +1,5 @@
-//! Connections one after another, of a socket (a door, a waiting room, two sides with their
-//! deadlines, visitors and a log) or out of files, and the key of an office in a text. It needs no
-//! table: any office serves them, over any book.
+//! Connections served one after another, from a socket (with a queue, deadlines and a log) or from
+//! files, and the key of an office in a text. Any office serves them, over any book.
 #![tactic(auto)]
 
 mod fault;
@@ -8,9 +7,9 @@ mod first_line;
 mod key;
 mod log;
 mod over_book;
+mod queue;
 mod replay;
 mod requests;
-mod room;
 mod service;
 mod side;
 mod socket;

@@ -1,4 +1,4 @@
-//! A log of connections that were served.
+//! The log of served connections.
 
 ghost use Rattle.plan_door.specs.Logs.{IsShownMethod, IsShownRoute};
 
@@ -8,10 +8,10 @@ use plan_http::{ConnEnd, Routes};
 use std::alloc::AllocError;
 use std::fmt;
 
-// What is shown where there is nothing to show.
+// The text for a method or a route that is not logged.
 const NONE: &str = "-";
 
-// How a connection ended: the status of its response, or why there is none.
+// The end of a connection: the status of its response, or the failed device.
 #[derive(Drop)]
 struct Ending(ConnEnd);
 
@@ -25,11 +25,11 @@ impl fmt::Display for Ending {
     }
 }
 
-// A method, where it is one that HTTP has.
-fn shown_method(word: &str) -> &'static str
+// The method, if it is a method of HTTP.
+fn logged_method(method: &str) -> &'static str
     ensures { IsShownMethod result.now }
 {
-    match word {
+    match method {
         "GET" => "GET",
         "HEAD" => "HEAD",
         "POST" => "POST",
@@ -41,8 +41,8 @@ fn shown_method(word: &str) -> &'static str
     }
 }
 
-// The text of a target's route, where it has one.
-fn shown_route(routes: &Routes, target: &str) -> &'static str
+// The text of the route of a target, if there is one.
+fn logged_route(routes: &Routes, target: &str) -> &'static str
     ensures { IsShownRoute result.now }
 {
     match routes.of(target) {
@@ -51,18 +51,18 @@ fn shown_route(routes: &Routes, target: &str) -> &'static str
     }
 }
 
-// What is shown of a request. Nothing that a client wrote is shown as it is: it might be a key.
-fn shown(routes: &Routes, line: &FirstLine) -> (&'static str, &'static str)
+// The method and the route of a request. No text of a client is logged: it might be a key.
+fn logged_request(routes: &Routes, line: &FirstLine) -> (&'static str, &'static str)
     ensures method { IsShownMethod result.0.now }
     ensures route { IsShownRoute result.1.now }
 {
-    match line.words() {
-        Some((method, target)) => (shown_method(method), shown_route(routes, target)),
+    match line.method_and_target() {
+        Some((method, target)) => (logged_method(method), logged_route(routes, target)),
         None => (NONE, NONE),
     }
 }
 
-/// A log of connections that were served, a line for each on standard error; or none.
+/// The log: one line on standard error for each served connection, if it is kept.
 #[derive(Drop)]
 pub(crate) struct Log<'a> {
     rt: &'a HostRuntime,
@@ -70,7 +70,7 @@ pub(crate) struct Log<'a> {
 }
 
 impl<'a> Log<'a> {
-    /// A log, if it is kept.
+    /// Returns the log.
     pub(crate) fn new(rt: &HostRuntime, is_kept: bool) -> Result<Log<'_>, AllocError> {
         let routes = if is_kept {
             Some(Routes::new(rt.alloc())?)
@@ -80,13 +80,13 @@ impl<'a> Log<'a> {
         Ok(Log { rt, routes })
     }
 
-    /// Tells of a connection: the method and the route, how it ended, the bytes that were read and
-    /// sent, and the milliseconds since the first read. A line that can't be written is left out.
-    pub(crate) fn tell(&self, reader: &Side<'_>, writer: &Side<'_>, end: ConnEnd) {
+    /// Writes the line of a connection: method, route, end, bytes read, bytes sent, and
+    /// milliseconds since the first read. A line that can't be written is lost.
+    pub(crate) fn write(&self, reader: &Side<'_>, writer: &Side<'_>, end: ConnEnd) {
         let Some(routes) = &self.routes else {
             return;
         };
-        let (method, route) = shown(routes, reader.line());
+        let (method, route) = logged_request(routes, reader.line());
         let (ending, time) = (Ending(end), reader.milliseconds());
         let (read, sent) = (reader.bytes(), writer.bytes());
         let rt = self.rt;

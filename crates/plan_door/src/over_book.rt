@@ -1,4 +1,4 @@
-//! Connections that are served by an office over a book, which comes back.
+//! Serving by an office over a book, which is returned at the end.
 
 ghost use Rattle.std.specs.Prelude.{◌≡◌, ◌⊎◌, ◌+◌, ◌≤◌, length, map, vec_items, IfErr, IfNone, IsErrOf, OnOk};
 ghost use Rattle.plan_io.specs.Devices.{most_calls, HasFailed};
@@ -15,8 +15,8 @@ use std::alloc::Global;
 use std::io::ErrorKind;
 use std::net::{Ipv4Addr, TcpListener};
 
-/// Serves connections by an office over a book, and writes the responses. The book comes back, unless
-/// memory runs out before the first.
+/// Serves connections by an office over a book, writes the responses, and returns the book, unless
+/// memory runs out before the first connection.
 #[tactic(auto, using(crate::proofs::BookLemmas::replays, crate::proofs::BookLemmas::replays_not))]
 pub fn replay_book<B: Book + Drop, W: Sink>(
     alloc: Global,
@@ -24,26 +24,31 @@ pub fn replay_book<B: Book + Drop, W: Sink>(
     conns: &[Vec<u8>],
     writer: &mut W,
 ) -> (Result<(), ServeFault>, Option<B>)
-    ensures replays { OnOk result.0 (ReplaysFrom B.shelf book (map vec_items conns.now) (W.taken writer.old) (W.taken writer.new)) }
-    ensures ok { OnOk result.0 (AreAnswered (length conns.now) (W.taken writer.old) (W.taken writer.new)) }
-    ensures part { IsErrOf result.0 ServeFault.Output → AreAnsweredInPart (length conns.now) (W.taken writer.old) (W.taken writer.new) }
+    ensures replays { OnOk result.0
+        (ReplaysFrom B.shelf book (map vec_items conns.now)
+        (W.taken writer.old) (W.taken writer.new)) }
+    ensures ok { OnOk result.0
+        (AreAnswered (length conns.now) (W.taken writer.old) (W.taken writer.new)) }
+    ensures part { IsErrOf result.0 ServeFault.Output
+        → AreAnsweredInPart (length conns.now) (W.taken writer.old) (W.taken writer.new) }
     ensures writes { W.calls writer.new ≤ W.calls writer.old + most_calls }
-    ensures quiet { IfErr result.0 (λ e. (e ≡ ServeFault.Output) ⊎ (writer.new ≡ writer.old)) }
+    ensures quiet { IfErr result.0
+        (λ e. (e ≡ ServeFault.Output) ⊎ (writer.new ≡ writer.old)) }
     ensures fine { OnOk result.0 (W.faults writer.new ≡ W.faults writer.old) }
     ensures output { IsErrOf result.0 ServeFault.Output →
-        HasFailed (W.calls writer.old) (W.calls writer.new) (W.faults writer.old) (W.faults writer.new) }
+        HasFailed (W.calls writer.old) (W.calls writer.new)
+        (W.faults writer.old) (W.faults writer.new) }
     ensures which { IfErr result.0 (λ e. (e ≡ ServeFault.Memory) ⊎ (e ≡ ServeFault.Output)) }
     ensures back { IfNone result.1 (IsErrOf result.0 ServeFault.Memory) }
 {
-    let mut office = match Office::new(alloc, book) {
-        Ok(office) => office,
-        Err(_) => return (Err(ServeFault::Memory), None),
+    let Ok(mut office) = Office::new(alloc, book) else {
+        return (Err(ServeFault::Memory), None);
     };
     let done = replay_run(alloc, &mut office, conns, writer);
     (done, Some(office.into_book()))
 }
 
-// Why nothing can listen on a port, by what the system tells.
+// The fault of a port, from the system's error.
 fn port_fault(kind: ErrorKind) -> ServeFault
     ensures { IsPortCause kind result }
 {
@@ -59,7 +64,7 @@ fn port_fault(kind: ErrorKind) -> ServeFault
     ServeFault::Socket
 }
 
-// Tells that an office is served, if that is asked for.
+// Prints that the office is served, if the log is kept.
 fn announce(rt: &HostRuntime, service: &Service<'_>) {
     if service.is_logged {
         let (database, port) = (service.database, service.port);
@@ -67,7 +72,7 @@ fn announce(rt: &HostRuntime, service: &Service<'_>) {
     }
 }
 
-// Serves connections on a port of this machine alone, by an office.
+// Serves connections on a local port, by an office.
 #[tactic(auto, using(crate::proofs::BookLemmas::port_faults))]
 fn serve_by<B: Book>(
     rt: &HostRuntime,
@@ -80,17 +85,14 @@ fn serve_by<B: Book>(
     match TcpListener::bind(rt, (Ipv4Addr::LOCALHOST, service.port)) {
         Ok(listener) => {
             announce(rt, service);
-            match serve_listener(rt, office, &listener, service) {
-                Ok(()) => Ok(()),
-                Err(fault) => Err(fault),
-            }
+            serve_listener(rt, office, &listener, service)
         }
         Err(error) => Err(port_fault(error.kind())),
     }
 }
 
-/// Serves connections on a port of this machine alone, by an office over a book. The book comes back,
-/// unless memory runs out before the port is bound.
+/// Serves connections on a local port by an office over a book, and returns the book, unless memory
+/// runs out before the port is bound.
 pub fn serve_book<B: Book + Drop>(
     rt: &HostRuntime,
     book: B,
@@ -100,9 +102,8 @@ pub fn serve_book<B: Book + Drop>(
     ensures which { IfErr result.0 IsPortFault }
     ensures back { IfNone result.1 (IsErrOf result.0 ServeFault.Memory) }
 {
-    let mut office = match Office::new(rt.alloc(), book) {
-        Ok(office) => office,
-        Err(_) => return (Err(ServeFault::Memory), None),
+    let Ok(mut office) = Office::new(rt.alloc(), book) else {
+        return (Err(ServeFault::Memory), None);
     };
     let done = serve_by(rt, &mut office, service);
     (done, Some(office.into_book()))

@@ -4,7 +4,7 @@ ghost use Rattle.std.specs.Prelude.{◌≡◌, ◌⊎◌, ◌+◌, ◌≤◌, Li
 ghost use Rattle.std.specs.List.{flat_map};
 ghost use Rattle.plan_io.specs.Devices.{most_calls, HasFailed};
 ghost use Rattle.plan_http.specs.Answers.{Decision};
-ghost use Rattle.plan_http.specs.Serving.{Serving, Stops};
+ghost use Rattle.plan_http.specs.Connections.{Serving, Stops};
 ghost use Rattle.plan_door.specs.ReplayRun as spec;
 
 use crate::fault::ServeFault;
@@ -13,8 +13,8 @@ use plan_http::serve_run;
 use plan_io::{Sink, write_whole};
 use std::alloc::{AllocError, Global};
 
-// Texts, one behind another.
-fn joined(alloc: Global, texts: &[Vec<u8>]) -> Result<Vec<u8>, AllocError>
+// Concatenates texts.
+fn concat(alloc: Global, texts: &[Vec<u8>]) -> Result<Vec<u8>, AllocError>
     ensures { IfOk result (λ all. all.items ≡ flat_map vec_items texts.now) }
 {
     let mut all = Vec::new(alloc);
@@ -24,41 +24,49 @@ fn joined(alloc: Global, texts: &[Vec<u8>]) -> Result<Vec<u8>, AllocError>
     Ok(all)
 }
 
-// Serves connections one after another, and gives all responses.
+// Serves connections one after another, and returns all responses.
 fn responses<B: Book>(
     alloc: Global,
     office: &mut Office<B>,
     conns: &[Vec<u8>],
 ) -> Result<Vec<u8>, AllocError>
-    ensures ok { IfOk result (λ text. (decisions : List Decision) × Serving B.shelf office.old (map vec_items conns.now) decisions office.new
+    ensures ok { IfOk result
+        (λ text. (decisions : List Decision)
+        × Serving B.shelf office.old (map vec_items conns.now) decisions office.new
         × (text.items ≡ spec.responses decisions)) }
-    ensures err { OnErr result ((decisions : List Decision) × Stops B.shelf office.old office.new (map vec_items conns.now) decisions) }
+    ensures err { OnErr result
+        ((decisions : List Decision)
+        × Stops B.shelf office.old office.new (map vec_items conns.now) decisions) }
 {
     let mut out = Vec::new(alloc);
     match serve_run(alloc, office, conns, &mut out) {
-        Ok(()) => joined(alloc, &out),
+        Ok(()) => concat(alloc, &out),
         Err(_) => Err(AllocError),
     }
 }
 
-/// Serves connections one after another, and writes the responses. Nothing is written unless all are
-/// made, and a fault of the writer is never tried again.
+/// Serves connections one after another, and writes the responses. Nothing is written before all
+/// responses are complete, and a failed write is never repeated.
 pub fn replay_run<B: Book, W: Sink>(
     alloc: Global,
     office: &mut Office<B>,
     conns: &[Vec<u8>],
     writer: &mut W,
 ) -> Result<(), ServeFault>
-    ensures replays { spec.Replays B.shelf office.old office.new (map vec_items conns.now) (W.taken writer.old) (W.taken writer.new) result }
-    // So what is written is a response to each, or a part of these.
-    ensures ok { OnOk result (spec.AreAnswered (length conns.now) (W.taken writer.old) (W.taken writer.new)) }
-    ensures part { IsErrOf result ServeFault.Output → spec.AreAnsweredInPart (length conns.now) (W.taken writer.old) (W.taken writer.new) }
+    ensures replays { spec.Replays B.shelf office.old office.new (map vec_items conns.now)
+        (W.taken writer.old) (W.taken writer.new) result }
+    // So a response to each connection is written, or a part of these responses.
+    ensures ok { OnOk result
+        (spec.AreAnswered (length conns.now) (W.taken writer.old) (W.taken writer.new)) }
+    ensures part { IsErrOf result ServeFault.Output
+        → spec.AreAnsweredInPart (length conns.now) (W.taken writer.old) (W.taken writer.new) }
     ensures writes { W.calls writer.new ≤ W.calls writer.old + most_calls }
-    // Nothing is written with any other fault than that of the output.
+    // Nothing is written if it fails for another cause than the output.
     ensures quiet { IfErr result (λ e. (e ≡ ServeFault.Output) ⊎ (writer.new ≡ writer.old)) }
     ensures fine { OnOk result (W.faults writer.new ≡ W.faults writer.old) }
     ensures output { IsErrOf result ServeFault.Output →
-        HasFailed (W.calls writer.old) (W.calls writer.new) (W.faults writer.old) (W.faults writer.new) }
+        HasFailed (W.calls writer.old) (W.calls writer.new)
+        (W.faults writer.old) (W.faults writer.new) }
 {
     let Ok(text) = responses(alloc, office, conns) else {
         return Err(ServeFault::Memory);

@@ -1,16 +1,16 @@
-//! How an office is served.
+//! The options of `plan serve`.
 
-/// How `plan serve` serves an office.
+/// The options of `plan serve`.
 #[derive(Clone, Copy, Drop)]
 pub struct Service<'a> {
-    /// The file that keeps it.
+    /// The file of the office.
     pub database: &'a str,
     /// The port on this machine.
     pub port: u16,
-    /// How many connections are served.
+    /// The number of connections that are served.
     pub count: u32,
-    /// How many seconds a connection has in its turn for its request, and again for its response.
+    /// The seconds that a connection has for its request, and again for its response.
     pub patience: u32,
-    /// Whether each connection that was served is told on standard error.
+    /// Whether each served connection is logged on standard error.
     pub is_logged: bool,
 }

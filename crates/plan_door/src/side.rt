@@ -1,4 +1,4 @@
-//! The two sides of a connection of a socket, and how long each may take.
+//! The two sides of a connection of a socket, each with a deadline.
 
 ghost use Rattle.std.specs.Prelude.{◌≡◌, ◌*◌, ◌≤◌, [], false, IfOk, IfSome};
 ghost use Rattle.std.specs.Duration.{as_nanos};
@@ -11,18 +11,18 @@ use std::io::{self, ErrorKind, Read, Write};
 use std::net::{Shutdown, TcpStream};
 use std::time::{Duration, Instant};
 
-// How long a client that was answered may keep silent before its connection is closed, and how long it
-// may go on sending, in seconds; and how often it is heard at most.
-const LAST_SILENCE: u64 = 1;
+// After a response the connection is drained: how long the client may send nothing and how long it
+// may send, in seconds, and the greatest number of reads.
+const DRAIN_SILENCE: u64 = 1;
 
-const LAST_PATIENCE: u64 = 5;
+const DRAIN_LIMIT: u64 = 5;
 
-const LAST_READS: u32 = 4096;
+const DRAIN_READS: u32 = 4096;
 
-// The least time that is set, in nanoseconds: the system takes none for no limit.
+// The least timeout that is set, in nanoseconds: for the system, 0 means no limit.
 const LEAST: u128 = 1_000_000;
 
-// The time of one side, so many seconds, which begin with its first call.
+// The deadline of one side: `patience` seconds after its first call.
 #[derive(Drop)]
 struct Timer<'a> {
     rt: &'a HostRuntime,
@@ -31,9 +31,10 @@ struct Timer<'a> {
 }
 
 impl<'a> Timer<'a> {
-    // What is left of its time; less than a millisecond is none.
+    // The time that is left; less than a millisecond is a timeout.
     fn left(&mut self) -> io::Result<Duration>
-        ensures within { IfOk result (λ left. as_nanos left ≤ self.old.patience * 1_000_000_000) }
+        ensures within { IfOk result
+            (λ left. as_nanos left ≤ self.old.patience * 1_000_000_000) }
         ensures some { IfOk result (λ left. 1_000_000 ≤ as_nanos left) }
         ensures same { self.new.patience ≡ self.old.patience }
         ensures begun { IfSome self.old.start (λ start. self.new.start ≡ Some start) }
@@ -50,22 +51,22 @@ impl<'a> Timer<'a> {
     }
 }
 
-/// One side of a connection: what a client sends, or what it is sent.
+/// One side of a connection: the reads from a client, or the writes to it.
 #[derive(Drop)]
 pub struct Side<'a> {
     stream: TcpStream,
     timer: Timer<'a>,
     tally: Tally,
-    // What its reads returned, and whether its end was seen.
-    heard: Trace,
+    // The bytes that its reads returned, and whether their end was seen.
+    received: Trace,
     is_ended: bool,
-    // What its writes accepted.
-    told: Trace,
+    // The bytes that its writes accepted.
+    sent: Trace,
     bytes: u64,
     line: FirstLine,
 }
 
-// Reads what comes in time.
+// Reads bytes before the deadline.
 fn read_in_time(timer: &mut Timer<'_>, stream: &TcpStream, buf: &mut [u8]) -> io::Result<usize>
     ensures { ReadsAtMost result buf.new }
 {
@@ -75,7 +76,7 @@ fn read_in_time(timer: &mut Timer<'_>, stream: &TcpStream, buf: &mut [u8]) -> io
     reader.read(buf)
 }
 
-// Writes what is taken in time.
+// Writes bytes before the deadline.
 fn write_in_time(timer: &mut Timer<'_>, stream: &TcpStream, bytes: &[u8]) -> io::Result<usize>
     ensures { WritesAtMost result bytes.now }
 {
@@ -93,8 +94,12 @@ impl<'a> Client for Side<'a> {
 
     ghost faults = { λ side. side.tally.faults };
 
-    // What is still to come nobody knows.
-    ghost known = { λ side. record { heard = side.heard.bytes; ended = side.is_ended; left = None } };
+    // Nobody knows the bytes that are left.
+    ghost known = { λ side. record {
+      heard = side.received.bytes;
+      ended = side.is_ended;
+      left = None;
+    } };
 
     fn read(&mut self, buf: &mut [u8]) -> Result<usize, DeviceFault> {
         if self.is_ended {
@@ -104,8 +109,8 @@ impl<'a> Client for Side<'a> {
             Ok(count) => {
                 self.is_ended = count == 0 && !buf.is_empty();
                 self.bytes = self.bytes.saturating_add(count as u64);
-                self.line.hear(&buf[..count]);
-                self.heard = self.heard.with(&buf[..count]);
+                self.line.push(&buf[..count]);
+                self.received = self.received.with(&buf[..count]);
                 self.tally.count(Ok::<usize, DeviceFault>(count))
             }
             Err(_) => self.tally.count(Err::<usize, DeviceFault>(DeviceFault)),
@@ -120,14 +125,14 @@ impl<'a> Sink for Side<'a> {
 
     ghost faults = { λ side. side.tally.faults };
 
-    // What it was sent is what its writes accepted.
-    ghost taken = { λ side. Some side.told.bytes };
+    // The bytes that were sent are the bytes that its writes accepted.
+    ghost taken = { λ side. Some side.sent.bytes };
 
     fn write(&mut self, bytes: &[u8]) -> Result<usize, DeviceFault> {
         match write_in_time(&mut self.timer, &self.stream, bytes) {
             Ok(count) => {
                 self.bytes = self.bytes.saturating_add(count as u64);
-                self.told = self.told.with(&bytes[..count]);
+                self.sent = self.sent.with(&bytes[..count]);
                 self.tally.count(Ok::<usize, DeviceFault>(count))
             }
             Err(_) => self.tally.count(Err::<usize, DeviceFault>(DeviceFault)),
@@ -137,7 +142,8 @@ impl<'a> Sink for Side<'a> {
 
 fn side_of(rt: &HostRuntime, stream: TcpStream, patience: u32) -> Side<'_>
     ensures untouched { result.tally.calls ≡ 0 }
-    ensures fresh { (result.heard.bytes ≡ []) × (result.is_ended ≡ false) × (result.told.bytes ≡ []) }
+    ensures fresh { (result.received.bytes ≡ []) × (result.is_ended ≡ false)
+        × (result.sent.bytes ≡ []) }
     ensures timed { result.timer.patience ≡ patience }
 {
     Side {
@@ -148,24 +154,28 @@ fn side_of(rt: &HostRuntime, stream: TcpStream, patience: u32) -> Side<'_>
             start: None,
         },
         tally: Tally::new(),
-        heard: Trace::new(),
+        received: Trace::new(),
         is_ended: false,
-        told: Trace::new(),
+        sent: Trace::new(),
         bytes: 0,
         line: FirstLine::new(),
     }
 }
 
-// The two sides of a connection, neither of which was called yet, and each with so many seconds. Of the
-// one it is known what is heard, of the other what it is sent.
+// Returns the two sides of a connection before their first calls, each with a deadline of
+// `patience` seconds: the reader and the writer.
 pub(crate) fn both_sides(
     rt: &HostRuntime,
     stream: TcpStream,
     patience: u32,
 ) -> io::Result<(Side<'_>, Side<'_>)>
-    ensures untouched { IfOk result (λ sides. (sides.0.tally.calls ≡ 0) × (sides.1.tally.calls ≡ 0)) }
-    ensures fresh { IfOk result (λ sides. (sides.0.heard.bytes ≡ []) × (sides.0.is_ended ≡ false) × (sides.1.told.bytes ≡ [])) }
-    ensures timed { IfOk result (λ sides. (sides.0.timer.patience ≡ patience) × (sides.1.timer.patience ≡ patience)) }
+    ensures untouched { IfOk result
+        (λ sides. (sides.0.tally.calls ≡ 0) × (sides.1.tally.calls ≡ 0)) }
+    ensures fresh { IfOk result
+        (λ sides. (sides.0.received.bytes ≡ []) × (sides.0.is_ended ≡ false)
+        × (sides.1.sent.bytes ≡ [])) }
+    ensures timed { IfOk result
+        (λ sides. (sides.0.timer.patience ≡ patience) × (sides.1.timer.patience ≡ patience)) }
 {
     stream.set_nonblocking(false)?;
     let writer = stream.try_clone()?;
@@ -173,12 +183,12 @@ pub(crate) fn both_sides(
 }
 
 impl<'a> Side<'a> {
-    // How many bytes were read or written.
+    // The number of bytes that were read or written.
     pub(crate) fn bytes(&self) -> u64 {
         self.bytes
     }
 
-    // The first line of those that were read.
+    // The first line of the bytes that were read.
     pub(crate) fn line(&self) -> &FirstLine {
         &self.line
     }
@@ -194,17 +204,17 @@ impl<'a> Side<'a> {
         }
     }
 
-    // Tells a client that nothing more comes, and reads what it goes on sending, for a while: a
-    // connection that is closed with bytes unread would take the response away from it.
-    pub(crate) fn hear_out(&self) -> io::Result<()> {
+    // Ends the response, and reads and discards for a while the bytes that the client still sends:
+    // closing a connection with unread bytes could destroy the response.
+    pub(crate) fn drain(&self) -> io::Result<()> {
         self.stream.shutdown(Shutdown::Write)?;
         self.stream
-            .set_read_timeout(Some(Duration::from_secs(LAST_SILENCE)))?;
+            .set_read_timeout(Some(Duration::from_secs(DRAIN_SILENCE)))?;
         let start = Instant::now(self.timer.rt)?;
-        let end = Duration::from_secs(LAST_PATIENCE);
+        let end = Duration::from_secs(DRAIN_LIMIT);
         let mut reader = &self.stream;
         let mut rest = [0; 8192];
-        for _ in 0..LAST_READS {
+        for _ in 0..DRAIN_READS {
             if reader.read(&mut rest)? == 0 || start.elapsed(self.timer.rt)? >= end {
                 return Ok(());
             }

@@ -1,9 +1,9 @@
-//! Connections that come from anywhere, one after another.
+//! Connections from any source, one after another.
 
 ghost use Rattle.std.specs.Prelude.{◌≡◌, ◌⊎◌, ◌↔◌, ◌+◌, ◌≤◌, ℕ, [], List, length, Option, Some, Result, IsTrue, IfOk, OnOk, IsErrOf, IfErr};
 ghost use Rattle.plan_io.specs.Devices.{IsCounted};
 ghost use Rattle.plan_io.specs.declared.traits.DeviceFault.{DeviceFault};
-ghost use Rattle.plan_http.specs.declared.serving.ConnEnd.{ConnEnd};
+ghost use Rattle.plan_http.specs.declared.connection.ConnEnd.{ConnEnd};
 ghost use Rattle.plan_http.specs.Clients.{IsFresh};
 ghost use Rattle.plan_http.specs.Answers.{Decision};
 ghost use Rattle.plan_door.specs.Serve.{MovedBy};
@@ -15,40 +15,45 @@ use plan_http::{Client, ConnEnd, Routes, serve_conn};
 use plan_io::{DeviceFault, Sink};
 use std::alloc::Global;
 
-/// Where connections come from.
+/// A source of connections.
 pub trait Visitors {
     type Reader: Client + Drop;
 
     type Writer: Sink + Drop;
 
-    /// How often a connection was awaited.
+    /// The number of times that a connection was awaited.
     ghost awaited: { Self → ℕ };
 
-    /// How many of these came to none.
+    /// The number of these that brought no connection.
     ghost missed: { Self → ℕ };
 
-    /// That no more will come.
+    /// No more connections will come.
     ghost closed: { Self → Type 0 };
 
-    /// What awaiting a connection may come to.
+    /// The possible outcomes of awaiting a connection.
     ghost admits: { Self → Self → Result (Self.Reader × Self.Writer) DeviceFault → Type 0 };
 
-    /// What ending one may come to.
+    /// The possible outcomes of closing a connection.
     ghost dismisses: { Self → Self → Self.Reader → Self.Writer → ConnEnd → Type 0 };
 
-    /// Awaits a connection, of which nothing is read before it is here, and which is sent nothing.
+    /// Awaits a connection. Nothing was read from it or written to it.
     fn admit(&mut self) -> Result<(Self::Reader, Self::Writer), DeviceFault>
-        ensures counted { IsCounted (awaited self.old) (awaited self.new) (missed self.old) (missed self.new) result }
+        ensures counted { IsCounted (awaited self.old) (awaited self.new) (missed self.old)
+            (missed self.new) result }
         ensures admitted { admits self.old self.new result }
-        ensures untouched { IfOk result (λ sides. (Self.Reader.calls sides.0 ≡ 0) × (Self.Writer.calls sides.1 ≡ 0)) }
-        ensures fresh { IfOk result (λ sides. IsFresh (Self.Reader.known sides.0) × (Self.Writer.taken sides.1 ≡ Some [])) };
+        ensures untouched { IfOk result
+            (λ sides. (Self.Reader.calls sides.0 ≡ 0) × (Self.Writer.calls sides.1 ≡ 0)) }
+        ensures fresh { IfOk result
+            (λ sides. IsFresh (Self.Reader.known sides.0)
+            × (Self.Writer.taken sides.1 ≡ Some [])) };
 
-    /// Ends a connection that was served.
+    /// Closes a connection that was served.
     fn dismiss(&mut self, reader: Self::Reader, writer: Self::Writer, end: ConnEnd)
-        ensures same { (awaited self.new ≡ awaited self.old) × (missed self.new ≡ missed self.old) }
+        ensures same { (awaited self.new ≡ awaited self.old)
+            × (missed self.new ≡ missed self.old) }
         ensures dismissed { dismisses self.old self.new reader writer end };
 
-    /// Whether no more will come.
+    /// Whether no more connections will come.
     fn is_closed(&self) -> bool
         ensures { IsTrue result ↔ closed self.now };
 }
@@ -62,7 +67,8 @@ fn serve_next<B: Book, V: Visitors>(
 )
     ensures awaited { V.awaited visitors.new ≡ V.awaited visitors.old + 1 }
     ensures turn { (turn : Turn) × IsTurn B.shelf office.old office.new turn
-        × IsVisited V.Reader.known V.Writer.taken V.admits V.dismisses visitors.old visitors.new turn }
+        × IsVisited V.Reader.known V.Writer.taken V.admits V.dismisses visitors.old visitors.new
+        turn }
 {
     let Ok((reader, writer)) = visitors.admit() else {
         return;
@@ -73,8 +79,8 @@ fn serve_next<B: Book, V: Visitors>(
     visitors.dismiss(reader, writer, end);
 }
 
-/// Serves so many connections, one after another. One that doesn't come, or fails, counts too, and
-/// ends alone. Where no more will come it ends before.
+/// Serves `count` connections, one after another. A connection that doesn't come, or fails, counts
+/// too, and has no effect on others. It ends early if no more connections will come.
 pub fn serve_visitors<B: Book, V: Visitors>(
     alloc: Global,
     office: &mut Office<B>,
@@ -84,12 +90,17 @@ pub fn serve_visitors<B: Book, V: Visitors>(
     ensures awaited { OnOk result (V.awaited visitors.new ≡ V.awaited visitors.old + count) }
     ensures visits { OnOk result (Visiting V.Reader.known V.Writer.taken V.admits V.dismisses
         B.shelf office.old office.new visitors.old visitors.new count) }
-    // So, of the office alone:
-    ensures turns { OnOk result ((turns : List Turn) × (length turns ≡ count) × Runs B.shelf office.old office.new turns) }
-    ensures moves { OnOk result ((decisions : List Decision) × (length decisions ≤ count) × MovedBy B.shelf office.old decisions office.new) }
-    // It ends before for one of two causes. Memory may run out before the first;
-    ensures memory { IsErrOf result ServeFault.Memory → (office.new ≡ office.old) × (visitors.new ≡ visitors.old) }
-    // or no more will come, after some turns.
+    // So, for the office alone:
+    ensures turns { OnOk result
+        ((turns : List Turn) × (length turns ≡ count)
+        × Runs B.shelf office.old office.new turns) }
+    ensures moves { OnOk result
+        ((decisions : List Decision) × (length decisions ≤ count)
+        × MovedBy B.shelf office.old decisions office.new) }
+    // It fails for one of two causes. Memory runs out before the first connection;
+    ensures memory { IsErrOf result ServeFault.Memory
+        → (office.new ≡ office.old) × (visitors.new ≡ visitors.old) }
+    // or no more connections come, after some turns.
     ensures closed { IsErrOf result ServeFault.Socket → V.closed visitors.new
         × (n : ℕ) × (n ≤ count) × (V.awaited visitors.new ≡ V.awaited visitors.old + n)
         × Visiting V.Reader.known V.Writer.taken V.admits V.dismisses

@@ -13,8 +13,8 @@ use Rattle.plan_rows.proofs.OwnerLemmas.{text_from_same}
 use Rattle.plan_desk.proofs.SeenLemmas.{view_alone, seen}
 use Rattle.plan_http.specs.Judges.{asks, Judges}
 use Rattle.plan_http.specs.Laws.{OneVerdict}
-use Rattle.plan_http.specs.Answers.{Decision, handled, failed, starved, IsOn}
-use Rattle.plan_http.specs.Serving.{Moves, Serving}
+use Rattle.plan_http.specs.Answers.{Decision, answered, failed, starved, IsOn}
+use Rattle.plan_http.specs.Connections.{Moves, Serving}
 use Rattle.plan_http.specs.Stories.{belongs_to, IsOutside, AreTold, IsStoryOf}
 use Rattle.plan_http.specs.Isolated.{AreReplies, IsToldAlone, ServingUnseen}
 use Rattle.plan_http.proofs.LawLemmas.{one_verdict}
@@ -120,7 +120,7 @@ outside_request desk v bytes r outside spelled =
 module _ {B : Type 0} (shelf : Shelf B) where
   moved_unseen : (desk : Text) (old new : B) (bytes : Text) (d : Decision) → IsOn bytes d → Moves shelf old new d → shelf.honest new
       → shelf.stands new → IsOutside desk (view desk (shelf.world old)) bytes → view desk (shelf.world new) ≡ view desk (shelf.world old)
-  moved_unseen desk old new bytes (handled r reply) is_on h honest stands outside =
+  moved_unseen desk old new bytes (answered r reply) is_on h honest stands outside =
       h.outside honest stands desk (outside_request desk (view desk (shelf.world old)) bytes r outside is_on)
   moved_unseen desk old new bytes (failed check allow is_head) is_on h honest stands outside = ap (λ (b : B). view desk (shelf.world b)) h
   moved_unseen desk old new bytes starved is_on h honest stands outside = ap (λ (b : B). view desk (shelf.world b)) h

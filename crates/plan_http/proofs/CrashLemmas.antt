@@ -10,12 +10,12 @@ use Rattle.plan_desk.specs.Calls.{Request, Reply, subject, writes, is_accepted}
 use Rattle.plan_desk.specs.Stories.{IsWant}
 use Rattle.plan_desk.specs.Decisions.{IsStep, IsDecision}
 use Rattle.plan_rows.specs.Books.{Shelf}
-use Rattle.plan_desk.specs.Deciding.{Handled}
+use Rattle.plan_desk.specs.BookSteps.{Handled}
 use Rattle.plan_desk.proofs.SortedLemmas.{Keeps, Makes, sorted_decision}
 use Rattle.plan_desk.proofs.DecidingLemmas.{Closes, closes_then}
 use Rattle.plan_http.specs.Judges.{asks, Judges}
-use Rattle.plan_http.specs.Answers.{Decision, handled, failed, starved, IsOn}
-use Rattle.plan_http.specs.Serving.{Moves, Serving}
+use Rattle.plan_http.specs.Answers.{Decision, answered, failed, starved, IsOn}
+use Rattle.plan_http.specs.Connections.{Moves, Serving}
 use Rattle.plan_http.specs.Clients.{Known, OfBytes}
 use Rattle.plan_http.specs.Crashes.{accepts, IsAcceptedAt, WouldMake, LeavesOne, LeavesRefused, LeavesRun, ComesAfter}
 use Rattle.plan_http.proofs.ClientLemmas.{of_bytes_map}
@@ -46,7 +46,7 @@ in_front (suc kept) (d ∷ decisions) (suc place) none h = let below : place < k
 module _ {B : Type 0} (shelf : Shelf B) where
   -- tables that can be seen could be seen before
   moved_stood : (old new : B) (d : Decision) → Moves shelf old new d → shelf.honest new → shelf.stands new → shelf.stands old
-  moved_stood old new (handled r reply) h honest stands = h.stood honest stands
+  moved_stood old new (answered r reply) h honest stands = h.stood honest stands
   moved_stood old new (failed check allow is_head) h honest stands = subst shelf.stands h stands
   moved_stood old new starved h honest stands = subst shelf.stands h stands
 
@@ -59,12 +59,12 @@ module _ {B : Type 0} (shelf : Shelf B) where
 
   -- and only a counted fault shuts them
   moved_counts : (old new : B) (d : Decision) → Moves shelf old new d → shelf.faults old ≤ shelf.faults new
-  moved_counts old new (handled r reply) h = h.counts
+  moved_counts old new (answered r reply) h = h.counts
   moved_counts old new (failed check allow is_head) h = let same : shelf.faults new ≡ shelf.faults old = ap shelf.faults h in omega (arith, same)
   moved_counts old new starved h = let same : shelf.faults new ≡ shelf.faults old = ap shelf.faults h in omega (arith, same)
 
   moved_closes : (old new : B) (d : Decision) → Moves shelf old new d → shelf.honest new → Closes shelf old new
-  moved_closes old new (handled r reply) h honest = h.closes honest
+  moved_closes old new (answered r reply) h honest = h.closes honest
   moved_closes old new (failed check allow is_head) h honest = λ stands. inl (subst shelf.stands (sym h) stands)
   moved_closes old new starved h honest = λ stands. inl (subst shelf.stands (sym h) stands)
 
@@ -87,7 +87,7 @@ module _ {B : Type 0} (shelf : Shelf B) where
 
   -- no decision but one that accepts a command changes the rows
   moved_same : (old new : B) (d : Decision) → Moves shelf old new d → accepts d ≡ false → shelf.honest new → shelf.stands new → shelf.world new ≡ shelf.world old
-  moved_same old new (handled r reply) h unaccepted honest stands = elim (h.step honest) [
+  moved_same old new (answered r reply) h unaccepted honest stands = elim (h.step honest) [
     | inl made ↦ unaccepted_keeps (shelf.world old) r reply (shelf.world new) unaccepted made.1
     | inr want ↦ want.1 stands
   ]
@@ -97,18 +97,18 @@ module _ {B : Type 0} (shelf : Shelf B) where
   -- after an accepted command a crash leaves its rows
   moved_durable : (old new : B) (d : Decision) → Moves shelf old new d → accepts d ≡ true → shelf.honest new → (left : Option World) → shelf.may_leave new left
       → left ≡ Some (shelf.world new)
-  moved_durable old new (handled r reply) h took honest left may = h.durable honest took left may
+  moved_durable old new (answered r reply) h took honest left may = h.durable honest took left may
   moved_durable old new (failed check allow is_head) h took honest left may = absurd (both_ways _ refl took)
   moved_durable old new starved h took honest left may = absurd (both_ways _ refl took)
 
   -- one writing call for each accepted command, and for nothing else
   moved_made : (old new : B) (d : Decision) → Moves shelf old new d → accepts d ≡ true → shelf.honest new → shelf.made new ≡ shelf.made old + 1
-  moved_made old new (handled r reply) h took honest = (h.made honest took).0
+  moved_made old new (answered r reply) h took honest = (h.made honest took).0
   moved_made old new (failed check allow is_head) h took honest = absurd (both_ways _ refl took)
   moved_made old new starved h took honest = absurd (both_ways _ refl took)
 
   moved_unmade : (old new : B) (d : Decision) → Moves shelf old new d → accepts d ≡ false → shelf.honest new → shelf.made new ≡ shelf.made old
-  moved_unmade old new (handled r reply) h unaccepted honest = h.unmade honest unaccepted
+  moved_unmade old new (answered r reply) h unaccepted honest = h.unmade honest unaccepted
   moved_unmade old new (failed check allow is_head) h unaccepted honest = ap shelf.made h
   moved_unmade old new starved h unaccepted honest = ap shelf.made h
 
@@ -116,7 +116,7 @@ module _ {B : Type 0} (shelf : Shelf B) where
   record Refused (old new : B) (d : Decision) (left : Option World) : Type 0 where
     request : Request
     reply : Reply
-    is : d ≡ handled request reply
+    is : d ≡ answered request reply
     want : IsWant reply
     moved : Handled shelf old new request reply
     refused : shelf.refused new ≡ shelf.refused old + 1
@@ -125,7 +125,7 @@ module _ {B : Type 0} (shelf : Shelf B) where
 
   moved_crash : (old new : B) (d : Decision) → Moves shelf old new d → accepts d ≡ false → shelf.honest new → (left : Option World) → shelf.may_leave new left
       → shelf.may_leave old left ⊎ Refused old new d left
-  moved_crash old new (handled r reply) h unaccepted honest left may = elim (h.crash honest unaccepted left may) [
+  moved_crash old new (answered r reply) h unaccepted honest left may = elim (h.crash honest unaccepted left may) [
     | inl before ↦ inl before
     | inr more ↦ inr (record {
       request = r;
@@ -226,7 +226,7 @@ module _ {B : Type 0} (shelf : Shelf B) where
     place = suc r.place;
     request = r.request;
     reply = r.reply;
-    answered = r.answered;
+    decision_is = r.decision_is;
     want = r.want;
     before = r.before;
     behind = r.behind;
@@ -253,7 +253,7 @@ module _ {B : Type 0} (shelf : Shelf B) where
     place = 0;
     request = r.request;
     reply = r.reply;
-    answered = ap Some r.is;
+    decision_is = ap Some r.is;
     want = r.want;
     before = old;
     behind = middle;

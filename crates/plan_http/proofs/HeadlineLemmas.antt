@@ -10,12 +10,12 @@ use Rattle.plan_rows.specs.Rules.{IsWorld}
 use Rattle.plan_desk.specs.Laws.{AloneKeepsRules}
 use Rattle.plan_desk.specs.Promises.{IsPromised, PagesArePromised}
 use Rattle.plan_rows.specs.Books.{Shelf}
-use Rattle.plan_desk.specs.Deciding.{Handled}
+use Rattle.plan_desk.specs.BookSteps.{Handled}
 use Rattle.plan_desk.proofs.AloneLemmas.{alone_keeps_rules}
 use Rattle.plan_desk.proofs.PromiseLemmas.{pages_are_promised}
 use Rattle.plan_http.specs.declared.runs.RunFault.{RunFault}
-use Rattle.plan_http.specs.Answers.{Decision, handled, failed, starved}
-use Rattle.plan_http.specs.Serving.{Moves, Serving, Stops, IsRunOf, response_of}
+use Rattle.plan_http.specs.Answers.{Decision, answered, failed, starved}
+use Rattle.plan_http.specs.Connections.{Moves, Serving, Stops, IsRunOf, response_of}
 use Rattle.plan_http.specs.Served.{IsMove, AreServed}
 use Rattle.plan_http.specs.Stories.{IsInside, IsAnswered, AreTold, IsStoryOf}
 use Rattle.plan_http.specs.Isolated.{IsToldAlone}
@@ -25,7 +25,7 @@ use Rattle.plan_http.proofs.StoryLemmas.{connections_are_apart, connections_are_
 module _ {B : Type 0} (shelf : Shelf B) where
   -- a disk that has returned what was written, returned it before
   pub moved_honest : (old new : B) (d : Decision) → Moves shelf old new d → shelf.honest new → shelf.honest old
-  moved_honest old new (handled r reply) h honest = h.honesty honest
+  moved_honest old new (answered r reply) h honest = h.honesty honest
   moved_honest old new (failed check allow is_head) h honest = subst shelf.honest h honest
   moved_honest old new starved h honest = subst shelf.honest h honest
 
@@ -48,7 +48,7 @@ module _ {B : Type 0} (shelf : Shelf B) where
 
   follow_handled : (old new : B) (w : World) (r : Request) (reply : Reply) → Follows old w → Handled shelf old new r reply → shelf.honest new
       → (shelf.stands new × IsStep (shelf.world old) r reply (shelf.world new)) ⊎ (IsWant reply × (shelf.stands new → shelf.world new ≡ shelf.world old))
-      → Follow old new w (handled r reply)
+      → Follow old new w (answered r reply)
   unfolding IsRealStep IsStep
   follow_handled old new w r reply follows h honest (inl (stands, step)) =
       let same : shelf.world old ≡ w = follows (h.stood honest stands) in
@@ -64,7 +64,7 @@ module _ {B : Type 0} (shelf : Shelf B) where
   }
 
   follow : (old new : B) (w : World) (d : Decision) → Follows old w → Moves shelf old new d → shelf.honest new → Follow old new w d
-  follow old new w (handled r reply) follows h honest = follow_handled old new w r reply follows h honest (h.step honest)
+  follow old new w (answered r reply) follows h honest = follow_handled old new w r reply follows h honest (h.step honest)
   follow old new w (failed check allow is_head) follows same honest = record {
     after = w;
     move = refl;
@@ -139,7 +139,7 @@ stopped_honest shelf old new conns decisions s honest = elim s.last [
 pub ran_short : {B : Type 0} (shelf : Shelf B) (old new : B) (conns responses : List Text)
     → ((decisions : List Decision) × Stops shelf old new conns decisions × (responses ≡ [] ++ map response_of decisions)) → Ran shelf old new conns responses
 ran_short shelf old new conns responses (decisions, stops, are) = record {
-  count = stops.answered;
+  count = stops.count;
   within = stops.within;
   decisions = decisions;
   last = stops.middle;

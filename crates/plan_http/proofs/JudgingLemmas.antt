@@ -9,8 +9,8 @@ use Rattle.httparse.specs.declared.spans.RequestSpans.{RequestSpans}
 use Rattle.plan_http.specs.declared.checks.Check.{Check}
 use Rattle.plan_http.specs.declared.checks.Check.TheVariants.{Message}
 use Rattle.plan_http.specs.declared.checks.Check.TheVariants as checks
-use Rattle.plan_http.specs.declared.asking.Asked.{Asked}
-use Rattle.plan_http.specs.declared.asking.Asked.TheVariants as made
+use Rattle.plan_http.specs.declared.request.Asked.{Asked}
+use Rattle.plan_http.specs.declared.request.Asked.TheVariants as made
 use Rattle.plan_http.specs.Head.{BeginsWithHead, HasNoHead, after_head}
 use Rattle.plan_http.specs.Fields.{body_length}
 use Rattle.plan_http.specs.Checks.{first_failing, head_checks, lengths_in}
@@ -18,7 +18,7 @@ use Rattle.plan_http.specs.Pieces.{IsSplit}
 use Rattle.plan_http.specs.declared.routes.Route.{Route}
 use Rattle.plan_http.specs.Routes.{route_of, method_of}
 use Rattle.plan_http.specs.Targets.{call_at}
-use Rattle.plan_http.specs.Judges.{Judges, MayWant, judged, asked, asked_at, asks, fails, fields_of, key_of, length_of, is_head_method}
+use Rattle.plan_http.specs.Judges.{Judges, MayWant, verdict_of, verdict_behind, verdict_at, asks, fails, fields_of, key_of, length_of, is_head_method}
 use Rattle.plan_http.specs.Asked.{IsAsked, IsRequestOr, IsRefused, IsPassed, IsOnRoute}
 
 -- the bytes behind the head, some of which were read with it
@@ -47,11 +47,11 @@ head_missing bytes none = inr (none, refl)
 -- the three ways on from a head
 module _ (bytes : List ℕ) (h : RequestHead) (begins : BeginsWithHead bytes h) where
   pub fails_head : (check : Check) → first_failing (head_checks h.minor (fields_of h)) ≡ Some check → Judges bytes (fails check None (is_head_method h))
-  unfolding judged
+  unfolding verdict_of
   fails_head check is = inl (h, begins, rw is refl)
 
   pub fails_short : first_failing (head_checks h.minor (fields_of h)) ≡ None → length (after_head bytes h) < length_of h → Judges bytes (fails Message None (is_head_method h))
-  unfolding judged asked
+  unfolding verdict_of verdict_behind
   fails_short none short =
       let test : nat_lt (length (after_head bytes h)) (length_of h) ≡ true = grind (arith, nat_tests) in
       inl (h, begins, rw (none, test) refl)
@@ -66,15 +66,15 @@ module _ (bytes : List ℕ) (h : RequestHead) (begins : BeginsWithHead bytes h) 
   short_told is_head result head none short is = rw (is, head) (fails_short none short)
 
   whole_is : first_failing (head_checks h.minor (fields_of h)) ≡ None → length_of h ≤ length (after_head bytes h)
-      → judged h (after_head bytes h) ≡ asked_at h (take (length_of h) (after_head bytes h)) (route_of h.target)
-  unfolding judged asked
+      → verdict_of h (after_head bytes h) ≡ verdict_at h (take (length_of h) (after_head bytes h)) (route_of h.target)
+  unfolding verdict_of verdict_behind
   whole_is none long =
       let test : nat_lt (length (after_head bytes h)) (length_of h) ≡ false = grind (arith, nat_tests) in
       rw (none, test) refl
 
   -- a check of the route that fails, behind a whole body
   pub refused_told : (check : Check) (route : Option Route) (is_head : Bool) (count : ℕ) (result : Asked) → is_head ≡ is_head_method h → IsPassed h count
-      → ((body : List ℕ) → asked_at h body (route_of h.target) ≡ fails check (option_map method_of route) (is_head_method h))
+      → ((body : List ℕ) → verdict_at h body (route_of h.target) ≡ fails check (option_map method_of route) (is_head_method h))
       → IsRefused (after_head bytes h) count check route is_head result → IsAsked bytes result
   refused_told check route is_head count (made.Request request) head passed all refused = absurd refused
   refused_told check route is_head count (made.Fails first at on) head passed all (inl (is_check, is_route, is_on, long)) =
@@ -86,11 +86,11 @@ module _ (bytes : List ℕ) (h : RequestHead) (begins : BeginsWithHead bytes h) 
   refused_told check route is_head count made.ReadFailed head passed all refused = tt
 
   -- the checks of the route
-  pub no_route : route_of h.target ≡ None → (body : List ℕ) → asked_at h body (route_of h.target) ≡ fails checks.Route (option_map method_of None) (is_head_method h)
+  pub no_route : route_of h.target ≡ None → (body : List ℕ) → verdict_at h body (route_of h.target) ≡ fails checks.Route (option_map method_of None) (is_head_method h)
   no_route none body = rw none refl
 
   pub other_method : (route : Route) → route_of h.target ≡ Some route → bytes_eq h.method (method_of route) ≡ false → (body : List ℕ)
-      → asked_at h body (route_of h.target) ≡ fails checks.Method (option_map method_of (Some route)) (is_head_method h)
+      → verdict_at h body (route_of h.target) ≡ fails checks.Method (option_map method_of (Some route)) (is_head_method h)
   other_method route found other body = rw (found, other) refl
 
   -- memory may be wanted on a route
@@ -105,7 +105,7 @@ module _ (bytes : List ℕ) (h : RequestHead) (begins : BeginsWithHead bytes h) 
   }
 
   asks_there : (route : Route) (body : List ℕ) → route_of h.target ≡ Some route → bytes_eq h.method (method_of route) ≡ true
-      → asked_at h body (route_of h.target) ≡ asks (record { key = key_of h; call = call_at route h.target body })
+      → verdict_at h body (route_of h.target) ≡ asks (record { key = key_of h; call = call_at route h.target body })
   asks_there route body found method = rw (found, method) refl
 
   -- the request of a route, behind a whole body

@@ -4,7 +4,7 @@ use Rattle.std.proofs.lemmas.List.{take_more, map-append}
 use Rattle.plan_rows.specs.World.{Text}
 use Rattle.plan_rows.specs.Books.{Shelf}
 use Rattle.plan_http.specs.Answers.{Decision, IsOn}
-use Rattle.plan_http.specs.Serving.{Moves, Serving, Stops, response_of}
+use Rattle.plan_http.specs.Connections.{Moves, Serving, Stops, response_of}
 
 -- an item of a list, as a text
 pub item_at : {A : Type 0} (f : A → Text) (xs : List A) (i : ℕ) (x : A) → i < length xs → x ≡ get_or xs i x → get_or (map f xs) i [] ≡ f x
@@ -41,7 +41,7 @@ module _ {B : Type 0} (shelf : Shelf B) where
     stopped next = (
       front.0,
       record {
-        answered = i;
+        count = i;
         within = omega arith;
         middle = middle;
         served = front.1;

@@ -4,13 +4,13 @@ use Rattle.plan_rows.specs.World.{Text, World}
 use Rattle.plan_rows.specs.Views.{view}
 use Rattle.plan_rows.specs.Books.{Shelf}
 use Rattle.plan_desk.specs.Calls.{Request, Reply}
-use Rattle.plan_desk.specs.Deciding.{Handled}
+use Rattle.plan_desk.specs.BookSteps.{Handled}
 use Rattle.plan_desk.specs.Stories.{IsWant}
 use Rattle.plan_desk.specs.Decisions.{IsStep, IsRealStep, IsRun, AreTold}
 use Rattle.plan_desk.specs.Laws.{DesksAreApart}
 use Rattle.plan_desk.proofs.LawLemmas.{desks_are_apart}
-use Rattle.plan_http.specs.Answers.{Decision, handled, failed, starved, requests_of, replies_of}
-use Rattle.plan_http.specs.Serving.{Serving}
+use Rattle.plan_http.specs.Answers.{Decision, answered, failed, starved, requests_of, replies_of}
+use Rattle.plan_http.specs.Connections.{Serving}
 use Rattle.plan_http.specs.Laws.{ServingIsRun, ServedDesksAreApart}
 
 -- a step, or a refusal for want with the rows as they were, is a real step
@@ -51,7 +51,7 @@ module _ {B : Type 0} (shelf : Shelf B) where
       subst (λ b. IsRunFrom b []) served (record { honest = honest; stands = stands; worlds = []; run = run_none (shelf.world new) })
   run_from old new [] (d ∷ ds) served honest stands = absurd served
   run_from old new (c ∷ cs) [] served honest stands = absurd served
-  run_from old new (c ∷ cs) (handled r reply ∷ ds) served honest stands =
+  run_from old new (c ∷ cs) (answered r reply ∷ ds) served honest stands =
       let rest = run_from served.0 new cs ds served.3 honest stands in
       record {
         honest = served.2.honesty rest.honest;

@@ -3,11 +3,11 @@ use Rattle.std.proofs.Common.{◌≡◌, [], Option, Some, true, subst}
 use Rattle.std.specs.Io.KnownBytes.{Appends}
 use Rattle.plan_rows.specs.World.{Text}
 use Rattle.plan_rows.specs.Books.{Shelf}
-use Rattle.plan_http.specs.declared.serving.ConnEnd.{ConnEnd}
-use Rattle.plan_http.specs.declared.serving.ConnEnd.TheVariants.{Replied, ReadFailed, WriteFailed}
+use Rattle.plan_http.specs.declared.connection.ConnEnd.{ConnEnd}
+use Rattle.plan_http.specs.declared.connection.ConnEnd.TheVariants.{Replied, ReadFailed, WriteFailed}
 use Rattle.plan_http.specs.Clients.{Known, OfBytes}
 use Rattle.plan_http.specs.Answers.{Answer, Decision, answer_of, IsOn}
-use Rattle.plan_http.specs.Serving.{Responds, Moves, Serves, Ends, response_of}
+use Rattle.plan_http.specs.Connections.{Responds, Moves, Serves, Ends, response_of}
 use Rattle.plan_http.proofs.ClientLemmas.{of_known}
 
 -- a decision was made, and its answer written

@@ -11,8 +11,8 @@ use Rattle.plan_desk.specs.Stories.{names, concerns, belongs}
 use Rattle.plan_desk.specs.Decisions.{IsStep}
 use Rattle.plan_desk.proofs.LooksLemmas.{SameView, same_from_agree}
 use Rattle.plan_desk.proofs.OrderLemmas.{admits_alike, keeps_after, AreAlike, steps_alike}
-use Rattle.plan_http.specs.Answers.{handled}
-use Rattle.plan_http.specs.Serving.{response_of}
+use Rattle.plan_http.specs.Answers.{answered}
+use Rattle.plan_http.specs.Connections.{response_of}
 use Rattle.plan_http.specs.Stories.{IsOutside, IsInside, IsAnswered, IsStoryOf}
 use Rattle.plan_http.specs.Headline.{ApartRunsAreAlike}
 use Rattle.plan_http.specs.Shards.{IsFor, IsShare, ShardsAreOneOffice}
@@ -74,7 +74,7 @@ both_answered desk v u bytes response answer r q after behind good fine same is 
       keeps_after desk v r one.reply after good one.step,
       keeps_after desk u r other.reply behind fine step,
       alike.seen_is,
-      other.told ∙ ap (λ (x : Request). response_of (handled x other.reply)) (sym once) ∙ ap (λ (x : Reply). response_of (handled r x)) (sym alike.reply_is) ∙ sym one.told,
+      other.told ∙ ap (λ (x : Request). response_of (answered x other.reply)) (sym once) ∙ ap (λ (x : Reply). response_of (answered r x)) (sym alike.reply_is) ∙ sym one.told,
     )
 
 -- ---- the two stories

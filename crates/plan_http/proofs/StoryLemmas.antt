@@ -12,17 +12,17 @@ use Rattle.plan_desk.proofs.LawLemmas.{desks_are_apart}
 use Rattle.plan_desk.proofs.OrderLemmas.{agreeing_views_are_told_alike}
 use Rattle.plan_http.specs.declared.checks.Check.{Check}
 use Rattle.plan_http.specs.Head.{after_head}
-use Rattle.plan_http.specs.Judges.{Verdict, asks, fails, judged, Judges, MayWant}
+use Rattle.plan_http.specs.Judges.{Verdict, asks, fails, verdict_of, Judges, MayWant}
 use Rattle.plan_http.specs.Laws.{OneVerdict}
-use Rattle.plan_http.specs.Answers.{Decision, handled, failed, starved, IsOn, no_memory}
-use Rattle.plan_http.specs.Serving.{response_of}
+use Rattle.plan_http.specs.Answers.{Decision, answered, failed, starved, IsOn, no_memory}
+use Rattle.plan_http.specs.Connections.{response_of}
 use Rattle.plan_http.specs.Served.{IsMove, AreServed}
 use Rattle.plan_http.specs.Stories.{IsWantText, IsInside, IsAnswered, AreTold, IsStoryOf, IsWanting}
 use Rattle.plan_http.proofs.LawLemmas.{one_verdict}
 
 -- a response is that of a reply to a request, or both are for want
 abbrev IsToldAs : Text → Request → Reply → Type 0
-IsToldAs response r reply = (response ≡ response_of (handled r reply)) ⊎ (IsWant reply × IsWantText response)
+IsToldAs response r reply = (response ≡ response_of (answered r reply)) ⊎ (IsWant reply × IsWantText response)
 
 -- connections spell these requests, in order, and the responses are those of the replies
 Spelled : List Text → List Text → List Request → List Reply → Type 0
@@ -78,12 +78,12 @@ with_starved w mid bytes conns responses (fails check allow head) spells same re
 
 -- a connection on which memory may be wanted spells something
 spells_some : (bytes : Text) → MayWant bytes → (verdict : Verdict) × Judges bytes verdict
-spells_some bytes want = (judged want.head (after_head bytes want.head), inl (want.head, want.begins, refl))
+spells_some bytes want = (verdict_of want.head (after_head bytes want.head), inl (want.head, want.begins, refl))
 
 one_more : (w mid : World) (bytes : Text) (conns responses : List Text) (d : Decision)
     → IsOn bytes d → IsMove w d mid → HasRun mid conns responses → HasRun w (bytes ∷ conns) (response_of d ∷ responses)
-one_more w mid bytes conns responses (handled r reply) spells step rest =
-    with_request w mid bytes (response_of (handled r reply)) conns responses r reply spells step (inl refl) rest
+one_more w mid bytes conns responses (answered r reply) spells step rest =
+    with_request w mid bytes (response_of (answered r reply)) conns responses r reply spells step (inl refl) rest
 one_more w mid bytes conns responses (failed check allow is_head) spells same rest =
     with_failure w mid bytes (response_of (failed check allow is_head)) conns responses check allow is_head spells same rest
 one_more w mid bytes conns responses starved want same rest =
@@ -157,7 +157,7 @@ Spells story requests = ⊥
 
 -- the responses of replies to requests
 texts_of : List Request → List Reply → List Text
-texts_of (r ∷ requests) (reply ∷ replies) = response_of (handled r reply) ∷ texts_of requests replies
+texts_of (r ∷ requests) (reply ∷ replies) = response_of (answered r reply) ∷ texts_of requests replies
 texts_of requests replies = []
 
 -- the requests of a story, and the replies that it was told
@@ -178,7 +178,7 @@ inside_first desk v bytes response more others r after is answer rest = record {
   replies = answer.reply ∷ rest.replies;
   told_so = inr (is.inside, (rest.requests, rest.replies, refl, refl, (after, answer.step, rest.told_so)));
   spelled = (is.spelled, rest.spelled);
-  texts = ap (λ (t : Text). t ∷ others) answer.told ∙ ap (λ (list : List Text). response_of (handled r answer.reply) ∷ list) rest.texts;
+  texts = ap (λ (t : Text). t ∷ others) answer.told ∙ ap (λ (list : List Text). response_of (answered r answer.reply) ∷ list) rest.texts;
 }
 
 has_requests : (desk : Text) (v : View) (conns responses story told : List Text) → IsStoryOf desk v conns responses story told → HasRequests desk v story told

@@ -6,7 +6,7 @@ use Rattle.plan_rows.specs.Views.{view}
 use Rattle.plan_rows.specs.Books.{Shelf}
 use Rattle.plan_http.specs.declared.runs.RunFault.{RunFault}
 use Rattle.plan_http.specs.Answers.{Decision, IsOn}
-use Rattle.plan_http.specs.Serving.{Moves, Serving, Stops, response_of}
+use Rattle.plan_http.specs.Connections.{Moves, Serving, Stops, response_of}
 use Rattle.plan_http.specs.Crashes.{Outlasts}
 use Rattle.plan_http.specs.Stories.{AreTold}
 use Rattle.plan_http.specs.Isolated.{IsApart}
@@ -71,8 +71,8 @@ module _ {B : Type 0} (shelf : Shelf B) where
   decided_short : (old new : B) (conns responses : List Text) (decisions : List Decision) (s : Stops shelf old new conns decisions)
       → responses ≡ map response_of decisions → Decided old new conns responses
   decided_short old new conns responses decisions s are = elim s.last [
-    | inl same ↦ decided_front old new conns responses s.answered decisions s.within (subst (λ (b : B). Serving shelf old (take s.answered conns) decisions b) (sym same) s.served) are
-    | inr more ↦ decided_more old s.middle new conns responses s.answered decisions more.1.0 more.0 s.served more.1.1 more.1.2 are
+    | inl same ↦ decided_front old new conns responses s.count decisions s.within (subst (λ (b : B). Serving shelf old (take s.count conns) decisions b) (sym same) s.served) are
+    | inr more ↦ decided_more old s.middle new conns responses s.count decisions more.1.0 more.0 s.served more.1.1 more.1.2 are
   ]
 
   -- from the clauses of a run to what it added

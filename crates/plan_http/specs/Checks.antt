@@ -4,7 +4,7 @@ use Rattle.plan_http.specs.declared.checks.Check.{Check}
 use Rattle.plan_http.specs.declared.checks.Check.TheVariants.{Message, TooLarge, Coding}
 use Rattle.plan_http.specs.Fields.{NamedValue, values_of, is_host_wrong, is_length_wrong, body_length}
 
--- of checks, each beside whether it fails, the first that fails
+-- the first failing check of a list of checks, each with whether it fails
 abbrev pub first_failing : List (Bool × Check) → Option Check
 first_failing [] = None
 first_failing (row ∷ rows) = if row.0 then Some row.1 else first_failing rows

@@ -6,20 +6,21 @@ use Rattle.plan_desk.specs.Calls.{Request, Reply}
 use Rattle.plan_desk.specs.Decisions.{IsStep}
 use Rattle.plan_rows.specs.Books.{Shelf}
 use Rattle.plan_http.specs.Judges.{asks, Judges}
-use Rattle.plan_http.specs.Answers.{Decision, handled, IsOn}
-use Rattle.plan_http.specs.Serving.{Moves, response_of}
+use Rattle.plan_http.specs.Answers.{Decision, answered, IsOn}
+use Rattle.plan_http.specs.Connections.{Moves, response_of}
 use Rattle.plan_http.specs.Stories.{IsOutside, IsStoryOf, IsWanting}
 
--- the responses that connections get in an office with these rows, each by a step, one after another
+-- the responses to connections in an office with these rows, each by a step, one after another
 abbrev pub AreReplies : World → List Text → List Text → Type 0
 AreReplies w [] [] = Unit {0}
 AreReplies w (bytes ∷ conns) (response ∷ responses) =
-    (r : Request) × (reply : Reply) × (after : World) × Judges bytes (asks r) × IsStep w r reply after
-    × (response ≡ response_of (handled r reply)) × AreReplies after conns responses
+    (r : Request) × (reply : Reply) × (after : World)
+    × Judges bytes (asks r) × IsStep w r reply after
+    × (response ≡ response_of (answered r reply)) × AreReplies after conns responses
 AreReplies w conns responses = ⊥
 
--- The story of a desk in a run, told what it is told in an office with the rows of the view and no
--- others; or a connection of it was answered for want of memory or by the store.
+-- The story of a desk in a run receives the responses of an office with the rows of the view and no
+-- others; or a connection of it was refused for lack of memory or by the store.
 abbrev pub IsToldAlone : Text → View → List Text → List Text → Type 0
 IsToldAlone desk v conns responses =
     ((story : List Text) × (told : List Text) × IsStoryOf desk v conns responses story told
@@ -27,8 +28,8 @@ IsToldAlone desk v conns responses =
     ⊎ IsWanting desk v conns responses
 
 module _ {B : Type 0} (shelf : Shelf B) where
-  -- connections are served one after another, and those that don't belong to the desk change nothing
-  -- that it sees
+  -- connections are served one after another, and the connections that don't belong to the desk
+  -- change nothing that it sees
   abbrev pub ServingUnseen : Text → B → List Text → List Decision → B → Type 0
   ServingUnseen desk old [] [] new = new ≡ old
   ServingUnseen desk old (bytes ∷ conns) (d ∷ decisions) new =
@@ -38,9 +39,11 @@ module _ {B : Type 0} (shelf : Shelf B) where
       × ServingUnseen desk middle conns decisions new
   ServingUnseen desk old conns decisions new = ⊥
 
-  -- A desk in a run, whole or not. The responses are those of the decisions, or of all but the last.
+  -- A desk in a complete or stopped run. The responses are those of the decisions, or of all but
+  -- the last.
   pub record IsApart (old new : B) (conns responses : List Text) (desk : Text) : Type 0 where
-    pub told : IsToldAlone desk (view desk (shelf.world old)) (take (length responses) conns) responses
+    pub told : IsToldAlone desk (view desk (shelf.world old))
+        (take (length responses) conns) responses
     pub decisions : List Decision
     pub unseen : ServingUnseen desk old (take (length decisions) conns) decisions new
     pub written : responses ≡ map response_of (take (length responses) decisions)

@@ -15,7 +15,7 @@ pub mod Asked
 pub mod Responses
 pub mod Laws
 pub mod Answers
-pub mod Serving
+pub mod Connections
 pub mod Crashes
 pub mod Isolated
 pub mod Shards

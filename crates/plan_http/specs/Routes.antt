@@ -1,5 +1,5 @@
--- The routes of the service (docs/definitions.md, "Connections"): which of them a target has is
--- what `matchit` finds in the table of their texts.
+-- The routes of the service (docs/definitions.md, "Connections"). The route of a target is the one
+-- that `matchit` finds in the table of their texts.
 use Rattle.std.specs.Prelude.{ℕ, Bool, not, ◌&&◌, ◌||◌, ◌==◌, false, if◌then◌else◌, List, [], ◌∷◌, Option, None, option_map, Result, Ok, Err, codes}
 use Rattle.std.specs.List.{list_any}
 use Rattle.matchit.specs.Rows.{RowsOf}
@@ -17,7 +17,7 @@ all_routes =
     Publish ∷ OpenDesk ∷ SetKey ∷ Capacities ∷ Plans ∷ ImportProject ∷ ImportShop ∷ Remove ∷
     Bind ∷ SetCalendar ∷ SetLag ∷ Dates ∷ Schedule ∷ Chart ∷ Days ∷ Best ∷ []
 
--- the text of a route: what stands in braces takes one segment of a target
+-- the text of a route: a name in braces matches one segment of a target
 abbrev pub text_of : Route → List ℕ
 text_of Publish = codes "/office/capacities"
 text_of OpenDesk = codes "/office/desks"
@@ -36,11 +36,11 @@ text_of Chart = codes "/desks/{desk}/plans/{n}/chart/{rule}"
 text_of Days = codes "/desks/{desk}/plans/{n}/days/{rule}"
 text_of Best = codes "/desks/{desk}/plans/{n}/best/{budget}"
 
--- a table of routes, as `matchit` keeps them
+-- a table of routes in the form of `matchit`
 abbrev pub Table : Type 0
 Table = RowsOf (RouteOf Route)
 
--- a table with one route more, as its text reads
+-- a table with one route more, by its parsed text
 abbrev pub with_read : Result Scan InsertError → Route → Table → Table
 with_read (Ok scan) route table = placed (scan.pattern, route_from scan route) table
 with_read (Err e) route table = table
@@ -61,7 +61,7 @@ route_table = with_routes all_routes []
 abbrev pub is_mark : ℕ → Bool
 is_mark byte = (byte == 63) || (byte == 37) || (byte == 35)
 
--- a target that routes are looked for: it begins with a slash, and has no such mark
+-- a target that can have a route: it begins with a slash, and has no such mark
 abbrev pub is_plain_target : List ℕ → Bool
 is_plain_target [] = false
 is_plain_target (byte ∷ bytes) = (byte == 47) && not (list_any is_mark (byte ∷ bytes))

@@ -1,12 +1,12 @@
--- Runs of connections, by the rows alone (docs/definitions.md, "Connections").
+-- Runs of connections, by the rows only (docs/definitions.md, "Connections").
 use Rattle.std.specs.Prelude.{◌≡◌, List, [], ◌∷◌}
 use Rattle.plan_rows.specs.World.{Text, World}
 use Rattle.plan_desk.specs.Decisions.{IsRealStep}
-use Rattle.plan_http.specs.Answers.{Decision, handled, failed, starved, IsOn}
+use Rattle.plan_http.specs.Answers.{Decision, answered, failed, starved, IsOn}
 
--- the rows move by a decision: a request that is handled makes a real step, and else they stay
+-- the change of the rows by a decision: a handled request makes a real step, else nothing changes
 abbrev pub IsMove : World → Decision → World → Type 0
-IsMove w (handled request reply) after = IsRealStep w request reply after
+IsMove w (answered request reply) after = IsRealStep w request reply after
 IsMove w (failed check allow is_head) after = after ≡ w
 IsMove w starved after = after ≡ w
 

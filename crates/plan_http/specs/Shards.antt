@@ -11,7 +11,7 @@ use Rattle.plan_http.specs.Stories.{IsStoryOf}
 use Rattle.plan_http.specs.Isolated.{IsApart}
 use Rattle.plan_http.specs.Headline.{Alike}
 
--- it spells no request, and so is nobody's
+-- the bytes spell no request, so they are nobody's
 pub record IsNobodys (bytes : Text) : Type 0 where
   pub check : Check
   pub allow : Option Text
@@ -19,38 +19,41 @@ pub record IsNobodys (bytes : Text) : Type 0 where
   pub spelled : Judges bytes (fails check allow is_head)
 
 module _ (server_of : Text → ℕ) (server : ℕ) where
-  -- The bytes spell a request that has to come to this server: one of the office, which comes to each,
-  -- or one on the path of a desk that is this server's.
+  -- The bytes spell a request for this server: a request of the office, which every server gets, or
+  -- a request on the path of a desk of this server.
   pub record IsFor (bytes : Text) : Type 0 where
     pub request : Request
     pub spelled : Judges bytes (asks request)
     pub sent : (is_of_office request.call ≡ true) ⊎ (server_of (subject request) ≡ server)
 
-  -- Of some connections those that a server gets, in their order: each that is for it, and any of
-  -- nobody's.
+  -- The connections that a server gets, in their order: each that is for it, and any of nobody's.
   abbrev pub IsShare : List Text → List Text → Type 0
   IsShare [] share = share ≡ []
   IsShare (bytes ∷ conns) share =
       ((IsFor bytes → ⊥) × IsShare conns share)
-      ⊎ ((IsFor bytes ⊎ IsNobodys bytes) × ((more : List Text) × (share ≡ bytes ∷ more) × IsShare conns more))
+      ⊎ ((IsFor bytes ⊎ IsNobodys bytes)
+      × ((more : List Text) × (share ≡ bytes ∷ more) × IsShare conns more))
 
--- a run of one office that serves all connections, and one of a server that serves its share of them
+-- a run of one office that serves all connections, and a run of a server that serves its share
 pub record AreOneOffice {A B : Type 0} (one : Shelf A) (other : Shelf B) (a : A) (b : B)
     (conns responses share answers : List Text) (desk : Text) : Type 0 where
-  -- as any two runs
+  -- they are alike as any two runs
   pub alike : Alike one other a b conns responses share answers desk
-  -- and the desk's story on its server is its story in the one office, told the same, byte for byte
+  -- and the desk's story on its server is its story in the one office, with the same responses,
+  -- byte for byte
   pub same : (story told mine given : List Text)
       → IsStoryOf desk (view desk (one.world a)) conns responses story told
       → IsStoryOf desk (view desk (other.world b)) share answers mine given
       → (mine ≡ story) × (given ≡ told)
 
 module _ {A B : Type 0} (one : Shelf A) (other : Shelf B) where
-  -- However desks are given to servers: what a desk is told by its own server, which gets the desk's
-  -- share alone, is what it would be told by one office that serves all connections.
+  -- For any assignment of desks to servers: a desk receives from its server, which gets only its
+  -- share, the responses of one office that serves all connections.
   unfoldable pub ShardsAreOneOffice : Type 0
-  ShardsAreOneOffice = (server_of : Text → ℕ) (a left : A) (b right : B) (conns responses share answers : List Text) (desk : Text)
+  ShardsAreOneOffice = (server_of : Text → ℕ) (a left : A) (b right : B)
+      (conns responses share answers : List Text) (desk : Text)
       → IsShare server_of (server_of desk) conns share
       → IsApart one a left conns responses desk → IsApart other b right share answers desk
-      → IsWorld (one.world a) → IsWorld (other.world b) → Agree (view desk (one.world a)) (view desk (other.world b))
+      → IsWorld (one.world a) → IsWorld (other.world b)
+      → Agree (view desk (one.world a)) (view desk (other.world b))
       → AreOneOffice one other a b conns responses share answers desk

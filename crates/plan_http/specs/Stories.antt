@@ -1,4 +1,4 @@
--- What of a run of connections belongs to one desk (docs/definitions.md, "Connections").
+-- The part of a run of connections that belongs to one desk (docs/definitions.md, "Connections").
 use Rattle.std.specs.Prelude.{◌≡◌, ◌⊎◌, Bool, true, false, List, [], ◌∷◌}
 use Rattle.plan_rows.specs.World.{Text, World}
 use Rattle.plan_rows.specs.Views.{View, view, alone}
@@ -6,61 +6,65 @@ use Rattle.plan_desk.specs.Calls.{Request, Reply}
 use Rattle.plan_desk.specs.Stories.{belongs, IsWant}
 use Rattle.plan_desk.specs.Decisions.{IsStep}
 use Rattle.plan_http.specs.Judges.{Verdict, asks, fails, Judges}
-use Rattle.plan_http.specs.Answers.{handled, starved}
-use Rattle.plan_http.specs.Serving.{response_of}
+use Rattle.plan_http.specs.Answers.{answered, starved}
+use Rattle.plan_http.specs.Connections.{response_of}
 
--- a connection belongs to the desk's story where it spells a request of it
+-- a connection belongs to the desk's story if it spells a request of the story
 abbrev pub belongs_to : Text → View → Verdict → Bool
 belongs_to desk v (asks r) = belongs desk v r
 belongs_to desk v (fails check allow is_head) = false
 
--- a response for want of memory, or by the store
+-- the response of a refusal for lack of memory or by the store
 abbrev pub IsWantText : Text → Type 0
 IsWantText response = (response ≡ response_of starved)
-    ⊎ ((r : Request) × (reply : Reply) × IsWant reply × (response ≡ response_of (handled r reply)))
+    ⊎ ((r : Request) × (reply : Reply) × IsWant reply × (response ≡ response_of (answered r reply)))
 
--- it spells nothing that belongs to the desk
+-- the bytes spell nothing that belongs to the desk
 pub record IsOutside (desk : Text) (v : View) (bytes : Text) : Type 0 where
   pub verdict : Verdict
   pub spelled : Judges bytes verdict
   pub outside : belongs_to desk v verdict ≡ false
 
--- it spells this request, which belongs to the desk
+-- the bytes spell this request, which belongs to the desk
 pub record IsInside (desk : Text) (v : View) (bytes : Text) (r : Request) : Type 0 where
   pub spelled : Judges bytes (asks r)
   pub inside : belongs desk v r ≡ true
 
--- the response is that of the office with the rows of the view and no others, which are then these
+-- the response of an office with the rows of the view and no others, and its rows after it
 pub record IsAnswered (v : View) (r : Request) (response : Text) (after : World) : Type 0 where
   pub reply : Reply
   pub step : IsStep (alone v) r reply after
-  pub told : response ≡ response_of (handled r reply)
+  pub told : response ≡ response_of (answered r reply)
 
--- A connection that doesn't belong to the desk is passed over. One that does is answered as in an
--- office that has the rows of the view and no others, or for want, and then no more is said.
+-- A connection that doesn't belong to the desk is skipped. A connection that does gets the response
+-- of an office that has the rows of the view and no others; or it is refused for lack of memory or
+-- by the store, and then nothing more is claimed.
 abbrev pub AreTold : Text → View → List Text → List Text → Type 0
 AreTold desk v [] [] = Unit {0}
 AreTold desk v (bytes ∷ conns) (response ∷ responses) =
     (IsOutside desk v bytes × AreTold desk v conns responses)
     ⊎ ((r : Request) × IsInside desk v bytes r × (IsWantText response
-    ⊎ ((after : World) × IsAnswered v r response after × AreTold desk (view desk after) conns responses)))
+    ⊎ ((after : World) × IsAnswered v r response after
+    × AreTold desk (view desk after) conns responses)))
 AreTold desk v conns responses = ⊥
 
--- the connections that belong to a desk, each judged in the view that the earlier ones of the story
--- leave, and the responses to them: none of them for want
+-- the connections that belong to a desk, each in the view after the earlier connections of the
+-- story, and their responses: none is a refusal for lack of memory or by the store
 abbrev pub IsStoryOf : Text → View → List Text → List Text → List Text → List Text → Type 0
 IsStoryOf desk v [] [] story told = (story ≡ []) × (told ≡ [])
 IsStoryOf desk v (bytes ∷ conns) (response ∷ responses) story told =
     (IsOutside desk v bytes × IsStoryOf desk v conns responses story told)
     ⊎ ((r : Request) × IsInside desk v bytes r × ((more : List Text) × (others : List Text)
     × (story ≡ bytes ∷ more) × (told ≡ response ∷ others) × ((after : World)
-    × IsAnswered v r response after × IsStoryOf desk (view desk after) conns responses more others)))
+    × IsAnswered v r response after
+    × IsStoryOf desk (view desk after) conns responses more others)))
 IsStoryOf desk v conns responses story told = ⊥
 
--- a connection of the desk's story was answered for want
+-- a connection of the desk's story was refused for lack of memory or by the store
 abbrev pub IsWanting : Text → View → List Text → List Text → Type 0
 IsWanting desk v (bytes ∷ conns) (response ∷ responses) =
     (IsOutside desk v bytes × IsWanting desk v conns responses)
     ⊎ ((r : Request) × IsInside desk v bytes r × (IsWantText response
-    ⊎ ((after : World) × IsAnswered v r response after × IsWanting desk (view desk after) conns responses)))
+    ⊎ ((after : World) × IsAnswered v r response after
+    × IsWanting desk (view desk after) conns responses)))
 IsWanting desk v conns responses = ⊥

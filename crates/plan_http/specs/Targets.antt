@@ -9,8 +9,8 @@ use Rattle.plan_http.specs.declared.routes.Route.TheVariants as route
 abbrev pub is_slash : ℕ → Bool
 is_slash byte = byte == 47
 
--- a segment of a target, which is cut at its slashes: of `/desks/a/plans/7` the segment 2 is `a`
--- and the segment 4 is `7`
+-- a segment of a target, which is cut at its slashes: in `/desks/a/plans/7`, segment 2 is `a` and
+-- segment 4 is `7`
 unfoldable pub segment : ℕ → Text → Text
 segment k target = unwrap_or (slice_get (slice_split is_slash target) k) []
 
@@ -28,7 +28,8 @@ call_at route.Bind target body = bind (segment 2 target) (segment 4 target) body
 call_at route.SetCalendar target body = set_calendar (segment 2 target) (segment 4 target) body
 call_at route.SetLag target body = set_lag (segment 2 target) (segment 4 target) body
 call_at route.Dates target body = dates (segment 2 target) (segment 4 target)
-call_at route.Schedule target body = schedule (segment 2 target) (segment 4 target) (segment 6 target)
+call_at route.Schedule target body =
+    schedule (segment 2 target) (segment 4 target) (segment 6 target)
 call_at route.Chart target body = chart (segment 2 target) (segment 4 target) (segment 6 target)
 call_at route.Days target body = days (segment 2 target) (segment 4 target) (segment 6 target)
 call_at route.Best target body = best (segment 2 target) (segment 4 target) (segment 6 target)

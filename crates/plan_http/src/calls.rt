@@ -1,4 +1,4 @@
-//! Targets, and the calls that they name.
+//! The calls that targets name.
 
 ghost use Rattle.std.specs.Prelude.{◌≡◌, IfOk, string_bytes, option_map};
 ghost use Rattle.std.specs.List.{slice_get, slice_split};
@@ -10,12 +10,13 @@ use plan_desk::Call;
 use std::alloc::{AllocError, Global};
 
 fn part(target: &str, k: usize) -> Option<&str>
-    ensures { option_map (λ text. text.now) result ≡ slice_get (slice_split spec.is_slash target.now) k }
+    ensures { option_map (λ text. text.now) result
+        ≡ slice_get (slice_split spec.is_slash target.now) k }
 {
     target.split('/').nth(k)
 }
 
-// A segment of a target, empty where it has fewer.
+// The segment of a target at this place, or an empty text if there is none.
 #[tactic(auto, unfolding(crate::specs::Targets::segment))]
 fn segment(alloc: Global, target: &str, k: usize) -> Result<String, AllocError>
     ensures { IfOk result (λ text. string_bytes text ≡ spec.segment k target.now) }
@@ -23,7 +24,7 @@ fn segment(alloc: Global, target: &str, k: usize) -> Result<String, AllocError>
     String::from_str(alloc, part(target, k).unwrap_or(""))
 }
 
-/// The call of a route, by the target and the body.
+/// Returns the call of a route, from the target and the body.
 pub(crate) fn call_at(
     alloc: Global,
     route: Route,

@@ -1,4 +1,4 @@
-//! Clients, and what of them is heard.
+//! Clients: the sources of requests.
 
 ghost use Rattle.std.specs.Prelude.{◌≡◌, ℕ, ◌≤◌, length, IfOk, if◌then◌else◌, [], false};
 ghost use Rattle.plan_io.specs.Devices.{IsCounted};
@@ -7,34 +7,35 @@ ghost use Rattle.plan_http.specs.Clients.{Known, Hears};
 use crate::trace::Trace;
 use plan_io::{DeviceFault, Source};
 
-/// What the bytes of a request are read from. Contracts know which bytes the reads have answered, also
-/// where nobody can know what is still to come.
+/// The source of the bytes of a request. Contracts know the bytes that its reads returned, even if
+/// nobody can know the bytes that follow.
 pub trait Client {
-    /// How often it was read.
+    /// The number of its reads.
     ghost calls: { Self → ℕ };
 
-    /// How many of these reads answered a fault.
+    /// The number of its reads that failed.
     ghost faults: { Self → ℕ };
 
-    /// What is known of it.
+    /// The bytes that were read, whether their end was seen, and the bytes that are left, if known.
     ghost known: { Self → Known };
 
-    /// Reads bytes to the front of a buffer, and answers how many. None in a buffer that has room means
-    /// that there are no more, and then none are read.
+    /// Reads bytes to the front of a buffer, and returns their number. 0 for a buffer with room
+    /// means the end; later reads then return 0 too.
     fn read(&mut self, buf: &mut [u8]) -> Result<usize, DeviceFault>
-        ensures counted { IsCounted (calls self.old) (calls self.new) (faults self.old) (faults self.new) result }
+        ensures counted { IsCounted (calls self.old) (calls self.new) (faults self.old)
+            (faults self.new) result }
         ensures within { IfOk result (λ n. n ≤ length buf.new) }
         ensures heard { Hears (known self.old) (known self.new) result buf.new };
 }
 
-// The room for a read: none behind the end.
+// The room for a read: 0 after the end.
 fn room_of(is_ended: bool, room: usize) -> usize
     ensures { result ≡ (if is_ended then 0 else room) }
 {
     if is_ended { 0 } else { room }
 }
 
-/// A source as a client. It takes no byte more than the source, but for the note that its end was seen.
+/// A source as a client. It adds to the source only the note that its end was seen.
 #[derive(Drop)]
 pub struct Listening<R: Source + Drop> {
     source: R,
@@ -43,11 +44,12 @@ pub struct Listening<R: Source + Drop> {
 }
 
 impl<R: Source + Drop> Listening<R> {
-    /// A client of whom nothing was read yet.
+    /// Returns a client of which nothing was read yet.
     pub fn new(source: R) -> Listening<R>
         ensures calls { ⟦<Listening<R> as Client>⟧.calls result ≡ R.calls source }
         ensures faults { ⟦<Listening<R> as Client>⟧.faults result ≡ R.faults source }
-        ensures known { ⟦<Listening<R> as Client>⟧.known result ≡ record { heard = []; ended = false; left = R.remaining source } }
+        ensures known { ⟦<Listening<R> as Client>⟧.known result
+            ≡ record { heard = []; ended = false; left = R.remaining source } }
     {
         Listening {
             source,
@@ -56,7 +58,7 @@ impl<R: Source + Drop> Listening<R> {
         }
     }
 
-    /// The source.
+    /// Returns the source.
     pub fn source(&self) -> &R
         ensures { result.now ≡ self.now.source }
     {
@@ -69,7 +71,11 @@ impl<R: Source + Drop> Client for Listening<R> {
 
     ghost faults = { λ client. R.faults client.source };
 
-    ghost known = { λ client. record { heard = client.trace.bytes; ended = client.is_ended; left = R.remaining client.source } };
+    ghost known = { λ client. record {
+      heard = client.trace.bytes;
+      ended = client.is_ended;
+      left = R.remaining client.source;
+    } };
 
     fn read(&mut self, buf: &mut [u8]) -> Result<usize, DeviceFault> {
         let room = room_of(self.is_ended, buf.len());

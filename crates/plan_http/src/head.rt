@@ -1,4 +1,4 @@
-//! The head of a request, in whatever pieces it comes.
+//! The head of a request, read in pieces of any size.
 
 ghost use Rattle.std.specs.Prelude.{◌≡◌, ℕ, ◌+◌, ◌<◌, ◌≤◌, ◌++◌, true, List, [], length, Some, IfOk};
 ghost use Rattle.plan_io.specs.Devices.{IsCounted};
@@ -9,24 +9,24 @@ use httparse::Status;
 use httparse::spans::{HeaderSpan, RequestSpans, parse_request};
 use plan_io::DeviceFault;
 
-/// How many bytes a head may have.
+/// The greatest number of bytes of a head.
 pub(crate) const HEAD_LIMIT: usize = 8192;
 
-/// How many fields a head may have.
+/// The greatest number of fields of a head.
 pub(crate) const FIELD_LIMIT: usize = 64;
 
-/// How the reading of a head ended.
+/// The result of reading a head.
 #[derive(Clone, Copy)]
 pub(crate) enum HeadEnd {
-    /// Its parts, and how many bytes were read.
+    /// The parts of the head, and the number of bytes that were read.
     Found(RequestSpans, usize),
-    /// The bytes begin with no head.
+    /// The bytes don't begin with a head.
     Missing,
     /// The reader failed.
     Failed,
 }
 
-// What the first bytes of a connection say.
+// The state of the first bytes of a connection.
 #[derive(Clone, Copy)]
 enum Judged {
     Whole(RequestSpans),
@@ -34,26 +34,29 @@ enum Judged {
     Unfinished,
 }
 
-// Reads once, to the place behind what was filled before.
+// Reads once, to the place behind the filled part of the buffer.
 pub(crate) fn fill<R: Client>(
     reader: &mut R,
     buf: &mut [u8],
     filled: usize,
 ) -> Result<usize, DeviceFault>
     requires { filled < length buf.old }
-    ensures counted { IsCounted (R.calls reader.old) (R.calls reader.new) (R.faults reader.old) (R.faults reader.new) result }
+    ensures counted { IsCounted (R.calls reader.old) (R.calls reader.new)
+        (R.faults reader.old) (R.faults reader.new) result }
     ensures within { IfOk result (λ came. filled + came ≤ length buf.new) }
-    ensures bytes { Reads (R.known reader.old) (R.known reader.new) (λ had left. Fills buf.old filled had buf.new left result) }
+    ensures bytes { Reads (R.known reader.old) (R.known reader.new)
+        (λ had left. Fills buf.old filled had buf.new left result) }
 {
     reader.read(&mut buf[filled..])
 }
 
-// Whether the bytes in front begin with a head, where they are all or more may come.
+// Whether the bytes begin with a head: they are all bytes if `is_end`, else more may follow.
 fn judge(front: &[u8], is_end: bool, headers: &mut [HeaderSpan]) -> Judged
     requires room { length front.now ≤ 8192 }
     requires fields { length headers.old ≡ 64 }
     ensures within { JudgedWithin front.now is_end headers.new result }
-    ensures judged { (bytes more : List ℕ) → bytes ≡ front.now ++ more → (is_end ≡ true → more ≡ [])
+    ensures judged { (bytes more : List ℕ) → bytes ≡ front.now ++ more
+        → (is_end ≡ true → more ≡ [])
         → JudgedOf bytes front.now headers.new result }
 {
     match parse_request(front, headers) {
@@ -73,7 +76,7 @@ fn judge(front: &[u8], is_end: bool, headers: &mut [HeaderSpan]) -> Judged
     }
 }
 
-/// Reads until the head is whole, or can't be.
+/// Reads until the head is complete, or no head is possible.
 pub(crate) fn read_head<R: Client>(
     reader: &mut R,
     buf: &mut [u8],
@@ -82,7 +85,8 @@ pub(crate) fn read_head<R: Client>(
     requires room { length buf.old ≡ 8192 }
     requires fields { length headers.old ≡ 64 }
     ensures within { HeadWithin buf.new headers.new result }
-    ensures outcome { Reads (R.known reader.old) (R.known reader.new) (λ had left. (bytes : List ℕ) → had ≡ Some bytes
+    ensures outcome { Reads (R.known reader.old) (R.known reader.new)
+        (λ had left. (bytes : List ℕ) → had ≡ Some bytes
         → HeadOutcome bytes left buf.new headers.new result) }
     ensures calls { R.calls reader.new ≤ R.calls reader.old + 8193 }
     ensures faults { HeadFaults (R.faults reader.old) (R.faults reader.new) result }

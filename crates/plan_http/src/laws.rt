@@ -1,4 +1,4 @@
-//! Laws of what connections spell, for proofs above to cite.
+//! Laws of connections. Proofs in the crates above cite the contracts.
 
 ghost use Rattle.plan_http.specs.Laws.{OneVerdict, SpellsSomething, ServingIsRun, ServedDesksAreApart};
 
@@ -8,12 +8,13 @@ use httparse::spans::EMPTY_HEADER_SPAN;
 use plan_desk::Book;
 use plan_io::MemSource;
 
-/// The bytes of a connection spell one thing at most, a request or one failing check.
+/// The bytes of a connection spell at most one request or failing check.
 pub fn one_verdict()
     ensures verdict { OneVerdict }
 {}
 
-/// The bytes of a connection spell something. It looks for their head, and does nothing else.
+/// The bytes of a connection spell a request or a failing check. The function only looks for the
+/// head.
 pub fn some_verdict(bytes: &[u8])
     ensures { SpellsSomething bytes.now }
 {
@@ -23,8 +24,8 @@ pub fn some_verdict(bytes: &[u8])
     read_head(&mut client, &mut buf, &mut headers);
 }
 
-/// Whatever connections an office serves, the requests that were handled are a run of it; so each
-/// desk is told on them what it would be told in an office that has its rows and no others.
+/// The requests that an office handles on any connections are a run of the office. So each desk
+/// receives the replies of an office that has its rows and no others.
 pub fn served_desks_are_apart<B: Book>()
     ensures run { ServingIsRun B.shelf }
     ensures apart { ServedDesksAreApart B.shelf }

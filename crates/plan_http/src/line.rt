@@ -1,4 +1,4 @@
-//! A short text in a fixed array, which takes no memory.
+//! A short text in a fixed array, which needs no memory.
 
 ghost use Rattle.std.specs.Prelude.{◌≡◌, ℕ, ◌+◌, ◌≤◌, ◌++◌, List, [], length, take};
 
@@ -29,7 +29,7 @@ impl Line {
         }
     }
 
-    /// Adds a text behind what there is.
+    /// Appends a text.
     pub(crate) fn push(&mut self, text: &str)
         requires { length self.old + length text.now ≤ 256 }
         ensures text { self.new ≡ self.old ++ text.now }

@@ -1,4 +1,4 @@
-//! Responses, from a reply to bytes.
+//! Responses: the bytes of a reply.
 
 ghost use Rattle.std.specs.Prelude.{◌≡◌, ◌+◌, ◌<◌, ◌≤◌, ◌++◌, length, take, IfOk, IfErr, OnOk, option_map};
 ghost use Rattle.std.specs.Io.KnownBytes.{Appends};
@@ -6,10 +6,11 @@ ghost use Rattle.plan_io.specs.Devices.{most_calls, HasFailed};
 ghost use Rattle.plan_desk.specs.Replies.{bytes_of, reply_of};
 ghost use Rattle.plan_http.specs.Routes.{method_of};
 ghost use Rattle.plan_http.specs.Responses as spec;
+ghost use Rattle.plan_http.specs.Responses.{response_on};
 
 use crate::line::Line;
+use crate::output::send;
 use crate::routes::Route;
-use crate::sending::send;
 use http::StatusCode;
 use itoa::Buffer;
 use plan_desk::{Body, Reply, ReplyKind};
@@ -41,7 +42,7 @@ fn media_type(kind: ReplyKind) -> &'static str
     }
 }
 
-// The lines that each head begins with.
+// The first lines of each head.
 fn front_lines(status: u16, kind: ReplyKind, count: usize) -> Line
     ensures lines { result ≡ spec.front_lines status kind count }
     ensures short { length result ≤ 200 }
@@ -61,7 +62,7 @@ fn front_lines(status: u16, kind: ReplyKind, count: usize) -> Line
     line
 }
 
-// Adds the line of the one method of a route.
+// Appends the line with the method of a route, if there is one.
 fn push_route(line: &mut Line, route: Option<Route>)
     requires { length line.old ≤ 200 }
     ensures text { line.new ≡ line.old ++ spec.allow_line (option_map method_of route) }
@@ -74,7 +75,7 @@ fn push_route(line: &mut Line, route: Option<Route>)
     }
 }
 
-// The head of a response, of a route where it has another method.
+// The head of a response. The route is given if the request had another method.
 fn head_of(reply: &Reply, route: Option<Route>) -> Line
     ensures text { result ≡ spec.response_head (reply_of reply.now) (option_map method_of route) }
     ensures short { length result ≤ 256 }
@@ -95,14 +96,14 @@ fn body_of(reply: &Reply) -> &[u8]
 }
 
 // The body, unless the response ends after its head.
-fn shown(is_head: bool, body: &[u8]) -> &[u8]
-    ensures { result.now ≡ spec.shown is_head body.now }
+fn sent_body(is_head: bool, body: &[u8]) -> &[u8]
+    ensures { result.now ≡ spec.sent_body is_head body.now }
 {
     if is_head { &[] } else { body }
 }
 
-/// Writes the response of a reply: with the method of a route, where it has another one, and without
-/// the body, where the request's method is HEAD. It takes no memory.
+/// Writes the response of a reply: with the method of the route if the request had another one, and
+/// without the body if the request's method is HEAD. It needs no memory.
 pub fn respond<W: Sink>(
     writer: &mut W,
     reply: &Reply,
@@ -111,20 +112,23 @@ pub fn respond<W: Sink>(
 ) -> Result<(), OutputError>
     ensures calls { W.calls writer.new ≤ W.calls writer.old + most_calls }
     ensures written { OnOk result (Appends (W.taken writer.old) (W.taken writer.new)
-        (spec.response_text (reply_of reply.now) (option_map method_of route) is_head)) }
+        (response_on (reply_of reply.now) route is_head)) }
     ensures fine { OnOk result (W.faults writer.new ≡ W.faults writer.old) }
-    ensures part { IfErr result (λ e. (e.sent < length (spec.response_text (reply_of reply.now) (option_map method_of route) is_head))
+    ensures part { IfErr result (λ e.
+        (e.sent < length (response_on (reply_of reply.now) route is_head))
         × Appends (W.taken writer.old) (W.taken writer.new)
-        (take e.sent (spec.response_text (reply_of reply.now) (option_map method_of route) is_head))) }
+        (take e.sent (response_on (reply_of reply.now) route is_head))) }
     ensures failed { IfErr result (λ _.
-        HasFailed (W.calls writer.old) (W.calls writer.new) (W.faults writer.old) (W.faults writer.new)) }
+        HasFailed (W.calls writer.old) (W.calls writer.new)
+        (W.faults writer.old) (W.faults writer.new)) }
 {
     let head = head_of(reply, route);
-    send(writer, head.as_bytes(), shown(is_head, body_of(reply)))
+    send(writer, head.as_bytes(), sent_body(is_head, body_of(reply)))
 }
 
 fn push_allow(bytes: &mut Vec<u8>, allow: Option<&str>) -> Result<(), AllocError>
-    ensures { OnOk result (bytes.new.items ≡ bytes.old.items ++ spec.allow_line (option_map (λ method. method.now) allow.entry)) }
+    ensures { OnOk result (bytes.new.items ≡ bytes.old.items
+        ++ spec.allow_line (option_map (λ method. method.now) allow.entry)) }
 {
     let Some(method) = allow else {
         return Ok(());
@@ -134,21 +138,22 @@ fn push_allow(bytes: &mut Vec<u8>, allow: Option<&str>) -> Result<(), AllocError
     bytes.extend_from_slice(LINE_END.as_bytes())
 }
 
-/// The response of a reply as bytes: with the one method that the route has, where it has another
-/// one, and without the body, where the request's method is HEAD.
+/// Returns the bytes of the response of a reply: with the method of the route if the request had
+/// another one, and without the body if the request's method is HEAD.
 pub fn response_bytes(
     alloc: Global,
     reply: &Reply,
     allow: Option<&str>,
     is_head: bool,
 ) -> Result<Vec<u8>, AllocError>
-    ensures { IfOk result (λ bytes. bytes.items ≡ spec.response_text (reply_of reply.now) (option_map (λ method. method.now) allow.entry) is_head) }
+    ensures { IfOk result (λ bytes. bytes.items ≡ spec.response_text
+        (reply_of reply.now) (option_map (λ method. method.now) allow.entry) is_head) }
 {
     let body = body_of(reply);
     let front = front_lines(reply.status, reply.kind, body.len());
     let mut bytes = Vec::from_slice(alloc, front.as_bytes())?;
     push_allow(&mut bytes, allow)?;
     bytes.extend_from_slice(LAST_LINES.as_bytes())?;
-    bytes.extend_from_slice(shown(is_head, body))?;
+    bytes.extend_from_slice(sent_body(is_head, body))?;
     Ok(bytes)
 }

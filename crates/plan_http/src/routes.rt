@@ -50,7 +50,7 @@ const ALL: [Route; 16] = [
 ];
 
 impl Route {
-    /// Its text, where what stands in braces takes one segment.
+    /// Returns its text. A name in braces matches one segment.
     pub fn text(self) -> &'static str
         ensures { result.now ≡ spec.text_of self }
     {
@@ -74,7 +74,7 @@ impl Route {
         }
     }
 
-    /// The one method that it has.
+    /// Returns its method.
     pub fn method(self) -> &'static str
         ensures { result.now ≡ spec.method_of self }
     {
@@ -99,7 +99,7 @@ impl Route {
     }
 }
 
-/// All routes, ready to be looked up.
+/// The table of all routes.
 #[derive(Drop)]
 pub struct Routes {
     router: Router<Route>,
@@ -132,7 +132,7 @@ fn add_routes(router: &mut Router<Route>, routes: &[Route]) -> Result<(), AllocE
 }
 
 impl Routes {
-    /// The table of all routes. The one fault is want of memory.
+    /// Returns the table of all routes. It fails only if memory runs out.
     pub fn new(alloc: Global) -> Result<Routes, AllocError> {
         let mut router = Router::new(alloc);
         add_routes(&mut router, &ALL)?;
@@ -149,7 +149,7 @@ impl Routes {
         }
     }
 
-    /// The route of a target.
+    /// Returns the route of a target, if there is one.
     #[tactic(auto, unfolding(crate::specs::Routes::route_of))]
     pub fn of(&self, target: &str) -> Option<Route>
         ensures { result ≡ spec.route_of target.now }
@@ -173,7 +173,7 @@ fn has_mark(target: &[u8]) -> bool
     target.iter().any(|byte| is_mark(*byte))
 }
 
-// Whether routes are looked for on a target.
+// Whether a target can have a route: it begins with a slash and has no query, escape or fragment.
 fn is_plain(target: &[u8]) -> bool
     ensures { result ≡ spec.is_plain_target target.now }
 {

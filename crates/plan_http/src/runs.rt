@@ -1,15 +1,15 @@
-//! Many connections, one after another.
+//! Runs: connections served one after another.
 
 ghost use Rattle.std.specs.Prelude.{◌≡◌, ◌++◌, ◌∷◌, [], List, length, map, drop, vec_items, MatchResult, IfOk, OnOk, OnErr};
 ghost use Rattle.plan_rows.specs.World.{Text};
 ghost use Rattle.plan_http.specs.Answers.{Decision, IsOn};
-ghost use Rattle.plan_http.specs.Serving.{Moves, Serving, Stops, response_of};
+ghost use Rattle.plan_http.specs.Connections.{Moves, Serving, Stops, response_of};
 ghost use Rattle.plan_http.specs.Crashes.{Outlasts};
 ghost use Rattle.plan_http.specs.Isolated.{IsApart};
 
 use crate::client::Listening;
+use crate::connection::{ConnEnd, serve_conn};
 use crate::routes::Routes;
-use crate::serving::{ConnEnd, serve_conn};
 use plan_desk::{Book, Office};
 use plan_io::{MemSink, MemSource};
 use std::alloc::Global;
@@ -20,15 +20,18 @@ use thiserror::Error;
 #[error("out of memory")]
 pub struct RunFault;
 
-// The response to one connection.
+// Serves one connection, and returns its response.
 fn response_to<B: Book>(
     alloc: Global,
     routes: &Routes,
     office: &mut Office<B>,
     conn: &[u8],
 ) -> Result<Vec<u8>, RunFault>
-    ensures ok { IfOk result (λ response. (d : Decision) × IsOn conn.now d × Moves B.shelf office.old office.new d × (response.items ≡ response_of d)) }
-    ensures err { OnErr result ((d : Decision) × IsOn conn.now d × Moves B.shelf office.old office.new d) }
+    ensures ok { IfOk result
+        (λ response. (d : Decision) × IsOn conn.now d × Moves B.shelf office.old office.new d
+        × (response.items ≡ response_of d)) }
+    ensures err { OnErr result
+        ((d : Decision) × IsOn conn.now d × Moves B.shelf office.old office.new d) }
 {
     let mut client = Listening::new(MemSource::new(conn));
     let mut sink = MemSink::new(Vec::new(alloc));
@@ -45,10 +48,7 @@ fn add(out: &mut Vec<Vec<u8>>, response: Vec<u8>) -> Result<(), RunFault>
         (λ _. map vec_items out.new.items ≡ map vec_items out.old.items ++ response.items ∷ [])
         (λ _. map vec_items out.new.items ≡ map vec_items out.old.items) }
 {
-    match out.push(response) {
-        Ok(()) => Ok(()),
-        Err(_) => Err(RunFault),
-    }
+    out.push(response).map_err(|_| RunFault)
 }
 
 // Serves one connection, and adds its response.
@@ -65,10 +65,8 @@ fn serve_next<B: Book>(
         (λ _. (d : Decision) × IsOn conn.now d × Moves B.shelf office.old office.new d
         × (map vec_items out.new.items ≡ map vec_items out.old.items)) }
 {
-    match response_to(alloc, routes, office, conn) {
-        Ok(response) => add(out, response),
-        Err(fault) => Err(fault),
-    }
+    let response = response_to(alloc, routes, office, conn)?;
+    add(out, response)
 }
 
 // Serves connections one after another, and adds the response of each.
@@ -78,43 +76,50 @@ fn serve_each<B: Book>(
     conns: &[Vec<u8>],
     out: &mut Vec<Vec<u8>>,
 ) -> Result<(), RunFault>
-    ensures ok { OnOk result ((decisions : List Decision) × Serving B.shelf office.old (map vec_items conns.now) decisions office.new
-        × (map vec_items out.new.items ≡ map vec_items out.old.items ++ map response_of decisions)) }
-    ensures err { OnErr result ((decisions : List Decision) × Stops B.shelf office.old office.new (map vec_items conns.now) decisions
-        × (map vec_items out.new.items ≡ map vec_items out.old.items ++ map response_of decisions)) }
+    ensures ok { OnOk result ((decisions : List Decision)
+        × Serving B.shelf office.old (map vec_items conns.now) decisions office.new
+        × (map vec_items out.new.items
+        ≡ map vec_items out.old.items ++ map response_of decisions)) }
+    ensures err { OnErr result ((decisions : List Decision)
+        × Stops B.shelf office.old office.new (map vec_items conns.now) decisions
+        × (map vec_items out.new.items
+        ≡ map vec_items out.old.items ++ map response_of decisions)) }
 {
     let Ok(routes) = Routes::new(alloc) else {
         return Err(RunFault);
     };
     for conn in conns {
-        match serve_next(alloc, &routes, office, conn, out) {
-            Ok(()) => {}
-            Err(fault) => return Err(fault),
-        }
+        serve_next(alloc, &routes, office, conn, out)?;
     }
     Ok(())
 }
 
-/// Serves connections one after another, and adds the response of each. Where memory runs out `out`
-/// has the responses of the first connections, and the office is as it was after these, or moved by
+/// Serves connections one after another, and adds the response of each. If memory runs out, `out`
+/// has the responses of the first connections, and the office is in the state after these or after
 /// one connection more.
 ///
-/// After a crash no accepted command is lost: what is left are the rows after the last of them, or
-/// these with one writing call that was refused. And each desk is told what it would be told in an
-/// office that has its rows and no others.
+/// No accepted command is lost by a crash: it leaves the rows after the last accepted command, or
+/// these rows with one refused writing call. Each desk receives the replies of an office that has
+/// its rows and no others.
 pub fn serve_run<B: Book>(
     alloc: Global,
     office: &mut Office<B>,
     conns: &[Vec<u8>],
     out: &mut Vec<Vec<u8>>,
 ) -> Result<(), RunFault>
-    ensures ok { OnOk result ((decisions : List Decision) × Serving B.shelf office.old (map vec_items conns.now) decisions office.new
-        × (map vec_items out.new.items ≡ map vec_items out.old.items ++ map response_of decisions)) }
-    ensures err { OnErr result ((decisions : List Decision) × Stops B.shelf office.old office.new (map vec_items conns.now) decisions
-        × (map vec_items out.new.items ≡ map vec_items out.old.items ++ map response_of decisions)) }
-    ensures crash { Outlasts B.shelf office.old office.new (map vec_items conns.now) (drop (length out.old.items) (map vec_items out.new.items)) }
+    ensures ok { OnOk result ((decisions : List Decision)
+        × Serving B.shelf office.old (map vec_items conns.now) decisions office.new
+        × (map vec_items out.new.items
+        ≡ map vec_items out.old.items ++ map response_of decisions)) }
+    ensures err { OnErr result ((decisions : List Decision)
+        × Stops B.shelf office.old office.new (map vec_items conns.now) decisions
+        × (map vec_items out.new.items
+        ≡ map vec_items out.old.items ++ map response_of decisions)) }
+    ensures crash { Outlasts B.shelf office.old office.new (map vec_items conns.now)
+        (drop (length out.old.items) (map vec_items out.new.items)) }
     ensures apart { B.shelf.honest office.new → (desk : Text)
-        → IsApart B.shelf office.old office.new (map vec_items conns.now) (drop (length out.old.items) (map vec_items out.new.items)) desk }
+        → IsApart B.shelf office.old office.new (map vec_items conns.now)
+        (drop (length out.old.items) (map vec_items out.new.items)) desk }
 {
     serve_each(alloc, office, conns, out)
 }

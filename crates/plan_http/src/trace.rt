@@ -1,14 +1,15 @@
-//! Bytes that went by.
+//! Traces: the bytes that went through a device.
 
 ghost use Rattle.std.specs.Prelude.{◌≡◌, ◌++◌, ℕ, List, []};
 ghost use Rattle.std.specs.Borrow.{ftrue};
 
 use std::marker::Model;
 
-/// Bytes that went by, in order. Contracts alone see them: a `Trace` takes no bytes, and it keeps none.
+/// The bytes that went through a device, in order. Only contracts see them: a `Trace` has size 0
+/// and stores nothing.
 ///
-/// Whoever has one may add to it what it likes. It says something where a trait ties it to what a call
-/// answered, as a [`Client`](crate::Client) does.
+/// The owner of a trace may add any bytes. A trace is evidence only if a trait ties it to the
+/// results of calls, as [`Client`](crate::Client) does.
 #[derive(Drop)]
 pub struct Trace {
     pub ghost bytes: { List ℕ },
@@ -19,14 +20,14 @@ impl Model for Trace {
 }
 
 impl Trace {
-    /// Before the first.
+    /// Returns the empty trace.
     pub fn new() -> Trace
         ensures { result.bytes ≡ [] }
     {
         Trace {}
     }
 
-    /// With more bytes behind them.
+    /// Returns the trace with more bytes at its end.
     pub fn with(&self, _more: &[u8]) -> Trace
         ensures { result.bytes ≡ self.now.bytes ++ _more.now }
     {

@@ -3,7 +3,7 @@ use Rattle.std.proofs.Common.{◌≡◌, ◌⊎◌, inl, inr, Option, Result, Ok
 use Rattle.std.specs.Prelude.{IfErr, OnOk, IsErrOf}
 use Rattle.plan_rows.specs.World.{Text}
 use Rattle.plan_rows.specs.Books.{Shelf}
-use Rattle.plan_desk.specs.Deciding.{Quiet}
+use Rattle.plan_desk.specs.BookSteps.{Quiet}
 use Rattle.plan_door.specs.declared.fault.ServeFault.{ServeFault}
 use Rattle.plan_door.specs.declared.fault.ServeFault.TheVariants as fault
 use Rattle.plan_serve.specs.CheckRun.{Writes, ChecksFrom, IsPrinted, IsPrintedInPart}

@@ -14,8 +14,8 @@ use Rattle.plan_door.specs.declared.fault.ServeFault.TheVariants as fault
 use Rattle.plan_store.specs.declared.fault.StoreFault.{StoreFault}
 use Rattle.plan_store.specs.declared.fault.StoreFault.TheVariants as store
 use Rattle.plan_serve.specs.Faults.{fault_of}
-use Rattle.plan_serve.specs.declared.keeping.Report.{Report}
-use Rattle.plan_serve.specs.declared.keeping.Report.TheVariants as report
+use Rattle.plan_serve.specs.declared.commands.Report.{Report}
+use Rattle.plan_serve.specs.declared.commands.Report.TheVariants as report
 use Rattle.plan_serve.specs.ReplayFiles.{ReplaysOnFiles}
 use Rattle.plan_serve.specs.Reports.{ReportsFrom, ReportsOnFiles, IsWriteFault, IsReportFault, IsReplayFault}
 use Rattle.plan_serve.specs.Causes.{IsOfTables}

@@ -1,4 +1,4 @@
--- What a fault of the system is told as (docs/definitions.md, "Runs").
+-- The faults of commands from faults of the system (docs/definitions.md, "Runs").
 use Rattle.std.specs.Prelude.{◌≡◌, ◌≢◌, ◌⊎◌, ◌<◌, Some, Result, Ok, Err}
 use Rattle.std.specs.Fs.{metadata_len, file_type, IsFile}
 use Rattle.std.specs.IoError.{error_kind}
@@ -17,7 +17,7 @@ use Rattle.plan_store.specs.OnDisk.{IsRefusedFrom}
 use Rattle.plan_door.specs.declared.fault.ServeFault.{ServeFault}
 use Rattle.plan_door.specs.declared.fault.ServeFault.TheVariants as fault
 
--- why a file of an office can't be opened: nothing is there, it may not be, there is no memory, or for
+-- the fault of a file of an office: there is none, the permission is denied, memory ran out, or
 -- another cause
 abbrev pub IsFileCause : ErrorKind → ServeFault → Type 0
 IsFileCause k fault.Missing = (k ≡ kind.NotFound) ⊎ (k ≡ kind.NotADirectory)
@@ -28,9 +28,8 @@ IsFileCause k fault.Store =
     × (k ≢ kind.ReadOnlyFilesystem) × (k ≢ kind.OutOfMemory)
 IsFileCause k e = ⊥
 
--- why the files of a database can't be opened: another program has them open, there is no memory, or
--- as the system tells of a file; and where they can, or an older journal lies beside them, the store
--- refuses
+-- the fault of the files of a database: another program has them open, memory ran out, or the
+-- system's error; if they can be opened, or have an older journal, the store refused them
 abbrev pub IsOpenCause : {T : Type 0} → Result T OpenError → ServeFault → Type 0
 IsOpenCause (Err opening.Busy) e = e ≡ fault.Locked
 IsOpenCause (Err opening.OutOfMemory) e = e ≡ fault.Memory
@@ -38,7 +37,7 @@ IsOpenCause (Err (opening.Io error)) e = IsFileCause (error_kind error) e
 IsOpenCause (Err opening.HotJournal) e = e ≡ fault.Store
 IsOpenCause (Ok files) e = e ≡ fault.Store
 
--- why files can't be opened, or the store refuses what they hold
+-- the faults of opening files, and the refusal of their contents by the store
 abbrev pub IsFileFault : ServeFault → Type 0
 IsFileFault fault.Memory = Unit {0}
 IsFileFault fault.Store = Unit {0}
@@ -47,7 +46,7 @@ IsFileFault fault.Missing = Unit {0}
 IsFileFault fault.Denied = Unit {0}
 IsFileFault e = ⊥
 
--- why no connection is served: of the files and their tables, or of the port
+-- the faults of serving: of the files and their tables, or of the port
 abbrev pub IsServeFault : ServeFault → Type 0
 IsServeFault fault.NotOurs = Unit {0}
 IsServeFault fault.Version = Unit {0}
@@ -56,38 +55,39 @@ IsServeFault fault.PortDenied = Unit {0}
 IsServeFault fault.Socket = Unit {0}
 IsServeFault e = IsFileFault e
 
--- what the system tells of a name: a file that is shorter than any database
+-- the system's answer for a name: a file that is shorter than any database
 abbrev pub IsShort : Result Metadata Error → Type 0
 IsShort (Ok found) = IsFile (file_type found) × (metadata_len found < 512)
 IsShort (Err error) = ⊥
 
--- or something that may be one
+-- or something that may be a database
 abbrev pub IsThere : Result Metadata Error → Type 0
 IsThere (Ok found) = ¬ IsShort (Ok found)
 IsThere (Err error) = ⊥
 
--- what a look at a name is told as
+-- the fault for the system's answer
 abbrev pub IsLookFault : Result Metadata Error → ServeFault → Type 0
 IsLookFault (Ok found) e = (e ≡ fault.NotOurs) × IsShort (Ok found)
 IsLookFault (Err error) e = IsFileCause (error_kind error) e
 
 module _ {F S : Type 0} (first : start.Ghosts F) (g : Ghosts S) where
-  -- the tables that files held were opened, and refused for this
+  -- the tables in files were opened, and refused for this cause
   abbrev pub AreRefused : StoreFault → Type 0
   AreRefused cause = (left : Leftover S) × IsRefusedFrom first cause (Some left) g
 
-  -- A fault that speaks of tables is told of those that files held: they are no office's, unless the
-  -- system tells of a file that is too short for any, or they are of no known version.
+  -- A fault about tables is about the tables in files: they are no office's, unless the file is too
+  -- short for any tables; or they are of no known version.
   abbrev pub IsOfTables : Result Metadata Error → ServeFault → Type 0
   IsOfTables looked fault.NotOurs = IsShort looked ⊎ AreRefused store.NotOurs
   IsOfTables looked fault.Version = AreRefused store.Version
   IsOfTables looked e = Unit {0}
 
-  -- the same, for something that the system may tell of the name
+  -- the same, for some answer of the system for the name
   abbrev pub IsOfTablesAtName : ServeFault → Type 0
   IsOfTablesAtName e = (looked : Result Metadata Error) × IsOfTables looked e
 
--- the outcome of a command as it is told: as it was, or a refusal of the store by another cause
+-- the result of a command after the cause was found: the same, or a refusal of the store replaced
+-- by its cause
 abbrev pub IsToldAnew : Result (Unit {0}) ServeFault → Result (Unit {0}) ServeFault → Type 0
 IsToldAnew done told =
     (told ≡ done)

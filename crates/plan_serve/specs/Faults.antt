@@ -1,4 +1,4 @@
--- What a fault of the store is told as (docs/definitions.md, "Runs").
+-- The faults of commands from faults of the store (docs/definitions.md, "Runs").
 use Rattle.plan_store.specs.declared.fault.StoreFault.{StoreFault}
 use Rattle.plan_store.specs.declared.fault.StoreFault.TheVariants as store
 use Rattle.plan_door.specs.declared.fault.ServeFault.{ServeFault}

@@ -1,4 +1,4 @@
--- What it is to make the tables of a new office (docs/definitions.md, "Runs").
+-- The creation of the tables of a new office (docs/definitions.md, "Runs").
 use Rattle.std.specs.Prelude.{◌≡◌, ◌≢◌, ◌⊎◌, false, IsTrue, Option, Some, None, Result, Ok, Err}
 use Rattle.sqlite_disk.specs.declared.start.Start as start
 use Rattle.sqlite_wal.specs.Files.{image_at}
@@ -23,25 +23,26 @@ use Rattle.plan_serve.specs.Faults.{fault_of}
 use Rattle.plan_serve.specs.Causes.{IsFileFault}
 use Rattle.plan_door.specs.Keys.{ReadsKey, IsDigestOfKey}
 
--- the tables of an office without a row stand, and a crash leaves nothing else
+-- the tables of an office without rows stand, and a crash leaves nothing else
 pub record IsNewOffice (s : State) (digest : Digest) : Type 0 where
   pub stands : HasCleanDisk s → Stands s
   pub world : HasCleanDisk s → world_of s.now.trees ≡ empty_world digest
   pub durable : HasCleanDisk s → (trees : Trees) → s.may_leave trees → trees ≡ s.now.trees
 
--- tables that weren't made: what is there stays, and a crash may leave the new ones whole
+-- no tables were created: the contents stay, and a crash may leave the new tables complete
 pub record IsLeft (old new : State) (digest : Digest) : Type 0 where
   pub outside : new.in_transaction ≡ false
-  pub kept : HasCleanDisk new → IsTrue new.is_open → (new.now ≡ old.now) × (new.committed ≡ old.committed)
+  pub kept : HasCleanDisk new → IsTrue new.is_open
+      → (new.now ≡ old.now) × (new.committed ≡ old.committed)
   pub crash : Survives old new (IsNewStore digest)
 
--- what a fault of the store is told as, where this database came back
+-- the fault of a command from a fault of the store, if this database was returned
 abbrev pub IsTold : StoreFault → Database → ServeFault → Type 0
 IsTold cause db told =
     ((told ≡ fault.Taken) × (cause ≡ store.NotOurs) × HasOfficeTables db.schema)
     ⊎ ((told ≡ fault_of cause) × (cause ≡ store.NotOurs → ¬ HasOfficeTables db.schema))
 
--- a connection that was opened new, with what the files held
+-- a connection that was opened new, with the contents of the files
 abbrev pub IsOpenedFrom : {F S : Type 0} → start.Ghosts F → Ghosts S → Held S → Type 0
 IsOpenedFrom first g conn =
     IsNew conn × (HasCleanDisk (state g conn) → FindsIn (image_at first) (state g conn))
@@ -51,47 +52,50 @@ module _ {S : Type 0} (g : Ghosts S) (Opens : Held S → Type 0) where
   abbrev pub IsEmptyThere : Type 0
   IsEmptyThere = (conn : Held S) × Opens conn × ((state g conn).now.schema ≡ no_schema)
 
-  -- a database was opened that has the tables of an office, and its connection comes back untouched
+  -- a database was opened that has the tables of an office, and its connection is returned
+  -- unchanged
   abbrev pub IsOfficeThere : Option (Held S) → Type 0
   IsOfficeThere back =
       (conn : Held S) × (back ≡ Some conn) × Opens conn × HasOfficeTables (state g conn).now.schema
 
-  -- a database was opened that has other tables, and its connection comes back untouched
+  -- a database was opened that has other tables, and its connection is returned unchanged
   abbrev pub IsUsedThere : Option (Held S) → Type 0
   IsUsedThere back =
       (conn : Held S) × (back ≡ Some conn) × Opens conn × ((state g conn).now.schema ≢ no_schema)
       × ¬ HasOfficeTables (state g conn).now.schema
 
-  -- a fault that speaks of tables that are there is told of those of a database that was opened
+  -- a fault about existing tables is about those of a database that was opened
   abbrev pub IsToldThere : ServeFault → Type 0
   IsToldThere fault.Taken = (back : Option (Held S)) × IsOfficeThere back
   IsToldThere fault.NotOurs = (back : Option (Held S)) × IsUsedThere back
   IsToldThere e = Unit {0}
 
-  -- a database was opened that had no table, and has those of a new office, with the digest of some key
+  -- a database without tables was opened, and now has those of a new office, with the digest of
+  -- some key
   abbrev pub HasMade : Type 0
   HasMade =
       (digest : Digest) × IsDigestOfKey digest × IsEmptyThere
       × ((after : Held S) × IsNewOffice (state g after) digest)
 
--- the same of a database that files held
+-- the same for a database in files
 abbrev pub InitsOnFiles : {F S : Type 0} → start.Ghosts F → Ghosts S → Type 0
 InitsOnFiles first g = HasMade g (IsOpenedFrom first g)
 
--- a fault that speaks of tables that are there is told of those that files held
+-- a fault about existing tables is about those in files
 abbrev pub IsOfTablesThere : {F S : Type 0} → start.Ghosts F → Ghosts S → ServeFault → Type 0
 IsOfTablesThere first g e = IsToldThere g (IsOpenedFrom first g) e
 
 module _ {S : Type 0} (g : Ghosts S) (Opens : Held S → Type 0) (Refuses : StoreFault → Type 0) where
-  -- a database was opened that has none, and stays as it is
+  -- a database without tables was opened, and is unchanged
   abbrev pub IsLeftThere : Option (Held S) → Digest → Type 0
   IsLeftThere back digest =
-      (conn left : Held S) × (back ≡ Some left) × Opens conn × ¬ ((state g conn).now.schema ≢ no_schema)
+      (conn left : Held S) × (back ≡ Some left) × Opens conn
+      × ¬ ((state g conn).now.schema ≢ no_schema)
       × IsLeft (state g conn) (state g left) digest
 
-  -- Why there is no new office, and the connection that comes back, if one was opened: there is no key,
-  -- and no database is opened; or the key is one, and the database can't be opened, has an office's
-  -- tables, or others, or refuses.
+  -- The fault of creating an office, and the connection that is returned, if one was opened: there
+  -- is no key, and no database is opened; or there is a key, and the database can't be opened, has
+  -- the tables of an office or others, or refuses.
   abbrev pub MakesNone : Option Text → Option Text → ServeFault → Option (Held S) → Type 0
   MakesNone remaining rest fault.Key back = ReadsKey remaining rest (Err fault.Key) × (back ≡ None)
   MakesNone remaining rest fault.Store back =
@@ -102,18 +106,20 @@ module _ {S : Type 0} (g : Ghosts S) (Opens : Held S → Type 0) (Refuses : Stor
   MakesNone remaining rest fault.Taken back =
       (digest : Digest) × ReadsKey remaining rest (Ok digest) × IsOfficeThere g Opens back
   MakesNone remaining rest fault.Memory back =
-      (back ≡ None) ⊎ ((digest : Digest) × ReadsKey remaining rest (Ok digest) × IsLeftThere back digest)
+      (back ≡ None)
+      ⊎ ((digest : Digest) × ReadsKey remaining rest (Ok digest) × IsLeftThere back digest)
   MakesNone remaining rest fault.Input back = back ≡ None
   MakesNone remaining rest e back = ⊥
 
-  -- the tables of a new office are made, with the digest of the key that was read, or none is
-  abbrev pub Inits : Option Text → Option Text → Result (Counted S) (ServeFault × Option (Held S)) → Type 0
+  -- the tables of a new office are created, with the digest of the key that was read, or not
+  abbrev pub Inits : Option Text → Option Text → Result (Counted S) (ServeFault × Option (Held S))
+      → Type 0
   Inits remaining rest (Ok book) =
       (digest : Digest) × ReadsKey remaining rest (Ok digest) × IsEmptyThere g Opens
       × IsNewOffice (state g book.conn) digest
   Inits remaining rest (Err e) = MakesNone remaining rest e.0 e.1
 
--- why the tables of a new office aren't made
+-- the faults of creating the tables of a new office
 abbrev pub IsInitFault : ServeFault → Type 0
 IsInitFault fault.Key = Unit {0}
 IsInitFault fault.NotOurs = Unit {0}

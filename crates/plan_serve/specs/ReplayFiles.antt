@@ -1,4 +1,4 @@
--- What a replay on files comes to (docs/definitions.md, "Runs").
+-- The result of a replay by an office from files (docs/definitions.md, "Runs").
 use Rattle.std.specs.Prelude.{◌≡◌, ℕ, List, Option, length}
 use Rattle.sqlite_disk.specs.declared.start.Start as start
 use Rattle.sqlite_trees.specs.declared.store.Store.{Ghosts}
@@ -7,8 +7,10 @@ use Rattle.plan_store.specs.SqlBooks.{Counted, sql_shelf}
 use Rattle.plan_store.specs.OnDisk.{IsTakenFrom}
 use Rattle.plan_door.specs.ReplayRun.{ReplaysFrom}
 
--- the tables that files held were taken, and so many connections served by an office over them
-abbrev pub ReplaysOnFiles : {F S : Type 0} → start.Ghosts F → Ghosts S → ℕ → Option Text → Option Text → Type 0
+-- the tables in files were opened, and `count` connections were served by an office over them
+abbrev pub ReplaysOnFiles : {F S : Type 0} → start.Ghosts F → Ghosts S → ℕ
+    → Option Text → Option Text → Type 0
 ReplaysOnFiles {F} {S} first g count taken after =
-    (book : Counted S) × (conns : List Text) × (length conns ≡ count) × IsTakenFrom first book.conn g
+    (book : Counted S) × (conns : List Text) × (length conns ≡ count)
+    × IsTakenFrom first book.conn g
     × ReplaysFrom (sql_shelf g) book conns taken after

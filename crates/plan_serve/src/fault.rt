@@ -1,4 +1,4 @@
-//! What faults of a store and of a book are told as.
+//! The faults of commands, from the faults of a store and of a book.
 
 ghost use Rattle.std.specs.Prelude.{◌≡◌, ◌⊎◌, ◌↔◌};
 ghost use Rattle.plan_serve.specs.Faults.{fault_of};
@@ -7,8 +7,8 @@ use plan_door::ServeFault;
 use plan_rows::BookFault;
 use plan_store::StoreFault;
 
-/// The fault of a command whose store has a fault.
-pub(crate) fn told(fault: StoreFault) -> ServeFault
+/// Returns the fault of a command from the fault of its store.
+pub(crate) fn store_fault(fault: StoreFault) -> ServeFault
     ensures { result ≡ fault_of fault }
 {
     match fault {
@@ -19,8 +19,8 @@ pub(crate) fn told(fault: StoreFault) -> ServeFault
     }
 }
 
-/// The fault of a command whose book has a fault.
-pub(crate) fn book_told(fault: BookFault) -> ServeFault
+/// Returns the fault of a command from the fault of its book.
+pub(crate) fn book_fault(fault: BookFault) -> ServeFault
     ensures which { (result ≡ ServeFault.Memory) ⊎ (result ≡ ServeFault.Store) }
     ensures memory { (result ≡ ServeFault.Memory) ↔ (fault ≡ BookFault.NoMemory) }
 {

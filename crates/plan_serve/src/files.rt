@@ -12,9 +12,9 @@ ghost use Rattle.plan_serve.specs.ReplayFiles.{ReplaysOnFiles};
 ghost use Rattle.plan_serve.specs.Reports.{ReportsOnFiles, IsReported, IsReportedInPart, IsReportFault, IsReplayFault};
 ghost use Rattle.plan_serve.specs.Ports.{ServesOnFiles};
 
+use crate::causes::{check_name, refusal};
+use crate::commands::{Ended, Report, init_at, report_opened, serve_opened};
 use crate::init::Place;
-use crate::keeping::{Ended, Report, init_at, report_opened, serve_opened};
-use crate::looking::{look, refusal};
 use plan_door::{ServeFault, Service, read_connection};
 use plan_io::{Sink, StdSource};
 use plan_store::{SqlBook, StoreFault};
@@ -24,10 +24,10 @@ use std::alloc::Global;
 use std::fs::{self, Metadata};
 use std::io::{self, ErrorKind};
 
-// What a database in a file is kept in.
+// The store of a database in a file.
 type Kept<F> = FileStore<FileFrom<F>>;
 
-// A database in a file, by its name.
+// A database in a file, by the name of the file.
 #[derive(Drop)]
 struct InFile<'a, F: Start> {
     rt: &'a HostRuntime,
@@ -38,7 +38,7 @@ struct InFile<'a, F: Start> {
 impl<'a, F: Start> Place for InFile<'a, F> {
     type Kept = Kept<F>;
 
-    // Its connections are new ones, with what the files held.
+    // Its connections are new, with the contents of the files.
     ghost opens = { λ _ conn. IsOpenedFrom F.Start ⟦<Kept<F> as Store>⟧ conn };
 
     ghost refuses = { λ _ fault. (fault ≡ NoMemory) ⊎ (fault ≡ Store) };
@@ -52,9 +52,9 @@ impl<'a, F: Start> Place for InFile<'a, F> {
     }
 }
 
-// The outcome of a command, once the database that is open is closed, with its log copied into it. Where
-// that fails the log stays beside it, and nothing is lost.
-fn closed<F: Start>(ended: Ended<Kept<F>>) -> Result<(), ServeFault>
+// Closes the database of a command, which copies its log into it, and returns the result of the
+// command. If closing fails, the log stays beside the database, and nothing is lost.
+fn close<F: Start>(ended: Ended<Kept<F>>) -> Result<(), ServeFault>
     ensures { result ≡ ended.0 }
 {
     let (done, conn) = ended;
@@ -64,9 +64,9 @@ fn closed<F: Start>(ended: Ended<Kept<F>>) -> Result<(), ServeFault>
     done
 }
 
-// The outcome of a command on the files at a name. Where the store refused, why is told by the files;
-// no other outcome is told anew.
-fn told_at(rt: &HostRuntime, path: &str, done: Result<(), ServeFault>) -> Result<(), ServeFault>
+// The result of a command on the files of this name. A refusal of the store is replaced by its
+// cause, any other result stays.
+fn with_cause(rt: &HostRuntime, path: &str, done: Result<(), ServeFault>) -> Result<(), ServeFault>
     ensures { IsToldAnew done result }
 {
     match done {
@@ -75,10 +75,11 @@ fn told_at(rt: &HostRuntime, path: &str, done: Result<(), ServeFault>) -> Result
     }
 }
 
-// Why a file can't be opened.
+// The fault of a file of requests that can't be opened.
 fn open_fault(error: &io::Error) -> ServeFault
     ensures which { (result ≡ ServeFault.Memory) ⊎ (result ≡ ServeFault.Input) }
-    ensures memory { (result ≡ ServeFault.Memory) ↔ (error_kind error.now ≡ ErrorKind.OutOfMemory) }
+    ensures memory { (result ≡ ServeFault.Memory)
+        ↔ (error_kind error.now ≡ ErrorKind.OutOfMemory) }
 {
     if error.kind() == ErrorKind::OutOfMemory {
         return ServeFault::Memory;
@@ -86,29 +87,31 @@ fn open_fault(error: &io::Error) -> ServeFault
     ServeFault::Input
 }
 
-/// `plan init`: makes the tables of an office in the file of this name, by the key that is the first
-/// line of standard input.
+/// `plan init`: creates the tables of an office in the file of this name. Its key is the first line
+/// of standard input.
 pub fn init_on_file(rt: &HostRuntime, path: &str) -> Result<(), ServeFault>
-    ensures made { OnOk result (InitsOnFiles ⟦<Unknown as Start>⟧ ⟦<Kept<Unknown> as Store>⟧) }
+    ensures made { OnOk result
+        (InitsOnFiles ⟦<Unknown as Start>⟧ ⟦<Kept<Unknown> as Store>⟧) }
     ensures which { IfErr result IsInitFault }
-    ensures tables { IfErr result (IsOfTablesThere ⟦<Unknown as Start>⟧ ⟦<Kept<Unknown> as Store>⟧) }
+    ensures tables { IfErr result
+        (IsOfTablesThere ⟦<Unknown as Start>⟧ ⟦<Kept<Unknown> as Store>⟧) }
 {
     init_from(rt, path, Unknown)
 }
 
-/// The same, where the start stands for what the files hold.
+/// The same, with a start that stands for the contents of the files.
 pub fn init_from<F: Start>(rt: &HostRuntime, path: &str, start: F) -> Result<(), ServeFault>
     ensures made { OnOk result (InitsOnFiles F.Start ⟦<Kept<F> as Store>⟧) }
     ensures which { IfErr result IsInitFault }
-    // A database that has tables, an office's or others, is told of where one was opened.
+    // A fault about tables, an office's or others, is about a database that was opened.
     ensures tables { IfErr result (IsOfTablesThere F.Start ⟦<Kept<F> as Store>⟧) }
 {
     let mut input = StdSource::new(rt.reader());
-    let done = closed(init_at(rt.alloc(), &mut input, InFile { rt, path, start }));
-    told_at(rt, path, done)
+    let done = close(init_at(rt.alloc(), &mut input, InFile { rt, path, start }));
+    with_cause(rt, path, done)
 }
 
-// The bytes of a connection, in the file of this name.
+// Reads the bytes of a connection from the file of this name.
 fn read_named(rt: &HostRuntime, path: &str) -> Result<Vec<u8>, ServeFault>
     ensures { IfErr result (λ e. (e ≡ ServeFault.Memory) ⊎ (e ≡ ServeFault.Input)) }
 {
@@ -123,13 +126,10 @@ fn add(conns: &mut Vec<Vec<u8>>, conn: Vec<u8>) -> Result<(), ServeFault>
     ensures added { OnOk result (length conns.new.items ≡ length conns.old.items + 1) }
     ensures memory { IfErr result (λ e. e ≡ ServeFault.Memory) }
 {
-    match conns.push(conn) {
-        Ok(()) => Ok(()),
-        Err(_) => Err(ServeFault::Memory),
-    }
+    conns.push(conn).map_err(|_| ServeFault::Memory)
 }
 
-// The bytes of connections, each in a file.
+// Reads the bytes of connections, each from a file.
 fn read_all(rt: &HostRuntime, paths: &[&str]) -> Result<Vec<Vec<u8>>, ServeFault>
     ensures each { IfOk result (λ conns. length conns.items ≡ length paths.now) }
     ensures refused { IfErr result (λ e. (e ≡ ServeFault.Memory) ⊎ (e ≡ ServeFault.Input)) }
@@ -152,28 +152,32 @@ fn report_at<F: Start, W: Sink>(
     report: Report<'_>,
     writer: &mut W,
 ) -> Result<(), ServeFault>
-    ensures reports { OnOk result (ReportsOnFiles F.Start ⟦<Kept<F> as Store>⟧ report.entry (W.taken writer.old) (W.taken writer.new)) }
+    ensures reports { OnOk result
+        (ReportsOnFiles F.Start ⟦<Kept<F> as Store>⟧ report.entry
+        (W.taken writer.old) (W.taken writer.new)) }
     ensures ok { OnOk result (IsReported report.entry (W.taken writer.old) (W.taken writer.new)) }
-    ensures part { IsErrOf result ServeFault.Output → IsReportedInPart report.entry (W.taken writer.old) (W.taken writer.new) }
+    ensures part { IsErrOf result ServeFault.Output
+        → IsReportedInPart report.entry (W.taken writer.old) (W.taken writer.new) }
     ensures writes { W.calls writer.new ≤ W.calls writer.old + most_calls }
     ensures quiet { IfErr result (λ e. (e ≡ ServeFault.Output) ⊎ (writer.new ≡ writer.old)) }
     ensures fine { OnOk result (W.faults writer.new ≡ W.faults writer.old) }
     ensures output { IsErrOf result ServeFault.Output →
-        HasFailed (W.calls writer.old) (W.calls writer.new) (W.faults writer.old) (W.faults writer.new) }
+        HasFailed (W.calls writer.old) (W.calls writer.new)
+        (W.faults writer.old) (W.faults writer.new) }
     ensures which { IfErr result IsReportFault }
     ensures there { OnOk result (IsThere looked) }
     ensures tables { IfErr result (IsOfTables F.Start ⟦<Kept<F> as Store>⟧ looked) }
 {
-    if let Err(fault) = look(looked) {
+    if let Err(fault) = check_name(looked) {
         return Err(fault);
     }
     let opened = SqlBook::open_from(rt, path, start);
-    let done = closed(report_opened(rt.alloc(), opened, report, writer));
-    told_at(rt, path, done)
+    let done = close(report_opened(rt.alloc(), opened, report, writer));
+    with_cause(rt, path, done)
 }
 
-/// `plan replay`: serves the connections whose bytes are in files, by the office in the file of this
-/// name, and writes the responses. All files are read before the office is opened.
+/// `plan replay`: serves the connections whose bytes are in files, by the office in the file of
+/// this name, and writes the responses. All files are read before the office is opened.
 #[tactic(auto, using(crate::proofs::CauseLemmas::tables_at_name))]
 pub fn replay_on_files<W: Sink>(
     rt: &HostRuntime,
@@ -181,24 +185,30 @@ pub fn replay_on_files<W: Sink>(
     requests: &[&str],
     writer: &mut W,
 ) -> Result<(), ServeFault>
-    ensures replays { OnOk result (ReplaysOnFiles ⟦<Unknown as Start>⟧ ⟦<Kept<Unknown> as Store>⟧ (length requests.now) (W.taken writer.old) (W.taken writer.new)) }
-    // What is written is a response for each file, or a part of these, or nothing.
-    ensures ok { OnOk result (AreAnswered (length requests.now) (W.taken writer.old) (W.taken writer.new)) }
-    ensures part { IsErrOf result ServeFault.Output → AreAnsweredInPart (length requests.now) (W.taken writer.old) (W.taken writer.new) }
+    ensures replays { OnOk result
+        (ReplaysOnFiles ⟦<Unknown as Start>⟧ ⟦<Kept<Unknown> as Store>⟧
+        (length requests.now) (W.taken writer.old) (W.taken writer.new)) }
+    // A response for each file is written, or a part of these responses, or nothing.
+    ensures ok { OnOk result
+        (AreAnswered (length requests.now) (W.taken writer.old) (W.taken writer.new)) }
+    ensures part { IsErrOf result ServeFault.Output
+        → AreAnsweredInPart (length requests.now) (W.taken writer.old) (W.taken writer.new) }
     ensures writes { W.calls writer.new ≤ W.calls writer.old + most_calls }
-    // Nothing is written with any other fault than that of the output.
+    // Nothing is written if it fails for another cause than the output.
     ensures quiet { IfErr result (λ e. (e ≡ ServeFault.Output) ⊎ (writer.new ≡ writer.old)) }
     ensures fine { OnOk result (W.faults writer.new ≡ W.faults writer.old) }
     ensures output { IsErrOf result ServeFault.Output →
-        HasFailed (W.calls writer.old) (W.calls writer.new) (W.faults writer.old) (W.faults writer.new) }
+        HasFailed (W.calls writer.old) (W.calls writer.new)
+        (W.faults writer.old) (W.faults writer.new) }
     ensures which { IfErr result IsReplayFault }
-    ensures tables { IfErr result (IsOfTablesAtName ⟦<Unknown as Start>⟧ ⟦<Kept<Unknown> as Store>⟧) }
+    ensures tables { IfErr result
+        (IsOfTablesAtName ⟦<Unknown as Start>⟧ ⟦<Kept<Unknown> as Store>⟧) }
 {
     replay_from(rt, path, fs::metadata(rt, path), Unknown, requests, writer)
 }
 
-/// The same, where the start stands for what the files hold, and `looked` is what the system tells of
-/// the file of this name.
+/// The same, with a start that stands for the contents of the files, and with `looked`, the
+/// system's answer for the file of this name.
 #[tactic(auto, using(crate::proofs::ReportLemmas::read_replays, crate::proofs::ReportLemmas::read_tables, crate::proofs::ReportLemmas::report_replays))]
 pub fn replay_from<F: Start, W: Sink>(
     rt: &HostRuntime,
@@ -208,16 +218,21 @@ pub fn replay_from<F: Start, W: Sink>(
     requests: &[&str],
     writer: &mut W,
 ) -> Result<(), ServeFault>
-    ensures replays { OnOk result (ReplaysOnFiles F.Start ⟦<Kept<F> as Store>⟧ (length requests.now) (W.taken writer.old) (W.taken writer.new)) }
-    // What is written is a response for each file, or a part of these, or nothing.
-    ensures ok { OnOk result (AreAnswered (length requests.now) (W.taken writer.old) (W.taken writer.new)) }
-    ensures part { IsErrOf result ServeFault.Output → AreAnsweredInPart (length requests.now) (W.taken writer.old) (W.taken writer.new) }
+    ensures replays { OnOk result
+        (ReplaysOnFiles F.Start ⟦<Kept<F> as Store>⟧ (length requests.now)
+        (W.taken writer.old) (W.taken writer.new)) }
+    // A response for each file is written, or a part of these responses, or nothing.
+    ensures ok { OnOk result
+        (AreAnswered (length requests.now) (W.taken writer.old) (W.taken writer.new)) }
+    ensures part { IsErrOf result ServeFault.Output
+        → AreAnsweredInPart (length requests.now) (W.taken writer.old) (W.taken writer.new) }
     ensures writes { W.calls writer.new ≤ W.calls writer.old + most_calls }
-    // Nothing is written with any other fault than that of the output.
+    // Nothing is written if it fails for another cause than the output.
     ensures quiet { IfErr result (λ e. (e ≡ ServeFault.Output) ⊎ (writer.new ≡ writer.old)) }
     ensures fine { OnOk result (W.faults writer.new ≡ W.faults writer.old) }
     ensures output { IsErrOf result ServeFault.Output →
-        HasFailed (W.calls writer.old) (W.calls writer.new) (W.faults writer.old) (W.faults writer.new) }
+        HasFailed (W.calls writer.old) (W.calls writer.new)
+        (W.faults writer.old) (W.faults writer.new) }
     ensures which { IfErr result IsReplayFault }
     ensures there { OnOk result (IsThere looked) }
     ensures tables { IfErr result (IsOfTables F.Start ⟦<Kept<F> as Store>⟧ looked) }
@@ -229,31 +244,37 @@ pub fn replay_from<F: Start, W: Sink>(
     report_at(rt, path, looked, start, Report::Responses(&conns), writer)
 }
 
-/// `plan check-office`: tests every row of the office in the file of this name, and writes how many
-/// there are in each table and a digest of them.
+/// `plan check-office`: checks every row of the office in the file of this name, and writes the
+/// number of rows in each table and a digest of them.
 #[tactic(auto, using(crate::proofs::CauseLemmas::tables_at_name))]
 pub fn check_office_on_file<W: Sink>(
     rt: &HostRuntime,
     path: &str,
     writer: &mut W,
 ) -> Result<(), ServeFault>
-    ensures checks { OnOk result (ChecksOnFiles ⟦<Unknown as Start>⟧ ⟦<Kept<Unknown> as Store>⟧ (W.taken writer.old) (W.taken writer.new)) }
+    ensures checks { OnOk result
+        (ChecksOnFiles ⟦<Unknown as Start>⟧ ⟦<Kept<Unknown> as Store>⟧
+        (W.taken writer.old) (W.taken writer.new)) }
     ensures ok { OnOk result (IsPrinted (W.taken writer.old) (W.taken writer.new)) }
-    ensures part { IsErrOf result ServeFault.Output → IsPrintedInPart (W.taken writer.old) (W.taken writer.new) }
+    ensures part { IsErrOf result ServeFault.Output
+        → IsPrintedInPart (W.taken writer.old) (W.taken writer.new) }
     ensures writes { W.calls writer.new ≤ W.calls writer.old + most_calls }
-    // Nothing is written with any other fault than that of the output.
-    ensures silent { IfErr result (λ e. (e ≡ ServeFault.Output) ⊎ (writer.new ≡ writer.old)) }
+    // Nothing is written if it fails for another cause than the output.
+    ensures silent { IfErr result
+        (λ e. (e ≡ ServeFault.Output) ⊎ (writer.new ≡ writer.old)) }
     ensures fine { OnOk result (W.faults writer.new ≡ W.faults writer.old) }
     ensures output { IsErrOf result ServeFault.Output →
-        HasFailed (W.calls writer.old) (W.calls writer.new) (W.faults writer.old) (W.faults writer.new) }
+        HasFailed (W.calls writer.old) (W.calls writer.new)
+        (W.faults writer.old) (W.faults writer.new) }
     ensures which { IfErr result IsReportFault }
-    ensures tables { IfErr result (IsOfTablesAtName ⟦<Unknown as Start>⟧ ⟦<Kept<Unknown> as Store>⟧) }
+    ensures tables { IfErr result
+        (IsOfTablesAtName ⟦<Unknown as Start>⟧ ⟦<Kept<Unknown> as Store>⟧) }
 {
     check_office_from(rt, path, fs::metadata(rt, path), Unknown, writer)
 }
 
-/// The same, where the start stands for what the files hold, and `looked` is what the system tells of
-/// the file of this name.
+/// The same, with a start that stands for the contents of the files, and with `looked`, the
+/// system's answer for the file of this name.
 pub fn check_office_from<F: Start, W: Sink>(
     rt: &HostRuntime,
     path: &str,
@@ -261,15 +282,19 @@ pub fn check_office_from<F: Start, W: Sink>(
     start: F,
     writer: &mut W,
 ) -> Result<(), ServeFault>
-    ensures checks { OnOk result (ChecksOnFiles F.Start ⟦<Kept<F> as Store>⟧ (W.taken writer.old) (W.taken writer.new)) }
+    ensures checks { OnOk result
+        (ChecksOnFiles F.Start ⟦<Kept<F> as Store>⟧ (W.taken writer.old) (W.taken writer.new)) }
     ensures ok { OnOk result (IsPrinted (W.taken writer.old) (W.taken writer.new)) }
-    ensures part { IsErrOf result ServeFault.Output → IsPrintedInPart (W.taken writer.old) (W.taken writer.new) }
+    ensures part { IsErrOf result ServeFault.Output
+        → IsPrintedInPart (W.taken writer.old) (W.taken writer.new) }
     ensures writes { W.calls writer.new ≤ W.calls writer.old + most_calls }
-    // Nothing is written with any other fault than that of the output.
-    ensures silent { IfErr result (λ e. (e ≡ ServeFault.Output) ⊎ (writer.new ≡ writer.old)) }
+    // Nothing is written if it fails for another cause than the output.
+    ensures silent { IfErr result
+        (λ e. (e ≡ ServeFault.Output) ⊎ (writer.new ≡ writer.old)) }
     ensures fine { OnOk result (W.faults writer.new ≡ W.faults writer.old) }
     ensures output { IsErrOf result ServeFault.Output →
-        HasFailed (W.calls writer.old) (W.calls writer.new) (W.faults writer.old) (W.faults writer.new) }
+        HasFailed (W.calls writer.old) (W.calls writer.new)
+        (W.faults writer.old) (W.faults writer.new) }
     ensures which { IfErr result IsReportFault }
     ensures there { OnOk result (IsThere looked) }
     ensures tables { IfErr result (IsOfTables F.Start ⟦<Kept<F> as Store>⟧ looked) }
@@ -277,20 +302,22 @@ pub fn check_office_from<F: Start, W: Sink>(
     report_at(rt, path, looked, start, Report::Rows, writer)
 }
 
-/// `plan serve`: serves so many connections on a port of this machine alone, by the office in a file.
-/// The office is opened before the port.
+/// `plan serve`: serves `service.count` connections on a local port, by the office in a file. The
+/// office is opened before the port.
 #[tactic(auto, using(crate::proofs::CauseLemmas::tables_at_name))]
 pub fn serve_on_port(rt: &HostRuntime, service: &Service<'_>) -> Result<(), ServeFault>
-    ensures served { OnOk result (ServesOnFiles ⟦<Unknown as Start>⟧ ⟦<Kept<Unknown> as Store>⟧ service.now.count) }
+    ensures served { OnOk result
+        (ServesOnFiles ⟦<Unknown as Start>⟧ ⟦<Kept<Unknown> as Store>⟧ service.now.count) }
     ensures which { IfErr result IsServeFault }
-    ensures tables { IfErr result (IsOfTablesAtName ⟦<Unknown as Start>⟧ ⟦<Kept<Unknown> as Store>⟧) }
+    ensures tables { IfErr result
+        (IsOfTablesAtName ⟦<Unknown as Start>⟧ ⟦<Kept<Unknown> as Store>⟧) }
 {
     let looked = fs::metadata(rt, service.database);
     serve_from(rt, service, looked, Unknown)
 }
 
-/// The same, where the start stands for what the files hold, and `looked` is what the system tells of
-/// the file of this name.
+/// The same, with a start that stands for the contents of the files, and with `looked`, the
+/// system's answer for the file of this name.
 #[tactic(auto, using(crate::proofs::CauseLemmas::look_serves, crate::proofs::CauseLemmas::look_tables))]
 pub fn serve_from<F: Start>(
     rt: &HostRuntime,
@@ -298,18 +325,20 @@ pub fn serve_from<F: Start>(
     looked: io::Result<Metadata>,
     start: F,
 ) -> Result<(), ServeFault>
-    ensures served { OnOk result (ServesOnFiles F.Start ⟦<Kept<F> as Store>⟧ service.now.count) }
+    ensures served { OnOk result
+        (ServesOnFiles F.Start ⟦<Kept<F> as Store>⟧ service.now.count) }
     ensures which { IfErr result IsServeFault }
-    // A file is there, and not too short.
+    // The file exists, and is not too short.
     ensures there { OnOk result (IsThere looked) }
-    // Tables that are no office's, or of no known version, are told of where they were opened.
+    // A fault about tables that are no office's, or of no known version, is about tables that were
+    // opened.
     ensures tables { IfErr result (IsOfTables F.Start ⟦<Kept<F> as Store>⟧ looked) }
 {
     let path = service.database;
-    if let Err(fault) = look(looked) {
+    if let Err(fault) = check_name(looked) {
         return Err(fault);
     }
     let opened = SqlBook::open_from(rt, path, start);
-    let done = closed(serve_opened(rt, opened, service));
-    told_at(rt, path, done)
+    let done = close(serve_opened(rt, opened, service));
+    with_cause(rt, path, done)
 }

@@ -1,13 +1,13 @@
-//! The commands of the program `plan` that keep an office: its tables are made, connections in files
-//! are answered, and connections of a socket are.
+//! The commands of the program `plan` on an office: create its tables, answer connections from
+//! files, and serve connections of a socket.
 #![tactic(auto)]
 
+mod causes;
 mod check_office;
+mod commands;
 mod fault;
 mod files;
 mod init;
-mod keeping;
-mod looking;
 
 pub use check_office::check_office_run;
 pub use files::{

@@ -11,7 +11,7 @@ use Rattle.plan_rows.specs.Tables.{desk_kept, bind_kept, lag_kept}
 use Rattle.plan_rows.specs.declared.keyed_rows.PlanKey.{PlanKey}
 use Rattle.plan_rows.specs.declared.keyed_rows.RowsByKey.{RowsByKey}
 use Rattle.plan_rows.specs.KeyedRows.{key_in}
-use Rattle.plan_desk.specs.Deciding.{Quiet}
+use Rattle.plan_desk.specs.BookSteps.{Quiet}
 use Rattle.sha2.specs.declared.Sha256.{Sha256}
 use Rattle.sha2.specs.Hashers.{Holds256}
 use Rattle.sha2.specs.Sha256.{sha256}

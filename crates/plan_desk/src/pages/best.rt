@@ -5,7 +5,8 @@ ghost use Rattle.plan_sgs.specs.Instances.{planned};
 ghost use Rattle.plan_shop.specs.Docs.{shop_of};
 ghost use Rattle.plan_exact.specs.Budgets.{IsBudgetText};
 ghost use Rattle.plan_gantt.specs.ShopBestText.{IsBestTextOf, TellsBestRefusal};
-ghost use Rattle.plan_gantt.specs.ProjectBestText.{IsBestProjectTextOf, TellsNoBestProject, TellsBestProjectRefusal};
+ghost use Rattle.plan_gantt.specs.ProjectBestText.{IsBestProjectTextOf, TellsNoBestProject};
+ghost use Rattle.plan_gantt.specs.ProjectBestText.{TellsBestProjectRefusal};
 ghost use Rattle.plan_gantt.specs.ExactFaultText.{exact_fault_text_of};
 ghost use Rattle.plan_rows.specs.declared.fault.BookFault.TheVariants.{Store};
 ghost use Rattle.plan_desk.specs.BestRoutes.{TellsNoShopBest, Best};
@@ -15,8 +16,8 @@ ghost use Rattle.plan_desk.specs.BestOf as spec;
 
 use crate::bound::BoundPlan;
 use crate::pages::capacities::{capacities, open_machines};
-use crate::pages::scheduled::told_of_shop;
-use crate::plan_files::{project_of, said_shop};
+use crate::pages::scheduled::shop_fault_line;
+use crate::plan_files::{lagged_project, read_shop_file};
 use crate::reply::{Reply, bad_schedule, page};
 use plan_exact::{ExactFault, Memo, parse_budget};
 use plan_gantt::{best_project_text, best_text, exact_fault_text, schedule_fault_text};
@@ -27,20 +28,20 @@ use plan_sgs::Instance;
 use plan_shop::Shop;
 use std::alloc::{AllocError, Global};
 
-// The budget that a word spells, 0 where it spells none: the size of what is asked comes first, and
-// then both are refused alike.
-fn budget_of(word: &str) -> u64
-    ensures { IsBudgetText word.now result
-        ⊎ ((result ≡ 0) × ((budget : ℕ) → IsBudgetText word.now budget → ⊥)) }
+// The budget that a text spells, or 0 if it spells none. The search checks the size first, and then
+// refuses both alike.
+fn budget_of(text: &str) -> u64
+    ensures { IsBudgetText text.now result
+        ⊎ ((result ≡ 0) × ((budget : ℕ) → IsBudgetText text.now budget → ⊥)) }
 {
-    match parse_budget(word) {
+    match parse_budget(text) {
         Ok(budget) => budget,
         Err(_) => 0,
     }
 }
 
-// The line of what a search is refused for.
-fn told(alloc: Global, fault: &ExactFault) -> Result<String, AllocError>
+// Returns the line of a fault of the search.
+fn search_fault_line(alloc: Global, fault: &ExactFault) -> Result<String, AllocError>
     ensures refused { IfOk result (λ _. fault.now ≡ ExactFault.NoMemory → ⊥) }
     ensures line { IfOk result (λ line. string_bytes line ≡ exact_fault_text_of fault.now) }
 {
@@ -50,135 +51,138 @@ fn told(alloc: Global, fault: &ExactFault) -> Result<String, AllocError>
     exact_fault_text(fault).to_string(alloc)
 }
 
-// The best text of an instance, or the line that tells why it isn't searched.
+// Returns the text of the best schedule of an instance, or the line of its refusal.
 fn of_instance(
     alloc: Global,
     memo: &mut Memo,
     instance: &Instance,
-    word: &str,
+    budget: &str,
 ) -> Result<Result<String, String>, AllocError>
     ensures { IfOk result (λ r. MatchResult r
-        (λ text. IsBestProjectTextOf word.now instance.now (string_bytes text))
-        (λ line. TellsNoBestProject word.now instance.now (string_bytes line))) }
+        (λ text. IsBestProjectTextOf budget.now instance.now (string_bytes text))
+        (λ line. TellsNoBestProject budget.now instance.now (string_bytes line))) }
 {
-    match memo.solve_project(instance, budget_of(word)) {
+    match memo.solve_project(instance, budget_of(budget)) {
         Ok(solved) => Ok(Ok(best_project_text(alloc, instance, &solved)?)),
-        Err(fault) => Ok(Err(told(alloc, &fault)?)),
+        Err(fault) => Ok(Err(search_fault_line(alloc, &fault)?)),
     }
 }
 
-// The best text of a project against capacities, or the line that tells why there is none.
+// Returns the text of the best schedule of a project with these capacities, or the line of its
+// refusal.
 fn best_of_project(
     alloc: Global,
     memo: &mut Memo,
     project: &ProjectDoc,
     caps: &[u64],
-    word: &str,
+    budget: &str,
 ) -> Result<Result<String, String>, AllocError>
     requires { length caps.now ≡ length project.now.available }
     ensures { IfOk result (λ r. let i = planned project.now caps.now in MatchResult r
-        (λ text. IsBestProjectTextOf word.now i (string_bytes text))
-        (λ line. TellsBestProjectRefusal word.now i (string_bytes line))) }
+        (λ text. IsBestProjectTextOf budget.now i (string_bytes text))
+        (λ line. TellsBestProjectRefusal budget.now i (string_bytes line))) }
 {
     match Instance::of_project(project, caps) {
-        Ok(instance) => of_instance(alloc, memo, &instance, word),
+        Ok(instance) => of_instance(alloc, memo, &instance, budget),
         Err(fault) => Ok(Err(schedule_fault_text(alloc, &fault)?)),
     }
 }
 
-// The best text of a shop with all machines in use open, or the line that tells why it isn't
-// searched.
+// Returns the text of the best schedule of a shop whose machines in use are all open, or the line
+// of its refusal.
 fn of_open_shop(
     alloc: Global,
     memo: &mut Memo,
     shop: &Shop,
-    word: &str,
+    budget: &str,
 ) -> Result<Result<String, String>, AllocError>
     ensures { IfOk result (λ r. MatchResult r
-        (λ text. IsBestTextOf word.now shop.now (string_bytes text))
-        (λ line. TellsBestRefusal word.now shop.now (string_bytes line))) }
+        (λ text. IsBestTextOf budget.now shop.now (string_bytes text))
+        (λ line. TellsBestRefusal budget.now shop.now (string_bytes line))) }
 {
-    match memo.solve(shop, budget_of(word)) {
+    match memo.solve(shop, budget_of(budget)) {
         Ok(solved) => Ok(Ok(best_text(alloc, shop, &solved)?)),
-        Err(fault) => Ok(Err(told(alloc, &fault)?)),
+        Err(fault) => Ok(Err(search_fault_line(alloc, &fault)?)),
     }
 }
 
-// The best text of a shop of which some machines may be used, or the line that tells why there is
-// none.
+// Returns the text of the best schedule of a shop with these usable machines, or the line of its
+// refusal.
 fn best_of_shop(
     alloc: Global,
     memo: &mut Memo,
     doc: &ShopDoc,
     usable: &[bool],
-    word: &str,
+    budget: &str,
 ) -> Result<Result<String, String>, AllocError>
     requires { length usable.now ≡ doc.now.machines }
     ensures { IfOk result (λ r. MatchResult r
-        (λ text. spec.IsOpenBest word.now (shop_of doc.now) usable.now (string_bytes text))
-        (λ line. TellsNoShopBest word.now (shop_of doc.now) usable.now (string_bytes line))) }
+        (λ text. spec.IsOpenBest budget.now (shop_of doc.now) usable.now (string_bytes text))
+        (λ line. TellsNoShopBest budget.now (shop_of doc.now) usable.now (string_bytes line))) }
 {
     match Shop::of_doc(alloc, doc, usable) {
-        Ok(shop) => of_open_shop(alloc, memo, &shop, word),
-        Err(fault) => Ok(Err(told_of_shop(alloc, &fault)?)),
+        Ok(shop) => of_open_shop(alloc, memo, &shop, budget),
+        Err(fault) => Ok(Err(shop_fault_line(alloc, &fault)?)),
     }
 }
 
-// The best text of a project's plan, or the line that tells why there is none.
+// Returns the text of the best schedule of a project's plan, or the line of its refusal.
 fn of_project(
     alloc: Global,
     memo: &mut Memo,
     bound: &BoundPlan,
-    word: &str,
+    budget: &str,
 ) -> Result<Result<String, String>, BookFault>
     requires { bound.now.plan.kind ≡ PlanKind.Project }
     ensures made { IfOk result (λ r. MatchResult r
-        (λ text. spec.IsBestOf bound.now word.now (string_bytes text))
-        (λ line. spec.TellsNoBest bound.now word.now (string_bytes line))) }
-    ensures blamed { IfErr result (λ fault. fault ≡ Store → HasProject bound.now.plan → ⊥) }
+        (λ text. spec.IsBestOf bound.now budget.now (string_bytes text))
+        (λ line. spec.TellsNoBest bound.now budget.now (string_bytes line))) }
+    ensures blamed { IfErr result
+        (λ fault. fault ≡ Store → HasProject bound.now.plan → ⊥) }
 {
-    let project = project_of(alloc, &bound.plan)?;
+    let project = lagged_project(alloc, &bound.plan)?;
     let caps = capacities(alloc, &bound.places, project.avail())?;
-    Ok(best_of_project(alloc, memo, &project, &caps, word)?)
+    Ok(best_of_project(alloc, memo, &project, &caps, budget)?)
 }
 
-// The best text of a shop's plan, or the line that tells why there is none.
+// Returns the text of the best schedule of a shop's plan, or the line of its refusal.
 fn of_shop(
     alloc: Global,
     memo: &mut Memo,
     bound: &BoundPlan,
-    word: &str,
+    budget: &str,
 ) -> Result<Result<String, String>, BookFault>
     requires { bound.now.plan.kind ≡ PlanKind.Shop }
     ensures made { IfOk result (λ r. MatchResult r
-        (λ text. spec.IsBestOf bound.now word.now (string_bytes text))
-        (λ line. spec.TellsNoBest bound.now word.now (string_bytes line))) }
+        (λ text. spec.IsBestOf bound.now budget.now (string_bytes text))
+        (λ line. spec.TellsNoBest bound.now budget.now (string_bytes line))) }
     ensures blamed { IfErr result (λ fault. fault ≡ Store → HasShop bound.now.plan → ⊥) }
 {
-    let doc = said_shop(alloc, bound.plan.name.as_str(), &bound.plan.body)?;
+    let doc = read_shop_file(alloc, bound.plan.name.as_str(), &bound.plan.body)?;
     let usable = open_machines(alloc, &bound.places, doc.machines())?;
-    Ok(best_of_shop(alloc, memo, &doc, &usable, word)?)
+    Ok(best_of_shop(alloc, memo, &doc, &usable, budget)?)
 }
 
-// The best text of a plan, or the line that tells why there is none.
+// Returns the text of the best schedule of a plan, or the line of its refusal.
 fn best_of(
     alloc: Global,
     memo: &mut Memo,
     bound: &BoundPlan,
-    word: &str,
+    budget: &str,
 ) -> Result<Result<String, String>, BookFault>
     ensures made { IfOk result (λ r. MatchResult r
-        (λ text. spec.IsBestOf bound.now word.now (string_bytes text))
-        (λ line. spec.TellsNoBest bound.now word.now (string_bytes line))) }
-    ensures blamed { IfErr result (λ fault. fault ≡ Store → IsSoundPlan bound.now.plan → ⊥) }
+        (λ text. spec.IsBestOf bound.now budget.now (string_bytes text))
+        (λ line. spec.TellsNoBest bound.now budget.now (string_bytes line))) }
+    ensures blamed { IfErr result
+        (λ fault. fault ≡ Store → IsSoundPlan bound.now.plan → ⊥) }
 {
     match bound.plan.kind {
-        PlanKind::Project => of_project(alloc, memo, bound, word),
-        PlanKind::Shop => of_shop(alloc, memo, bound, word),
+        PlanKind::Project => of_project(alloc, memo, bound, budget),
+        PlanKind::Shop => of_shop(alloc, memo, bound, budget),
     }
 }
 
-/// The best schedule of a plan that a search within a budget finds. The memo keeps what is found.
+/// Returns the page of the best schedule that a search within a budget finds. The memo caches it.
 pub(crate) fn best_page(
     alloc: Global,
     memo: &mut Memo,

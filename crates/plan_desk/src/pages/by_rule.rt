@@ -1,4 +1,4 @@
-//! The pages of a plan's schedule by a rule.
+//! The pages of a plan's schedule by a priority rule.
 
 ghost use Rattle.plan_desk.specs.Pages.{IsBound, MakesPage};
 ghost use Rattle.plan_desk.specs.RulePages.{ByRule};
@@ -11,7 +11,7 @@ use crate::reply::Reply;
 use plan_rows::BookFault;
 use std::alloc::Global;
 
-/// What is shown of the schedule of a plan by a rule: its table, its chart, or its working days.
+/// A page of a schedule: its table, its chart, or its working days.
 #[derive(Clone, Copy, Drop)]
 pub(crate) enum RulePage {
     Schedule,
@@ -19,7 +19,7 @@ pub(crate) enum RulePage {
     Days,
 }
 
-/// A page of the schedule of a plan by the rule of a name.
+/// Returns a page of the schedule of a plan by the rule of this name.
 pub(crate) fn rule_page(
     alloc: Global,
     bound: &BoundPlan,

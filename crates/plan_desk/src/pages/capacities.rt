@@ -1,4 +1,4 @@
-//! What the places of a plan have: capacities of resources, and machines that are open.
+//! The capacities of the resources of a plan, and its open machines.
 
 ghost use Rattle.std.specs.Prelude.{◌≡◌, IfOk};
 ghost use Rattle.plan_desk.specs.PlanValues as values;
@@ -18,14 +18,15 @@ fn capacity_at(places: &[BoundPlace], place: u64) -> Option<u64>
     None
 }
 
-// The capacities of a project's resources, which have places from 1 on: those of the bound codes,
-// else the file's.
+// The capacities of a project's resources, whose places count from 1: the published capacity of the
+// bound code, else the capacity in the file.
 pub(crate) fn capacities(
     alloc: Global,
     places: &[BoundPlace],
     available: &[u64],
 ) -> Result<Vec<u64>, AllocError>
-    ensures { IfOk result (λ caps. caps.items ≡ values.capacities_in places.now 1 available.now) }
+    ensures { IfOk result
+        (λ caps. caps.items ≡ values.capacities_in places.now 1 available.now) }
 {
     let mut caps = Vec::with_capacity(alloc, available.len())?;
     for (k, &there) in available.iter().enumerate() {
@@ -34,14 +35,14 @@ pub(crate) fn capacities(
     Ok(caps)
 }
 
-// Whether a machine is open: the code that is bound to it, if any, has another capacity than 0.
+// Whether a machine is open: it is closed if its bound code has capacity 0.
 fn is_open(capacity: Option<u64>) -> bool
     ensures { result ≡ values.is_open_at capacity }
 {
     capacity != Some(0)
 }
 
-// Which machines of a shop are open. They have places from 0 on.
+// Which machines of a shop are open. Their places count from 0.
 pub(crate) fn open_machines(
     alloc: Global,
     places: &[BoundPlace],

@@ -30,7 +30,7 @@ fn chart_of(alloc: Global, made: &Scheduled) -> Result<String, AllocError>
     }
 }
 
-/// The chart of a plan's schedule by the rule of a name.
+/// Returns the chart of a plan's schedule by the rule of this name.
 pub(crate) fn chart_page(alloc: Global, bound: &BoundPlan, rule: &str) -> Result<Reply, BookFault>
     ensures { MakesPage (λ v n. IsBound v n bound.now) (λ v n. Charts v n rule.now) result }
 {

@@ -37,7 +37,7 @@ fn days_table(alloc: Global, made: &Scheduled, calendar: &Calendar) -> Result<St
     }
 }
 
-// The working days of a schedule by the calendar of its plan.
+// The working days of a schedule in the calendar of its plan.
 fn days_of(alloc: Global, plan: &PlanRow, made: &Scheduled) -> Result<Reply, BookFault>
     requires { ScheduleFits made.now }
     ensures shown { IfOk result (λ reply. OfCalendar (row_in plan.now)
@@ -61,7 +61,7 @@ fn days_of(alloc: Global, plan: &PlanRow, made: &Scheduled) -> Result<Reply, Boo
     }
 }
 
-/// The working days of a plan's schedule by the rule of a name.
+/// Returns the working days of a plan's schedule by the rule of this name.
 pub(crate) fn days_page(alloc: Global, bound: &BoundPlan, rule: &str) -> Result<Reply, BookFault>
     ensures { MakesPage (λ v n. IsBound v n bound.now) (λ v n. Days v n rule.now) result }
 {

@@ -1,4 +1,4 @@
-//! Schedules of plans by the rule of a name, which pages show.
+//! The schedules of plans by a priority rule, for the pages.
 
 ghost use Rattle.std.specs.Prelude.{◌≡◌, ◌⊎◌, length, IfOk, IfErr, MatchResult, string_bytes};
 ghost use Rattle.plan_sgs.specs.Instances.{planned};
@@ -12,7 +12,7 @@ ghost use Rattle.plan_desk.specs.Scheduled as spec;
 
 use crate::bound::BoundPlan;
 use crate::pages::capacities::{capacities, open_machines};
-use crate::plan_files::{project_of, said_shop};
+use crate::plan_files::{lagged_project, read_shop_file};
 use plan_gantt::{schedule_fault_text, shop_fault_text};
 use plan_orlib::ShopDoc;
 use plan_psplib::ProjectDoc;
@@ -21,15 +21,20 @@ use plan_sgs::{Instance, Rule, Schedule, SgsFault, serial};
 use plan_shop::{Shop, ShopFault, ShopRule, giffler};
 use std::alloc::{AllocError, Global};
 
-/// A schedule, and the project or the shop that it is of.
+/// A schedule with its project or shop.
 #[derive(Drop)]
 pub(crate) enum Scheduled {
     Project(ProjectDoc, Schedule),
     Shop(Shop, Schedule),
 }
 
-// The schedule of a project against capacities.
-fn made(alloc: Global, project: &ProjectDoc, caps: &[u64], rule: &str) -> Result<Schedule, SgsFault>
+// Returns the schedule of a project with these capacities, by the rule of this name.
+fn project_schedule(
+    alloc: Global,
+    project: &ProjectDoc,
+    caps: &[u64],
+    rule: &str,
+) -> Result<Schedule, SgsFault>
     requires { length caps.now ≡ length project.now.available }
     ensures ok { IfOk result (spec.IsMade (planned project.now caps.now) rule.now) }
     ensures refused { IfErr result (λ fault. (fault ≡ SgsFault.NoMemory)
@@ -40,8 +45,8 @@ fn made(alloc: Global, project: &ProjectDoc, caps: &[u64], rule: &str) -> Result
     serial(alloc, &instance, rule)
 }
 
-// The schedule of a shop of which some machines may be used.
-fn made_of_shop(
+// Returns the schedule of a shop with these usable machines, by the rule of this name.
+fn shop_schedule(
     alloc: Global,
     doc: &ShopDoc,
     usable: &[bool],
@@ -62,7 +67,7 @@ fn made_of_shop(
     Ok((shop, schedule))
 }
 
-// The schedule of a project's plan, or the line that tells why there is none.
+// Returns the schedule of a project's plan, or the line of its refusal.
 fn of_project(
     alloc: Global,
     bound: &BoundPlan,
@@ -71,19 +76,20 @@ fn of_project(
     requires { bound.now.plan.kind ≡ PlanKind.Project }
     ensures made { IfOk result (λ r. MatchResult r (spec.IsScheduled bound.now rule.now)
         (λ line. spec.TellsUnscheduled bound.now rule.now (string_bytes line))) }
-    ensures blamed { IfErr result (λ fault. fault ≡ Store → HasProject bound.now.plan → ⊥) }
+    ensures blamed { IfErr result
+        (λ fault. fault ≡ Store → HasProject bound.now.plan → ⊥) }
 {
-    let project = project_of(alloc, &bound.plan)?;
+    let project = lagged_project(alloc, &bound.plan)?;
     let caps = capacities(alloc, &bound.places, project.avail())?;
-    match made(alloc, &project, &caps, rule) {
+    match project_schedule(alloc, &project, &caps, rule) {
         Ok(schedule) => Ok(Ok(Scheduled::Project(project, schedule))),
         Err(SgsFault::NoMemory) => Err(BookFault::NoMemory),
         Err(fault) => Ok(Err(schedule_fault_text(alloc, &fault)?)),
     }
 }
 
-/// The line of what a shop is refused for.
-pub(crate) fn told_of_shop(alloc: Global, fault: &ShopFault) -> Result<String, AllocError>
+/// Returns the line of a fault of a shop.
+pub(crate) fn shop_fault_line(alloc: Global, fault: &ShopFault) -> Result<String, AllocError>
     ensures refused { IfOk result (λ _. fault.now ≡ ShopFault.NoMemory → ⊥) }
     ensures line { IfOk result (λ line. string_bytes line ≡ shop_fault_text_of fault.now) }
 {
@@ -93,7 +99,7 @@ pub(crate) fn told_of_shop(alloc: Global, fault: &ShopFault) -> Result<String, A
     shop_fault_text(alloc, fault)
 }
 
-// The schedule of a shop's plan, or the line that tells why there is none.
+// Returns the schedule of a shop's plan, or the line of its refusal.
 fn of_shop(
     alloc: Global,
     bound: &BoundPlan,
@@ -104,15 +110,15 @@ fn of_shop(
         (λ line. spec.TellsUnscheduled bound.now rule.now (string_bytes line))) }
     ensures blamed { IfErr result (λ fault. fault ≡ Store → HasShop bound.now.plan → ⊥) }
 {
-    let doc = said_shop(alloc, bound.plan.name.as_str(), &bound.plan.body)?;
+    let doc = read_shop_file(alloc, bound.plan.name.as_str(), &bound.plan.body)?;
     let usable = open_machines(alloc, &bound.places, doc.machines())?;
-    match made_of_shop(alloc, &doc, &usable, rule) {
+    match shop_schedule(alloc, &doc, &usable, rule) {
         Ok((shop, schedule)) => Ok(Ok(Scheduled::Shop(shop, schedule))),
-        Err(fault) => Ok(Err(told_of_shop(alloc, &fault)?)),
+        Err(fault) => Ok(Err(shop_fault_line(alloc, &fault)?)),
     }
 }
 
-/// The schedule of a plan by the rule of a name, or the line that tells why there is none.
+/// Returns the schedule of a plan by the rule of this name, or the line of its refusal.
 pub(crate) fn schedule_of(
     alloc: Global,
     bound: &BoundPlan,
@@ -120,7 +126,8 @@ pub(crate) fn schedule_of(
 ) -> Result<Result<Scheduled, String>, BookFault>
     ensures made { IfOk result (λ r. MatchResult r (spec.IsScheduled bound.now rule.now)
         (λ line. spec.TellsUnscheduled bound.now rule.now (string_bytes line))) }
-    ensures blamed { IfErr result (λ fault. fault ≡ Store → IsSoundPlan bound.now.plan → ⊥) }
+    ensures blamed { IfErr result
+        (λ fault. fault ≡ Store → IsSoundPlan bound.now.plan → ⊥) }
 {
     match bound.plan.kind {
         PlanKind::Project => of_project(alloc, bound, rule),

@@ -30,7 +30,7 @@ fn table_of(alloc: Global, made: &Scheduled) -> Result<String, AllocError>
     }
 }
 
-/// The table of a plan's schedule by the rule of a name.
+/// Returns the table of a plan's schedule by the rule of this name.
 pub(crate) fn schedule_page(
     alloc: Global,
     bound: &BoundPlan,

@@ -1,22 +1,21 @@
-//! The imports: a file is kept as a plan of a desk.
+//! The imports: a route stores a file as a plan of a desk.
 
-ghost use Rattle.plan_rows.specs.Views.{view};
 ghost use Rattle.plan_desk.specs.FoundFiles.{ImportsFile};
 ghost use Rattle.plan_desk.specs.PlanRoutes as routes;
-ghost use Rattle.plan_desk.specs.Deciding.{Finds, IsDecided, Knows};
+ghost use Rattle.plan_desk.specs.BookSteps.{Decides, Knows};
 ghost use Rattle.plan_rows.specs.World.{desk_in};
 ghost use Rattle.plan_rows.specs.Books.{Matches, IsDeskAnswer};
 
 use crate::answers::plan_answer;
-use crate::change::{Change, Decision, kept};
+use crate::change::{Change, Decision, without_change};
 use crate::reply::not_found;
 use crate::route_refusals::import_refusal;
 use plan_rows::{Book, BookFault, DeskRow, PlanKind};
 use std::alloc::Global;
 
-// A file is kept as a plan of its kind, with the desk's next number. The desk's row was read for its
-// key.
-fn importing<'a, B: Book>(
+// Stores a file as a plan of its kind, with the desk's next number. The row of the desk was read
+// with its key.
+fn import_plan<'a, B: Book>(
     book: &mut B,
     alloc: Global,
     desk: &str,
@@ -26,14 +25,15 @@ fn importing<'a, B: Book>(
     body: &'a [u8],
 ) -> Result<Decision<'a>, BookFault>
     requires { Knows B.shelf book.old (λ w. Matches IsDeskAnswer (desk_in w desk.now) row) }
-    ensures { Finds B.shelf book.old book.new (λ w. IsDecided desk.now desk.now (λ v. ImportsFile kind v name.now body.now) (view desk.now w)) result }
+    ensures { Decides B.shelf book.old book.new desk.now desk.now
+        (λ v. ImportsFile kind v name.now body.now) result }
 {
     let Some(row) = row else {
-        return Ok(kept(not_found()));
+        return Ok(without_change(not_found()));
     };
     let held = book.count_plans(desk)?;
     if let Some(refusal) = import_refusal(alloc, held, row.next, kind, name, body)? {
-        return Ok(kept(refusal));
+        return Ok(without_change(refusal));
     }
     Ok(Decision {
         reply: plan_answer(alloc, row.next, kind)?,
@@ -41,9 +41,9 @@ fn importing<'a, B: Book>(
     })
 }
 
-// The project of a PSPLIB text is kept.
+// Stores the project of a PSPLIB text.
 #[tactic(auto, unfolding(crate::specs::PlanRoutes::ImportsProject))]
-pub(crate) fn importing_project<'a, B: Book>(
+pub(crate) fn import_project<'a, B: Book>(
     book: &mut B,
     alloc: Global,
     desk: &str,
@@ -51,14 +51,15 @@ pub(crate) fn importing_project<'a, B: Book>(
     body: &'a [u8],
 ) -> Result<Decision<'a>, BookFault>
     requires { Knows B.shelf book.old (λ w. Matches IsDeskAnswer (desk_in w desk.now) row) }
-    ensures { Finds B.shelf book.old book.new (λ w. IsDecided desk.now desk.now (λ v. routes.ImportsProject v body.now) (view desk.now w)) result }
+    ensures { Decides B.shelf book.old book.new desk.now desk.now
+        (λ v. routes.ImportsProject v body.now) result }
 {
-    importing(book, alloc, desk, row, PlanKind::Project, "", body)
+    import_plan(book, alloc, desk, row, PlanKind::Project, "", body)
 }
 
-// The shop of an instance in an OR-Library text is kept.
+// Stores the shop of an instance in an OR-Library text.
 #[tactic(auto, unfolding(crate::specs::PlanRoutes::ImportsShop))]
-pub(crate) fn importing_shop<'a, B: Book>(
+pub(crate) fn import_shop<'a, B: Book>(
     book: &mut B,
     alloc: Global,
     desk: &str,
@@ -67,7 +68,8 @@ pub(crate) fn importing_shop<'a, B: Book>(
     body: &'a [u8],
 ) -> Result<Decision<'a>, BookFault>
     requires { Knows B.shelf book.old (λ w. Matches IsDeskAnswer (desk_in w desk.now) row) }
-    ensures { Finds B.shelf book.old book.new (λ w. IsDecided desk.now desk.now (λ v. routes.ImportsShop v name.now body.now) (view desk.now w)) result }
+    ensures { Decides B.shelf book.old book.new desk.now desk.now
+        (λ v. routes.ImportsShop v name.now body.now) result }
 {
-    importing(book, alloc, desk, row, PlanKind::Shop, name, body)
+    import_plan(book, alloc, desk, row, PlanKind::Shop, name, body)
 }

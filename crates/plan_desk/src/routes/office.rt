@@ -1,22 +1,22 @@
-//! The calls of the office: codes that are published, desks that are opened, keys that are set.
+//! The routes of the office: publish a code, open a desk, set the key of a desk.
 
 ghost use Rattle.std.specs.Prelude.{◌≡◌, [], unwrap_or};
-ghost use Rattle.plan_rows.specs.Views.{view};
 ghost use Rattle.plan_desk.specs.Bodies.{desk_named};
 ghost use Rattle.plan_desk.specs.OfficeRoutes as routes;
-ghost use Rattle.plan_desk.specs.Deciding.{Finds, IsDecided};
+ghost use Rattle.plan_desk.specs.BookSteps.{Decides};
 ghost use Rattle.plan_rows.specs.Books.{Matches, IsCapacityAnswer};
 
 use crate::answers::{code_answer, desk_answer};
 use crate::bodies::{desk_body, key_body, publish_body};
-use crate::change::{Change, Decision, kept};
+use crate::change::{Change, Decision, without_change};
 use crate::reply::{bad_body, desk_exists, kind_differs, not_found};
 use plan_rows::{Book, BookFault, Kind, key_digest};
 use std::alloc::Global;
 
-// Whether a code is published and of another kind.
+// Whether the code is published with another kind.
 fn is_other_kind(kind: Kind, row: Option<(Kind, u64)>) -> bool
-    ensures { (o : _) → Matches IsCapacityAnswer o row → result ≡ routes.is_other_kind kind o }
+    ensures { (o : _) → Matches IsCapacityAnswer o row
+        → result ≡ routes.is_other_kind kind o }
 {
     match row {
         Some((found, _)) => found != kind,
@@ -24,20 +24,21 @@ fn is_other_kind(kind: Kind, row: Option<(Kind, u64)>) -> bool
     }
 }
 
-// A code is published, or published anew with its kind.
-pub(crate) fn publishing<B: Book>(
+// Publishes a code, or gives a published code of the same kind another capacity.
+pub(crate) fn publish_code<B: Book>(
     book: &mut B,
     alloc: Global,
     body: &[u8],
 ) -> Result<Decision<'static>, BookFault>
-    ensures { Finds B.shelf book.old book.new (λ w. IsDecided [] [] (λ v. routes.Publishes v.published body.now) (view [] w)) result }
+    ensures { Decides B.shelf book.old book.new [] []
+        (λ v. routes.Publishes v.published body.now) result }
 {
     let Some(body) = publish_body(alloc, body)? else {
-        return Ok(kept(bad_body()));
+        return Ok(without_change(bad_body()));
     };
     let row = book.capacity(body.code.as_str())?;
     if is_other_kind(body.kind, row) {
-        return Ok(kept(kind_differs()));
+        return Ok(without_change(kind_differs()));
     }
     Ok(Decision {
         reply: code_answer(alloc, &body)?,
@@ -49,22 +50,23 @@ pub(crate) fn publishing<B: Book>(
     })
 }
 
-// A desk is opened, unless it is there.
-pub(crate) fn opening<B: Book>(
+// Opens a desk, unless it exists.
+pub(crate) fn open_desk<B: Book>(
     book: &mut B,
     alloc: Global,
     body: &[u8],
 ) -> Result<Decision<'static>, BookFault>
-    ensures { Finds B.shelf book.old book.new (λ w. IsDecided [] (unwrap_or (desk_named body.now) []) (λ v. routes.Opens v body.now) (view (unwrap_or (desk_named body.now) []) w)) result }
+    ensures { Decides B.shelf book.old book.new [] (unwrap_or (desk_named body.now) [])
+        (λ v. routes.Opens v body.now) result }
 {
     let Some(body) = desk_body(alloc, body)? else {
-        return Ok(kept(bad_body()));
+        return Ok(without_change(bad_body()));
     };
     let Some(digest) = key_digest(body.key.as_bytes()) else {
-        return Ok(kept(bad_body()));
+        return Ok(without_change(bad_body()));
     };
     if book.desk(body.desk.as_str())?.is_some() {
-        return Ok(kept(desk_exists()));
+        return Ok(without_change(desk_exists()));
     }
     Ok(Decision {
         reply: desk_answer(alloc, 201, body.desk.as_str())?,
@@ -75,23 +77,24 @@ pub(crate) fn opening<B: Book>(
     })
 }
 
-// A desk that is there gets another key.
-pub(crate) fn key_setting<B: Book>(
+// Gives an existing desk another key.
+pub(crate) fn set_key<B: Book>(
     book: &mut B,
     alloc: Global,
     desk: &str,
     body: &[u8],
 ) -> Result<Decision<'static>, BookFault>
-    ensures { Finds B.shelf book.old book.new (λ w. IsDecided desk.now desk.now (λ v. routes.SetsKey v desk.now body.now) (view desk.now w)) result }
+    ensures { Decides B.shelf book.old book.new desk.now desk.now
+        (λ v. routes.SetsKey v desk.now body.now) result }
 {
     if book.desk(desk)?.is_none() {
-        return Ok(kept(not_found()));
+        return Ok(without_change(not_found()));
     }
     let Some(key) = key_body(alloc, body)? else {
-        return Ok(kept(bad_body()));
+        return Ok(without_change(bad_body()));
     };
     let Some(digest) = key_digest(key.as_bytes()) else {
-        return Ok(kept(bad_body()));
+        return Ok(without_change(bad_body()));
     };
     Ok(Decision {
         reply: desk_answer(alloc, 200, desk)?,

@@ -4,5 +4,5 @@ use Rattle.plan_desk.specs.Answers.{texts_of_entries}
 use Rattle.plan_desk.proofs.answers.push_plans.Given as goal
 
 -- the texts of the rows so far stand behind the text
-abbrev pub invariant-all : goal.invariant-all
-invariant-all l = string_bytes l.text ≡ string_bytes l.initial.text ++ texts_of_entries (take l.i l.rows)
+abbrev pub invariant-loop-i : goal.invariant-loop-i
+invariant-loop-i l = string_bytes l.text ≡ string_bytes l.initial.text ++ texts_of_entries (take l.i l.rows)

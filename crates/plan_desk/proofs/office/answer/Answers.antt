@@ -1,5 +1,5 @@
 use Rattle.std.proofs.Common.{sym, subst, Ok}
-use Rattle.plan_desk.specs.Deciding.{CarriesOut, Allows, change_in, owner_of}
+use Rattle.plan_desk.specs.BookSteps.{CarriesOut, Allows, change_in, owner_of}
 use Rattle.plan_desk.specs.Requests.{call_in, request_in, path_of}
 use Rattle.plan_desk.proofs.HandledLemmas.{judged_allows, handled_fully, wanted_at_once, wanted_on}
 use Rattle.plan_desk.proofs.office.answer.Goals as goal

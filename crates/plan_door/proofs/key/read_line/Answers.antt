@@ -17,7 +17,7 @@ returns-then-byte-eq10-clause-front g c =
     let had = g.R.Source.remaining c.loop.reader in
     let left = g.R.Source.remaining c.next_byte.new.reader in
     let read = of_some (IsAtEnd left × Consumes had left []) (λ byte. Consumes had left (byte ∷ [])) c.in-Ok-Some.field-0 c.in-Ok-Some.byte c.in-Ok-Some.ensures.byte c.in-Ok-Some.field-0-is in
-    subst (λ (text : List ℕ). IsFront (g.R.Source.remaining c.args.reader.now) (g.R.Source.remaining c.next_byte.new.reader) text) (sym {A = List ℕ} c.in_ok-keep.ensures.kept)
+    subst (λ (text : List ℕ). IsFront (g.R.Source.remaining c.args.reader.now) (g.R.Source.remaining c.next_byte.new.reader) text) (sym {A = List ℕ} c.in_ok-push_byte.ensures.kept)
     (with_feed (g.R.Source.remaining c.args.reader.now) (g.R.Source.remaining c.loop.reader) (g.R.Source.remaining c.next_byte.new.reader) c.loop.line.items c.in-Ok-Some.byte
     (omega (arith, c.loop.invariant.each, c.loop-test.true)) c.loop.invariant.read read c.if-byte-eq10.true)
 

@@ -8,7 +8,7 @@ use Rattle.plan_http.proofs.body.read_body.Goals as goal
 pub returns-then-count-got-clause-body : goal.returns-then-count-got-clause-body
 returns-then-count-got-clause-body g c =
     reads_none (g.R.Client.known c.args.reader.now) (λ had after s.
-    copied_whole after c.args.got.now had c.args.count c.copied.result s c.if-count-got.true c.copied.ensures.body)
+    copied_whole after c.args.got.now had c.args.count c.copy_of.result s c.if-count-got.true c.copy_of.ensures.body)
 
 pub returns-in_default-clause-body : goal.returns-in_default-clause-body
 returns-in_default-clause-body g c = reads_none (g.R.Client.known c.args.reader.now) (λ had after s. tt)

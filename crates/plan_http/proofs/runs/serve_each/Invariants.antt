@@ -1,6 +1,6 @@
 use Rattle.std.proofs.Common.{◌≡◌, ◌++◌, List, map, take, vec_items}
 use Rattle.plan_http.specs.Answers.{Decision}
-use Rattle.plan_http.specs.Serving.{Serving, response_of}
+use Rattle.plan_http.specs.Connections.{Serving, response_of}
 use Rattle.plan_http.proofs.runs.serve_each.Given as goal
 
 -- the connections so far were served, and their responses added

@@ -5,13 +5,13 @@ use Rattle.plan_serve.proofs.files.init_from.Goals as goal
 
 pub returns-clause-made : goal.returns-clause-made
 returns-clause-made g c =
-    told_ok c.init_at.result.0 c.closed-done.result c.told_at.result c.closed-done.ensures c.told_at.ensures _ c.init_at.ensures.made
+    told_ok c.init_at.result.0 c.close-done.result c.with_cause.result c.close-done.ensures c.with_cause.ensures _ c.init_at.ensures.made
 
 pub returns-clause-which : goal.returns-clause-which
 returns-clause-which g c =
-    told_err c.init_at.result.0 c.closed-done.result c.told_at.result c.closed-done.ensures c.told_at.ensures IsInitFault c.init_at.ensures.which (λ e was files. file_inits e files)
+    told_err c.init_at.result.0 c.close-done.result c.with_cause.result c.close-done.ensures c.with_cause.ensures IsInitFault c.init_at.ensures.which (λ e was files. file_inits e files)
 
 pub returns-clause-tables : goal.returns-clause-tables
 returns-clause-tables g c =
-    told_err c.init_at.result.0 c.closed-done.result c.told_at.result c.closed-done.ensures c.told_at.ensures (IsOfTablesThere g.F.Start over_files)
+    told_err c.init_at.result.0 c.close-done.result c.with_cause.result c.close-done.ensures c.with_cause.ensures (IsOfTablesThere g.F.Start over_files)
     c.init_at.ensures.tables (λ e was files. file_tables_there g.F.Start over_files e files)

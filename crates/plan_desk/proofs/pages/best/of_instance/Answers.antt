@@ -9,5 +9,5 @@ best_project_text-requires-clause-starts c = c.in-Ok.ensures.active.feasible.eac
 
 pub returns-in_ok-best_project_text-in-Ok : goal.returns-in_ok-best_project_text-in-Ok
 returns-in_ok-best_project_text-in-Ok c =
-    project_best c.args.word.now c.budget_of.result c.args.instance.now c.in-Ok.solved (string_bytes c.in_ok-best_project_text-in-Ok.field-0) c.budget_of.ensures
+    project_best c.args.budget.now c.budget_of.result c.args.instance.now c.in-Ok.solved (string_bytes c.in_ok-best_project_text-in-Ok.field-0) c.budget_of.ensures
     c.in-Ok.ensures.solution c.in-Ok.ensures.shortest c.in-Ok.ensures.active c.in-Ok.ensures.makespan c.in_ok-best_project_text-in-Ok.ensures.text

@@ -15,7 +15,7 @@ pub returns-clause-made : goal.returns-clause-made
 returns-clause-made c =
     let bound = c.args.bound.now in
     let doc = c.in_ok-doc.doc in
-    shop_answered string_bytes string_bytes _ bound c.args.word.now doc c.deref-3.result.now c.requires
+    shop_answered string_bytes string_bytes _ bound c.args.budget.now doc c.deref-3.result.now c.requires
     (subst (λ name. Says name bound.plan.body.items doc) c.as_str.ensures.value
     (subst (λ file. Says c.as_str.result.now file doc) c.deref.ensures.value c.in_ok-doc.ensures.said))
     (c.deref-3.ensures.value ∙ c.in_ok-usable.ensures ∙ ap (λ places. machines_in places c.machines.result) c.deref-2.ensures.value

@@ -5,8 +5,8 @@ use Rattle.plan_desk.proofs.MadeLemmas.{shop_told}
 use Rattle.plan_desk.proofs.PlaceLemmas.{length-machines_in}
 use Rattle.plan_desk.proofs.pages.scheduled.of_shop.Goals as goal
 
-pub made_of_shop-requires : goal.made_of_shop-requires
-made_of_shop-requires c =
+pub shop_schedule-requires : goal.shop_schedule-requires
+shop_schedule-requires c =
     ap length c.deref-3.ensures.value ∙ ap length c.in_ok-usable.ensures ∙ length-machines_in c.deref-2.result.now c.machines.result
     ∙ c.machines.ensures.value
 
@@ -19,4 +19,4 @@ returns-clause-made c =
     (subst (λ file. Says c.as_str.result.now file doc) c.deref.ensures.value c.in_ok-doc.ensures.said))
     (c.deref-3.ensures.value ∙ c.in_ok-usable.ensures ∙ ap (λ places. machines_in places c.machines.result) c.deref-2.ensures.value
     ∙ ap (machines_in bound.places.items) c.machines.ensures.value)
-    c.in_ok-told_of_shop-in-Err.ensures.refused c.in-Err.ensures.refused c.in_ok-told_of_shop-in-Err.ensures.line
+    c.in_ok-shop_fault_line-in-Err.ensures.refused c.in-Err.ensures.refused c.in_ok-shop_fault_line-in-Err.ensures.line

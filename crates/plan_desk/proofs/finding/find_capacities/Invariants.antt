@@ -1,9 +1,0 @@
-use Rattle.std.specs.Prelude.{take, Ok}
-use Rattle.plan_desk.specs.Deciding.{Finds}
-use Rattle.plan_desk.specs.Finding.{HasCapacities}
-use Rattle.plan_desk.proofs.finding.find_capacities.Given as goal
-
--- the capacities of the places so far are found
-abbrev pub invariant-all : goal.invariant-all
-invariant-all g l =
-    Finds g.B.Book.shelf l.fn.book l.book (λ w places. HasCapacities w.published (take l.bind-index l.fn.binds) places.items) (Ok l.places)
