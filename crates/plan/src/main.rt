@@ -1,4 +1,4 @@
-//! The program `plan`: the commands of the crates `plan_cli` and `plan_serve` on the command line.
+//! The program `plan`: the commands of the crates `plan_cli` and `plan_serve`.
 #![tactic(auto)]
 
 mod progress;
@@ -6,42 +6,48 @@ mod progress;
 use self::progress::ProgressLine;
 use clap::Error;
 use clap::error::ErrorKind;
-use plan_cli::{CliFault, Unwatched, check_on_files, explain_run, run_on_file};
+use plan_cli::{
+    CliFault, FileOrder, OfficeOrder, Order, Unwatched, check_on_files, command, explain_run,
+    order_of, run_on_file,
+};
 use plan_io::StdSink;
-use plan_serve::{ServeFault, check_office_on_file, init_on_file, replay_on_files, serve_on_port};
-use plan_words::{FileOrder, OfficeOrder, Order, command, order_of};
+use plan_serve::{
+    ServeFault, Service, check_office_on_file, init_on_file, replay_on_files, serve_on_port,
+};
+use std::alloc::AllocError;
 use std::process::ExitCode;
 use std::{env, io};
 
-// How the program ends.
+/// Why the program fails.
 #[derive(Drop)]
-enum End {
-    Done,
-    Fault(CliFault),
-    OfficeFault(ServeFault),
+enum Failure {
+    File(CliFault),
+    Office(ServeFault),
     Usage(Error),
     NoText,
     NoCommand,
     OneInput,
 }
 
-// How a command ends that is done, or has a fault.
-fn end_of(done: Result<(), CliFault>) -> End {
-    match done {
-        Ok(()) => End::Done,
-        Err(fault) => End::Fault(fault),
+impl From<CliFault> for Failure {
+    fn from(fault: CliFault) -> Failure {
+        Failure::File(fault)
     }
 }
 
-// The same of a command that keeps an office.
-fn office_end(done: Result<(), ServeFault>) -> End {
-    match done {
-        Ok(()) => End::Done,
-        Err(fault) => End::OfficeFault(fault),
+impl From<ServeFault> for Failure {
+    fn from(fault: ServeFault) -> Failure {
+        Failure::Office(fault)
     }
 }
 
-// Makes an office in a file, tests it, or serves it.
+impl From<AllocError> for Failure {
+    fn from(_: AllocError) -> Failure {
+        Failure::File(CliFault::Memory)
+    }
+}
+
+// Does what the arguments ask of an office.
 fn do_office_order(rt: &HostRuntime, order: OfficeOrder<'_>) -> Result<(), ServeFault> {
     match order {
         OfficeOrder::Init { database } => init_on_file(rt, database),
@@ -53,11 +59,26 @@ fn do_office_order(rt: &HostRuntime, order: OfficeOrder<'_>) -> Result<(), Serve
             let mut writer = StdSink::new(io::writer(rt));
             replay_on_files(rt, database, requests, &mut writer)
         }
-        OfficeOrder::Serve(service) => serve_on_port(rt, &service),
+        OfficeOrder::Serve {
+            database,
+            port,
+            count,
+            patience,
+            is_logged,
+        } => {
+            let service = Service {
+                database,
+                port,
+                count,
+                patience,
+                is_logged,
+            };
+            serve_on_port(rt, &service)
+        }
     }
 }
 
-// Does what the words ask for, and writes to standard output.
+// Does what the arguments ask of files, and writes to standard output.
 fn do_file_order(rt: &HostRuntime, order: FileOrder<'_>) -> Result<(), CliFault> {
     let mut writer = StdSink::new(io::writer(rt));
     match order {
@@ -70,59 +91,50 @@ fn do_file_order(rt: &HostRuntime, order: FileOrder<'_>) -> Result<(), CliFault>
     }
 }
 
-// Does what the words ask for.
-fn do_order(rt: &HostRuntime, order: Order<'_>) -> End {
+// Does what the arguments ask for.
+fn do_order(rt: &HostRuntime, order: Order<'_>) -> Result<(), Failure> {
     match order {
         Order::File(
             FileOrder::Check {
                 file: "-",
                 starts: "-",
             },
-        ) => End::OneInput,
-        Order::File(order) => end_of(do_file_order(rt, order)),
-        Order::Office(order) => office_end(do_office_order(rt, order)),
+        ) => return Err(Failure::OneInput),
+        Order::File(order) => do_file_order(rt, order)?,
+        Order::Office(order) => do_office_order(rt, order)?,
     }
+    Ok(())
 }
 
-// Why the words of the command line can't be had: there is no memory for them, or one isn't UTF-8.
-fn no_words(error: &io::Error) -> End {
+// Returns why the arguments can't be read: memory runs out, or one isn't UTF-8.
+fn args_failure(error: &io::Error) -> Failure {
     if error.kind() == io::ErrorKind::OutOfMemory {
-        End::Fault(CliFault::Memory)
+        Failure::File(CliFault::Memory)
     } else {
-        End::NoText
+        Failure::NoText
     }
 }
 
 // Reads the command line and does what it asks for.
-fn run(rt: &HostRuntime) -> End {
+fn run(rt: &HostRuntime) -> Result<(), Failure> {
     let alloc = rt.alloc();
-    let words: Vec<String> = match env::args(rt) {
-        Err(error) => return no_words(&error),
-        Ok(args) => match args.collect(alloc) {
-            Err(_) => return End::Fault(CliFault::Memory),
-            Ok(words) => words,
-        },
+    let args = env::args(rt).map_err(|error| args_failure(&error))?;
+    let arguments: Vec<String> = args.collect(alloc)?;
+    let parsed = command(alloc)?.try_get_matches_from(arguments.as_slice());
+    let matches = parsed.map_err(Failure::Usage)?;
+    let Some(order) = order_of(&matches) else {
+        return Err(Failure::NoCommand);
     };
-    let command = match command(alloc) {
-        Err(_) => return End::Fault(CliFault::Memory),
-        Ok(command) => command,
-    };
-    match command.try_get_matches_from(words.as_slice()) {
-        Err(error) => End::Usage(error),
-        Ok(matches) => match order_of(&matches) {
-            Some(order) => do_order(rt, order),
-            None => End::NoCommand,
-        },
-    }
+    do_order(rt, order)
 }
 
-// Prints one line on standard error, for which there is status 1.
+// Prints one line on standard error, and returns the status 1.
 fn print_fault<R: Eprint>(rt: &R, line: &str) -> u8 {
     let _ = eprintln!(rt; "{line}");
     1
 }
 
-// Prints what clap says, help or usage, and gives its status: that of usage also where it can't be printed.
+// Prints clap's help or usage, and returns its status: that of usage even if it can't be printed.
 fn print_usage<R: Print + Eprint>(rt: &R, error: &Error) -> u8 {
     if error.kind() == ErrorKind::OutOfMemory {
         return print_fault(rt, CliFault::Memory.line());
@@ -137,21 +149,28 @@ fn print_usage<R: Print + Eprint>(rt: &R, error: &Error) -> u8 {
     }
 }
 
-// Says what is wrong with the command line, for which there is the status of usage.
+// Prints what is wrong with the command line, and returns the status of usage.
 fn print_misuse<R: Eprint>(rt: &R, what: &str) -> u8 {
     let _ = eprintln!(rt; "error: {what}\n\nFor more information, try '--help'.");
     2
 }
 
+// Prints why the program fails, and returns its status.
+fn report(rt: &HostRuntime, failure: &Failure) -> u8 {
+    match failure {
+        Failure::File(fault) => print_fault(rt, fault.line()),
+        Failure::Office(fault) => print_fault(rt, fault.line()),
+        Failure::Usage(error) => print_usage(rt, error),
+        Failure::NoText => print_misuse(rt, "a word of the command line isn't UTF-8"),
+        Failure::NoCommand => print_misuse(rt, "no command"),
+        Failure::OneInput => print_misuse(rt, "FILE and STARTS can't both be standard input"),
+    }
+}
+
 fn main(rt: HostRuntime) -> ExitCode {
     let status = match run(&rt) {
-        End::Done => 0,
-        End::Fault(fault) => print_fault(&rt, fault.line()),
-        End::OfficeFault(fault) => print_fault(&rt, fault.line()),
-        End::Usage(error) => print_usage(&rt, &error),
-        End::NoText => print_misuse(&rt, "a word of the command line isn't UTF-8"),
-        End::NoCommand => print_misuse(&rt, "no command"),
-        End::OneInput => print_misuse(&rt, "FILE and STARTS can't both be standard input"),
+        Ok(()) => 0,
+        Err(failure) => report(&rt, &failure),
     };
     ExitCode::from(status)
 }

@@ -1,21 +1,21 @@
-//! How far a search is, in a line on standard error.
+//! A line of progress on standard error.
 
 use plan_cli::Watcher;
 
-/// A line on standard error that is written anew each time, and is gone when the search is over. One
-/// that can't be written is left out.
+/// A line on standard error that is overwritten each time, and erased at the end of the search. A line
+/// that can't be written is skipped.
 #[derive(Drop)]
 pub struct ProgressLine<'a> {
     rt: &'a HostRuntime,
-    is_there: bool,
+    is_shown: bool,
 }
 
 impl<'a> ProgressLine<'a> {
-    /// A line that isn't there yet.
+    /// Returns a line that isn't written yet.
     pub fn new(rt: &HostRuntime) -> ProgressLine<'_> {
         ProgressLine {
             rt,
-            is_there: false,
+            is_shown: false,
         }
     }
 }
@@ -26,14 +26,14 @@ impl<'a> Watcher for ProgressLine<'a> {
     fn tell(&mut self, best: u64, lower: u64, nodes: u64) {
         let rt = self.rt;
         let _ = eprint!(rt; "\rbest {best}, lower end {lower}, {nodes} nodes\x1b[K");
-        self.is_there = true;
+        self.is_shown = true;
     }
 
     fn end(&mut self) {
-        if self.is_there {
+        if self.is_shown {
             let rt = self.rt;
             let _ = eprint!(rt; "\r\x1b[K");
         }
-        self.is_there = false;
+        self.is_shown = false;
     }
 }

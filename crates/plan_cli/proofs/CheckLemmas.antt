@@ -1,4 +1,4 @@
--- Why there is no verdict on starts.
+-- Refusals of starts.
 use Rattle.std.proofs.Common.{◌≡◌, inr, ℕ, List, Result, Ok, Err, subst}
 use Rattle.std.specs.Prelude.{IfErr}
 use Rattle.plan_net.specs.Network.{count_of}
@@ -10,14 +10,15 @@ use Rattle.plan_cli.specs.Starts.{TellsNoStarts}
 use Rattle.plan_cli.specs.CheckRun.{TellsBadStarts, TellsNoVerdict}
 use Rattle.plan_cli.proofs.RunLemmas.{refuses_as}
 
--- the text of the starts is refused, for so many as there are activities
-pub bad_starts : (listed : List ℕ) (i : Planned) (count : ℕ) (e : CliFault) → NeedsFit (problem_of i) → count ≡ count_of i.project.network
+-- the text of the starts is refused, with the number of activities as its count
+pub bad_starts : (listed : List ℕ) (i : Planned) (count : ℕ) (e : CliFault) → NeedsFit (problem_of i)
+    → count ≡ count_of i.project.network
     → Refuses (TellsNoStarts count listed) e → Refuses (TellsBadStarts listed i) e
 bad_starts listed i count e fit same t =
     refuses_as (TellsNoStarts count listed) (TellsBadStarts listed i) e
     (λ line tells. (fit, subst (λ (n : ℕ). TellsNoStarts n listed line) same tells)) t
 
--- where no need is too much it is the starts that are refused
+-- if no need is above its capacity, the starts are refused
 pub no_verdict : {A : Type 0} (listed : List ℕ) (i made : Planned) (r : Result A CliFault) → made ≡ i
     → IfErr r (Refuses (TellsBadStarts listed made)) → IfErr r (Refuses (TellsNoVerdict listed i))
 no_verdict listed i made (Ok text) same t = tt

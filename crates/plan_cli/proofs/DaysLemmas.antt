@@ -1,4 +1,4 @@
--- Working days of schedules that are made, and why they aren't shown.
+-- The working days of schedules, and their refusals.
 use Rattle.std.proofs.Common.{◌≡◌, inl, inr, ℕ, List, subst}
 use Rattle.plan_net.specs.Network.{Net}
 use Rattle.plan_sgs.specs.Instances.{Planned}
@@ -14,11 +14,14 @@ use Rattle.plan_cli.specs.Scheduled.{IsScheduleBy, IsShopScheduleBy, IsMade, IsM
 use Rattle.plan_cli.specs.DaysRun.{TellsNoCalendar, TellsBeyond, IsDaysBy, IsShopDaysBy, TellsNoProjectDays, TellsNoShopDays}
 use Rattle.plan_cli.proofs.RunLemmas.{refuses_as}
 
--- the starts of a schedule that is made
-made_starts : (name : List ℕ) (i : Planned) (m : Schedule) → IsMade name i m → IsScheduleBy name i m.starts.items
+-- the starts of a schedule by the rule with this name
+made_starts : (name : List ℕ) (i : Planned) (m : Schedule) → IsMade name i m
+    → IsScheduleBy name i m.starts.items
 made_starts name i m (rule, named, by) = record { rule = rule; named = named; schedule = by.by }
 
-pub days_shown : (name start marks : List ℕ) (i : Planned) (m : Schedule) (c : Workdays) (net : Net) (text : List ℕ) → IsMade name i m → IsCalendar start marks c
+pub days_shown : (name start marks : List ℕ) (i : Planned) (m : Schedule) (c : Workdays) (net : Net)
+    (text : List ℕ)
+    → IsMade name i m → IsCalendar start marks c
     → net ≡ i.project.network → IsCalendarTable c net m.starts.items text → IsDaysBy name start marks i text
 days_shown name start marks i m c net text made is same shown = record {
   starts = m.starts.items;
@@ -32,7 +35,9 @@ no_calendar name start marks i m e made t =
     refuses_as (TellsNoCalendar start marks) (TellsNoProjectDays name start marks i) e
     (λ line tells. inr (record { starts = m.starts.items; schedule = made_starts name i m made; hidden = inl tells })) t
 
-pub days_beyond : (name start marks : List ℕ) (i : Planned) (m : Schedule) (c : Workdays) (net : Net) (e : CliFault) → IsMade name i m → IsCalendar start marks c
+pub days_beyond : (name start marks : List ℕ) (i : Planned) (m : Schedule) (c : Workdays) (net : Net)
+    (e : CliFault)
+    → IsMade name i m → IsCalendar start marks c
     → net ≡ i.project.network → Refuses (TellsBeyond (HasActivityBeyond c net m.starts.items)) e → Refuses (TellsNoProjectDays name start marks i) e
 days_beyond name start marks i m c net e made is same t =
     refuses_as (TellsBeyond (HasActivityBeyond c net m.starts.items)) (TellsNoProjectDays name start marks i) e
@@ -42,10 +47,13 @@ days_beyond name start marks i m c net e made is same t =
       hidden = inr (c, is, (subst (λ (n : Net). HasActivityBeyond c n m.starts.items) same tells.0, tells.1));
     })) t
 
-made_shop_starts : (name : List ℕ) (s : JobShop) (m : Schedule) → IsMadeOfShop name s m → IsShopScheduleBy name s m.starts.items
+made_shop_starts : (name : List ℕ) (s : JobShop) (m : Schedule) → IsMadeOfShop name s m
+    → IsShopScheduleBy name s m.starts.items
 made_shop_starts name s m (rule, named, by) = record { rule = rule; named = named; starts_are = by.starts_are; active = by.active }
 
-pub shop_days_shown : (name start marks : List ℕ) (s shop : JobShop) (m : Schedule) (c : Workdays) (text : List ℕ) → IsMadeOfShop name s m → IsCalendar start marks c
+pub shop_days_shown : (name start marks : List ℕ) (s shop : JobShop) (m : Schedule) (c : Workdays)
+    (text : List ℕ)
+    → IsMadeOfShop name s m → IsCalendar start marks c
     → shop ≡ s → IsShopCalendarTable c shop m.starts.items text → IsShopDaysBy name start marks s text
 shop_days_shown name start marks s shop m c text made is same shown = record {
   starts = m.starts.items;
@@ -53,13 +61,16 @@ shop_days_shown name start marks s shop m c text made is same shown = record {
   shown = (c, is, subst (λ (t : JobShop). IsShopCalendarTable c t m.starts.items text) same shown);
 }
 
-pub no_shop_calendar : (name start marks : List ℕ) (s : JobShop) (m : Schedule) (e : CliFault) → IsMadeOfShop name s m
+pub no_shop_calendar : (name start marks : List ℕ) (s : JobShop) (m : Schedule) (e : CliFault)
+    → IsMadeOfShop name s m
     → Refuses (TellsNoCalendar start marks) e → Refuses (TellsNoShopDays name start marks s) e
 no_shop_calendar name start marks s m e made t =
     refuses_as (TellsNoCalendar start marks) (TellsNoShopDays name start marks s) e
     (λ line tells. inr (record { starts = m.starts.items; schedule = made_shop_starts name s m made; hidden = inl tells })) t
 
-pub shop_days_beyond : (name start marks : List ℕ) (s shop : JobShop) (m : Schedule) (c : Workdays) (e : CliFault) → IsMadeOfShop name s m → IsCalendar start marks c
+pub shop_days_beyond : (name start marks : List ℕ) (s shop : JobShop) (m : Schedule) (c : Workdays)
+    (e : CliFault)
+    → IsMadeOfShop name s m → IsCalendar start marks c
     → shop ≡ s → Refuses (TellsBeyond (HasStepBeyond c shop m.starts.items)) e → Refuses (TellsNoShopDays name start marks s) e
 shop_days_beyond name start marks s shop m c e made is same t =
     refuses_as (TellsBeyond (HasStepBeyond c shop m.starts.items)) (TellsNoShopDays name start marks s) e

@@ -1,4 +1,4 @@
--- What is read of a name is read of the bytes that it stands for.
+-- Reading the file with a name reads the bytes that the name stands for.
 use Rattle.std.proofs.Common.{◌≡◌, ◌⊎◌, inl, inr, Bool, true, false, ℕ, ◌+◌, List, Option, Some, None, Result, Ok, Err, take, refl, sym, subst, Vec}
 use Rattle.std.specs.Prelude.{IfSome, IfOk, bytes_eq, codes}
 use Rattle.std.specs.Global.{Global}
@@ -11,14 +11,16 @@ use Rattle.plan_cli.specs.Tasks.{IsTextOf, IsLineOf, DoesTask, AreRead, bytes_na
 use Rattle.plan_cli.proofs.RunLemmas.{judged_bytes}
 
 -- `-` stands for standard input
-pub named_standard : (standard : Option (List ℕ)) (file_of : List ℕ → Option (List ℕ)) (name : List ℕ) → bytes_eq name (codes "-") ≡ true → bytes_named standard file_of name ≡ standard
+pub named_standard : (standard : Option (List ℕ)) (file_of : List ℕ → Option (List ℕ)) (name : List ℕ)
+    → bytes_eq name (codes "-") ≡ true → bytes_named standard file_of name ≡ standard
 named_standard standard file_of name is = rw is
 
 -- any other name stands for a file
-pub named_file : (standard : Option (List ℕ)) (file_of : List ℕ → Option (List ℕ)) (name : List ℕ) → bytes_eq name (codes "-") ≡ false → bytes_named standard file_of name ≡ file_of name
+pub named_file : (standard : Option (List ℕ)) (file_of : List ℕ → Option (List ℕ)) (name : List ℕ)
+    → bytes_eq name (codes "-") ≡ false → bytes_named standard file_of name ≡ file_of name
 named_file standard file_of name is = rw is
 
--- where no bytes are known, none are known of a name
+-- if no bytes are known, those of a name are unknown
 pub named_unknown : (name : List ℕ) → bytes_named None (λ _. None) name ≡ None
 named_unknown name = by_test (bytes_eq name (codes "-")) refl
   where
@@ -26,24 +28,36 @@ named_unknown name = by_test (bytes_eq name (codes "-")) refl
     by_test true is = named_standard None (λ _. None) name is
     by_test false is = named_file None (λ _. None) name is
 
--- what was read of a source is read of the bytes that it had
-pub read_known : {E : Type 0} (known remaining : Option (List ℕ)) (r : Result (Vec ℕ Global) E) → IfSome known (λ bytes. remaining ≡ Some bytes) → IfOk r (λ v. IfSome remaining (λ file. v.items ≡ take (longest_text + 1) file)) → IfOk r (λ v. AreRead v.items known)
+-- the bytes that were read from a source are the first of the bytes that it had
+pub read_known : {E : Type 0} (known remaining : Option (List ℕ)) (r : Result (Vec ℕ Global) E)
+    → IfSome known (λ bytes. remaining ≡ Some bytes)
+    → IfOk r (λ v. IfSome remaining (λ file. v.items ≡ take (longest_text + 1) file))
+    → IfOk r (λ v. AreRead v.items known)
 read_known known remaining (Err e) had read = tt
 read_known None remaining (Ok v) had read = tt
 read_known (Some bytes) remaining (Ok v) had read = subst (λ (r : Option (List ℕ)). IfSome r (λ file. v.items ≡ take (longest_text + 1) file)) had read
 
--- what was judged of a source is judged of the bytes that it had
-pub task_known : (task : Task) (known remaining rest taken after : Option (List ℕ)) (r : Result (Unit {0}) CliFault) → IfSome known (λ bytes. remaining ≡ Some bytes) → ReadsFront (IsTextOf task) (IsLineOf task) remaining rest taken after r → DoesTask task known taken after r
+-- a task that wrote for the bytes of a source wrote for the bytes that it had
+pub task_known : (task : Task) (known remaining rest taken after : Option (List ℕ))
+    (r : Result (Unit {0}) CliFault)
+    → IfSome known (λ bytes. remaining ≡ Some bytes)
+    → ReadsFront (IsTextOf task) (IsLineOf task) remaining rest taken after r
+    → DoesTask task known taken after r
 task_known task None remaining rest taken after r had judged = (None, judged_bytes (IsTextOf task) (IsLineOf task) remaining rest taken after r judged)
 task_known task (Some bytes) remaining rest taken after r had judged =
     (rest, subst (λ (k : Option (List ℕ)). ReadsFront (IsTextOf task) (IsLineOf task) k rest taken after r) had judged)
 
--- the same by the name of the bytes
-pub task_named : (task : Task) (known named remaining rest taken after : Option (List ℕ)) (r : Result (Unit {0}) CliFault) → named ≡ known → IfSome known (λ bytes. remaining ≡ Some bytes) → ReadsFront (IsTextOf task) (IsLineOf task) remaining rest taken after r → DoesTask task named taken after r
+-- the same for the name of these bytes
+pub task_named : (task : Task) (known named remaining rest taken after : Option (List ℕ))
+    (r : Result (Unit {0}) CliFault)
+    → named ≡ known → IfSome known (λ bytes. remaining ≡ Some bytes)
+    → ReadsFront (IsTextOf task) (IsLineOf task) remaining rest taken after r
+    → DoesTask task named taken after r
 task_named task known named remaining rest taken after r is had judged =
     subst (λ (k : Option (List ℕ)). DoesTask task k taken after r) (sym is) (task_known task known remaining rest taken after r had judged)
 
--- nothing is judged where nothing could be opened
-pub task_unopened : (task : Task) (known taken : Option (List ℕ)) (e : CliFault) → (e ≡ cli.Memory) ⊎ (e ≡ cli.Input) → DoesTask task known taken taken (Err e)
+-- a task writes nothing if the file can't be opened
+pub task_unopened : (task : Task) (known taken : Option (List ℕ)) (e : CliFault)
+    → (e ≡ cli.Memory) ⊎ (e ≡ cli.Input) → DoesTask task known taken taken (Err e)
 task_unopened task known taken e (inl is) = subst (λ (f : CliFault). DoesTask task known taken taken (Err f)) (sym is) (None, tt)
 task_unopened task known taken e (inr is) = subst (λ (f : CliFault). DoesTask task known taken taken (Err f)) (sym is) (None, tt)

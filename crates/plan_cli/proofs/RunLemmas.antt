@@ -1,4 +1,4 @@
--- What is judged of the first bytes of a file is judged of all of it.
+-- The text or line for the first bytes of a file is that for the whole file.
 use Rattle.std.proofs.Common.{◌≡◌, ◌⊎◌, inl, inr, ℕ, ◌+◌, ◌≤◌, ◌<◌, List, Option, Some, None, Result, Ok, Err, length, take, refl, sym, ap, ◌∙◌, subst, arith}
 use Rattle.std.specs.Prelude.{IfSome, string_bytes}
 use Rattle.std.specs.Io.KnownBytes.{Consumes}
@@ -33,15 +33,18 @@ use Rattle.plan_cli.specs.declared.fault.CliFault.{CliFault}
 use Rattle.plan_cli.specs.declared.fault.CliFault.TheVariants as cli
 use Rattle.plan_cli.specs.Run.{IsDateTableOf, Writes, JudgesFront, ReadsFront, Refuses, Tells, Sends}
 
--- a refusal by one kind of line is one by another that has the same lines
-pub refuses_as : (IsLine IsOther : List ℕ → Type 0) (e : CliFault) → ((line : List ℕ) → IsLine line → IsOther line) → Refuses IsLine e → Refuses IsOther e
+-- a refusal by lines of one kind is one by lines of another kind that has them too
+pub refuses_as : (IsLine IsOther : List ℕ → Type 0) (e : CliFault)
+    → ((line : List ℕ) → IsLine line → IsOther line) → Refuses IsLine e → Refuses IsOther e
 refuses_as IsLine IsOther (cli.Refused line) same r = same (string_bytes line) r
 refuses_as IsLine IsOther cli.Memory same r = tt
 refuses_as IsLine IsOther cli.Input same r = absurd r
 refuses_as IsLine IsOther cli.Output same r = absurd r
 
--- the fault that is told is the file's
-pub told_refuses : (file : List ℕ) (first : FileFault) (e : CliFault) → IsWantOfMemory first ⊎ IsFirstFailing file first → Refuses (Tells first) e → Refuses (TellsFirstFailing file) e
+-- the reported error is the first of the file
+pub told_refuses : (file : List ℕ) (first : FileFault) (e : CliFault)
+    → IsWantOfMemory first ⊎ IsFirstFailing file first → Refuses (Tells first) e
+    → Refuses (TellsFirstFailing file) e
 told_refuses file first e (inl memory) t = refuses_as (Tells first) (TellsFirstFailing file) e (λ line tells. absurd (tells.0 memory.0)) t
 told_refuses file first e (inr failing) t = refuses_as (Tells first) (TellsFirstFailing file) e (λ line tells. (first, failing, tells.1)) t
 
@@ -54,13 +57,14 @@ too_long file long = rw (lt-leb (length file) longest_text long)
 document_front : (file : List ℕ) → document (take (longest_text + 1) file) ≡ document file
 document_front file = by_length (cases_lt longest_text (length file))
   where
-    by_length : (longest_text < length file) ⊎ (length file ≤ longest_text) → document (take (longest_text + 1) file) ≡ document file
+    by_length : (longest_text < length file) ⊎ (length file ≤ longest_text)
+        → document (take (longest_text + 1) file) ≡ document file
     by_length (inr short) = ap document (take_all (longest_text + 1) file (omega (arith, short)))
     by_length (inl long) =
         let m = length-take (longest_text + 1) file in
         too_long (take (longest_text + 1) file) (omega (arith, m, long)) ∙ sym (too_long file long)
 
--- what the front of a file says the file says
+-- the document in the front of a file is that in the file
 says_front : (file : List ℕ) (d : Document) → Says (take (longest_text + 1) file) d → Says file d
 says_front file d says = by_length (cases_lt longest_text (length file))
   where
@@ -71,16 +75,18 @@ says_front file d says = by_length (cases_lt longest_text (length file))
         let few = says.short in
         absurd (omega (arith, m, few, long))
 
-failing_front : (file : List ℕ) (first : FileFault) → IsFirstFailing (take (longest_text + 1) file) first → IsFirstFailing file first
+failing_front : (file : List ℕ) (first : FileFault) → IsFirstFailing (take (longest_text + 1) file) first
+    → IsFirstFailing file first
 failing_front file first (inl e) = inl (sym (document_front file) ∙ e.0, e.1)
 failing_front file first (inr (d, e, named)) = inr (d, sym (document_front file) ∙ e, named)
 
--- what is said of a text, or a line, by the front of a file is said by the file
+-- a relation that holds for a text and the front of a file holds for the text and the file
 abbrev pub HoldsByFront : (List ℕ → List ℕ → Type 0) → Type 0
 HoldsByFront P = (file text : List ℕ) → P (take (longest_text + 1) file) text → P file text
 
--- the project that the front of a file says the file says
-pub project_front : (file : List ℕ) (p : Project) → SaysProject (take (longest_text + 1) file) p → SaysProject file p
+-- the project in the front of a file is that in the file
+pub project_front : (file : List ℕ) (p : Project) → SaysProject (take (longest_text + 1) file) p
+    → SaysProject file p
 project_front file p (d, says, same, project) = (d, says_front file d says, same, project)
 
 table_front : HoldsByFront IsDateTableOf
@@ -90,24 +96,39 @@ line_front : HoldsByFront TellsFirstFailing
 line_front file line (first, failing, e) = (first, failing_front file first failing, e)
 
 -- what is written for the front of a file is written for the file
-writes_front : (IsText IsLine : List ℕ → List ℕ → Type 0) (file : List ℕ) (taken after : Option (List ℕ)) (r : Result (Unit {0}) CliFault) → HoldsByFront IsText → HoldsByFront IsLine → Writes (IsText (take (longest_text + 1) file)) (IsLine (take (longest_text + 1) file)) taken after r → Writes (IsText file) (IsLine file) taken after r
+writes_front : (IsText IsLine : List ℕ → List ℕ → Type 0) (file : List ℕ) (taken after : Option (List ℕ))
+    (r : Result (Unit {0}) CliFault)
+    → HoldsByFront IsText → HoldsByFront IsLine
+    → Writes (IsText (take (longest_text + 1) file)) (IsLine (take (longest_text + 1) file)) taken after r
+    → Writes (IsText file) (IsLine file) taken after r
 writes_front IsText IsLine file taken after (Ok u) texts lines (text, is, took) = (text, texts file text is, took)
 writes_front IsText IsLine file taken after (Err (cli.Refused line)) texts lines (is, same) = (lines file (string_bytes line) is, same)
 writes_front IsText IsLine file taken after (Err cli.Memory) texts lines same = same
 writes_front IsText IsLine file taken after (Err cli.Input) texts lines same = same
 writes_front IsText IsLine file taken after (Err cli.Output) texts lines (text, n, is, part, took) = (text, n, texts file text is, part, took)
 
--- what is written for what was read is written for the whole file
-pub writes_known : (IsText IsLine : List ℕ → List ℕ → Type 0) (known : Option (List ℕ)) (read front : List ℕ) (taken after : Option (List ℕ)) (r : Result (Unit {0}) CliFault) → HoldsByFront IsText → HoldsByFront IsLine → front ≡ read → IfSome known (λ file. read ≡ take (longest_text + 1) file) → Writes (IsText front) (IsLine front) taken after r → IfSome known (λ file. Writes (IsText file) (IsLine file) taken after r)
+-- what is written for the bytes that were read is written for the whole file
+pub writes_known : (IsText IsLine : List ℕ → List ℕ → Type 0) (known : Option (List ℕ)) (read front : List ℕ)
+    (taken after : Option (List ℕ)) (r : Result (Unit {0}) CliFault)
+    → HoldsByFront IsText → HoldsByFront IsLine → front ≡ read
+    → IfSome known (λ file. read ≡ take (longest_text + 1) file)
+    → Writes (IsText front) (IsLine front) taken after r
+    → IfSome known (λ file. Writes (IsText file) (IsLine file) taken after r)
 writes_known IsText IsLine None read front taken after r texts lines same e w = tt
 writes_known IsText IsLine (Some file) read front taken after r texts lines same e w =
     writes_front IsText IsLine file taken after r texts lines (subst (λ (bytes : List ℕ). Writes (IsText bytes) (IsLine bytes) taken after r) (same ∙ e) w)
 
--- what was read is judged
-judges_front : (known rest : Option (List ℕ)) (read front : List ℕ) (Does : List ℕ → Type 0) → front ≡ read → length read ≤ longest_text + 1 → IfSome known (λ file. read ≡ take (longest_text + 1) file) → Consumes known rest read → Does front → JudgesFront known rest Does
+-- the bytes that were read are a front of the file, and the fact holds for them
+judges_front : (known rest : Option (List ℕ)) (read front : List ℕ) (Does : List ℕ → Type 0) → front ≡ read
+    → length read ≤ longest_text + 1 → IfSome known (λ file. read ≡ take (longest_text + 1) file)
+    → Consumes known rest read → Does front → JudgesFront known rest Does
 judges_front known rest read front Does same short e taken does = (read, short, e, taken, subst Does same does)
 
-pub reads_front : (IsText IsLine : List ℕ → List ℕ → Type 0) (known rest : Option (List ℕ)) (read front : List ℕ) (taken after : Option (List ℕ)) (r : Result (Unit {0}) CliFault) → front ≡ read → length read ≤ longest_text + 1 → IfSome known (λ file. read ≡ take (longest_text + 1) file) → Consumes known rest read → Writes (IsText front) (IsLine front) taken after r → ReadsFront IsText IsLine known rest taken after r
+pub reads_front : (IsText IsLine : List ℕ → List ℕ → Type 0) (known rest : Option (List ℕ))
+    (read front : List ℕ) (taken after : Option (List ℕ)) (r : Result (Unit {0}) CliFault)
+    → front ≡ read → length read ≤ longest_text + 1
+    → IfSome known (λ file. read ≡ take (longest_text + 1) file) → Consumes known rest read
+    → Writes (IsText front) (IsLine front) taken after r → ReadsFront IsText IsLine known rest taken after r
 reads_front IsText IsLine known rest read front taken after (Ok u) same short e used w =
     judges_front known rest read front (λ bytes. Writes (IsText bytes) (IsLine bytes) taken after (Ok u)) same short e used w
 reads_front IsText IsLine known rest read front taken after (Err (cli.Refused line)) same short e used w =
@@ -118,7 +139,9 @@ reads_front IsText IsLine known rest read front taken after (Err cli.Output) sam
     judges_front known rest read front (λ bytes. Writes (IsText bytes) (IsLine bytes) taken after (Err cli.Output)) same short e used w
 
 -- a text that is sent is written
-pub sent_writes : (IsText IsLine : List ℕ → Type 0) (text : List ℕ) (taken after : Option (List ℕ)) (r : Result (Unit {0}) CliFault) → IsText text → Sends text taken after r → Writes IsText IsLine taken after r
+pub sent_writes : (IsText IsLine : List ℕ → Type 0) (text : List ℕ) (taken after : Option (List ℕ))
+    (r : Result (Unit {0}) CliFault)
+    → IsText text → Sends text taken after r → Writes IsText IsLine taken after r
 sent_writes IsText IsLine text taken after (Ok u) is sent = (text, is, sent)
 sent_writes IsText IsLine text taken after (Err cli.Output) is (n, part, took) = (text, n, is, part, took)
 sent_writes IsText IsLine text taken after (Err (cli.Refused line)) is sent = absurd sent
@@ -126,14 +149,17 @@ sent_writes IsText IsLine text taken after (Err cli.Memory) is sent = absurd sen
 sent_writes IsText IsLine text taken after (Err cli.Input) is sent = absurd sent
 
 -- nothing is written for a file that is refused
-pub refused_writes : (IsText IsLine : List ℕ → Type 0) (taken : Option (List ℕ)) (e : CliFault) → Refuses IsLine e → Writes IsText IsLine taken taken (Err e)
+pub refused_writes : (IsText IsLine : List ℕ → Type 0) (taken : Option (List ℕ)) (e : CliFault)
+    → Refuses IsLine e → Writes IsText IsLine taken taken (Err e)
 refused_writes IsText IsLine taken (cli.Refused line) refuses = (refuses, refl)
 refused_writes IsText IsLine taken cli.Memory refuses = refl
 refused_writes IsText IsLine taken cli.Input refuses = absurd refuses
 refused_writes IsText IsLine taken cli.Output refuses = absurd refuses
 
--- what was judged, without what the source told of its bytes
-pub judged_bytes : (IsText IsLine : List ℕ → List ℕ → Type 0) (known rest : Option (List ℕ)) (taken after : Option (List ℕ)) (r : Result (Unit {0}) CliFault) → ReadsFront IsText IsLine known rest taken after r → ReadsFront IsText IsLine None None taken after r
+-- the same, without the bytes of the source
+pub judged_bytes : (IsText IsLine : List ℕ → List ℕ → Type 0) (known rest : Option (List ℕ))
+    (taken after : Option (List ℕ)) (r : Result (Unit {0}) CliFault)
+    → ReadsFront IsText IsLine known rest taken after r → ReadsFront IsText IsLine None None taken after r
 judged_bytes IsText IsLine known rest taken after (Ok u) (front, short, e, used, does) = (front, short, tt, tt, does)
 judged_bytes IsText IsLine known rest taken after (Err (cli.Refused line)) (front, short, e, used, does) = (front, short, tt, tt, does)
 judged_bytes IsText IsLine known rest taken after (Err cli.Memory) w = tt
@@ -155,31 +181,34 @@ no_best_project_front budget file line (inl first) = inl (line_front file line f
 no_best_project_front budget file line (inr (p, says, tells)) = inr (p, project_front file p says, tells)
 
 -- a shop file that is too long fails its first check
-long_shop : (instance file : List ℕ) → longest_text < length file → reading.shop instance file ≡ fault code.TooLong 0
+long_shop : (instance file : List ℕ) → longest_text < length file
+    → reading.shop instance file ≡ fault code.TooLong 0
 unfolding reading.shop plain
 long_shop instance file long = rw (lt-leb (length file) longest_text long)
 
 -- the front of a shop file fails the checks that the file fails
-front_shop : (instance file : List ℕ) → reading.shop instance (take (longest_text + 1) file) ≡ reading.shop instance file
+front_shop : (instance file : List ℕ)
+    → reading.shop instance (take (longest_text + 1) file) ≡ reading.shop instance file
 front_shop instance file = by_length (cases_lt longest_text (length file))
   where
-    by_length : (longest_text < length file) ⊎ (length file ≤ longest_text) → reading.shop instance (take (longest_text + 1) file) ≡ reading.shop instance file
+    by_length : (longest_text < length file) ⊎ (length file ≤ longest_text)
+        → reading.shop instance (take (longest_text + 1) file) ≡ reading.shop instance file
     by_length (inr short) = ap (reading.shop instance) (take_all (longest_text + 1) file (omega (arith, short)))
     by_length (inl long) =
         let m = length-take (longest_text + 1) file in
         long_shop instance (take (longest_text + 1) file) (omega (arith, m, long)) ∙ sym (long_shop instance file long)
 
--- a text that is too long isn't read
+-- a text that is too long isn't plain
 long_plain : (text : List ℕ) → longest_text < length text → plain text ≡ fault code.TooLong 0
 unfolding plain
 long_plain text long = rw (lt-leb (length text) longest_text long)
 
--- a reading that succeeded
+-- a check that succeeded
 abbrev pub IsGood : Result (Unit {0}) Fault → Type 0
 IsGood (Ok u) = Unit {0}
 IsGood (Err e) = ⊥
 
--- a text that is read isn't too long
+-- a plain text isn't too long
 plain_short : (text : List ℕ) → plain text ≡ Ok tt → length text ≤ longest_text
 plain_short text readable = by_length (cases_lt longest_text (length text))
   where
@@ -187,8 +216,9 @@ plain_short text readable = by_length (cases_lt longest_text (length text))
     by_length (inr short) = short
     by_length (inl long) = absurd (subst IsGood (sym readable ∙ long_plain text long) tt)
 
--- the shop that the front of a file says the file says
-says_shop_front : (instance file : List ℕ) (doc : docs.Shop) → ShopSays instance (take (longest_text + 1) file) doc → ShopSays instance file doc
+-- the job shop in the front of a file is that in the file
+says_shop_front : (instance file : List ℕ) (doc : docs.Shop)
+    → ShopSays instance (take (longest_text + 1) file) doc → ShopSays instance file doc
 says_shop_front instance file doc says = by_length (cases_lt longest_text (length file))
   where
     by_length : (longest_text < length file) ⊎ (length file ≤ longest_text) → ShopSays instance file doc
@@ -201,7 +231,7 @@ says_shop_front instance file doc says = by_length (cases_lt longest_text (lengt
 shop_front : (name instance : List ℕ) → HoldsByFront (IsShopTableOf name instance)
 shop_front name instance file text (doc, says, table) = (doc, says_shop_front instance file doc says, table)
 
--- the fault that the front of a shop file fails by the file fails by
+-- the first error of the front of a shop file is that of the file
 first_front : (instance : List ℕ) → HoldsByFront (TellsFirstShopFault instance)
 first_front instance file line (first, (failing, none), e) = (first, (sym (front_shop instance file) ∙ failing, none), e)
 
@@ -223,12 +253,14 @@ no_proof_front : (nodes instance : List ℕ) → HoldsByFront (TellsWhyNoProof n
 no_proof_front nodes instance file line (inl first) = inl (first_front instance file line first)
 no_proof_front nodes instance file line (inr (doc, says, tells)) = inr (doc, says_shop_front instance file doc says, tells)
 
--- the fault of a shop file that is told
-pub told_no_shop : (instance file : List ℕ) (first : FileFault) (e : CliFault) → IsWantOfMemory first ⊎ reading.FailsWith (reading.shop instance file) first → Refuses (Tells first) e → Refuses (TellsFirstShopFault instance file) e
+-- the reported error is the first of the shop file
+pub told_no_shop : (instance file : List ℕ) (first : FileFault) (e : CliFault)
+    → IsWantOfMemory first ⊎ reading.FailsWith (reading.shop instance file) first → Refuses (Tells first) e
+    → Refuses (TellsFirstShopFault instance file) e
 told_no_shop instance file first e (inl memory) t = refuses_as (Tells first) (TellsFirstShopFault instance file) e (λ line tells. absurd (tells.0 memory.0)) t
 told_no_shop instance file first e (inr failing) t = refuses_as (Tells first) (TellsFirstShopFault instance file) e (λ line tells. (first, failing, tells.1)) t
 
--- the names in the front of a file are those in the file, which is no longer
+-- the names in the front of a file are those in the file
 names_front : HoldsByFront AreNamesOf
 names_front file text (readable, is) = by_length (cases_lt longest_text (length file))
   where
@@ -239,11 +271,12 @@ names_front file text (readable, is) = by_length (cases_lt longest_text (length 
         let few = plain_short (take (longest_text + 1) file) readable in
         absurd (omega (arith, m, few, long))
 
--- the front of a file is fit to be read where the file is
+-- the front of a file is plain if the file is
 plain_front : (file : List ℕ) → plain (take (longest_text + 1) file) ≡ plain file
 plain_front file = by_length (cases_lt longest_text (length file))
   where
-    by_length : (longest_text < length file) ⊎ (length file ≤ longest_text) → plain (take (longest_text + 1) file) ≡ plain file
+    by_length : (longest_text < length file) ⊎ (length file ≤ longest_text)
+        → plain (take (longest_text + 1) file) ≡ plain file
     by_length (inr short) = ap plain (take_all (longest_text + 1) file (omega (arith, short)))
     by_length (inl long) =
         let m = length-take (longest_text + 1) file in
@@ -252,8 +285,10 @@ plain_front file = by_length (cases_lt longest_text (length file))
 not_plain_front : HoldsByFront TellsNotPlain
 not_plain_front file line (first, (failing, none), e) = (first, (sym (plain_front file) ∙ failing, none), e)
 
--- the fault of a file that isn't fit to be read is told
-pub told_not_plain : (file : List ℕ) (first : FileFault) (e : CliFault) → IsWantOfMemory first ⊎ reading.FailsWith (plain file) first → Refuses (Tells first) e → Refuses (TellsNotPlain file) e
+-- the reported error is why the file isn't plain
+pub told_not_plain : (file : List ℕ) (first : FileFault) (e : CliFault)
+    → IsWantOfMemory first ⊎ reading.FailsWith (plain file) first → Refuses (Tells first) e
+    → Refuses (TellsNotPlain file) e
 told_not_plain file first e (inl memory) t = refuses_as (Tells first) (TellsNotPlain file) e (λ line tells. absurd (tells.0 memory.0)) t
 told_not_plain file first e (inr failing) t = refuses_as (Tells first) (TellsNotPlain file) e (λ line tells. (first, failing, tells.1)) t
 
@@ -273,7 +308,8 @@ no_days_front name start marks file line (inr (p, says, tells)) = inr (p, projec
 shop_days_front : (name start marks instance : List ℕ) → HoldsByFront (IsShopDaysOf name start marks instance)
 shop_days_front name start marks instance file text (doc, says, shown) = (doc, says_shop_front instance file doc says, shown)
 
-no_shop_days_front : (name start marks instance : List ℕ) → HoldsByFront (TellsWhyNoShopDays name start marks instance)
+no_shop_days_front : (name start marks instance : List ℕ)
+    → HoldsByFront (TellsWhyNoShopDays name start marks instance)
 no_shop_days_front name start marks instance file line (inl first) = inl (first_front instance file line first)
 no_shop_days_front name start marks instance file line (inr (doc, says, tells)) = inr (doc, says_shop_front instance file doc says, tells)
 
@@ -284,7 +320,7 @@ no_verdict_front : (listed : List ℕ) → HoldsByFront (TellsWhyNoVerdict liste
 no_verdict_front listed file line (inl first) = inl (line_front file line first)
 no_verdict_front listed file line (inr (p, says, tells)) = inr (p, project_front file p says, tells)
 
--- what a task makes of the front of a file it makes of the file
+-- the text of a task for the front of a file is that for the file
 pub task_front : (task : Task) → HoldsByFront (IsTextOf task)
 task_front task.Dates = table_front
 task_front (task.Schedule rule) = schedule_front rule.now

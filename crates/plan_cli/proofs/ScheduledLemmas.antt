@@ -1,4 +1,4 @@
--- Schedules that are made: what is shown of them is within the limits of texts.
+-- Schedules by a rule are within the limits of texts.
 use Rattle.std.proofs.Common.{◌≡◌, ℕ, ◌+◌, ◌≤◌, ◌<◌, List, get_or, sym, ◌∙◌, subst, arith}
 use Rattle.std.specs.Prelude.{All}
 use Rattle.plan_sgs.specs.Problem.{IsActive, count, duration, makespan}
@@ -19,8 +19,9 @@ use Rattle.plan_gantt.specs.Limits.{latest_end}
 use Rattle.plan_gantt.specs.ShopText.{rule_starts}
 use Rattle.plan_cli.specs.Scheduled.{IsMadeBy, IsMadeOfShopBy}
 
--- the schedule of a rule
-pub made_by : (i : Planned) (rule : Rule) (s : Schedule) → IsRuleSchedule i rule s.starts.items → IsActive (problem_of i) s.starts.items
+-- the schedule of an instance by a rule
+pub made_by : (i : Planned) (rule : Rule) (s : Schedule) → IsRuleSchedule i rule s.starts.items
+    → IsActive (problem_of i) s.starts.items
     → s.makespan ≡ makespan (problem_of i) s.starts.items → AllEndBy (problem_of i) s.starts.items placing.latest_end → s.makespan ≤ placing.latest_end → IsMadeBy rule i s
 made_by i rule s by active is ends few = record {
   by = record { scheduled = by; active = active };
@@ -35,24 +36,27 @@ made_by i rule s by active is ends few = record {
   };
 }
 
--- a step of a shop takes no longer than a file allows
+-- the duration of a step is within the limit of files
 short_step : (s : JobShop) → IsSmallShop s → (x : ℕ) → x < count_steps s → time_of s x ≤ 10000
 short_step s small x inside = small.short x idle inside
 
--- the makespan of starts that are in time is one that texts can show
-shop_ends : (s : JobShop) (starts : List ℕ) → IsSmallShop s → IsActive (shops.problem_of s) starts → All (λ t. t ≤ 10000000) starts → makespan (shops.problem_of s) starts ≤ latest_end
+-- the makespan of starts within their limit is within the limit of texts
+shop_ends : (s : JobShop) (starts : List ℕ) → IsSmallShop s → IsActive (shops.problem_of s) starts
+    → All (λ t. t ≤ 10000000) starts → makespan (shops.problem_of s) starts ≤ latest_end
 shop_ends s starts small active within =
     greatest_least (count (shops.problem_of s)) (λ x. get_or starts x 0 + duration (shops.problem_of s) x) latest_end each
   where
-    each : (x : ℕ) → x < count (shops.problem_of s) → get_or starts x 0 + duration (shops.problem_of s) x ≤ latest_end
+    each : (x : ℕ) → x < count (shops.problem_of s)
+        → get_or starts x 0 + duration (shops.problem_of s) x ≤ latest_end
     each x below =
         let early = within x 0 (subst (λ n. x < n) (sym active.feasible.each_started) below) in
         let short = short_step s small x (subst (λ n. x < n) (count_is s) below) in
         let lasts = duration_is s x in
         omega (arith, early, short, lasts)
 
--- the schedule of a rule for a shop
-pub made_of_shop_by : (s : JobShop) (rule : ShopRule) (m : Schedule) → IsSmallShop s → m.starts.items ≡ rule_starts rule s → IsActive (shops.problem_of s) m.starts.items
+-- the schedule of a job shop by a rule
+pub made_of_shop_by : (s : JobShop) (rule : ShopRule) (m : Schedule) → IsSmallShop s
+    → m.starts.items ≡ rule_starts rule s → IsActive (shops.problem_of s) m.starts.items
     → m.makespan ≡ makespan (shops.problem_of s) m.starts.items → All (λ t. t ≤ 10000000) m.starts.items → IsMadeOfShopBy rule s m
 made_of_shop_by s rule m small are active is within = record {
   starts_are = are;

@@ -10,18 +10,19 @@ use Rattle.plan_gantt.specs.ProjectBestText.{IsBestProjectTextOf, TellsBestProje
 use Rattle.plan_gantt.specs.ExactFaultText.{exact_fault_text_of}
 use Rattle.plan_cli.specs.ScheduleRun.{as_available}
 
--- a text tells the best schedule of the project that a file says, within the budget that a word
--- spells, against the file's availabilities
+-- a text tells the best schedule of the project in a file, within the budget that an argument
+-- spells and with the capacities of the file
 abbrev pub IsBestProjectTableOf : List ℕ → List ℕ → List ℕ → Type 0
-IsBestProjectTableOf word file text = (p : Project) × SaysProject file p × IsBestProjectTextOf word (as_available p) text
+IsBestProjectTableOf argument file text =
+    (p : Project) × SaysProject file p × IsBestProjectTextOf argument (as_available p) text
 
--- a line tells the first check that a file fails, or else what the project that it says is refused
--- for
+-- a line tells the first check that a file fails, or else why its project is refused
 abbrev pub TellsWhyNoBestProject : List ℕ → List ℕ → List ℕ → Type 0
-TellsWhyNoBestProject word file line =
-    TellsFirstFailing file line ⊎ ((p : Project) × SaysProject file p × TellsBestProjectRefusal word (as_available p) line)
+TellsWhyNoBestProject argument file line = TellsFirstFailing file line
+    ⊎ ((p : Project) × SaysProject file p × TellsBestProjectRefusal argument (as_available p) line)
 
--- a line tells what a search within a budget is refused for
+-- a line tells why a search within a budget is refused
 abbrev pub TellsSearchRefusal : ℕ → Planned → List ℕ → Type 0
 TellsSearchRefusal budget i line =
-    (first : ExactFault) × (first ≡ exact.NoMemory → ⊥) × RefusesProject i budget first × (line ≡ exact_fault_text_of first)
+    (first : ExactFault) × (first ≡ exact.NoMemory → ⊥) × RefusesProject i budget first
+    × (line ≡ exact_fault_text_of first)

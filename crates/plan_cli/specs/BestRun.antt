@@ -13,18 +13,20 @@ use Rattle.plan_gantt.specs.ExactFaultText.{exact_fault_text_of}
 
 -- a text tells the best schedule of an instance in a file
 abbrev pub IsBestTableOf : List ℕ → List ℕ → List ℕ → List ℕ → Type 0
-IsBestTableOf word instance file text = (doc : docs.Shop) × Says instance file doc × IsBestTextOf word (shop_of doc) text
+IsBestTableOf argument instance file text =
+    (doc : docs.Shop) × Says instance file doc × IsBestTextOf argument (shop_of doc) text
 
--- a line tells the first check that a file fails, or else what its shop is refused for
+-- a line tells the first check that a file fails, or else why its shop is refused
 abbrev pub TellsWhyNoBest : List ℕ → List ℕ → List ℕ → List ℕ → Type 0
-TellsWhyNoBest word instance file line = TellsFirstShopFault instance file line
-    ⊎ ((doc : docs.Shop) × Says instance file doc × TellsBestRefusal word (shop_of doc) line)
+TellsWhyNoBest argument instance file line = TellsFirstShopFault instance file line
+    ⊎ ((doc : docs.Shop) × Says instance file doc × TellsBestRefusal argument (shop_of doc) line)
 
--- a line tells what a search within a budget is refused for
+-- a line tells why a search within a budget is refused
 abbrev pub TellsSolvingRefusal : ℕ → JobShop → List ℕ → Type 0
 TellsSolvingRefusal budget s line =
-    (first : ExactFault) × (first ≡ exact.NoMemory → ⊥) × RefusesSolving s budget first × (line ≡ exact_fault_text_of first)
+    (first : ExactFault) × (first ≡ exact.NoMemory → ⊥) × RefusesSolving s budget first
+    × (line ≡ exact_fault_text_of first)
 
--- a line tells a refusal of a search, which isn't want of memory
+-- a line tells the error of a search, which isn't that of memory
 abbrev pub TellsSolving : ExactFault → List ℕ → Type 0
 TellsSolving first line = (first ≡ exact.NoMemory → ⊥) × (line ≡ exact_fault_text_of first)

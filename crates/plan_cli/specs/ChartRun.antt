@@ -15,24 +15,28 @@ use Rattle.plan_gantt.specs.ShopCharts.{machine_intervals}
 use Rattle.plan_cli.specs.ScheduleRun.{as_available}
 use Rattle.plan_cli.specs.Scheduled.{IsScheduleBy, IsShopScheduleBy}
 
--- a text is the chart of an instance's schedule by the rule of a name: a line for each activity,
--- from 1 on
+-- a text is the chart of an instance's schedule by the rule with this name: a line for each
+-- activity, from 1 on
 pub record IsChartBy (name : List ℕ) (i : Planned) (text : List ℕ) : Type 0 where
   pub starts : List ℕ
   pub schedule : IsScheduleBy name i starts
-  pub shown : text ≡ chart_text (makespan (problem_of i) starts) (activity_intervals i.project.network starts) 1 (count_of i.project.network)
+  pub shown : text ≡ chart_text (makespan (problem_of i) starts)
+      (activity_intervals i.project.network starts) 1 (count_of i.project.network)
 
--- a text is the chart of the project that a file says, against the file's availabilities
+-- a text is the chart of the project in a file, with the capacities of the file
 abbrev pub IsChartOf : List ℕ → List ℕ → List ℕ → Type 0
-IsChartOf name file text = (p : Project) × SaysProject file p × IsChartBy name (as_available p) text
+IsChartOf name file text =
+    (p : Project) × SaysProject file p × IsChartBy name (as_available p) text
 
--- a text is the chart of a shop's schedule by the rule of a name: a line for each machine, from 0
--- on
+-- a text is the chart of a shop's schedule by the rule with this name: a line for each machine,
+-- from 0 on
 pub record IsShopChartBy (name : List ℕ) (s : JobShop) (text : List ℕ) : Type 0 where
   pub starts : List ℕ
   pub schedule : IsShopScheduleBy name s starts
-  pub shown : text ≡ chart_text (makespan (shops.problem_of s) starts) (machine_intervals s starts) 0 s.machines
+  pub shown : text ≡ chart_text (makespan (shops.problem_of s) starts)
+      (machine_intervals s starts) 0 s.machines
 
 -- a text is the chart of the shop of an instance in a file
 abbrev pub IsShopChartOf : List ℕ → List ℕ → List ℕ → List ℕ → Type 0
-IsShopChartOf name instance file text = (doc : docs.Shop) × Says instance file doc × IsShopChartBy name (shop_of doc) text
+IsShopChartOf name instance file text =
+    (doc : docs.Shop) × Says instance file doc × IsShopChartBy name (shop_of doc) text

@@ -3,45 +3,42 @@ use Rattle.std.specs.Prelude.{◌≡◌, ◌⊎◌, ℕ, List}
 use Rattle.plan_net.specs.Network.{count_of}
 use Rattle.plan_psplib.specs.Project.{Project, SaysProject}
 use Rattle.plan_sgs.specs.Problem.{NeedsFit}
-use Rattle.plan_sgs.specs.Instances.{Planned, problem_of, RefusesInstance}
+use Rattle.plan_sgs.specs.Instances.{Planned, problem_of}
 use Rattle.plan_sgs.specs.Verdicts.{IsFirstVerdict}
 use Rattle.plan_sgs.specs.declared.verdict.Verdict.{Verdict}
-use Rattle.plan_sgs.specs.declared.fault.SgsFault.{SgsFault}
 use Rattle.plan_gantt.specs.FirstFaults.{TellsFirstFailing}
-use Rattle.plan_gantt.specs.ScheduleFaultText.{schedule_fault_text_of}
-use Rattle.plan_cli.specs.ScheduleRun.{as_available}
+use Rattle.plan_cli.specs.ScheduleRun.{as_available, TellsNeed}
 use Rattle.plan_cli.specs.Starts.{SaysStarts, TellsNoStarts}
 use Rattle.plan_cli.specs.VerdictText.{verdict_text_of}
 
--- a text tells the first verdict on starts of an instance, of which no need is too much
+-- a text tells the first verdict on starts of an instance whose needs are within its capacities
 pub record TellsVerdict (i : Planned) (starts text : List ℕ) : Type 0 where
   pub fit : NeedsFit (problem_of i)
   pub verdict : Verdict
   pub first : IsFirstVerdict (problem_of i) starts verdict
   pub told : text ≡ verdict_text_of verdict
 
--- a text tells the first verdict on the starts that a text says of an instance
+-- a text tells the first verdict on the starts in a text, for an instance
 abbrev pub TellsVerdictOn : List ℕ → Planned → List ℕ → Type 0
 TellsVerdictOn listed i text =
-    (starts : List ℕ) × SaysStarts (count_of i.project.network) listed starts × TellsVerdict i starts text
+    (starts : List ℕ) × SaysStarts (count_of i.project.network) listed starts
+    × TellsVerdict i starts text
 
--- a text is that for the project that a file says, against the file's availabilities
+-- a text tells it for the project in a file, with the capacities of the file
 abbrev pub IsVerdictOf : List ℕ → List ℕ → List ℕ → Type 0
 IsVerdictOf listed file text =
     (p : Project) × SaysProject file p × TellsVerdictOn listed (as_available p) text
 
--- a line tells the first check that a text of starts fails, of an instance of which no need is too
--- much
+-- a line tells the first check that a text of starts fails, for an instance whose needs are within
+-- its capacities
 abbrev pub TellsBadStarts : List ℕ → Planned → List ℕ → Type 0
 TellsBadStarts listed i line =
     NeedsFit (problem_of i) × TellsNoStarts (count_of i.project.network) listed line
 
--- a line tells why there is no verdict on an instance: a need that is too much, or else the first
+-- a line tells why there is no verdict on an instance: a need above its capacity, or else the first
 -- check that the text of the starts fails
 abbrev pub TellsNoVerdict : List ℕ → Planned → List ℕ → Type 0
-TellsNoVerdict listed i line =
-    ((first : SgsFault) × RefusesInstance i first × (line ≡ schedule_fault_text_of first))
-    ⊎ TellsBadStarts listed i line
+TellsNoVerdict listed i line = TellsNeed i line ⊎ TellsBadStarts listed i line
 
 -- a line tells the first check that a file fails, or else why there is no verdict on its project
 abbrev pub TellsWhyNoVerdict : List ℕ → List ℕ → List ℕ → Type 0

@@ -21,7 +21,7 @@ use Rattle.plan_gantt.specs.ShopText.{TellsNoRule}
 use Rattle.plan_cli.specs.ScheduleRun.{as_available}
 use Rattle.plan_cli.specs.Scheduled.{IsScheduleBy, IsShopScheduleBy}
 
--- a text shows the days of the calendar that two texts spell: its first date, and its marks
+-- a text shows days of the calendar that two texts spell: its first date and its marks
 abbrev pub ShowsDays : List ℕ → List ℕ → (Workdays → List ℕ → Type 0) → List ℕ → Type 0
 ShowsDays start marks IsTable text = (c : Workdays) × IsCalendar start marks c × IsTable c text
 
@@ -30,7 +30,7 @@ abbrev pub TellsNoCalendar : List ℕ → List ℕ → List ℕ → Type 0
 TellsNoCalendar start marks line =
     (first : CalendarFault) × RefusesTexts start marks first × (line ≡ calendar_fault_text_of first)
 
--- a line tells that a day which is to be shown is beyond the calendar
+-- a line tells that a day of the table is beyond the calendar
 abbrev pub TellsBeyond : Type 0 → List ℕ → Type 0
 TellsBeyond HasBeyond line = HasBeyond × (line ≡ calendar_fault_text_of fault.BeyondCalendar)
 
@@ -40,22 +40,22 @@ TellsNoDays start marks HasBeyond line =
     TellsNoCalendar start marks line
     ⊎ ((c : Workdays) × IsCalendar start marks c × TellsBeyond (HasBeyond c) line)
 
--- a line tells a fault of a calendar
+-- a line tells the error of a calendar
 abbrev pub TellsCalendarFault : CalendarFault → List ℕ → Type 0
 TellsCalendarFault first line = line ≡ calendar_fault_text_of first
 
--- a line tells why there is no table of days, which isn't want of memory
+-- a line tells the error of a table of days, which isn't that of memory
 abbrev pub TellsDaysFault : DaysFault → List ℕ → Type 0
 TellsDaysFault first line =
     (first ≡ days.BeyondCalendar) × (line ≡ calendar_fault_text_of fault.BeyondCalendar)
 
--- a text is the table of working days of an instance's schedule by the rule of a name
+-- a text is the table of working days of an instance's schedule by the rule with this name
 pub record IsDaysBy (name start marks : List ℕ) (i : Planned) (text : List ℕ) : Type 0 where
   pub starts : List ℕ
   pub schedule : IsScheduleBy name i starts
   pub shown : ShowsDays start marks (λ c. IsCalendarTable c i.project.network starts) text
 
--- a text is that of the project that a file says, against the file's availabilities
+-- a text is that of the project in a file, with the capacities of the file
 abbrev pub IsDaysOf : List ℕ → List ℕ → List ℕ → List ℕ → List ℕ → Type 0
 IsDaysOf name start marks file text =
     (p : Project) × SaysProject file p × IsDaysBy name start marks (as_available p) text
@@ -66,7 +66,7 @@ pub record HidesDays (name start marks : List ℕ) (i : Planned) (line : List �
   pub schedule : IsScheduleBy name i starts
   pub hidden : TellsNoDays start marks (λ c. HasActivityBeyond c i.project.network starts) line
 
--- a line tells what an instance is refused for, or else why the days of its schedule aren't shown
+-- a line tells why an instance is refused, or else why the days of its schedule aren't shown
 abbrev pub TellsNoProjectDays : List ℕ → List ℕ → List ℕ → Planned → List ℕ → Type 0
 TellsNoProjectDays name start marks i line =
     TellsRefusal name i line ⊎ HidesDays name start marks i line
@@ -74,9 +74,10 @@ TellsNoProjectDays name start marks i line =
 -- a line tells the first check that a file fails, or else why there are no days of its project
 abbrev pub TellsWhyNoDays : List ℕ → List ℕ → List ℕ → List ℕ → List ℕ → Type 0
 TellsWhyNoDays name start marks file line = TellsFirstFailing file line
-    ⊎ ((p : Project) × SaysProject file p × TellsNoProjectDays name start marks (as_available p) line)
+    ⊎ ((p : Project) × SaysProject file p
+    × TellsNoProjectDays name start marks (as_available p) line)
 
--- a text is the table of working days of a shop's schedule by the rule of a name
+-- a text is the table of working days of a shop's schedule by the rule with this name
 pub record IsShopDaysBy (name start marks : List ℕ) (s : JobShop) (text : List ℕ) : Type 0 where
   pub starts : List ℕ
   pub schedule : IsShopScheduleBy name s starts
@@ -93,11 +94,13 @@ pub record HidesShopDays (name start marks : List ℕ) (s : JobShop) (line : Lis
   pub schedule : IsShopScheduleBy name s starts
   pub hidden : TellsNoDays start marks (λ c. HasStepBeyond c s starts) line
 
--- a line tells that no rule has the name, or else why the days of a shop's schedule aren't shown
+-- a line tells that no rule has this name, or else why the days of a shop's schedule aren't shown
 abbrev pub TellsNoShopDays : List ℕ → List ℕ → List ℕ → JobShop → List ℕ → Type 0
-TellsNoShopDays name start marks s line = TellsNoRule name line ⊎ HidesShopDays name start marks s line
+TellsNoShopDays name start marks s line =
+    TellsNoRule name line ⊎ HidesShopDays name start marks s line
 
 -- a line tells the first check that a file fails, or else why there are no days of its shop
 abbrev pub TellsWhyNoShopDays : List ℕ → List ℕ → List ℕ → List ℕ → List ℕ → List ℕ → Type 0
 TellsWhyNoShopDays name start marks instance file line = TellsFirstShopFault instance file line
-    ⊎ ((doc : docs.Shop) × Says instance file doc × TellsNoShopDays name start marks (shop_of doc) line)
+    ⊎ ((doc : docs.Shop) × Says instance file doc
+    × TellsNoShopDays name start marks (shop_of doc) line)

@@ -1,15 +1,17 @@
--- The text of what is proved of a job shop (docs/definitions.md, "Texts").
+-- The text of a schedule of a job shop and its lower bound (docs/definitions.md, "Texts").
 use Rattle.std.specs.Prelude.{◌≡◌, ◌<◌, ◌⊎◌, ℕ, List, ◌++◌, codes}
 use Rattle.std.specs.Fmt.{decimal}
 use Rattle.plan_shop.specs.Shop.{JobShop}
 use Rattle.plan_prove.specs.declared.proof.Proof.{Proof}
 use Rattle.plan_gantt.specs.ShopTable.{shop_table_text}
 
--- a line says that a makespan is the least, since the lower bound reaches it; or else between which
--- two numbers the least lies
+-- a line tells that a makespan is the least because the lower bound reaches it, or else the two
+-- numbers between which the least makespan lies
 abbrev pub IsBoundLine : ℕ → ℕ → List ℕ → Type 0
-IsBoundLine lower makespan line = ((lower ≡ makespan) × (line ≡ codes "optimal " ++ decimal makespan ++ codes "\n"))
-    ⊎ ((lower < makespan) × (line ≡ codes "between " ++ decimal lower ++ codes " " ++ decimal makespan ++ codes "\n"))
+IsBoundLine lower makespan line =
+    ((lower ≡ makespan) × (line ≡ codes "optimal " ++ decimal makespan ++ codes "\n"))
+    ⊎ ((lower < makespan)
+    × (line ≡ codes "between " ++ decimal lower ++ codes " " ++ decimal makespan ++ codes "\n"))
 
 -- a text is that line, and then the table of the schedule
 abbrev pub ShowsProof : JobShop → Proof → List ℕ → Type 0

@@ -12,29 +12,33 @@ use Rattle.plan_gantt.specs.FirstFaults.{TellsFirstShopFault}
 use Rattle.plan_cli.specs.ProofText.{ShowsProof}
 
 -- a text shows an active schedule of a shop, and a lower bound of the makespans of all feasible
--- ones, that were found within a number of nodes; where the two meet the schedule is a shortest one
+-- ones, which were found within a number of nodes; if they meet, the schedule is a shortest one
 pub record IsProvedOf (nodes : ℕ) (s : JobShop) (text : List ℕ) : Type 0 where
   pub proof : Proof
   pub active : IsActive (problem_of s) proof.schedule.starts.items
   pub makespan : proof.schedule.makespan ≡ makespan (problem_of s) proof.schedule.starts.items
   pub lower : IsLowerBound s proof.lower
   pub visited : proof.nodes ≤ nodes
-  pub shortest : proof.lower ≡ proof.schedule.makespan → IsShortest (problem_of s) proof.schedule.starts.items
+  pub shortest : proof.lower ≡ proof.schedule.makespan →
+      IsShortest (problem_of s) proof.schedule.starts.items
   pub shown : ShowsProof s proof text
 
--- the same, within the number of nodes that a word spells
+-- the same, within the number of nodes that an argument spells
 abbrev pub IsProofTextOf : List ℕ → JobShop → List ℕ → Type 0
-IsProofTextOf word s text = (nodes : ℕ) × IsNodesText word nodes × IsProvedOf nodes s text
+IsProofTextOf argument s text = (nodes : ℕ) × IsNodesText argument nodes × IsProvedOf nodes s text
 
 -- a text tells what is proved of an instance in a file
 abbrev pub IsProofTableOf : List ℕ → List ℕ → List ℕ → List ℕ → Type 0
-IsProofTableOf word instance file text = (doc : docs.Shop) × Says instance file doc × IsProofTextOf word (shop_of doc) text
+IsProofTableOf argument instance file text =
+    (doc : docs.Shop) × Says instance file doc × IsProofTextOf argument (shop_of doc) text
 
--- a line tells that a word spells no number of nodes
+-- a line tells that an argument spells no number of nodes
 abbrev pub TellsNoNodes : List ℕ → List ℕ → Type 0
-TellsNoNodes word line = ((nodes : ℕ) → IsNodesText word nodes → ⊥) × (line ≡ codes "S7 nodes")
+TellsNoNodes argument line =
+    ((nodes : ℕ) → IsNodesText argument nodes → ⊥) × (line ≡ codes "S7 nodes")
 
--- a line tells the first check that a file fails, or else that a word spells no number of nodes
+-- a line tells the first check that a file fails, or else that an argument spells no number of
+-- nodes
 abbrev pub TellsWhyNoProof : List ℕ → List ℕ → List ℕ → List ℕ → Type 0
-TellsWhyNoProof word instance file line = TellsFirstShopFault instance file line
-    ⊎ ((doc : docs.Shop) × Says instance file doc × TellsNoNodes word line)
+TellsWhyNoProof argument instance file line = TellsFirstShopFault instance file line
+    ⊎ ((doc : docs.Shop) × Says instance file doc × TellsNoNodes argument line)

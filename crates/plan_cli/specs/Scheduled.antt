@@ -1,4 +1,4 @@
--- Schedules by the rule of a name that texts can show (docs/definitions.md, "Runs").
+-- Schedules by the rule with a name that texts can show (docs/definitions.md, "Runs").
 use Rattle.std.specs.Prelude.{◌≡◌, ℕ, ◌≤◌, List, length, EachIndex, slice_index}
 use Rattle.plan_net.specs.Network.{count_of}
 use Rattle.plan_sgs.specs.Problem.{IsActive, makespan}
@@ -14,27 +14,28 @@ use Rattle.plan_gantt.specs.Limits.{latest_start, latest_end}
 use Rattle.plan_gantt.specs.ScheduleText.{IsSchedule}
 use Rattle.plan_gantt.specs.ShopText.{rule_starts}
 
--- the starts are those of the active schedule of an instance by the rule of a name
+-- the starts are those of the active schedule of an instance by the rule with this name
 pub record IsScheduleBy (name : List ℕ) (i : Planned) (starts : List ℕ) : Type 0 where
   pub rule : Rule
   pub named : name ≡ rule_text rule
   pub schedule : IsSchedule i rule starts
 
--- the starts are those of the active schedule of a shop by the rule of a name, all machines open
+-- the starts are those of the active schedule of a shop, all machines open, by the rule with this
+-- name
 pub record IsShopScheduleBy (name : List ℕ) (s : JobShop) (starts : List ℕ) : Type 0 where
   pub rule : ShopRule
   pub named : name ≡ shop_names.rule_text rule
   pub starts_are : starts ≡ rule_starts rule s
   pub active : IsActive (shops.problem_of s) starts
 
--- a schedule of so many activities or steps, which texts can show
+-- a schedule of `count` activities or steps that texts can show
 pub record CanBeShown (count : ℕ) (schedule : Schedule) : Type 0 where
   pub each_started : length schedule.starts.items ≡ count
   pub in_time : EachIndex schedule.starts.items (λ k.
       slice_index schedule.starts.items k ≤ latest_start)
   pub ends : schedule.makespan ≤ latest_end
 
--- the schedule of an instance by a rule, as code keeps it
+-- the schedule of an instance by a rule, with its makespan
 pub record IsMadeBy (rule : Rule) (i : Planned) (schedule : Schedule) : Type 0 where
   pub by : IsSchedule i rule schedule.starts.items
   pub makespan : schedule.makespan ≡ makespan (problem_of i) schedule.starts.items
@@ -44,7 +45,7 @@ pub record IsMadeBy (rule : Rule) (i : Planned) (schedule : Schedule) : Type 0 w
 abbrev pub IsMade : List ℕ → Planned → Schedule → Type 0
 IsMade name i schedule = (rule : Rule) × (name ≡ rule_text rule) × IsMadeBy rule i schedule
 
--- the schedule of a shop by a rule, as code keeps it
+-- the schedule of a shop by a rule, with its makespan
 pub record IsMadeOfShopBy (rule : ShopRule) (s : JobShop) (schedule : Schedule) : Type 0 where
   pub starts_are : schedule.starts.items ≡ rule_starts rule s
   pub active : IsActive (shops.problem_of s) schedule.starts.items

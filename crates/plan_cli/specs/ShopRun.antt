@@ -9,15 +9,17 @@ use Rattle.plan_gantt.specs.FirstFaults.{TellsFirstShopFault}
 use Rattle.plan_gantt.specs.ShopText.{IsShopTextOf, TellsNoRule}
 use Rattle.plan_gantt.specs.ShopFaultText.{shop_fault_text_of}
 
--- a text is the table of the shop of an instance in a file, by the rule of a name
+-- a text is the table of the shop of an instance in a file, by the rule with this name
 abbrev pub IsShopTableOf : List ℕ → List ℕ → List ℕ → List ℕ → Type 0
-IsShopTableOf name instance file text = (doc : docs.Shop) × Says instance file doc × IsShopTextOf name (shop_of doc) text
+IsShopTableOf name instance file text =
+    (doc : docs.Shop) × Says instance file doc × IsShopTextOf name (shop_of doc) text
 
--- a line tells the first check that a file fails, or else, all machines being open, that no rule has the name
+-- a line tells the first check that a file fails, or else that no rule has this name: all machines
+-- are open
 abbrev pub TellsWhyNoShop : List ℕ → List ℕ → List ℕ → List ℕ → Type 0
 TellsWhyNoShop name instance file line = TellsFirstShopFault instance file line
     ⊎ ((doc : docs.Shop) × Says instance file doc × TellsNoRule name line)
 
--- a line tells a fault of a shop, which isn't want of memory
+-- a line tells the error of a shop, which isn't that of memory
 abbrev pub TellsShop : ShopFault → List ℕ → Type 0
 TellsShop first line = (first ≡ shops.NoMemory → ⊥) × (line ≡ shop_fault_text_of first)

@@ -1,5 +1,7 @@
--- What is made of a file that is given by its name (docs/definitions.md, "Runs").
-use Rattle.std.specs.Prelude.{◌≡◌, ℕ, ◌+◌, ◌≤◌, List, Option, Result, Err, IfSome, length, take, codes, bytes_eq, if◌then◌else◌}
+-- The texts and lines of each task, and files that are given by their names (docs/definitions.md,
+-- "Runs").
+use Rattle.std.specs.Prelude.{◌≡◌, ℕ, ◌+◌, ◌≤◌, List, Option, Result, Err, IfSome, length, take}
+use Rattle.std.specs.Prelude.{codes, bytes_eq, if◌then◌else◌}
 use Rattle.plan_gantt.specs.FirstFaults.{TellsFirstFailing}
 use Rattle.plan_cli.specs.Run.{IsDateTableOf, ReadsFront}
 use Rattle.plan_cli.specs.ScheduleRun.{IsScheduleTableOf, TellsWhyNoSchedule}
@@ -11,6 +13,7 @@ use Rattle.plan_cli.specs.ShopRun.{IsShopTableOf, TellsWhyNoShop}
 use Rattle.plan_cli.specs.BestRun.{IsBestTableOf, TellsWhyNoBest}
 use Rattle.plan_cli.specs.ProveRun.{IsProofTableOf, TellsWhyNoProof}
 use Rattle.plan_cli.specs.BestProjectRun.{IsBestProjectTableOf, TellsWhyNoBestProject}
+use Rattle.plan_cli.specs.declared.inputs.Inputs as inputs
 use Rattle.plan_cli.specs.declared.tasks.Task.{Task}
 use Rattle.plan_cli.specs.declared.tasks.Task.TheVariants as task
 use Rattle.plan_psplib.specs.Plain.{longest_text}
@@ -24,7 +27,8 @@ IsTextOf (task.Schedule rule) = IsScheduleTableOf rule.now
 IsTextOf (task.Chart rule) = IsChartOf rule.now
 IsTextOf (task.ShopChart rule instance) = IsShopChartOf rule.now instance.now
 IsTextOf (task.Days rule start marks) = IsDaysOf rule.now start.now marks.now
-IsTextOf (task.ShopDays rule start marks instance) = IsShopDaysOf rule.now start.now marks.now instance.now
+IsTextOf (task.ShopDays rule start marks instance) =
+    IsShopDaysOf rule.now start.now marks.now instance.now
 IsTextOf task.Names = AreNamesOf
 IsTextOf (task.Check starts) = IsVerdictOf starts.now
 IsTextOf (task.Shop rule instance) = IsShopTableOf rule.now instance.now
@@ -39,7 +43,8 @@ IsLineOf (task.Schedule rule) = TellsWhyNoSchedule rule.now
 IsLineOf (task.Chart rule) = TellsWhyNoSchedule rule.now
 IsLineOf (task.ShopChart rule instance) = TellsWhyNoShop rule.now instance.now
 IsLineOf (task.Days rule start marks) = TellsWhyNoDays rule.now start.now marks.now
-IsLineOf (task.ShopDays rule start marks instance) = TellsWhyNoShopDays rule.now start.now marks.now instance.now
+IsLineOf (task.ShopDays rule start marks instance) =
+    TellsWhyNoShopDays rule.now start.now marks.now instance.now
 IsLineOf task.Names = TellsNotPlain
 IsLineOf (task.Check starts) = TellsWhyNoVerdict starts.now
 IsLineOf (task.Shop rule instance) = TellsWhyNoShop rule.now instance.now
@@ -47,25 +52,36 @@ IsLineOf (task.Best budget instance) = TellsWhyNoBest budget.now instance.now
 IsLineOf (task.Prove nodes instance) = TellsWhyNoProof nodes.now instance.now
 IsLineOf (task.BestProject budget) = TellsWhyNoBestProject budget.now
 
--- A task judges what was read of a file, which begins the file where its bytes are known; unless the
--- input failed or memory ran out.
-abbrev pub DoesTask : Task → Option (List ℕ) → Option (List ℕ) → Option (List ℕ) → Result (Unit {0}) CliFault → Type 0
+-- unless the input fails or memory runs out, a task writes its text or line for the bytes that were
+-- read, the first of the file if its bytes are known
+abbrev pub DoesTask : Task → Option (List ℕ) → Option (List ℕ) → Option (List ℕ)
+    → Result (Unit {0}) CliFault → Type 0
 DoesTask task file taken after result =
-    (rest : Option (List ℕ)) × ReadsFront (IsTextOf task) (IsLineOf task) file rest taken after result
+    (rest : Option (List ℕ))
+    × ReadsFront (IsTextOf task) (IsLineOf task) file rest taken after result
 
--- these bytes are those of a file, where they are known, up to one more than the longest text has
+-- these bytes are the first of a file, if its bytes are known: at most one more than the longest
+-- text has
 abbrev pub AreRead : List ℕ → Option (List ℕ) → Type 0
 AreRead read file = IfSome file (λ bytes. read ≡ take (longest_text + 1) bytes)
 
--- Some bytes of starts were read, at most one more than the longest text has, and what was read of a
--- project is judged for them; unless the input failed or memory ran out.
-abbrev pub DoesCheck : Option (List ℕ) → Option (List ℕ) → Option (List ℕ) → Option (List ℕ) → Result (Unit {0}) CliFault → Type 0
+-- unless the input fails or memory runs out, the verdict is on the bytes of starts that were read,
+-- at most one more than the longest text has, for the bytes of a project that were read
+abbrev pub DoesCheck : Option (List ℕ) → Option (List ℕ) → Option (List ℕ) → Option (List ℕ)
+    → Result (Unit {0}) CliFault → Type 0
 DoesCheck starts file taken after (Err fault.Memory) = Unit {0}
 DoesCheck starts file taken after (Err fault.Input) = Unit {0}
-DoesCheck starts file taken after result = (listed : List ℕ) × (length listed ≤ longest_text + 1) × AreRead listed starts
-    × ((rest : Option (List ℕ)) × ReadsFront (IsVerdictOf listed) (TellsWhyNoVerdict listed) file rest taken after result)
+DoesCheck starts file taken after result =
+    (listed : List ℕ) × (length listed ≤ longest_text + 1) × AreRead listed starts
+    × ((rest : Option (List ℕ))
+    × ReadsFront (IsVerdictOf listed) (TellsWhyNoVerdict listed) file rest taken after result)
 
--- the bytes that a name stands for, where they are known: those of standard input for `-`, else those
--- of the file of that name
+-- the bytes that a name stands for, if they are known: those of standard input for `-`, else those
+-- of the file with this name
 abbrev pub bytes_named : Option (List ℕ) → (List ℕ → Option (List ℕ)) → List ℕ → Option (List ℕ)
 bytes_named standard file_of name = if bytes_eq name (codes "-") then standard else file_of name
+
+-- the bytes that a name stands for among these inputs, if they are known
+module _ {I File Standard : Type 0} (ghosts : inputs.Ghosts I File Standard) where
+  abbrev pub bytes_behind : I → List ℕ → Option (List ℕ)
+  bytes_behind input = bytes_named (ghosts.standard_bytes input) (ghosts.file_bytes input)

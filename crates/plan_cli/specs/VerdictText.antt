@@ -7,11 +7,14 @@ use Rattle.plan_sgs.specs.declared.verdict.Verdict.TheVariants.{Arc, Over, Shift
 -- an activity starts before its predecessor ends
 abbrev pub broken_text : ℕ → ℕ → List ℕ
 broken_text activity predecessor =
-    codes "activity " ++ decimal activity ++ codes " starts before " ++ decimal predecessor ++ codes " ends"
+    codes "activity " ++ decimal activity ++ codes " starts before " ++ decimal predecessor
+    ++ codes " ends"
 
--- at t more of k is needed than there is
+-- at time t more of resource k is in use than its capacity
 abbrev pub over_text : ℕ → ℕ → List ℕ
-over_text t k = codes "at time " ++ decimal t ++ codes " more of resource " ++ decimal k ++ codes " is needed than there is"
+over_text t k =
+    codes "at time " ++ decimal t ++ codes " more of resource " ++ decimal k
+    ++ codes " is needed than there is"
 
 -- a verdict in a sentence
 abbrev pub sentence_of : Verdict → List ℕ

@@ -1,15 +1,16 @@
-//! Why a command failed.
+//! The error of a command, as one line of text.
 
 ghost use Rattle.std.specs.Prelude.{◌≡◌, IfOk, IfErr};
 ghost use Rattle.plan_cli.specs.declared.fault.CliFault.TheVariants.{Memory};
 
+use plan_io::InputError;
 use std::alloc::AllocError;
 use thiserror::Error;
 
-/// Why a command failed: one line of text.
+/// The error of a command.
 #[derive(Debug, Drop, Error)]
 pub enum CliFault {
-    /// What the file, or what is asked of it, is refused for, as `F9 line 31` or `S3 unknown rule`.
+    /// The file or an argument is invalid, with a line such as `F9 line 31` or `S3 unknown rule`.
     #[error("{0}")]
     Refused(String),
     /// Memory ran out.
@@ -27,7 +28,7 @@ impl CliFault {
     ghost use Rattle.std.specs.Prelude.{◌≡◌};
     ghost use Rattle.plan_cli.specs.Faults.{line_of};
 
-    /// The line, without its end.
+    /// Returns the line without its end.
     pub fn line(&self) -> &str
         ensures { result.now ≡ line_of self.now }
     {
@@ -40,7 +41,7 @@ impl CliFault {
     }
 }
 
-// The refusal by a line, or want of memory where there was none for the line.
+/// Returns the error with this line, or the error of memory if there was none for the line.
 pub(crate) fn refusal_by(line: Result<String, AllocError>) -> CliFault
     ensures line { IfOk line (λ text. result ≡ CliFault.Refused text) }
     ensures memory { IfErr line (λ _. result ≡ Memory) }
@@ -48,6 +49,20 @@ pub(crate) fn refusal_by(line: Result<String, AllocError>) -> CliFault
     match line {
         Ok(line) => CliFault::Refused(line),
         Err(_) => CliFault::Memory,
+    }
+}
+
+impl From<InputError> for CliFault {
+    ghost use Rattle.std.specs.Prelude.{◌≡◌};
+    ghost use Rattle.plan_cli.specs.Faults.{input_fault};
+
+    ghost from_gives = { λ error e. e ≡ input_fault error };
+
+    fn from(error: InputError) -> CliFault {
+        match error {
+            InputError::Memory => CliFault::Memory,
+            InputError::Failed => CliFault::Input,
+        }
     }
 }
 

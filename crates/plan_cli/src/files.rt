@@ -1,23 +1,24 @@
-//! Commands on a file that is given by its name.
+//! Tasks on files that are given by their names.
 
-ghost use Rattle.std.specs.Prelude.{◌≡◌, ◌⊎◌, ◌+◌, ◌≤◌, length, None, IfOk, IfErr, IsErrOf, OnOk};
-ghost use Rattle.plan_io.specs.Devices.{most_calls, HasFailed};
+ghost use Rattle.std.specs.Prelude.{◌≡◌, ◌⊎◌, ◌+◌, ◌≤◌, length, None};
+ghost use Rattle.std.specs.Prelude.{IfOk, IfErr, IsErrOf, OnOk};
+ghost use Rattle.plan_io.specs.Devices.{most_calls};
 ghost use Rattle.plan_psplib.specs.Plain.{longest_text};
-ghost use Rattle.plan_cli.specs.Tasks.{DoesTask, DoesCheck, AreRead, bytes_named};
+ghost use Rattle.plan_cli.specs.Run.{HasSinkFailed};
+ghost use Rattle.plan_cli.specs.Tasks.{DoesTask, DoesCheck, AreRead, bytes_behind};
 
-use crate::command::run_command;
+use crate::bytes::read_file;
 use crate::fault::CliFault;
 use crate::inputs::{Inputs, SystemInputs};
-use crate::reading::read_file;
+use crate::runs::run_task;
 use crate::tasks::Task;
 use plan_io::Sink;
 use plan_prove::{Unwatched, Watcher};
 use std::alloc::Global;
 use std::rt::Files;
 
-/// Does a task, by the run of its command, on the file of this name, or on standard input if the name
-/// is `-`; a watcher is told how far a proof is. A file that can't be opened or read is
-/// [`CliFault::Input`].
+/// Runs a task on the file with this name, or on standard input if the name is `-`. The watcher is
+/// called during a proof. A file that can't be opened or read is [`CliFault::Input`].
 pub fn run_on_named<I: Inputs, W: Sink, V: Watcher>(
     alloc: Global,
     inputs: &I,
@@ -26,33 +27,34 @@ pub fn run_on_named<I: Inputs, W: Sink, V: Watcher>(
     path: &str,
     writer: &mut W,
 ) -> Result<(), CliFault>
-    // What is written is what the task makes of the bytes of that file, or of standard input.
-    ensures does { DoesTask task.entry (bytes_named (I.standard_bytes inputs.now) (I.file_bytes inputs.now) path.now) (W.taken writer.old) (W.taken writer.new) result }
+    // The text of the task is written for the bytes of that file, or of standard input.
+    ensures does { DoesTask task.entry (bytes_behind I.Inputs inputs.now path.now)
+        (W.taken writer.old) (W.taken writer.new) result }
     ensures writes { W.calls writer.new ≤ W.calls writer.old + most_calls }
-    // Nothing is written with any other fault than that of the output.
+    // With any other error than that of the output, nothing is written.
     ensures quiet { IfErr result (λ e. (e ≡ CliFault.Output) ⊎ (writer.new ≡ writer.old)) }
     ensures fine { OnOk result (W.faults writer.new ≡ W.faults writer.old) }
-    ensures output { IsErrOf result CliFault.Output →
-        HasFailed (W.calls writer.old) (W.calls writer.new) (W.faults writer.old) (W.faults writer.new) }
+    ensures output { IsErrOf result CliFault.Output → HasSinkFailed W.Sink writer.old writer.new }
 {
     if path == "-" {
         let mut reader = inputs.standard();
-        return run_command(alloc, task, watcher, &mut reader, writer);
+        return run_task(alloc, task, watcher, &mut reader, writer);
     }
     match inputs.open(path) {
         Err(fault) => Err(fault),
         Ok(file) => {
             let mut reader = file;
-            run_command(alloc, task, watcher, &mut reader, writer)
+            run_task(alloc, task, watcher, &mut reader, writer)
         }
     }
 }
 
-// The bytes of the file of this name, up to one more than the longest text has, or of standard input
-// if the name is `-`.
+// Reads the file with this name, or standard input if the name is `-`: at most one byte more than
+// the longest text has.
 fn read_named<I: Inputs>(alloc: Global, inputs: &I, name: &str) -> Result<Vec<u8>, CliFault>
     ensures short { IfOk result (λ bytes. length bytes.items ≤ longest_text + 1) }
-    ensures bytes { IfOk result (λ read. AreRead read.items (bytes_named (I.standard_bytes inputs.now) (I.file_bytes inputs.now) name.now)) }
+    ensures bytes { IfOk result (λ read.
+        AreRead read.items (bytes_behind I.Inputs inputs.now name.now)) }
     ensures refused { IfErr result (λ e. (e ≡ CliFault.Memory) ⊎ (e ≡ CliFault.Input)) }
 {
     if name == "-" {
@@ -67,8 +69,9 @@ fn read_named<I: Inputs>(alloc: Global, inputs: &I, name: &str) -> Result<Vec<u8
     }
 }
 
-/// Does `plan check` on the files of these names; one of them may be `-`, which is standard input. The
-/// file of the starts is read first. A file that can't be opened or read is [`CliFault::Input`].
+/// Runs [`Task::Check`] on the files with these names, one of which may be `-` for standard input.
+/// The file of the starts is read first. A file that can't be opened or read is
+/// [`CliFault::Input`].
 pub fn check_on_named<I: Inputs, W: Sink>(
     alloc: Global,
     inputs: &I,
@@ -76,27 +79,23 @@ pub fn check_on_named<I: Inputs, W: Sink>(
     starts_path: &str,
     writer: &mut W,
 ) -> Result<(), CliFault>
-    // What is written is the verdict on the starts of the one file, of the project of the other.
-    ensures does { DoesCheck (bytes_named (I.standard_bytes inputs.now) (I.file_bytes inputs.now) starts_path.now)
-        (bytes_named (I.standard_bytes inputs.now) (I.file_bytes inputs.now) path.now)
+    // The verdict is on the starts in the one file, for the project in the other.
+    ensures does { DoesCheck
+        (bytes_behind I.Inputs inputs.now starts_path.now)
+        (bytes_behind I.Inputs inputs.now path.now)
         (W.taken writer.old) (W.taken writer.new) result }
     ensures writes { W.calls writer.new ≤ W.calls writer.old + most_calls }
-    // Nothing is written with any other fault than that of the output.
+    // With any other error than that of the output, nothing is written.
     ensures quiet { IfErr result (λ e. (e ≡ CliFault.Output) ⊎ (writer.new ≡ writer.old)) }
     ensures fine { OnOk result (W.faults writer.new ≡ W.faults writer.old) }
-    ensures output { IsErrOf result CliFault.Output →
-        HasFailed (W.calls writer.old) (W.calls writer.new) (W.faults writer.old) (W.faults writer.new) }
+    ensures output { IsErrOf result CliFault.Output → HasSinkFailed W.Sink writer.old writer.new }
 {
-    match read_named(alloc, inputs, starts_path) {
-        Ok(starts) => {
-            let task = Task::Check { starts: &starts };
-            run_on_named(alloc, inputs, task, &mut Unwatched, path, writer)
-        }
-        Err(fault) => Err(fault),
-    }
+    let starts = read_named(alloc, inputs, starts_path)?;
+    let task = Task::Check { starts: &starts };
+    run_on_named(alloc, inputs, task, &mut Unwatched, path, writer)
 }
 
-/// The same as [`run_on_named`], of the system's files and standard input.
+/// Calls [`run_on_named`] with the system's files and standard input.
 pub fn run_on_file<R: Files + Input + AllocGlobal, W: Sink, V: Watcher>(
     rt: &R,
     task: Task<'_>,
@@ -104,14 +103,13 @@ pub fn run_on_file<R: Files + Input + AllocGlobal, W: Sink, V: Watcher>(
     path: &str,
     writer: &mut W,
 ) -> Result<(), CliFault>
-    // What is written is what the task makes of the bytes that were read.
+    // The text of the task is written for the bytes that were read.
     ensures does { DoesTask task.entry None (W.taken writer.old) (W.taken writer.new) result }
     ensures writes { W.calls writer.new ≤ W.calls writer.old + most_calls }
-    // Nothing is written with any other fault than that of the output.
+    // With any other error than that of the output, nothing is written.
     ensures quiet { IfErr result (λ e. (e ≡ CliFault.Output) ⊎ (writer.new ≡ writer.old)) }
     ensures fine { OnOk result (W.faults writer.new ≡ W.faults writer.old) }
-    ensures output { IsErrOf result CliFault.Output →
-        HasFailed (W.calls writer.old) (W.calls writer.new) (W.faults writer.old) (W.faults writer.new) }
+    ensures output { IsErrOf result CliFault.Output → HasSinkFailed W.Sink writer.old writer.new }
 {
     run_on_named(
         rt.alloc(),
@@ -123,21 +121,20 @@ pub fn run_on_file<R: Files + Input + AllocGlobal, W: Sink, V: Watcher>(
     )
 }
 
-/// The same as [`check_on_named`], of the system's files and standard input.
+/// Calls [`check_on_named`] with the system's files and standard input.
 pub fn check_on_files<R: Files + Input + AllocGlobal, W: Sink>(
     rt: &R,
     path: &str,
     starts_path: &str,
     writer: &mut W,
 ) -> Result<(), CliFault>
-    // What is written is the verdict on the starts that were read, of the project that was read.
+    // The verdict is on the starts that were read, for the project that was read.
     ensures does { DoesCheck None None (W.taken writer.old) (W.taken writer.new) result }
     ensures writes { W.calls writer.new ≤ W.calls writer.old + most_calls }
-    // Nothing is written with any other fault than that of the output.
+    // With any other error than that of the output, nothing is written.
     ensures quiet { IfErr result (λ e. (e ≡ CliFault.Output) ⊎ (writer.new ≡ writer.old)) }
     ensures fine { OnOk result (W.faults writer.new ≡ W.faults writer.old) }
-    ensures output { IsErrOf result CliFault.Output →
-        HasFailed (W.calls writer.old) (W.calls writer.new) (W.faults writer.old) (W.faults writer.new) }
+    ensures output { IsErrOf result CliFault.Output → HasSinkFailed W.Sink writer.old writer.new }
 {
     check_on_named(
         rt.alloc(),

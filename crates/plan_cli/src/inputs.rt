@@ -1,4 +1,4 @@
-//! Where the bytes of a command come from: files by their names, and standard input.
+//! The inputs of a task: files by their names, and standard input.
 
 ghost use Rattle.std.specs.Prelude.{◌≡◌, ◌⊎◌, ◌↔◌, ℕ, List, Option, Some, IfOk, IfErr, IfSome};
 ghost use Rattle.std.specs.IoError.{error_kind};
@@ -15,31 +15,34 @@ pub trait Inputs {
 
     type Standard: Source + Drop;
 
-    /// The bytes of the file of a name, where they are known.
+    /// The bytes of the file with a name, if they are known.
     ghost file_bytes: { Self → List ℕ → Option (List ℕ) };
 
-    /// The bytes that come from standard input, where they are known.
+    /// The bytes of standard input, if they are known.
     ghost standard_bytes: { Self → Option (List ℕ) };
 
-    /// Opens the file of a name, of which nothing is read yet.
+    /// Opens the file with this name, at its first byte.
     fn open(&self, path: &str) -> Result<Self::File, CliFault>
-        ensures opened { IfOk result (λ file. IfSome (file_bytes self.now path.now) (λ bytes. Self.File.remaining file ≡ Some bytes)) }
+        ensures opened { IfOk result (λ file. IfSome (file_bytes self.now path.now) (λ bytes.
+            Self.File.remaining file ≡ Some bytes)) }
         ensures refused { IfErr result (λ e. (e ≡ CliFault.Memory) ⊎ (e ≡ CliFault.Input)) };
 
-    /// Standard input.
+    /// Returns standard input.
     fn standard(&self) -> Self::Standard
-        ensures { IfSome (standard_bytes self.now) (λ bytes. Self.Standard.remaining result ≡ Some bytes) };
+        ensures { IfSome (standard_bytes self.now) (λ bytes.
+            Self.Standard.remaining result ≡ Some bytes) };
 }
 
-/// The files and the standard input of the system. Which bytes they have no contract can say.
+/// The files and the standard input of the system. Their bytes are unknown to contracts.
 #[derive(Drop)]
 pub(crate) struct SystemInputs<'a, R> {
     rt: &'a R,
 }
 
-// Why a file can't be opened.
+// Returns the error of a file that can't be opened.
 fn open_fault(error: &io::Error) -> CliFault
-    ensures memory { (result ≡ CliFault.Memory) ↔ (error_kind error.now ≡ ErrorKind.OutOfMemory) }
+    ensures memory { (result ≡ CliFault.Memory)
+        ↔ (error_kind error.now ≡ ErrorKind.OutOfMemory) }
     ensures input { (result ≡ CliFault.Memory) ⊎ (result ≡ CliFault.Input) }
 {
     if error.kind() == ErrorKind::OutOfMemory {
@@ -66,10 +69,8 @@ impl<'a, R: Files + Input> Inputs for SystemInputs<'a, R> {
     ghost standard_bytes = { λ _. None };
 
     fn open(&self, path: &str) -> Result<StdSource<R::File>, CliFault> {
-        match fs::open(self.rt, path) {
-            Ok(file) => Ok(StdSource::new(file)),
-            Err(error) => Err(open_fault(&error)),
-        }
+        let file = fs::open(self.rt, path).map_err(|error| open_fault(&error))?;
+        Ok(StdSource::new(file))
     }
 
     fn standard(&self) -> StdSource<R::Reader> {

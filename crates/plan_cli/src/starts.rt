@@ -1,6 +1,7 @@
-//! A text of starts: one number a word, a start for each activity.
+//! A text of starts: one number for each activity, in order.
 
-ghost use Rattle.std.specs.Prelude.{◌≡◌, ℕ, List, [], true, false, IfOk, IfErr, MatchResult, string_bytes};
+ghost use Rattle.std.specs.Prelude.{◌≡◌, ℕ, List, [], true, false, IfOk, IfErr, MatchResult};
+ghost use Rattle.std.specs.Prelude.{string_bytes};
 ghost use Rattle.plan_psplib.specs.Tokens.{Gives};
 ghost use Rattle.plan_cli.specs.Run.{Refuses};
 ghost use Rattle.plan_cli.specs.Starts as spec;
@@ -16,7 +17,7 @@ use std::alloc::{AllocError, Global};
 /// The latest start, in whole time units.
 const LATEST_START: u64 = 10_000_000;
 
-/// All lines of a text.
+/// The layout in which every line of a text belongs to the section.
 #[derive(Drop)]
 struct AllLines;
 
@@ -34,43 +35,43 @@ impl Layout for AllLines {
     }
 }
 
-// All words of a text.
+// Returns all tokens of a text.
 #[tactic(auto, using(crate::proofs::StartLemmas::all_rows))]
-fn all_words(text: &[u8]) -> StreamWords<'_, AllLines>
-    ensures { result ≡ spec.all_words text.now }
+fn all_tokens(text: &[u8]) -> StreamWords<'_, AllLines>
+    ensures { result ≡ spec.all_tokens text.now }
 {
     StreamWords::new(0, Lines::new(text))
 }
 
-// The next starts, so many.
+// Reads the next `count` starts.
 fn next_starts(
     alloc: Global,
-    words: &mut StreamWords<'_, AllLines>,
+    tokens: &mut StreamWords<'_, AllLines>,
     count: usize,
 ) -> Result<Vec<u64>, ReadError>
-    ensures { Gives (λ v. (v.items, words.new)) result (spec.starts_at count [] words.old) }
+    ensures { Gives (λ v. (v.items, tokens.new)) result (spec.starts_at count [] tokens.old) }
 {
     let mut starts = Vec::new(alloc);
     for _ in 0..count {
-        let start = within(words, LATEST_START)?;
+        let start = within(tokens, LATEST_START)?;
         starts.push(start)?;
     }
     Ok(starts)
 }
 
-// The starts of a text, or the first check that fails.
+// Reads the starts in a text, or returns the first check that fails.
 #[tactic(auto, unfolding(crate::specs::Starts::starts_in))]
 fn read_all(alloc: Global, count: usize, text: &[u8]) -> Result<Vec<u64>, ReadError>
     ensures { Gives (λ v. v.items) result (spec.starts_in count text.now) }
 {
     check_text(text)?;
-    let mut words = all_words(text);
-    let starts = next_starts(alloc, &mut words, count)?;
-    end(&mut words)?;
+    let mut tokens = all_tokens(text);
+    let starts = next_starts(alloc, &mut tokens, count)?;
+    end(&mut tokens)?;
     Ok(starts)
 }
 
-// What a fault of a text of starts says for people.
+// Returns the error of a text of starts.
 fn starts_refusal(alloc: Global, fault: &FileFault) -> CliFault
     ensures { Refuses (spec.TellsStarts fault.now) result }
 {
@@ -80,7 +81,7 @@ fn starts_refusal(alloc: Global, fault: &FileFault) -> CliFault
     refusal_by(starts_fault_text(alloc, fault))
 }
 
-// The line of a fault of a text of starts.
+// Returns the line of an error of a text of starts.
 fn starts_fault_text(alloc: Global, fault: &FileFault) -> Result<String, AllocError>
     ensures { IfOk result (λ text. string_bytes text ≡ spec.starts_fault_text_of fault.now) }
 {
@@ -89,11 +90,12 @@ fn starts_fault_text(alloc: Global, fault: &FileFault) -> Result<String, AllocEr
     Ok(text)
 }
 
-/// The starts that a text says, one for each of so many activities.
+/// Reads the starts in a text, one for each of `count` activities.
 pub(crate) fn read_starts(alloc: Global, count: usize, text: &[u8]) -> Result<Vec<u64>, CliFault>
     ensures said { IfOk result (λ starts. spec.SaysStarts count text.now starts.items) }
-    // What the text says is read, unless memory runs out.
-    ensures only { (starts : List ℕ) → spec.SaysStarts count text.now starts → MatchResult result (λ read. read.items ≡ starts) (λ e. e ≡ Memory) }
+    // The starts in a text are read, unless memory runs out.
+    ensures only { (starts : List ℕ) → spec.SaysStarts count text.now starts →
+        MatchResult result (λ read. read.items ≡ starts) (λ e. e ≡ Memory) }
     ensures refused { IfErr result (Refuses (spec.TellsNoStarts count text.now)) }
 {
     match read_all(alloc, count, text) {

@@ -1,83 +1,98 @@
-//! What is made of a file, as text.
+//! The tasks on a file, and the texts that they write.
 
 ghost use Rattle.std.specs.Prelude.{IfOk, IfErr};
 ghost use Rattle.plan_cli.specs.Run.{Refuses};
 ghost use Rattle.plan_cli.specs.Tasks.{IsTextOf, IsLineOf};
 
-use crate::best::best_text_of;
-use crate::best_project::best_project_text_of;
-use crate::chart::{chart_text, shop_chart_text};
-use crate::check::check_text_of;
-use crate::cpm::date_text;
+use crate::charts::{chart_text, shop_chart_text};
 use crate::days::{days_text, shop_days_text};
 use crate::fault::CliFault;
 use crate::names::names_text;
-use crate::prove::proof_text_of;
-use crate::schedule::schedule_text;
-use crate::shop::shop_text;
+use crate::proof::proof_text;
+use crate::solutions::{project_best_text, shop_best_text};
+use crate::tables::{date_text, schedule_text, shop_text};
+use crate::verdicts::check_text;
 use plan_prove::Watcher;
 use std::alloc::Global;
 
-/// What is made of a file.
+/// What to print of a project file or of an instance in a job shop file.
+///
+/// A rule and an instance are given by their names; `-` is the one instance of a file without
+/// names. A project is scheduled with the capacities of its file, a job shop with all machines
+/// open.
 #[derive(Clone, Copy, Debug, Drop)]
 pub enum Task<'a> {
     /// The date table of a project.
     Dates,
-    /// The schedule table of a project, by the rule of a name.
+    /// The schedule table of a project by a rule: `lft`, `slk`, `spt`, `mts` or `num`. Errors of
+    /// the schedule: `S1` (a need above the capacity), `S3` (unknown rule).
     Schedule {
         rule: &'a str,
     },
-    /// The chart of a project's schedule, by the rule of a name.
+    /// The Gantt chart of that schedule: the time units of a cell, and a line of cells for each
+    /// activity.
     Chart {
         rule: &'a str,
     },
-    /// The chart of a job shop's schedule, by the rule of a name: that of an instance of the file.
+    /// The Gantt chart of a job shop's schedule: a line of cells for each machine.
     ShopChart {
         rule: &'a str,
         instance: &'a str,
     },
-    /// The working days of a project's schedule, by the rule of a name, from a first date on and by
-    /// the marks of the weekdays.
+    /// The working days of a project's schedule, those of the first and of the last time unit of
+    /// each activity. A time unit is a working day. The calendar has a first date, `YYYY-MM-DD`
+    /// from 1900-01-01 to 2199-12-31, and a mark, `0` or `1`, for each weekday from Monday on.
+    /// Errors of the calendar: `G1` (the date), `G2` (the marks), `G3` (a day after 9999-12-31).
     Days {
         rule: &'a str,
         start: &'a str,
         marks: &'a str,
     },
-    /// The working days of a job shop's schedule: that of an instance of the file.
+    /// The working days of a job shop's schedule, those of each step.
     ShopDays {
         rule: &'a str,
         start: &'a str,
         marks: &'a str,
         instance: &'a str,
     },
-    /// The names of the instances of a job shop file.
+    /// The names of the instances in a job shop file, one on each line, in the order of the file;
+    /// a name that occurs twice is written twice, and other tasks read the first. The only errors
+    /// of the file are `F1` (its length) and `F2` (a zero byte).
     Names,
-    /// The verdict on the starts that a text says of a project.
+    /// The first fault in starts of a project, in a sentence, or `active`: a broken arc, else a
+    /// capacity that is exceeded, else an activity that can start earlier by itself. The starts
+    /// are a text of one number for each activity in order, 0–10,000,000. Errors: `S1`, then those
+    /// of the starts (`F1`, `F2`, `F6`, `F9`, `F10`), whose line ends with `of the starts`.
     Check {
         starts: &'a [u8],
     },
-    /// The table of a job shop's schedule, by the rule of a name: that of an instance of the file.
+    /// The schedule table of a job shop by a rule: `spt`, `mwkr` or `fcfs`. Error: `S3`.
     Shop {
         rule: &'a str,
         instance: &'a str,
     },
-    /// The best schedule of a job shop that a search within a budget finds: that of an instance of the file.
+    /// The best schedule of a job shop that a search within a budget finds: `optimal` or `budget`
+    /// with the makespan, and the schedule table. The budget is the greatest number of words that
+    /// the search visits, 1–200,000. Errors: `S5` (more than 100 steps), `S6` (the budget).
     Best {
         budget: &'a str,
         instance: &'a str,
     },
-    /// What a search of so many nodes proves of a job shop: that of an instance of the file.
+    /// A schedule of a job shop and what a search of at most so many nodes, 1–1,000,000,000,
+    /// proves of it: `optimal` with the makespan, or `between` with a lower bound of all makespans
+    /// and the makespan; then the schedule table. Error: `S7` (the number of nodes).
     Prove {
         nodes: &'a str,
         instance: &'a str,
     },
-    /// The best schedule of a project that a search within a budget finds.
+    /// The best schedule of a project that a search within a budget finds, as for
+    /// [`Task::Best`]. Errors: `S1`, then `S5` (more than 40 activities), `S6`.
     BestProject {
         budget: &'a str,
     },
 }
 
-/// The text that a task makes of a file; a watcher is told how far a proof is.
+/// Returns the text of a task for a file. The watcher is called during a proof.
 pub(crate) fn text_of<V: Watcher>(
     alloc: Global,
     task: Task<'_>,
@@ -94,8 +109,8 @@ pub(crate) fn text_of<V: Watcher>(
         Task::Days { rule, start, marks } => Ok(days_text(
             alloc, rule, start, marks, file,
         )?.into_bytes()),
-        Task::BestProject { budget } => Ok(best_project_text_of(alloc, budget, file)?.into_bytes()),
-        Task::Check { starts } => Ok(check_text_of(alloc, starts, file)?.into_bytes()),
+        Task::BestProject { budget } => Ok(project_best_text(alloc, budget, file)?.into_bytes()),
+        Task::Check { starts } => Ok(check_text(alloc, starts, file)?.into_bytes()),
         Task::Shop { rule, instance } => Ok(shop_text(alloc, rule, instance, file)?.into_bytes()),
         Task::ShopChart { rule, instance } => Ok(shop_chart_text(
             alloc, rule, instance, file,
@@ -106,10 +121,10 @@ pub(crate) fn text_of<V: Watcher>(
             marks,
             instance,
         } => Ok(shop_days_text(alloc, rule, start, marks, instance, file)?.into_bytes()),
-        Task::Best { budget, instance } => Ok(best_text_of(
+        Task::Best { budget, instance } => Ok(shop_best_text(
             alloc, budget, instance, file,
         )?.into_bytes()),
-        Task::Prove { nodes, instance } => Ok(proof_text_of(
+        Task::Prove { nodes, instance } => Ok(proof_text(
             alloc, nodes, instance, file, watcher,
         )?.into_bytes()),
         Task::Names => names_text(alloc, file),

@@ -1,10 +1,10 @@
-//! A source and a sink that give and take one byte a call, and may fail.
+//! A source and a sink that pass one byte in each call and may fail.
 
-ghost use Rattle.std.specs.Prelude.{Some};
+ghost use Rattle.std.specs.Prelude.{◌≡◌, Some};
 
 use plan_io::{DeviceFault, Sink, Source, Tally};
 
-/// A source that gives one byte a call, and then fails or ends.
+/// A source that gives one byte in each call, and then fails or ends.
 #[derive(Drop)]
 pub struct Drip<'a> {
     rest: &'a [u8],
@@ -13,7 +13,9 @@ pub struct Drip<'a> {
 }
 
 impl<'a> Drip<'a> {
-    pub fn new(rest: &'a [u8], fails: bool) -> Drip<'a> {
+    pub fn new(rest: &'a [u8], fails: bool) -> Drip<'a>
+        ensures { ⟦<Drip<'a> as Source>⟧.calls result ≡ 0 }
+    {
         Drip {
             rest,
             fails,
@@ -21,7 +23,7 @@ impl<'a> Drip<'a> {
         }
     }
 
-    /// The bytes that were not read.
+    /// Returns the bytes that aren't read yet.
     pub fn left(&self) -> &'a [u8] {
         self.rest
     }
@@ -46,7 +48,7 @@ impl<'a> Source for Drip<'a> {
     }
 }
 
-/// A sink that takes one byte a call, and after some bytes fails, or takes no more.
+/// A sink that takes one byte in each call, and after some bytes fails or takes no more.
 #[derive(Drop)]
 pub struct Narrow {
     room: usize,
@@ -56,7 +58,10 @@ pub struct Narrow {
 }
 
 impl Narrow {
-    pub fn new(taken: Vec<u8>, room: usize, fails: bool) -> Narrow {
+    pub fn new(taken: Vec<u8>, room: usize, fails: bool) -> Narrow
+        ensures calls { ⟦<Narrow as Sink>⟧.calls result ≡ 0 }
+        ensures taken { ⟦<Narrow as Sink>⟧.taken result ≡ Some taken.items }
+    {
         Narrow {
             room,
             fails,
@@ -65,7 +70,7 @@ impl Narrow {
         }
     }
 
-    /// The bytes that it took.
+    /// Returns the bytes that it took.
     pub fn taken(&self) -> &[u8] {
         self.taken.as_slice()
     }

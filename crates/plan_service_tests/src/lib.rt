@@ -1,8 +1,11 @@
-//! What of the service only a crate can show: devices that fail, and requests whose allocations are refused.
+//! Tests of the service with devices that fail, with failed allocations, and with tables that break a
+//! rule, none of which a command can bring about.
 #![tactic(auto)]
 
 #[cfg(test)]
 mod devices;
+#[cfg(test)]
+mod keys;
 #[cfg(test)]
 mod losses;
 #[cfg(test)]
@@ -12,4 +15,10 @@ mod pieces;
 #[cfg(test)]
 mod refusals;
 #[cfg(test)]
+mod replays;
+#[cfg(test)]
 mod responses;
+#[cfg(test)]
+mod tables;
+#[cfg(test)]
+mod visits;

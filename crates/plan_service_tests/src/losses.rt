@@ -1,4 +1,4 @@
-//! Requests that break off, and responses that are lost on their way.
+//! Requests that break off, and responses that are lost.
 
 use crate::devices::{Drip, Narrow};
 use crate::office::{
@@ -11,7 +11,7 @@ use std::alloc::Global;
 use std::process::Abort;
 use std::test::Fail;
 
-// A reader that fails before the end of an import: nothing is written.
+// Expects that nothing is written if the reader fails before the end of an import.
 fn expect_broken_off<B: Book>(
     rt: &impl Abort,
     alloc: Global,
@@ -28,7 +28,7 @@ fn expect_broken_off<B: Book>(
     }
 }
 
-// An import whose response is lost: the writer takes so many bytes of it, and then fails or takes no more.
+// Loses the response to an import: the writer takes `room` bytes, and then fails or takes no more.
 fn expect_lost<B: Book>(
     rt: &impl Abort,
     alloc: Global,
@@ -45,7 +45,7 @@ fn expect_lost<B: Book>(
     assert_eq!(rt; writer.taken().len(), room);
 }
 
-// The plan of this number is listed alone.
+// Expects the plan with this number to be the only one.
 fn expect_listed<B: Book>(
     rt: &impl Abort,
     alloc: Global,
@@ -59,7 +59,7 @@ fn expect_listed<B: Book>(
     Ok(())
 }
 
-// It is removed.
+// Removes the plan with this number.
 fn expect_removed<B: Book>(
     rt: &impl Abort,
     alloc: Global,
@@ -75,11 +75,11 @@ fn expect_removed<B: Book>(
     Ok(())
 }
 
-// The bytes of the response to a first import.
+// The length of the response to a first import, in bytes.
 const IMPORTED: usize = 120;
 
-// A response that is lost after each number of its bytes, or of which no byte is taken: each time the plan
-// is there.
+// Loses the response after each number of its bytes, and once without an error of the writer. The plan
+// is stored each time.
 fn expect_each_lost<B: Book>(
     rt: &impl Abort,
     alloc: Global,

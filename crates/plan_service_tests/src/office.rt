@@ -13,22 +13,22 @@ pub const OFFICE_KEY: &str = "office-key";
 /// The key of the desk `north`.
 pub const NORTH_KEY: &str = "north-key-1";
 
-/// What opens the desk `north`.
+/// The request that opens the desk `north`.
 pub const OPENING: &str =
     "POST /office/desks HTTP/1.0\r\nDesk-Key: office-key\r\nContent-Length: 37\r\n\r\n{\"desk\":\"north\", \"key\":\"north-key-1\"}";
 
-/// What asks for the plans of `north`.
+/// The request for the plans of `north`.
 pub const LISTING: &str = "GET /desks/north/plans HTTP/1.0\r\nDesk-Key: north-key-1\r\n\r\n";
 
-/// The response to the first.
+/// The response to [`OPENING`].
 pub const OPENED: &str =
     "HTTP/1.1 201 Created\r\nContent-Type: application/json\r\nContent-Length: 17\r\nConnection: close\r\n\r\n{\"desk\":\"north\"}\n";
 
-/// The response to the second, where there are none.
+/// The response to [`LISTING`] if there are no plans.
 pub const LISTED: &str =
     "HTTP/1.1 200 OK\r\nContent-Type: application/json\r\nContent-Length: 13\r\nConnection: close\r\n\r\n{\"plans\":[]}\n";
 
-/// Six activities that last 0, 3, 2, 4, 3 and 0, one resource of which there are 2.
+/// Six activities of durations 0, 3, 2, 4, 3 and 0, and one resource of capacity 2.
 pub const SIX: &str = "projects: 1
 jobs: 6
 - renewable: 1
@@ -55,19 +55,19 @@ R
 2
 ";
 
-/// An office without desks.
+/// Returns an office without desks.
 pub fn office(alloc: Global) -> Option<Office<MemBook>> {
     let digest = key_digest(OFFICE_KEY.as_bytes()).unwrap_or([0; 32]);
     Office::new(alloc, MemBook::new(alloc, digest)).ok()
 }
 
-/// The bytes of a request.
+/// Returns the bytes of a request.
 pub fn sent(alloc: Global, line: &str, key: &str, body: &str) -> Result<String, AllocError> {
     let len = body.len();
     format!(in alloc; "{line} HTTP/1.0\r\nDesk-Key: {key}\r\nContent-Length: {len}\r\n\r\n{body}")
 }
 
-/// The bytes of a response in JSON.
+/// Returns the bytes of a response in JSON.
 pub fn response(alloc: Global, front: &str, body: &str) -> Result<String, AllocError> {
     let len = body.len();
     format!(in alloc;
@@ -75,7 +75,7 @@ pub fn response(alloc: Global, front: &str, body: &str) -> Result<String, AllocE
     )
 }
 
-/// This is the response to a connection.
+/// Expects this response to a connection.
 pub fn expect_answer<B: Book>(
     rt: &impl Abort,
     alloc: Global,

@@ -1,4 +1,4 @@
-//! Connections that come in pieces.
+//! Connections whose bytes arrive one by one.
 
 use crate::devices::Drip;
 use plan_http::{Asked, Check, Listening, Routes, read_request};

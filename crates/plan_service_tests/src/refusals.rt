@@ -1,5 +1,5 @@
-//! A request by each route, where one allocation may be refused (`tests/refusals/run` refuses each in turn):
-//! it is read and answered, or told that there is no memory; then nothing has changed, and asked again it
+//! A request for each route, while one allocation may fail (`tests/refusals/run` lets each fail in turn).
+//! The request is answered, or refused for lack of memory; then nothing has changed, and the same request
 //! is answered as with ample memory.
 
 use crate::office::{NORTH_KEY, OFFICE_KEY, SIX, office, sent};
@@ -76,10 +76,10 @@ const BEST_SHOP: &str = "optimal 6
 makespan 6
 ";
 
-// A request and its reply: the method and target, the key and the body; the status, and the body.
+// A request and its reply: the method and target, the key, the body; the status, the body.
 type Exchange = (&'static str, &'static str, &'static str, u16, &'static str);
 
-// The requests: three of the office, and then those of the desk.
+// The requests: three with the key of the office, then those of the desk.
 const EXCHANGES: [Exchange; 18] = [
     (
         "POST /office/capacities",
@@ -203,7 +203,7 @@ const EXCHANGES: [Exchange; 18] = [
     ),
 ];
 
-// The request that a connection spells, or none for want of memory.
+// Returns the request of a connection, or none if memory runs out.
 fn read(rt: &impl Abort, alloc: Global, routes: &Routes, conn: &str) -> Option<Request> {
     let mut client = Listening::new(MemSource::new(conn.as_bytes()));
     match read_request(alloc, routes, &mut client) {
@@ -213,7 +213,7 @@ fn read(rt: &impl Abort, alloc: Global, routes: &Routes, conn: &str) -> Option<R
     }
 }
 
-// The body of a reply.
+// Returns the body of a reply.
 fn body_of(reply: &Reply) -> &str {
     match &reply.body {
         Body::Fixed(text) => text,
@@ -221,7 +221,7 @@ fn body_of(reply: &Reply) -> &str {
     }
 }
 
-// A request is answered, or behind want of memory when it is made again.
+// Expects the answer to a request, at its second try if memory runs out at the first.
 fn settle<B: Book>(
     rt: &impl Abort,
     office: &mut Office<B>,
@@ -238,7 +238,7 @@ fn settle<B: Book>(
     assert_eq!(rt; reply.status, status);
 }
 
-// The bytes of a request, or behind want of memory when they are made again.
+// Returns the bytes of a request, at the second try if memory runs out at the first.
 fn conn_of(alloc: Global, exchange: &Exchange) -> Result<String, AllocError> {
     let (line, key, body, _, _) = *exchange;
     match sent(alloc, line, key, body) {
@@ -247,7 +247,7 @@ fn conn_of(alloc: Global, exchange: &Exchange) -> Result<String, AllocError> {
     }
 }
 
-// The request that they spell, or behind want of memory when they are read again.
+// Returns the request of a connection, at the second try if memory runs out at the first.
 fn request_of(rt: &impl Abort, alloc: Global, routes: &Routes, conn: &str) -> Option<Request> {
     match read(rt, alloc, routes, conn) {
         Some(request) => Some(request),
@@ -255,7 +255,7 @@ fn request_of(rt: &impl Abort, alloc: Global, routes: &Routes, conn: &str) -> Op
     }
 }
 
-// A request is read and answered, or behind want of memory when it is made again.
+// Expects a request to be read and answered, with a second try for each step.
 fn expect_exchange<B: Book>(
     rt: &impl Abort,
     alloc: Global,

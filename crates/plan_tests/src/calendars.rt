@@ -1,4 +1,4 @@
-//! Days of instants that no file reaches.
+//! Days after the last date of a calendar, which no file reaches.
 
 use plan_gantt::{Calendar, CalendarFault};
 use std::test::Fail;

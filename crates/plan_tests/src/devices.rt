@@ -1,4 +1,5 @@
-//! Readers and writers that fail: each error of std's is a fault, at that call, and nothing else is; and a command tells such a fault.
+//! Readers and writers that fail. Each error of std is a fault at that call, nothing else is, and a
+//! command reports it.
 
 ghost use Rattle.std.specs.Prelude.{None};
 
@@ -11,7 +12,7 @@ use plan_io::{
 use std::io::{self, ErrorKind, Read, Write};
 use std::test::Fail;
 
-/// Gives or takes one byte a call, and fails at one of its calls, counted from 0.
+/// Gives or takes one byte in each call, and fails at one of its calls, counted from 0.
 #[derive(Drop)]
 struct Fitful<'a> {
     rest: &'a [u8],
@@ -20,7 +21,7 @@ struct Fitful<'a> {
 }
 
 impl<'a> Fitful<'a> {
-    // Whether a call is the one that fails.
+    // Returns whether this call fails.
     fn fails(&mut self) -> bool {
         let call = self.calls;
         self.calls = call.saturating_add(1);
@@ -57,7 +58,7 @@ impl<'a> Write for Fitful<'a> {
     }
 }
 
-// What fails at this call.
+// Returns a device that fails at this call.
 fn failing_at(failing: u32) -> Fitful<'static> {
     Fitful {
         rest: b"abc",
@@ -85,7 +86,7 @@ fn each_error_of_a_writer_is_a_fault(rt: HostRuntime) {
     }
 }
 
-// A source that gives bytes of memory and then fails.
+/// A source that gives `left` bytes of memory and then fails.
 #[derive(Drop)]
 struct FailingSource<'a> {
     inner: MemSource<'a>,
@@ -112,7 +113,7 @@ impl<'a> Source for FailingSource<'a> {
     }
 }
 
-// A sink that takes so many bytes in all, and then fails or takes none.
+/// A sink that takes `room` bytes in all, and then fails or takes none.
 #[derive(Drop)]
 struct FullSink {
     room: usize,

@@ -6,7 +6,7 @@ use std::alloc::Global;
 use std::process::Abort;
 use std::test::Fail;
 
-// A shop, a word, the letters that may follow and the bound.
+// A shop, a word, the letters that may follow it, and its bound.
 const AT_WORDS: [(&str, &[u32], &[u32], u64); 8] = [
     ("2 2\n0 3 1 2\n0 2 1 4\n", &[], &[1, 2], 8),
     ("2 2\n0 4 1 1\n0 1 1 3\n", &[2, 2, 1, 1], &[], 6),
@@ -18,7 +18,7 @@ const AT_WORDS: [(&str, &[u32], &[u32], u64); 8] = [
     ("3 2\n0 1 1 1\n0 9 1 1\n1 2 0 0\n", &[2, 3], &[3], 11),
 ];
 
-// Goes along a word, where each letter may follow.
+// Pushes the letters of a word, each of which has to be one that may follow.
 fn go_along(
     rt: &impl Abort,
     alloc: Global,
@@ -37,7 +37,7 @@ fn go_along(
     Ok(())
 }
 
-// The letters that may follow a word, the bound there, and whether the word is full.
+// Returns the letters that may follow a word, its bound, and whether it is full.
 fn stand(
     rt: &impl Abort,
     alloc: Global,

@@ -1,5 +1,4 @@
-//! What a memo answers where it is asked for projects that differ in one thing, and for a shop
-//! between them.
+//! The answers of a memo for projects that differ in one value, and for a job shop between them.
 
 use crate::shops::shop_of;
 use plan_exact::{ExactFault, Kind, Memo};
@@ -10,7 +9,7 @@ use std::alloc::Global;
 use std::process::Abort;
 use std::test::Fail;
 
-// Three activities that last 1, 1 and 2 between two that last no time, two of them at a time.
+// Three activities of durations 1, 1 and 2 between two dummies, with a capacity for two at a time.
 const FIVE: &str = "projects: 1
 jobs: 5
 - renewable: 1
@@ -35,9 +34,9 @@ R
 2
 ";
 
-// A capacity, the lag between activities 2 and 5, and a budget; whether the answer is optimal, its
-// makespan, and how many answers are kept then. With one at a time the work takes 4; with a lag of
-// 3 the longest path does.
+// A capacity, the lag between activities 2 and 5, and a budget; the kind of the answer, its makespan,
+// and the number of answers that the memo then keeps. With a capacity of 1 the work takes 4; with a lag
+// of 3 the longest path takes 4.
 const ASKED: [(u64, u64, u64, Kind, u64, usize); 9] = [
     (2, 0, 10, Kind::Optimal, 2, 1),
     (2, 0, 7, Kind::Budget, 3, 2),
@@ -57,7 +56,7 @@ fn five(rt: &impl Abort, alloc: Global) -> ProjectDoc {
     }
 }
 
-// A shop of two steps, of which the second takes no time.
+// A job shop of two steps, the second of which takes no time.
 const TWO_STEPS: &str = "1 2\n0 4 1 0\n";
 
 #[test]
@@ -81,13 +80,13 @@ fn keeps_an_answer_for_each_capacity_lag_and_budget(rt: HostRuntime) -> Result<(
     Ok(())
 }
 
-// The least makespan of a project that a memo answers, and how many answers it keeps then.
+// Returns the makespan that a memo answers for a project, and the number of answers that it then keeps.
 fn project_kept(memo: &mut Memo, instance: &Instance<'_>) -> Result<(u64, usize), ExactFault> {
     let found = memo.solve_project(instance, 10)?;
     Ok((found.schedule.makespan, memo.len()))
 }
 
-// The same of a shop.
+// Returns the same for a job shop.
 fn shop_kept(memo: &mut Memo, shop: &Shop) -> Result<(u64, usize), ExactFault> {
     let found = memo.solve(shop, 10)?;
     Ok((found.schedule.makespan, memo.len()))

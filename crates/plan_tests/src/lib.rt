@@ -1,10 +1,12 @@
-//! Worked examples of crates together that no command on files shows: devices that fail, faults that
-//! no file reaches, schedules by a list and with a lag, words and verdicts of job shops, answers that
-//! are kept; and calls whose allocations are refused.
+//! Worked examples of several crates that no command on files shows: networks, profiles, searches and
+//! memos, devices that fail, errors that no file causes, schedules by a list and with a lag, words and
+//! verdicts of job shops; and calls with failed allocations.
 #![tactic(auto)]
 
 #[cfg(test)]
 mod calendars;
+#[cfg(test)]
+mod dates;
 #[cfg(test)]
 mod devices;
 #[cfg(test)]
@@ -14,7 +16,15 @@ mod job_shops;
 #[cfg(test)]
 mod kept_projects;
 #[cfg(test)]
+mod memos;
+#[cfg(test)]
+mod networks;
+#[cfg(test)]
+mod profiles;
+#[cfg(test)]
 mod refusals;
+#[cfg(test)]
+mod searches;
 #[cfg(test)]
 mod serial;
 #[cfg(test)]

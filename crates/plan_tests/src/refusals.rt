@@ -1,6 +1,6 @@
-//! Public calls that allocate and leave something behind, each made twice. With ample memory both
-//! answers are the known one. Where one allocation is refused (`tests/refusals/run` refuses each in turn)
-//! the first may be want of memory, and then nothing is left of it: the second is the known one.
+//! Public calls that allocate and change a value, each made twice. With ample memory both answers are
+//! the known one. If one allocation fails (`tests/refusals/run` lets each fail in turn), the first call
+//! may report it. It then changes nothing, so the second answer is the known one.
 
 use crate::shops::shop_of;
 use plan_exact::Branching;
@@ -13,7 +13,7 @@ use std::test::Fail;
 // Two orders on two machines.
 const PAIR: &str = "2 2\n0 4 1 1\n0 1 1 3\n";
 
-// An answer, or none for want of memory.
+// Returns an answer, or none if memory runs out.
 fn of_shop<T: Drop>(rt: &impl Abort, answer: Result<T, ShopFault>) -> Option<T> {
     match answer {
         Ok(value) => Some(value),
@@ -22,7 +22,7 @@ fn of_shop<T: Drop>(rt: &impl Abort, answer: Result<T, ShopFault>) -> Option<T> 
     }
 }
 
-// Whether the first of two answers is the known one, or the second is it behind want of memory.
+// Returns whether the first answer is the known one, or the second if there is no first.
 fn settles<T: PartialEq + Drop>(first: Option<T>, second: Option<T>, known: T) -> bool {
     match first {
         Some(answer) => answer == known,
@@ -30,7 +30,8 @@ fn settles<T: PartialEq + Drop>(first: Option<T>, second: Option<T>, known: T) -
     }
 }
 
-// What is in use of a capacity of 2 at two instants, where 1 of it is placed before instant 3.
+// Returns the usage of a capacity of 2 at the instants 2 and 3 and the number of changes, with an
+// amount of 1 placed from 0 to 3.
 fn placed(rt: &impl Abort, alloc: Global) -> Option<(u64, u64, usize)> {
     let caps = Vec::from_array(alloc, [2]).ok()?;
     let mut profile = Profile::new(alloc, caps).ok()?;
@@ -50,7 +51,7 @@ fn profiles(rt: HostRuntime) -> Result<(), Fail> {
     Ok(())
 }
 
-// The makespan by a rule, how many letters there are, and the bound behind the first.
+// Returns the makespan by a rule, the number of first letters, and the bound after letter 1.
 fn walked(rt: &impl Abort, alloc: Global) -> Option<(u64, usize, u64)> {
     let shop = shop_of(rt, alloc, PAIR)?;
     let by_rule = of_shop(rt, giffler(alloc, &shop, ShopRule::MostWorkRemaining))?;

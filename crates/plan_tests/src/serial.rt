@@ -1,10 +1,10 @@
-//! Serial generation by a list, and with a lag.
+//! Serial schedule generation by a list and with a lag.
 
 use plan_psplib::{ProjectDoc, read_sm};
 use plan_sgs::{Instance, Rule, SgsFault, Verdict, check, serial, serial_list};
 use std::test::Fail;
 
-// The six activities, where activity 5 lasts 5.
+// The example of six activities, with a duration of 5 for activity 5.
 const LONGER: &str = "projects: 1
 jobs: 6
 - renewable: 1

@@ -13,10 +13,10 @@ use std::test::Fail;
 // Two jobs on two machines.
 const PAIR: &str = "2 2\n0 4 1 1\n0 1 1 3\n";
 
-// The same with two steps that take no time.
+// Two jobs on two machines, with two steps that take no time.
 const AT_ONCE: &str = "2 2\n0 0 1 2\n0 1 1 0\n";
 
-// The verdict on these starts of a text's shop of two machines.
+// Returns the verdict on these starts, for the job shop of a text with two machines.
 fn verdict(rt: &impl Abort, alloc: Global, text: &str, starts: &[u64]) -> Option<Verdict> {
     let shop = shop_of(rt, alloc, text)?;
     if starts.len() != shop.jobs() as usize * shop.machines() as usize

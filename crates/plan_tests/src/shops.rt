@@ -1,4 +1,4 @@
-//! Small job shops, by their texts.
+//! Small job shops that are read from texts.
 
 use plan_orlib::read_shop;
 use plan_psplib::FileCode;
@@ -6,7 +6,7 @@ use plan_shop::{Shop, ShopFault};
 use std::alloc::Global;
 use std::process::Abort;
 
-/// The shop of a text in the bare form, of two machines, both open; none for want of memory.
+/// Returns the job shop of a text without names, with two open machines; none if memory runs out.
 pub fn shop_of(rt: &impl Abort, alloc: Global, text: &str) -> Option<Shop> {
     let doc = match read_shop(alloc, text.as_bytes(), b"-") {
         Ok(doc) => doc,

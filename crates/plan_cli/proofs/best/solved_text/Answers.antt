@@ -1,6 +1,0 @@
-use Rattle.std.proofs.Common.{◌∙◌}
-use Rattle.plan_shop.proofs.ShopBasics.{count_is}
-use Rattle.plan_cli.proofs.best.solved_text.Goals as goal
-
-pub best_text-requires-clause-starts : goal.best_text-requires-clause-starts
-best_text-requires-clause-starts c = c.in-Ok.ensures.active.feasible.each_started ∙ count_is c.args.shop.now

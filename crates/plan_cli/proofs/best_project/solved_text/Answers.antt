@@ -1,6 +1,0 @@
-use Rattle.std.proofs.Common.{◌∙◌}
-use Rattle.plan_sgs.proofs.InstanceLemmas.{count-problem}
-use Rattle.plan_cli.proofs.best_project.solved_text.Goals as goal
-
-pub best_project_text-requires-clause-starts : goal.best_project_text-requires-clause-starts
-best_project_text-requires-clause-starts c = c.in-Ok.ensures.active.feasible.each_started ∙ count-problem c.args.instance.now

@@ -1,0 +1,164 @@
+//! The run of a task, from the bytes that are read to the bytes that are written.
+
+ghost use Rattle.std.specs.Prelude.{◌≡◌, ◌⊎◌, ◌+◌, ◌≤◌, OnOk, IfErr, IfSome, IsErrOf};
+ghost use Rattle.plan_io.specs.Devices.{most_calls};
+ghost use Rattle.plan_gantt.specs.FirstFaults.{TellsFirstFailing};
+ghost use Rattle.plan_cli.specs.Run.{HasSinkFailed, IsDateTableOf, ReadsFront, Runs, Writes};
+ghost use Rattle.plan_cli.specs.ScheduleRun.{IsScheduleTableOf, TellsWhyNoSchedule};
+ghost use Rattle.plan_cli.specs.ShopRun.{IsShopTableOf, TellsWhyNoShop};
+ghost use Rattle.plan_cli.specs.BestRun.{IsBestTableOf, TellsWhyNoBest};
+ghost use Rattle.plan_cli.specs.BestProjectRun.{IsBestProjectTableOf, TellsWhyNoBestProject};
+ghost use Rattle.plan_cli.specs.Tasks.{IsTextOf, IsLineOf};
+
+use crate::bytes::{read_file, write_text};
+use crate::fault::CliFault;
+use crate::tasks::{Task, text_of};
+use plan_io::{Sink, Source};
+use plan_prove::{Unwatched, Watcher};
+use std::alloc::Global;
+
+// Reads a file, and writes the text of a task for it.
+fn answer<R: Source, W: Sink, V: Watcher>(
+    alloc: Global,
+    task: Task<'_>,
+    watcher: &mut V,
+    reader: &mut R,
+    writer: &mut W,
+) -> Result<(), CliFault>
+    ensures reads { R.calls reader.new ≤ R.calls reader.old + most_calls }
+    ensures writes { W.calls writer.new ≤ W.calls writer.old + most_calls }
+    ensures text { IfSome (R.remaining reader.old) (λ file.
+        Writes (IsTextOf task.entry file) (IsLineOf task.entry file)
+        (W.taken writer.old) (W.taken writer.new) result) }
+    ensures front { ReadsFront (IsTextOf task.entry) (IsLineOf task.entry)
+        (R.remaining reader.old) (R.remaining reader.new)
+        (W.taken writer.old) (W.taken writer.new) result }
+    ensures quiet { IfErr result (λ e. (e ≡ CliFault.Output) ⊎ (writer.new ≡ writer.old)) }
+    ensures fine { OnOk result ((R.faults reader.new ≡ R.faults reader.old)
+        × (W.faults writer.new ≡ W.faults writer.old)) }
+    ensures heard { IfErr result (λ e.
+        (e ≡ CliFault.Input) ⊎ (R.faults reader.new ≡ R.faults reader.old)) }
+    ensures input { IsErrOf result CliFault.Input →
+        R.faults reader.new ≡ R.faults reader.old + 1 }
+    ensures output { IsErrOf result CliFault.Output → HasSinkFailed W.Sink writer.old writer.new }
+{
+    let file = match read_file(alloc, reader) {
+        Ok(file) => file,
+        Err(fault) => return Err(fault),
+    };
+    match text_of(alloc, task, &file, watcher) {
+        Ok(text) => write_text(writer, &text),
+        Err(fault) => Err(fault),
+    }
+}
+
+/// Reads a file, and writes the text of a task for it. The watcher is called during a proof.
+///
+/// Nothing is written unless the whole text was made. A call of the reader or of the writer that
+/// fails isn't repeated. If several errors apply, the file's comes first, then the others in the
+/// order of the task's documentation.
+pub fn run_task<R: Source, W: Sink, V: Watcher>(
+    alloc: Global,
+    task: Task<'_>,
+    watcher: &mut V,
+    reader: &mut R,
+    writer: &mut W,
+) -> Result<(), CliFault>
+    ensures { Runs R.Source W.Sink (IsTextOf task.entry) (IsLineOf task.entry)
+        reader.old reader.new writer.old writer.new result }
+{
+    answer(alloc, task, watcher, reader, writer)
+}
+
+/// Runs [`Task::Dates`].
+pub fn cpm_run<R: Source, W: Sink>(
+    alloc: Global,
+    reader: &mut R,
+    writer: &mut W,
+) -> Result<(), CliFault>
+    ensures { Runs R.Source W.Sink IsDateTableOf TellsFirstFailing
+        reader.old reader.new writer.old writer.new result }
+{
+    run_task(alloc, Task::Dates, &mut Unwatched, reader, writer)
+}
+
+/// Runs [`Task::Schedule`].
+pub fn schedule_run<R: Source, W: Sink>(
+    alloc: Global,
+    rule: &str,
+    reader: &mut R,
+    writer: &mut W,
+) -> Result<(), CliFault>
+    ensures { Runs R.Source W.Sink (IsScheduleTableOf rule.now) (TellsWhyNoSchedule rule.now)
+        reader.old reader.new writer.old writer.new result }
+{
+    run_task(
+        alloc,
+        Task::Schedule { rule },
+        &mut Unwatched,
+        reader,
+        writer,
+    )
+}
+
+/// Runs [`Task::Shop`].
+pub fn shop_run<R: Source, W: Sink>(
+    alloc: Global,
+    rule: &str,
+    instance: &str,
+    reader: &mut R,
+    writer: &mut W,
+) -> Result<(), CliFault>
+    ensures { Runs R.Source W.Sink
+        (IsShopTableOf rule.now instance.now) (TellsWhyNoShop rule.now instance.now)
+        reader.old reader.new writer.old writer.new result }
+{
+    run_task(
+        alloc,
+        Task::Shop { rule, instance },
+        &mut Unwatched,
+        reader,
+        writer,
+    )
+}
+
+/// Runs [`Task::Best`].
+pub fn best_run<R: Source, W: Sink>(
+    alloc: Global,
+    budget: &str,
+    instance: &str,
+    reader: &mut R,
+    writer: &mut W,
+) -> Result<(), CliFault>
+    ensures { Runs R.Source W.Sink
+        (IsBestTableOf budget.now instance.now) (TellsWhyNoBest budget.now instance.now)
+        reader.old reader.new writer.old writer.new result }
+{
+    run_task(
+        alloc,
+        Task::Best { budget, instance },
+        &mut Unwatched,
+        reader,
+        writer,
+    )
+}
+
+/// Runs [`Task::BestProject`].
+pub fn best_project_run<R: Source, W: Sink>(
+    alloc: Global,
+    budget: &str,
+    reader: &mut R,
+    writer: &mut W,
+) -> Result<(), CliFault>
+    ensures { Runs R.Source W.Sink
+        (IsBestProjectTableOf budget.now) (TellsWhyNoBestProject budget.now)
+        reader.old reader.new writer.old writer.new result }
+{
+    run_task(
+        alloc,
+        Task::BestProject { budget },
+        &mut Unwatched,
+        reader,
+        writer,
+    )
+}

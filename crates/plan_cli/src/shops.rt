@@ -1,0 +1,70 @@
+//! Job shops that are read from files, and their schedules by a priority rule.
+
+ghost use Rattle.std.specs.Prelude.{◌≡◌, IfOk, IfErr};
+ghost use Rattle.plan_orlib.specs.Says.{Says};
+ghost use Rattle.plan_shop.specs.Docs.{shop_of};
+ghost use Rattle.plan_gantt.specs.FirstFaults.{TellsFirstShopFault};
+ghost use Rattle.plan_gantt.specs.ShopText.{TellsNoRule};
+ghost use Rattle.plan_cli.specs.Run.{Refuses};
+ghost use Rattle.plan_cli.specs.Scheduled.{IsMadeOfShop, IsMadeOfShopBy};
+
+use crate::fault::CliFault;
+use crate::refusals::{file_refusal, shop_refusal};
+use plan_orlib::{ShopDoc, read_shop};
+use plan_sgs::Schedule;
+use plan_shop::{Shop, ShopFault, ShopRule, giffler};
+use std::alloc::Global;
+
+/// Reads the job shop of an instance in a file.
+pub(crate) fn read_instance(alloc: Global, instance: &str, file: &[u8]) -> Result<ShopDoc, CliFault>
+    ensures said { IfOk result (Says instance.now file.now) }
+    ensures refused { IfErr result (Refuses (TellsFirstShopFault instance.now file.now)) }
+{
+    match read_shop(alloc, file, instance.as_bytes()) {
+        Ok(doc) => Ok(doc),
+        Err(fault) => Err(file_refusal(alloc, &fault)),
+    }
+}
+
+/// Returns the job shop of a file with all machines open, so that no closed machine refuses it.
+pub(crate) fn open_shop(alloc: Global, doc: &ShopDoc) -> Result<Shop, CliFault>
+    ensures ok { IfOk result (λ shop. shop ≡ shop_of doc.now) }
+    ensures refused { IfErr result (λ e. e ≡ CliFault.Memory) }
+{
+    let usable = vec![in alloc; true; doc.machines() as usize]?;
+    match Shop::of_doc(alloc, doc, &usable) {
+        Ok(shop) => Ok(shop),
+        Err(ShopFault::NoMemory) => Err(CliFault::Memory),
+        Err(_) => unreachable!(),
+    }
+}
+
+// Returns the schedule of a job shop by a rule.
+fn shop_schedule_by_rule(alloc: Global, shop: &Shop, rule: ShopRule) -> Result<Schedule, CliFault>
+    ensures made { IfOk result (IsMadeOfShopBy rule shop.now) }
+    ensures refused { IfErr result (λ e. e ≡ CliFault.Memory) }
+{
+    // The proof needs the shop's invariant, which this call states.
+    let _machines = shop.machines();
+    match giffler(alloc, shop, rule) {
+        Ok(schedule) => Ok(schedule),
+        Err(_) => Err(CliFault::Memory),
+    }
+}
+
+/// Returns the job shop of a file with all machines open, and its schedule by the rule with this
+/// name.
+pub(crate) fn shop_schedule_by(
+    alloc: Global,
+    name: &str,
+    doc: &ShopDoc,
+) -> Result<(Shop, Schedule), CliFault>
+    ensures shop { IfOk result (λ made. made.0 ≡ shop_of doc.now) }
+    ensures made { IfOk result (λ made. IsMadeOfShop name.now (shop_of doc.now) made.1) }
+    ensures refused { IfErr result (Refuses (TellsNoRule name.now)) }
+{
+    let rule = ShopRule::parse(name).map_err(|fault| shop_refusal(alloc, &fault))?;
+    let shop = open_shop(alloc, doc)?;
+    let schedule = shop_schedule_by_rule(alloc, &shop, rule)?;
+    Ok((shop, schedule))
+}

@@ -1,0 +1,103 @@
+//! `plan best` and `plan best-project`: the best schedules that a search within a budget finds.
+
+ghost use Rattle.std.specs.Prelude.{IfErr};
+ghost use Rattle.plan_shop.specs.Docs.{shop_of};
+ghost use Rattle.plan_gantt.specs.ShopBestText.{IsBestBy, IsBestTextOf, TellsBestRefusal};
+ghost use Rattle.plan_gantt.specs.ProjectBestText.{IsBestProjectBy, IsBestProjectTextOf};
+ghost use Rattle.plan_gantt.specs.ProjectBestText.{TellsNoBestProject, TellsBestProjectRefusal};
+ghost use Rattle.plan_cli.specs.Run.{IfText, Refuses};
+ghost use Rattle.plan_cli.specs.ScheduleRun.{as_available};
+ghost use Rattle.plan_cli.specs.BestRun.{IsBestTableOf, TellsSolvingRefusal, TellsWhyNoBest};
+ghost use Rattle.plan_cli.specs.BestProjectRun as projects;
+
+use crate::fault::CliFault;
+use crate::projects::{instance_of, read_project};
+use crate::refusals::exact_refusal;
+use crate::shops::{open_shop, read_instance};
+use plan_exact::{parse_budget, solve_project, solve_shop};
+use plan_gantt::{best_project_text, best_text};
+use plan_orlib::ShopDoc;
+use plan_psplib::ProjectDoc;
+use plan_sgs::Instance;
+use plan_shop::Shop;
+use std::alloc::Global;
+
+// Returns the text of a job shop's best schedule.
+fn solved_shop_text(alloc: Global, budget: u64, shop: &Shop) -> Result<String, CliFault>
+    ensures made { IfText result (IsBestBy budget shop.now) }
+    ensures refused { IfErr result (Refuses (TellsSolvingRefusal budget shop.now)) }
+{
+    match solve_shop(alloc, shop, budget) {
+        Ok(solved) => Ok(best_text(alloc, shop, &solved)?),
+        Err(fault) => Err(exact_refusal(alloc, &fault)),
+    }
+}
+
+// Returns the text of the best schedule of a file's job shop. An argument that spells no budget is
+// refused as 0 is, so the shop's size is tested first.
+fn doc_text(alloc: Global, budget: &str, doc: &ShopDoc) -> Result<String, CliFault>
+    ensures made { IfText result (IsBestTextOf budget.now (shop_of doc.now)) }
+    ensures refused { IfErr result (Refuses (TellsBestRefusal budget.now (shop_of doc.now))) }
+{
+    let shop = open_shop(alloc, doc)?;
+    let budget = parse_budget(budget).unwrap_or(0);
+    solved_shop_text(alloc, budget, &shop)
+}
+
+/// Returns the text of the best schedule of an instance in a job shop file.
+pub(crate) fn shop_best_text(
+    alloc: Global,
+    budget: &str,
+    instance: &str,
+    file: &[u8],
+) -> Result<String, CliFault>
+    ensures made { IfText result (IsBestTableOf budget.now instance.now file.now) }
+    ensures refused { IfErr result (Refuses (TellsWhyNoBest budget.now instance.now file.now)) }
+{
+    let doc = read_instance(alloc, instance, file)?;
+    doc_text(alloc, budget, &doc)
+}
+
+// Returns the text of an instance's best schedule.
+fn solved_text(alloc: Global, budget: u64, instance: &Instance) -> Result<String, CliFault>
+    ensures made { IfText result (IsBestProjectBy budget instance.now) }
+    ensures refused { IfErr result (Refuses (projects.TellsSearchRefusal budget instance.now)) }
+{
+    match solve_project(alloc, instance, budget) {
+        Ok(solved) => Ok(best_project_text(alloc, instance, &solved)?),
+        Err(fault) => Err(exact_refusal(alloc, &fault)),
+    }
+}
+
+// Returns the same within the budget that an argument spells. One that spells no budget is refused
+// as 0 is, so the project's size is tested first.
+fn instance_text(alloc: Global, budget: &str, instance: &Instance) -> Result<String, CliFault>
+    ensures made { IfText result (IsBestProjectTextOf budget.now instance.now) }
+    ensures refused { IfErr result (Refuses (TellsNoBestProject budget.now instance.now)) }
+{
+    let budget = parse_budget(budget).unwrap_or(0);
+    solved_text(alloc, budget, instance)
+}
+
+// Returns the text of the best schedule of a project.
+fn project_text(alloc: Global, budget: &str, project: &ProjectDoc) -> Result<String, CliFault>
+    ensures made { IfText result (IsBestProjectTextOf budget.now (as_available project.now)) }
+    ensures refused { IfErr result (Refuses
+        (TellsBestProjectRefusal budget.now (as_available project.now))) }
+{
+    let instance = instance_of(alloc, project)?;
+    instance_text(alloc, budget, &instance)
+}
+
+/// Returns the text of the best schedule of the project in a file.
+pub(crate) fn project_best_text(
+    alloc: Global,
+    budget: &str,
+    file: &[u8],
+) -> Result<String, CliFault>
+    ensures made { IfText result (projects.IsBestProjectTableOf budget.now file.now) }
+    ensures refused { IfErr result (Refuses (projects.TellsWhyNoBestProject budget.now file.now)) }
+{
+    let project = read_project(alloc, file)?;
+    project_text(alloc, budget, &project)
+}
