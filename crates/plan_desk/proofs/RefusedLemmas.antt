@@ -1,5 +1,5 @@
 -- What the functions of values refuse is what the routes answer.
-use Rattle.std.proofs.Common.{◌≡◌, inl, inr, ℕ, Bool, true, false, Option, Some, None, List, length, refl, sym, ap, subst}
+use Rattle.std.proofs.Common.{◌≡◌, inl, inr, ℕ, Bool, true, false, Option, Some, None, length, refl, sym, ap, subst}
 use Rattle.std.specs.Prelude.{option_map, unwrap_or, is_some, not, if◌then◌else◌, nat_le}
 use Rattle.std.proofs.lemmas.Bool.{both_ways, lt-leb, le-leb}
 use Rattle.plan_rows.specs.declared.kinds.Kind.{Kind}

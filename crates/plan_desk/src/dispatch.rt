@@ -1,7 +1,7 @@
 //! The dispatch of requests: each admitted call goes to its route, which decides it. Nothing is
 //! written here.
 
-ghost use Rattle.std.specs.Prelude.{◌≡◌, IfOk};
+ghost use Rattle.std.specs.Prelude.{IfOk};
 ghost use Rattle.plan_desk.specs.Decisions.{Answers, IsDecision};
 ghost use Rattle.plan_desk.specs.BookSteps.{Decides, IsRowFor, Knows};
 ghost use Rattle.plan_desk.specs.Requests.{call_in, request_in, path_of, subject_of};

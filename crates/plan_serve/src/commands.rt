@@ -1,6 +1,6 @@
 //! The commands on an office in any database.
 
-ghost use Rattle.std.specs.Prelude.{◌≡◌, ◌≢◌, ◌⊎◌, ◌+◌, ◌≤◌, length, map, vec_items, Ok, is_some, IfOk, IfErr, IfNone, IsSome, IsErrOf, OnOk, OnErr, MatchResult};
+ghost use Rattle.std.specs.Prelude.{◌≡◌, ◌⊎◌, ◌+◌, ◌≤◌, Ok, is_some, IfOk, IfErr, IfNone, IsSome, IsErrOf, OnOk, OnErr, MatchResult};
 ghost use Rattle.plan_io.specs.Devices.{most_calls, HasFailed};
 ghost use Rattle.plan_serve.specs.InitRun.{HasMade, IsInitFault, IsToldThere, MakesNone};
 ghost use Rattle.plan_serve.specs.Faults.{fault_of};

@@ -126,7 +126,10 @@ fn add(conns: &mut Vec<Vec<u8>>, conn: Vec<u8>) -> Result<(), ServeFault>
     ensures added { OnOk result (length conns.new.items ≡ length conns.old.items + 1) }
     ensures memory { IfErr result (λ e. e ≡ ServeFault.Memory) }
 {
-    conns.push(conn).map_err(|_| ServeFault::Memory)
+    match conns.push(conn) {
+        Ok(()) => Ok(()),
+        Err(_) => Err(ServeFault::Memory),
+    }
 }
 
 // Reads the bytes of connections, each from a file.
