@@ -124,7 +124,7 @@ LATE = ("/office/desks", body_of(desk="late", key="late-key-1"))
 def is_lacking(path, told, address):
     """plan-office has said that no answer came from a server."""
     status, out, err = told
-    wanted = f"no answer from {address}: send it again when all answer; "
+    wanted = f"no answer from {address}: send it again when all servers respond; "
     same(f"{path} while a server is down", (status, out), (1, b""))
     same(f"{wanted!r} in {err!r}", wanted in err.decode(), True)
 
@@ -135,7 +135,7 @@ def open_again(drawn, lacking):
     status, out, err = office.send(*LATE)
     there = [place for place in range(SERVERS) if place != lacking]
     line = f"plan-office: 409 E04 desk exists from {addresses(office, *there)}; "
-    line += f'201 {{"desk":"late"}} from {addresses(office, lacking)}: where E04 '
+    line += f'201 {{"desk":"late"}} from {addresses(office, lacking)}: servers with E04 '
     same("a desk that is opened again", (status, out, err.decode()[: len(line)]), (1, b"", line))
     drawn.keep(plain("POST", LATE[0], OFFICE_KEY, LATE[1]), None)
     drawn.publish("/office/desks/late/key", body_of(key="late-key-2"))
