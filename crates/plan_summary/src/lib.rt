@@ -1,4 +1,4 @@
-//! The numbers of rows of an office, and the digest of the text of all rows.
+//! How many rows an office has, and the digest of the text of all of them.
 #![tactic(auto)]
 
 mod lines;
