@@ -25,7 +25,7 @@ use Rattle.plan_rows.specs.KeyedRows.{AreRowsByKey, desk_before, plan_key_before
 use Rattle.plan_rows.proofs.ReadLemmas.{found_in_view}
 use Rattle.plan_summary.specs.declared.summary.Summary.{Summary}
 use Rattle.plan_summary.specs.RowTexts.{office_line, code_line, desk_line, plan_line, bind_line, lag_line, codes_text, desks_text, plans_text, binds_text, lags_text, rows_text, IsSummary}
-use Rattle.plan_summary.specs.Summing.{Takes, Looks, plan_of, line_of_plan, line_at, lines_at, desk_lines, plan_lines, IsDigestOf, IsSummaryBy}
+use Rattle.plan_summary.specs.Digests.{Takes, Looks, plan_of, line_of_plan, line_at, lines_at, desk_lines, plan_lines, IsDigestOf, IsSummaryBy}
 
 -- one text, and then another
 pub takes_then : (a b c : Sha256) (s t : Text) → Takes a b s → Takes b c t → Takes a c (s ++ t)

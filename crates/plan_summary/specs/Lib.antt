@@ -1,2 +1,2 @@
 pub mod RowTexts
-pub mod Summing
+pub mod Digests

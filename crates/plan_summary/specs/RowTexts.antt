@@ -1,4 +1,4 @@
--- The text of all rows of an office, a line each, and what `plan check-office` prints of it
+-- The text of all rows of an office, a line each, and the output of `plan check-office`
 -- (docs/definitions.md, "Runs"; docs/api.md, "Backups"). Each line ends in a line feed.
 use Rattle.std.specs.Prelude.{◌≡◌, ◌++◌, codes, decimal, length}
 use Rattle.std.specs.List.{flat_map}
@@ -10,8 +10,8 @@ use Rattle.plan_rows.specs.Plans.{in_order, code_before}
 use Rattle.plan_rows.specs.KeyedRows.{desk_before, plan_key_before, bind_key_before, lag_key_before}
 use Rattle.plan_summary.specs.declared.summary.Summary.{Summary}
 
--- the words of each row, a blank between any two; digests in lower hexadecimal digits, and what a
--- plan was sent with, its name and its file, in upper ones
+-- The values of a row are separated by blanks. Digests are in lower-case hexadecimal digits, and
+-- the name and the file of a plan in upper-case ones.
 abbrev pub office_line : Digest → Text
 office_line digest = codes "office " ++ encode_lower digest ++ codes "\n"
 
@@ -63,7 +63,7 @@ rows_text w =
     (((office_line w.office ++ codes_text w) ++ desks_text w) ++ plans_text w)
     ++ (binds_text w ++ lags_text w)
 
--- how many rows there are in each table, and the SHA-256 of the text of all rows
+-- the number of rows of each table, and the SHA-256 of the text of all rows
 pub record IsSummary (w : World) (summary : Summary) : Type 0 where
   pub desks : summary.desks ≡ length w.desks
   pub published : summary.published ≡ length w.published
@@ -72,7 +72,7 @@ pub record IsSummary (w : World) (summary : Summary) : Type 0 where
   pub lags : summary.lags ≡ length w.lags
   pub digest : summary.digest ≡ sha256 (rows_text w)
 
--- what is printed
+-- the printed text
 abbrev pub text_of : Summary → Text
 text_of summary =
     codes "desks " ++ decimal summary.desks ++ codes "\npublished " ++ decimal summary.published

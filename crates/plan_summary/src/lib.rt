@@ -1,4 +1,4 @@
-//! How many rows an office has, and the digest of the text of all of them.
+//! The numbers of rows of an office, and the digest of the text of all rows.
 #![tactic(auto)]
 
 mod lines;

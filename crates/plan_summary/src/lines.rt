@@ -5,17 +5,17 @@ ghost use Rattle.plan_rows.specs.World.{Text};
 ghost use Rattle.plan_rows.specs.Books.{published_in};
 ghost use Rattle.plan_rows.specs.Tables.{desk_kept, bind_kept, lag_kept};
 ghost use Rattle.plan_summary.specs.RowTexts as spec;
-ghost use Rattle.plan_summary.specs.Summing.{plan_of, plan_front};
+ghost use Rattle.plan_summary.specs.Digests.{plan_of, plan_front};
 
 use plan_rows::{BindRecord, CodeRow, DeskRecord, LagRecord, PlanKey, PlanRow};
 use std::alloc::{AllocError, Global};
 
 /// A row that has a line.
 pub(crate) trait Line {
-    /// What is written of it.
+    /// The line of the row.
     ghost written: { Self → Text };
 
-    /// Its line.
+    /// Formats its line.
     fn line(&self, alloc: Global) -> Result<String, AllocError>
         ensures { IfOk result (λ line. string_bytes line ≡ written self.now) };
 }
@@ -60,7 +60,7 @@ impl Line for LagRecord {
     }
 }
 
-/// The line of the digest of the office's key.
+/// Formats the line of the digest of the office's key.
 pub(crate) fn office_line(alloc: Global, digest: &[u8; 32]) -> Result<String, AllocError>
     ensures { IfOk result (λ line. string_bytes line ≡ spec.office_line digest.now) }
 {
@@ -69,7 +69,7 @@ pub(crate) fn office_line(alloc: Global, digest: &[u8; 32]) -> Result<String, Al
     format!(in alloc; "office {digest}\n")
 }
 
-// The first words of the line of a plan.
+// Formats the first values of the line of a plan.
 fn plan_front(alloc: Global, key: &PlanKey, plan: &PlanRow) -> Result<String, AllocError>
     ensures { IfOk result (λ text. string_bytes text ≡ plan_front key.now plan.now) }
 {
@@ -77,9 +77,10 @@ fn plan_front(alloc: Global, key: &PlanKey, plan: &PlanRow) -> Result<String, Al
     format!(in alloc; "plan {desk} {n} {kind}")
 }
 
-/// The line of a plan.
+/// Formats the line of a plan.
 pub(crate) fn plan_line(alloc: Global, key: &PlanKey, plan: &PlanRow) -> Result<String, AllocError>
-    ensures { IfOk result (λ line. string_bytes line ≡ spec.plan_line (plan_of key.now plan.now)) }
+    ensures { IfOk result
+        (λ line. string_bytes line ≡ spec.plan_line (plan_of key.now plan.now)) }
 {
     let front = plan_front(alloc, key, plan)?;
     let name = hex::encode_upper(alloc, plan.name.as_str())?;

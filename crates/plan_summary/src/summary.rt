@@ -1,19 +1,20 @@
-//! How many rows an office has, and the digest of the text of all of them.
+//! The numbers of rows of an office, and the digest of the text of all rows.
 
 ghost use Rattle.std.specs.Prelude.{◌≡◌, IfOk, OnOk, string_bytes};
 ghost use Rattle.std.specs.List.{flat_map};
 ghost use Rattle.plan_rows.specs.KeyedRows.{key_in};
-ghost use Rattle.plan_summary.specs.Summing.{Takes, Looks};
 ghost use Rattle.plan_summary.specs.RowTexts as spec;
 ghost use Rattle.plan_summary.specs.RowTexts.{IsSummary, text_of};
-ghost use Rattle.plan_summary.specs.Summing.{plan_of, line_at, lines_at, desk_lines, plan_lines, IsDigestOf, IsSummaryBy, counts_text};
+ghost use Rattle.plan_summary.specs.Digests.{Takes, Looks, plan_of, line_at, lines_at};
+ghost use Rattle.plan_summary.specs.Digests.{desk_lines, plan_lines, IsDigestOf};
+ghost use Rattle.plan_summary.specs.Digests.{IsSummaryBy, counts_text};
 
 use crate::lines::{Line, office_line, plan_line};
 use plan_rows::{BookFault, Listing, PlanKey, PlanRow, RowsByKey};
 use sha2::{Digest, Sha256};
 use std::alloc::{AllocError, Global};
 
-/// How many rows there are in each table, and the SHA-256 of the text of all rows.
+/// The number of rows of each table, and the SHA-256 of the text of all rows.
 #[derive(Clone, Copy, Debug, Drop)]
 pub struct Summary {
     pub desks: usize,
@@ -24,25 +25,25 @@ pub struct Summary {
     pub digest: [u8; 32],
 }
 
-// Hands a text to a hasher.
+// Adds a text to a hasher.
 fn add_text(hasher: &mut Sha256, text: &str)
     ensures { Takes hasher.old hasher.new text.now }
 {
     hasher.update(text);
 }
 
-// Hands the lines of rows to a hasher.
+// Adds the lines of rows to a hasher.
 fn add_lines<T: Line>(alloc: Global, hasher: &mut Sha256, rows: &[T]) -> Result<(), AllocError>
     ensures { OnOk result (Takes hasher.old hasher.new (flat_map T.written rows.now)) }
 {
-    'all: for row in rows {
+    for row in rows {
         let line = row.line(alloc)?;
         add_text(hasher, line.as_str());
     }
     Ok(())
 }
 
-// Hands the digest of the office's key, the published codes and the desks to a hasher.
+// Adds the digest of the office's key, the published codes and the desks to a hasher.
 #[tactic(auto, using(crate::proofs::SummaryLemmas::takes_then))]
 fn add_desk_tables(alloc: Global, hasher: &mut Sha256, rows: &RowsByKey) -> Result<(), AllocError>
     ensures { OnOk result (Takes hasher.old hasher.new (desk_lines rows.now)) }
@@ -53,7 +54,7 @@ fn add_desk_tables(alloc: Global, hasher: &mut Sha256, rows: &RowsByKey) -> Resu
     add_lines(alloc, hasher, rows.desks.as_slice())
 }
 
-// Hands the binds and the lags to a hasher.
+// Adds the binds and the lags to a hasher.
 #[tactic(auto, using(crate::proofs::SummaryLemmas::takes_then))]
 fn add_plan_tables(alloc: Global, hasher: &mut Sha256, rows: &RowsByKey) -> Result<(), AllocError>
     ensures { OnOk result (Takes hasher.old hasher.new (plan_lines rows.now)) }
@@ -62,28 +63,30 @@ fn add_plan_tables(alloc: Global, hasher: &mut Sha256, rows: &RowsByKey) -> Resu
     add_lines(alloc, hasher, rows.lags.as_slice())
 }
 
-// Hands a plan to a hasher.
+// Adds a plan to a hasher.
 fn add_row(
     alloc: Global,
     hasher: &mut Sha256,
     key: &PlanKey,
     plan: &PlanRow,
 ) -> Result<(), AllocError>
-    ensures { OnOk result (Takes hasher.old hasher.new (spec.plan_line (plan_of key.now plan.now))) }
+    ensures { OnOk result
+        (Takes hasher.old hasher.new (spec.plan_line (plan_of key.now plan.now))) }
 {
     let line = plan_line(alloc, key, plan)?;
     add_text(hasher, line.as_str());
     Ok(())
 }
 
-// Hands the plan of a key to a hasher.
+// Reads the plan of a key and adds it to a hasher.
 fn add_plan<B: Listing>(
     alloc: Global,
     book: &mut B,
     hasher: &mut Sha256,
     key: &PlanKey,
 ) -> Result<(), BookFault>
-    ensures { Looks B.shelf book.old book.new (λ w _. Takes hasher.old hasher.new (line_at w (key_in key.now))) result }
+    ensures { Looks B.shelf book.old book.new
+        (λ w _. Takes hasher.old hasher.new (line_at w (key_in key.now))) result }
 {
     match book.plan(key.desk.as_str(), key.n)? {
         Some(plan) => {
@@ -94,22 +97,23 @@ fn add_plan<B: Listing>(
     }
 }
 
-// Hands the plans of keys to a hasher, one after another.
+// Reads the plans of keys and adds them to a hasher, one after another.
 fn add_plans<B: Listing>(
     alloc: Global,
     book: &mut B,
     hasher: &mut Sha256,
     keys: &[PlanKey],
 ) -> Result<(), BookFault>
-    ensures { Looks B.shelf book.old book.new (λ w _. Takes hasher.old hasher.new (lines_at w keys.now)) result }
+    ensures { Looks B.shelf book.old book.new
+        (λ w _. Takes hasher.old hasher.new (lines_at w keys.now)) result }
 {
-    'all: for key in keys {
+    for key in keys {
         add_plan(alloc, book, hasher, key)?;
     }
     Ok(())
 }
 
-// The digest of the text of all rows, by those that were listed.
+// Computes the digest of the text of all rows, for rows that were listed.
 fn digest_of<B: Listing>(
     alloc: Global,
     book: &mut B,
@@ -124,7 +128,7 @@ fn digest_of<B: Listing>(
     Ok(hasher.finalize())
 }
 
-// The summary of the rows that were listed.
+// Returns the summary of rows that were listed.
 fn summary_by(rows: &RowsByKey, digest: [u8; 32]) -> Summary
     ensures { IsSummaryBy rows.now digest result }
 {
@@ -138,7 +142,7 @@ fn summary_by(rows: &RowsByKey, digest: [u8; 32]) -> Summary
     }
 }
 
-/// How many rows a book has, and the digest of the text of all of them.
+/// Computes the summary of a book.
 pub fn summary_of<B: Listing>(alloc: Global, book: &mut B) -> Result<Summary, BookFault>
     ensures { Looks B.shelf book.old book.new IsSummary result }
 {
@@ -147,7 +151,7 @@ pub fn summary_of<B: Listing>(alloc: Global, book: &mut B) -> Result<Summary, Bo
     Ok(summary_by(&rows, digest))
 }
 
-// How many rows there are, as it is printed.
+// Formats the numbers of rows.
 fn counts_text(alloc: Global, summary: &Summary) -> Result<String, AllocError>
     ensures { IfOk result (λ text. string_bytes text ≡ counts_text summary.now) }
 {
@@ -158,7 +162,7 @@ fn counts_text(alloc: Global, summary: &Summary) -> Result<String, AllocError>
     )
 }
 
-/// What is printed of it.
+/// Formats a summary.
 pub fn summary_text(alloc: Global, summary: &Summary) -> Result<String, AllocError>
     ensures { IfOk result (λ text. string_bytes text ≡ text_of summary.now) }
 {

@@ -3,7 +3,7 @@ use Rattle.plan_rows.specs.Books.{Matches, IsPlanAnswer}
 use Rattle.plan_rows.specs.Plans.{has_number}
 use Rattle.plan_rows.specs.Views.{view}
 use Rattle.plan_desk.proofs.DecidingLemmas.{quiet_reads}
-use Rattle.plan_summary.specs.Summing.{Takes}
+use Rattle.plan_summary.specs.Digests.{Takes}
 use Rattle.plan_summary.proofs.SummaryLemmas.{line_there}
 use Rattle.plan_summary.proofs.summary.add_plan.Goals as goal
 

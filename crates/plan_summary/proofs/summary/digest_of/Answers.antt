@@ -1,5 +1,5 @@
 use Rattle.std.proofs.Common.{[], subst}
-use Rattle.plan_summary.specs.Summing.{Takes, lines_at}
+use Rattle.plan_summary.specs.Digests.{Takes, lines_at}
 use Rattle.plan_summary.proofs.SummaryLemmas.{looks_as}
 use Rattle.plan_summary.proofs.summary.digest_of.Goals as goal
 

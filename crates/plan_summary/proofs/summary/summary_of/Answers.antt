@@ -1,6 +1,6 @@
 use Rattle.std.proofs.Common.{subst}
 use Rattle.plan_desk.proofs.DecidingLemmas.{quiet_reads, quiet_then}
-use Rattle.plan_summary.specs.Summing.{IsDigestOf}
+use Rattle.plan_summary.specs.Digests.{IsDigestOf}
 use Rattle.plan_summary.proofs.SummaryLemmas.{summed}
 use Rattle.plan_summary.proofs.summary.summary_of.Goals as goal
 

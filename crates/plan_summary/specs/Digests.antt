@@ -1,4 +1,4 @@
--- What a hasher is given of the rows of an office that a book lists (docs/definitions.md, "Runs").
+-- The text of an office's rows that a hasher receives (docs/definitions.md, "Runs").
 use Rattle.std.specs.Prelude.{◌≡◌, ℕ, List, [], ◌++◌, length, Option, Some, None, Result, IfOk, string_bytes}
 use Rattle.std.specs.Prelude.{codes, decimal}
 use Rattle.std.specs.List.{flat_map}
@@ -18,16 +18,16 @@ use Rattle.sha2.specs.Sha256.{sha256}
 use Rattle.plan_summary.specs.declared.summary.Summary.{Summary}
 use Rattle.plan_summary.specs.RowTexts.{office_line, code_line, desk_line, plan_line, bind_line, lag_line}
 
--- a hasher has taken a text
+-- a text was added to a hasher
 abbrev pub Takes : Sha256 → Sha256 → Text → Type 0
 Takes old new text = (m : List ℕ) → Holds256 old m → Holds256 new (m ++ text)
 
--- something is read of the rows of a book that can be seen, and nothing was written
+-- a result is read from the rows of a book that can be read, and nothing was written
 pub record Looks {B : Type 0} (shelf : Shelf B) (old new : B) {X : Type 0} (Is : World → X → Type 0) (result : Result X BookFault) : Type 0 where
   pub quiet : Quiet shelf old new
   pub found : IfOk result (λ x. shelf.honest new → shelf.stands old → shelf.stands new × Is (shelf.world old) x)
 
--- a plan as a row, by its key and by what a book answers of it
+-- a plan as a row, from its key and from the plan that a book returns
 abbrev pub plan_of : PlanKey → PlanRow → Plan
 plan_of key plan = record {
   desk = string_bytes key.desk;
@@ -39,22 +39,22 @@ plan_of key plan = record {
   days = string_bytes plan.days;
 }
 
--- the first words of its line
+-- the first values of its line
 abbrev pub plan_front : PlanKey → PlanRow → Text
 plan_front key plan =
     codes "plan " ++ string_bytes key.desk ++ codes " " ++ decimal key.n ++ codes " "
     ++ plan_kind_text plan.kind
 
--- the line of a plan that may be there
+-- the line of a plan, if it exists
 abbrev pub line_of_plan : Option Plan → Text
 line_of_plan None = []
 line_of_plan (Some plan) = plan_line plan
 
--- the line of the plan that has a key
+-- the line of the plan with this key
 abbrev pub line_at : World → Text × ℕ → Text
 line_at w key = line_of_plan (plan_in w key.0 key.1)
 
--- the lines of the plans that have these keys
+-- the lines of the plans with these keys
 abbrev pub lines_at : World → List PlanKey → Text
 lines_at w keys = flat_map (λ key. line_at w (key_in key)) keys
 
@@ -69,18 +69,18 @@ plan_lines rows =
     flat_map (λ row. bind_line (bind_kept row)) rows.binds.items
     ++ flat_map (λ row. lag_line (lag_kept row)) rows.lags.items
 
--- the digest of all rows of an office, by those that were listed
+-- the digest of all rows of an office, for rows that were listed
 abbrev pub IsDigestOf : RowsByKey → World → List ℕ → Type 0
 IsDigestOf rows w digest = digest ≡ sha256 ((desk_lines rows ++ lines_at w rows.plans.items) ++ plan_lines rows)
 
--- what is printed of a summary but its digest
+-- the printed text of a summary without its digest
 abbrev pub counts_text : Summary → Text
 counts_text summary =
     codes "desks " ++ decimal summary.desks ++ codes "\npublished " ++ decimal summary.published
     ++ codes "\nplans " ++ decimal summary.plans ++ codes "\nbinds " ++ decimal summary.binds
     ++ codes "\nlags " ++ decimal summary.lags
 
--- the summary by the rows that were listed
+-- the summary of rows that were listed
 pub record IsSummaryBy (rows : RowsByKey) (digest : List ℕ) (summary : Summary) : Type 0 where
   pub desks : summary.desks ≡ length rows.desks.items
   pub published : summary.published ≡ length rows.published.items
