@@ -147,15 +147,15 @@ module _ {S : Type 0} (g : Ghosts S) (first : Held S) where
 -- ---- the next plan
 
 module _ {S : Type 0} (g : Ghosts S) (old new : Held S) (before after : Review) where
-  pub next_plan_of : (row : Option Row) → Advances g old new row → (next : Next) → ((plans : List Plan) → HasReviewed plans before → ComesNext row plans after next) → Reviews g old new before after next
-  next_plan_of None on next comes = λ text params given plans has reviewed.
+  pub goes_next : (row : Option Row) → Advances g old new row → (next : Next) → ((plans : List Plan) → HasReviewed plans before → ComesNext row plans after next) → Reviews g old new before after next
+  goes_next None on next comes = λ text params given plans has reviewed.
       let it = comes plans reviewed in
       subst (Goes g text params old new given plans after) (sym it.0) (on text params given has, it.1)
-  next_plan_of (Some row) on Good comes = λ text params given plans has reviewed.
+  goes_next (Some row) on Good comes = λ text params given plans has reviewed.
       let it = comes plans reviewed in
       (row, it.0, on text params given has, it.1, it.2)
-  next_plan_of (Some row) on Bad comes = λ text params given plans has reviewed. (row, on text params given has, comes plans reviewed)
-  next_plan_of (Some row) on End comes = λ text params given plans has reviewed. absurd (comes plans reviewed)
+  goes_next (Some row) on Bad comes = λ text params given plans has reviewed. (row, on text params given has, comes plans reviewed)
+  goes_next (Some row) on End comes = λ text params given plans has reviewed. absurd (comes plans reviewed)
 
 -- after a good plan some plans were tested
 pub good_reviewed : (row : Option Row) (plans : List Plan) (review : Review) (r : Result Next BookFault) → IfOk r (ComesNext row plans review) → r ≡ Ok Good → (all : List Plan) × HasReviewed all review

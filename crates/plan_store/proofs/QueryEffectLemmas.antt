@@ -1,5 +1,6 @@
 -- The effect of a call that reads on a connection.
 use Rattle.std.proofs.Common.{◌≡◌, ◌⊎◌, inl, inr, ℕ, false, List, Ok, Err, Result, IfOk, IsTrue, refl, sym, ap, subst, ◌∙◌}
+use Rattle.std.specs.Prelude.{IfErr}
 use Rattle.sqlite_value.specs.Order.{Row}
 use Rattle.sqlite_trees.specs.Tree.{Trees}
 use Rattle.sqlite.specs.declared.error.Error.{Error}
@@ -48,6 +49,17 @@ module _ (old new : State) (rest : IsAtRest old) (honesty : HasCleanDisk new →
     crash = crash;
     endures = endures;
   }
+
+-- the same for an equal result
+pub queries_as : (old new : State) {X : Type 0} (r q : Result X BookFault) (Is : X → Type 0) → q ≡ r → Queries old new r Is → Queries old new q Is
+queries_as old new r q Is same it = subst (λ k. Queries old new k Is) (sym same) it
+
+-- a fact about a result that is known
+pub was_if_ok : {X E : Type 0} (P : X → Type 0) (r : Result X E) (x : X) → r ≡ Ok x → IfOk r P → P x
+was_if_ok P r x is h = subst (λ k. IfOk k P) is h
+
+pub was_if_err : {X E : Type 0} (P : E → Type 0) (r : Result X E) (e : E) → r ≡ Err e → IfErr r P → P e
+was_if_err P r e is h = subst (λ k. IfErr k P) is h
 
 -- two queries, one after another
 pub queries_then : (a b c : State) {X Y Z : Type 0} (r : Result X BookFault) (Is : X → Type 0) (q : Result Y BookFault) (Other : Y → Type 0) (out : Result Z BookFault) (Last : Z → Type 0)

@@ -1,5 +1,6 @@
 -- What statements in one transaction do to a connection.
 use Rattle.std.proofs.Common.{◌≡◌, ◌⊎◌, inl, inr, ◌≤◌, ◌<◌, ◌+◌, ℕ, true, false, List, map, drop, get_or, length, Ok, Err, Result, OnOk, IsTrue, refl, sym, subst, ◌∙◌, arith}
+use Rattle.std.specs.Prelude.{MatchResult, IsErrAnd, OnErr}
 use Rattle.std.proofs.lemmas.List.{drop_more, drop_all}
 use Rattle.std.specs.Borrow.{Bor}
 use Rattle.sqlite_value.specs.declared.value.ValueRef.{ValueRef}
@@ -12,6 +13,24 @@ use Rattle.sqlite.proofs.InsideLemmas.{unchanged_keeps}
 use Rattle.sqlite.proofs.StateLemmas.{survives_then}
 use Rattle.sqlite.proofs.Callers.{survives_begin}
 use Rattle.plan_store.specs.Transactions.{Statement, said, RanAll, LeavesAll, MayMake}
+
+-- the two outcomes of a result whose error is mapped
+pub mapped : {X E D : Type 0} (r : Result X E) (q : Result X D) (Post : E → D → Type 0) (P : Type 0) → MatchResult r (λ x. q ≡ Ok x) (λ e. IsErrAnd q (Post e))
+    → ((x : X) → r ≡ Ok x → q ≡ Ok x → P) → ((e : E) (d : D) → r ≡ Err e → q ≡ Err d → Post e d → P) → P
+mapped (Ok x) q Post P same ok err = ok x refl same
+mapped (Err e) (Err d) Post P post ok err = err e d refl refl post
+mapped (Err e) (Ok x) Post P post ok err = absurd post
+
+-- a result that is an error
+pub failed_with : {X E : Type 0} (r : Result X E) (Q : E → Type 0) (P : Type 0) → IsErrAnd r Q → ((e : E) → r ≡ Err e → Q e → P) → P
+failed_with (Err e) Q P h use_it = use_it e refl h
+failed_with (Ok x) Q P h use_it = absurd h
+
+pub was_ok : {X E : Type 0} {A : Type 0} (r : Result X E) (x : X) → r ≡ Ok x → OnOk r A → A
+was_ok {X} {E} {A} r x is h = subst (λ k. OnOk k A) is h
+
+pub was_err : {X E : Type 0} {A : Type 0} (r : Result X E) (e : E) → r ≡ Err e → OnErr r A → A
+was_err {X} {E} {A} r e is h = subst (λ k. OnErr k A) is h
 
 pub keeps_itself : (s : State) → KeepsCommit s s
 keeps_itself s = record { was_open = λ h. h; committed = λ _. refl }

@@ -5,7 +5,7 @@ ghost use Rattle.sqlite.specs.Held.{state};
 ghost use Rattle.plan_store.specs.Tables.{no_schema};
 ghost use Rattle.plan_store.specs.Creation.{Creates};
 
-use crate::fault::{StoreFault, store_fault_of};
+use crate::fault::StoreFault;
 use crate::numbers::digits_of;
 use crate::schema::{
     CREATE_BINDS, CREATE_DESKS, CREATE_LAGS, CREATE_META, CREATE_PLANS, CREATE_PUBLISHED,
@@ -35,7 +35,7 @@ pub fn make_tables<S: Alter>(conn: &mut Connection<S>, digest: &[u8; 32]) -> Res
     };
     let given: &[ValueRef<'_>] = &[ValueRef::Text(digits.as_slice())];
     let none = &given[..0];
-    let made = run_all(
+    run_all(
         conn,
         &[
             (CREATE_META, none),
@@ -46,9 +46,6 @@ pub fn make_tables<S: Alter>(conn: &mut Connection<S>, digest: &[u8; 32]) -> Res
             (CREATE_LAGS, none),
             (INSERT_META, given),
         ],
-    );
-    match made {
-        Ok(()) => Ok(()),
-        Err(error) => Err(store_fault_of(error)),
-    }
+    )?;
+    Ok(())
 }

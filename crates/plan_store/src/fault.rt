@@ -35,6 +35,14 @@ pub(crate) fn fault_of(error: Error) -> BookFault
     }
 }
 
+impl From<Error> for StoreFault {
+    ghost from_gives = { λ _ fault. (fault ≢ NotOurs) × (fault ≢ Version) };
+
+    fn from(error: Error) -> Self {
+        store_fault_of(error)
+    }
+}
+
 // Returns the fault of a book that is being created or adopted.
 pub(crate) fn store_fault_of(error: Error) -> StoreFault
     ensures ours { result ≢ NotOurs }

@@ -7,7 +7,7 @@ ghost use Rattle.plan_store.specs.declared.layout.Layout.TheVariants.{First};
 ghost use Rattle.plan_store.specs.Layouts.{IsOfficeAt};
 ghost use Rattle.plan_store.specs.Adoption.{Takes};
 
-use crate::fault::{StoreFault, store_fault_of};
+use crate::fault::StoreFault;
 use crate::schema::CREATE_LAGS;
 use crate::transaction::run_all;
 use sqlite::types::ValueRef;
@@ -23,15 +23,12 @@ pub fn migrate<S: Alter>(conn: &mut Connection<S>) -> Result<(), StoreFault>
 {
     let _settled = conn.is_autocommit();
     let none: &[ValueRef<'_>] = &[];
-    let made = run_all(
+    run_all(
         conn,
         &[
             (CREATE_LAGS, none),
             ("UPDATE meta SET version = 2 WHERE id = 1", none),
         ],
-    );
-    match made {
-        Ok(()) => Ok(()),
-        Err(error) => Err(store_fault_of(error)),
-    }
+    )?;
+    Ok(())
 }

@@ -27,10 +27,7 @@ pub fn prepare<S: Alter>(conn: &mut Connection<S>, text: &str) -> Result<Stateme
     ensures { Queries (state S.Store conn.old) (state S.Store conn.new) result
         (λ s. s.text ≡ text.now) }
 {
-    match conn.prepare(text) {
-        Ok(statement) => Ok(statement),
-        Err(error) => Err(fault_of(error)),
-    }
+    conn.prepare(text).map_err(fault_of)
 }
 
 // Returns the rows of a query on an open connection.
@@ -48,10 +45,7 @@ fn run<S: Alter>(
         (λ rows. Shown statement.now.text (bound params.now)
         (state S.Store conn.old) (state S.Store conn.new) rows.items) }
 {
-    match statement.query_all(conn, params) {
-        Ok(rows) => Ok(rows),
-        Err(error) => Err(fault_of(error)),
-    }
+    statement.query_all(conn, params).map_err(fault_of)
 }
 
 // Returns the rows of a query on any tables.

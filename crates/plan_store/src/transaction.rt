@@ -68,8 +68,5 @@ pub fn transact<S: Alter>(
     ensures { (change : World → World) → Makes S.Store (map said statements.now) conn.old change
         → ChangesOffice S.Store conn.old conn.new result change }
 {
-    match run_all(conn, statements) {
-        Ok(()) => Ok(()),
-        Err(error) => Err(fault_of(error)),
-    }
+    run_all(conn, statements).map_err(fault_of)
 }

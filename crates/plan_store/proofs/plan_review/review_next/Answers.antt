@@ -1,7 +1,7 @@
 use Rattle.std.proofs.Common.{inl, inr}
 use Rattle.sqlite.specs.Held.{state}
 use Rattle.sqlite.specs.Given.{row_if}
-use Rattle.plan_store.proofs.PlanReviewLemmas.{unchanged_stays, stays_leaves, undone_leaves, next_plan_of, good_reviewed, if_all_ok}
+use Rattle.plan_store.proofs.PlanReviewLemmas.{unchanged_stays, stays_leaves, undone_leaves, goes_next, good_reviewed, if_all_ok}
 use Rattle.plan_store.proofs.plan_review.review_next.Goals as goal
 
 pub returns-in-Ok-clause-reviewed : goal.returns-in-Ok-clause-reviewed
@@ -18,7 +18,7 @@ pub returns-in-Ok-clause-told : goal.returns-in-Ok-clause-told
 returns-in-Ok-clause-told g c clean =
     let row = row_if c.advance.new.self.has_row c.advance.new.self.conn.now in
     if_all_ok c.review_at.result row c.args.review.now c.review_at.new.review c.review_at.ensures.told
-    (λ next comes. (c.in-Ok.ensures.same clean, next_plan_of g.S.Store c.args.rows.now.conn.now c.advance.new.self.conn.now c.args.review.now c.review_at.new.review row (c.in-Ok.ensures.ok clean) next comes))
+    (λ next comes. (c.in-Ok.ensures.same clean, goes_next g.S.Store c.args.rows.now.conn.now c.advance.new.self.conn.now c.args.review.now c.review_at.new.review row (c.in-Ok.ensures.ok clean) next comes))
 
 pub returns-in-Err-clause-leaves : goal.returns-in-Err-clause-leaves
 returns-in-Err-clause-leaves g c clean =
