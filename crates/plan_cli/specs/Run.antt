@@ -89,8 +89,8 @@ module _ {R W : Type 0} (source : sources.Ghosts R) (sink : sinks.Ghosts W)
     -- fails
     pub text : IfSome (source.remaining reader) (λ file.
         Writes (IsText file) (IsLine file) (sink.taken writer) (sink.taken writer_after) result)
-    -- unless memory runs out or the input fails, the same holds for the bytes that were read, at
-    -- most 1,048,577
+    -- unless memory runs out or the input fails, the same holds for the bytes that were read,
+    -- at most 1,048,577
     pub front : ReadsFront IsText IsLine (source.remaining reader) (source.remaining reader_after)
         (sink.taken writer) (sink.taken writer_after) result
     -- with any other error than that of the output, nothing is written
