@@ -1,4 +1,4 @@
-"""The programs in plain C++ beside which `plan` is measured (bench/native), compiled."""
+"""Compiles the C++ programs of bench/native, beside which `plan` is measured."""
 
 import os
 import shutil

@@ -1,5 +1,4 @@
-"""How what the program takes grows: with the activities of a project, and with the desks of an
-office."""
+"""How cost grows with the activities of a project, and with the desks of an office."""
 
 import hashlib
 import os

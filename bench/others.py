@@ -1,6 +1,7 @@
-"""Job shops as models for solvers that others wrote, and what these print: Gecode by MiniZinc, z3.
-Of each step its start is sought; each job's steps follow one another, and of two steps of one
-machine one ends before the other starts."""
+"""Job shops as models for other solvers (Gecode by MiniZinc, z3), and their answers. The variables
+are the starts of the steps. The constraints: steps of a job follow each other, and of two steps on
+one machine one ends before the other starts.
+"""
 
 import itertools
 import os

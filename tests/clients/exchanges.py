@@ -1,5 +1,6 @@
-"""Exchanges with an office: the conversation that stands in a file, the bytes of requests and responses, and the tables that an
-office keeps after each accepted command, as a program of its own that shares nothing with `plan`."""
+"""Exchanges with a server: the file conversation, the bytes of requests and responses, and the
+tables after each accepted command. Shares nothing with `plan`.
+"""
 
 import hashlib
 import json
@@ -217,7 +218,7 @@ SELECT 'lags|' || desk || '|' || n || '|' || src || '|' || dst || '|' || lag FRO
 PRAGMA integrity_check;
 """
 
-# The text of all rows whose digest `plan check-office` prints, as docs/api.md has it.
+# The text of all rows, whose digest `plan check-office` prints (docs/operations.md, "Backups").
 ROWS = """
 SELECT 'office ' || office FROM meta;
 SELECT 'published ' || code || ' ' || kind || ' ' || capacity FROM published ORDER BY code;

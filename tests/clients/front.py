@@ -1,6 +1,6 @@
-"""An office behind nginx in a folder of its own: share/nginx/office.conf, or servers.conf for one
-on several servers, with the paths and ports of that folder. share/web/try shows the first,
-tests/clients/browser tries it, and tests/clients/many the second."""
+"""A server behind nginx in a temporary folder, with share/nginx/office.conf, or several with
+servers.conf. share/web/try and tests/clients/browser use the first, tests/clients/many the second.
+"""
 
 import contextlib
 import os

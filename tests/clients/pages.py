@@ -1,4 +1,4 @@
-"""What the page of a desk shows, read by WebDriver, beside what `plan` prints of the same files."""
+"""Compares the browser page, read by WebDriver, with the output of `plan` for the same files."""
 
 import os
 
@@ -28,7 +28,7 @@ def explained(code):
 
 
 def rows_of(lines):
-    """The lines of a table as words, without its heading and what stands below."""
+    """The rows of a table as words, without its heading and the lines below it."""
     return [line.split() for line in lines if line.split()[0].isdigit()]
 
 
@@ -120,7 +120,7 @@ def same_bars(what, browser, rows, last):
         wanted = [int(start) * scale, int(end) * scale]
         edges = [left, right] if start != end else [(left + right) / 2] * 2
         if any(abs(a - b) > 2 for a, b in zip(edges, wanted)):
-            raise Wrong(f"a bar of line {line} of {what} stands at {edges} and not {wanted}")
+            raise Wrong(f"a bar of line {line} of {what} is at {edges} and not {wanted}")
 
 
 def same_dates(browser, lines):

@@ -1,4 +1,4 @@
-"""Makes a PNG smaller: its colours as a palette of the 256 most frequent ones."""
+"""Reduces a PNG to a palette of its 256 most frequent colours."""
 
 import collections
 import struct

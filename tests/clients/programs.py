@@ -1,5 +1,6 @@
-"""The program that is tried: how it is run on files and behind a socket, and the rows of its
-databases by the sqlite3 shell."""
+"""Runs the program under test on files and behind a socket, and reads its databases by the sqlite3
+shell.
+"""
 
 import contextlib
 import hashlib
@@ -21,7 +22,7 @@ class Wrong(Exception):
 
 
 class Unable(Exception):
-    """What is needed to try something isn't there."""
+    """A tool that a test needs is missing."""
 
 
 def same(what, found, wanted):

@@ -1,6 +1,7 @@
-"""An office on several servers behind nginx, by share/nginx/servers.conf, in a folder of its own;
-what plan-office and share/move-desk do to it; and what of nginx's responses the servers have said.
-tests/clients/many tries it, and bench/many measures it."""
+"""An office on several servers behind nginx, with share/nginx/servers.conf, in a temporary folder;
+the effects of plan-office and share/move-desk; and which server sent a response. Used by
+tests/clients/many and bench/many.
+"""
 
 import contextlib
 import os

@@ -1,5 +1,6 @@
-"""Drawn requests of many desks to an office on several servers, and to one server that gets the
-whole list: the same answers, byte for byte, and the same rows."""
+"""Drawn requests of many desks, sent to several servers and to one server that gets all of them:
+the responses are the same bytes, and the rows are the same.
+"""
 
 import os
 import threading

@@ -1,4 +1,4 @@
-"""A visit of the page of a desk, from the first sign-in to the last plan, in the order of VISIT."""
+"""Uses the browser page from the first sign-in to the last plan, in the order of VISIT."""
 
 import json
 import os
@@ -31,7 +31,7 @@ def listed(server):
 
 
 def visit_door(browser):
-    """A wrong key is refused in the office's words; so is a desk that isn't there."""
+    """A wrong key is refused with the office's error; so is an unknown desk."""
     for desk, key in ((DESK, "no-such-key"), ("nobody", KEY)):
         browser.type("#enter [name=desk]", desk)
         browser.type("#enter [name=key]", key)
@@ -160,7 +160,7 @@ def visit_bind(browser):
 
 
 def visit_lag(browser):
-    """A lag delays what stands behind it, and 0 takes it away; only an arc has one."""
+    """A lag delays its successor, and 0 removes it; only an arc has one."""
     arc = {"from": "2", "to": "3", "lag": "5"}
     for name, value in arc.items():
         browser.type(f"#lag [name={name}]", value)
@@ -229,7 +229,7 @@ def visit_closed(browser, office):
         seen_chart = browser.run("return chart.checkVisibility()")
         same(f"a chart with a capacity of {capacity}", seen_chart, is_open)
         told = texts(browser, "#plan-answer strong")
-        same("what is told", told, [] if is_open else ["E11 S4 machine 1 closed"])
+        same("the error", told, [] if is_open else ["E11 S4 machine 1 closed"])
 
 
 def visit_refused(browser):
@@ -349,7 +349,7 @@ def visit_waiting(browser):
 
 
 def fits(browser, width):
-    """Nothing stands beyond the right edge, and the chart is as wide as its place."""
+    """Nothing is beyond the right edge, and the chart is as wide as its place."""
     browser.wait(f"a page {width} pixels wide", """
         const svg = document.querySelector("#drawing svg");
         const room = Math.round(document.getElementById("drawing").clientWidth);

@@ -1,4 +1,4 @@
-"""A headless Chromium that is driven by WebDriver (W3C), with Python's standard library alone."""
+"""Drives a headless Chromium by WebDriver (W3C), with Python's standard library alone."""
 
 import base64
 import json

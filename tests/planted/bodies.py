@@ -1,5 +1,6 @@
-"""Wrong bodies of a crate, and checks that try several of them at once: the prover judges each function by itself, against the
-contracts of those that it calls. So a hundred cost what ten would cost one by one."""
+"""Wrong bodies of a crate, and checks of several of them at once. The prover judges each function
+alone, against the contracts of the functions that it calls, so that one check can try many edits.
+"""
 
 import collections
 import os
@@ -43,7 +44,7 @@ class Change(typing.NamedTuple):
 
 
 def owner_of(trait, argument, name):
-    """What stands before the names of an impl's functions where the prover tells of them: the type, and the trait behind it."""
+    """The prefix of an impl's functions in the prover's output: the type, then the trait."""
     words = [name] + [word.rpartition("::")[2] for word in (trait, argument) if word]
     return "".join(words) + "::"
 
@@ -180,7 +181,7 @@ def taken(texts, folder):
 
 
 def below(crate):
-    """The crates of the repository that a crate stands on."""
+    """The crates of the repository that a crate depends on."""
     with open(os.path.join(TOP, "crates.txt"), encoding="utf-8") as file:
         uses = {name: set(rest.split()) for name, rest in re.findall(r"(?m)^(\w+):(.*)$", file.read())}
     found, waiting = set(), [crate]
@@ -326,7 +327,7 @@ class Trial:
 
 
 def tried(copy, changes, tell):
-    """What comes of each change; `tell` is told of each as it ends."""
+    """The verdict on each change; `tell` is called with each as it ends."""
     printed = copy.checked([])
     if not re.search(r"(?m)^logic=proved", printed):
         sys.exit(f"planted: {copy.crate} isn't proved as it is\n" + printed[-2000:])

@@ -16,7 +16,7 @@ def library(folder):
 
 
 class Refusals:
-    """Runs of programs by a library that refuses; what it tells stands in a folder of their own."""
+    """Runs of programs with a library that refuses allocations; its reports are in a folder."""
 
     def __init__(self, built, folder):
         self.built, self.told = built, os.path.join(folder, "refused")

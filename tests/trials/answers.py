@@ -1,4 +1,4 @@
-"""What the program answers to a command, and what is said where that isn't what is wanted."""
+"""Runs a command and compares its answer."""
 
 import os
 import subprocess

@@ -1,16 +1,16 @@
 #!/usr/bin/env python3
-"""Tries the commands on files: worked examples that stand in the files commands/SUBJECT.trial, and
-those that go over many files, of formulas.py, six_activities.py and fisher_thompson.py.
+"""Runs worked examples of the commands on files: those of commands/SUBJECT.trial, and those over
+many files of formulas.py, six_activities.py and fisher_thompson.py.
 
-    tests/trials/commands.py             says nothing where all is well
-    tests/trials/commands.py -v          says what was tried
-    tests/trials/commands.py SUBJECT..   only these, as `schedules` or `cuts`
+    tests/trials/commands.py             prints nothing on success
+    tests/trials/commands.py -v          prints what was tried
+    tests/trials/commands.py SUBJECT..   only these, for example `schedules` or `cuts`
 
-A trial file has files, commands, and what each command gives, to the byte:
+A trial file lists files, commands and their outputs, to the byte:
 
-    # a line that says what is shown
+    # a comment
     file six.sm                           a file of examples/
-    file pair.txt                         a file that stands here, a line behind each bar
+    file pair.txt                         a file with this text, one line after each bar
     | 2 2
     | 0 4 1 1
     | 0 1 1 3
@@ -22,9 +22,9 @@ A trial file has files, commands, and what each command gives, to the byte:
     ! the line on standard error          status 1 and nothing on standard output
     ? the lines on standard error         status 2 and nothing on standard output
 
-A command without such lines prints nothing and ends with status 0. Files stay up to the end of the
-trial file, in a temporary folder in which the commands run.
-The program is the one that ./plan runs, or that PLAN_PROGRAM names.
+A command without such lines prints nothing and exits with status 0. The commands run in a
+temporary folder, where the files remain until the end of the trial file. The program is the one
+that ./plan runs, or the one that PLAN_PROGRAM names.
 """
 
 import ast
@@ -98,7 +98,7 @@ def blocks_of(path):
 
 
 def quoted(text):
-    """The bytes that a text in quotes stands for."""
+    """The bytes of a text in quotes."""
     return ast.literal_eval("b" + text)
 
 
@@ -142,7 +142,7 @@ class Trial:
             raise ValueError("that isn't understood")
 
     def plain(self, block, name, text):
-        """The content of a file that is named, stands below its name, or behind it."""
+        """The content of a file: named, below its name, or after it."""
         if text or not block.printed:
             block.refuse_lines()
             return quoted(text) if text else content_of(EXAMPLES, name)

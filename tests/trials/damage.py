@@ -1,6 +1,7 @@
-"""Offices whose file or log was damaged: bits that turned, ends that were cut off, logs that are
-gone or another office's. The program refuses such a file by `K1`, `K2` or `E91`, or answers as a
-plain model does by the rows that were there, or by those that the sqlite3 shell reads."""
+"""Databases whose file or log is damaged: turned bits, cut ends, logs that are missing or of
+another database. The program refuses such a file with `K1`, `K2` or `E91`, or answers as a simple
+model does from the earlier rows, or from those that the sqlite3 shell reads.
+"""
 
 import collections
 import contextlib
@@ -53,7 +54,7 @@ class Bench:
         return path
 
     def reading(self):
-        """Requests that read all that is there: of each desk and of each plan."""
+        """Requests that read everything: of each desk and of each plan."""
         office = self.drawn.office
         lists = ("plans", "capacities")
         paths = [(desk, f"{desk}/{page}") for desk in office.desks for page in lists]
@@ -120,7 +121,7 @@ class Judge:
         self.right, self.tally = answers(rows, self.requests), collections.Counter()
 
     def outcome(self, what, database):
-        """In a word what becomes of an office; Wrong where that is none of what may become."""
+        """The outcome for a database in one word; Wrong if it is not an allowed one."""
         seen = seen_by_sqlite(database, self.room)
         before = bytes_of(database)
         found = plan("replay", database, *self.paths, patience=MOST_SECONDS)

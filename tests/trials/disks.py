@@ -1,5 +1,6 @@
-"""What the program does to an office's file and its log, call by call, as disk.c writes it down, and
-what a stop behind any call leaves of the two."""
+"""The calls of the program on a database and its log, as disk.c records them, and what a stop
+after any call leaves of the two files.
+"""
 
 import collections
 import contextlib
@@ -35,7 +36,7 @@ def calls_in(journal):
 
 
 def content_of(database):
-    """The bytes of a file and of its log; none of one that isn't there."""
+    """The bytes of a file and of its log; empty if one is missing."""
     found = dict.fromkeys(FILES, b"")
     for name, end in FILES.items():
         with contextlib.suppress(FileNotFoundError), open(database + end, "rb") as file:

@@ -1,13 +1,15 @@
 #!/usr/bin/env python3
-"""Tries drawn requests: the program and the model beside it answer the same bytes, and keep the
-same rows, of which `plan check-office` says what the sqlite3 shell does. Every run of one seed draws the same requests.
+"""Compares drawn requests with the model: the program and the model return the same bytes and keep
+the same rows, and `plan check-office` prints the digest of the rows that the sqlite3 shell reads.
+A seed always draws the same requests.
 
-    tests/trials/drawn.py                     says nothing where all is well
-    tests/trials/drawn.py --cases N --seed S  so many requests, drawn by this seed
-    tests/trials/drawn.py --commands N        so many commands on files
-    tests/trials/drawn.py -v                  says how often each call and each answer came up
+    tests/trials/drawn.py                     prints nothing on success
+    tests/trials/drawn.py --cases N --seed S  N requests, drawn by this seed
+    tests/trials/drawn.py --commands N        N commands on files
+    tests/trials/drawn.py -v                  prints how often each call and each answer occurred
 
-Needs the sqlite3 shell, and the program that ./plan runs (or that PLAN_PROGRAM names).
+Needs the sqlite3 shell. The program is the one that ./plan runs, or the one that PLAN_PROGRAM
+names.
 """
 
 import argparse
@@ -223,7 +225,7 @@ def main():
     words.add_argument("-v", action="store_true", dest="is_verbose")
     given = words.parse_args()
     if not os.path.exists(PROGRAM):
-        sys.exit(f"drawn: {PROGRAM} isn't there; the gate builds it, or PLAN_PROGRAM names another")
+        sys.exit(f"drawn: {PROGRAM} is missing; the gate builds it, or PLAN_PROGRAM names another")
     try:
         try_drawn(given.cases, given.seed, given.is_verbose)
         try_files(given.commands, given.seed, given.is_verbose)

@@ -1,6 +1,6 @@
-"""Random stories of three desks in two worlds: what each desk is told among the others is what it
-is told in an office of its own, to the byte. The program stands beside itself here: no response is
-foreseen."""
+"""Random stories of three desks, twice: each desk among the others and alone. The responses must
+be the same bytes. The program is compared with itself: no response is predicted.
+"""
 
 import os
 import random

@@ -1,5 +1,6 @@
-"""The job shop of Fisher and Thompson, 6 jobs on 6 machines, in a file among words and others: that
-it is read as it stands, that its schedules are feasible, and that 55 is proved least."""
+"""The job shop of Fisher and Thompson, 6 jobs on 6 machines, in a file among other text: it is
+read exactly, its schedules are feasible, and 55 is proved optimal.
+"""
 
 from answers import Wrong, plan, printed, refused, same, written
 from formulas import SHOP, row
@@ -70,7 +71,7 @@ def text_of(what, answer):
 
 
 def try_rules(folder):
-    """The instance is read as it stands, by each rule."""
+    """The instance is read exactly, by each rule."""
     steps = fisher_steps()
     times = [sum(time for job, _, _, time in steps if job == own) for own in range(1, 7)]
     same("the times of the jobs", times, TIMES)
@@ -101,7 +102,7 @@ def try_proof(folder):
 
 
 def try_fisher(folder):
-    """The instance among words and others, of which one isn't whole, and one isn't there."""
+    """The instance among other text and instances; one is incomplete, and one is missing."""
     written(folder, "shops.txt", COLLECTION.encode())
     tiny = printed(SHOP + row(1, 1, 0, 2, 0, 2) + "\nmakespan 2\n")
     same("the names", plan(folder, "names", "shops.txt"), printed("tiny\nft06\nlast\n"))

@@ -1,7 +1,7 @@
 """Commands on files that are made by formulas: texts at their limits, a walk from day to day, days
-far away. What is wanted is worked out here, by formulas of its own.
+in the far future. Expected answers come from formulas of this file.
 
-Each function is given an empty folder, and gives the number of commands that it tried.
+Each function gets an empty folder, and returns the number of commands that it tried.
 """
 
 import datetime
@@ -95,7 +95,7 @@ def try_arcs(folder):
 
 
 def even_shop(jobs, machines, time):
-    """A shop in the bare form whose steps take the same time; job j stands in line 1 + j."""
+    """A shop in the bare form whose steps take the same time; job j is in line 1 + j."""
     steps = " ".join(f"{machine} {time}" for machine in range(machines))
     return f"{jobs} {machines}\n".encode() + f"{steps}\n".encode() * jobs
 

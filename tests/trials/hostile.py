@@ -1,6 +1,7 @@
-"""What hostile hands and a full disk do to an office: streams that are closed, names that are no
-files, a file that another program holds, a disk without room. Each is a fault that docs/errors.md
-has, or the right answer, and no row is lost."""
+"""Hostile files and full disks: closed streams, names that aren't files, a file that another
+program holds, a disk without space. The program answers correctly, or with an error of
+docs/errors.md, and no row is lost.
+"""
 
 import contextlib
 import os
@@ -113,7 +114,7 @@ def unusual(room):
 
 
 def look_of(path):
-    """What stands at a name, and its bytes where it is a file."""
+    """The kind of a name, and its bytes if it is a file."""
     found = os.stat(path)
     content = None
     if stat.S_ISREG(found.st_mode):
@@ -141,13 +142,13 @@ def refused(what, calls, wanted):
 
 
 def in_use_line():
-    """What is told of a file that is in use: 0.3.0 has no line of its own for it."""
+    """The error for a file in use: 0.3.0 has no code of its own for it."""
     return fault("K4 in use") if plan("explain", "K4")[0] == 0 else STORE
 
 
 @contextlib.contextmanager
 def held_by_sqlite(database, begin):
-    """The sqlite3 shell has begun what is told, and ends it behind."""
+    """The sqlite3 shell starts a transaction, and ends it afterwards."""
     pipes = {"stdin": subprocess.PIPE, "stdout": subprocess.PIPE}
     with subprocess.Popen(["sqlite3", database], **pipes) as shell:
         shell.stdin.write(begin.encode() + b" SELECT 'begun';\n")

@@ -1,5 +1,6 @@
-"""Longer stories: loops over requests that would fill many files. What is expected is written here
-by hand, by formulas where a story repeats itself."""
+"""Longer stories: loops over requests that would fill many files. Expected responses are written
+here by hand, or by formulas if a story repeats itself.
+"""
 
 import os
 

@@ -1,11 +1,10 @@
 #!/usr/bin/env python3
-"""Tries the model of an office by itself, without the program: it answers the conversation of
-tests/clients/ as that is written there, keeps the rows of tests/clients/exchanges.py, and prints the tables of
-examples/README.md. So the model is tried against what was written by hand. And what it calls an optimum
-is the least of all orders.
+"""Checks the model without the program: it answers tests/clients/conversation, keeps the rows of
+tests/clients/exchanges.py, and prints the tables of examples/README.md, all of which were written
+by hand. Its optima are compared with all orders of small instances.
 
-    tests/trials/modelled.py      says nothing where all is well
-    tests/trials/modelled.py -v   says what was tried
+    tests/trials/modelled.py      prints nothing on success
+    tests/trials/modelled.py -v   prints what was tried
 """
 
 import itertools
@@ -62,7 +61,7 @@ def calls():
 
 def with_files(words):
     """The words of a command with the bytes of files for their names; None for one that is away.
-    What comes in by standard input stands for the first hyphen."""
+    Standard input replaces the first hyphen."""
     if "<" in words:
         words[words.index("-")] = words[-1]
         words = words[: words.index("<")]

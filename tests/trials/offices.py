@@ -1,5 +1,6 @@
-"""Offices that `plan init` makes out of texts of keys, and desks whose next number the sqlite3
-shell has set."""
+"""Databases that `plan init` makes from various keys, and desks whose next number the sqlite3
+shell has set.
+"""
 
 import itertools
 import os
@@ -45,7 +46,7 @@ def try_texts_of_keys(room):
 
 
 def try_no_keys(room):
-    """What is no key is told, and no file is made; an office that is there stays."""
+    """An invalid key is refused, and no file is made; an existing office stays."""
     database, there = os.path.join(room, "new.db"), os.path.join(room, "there.db")
     init(there)
     for text, place in itertools.product(NO_KEYS, (database, there)):

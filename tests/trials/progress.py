@@ -1,8 +1,8 @@
-"""How far `plan prove` is, in a line on standard error: where ./plan asks for it, and what is told of
-a shop that takes many nodes.
+"""The progress line of `plan prove` on standard error: when ./plan asks for it, and its numbers
+for a shop that takes many nodes.
 
     tests/trials/run terminal    the first, at once
-    tests/trials/run watched     the second, in half a minute or less; only in whole runs
+    tests/trials/run watched     the second, within half a minute; only in whole runs
 """
 
 import os
@@ -90,7 +90,7 @@ def told(terminal):
 
 
 def judge(rows):
-    """Fails where what is told, one behind another, can't be true of the shop."""
+    """Fails if the progress lines, in order, can't be true of the shop."""
     same("the nodes", [row[2] for row in rows], [*range(BETWEEN, NODES, BETWEEN), NODES])
     for best, lower, _ in rows:
         if not lower <= LEAST <= best:

@@ -1,11 +1,11 @@
 #!/usr/bin/env python3
-"""Random job shops of up to four jobs on up to four machines, some steps of no time and some
-machines that no step needs: what `plan prove` calls optimal is what `plan best` does, by a search of
-its own; and with few nodes the least makespan lies between its two numbers. The schedules are judged
-here: each step has its time, and no two of a job or on a machine go on at once.
+"""Random job shops of up to four jobs on four machines, with steps of time 0 and unused machines.
+The optimum of `plan prove` is that of `plan best`, which searches in another way; with few nodes
+it lies within the bounds. The schedules are checked here: no two steps of a job or of a machine
+overlap.
 
-    tests/trials/proofs.py               2,000 shops, and says nothing where all is well
-    tests/trials/proofs.py CASES SEED    so many shops, drawn from there on
+    tests/trials/proofs.py               2,000 shops; prints nothing on success
+    tests/trials/proofs.py CASES SEED    CASES shops, drawn from this seed
 """
 
 import os

@@ -1,5 +1,6 @@
-"""The six activities of examples/six.sm, cut off after each line and spelled otherwise: which line
-is told, and that it is the same project however it is spelled."""
+"""The six activities of examples/six.sm, cut off after each line and written in other ways: the
+line of the error, and the same project however it is written.
+"""
 
 from answers import EXAMPLES, content_of, plan, printed, refused, same, written
 from formulas import DATES, MOST_BYTES, SCHEDULE

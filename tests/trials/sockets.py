@@ -1,5 +1,6 @@
-"""What only a socket shows: responses that come at once, clients that go away, and such that have
-sent before they are served."""
+"""Behaviour that only a socket shows: responses that come at once, clients that leave, and clients
+that have sent before they are served.
+"""
 
 import os
 import select

@@ -1,12 +1,14 @@
-"""Disks that stop, and disks that fail, under `plan init`, under a store of the first version that
-is opened, and under each kind of request that changes tables. The program runs behind disk.c.
+"""Disks that stop or fail during `plan init`, during the migration of a database of the first
+version, and during each kind of request that changes rows. The program runs with disk.c preloaded.
 
-What a stop leaves is made of the calls that disk.c has written down (disks.py). The sqlite3 shell
-finds in it the tables of before or of after, those of after once the answer was on its way; the
-program finds the same, and goes on from there.
+disks.py derives from the recorded calls what a stop leaves. In it the sqlite3 shell must find the
+rows from before or after the request, and those from after once the response was on its way. The
+program must find the same, and continue.
 
-A disk that fails refuses a call, and all behind it or none. Then the program gives its answer or
-tells a fault of the store; the tables are those of before or of after, of after where it answered."""
+A failing disk refuses one call, or that call and all later ones. The program must answer correctly
+or report an error of the store; the rows are those from before or after, from after if it
+answered.
+"""
 
 import collections
 import concurrent.futures
@@ -62,7 +64,7 @@ class Making:
         return before, None
 
     def go_on(self, database, is_done):
-        """The program goes on with what is left: it makes the office that isn't there."""
+        """The program continues with the files that are left: it makes a missing office."""
         again = plan("check-office", database)[0] if is_done else self.run(database)[0]
         same("the status of plan check-office or plan init again", again, 0)
 
@@ -232,7 +234,7 @@ def whole_by(calls, content):
     return {name: disk.whole(name) for name in content}
 
 
-# How a call fails: what disk.c is told, and whether that is another way for a write alone.
+# How a call fails: the words for disk.c, and whether they concern writes alone.
 WAYS = {
     "alone": {},
     "and all behind it": {"LASTING": "1"},

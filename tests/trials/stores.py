@@ -1,5 +1,6 @@
-"""Stores that are there, as the sqlite3 shell has written them: opened, brought to the second
-version, or refused."""
+"""Databases that the sqlite3 shell has written: opened, migrated to the second version, or
+refused.
+"""
 
 import os
 
@@ -103,7 +104,7 @@ def try_not_ours(room):
 
 
 def try_versions(room):
-    """Another version is told from other tables."""
+    """Another version gets another error than other tables."""
     for change, wanted in [
         ("UPDATE meta SET version = 9;", VERSION),
         ("UPDATE meta SET version = 0;", VERSION),
@@ -156,10 +157,10 @@ EARLIER_LAG = LAG.replace("src, dst", "source, target")
 
 
 def renames():
-    """The two lines that docs/api.md gives for such a store."""
-    lines = file_of("docs/api.md").decode().split("\n")
+    """Returns the two lines of docs/operations.md that upgrade such a store."""
+    lines = file_of("docs/operations.md").decode().split("\n")
     found = [line.strip() for line in lines if line.startswith("    ALTER TABLE ")]
-    same("the lines of docs/api.md that rename columns", len(found), 2)
+    same("the lines of docs/operations.md that rename columns", len(found), 2)
     return found
 
 
@@ -241,7 +242,7 @@ def kept_from(database, what, wanted):
 
 
 def try_init_over(room):
-    """No office is made over tables. An office's are told from others, whatever is in them."""
+    """No office is made over tables. An office's tables have an error of their own."""
     for change, wanted in [
         ("SELECT 1;", TAKEN),
         ("UPDATE meta SET version = 9;", TAKEN),

@@ -1,5 +1,6 @@
-"""Stories: requests and the responses to the byte, each told to the program by files, by a socket
-and one at a time."""
+"""Stories: requests and their responses, to the byte. Each runs from files, over a socket, and one
+request at a time.
+"""
 
 import os
 import re
@@ -18,7 +19,7 @@ def names():
 def parted(out):
     """Responses that stand one behind another."""
     front, *responses = re.split(rb"(?=HTTP/1\.1 )", out)
-    same("what stands in front of the first response", front, b"")
+    same("the bytes before the first response", front, b"")
     return responses
 
 

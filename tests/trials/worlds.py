@@ -1,5 +1,6 @@
-"""Two worlds: what a desk is told in an office with others is what it is told in an office of its
-own, to the byte, in each story and for each desk in it."""
+"""Each desk of each story in an office with others and in one of its own: the responses are the
+same bytes.
+"""
 
 import json
 import os
@@ -19,7 +20,7 @@ def all_stories():
 
 
 def is_request(exchange):
-    """Its bytes spell a request, so that it was handled: no check of the connection is told."""
+    """Its bytes spell a request, so that it was handled: no connection check failed."""
     return exchange.method in ("GET", "POST", "DELETE") and b"\r\n\r\nH" not in exchange.expected()
 
 
@@ -75,7 +76,7 @@ def seen(lines, desk):
 
 
 def left(story, room, name):
-    """The rows that a story leaves in an office of its own, which answers it as it is told."""
+    """The rows that a story leaves in an office of its own, which answers as expected."""
     database = os.path.join(room, name)
     init(database)
     answered(story, database, written(story, room))

@@ -2,7 +2,7 @@
 
 
 class Draw:
-    """Choices by a random generator, which stands for them all."""
+    """Choices by one random generator."""
 
     def __init__(self, random):
         self.random, self.care = random, 1

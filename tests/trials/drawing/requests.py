@@ -88,7 +88,7 @@ class Requests:
         return key
 
     def desk(self):
-        """A desk, mostly one that is there."""
+        """A desk, mostly an existing one."""
         there = list(self.office.desks)
         if not there or self.draw.slips(0.02):
             return self.draw.pick(DESKS + NO_DESKS)
@@ -110,7 +110,7 @@ class Requests:
         return "some-key-1" if row is None else self.keys.get(row[0], "some-key-1")
 
     def plan(self, *kinds):
-        """The desk and the number of a plan, mostly one that is there, of these kinds."""
+        """The desk and the number of a plan of these kinds, mostly an existing one."""
         plans, long = self.office.plans.items(), self.long_plans()
         there = [own for own, plan in plans if plan.kind in kinds and own not in long]
         there = long if long and (not there or self.draw.chance(0.1)) else there

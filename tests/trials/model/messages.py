@@ -53,7 +53,7 @@ def text_of(target):
 
 
 class Head:
-    """The head of a request: its method, target and fields, and what stands behind it."""
+    """The head of a request: its method, target and fields, and the bytes after it."""
 
     def __init__(self, sent):
         found = HEAD.match(sent[:MOST_HEAD])

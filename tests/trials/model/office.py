@@ -114,7 +114,7 @@ class Office:
         return request.key is not None and digest(request.key) == wanted
 
     def plan_number(self, parts):
-        """The number of a plan that is there."""
+        """The number of an existing plan."""
         is_there = PLAN_NUMBER.fullmatch(parts[4]) and (parts[2], int(parts[4])) in self.plans
         refuse_if(not is_there, "E02")
         return int(parts[4])

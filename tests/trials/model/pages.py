@@ -1,5 +1,5 @@
 """What is worked out from a project or a shop: one answer for each page, with the refusals in
-their order (docs/errors.md, "What is asked for")."""
+their order (docs/errors.md, "Requested results")."""
 
 from . import schedules, searches, shops, texts
 

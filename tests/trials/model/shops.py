@@ -33,7 +33,7 @@ def block(lines, name):
 
 
 def stream_of(lines, name):
-    """The stream of the instance of a name that is there."""
+    """The stream of the instance with a known name."""
     if is_bare(lines):
         return Stream(lines, 0)
     number, rows = block(lines, name)

@@ -30,7 +30,7 @@ def lines_of(text):
 
 
 def words_of(line):
-    """What stands between the blanks of a line."""
+    """The words of a line, which blanks separate."""
     return [word for word in re.split(b"[" + BLANKS + b"]", line) if word]
 
 
