@@ -2,6 +2,7 @@
 use Rattle.std.specs.Prelude.{◌≡◌, ◌⊎◌, ℕ, ◌+◌, ◌≤◌, ◌<◌, List, Option, Result, Ok, Err}
 use Rattle.std.specs.Prelude.{String, IfSome, IfOk, IfErr, IsErrOf, OnOk, length, take}
 use Rattle.std.specs.Prelude.{string_bytes}
+use Rattle.std.specs.Global.{Global}
 use Rattle.std.specs.Io.KnownBytes.{Consumes, Appends}
 use Rattle.plan_io.specs.declared.traits.Sink as sinks
 use Rattle.plan_io.specs.declared.traits.Source as sources
@@ -16,7 +17,7 @@ use Rattle.plan_cli.specs.declared.fault.CliFault.{CliFault}
 use Rattle.plan_cli.specs.declared.fault.CliFault.TheVariants as fault
 
 -- a call that makes a text makes one of this kind
-abbrev pub IfText : Result String CliFault → (List ℕ → Type 0) → Type 0
+abbrev pub IfText : Result (String Global) CliFault → (List ℕ → Type 0) → Type 0
 IfText result IsText = IfOk result (λ text. IsText (string_bytes text))
 
 -- a text is the date table of the project in a file

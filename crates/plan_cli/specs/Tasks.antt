@@ -82,6 +82,6 @@ abbrev pub bytes_named : Option (List ℕ) → (List ℕ → Option (List ℕ)) 
 bytes_named standard file_of name = if bytes_eq name (codes "-") then standard else file_of name
 
 -- the bytes that a name stands for among these inputs, if they are known
-module _ {I : Type 0} (ghosts : inputs.Ghosts I) where
+module _ {I File Standard : Type 0} (ghosts : inputs.Ghosts I File Standard) where
   abbrev pub bytes_behind : I → List ℕ → Option (List ℕ)
   bytes_behind input = bytes_named (ghosts.standard_bytes input) (ghosts.file_bytes input)

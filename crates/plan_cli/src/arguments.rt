@@ -110,11 +110,14 @@ const COMMANDS: [Entry; 15] = [
         name: "schedule",
         about: "Prints the schedule of a project by a priority rule",
         examples: "Example:\n  plan schedule lft examples/house.sm",
-        arguments: &[Argument {
+        arguments: &[
+            Argument {
                 name: "RULE",
                 form: Form::Text,
                 help: "lft, slk, spt, mts or num",
-            }, FILE],
+            },
+            FILE,
+        ],
     },
     Entry {
         name: "chart",
@@ -207,10 +210,10 @@ const COMMANDS: [Entry; 15] = [
         about: "Tells what the code of a fault means, and what to do",
         examples: "Example:\n  plan explain F7",
         arguments: &[Argument {
-                name: "CODE",
-                form: Form::Text,
-                help: "the first word of the line of a fault",
-            }],
+            name: "CODE",
+            form: Form::Text,
+            help: "the first word of the line of a fault",
+        }],
     },
     Entry {
         name: "init",

@@ -45,8 +45,9 @@ fn schedule_days(
     ensures refused { IfErr result (Refuses (spec.TellsBeyond
         (HasActivityBeyond calendar.now network.now schedule.now.starts.items))) }
 {
-    calendar_table(alloc, network, &schedule.starts, calendar)
-        .map_err(|fault| days_refusal(alloc, fault))
+    calendar_table(alloc, network, &schedule.starts, calendar).map_err(|fault| days_refusal(
+        alloc, fault,
+    ))
 }
 
 // Returns the working days of a project.
@@ -62,9 +63,18 @@ fn project_text(
     ensures refused { IfErr result (Refuses
         (spec.TellsNoProjectDays name.now start.now marks.now (as_available project.now))) }
 {
-    let schedule = schedule_by(alloc, name, project)?;
-    let calendar = calendar_of(alloc, start, marks)?;
-    schedule_days(alloc, project.network(), &schedule, &calendar)
+    let schedule = match schedule_by(alloc, name, project) {
+        Ok(schedule) => schedule,
+        Err(fault) => return Err(fault),
+    };
+    let calendar = match calendar_of(alloc, start, marks) {
+        Ok(calendar) => calendar,
+        Err(fault) => return Err(fault),
+    };
+    match schedule_days(alloc, project.network(), &schedule, &calendar) {
+        Ok(text) => Ok(text),
+        Err(fault) => Err(fault),
+    }
 }
 
 /// Returns the working days of the project in a file.
@@ -96,8 +106,9 @@ fn shop_schedule_days(
     ensures refused { IfErr result (Refuses (spec.TellsBeyond
         (HasStepBeyond calendar.now shop.now schedule.now.starts.items))) }
 {
-    shop_calendar_table(alloc, shop, &schedule.starts, calendar)
-        .map_err(|fault| days_refusal(alloc, fault))
+    shop_calendar_table(alloc, shop, &schedule.starts, calendar).map_err(|fault| days_refusal(
+        alloc, fault,
+    ))
 }
 
 // Returns the working days of a job shop.
@@ -113,9 +124,18 @@ fn doc_text(
     ensures refused { IfErr result (Refuses
         (spec.TellsNoShopDays name.now start.now marks.now (shop_of doc.now))) }
 {
-    let (shop, schedule) = shop_schedule_by(alloc, name, doc)?;
-    let calendar = calendar_of(alloc, start, marks)?;
-    shop_schedule_days(alloc, &shop, &schedule, &calendar)
+    let (shop, schedule) = match shop_schedule_by(alloc, name, doc) {
+        Ok(made) => made,
+        Err(fault) => return Err(fault),
+    };
+    let calendar = match calendar_of(alloc, start, marks) {
+        Ok(calendar) => calendar,
+        Err(fault) => return Err(fault),
+    };
+    match shop_schedule_days(alloc, &shop, &schedule, &calendar) {
+        Ok(text) => Ok(text),
+        Err(fault) => Err(fault),
+    }
 }
 
 /// Returns the working days of an instance in a job shop file.

@@ -29,7 +29,7 @@ fn answer<R: Source, W: Sink, V: Watcher>(
     ensures writes { W.calls writer.new ≤ W.calls writer.old + most_calls }
     ensures text { IfSome (R.remaining reader.old) (λ file.
         Writes (IsTextOf task.entry file) (IsLineOf task.entry file)
-            (W.taken writer.old) (W.taken writer.new) result) }
+        (W.taken writer.old) (W.taken writer.new) result) }
     ensures front { ReadsFront (IsTextOf task.entry) (IsLineOf task.entry)
         (R.remaining reader.old) (R.remaining reader.new)
         (W.taken writer.old) (W.taken writer.new) result }
@@ -42,9 +42,14 @@ fn answer<R: Source, W: Sink, V: Watcher>(
         R.faults reader.new ≡ R.faults reader.old + 1 }
     ensures output { IsErrOf result CliFault.Output → HasSinkFailed W.Sink writer.old writer.new }
 {
-    let file = read_file(alloc, reader)?;
-    let text = text_of(alloc, task, &file, watcher)?;
-    write_text(writer, &text)
+    let file = match read_file(alloc, reader) {
+        Ok(file) => file,
+        Err(fault) => return Err(fault),
+    };
+    match text_of(alloc, task, &file, watcher) {
+        Ok(text) => write_text(writer, &text),
+        Err(fault) => Err(fault),
+    }
 }
 
 /// Reads a file, and writes the text of a task for it. The watcher is called during a proof.
@@ -87,7 +92,13 @@ pub fn schedule_run<R: Source, W: Sink>(
     ensures { Runs R.Source W.Sink (IsScheduleTableOf rule.now) (TellsWhyNoSchedule rule.now)
         reader.old reader.new writer.old writer.new result }
 {
-    run_task(alloc, Task::Schedule { rule }, &mut Unwatched, reader, writer)
+    run_task(
+        alloc,
+        Task::Schedule { rule },
+        &mut Unwatched,
+        reader,
+        writer,
+    )
 }
 
 /// Runs [`Task::Shop`].
@@ -102,7 +113,13 @@ pub fn shop_run<R: Source, W: Sink>(
         (IsShopTableOf rule.now instance.now) (TellsWhyNoShop rule.now instance.now)
         reader.old reader.new writer.old writer.new result }
 {
-    run_task(alloc, Task::Shop { rule, instance }, &mut Unwatched, reader, writer)
+    run_task(
+        alloc,
+        Task::Shop { rule, instance },
+        &mut Unwatched,
+        reader,
+        writer,
+    )
 }
 
 /// Runs [`Task::Best`].
@@ -117,7 +134,13 @@ pub fn best_run<R: Source, W: Sink>(
         (IsBestTableOf budget.now instance.now) (TellsWhyNoBest budget.now instance.now)
         reader.old reader.new writer.old writer.new result }
 {
-    run_task(alloc, Task::Best { budget, instance }, &mut Unwatched, reader, writer)
+    run_task(
+        alloc,
+        Task::Best { budget, instance },
+        &mut Unwatched,
+        reader,
+        writer,
+    )
 }
 
 /// Runs [`Task::BestProject`].
@@ -131,5 +154,11 @@ pub fn best_project_run<R: Source, W: Sink>(
         (IsBestProjectTableOf budget.now) (TellsWhyNoBestProject budget.now)
         reader.old reader.new writer.old writer.new result }
 {
-    run_task(alloc, Task::BestProject { budget }, &mut Unwatched, reader, writer)
+    run_task(
+        alloc,
+        Task::BestProject { budget },
+        &mut Unwatched,
+        reader,
+        writer,
+    )
 }

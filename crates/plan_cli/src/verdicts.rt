@@ -57,9 +57,14 @@ fn instance_text(alloc: Global, listed: &[u8], instance: &Instance) -> Result<St
     ensures made { IfText result (spec.TellsVerdictOn listed.now instance.now) }
     ensures refused { IfErr result (Refuses (spec.TellsBadStarts listed.now instance.now)) }
 {
-    let starts = read_starts(alloc, instance.network().len(), listed)?;
-    let verdict = check(alloc, instance, &starts).map_err(|_| CliFault::Memory)?;
-    Ok(verdict_text(alloc, verdict)?)
+    let starts = match read_starts(alloc, instance.network().len(), listed) {
+        Ok(starts) => starts,
+        Err(fault) => return Err(fault),
+    };
+    match check(alloc, instance, &starts) {
+        Ok(verdict) => Ok(verdict_text(alloc, verdict)?),
+        Err(_) => Err(CliFault::Memory),
+    }
 }
 
 // Returns the verdict on the starts in a text, for a project.

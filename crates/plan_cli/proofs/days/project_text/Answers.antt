@@ -8,12 +8,12 @@ returns-in-Err-calendar_of-clause-refused c =
     no_calendar c.args.name.now c.args.start.now c.args.marks.now (as_available c.args.project.now) c.in-Ok.schedule c.in-Err-calendar_of.fault
     c.in-Ok.ensures.made c.in-Err-calendar_of.ensures.refused
 
-pub returns-in-Ok-table-clause-made : goal.returns-in-Ok-table-clause-made
-returns-in-Ok-table-clause-made c =
+pub returns-in-Ok-schedule_days-clause-made : goal.returns-in-Ok-schedule_days-clause-made
+returns-in-Ok-schedule_days-clause-made c =
     days_shown c.args.name.now c.args.start.now c.args.marks.now (as_available c.args.project.now) c.in-Ok.schedule c.in-Ok-calendar_of.calendar c.network.result.now
-    (string_bytes c.in-Ok-table.text) c.in-Ok.ensures.made c.in-Ok-calendar_of.ensures.made c.network.ensures.network c.in-Ok-table.ensures.made
+    (string_bytes c.in-Ok-schedule_days.text) c.in-Ok.ensures.made c.in-Ok-calendar_of.ensures.made c.network.ensures.network c.in-Ok-schedule_days.ensures.made
 
 pub returns-clause-refused : goal.returns-clause-refused
 returns-clause-refused c =
     days_beyond c.args.name.now c.args.start.now c.args.marks.now (as_available c.args.project.now) c.in-Ok.schedule c.in-Ok-calendar_of.calendar c.network.result.now
-    c.in-Err-table.fault c.in-Ok.ensures.made c.in-Ok-calendar_of.ensures.made c.network.ensures.network c.in-Err-table.ensures.refused
+    c.in-Err-schedule_days.fault c.in-Ok.ensures.made c.in-Ok-calendar_of.ensures.made c.network.ensures.network c.in-Err-schedule_days.ensures.refused

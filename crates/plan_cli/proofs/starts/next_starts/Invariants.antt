@@ -4,4 +4,4 @@ use Rattle.plan_cli.proofs.starts.next_starts.Given as goal
 
 -- the starts that are left, read after those so far, are the whole result
 abbrev pub invariant-loop : goal.invariant-loop
-invariant-loop l = starts_at (l.count - l.counter) l.starts.items l.words ≡ starts_at l.count [] l.fn.words
+invariant-loop l = starts_at (l.count - l.counter) l.starts.items l.tokens ≡ starts_at l.count [] l.fn.tokens
