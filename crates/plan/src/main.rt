@@ -87,7 +87,10 @@ fn do_file_order(rt: &HostRuntime, order: FileOrder<'_>) -> Result<(), CliFault>
             run_on_file(rt, task, &mut ProgressLine::new(rt), path, &mut writer)
         }
         FileOrder::Check { file, starts } => check_on_files(rt, file, starts, &mut writer),
-        FileOrder::Explain(code) => explain_run(rt.alloc(), code, &mut writer),
+        FileOrder::Explain(words) => {
+            let line = words.join(rt.alloc(), " ")?;
+            explain_run(rt.alloc(), line.as_str(), &mut writer)
+        }
     }
 }
 

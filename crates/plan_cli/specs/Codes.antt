@@ -1,6 +1,6 @@
 -- The codes of error lines, and the text of `plan explain` for each. Written by docs/entries
 -- from docs/errors.md.
-use Rattle.std.specs.Prelude.{ℕ, List, codes}
+use Rattle.std.specs.Prelude.{ℕ, Bool, true, false, List, codes}
 use Rattle.plan_cli.specs.declared.codes.Code.{Code}
 use Rattle.plan_cli.specs.declared.codes.Code.TheVariants as code
 
@@ -62,6 +62,13 @@ name_of code.Socket = codes "I2"
 name_of code.Output = codes "I3"
 name_of code.PortInUse = codes "I4"
 name_of code.PortDenied = codes "I5"
+
+-- whether its line ends with the line of another error
+abbrev pub carries_error : Code → Bool
+carries_error code.BadFile = true
+carries_error code.NoSchedule = true
+carries_error code.BadCalendar = true
+carries_error _ = false
 
 -- the form of its line, the meaning and what to do
 abbrev pub entry_of : Code → List ℕ

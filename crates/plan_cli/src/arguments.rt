@@ -18,6 +18,8 @@ enum Form {
     Name,
     /// One or more names.
     Names,
+    /// One or more texts, the first of which may begin with a hyphen.
+    Texts,
     /// A port.
     Port,
     /// A number of connections, or none.
@@ -273,7 +275,7 @@ const COMMANDS: [Entry; 15] = [
 // Makes an argument of clap without its parser.
 fn plain<'a>(alloc: Global, argument: &Argument) -> Arg<'a> {
     let form = argument.form;
-    let hyphen = form == Form::Text || form == Form::OptionalText;
+    let hyphen = matches!(form, Form::Text | Form::OptionalText | Form::Texts);
     Arg::new(alloc, argument.name)
         .required(form.is_required())
         .allow_hyphen_values(hyphen)
@@ -284,7 +286,7 @@ fn plain<'a>(alloc: Global, argument: &Argument) -> Arg<'a> {
 fn arg_of<'a>(alloc: Global, argument: &Argument) -> Arg<'a> {
     let arg = plain(alloc, argument);
     match argument.form {
-        Form::Names => arg.num_args(1..),
+        Form::Names | Form::Texts => arg.num_args(1..),
         Form::Port => arg.value_parser(value_parser!(u16).range(1..=65535)),
         Form::Count => arg
             .value_parser(value_parser!(u32).range(1..=1000000))

@@ -2,7 +2,7 @@
 //! from docs/errors.md.
 
 ghost use Rattle.std.specs.Prelude.{◌≡◌, IfSome, IfNone};
-ghost use Rattle.plan_cli.specs.Codes.{name_of, entry_of};
+ghost use Rattle.plan_cli.specs.Codes.{name_of, entry_of, carries_error};
 ghost use Rattle.plan_cli.specs.declared.codes.Code.{Code};
 
 /// The code of an error line.
@@ -131,6 +131,13 @@ impl Code {
             "I5" => Some(Code::PortDenied),
             _ => None,
         }
+    }
+
+    /// Whether its line ends with the line of another error, as in `E10 F9 line 31`.
+    pub(crate) fn carries_error(self) -> bool
+        ensures { result ≡ carries_error self }
+    {
+        matches!(self, Code::BadFile | Code::NoSchedule | Code::BadCalendar)
     }
 
     /// Returns the form of its line, the meaning and what to do.

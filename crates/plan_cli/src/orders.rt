@@ -11,8 +11,8 @@ pub enum FileOrder<'a> {
     Watched(Task<'a>, &'a str),
     /// The verdict on the starts in one file, for the project in another.
     Check { file: &'a str, starts: &'a str },
-    /// The meaning of a code.
-    Explain(&'a str),
+    /// The meaning of an error line, which is given as one argument or as several.
+    Explain(&'a [&'a str]),
 }
 
 /// What the arguments ask of an office in a file.
@@ -137,7 +137,7 @@ fn proof_order<'a>(arguments: &'a ArgMatches<'_>) -> Option<FileOrder<'a>> {
 // Returns the order of any other command.
 fn file_order<'a>(name: &str, arguments: &'a ArgMatches<'_>) -> Option<FileOrder<'a>> {
     match name {
-        "explain" => Some(FileOrder::Explain(arguments.get_str("CODE")?)),
+        "explain" => Some(FileOrder::Explain(arguments.get_strs("CODE")?)),
         "prove" => proof_order(arguments),
         "check" => Some(FileOrder::Check {
             file: arguments.get_str("FILE")?,
