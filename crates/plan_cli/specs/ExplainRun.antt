@@ -1,7 +1,6 @@
 -- What `plan explain` writes for an error line (docs/definitions.md, "Runs").
 use Rattle.std.specs.Prelude.{◌≡◌, ◌++◌, ℕ, Bool, true, false, List, [], ◌∷◌, Option, Some, None}
 use Rattle.std.specs.Prelude.{MatchOption, map, drop, codes}
-use Rattle.std.specs.List.{join_by}
 use Rattle.std.specs.Char.{to_ascii_uppercase}
 use Rattle.plan_psplib.specs.Lines.{words}
 use Rattle.plan_cli.specs.Codes.{name_of, entry_of, carries_error}

@@ -27,8 +27,8 @@ fn code_of(name: &[u8]) -> Option<Code>
     }
 }
 
-// Returns the code that the next token names.
-fn next_code(tokens: &mut Words<'_>) -> Option<Code>
+/// Returns the code that the next token names.
+pub(crate) fn next_code(tokens: &mut Words<'_>) -> Option<Code>
     ensures code { StartsWithCode tokens.old result }
     ensures rest { tokens.new ≡ drop 1 tokens.old }
 {

@@ -4,6 +4,7 @@ use crate::tasks::Task;
 use clap::ArgMatches;
 
 /// What the arguments ask of files.
+#[derive(Clone, Copy)]
 pub enum FileOrder<'a> {
     /// A task on the file with this name.
     Task(Task<'a>, &'a str),
@@ -15,7 +16,30 @@ pub enum FileOrder<'a> {
     Explain(&'a [&'a str]),
 }
 
+// Returns the name of a file as hints print it.
+fn shown_name(path: &str) -> &str {
+    if path == "-" { "standard input" } else { path }
+}
+
+impl<'a> FileOrder<'a> {
+    /// Returns the name of the file that an error line is about, if it is known.
+    pub fn file_of(&self, line: &str) -> Option<&'a str> {
+        if line == "I3 output" {
+            return None;
+        }
+        match self {
+            FileOrder::Task(_, path) | FileOrder::Watched(_, path) => Some(shown_name(path)),
+            FileOrder::Check { starts, .. } if line.ends_with(" of the starts") => {
+                Some(shown_name(starts))
+            }
+            FileOrder::Check { file, .. } if line != "I1 file" => Some(shown_name(file)),
+            FileOrder::Check { .. } | FileOrder::Explain(_) => None,
+        }
+    }
+}
+
 /// What the arguments ask of an office in a file.
+#[derive(Clone, Copy)]
 pub enum OfficeOrder<'a> {
     /// Make a new office.
     Init {
@@ -42,6 +66,22 @@ pub enum OfficeOrder<'a> {
         /// Whether each served connection is logged on standard error.
         is_logged: bool,
     },
+}
+
+impl<'a> OfficeOrder<'a> {
+    /// Returns the name of the office's file, unless an error line is about a socket, standard input
+    /// or another file.
+    pub fn file_of(&self, line: &str) -> Option<&'a str> {
+        if line.starts_with('I') {
+            return None;
+        }
+        match self {
+            OfficeOrder::Init { database }
+            | OfficeOrder::Check { database }
+            | OfficeOrder::Replay { database, .. }
+            | OfficeOrder::Serve { database, .. } => Some(database),
+        }
+    }
 }
 
 /// What the arguments ask for.
