@@ -7,8 +7,8 @@ use self::progress::ProgressLine;
 use clap::Error;
 use clap::error::ErrorKind;
 use plan_cli::{
-    CliFault, FileOrder, OfficeOrder, Order, Unwatched, check_on_files, command, explain_run, hint,
-    order_of, run_on_file,
+    CliFault, FileOrder, OfficeOrder, Order, Unwatched, check_on_files, command, explain_run, help,
+    hint, order_of, run_on_file,
 };
 use plan_io::StdSink;
 use plan_serve::{
@@ -139,7 +139,8 @@ fn run(rt: &HostRuntime) -> Result<u8, Misuse> {
     let alloc = rt.alloc();
     let args = env::args(rt).map_err(|error| args_misuse(&error))?;
     let arguments: Vec<String> = args.collect(alloc)?;
-    let parsed = command(alloc)?.try_get_matches_from(arguments.as_slice());
+    let help = help(alloc)?;
+    let parsed = command(alloc, help.as_str())?.try_get_matches_from(arguments.as_slice());
     let matches = parsed.map_err(Misuse::Usage)?;
     let Some(order) = order_of(&matches) else {
         return Err(Misuse::NoCommand);

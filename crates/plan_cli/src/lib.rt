@@ -25,7 +25,7 @@ mod tables;
 mod tasks;
 mod verdicts;
 
-pub use arguments::command;
+pub use arguments::{command, help};
 pub use explanation::explain_run;
 pub use fault::CliFault;
 pub use files::{check_on_files, check_on_named, run_on_file, run_on_named};
