@@ -2,8 +2,8 @@
 
 use plan_cli::Watcher;
 
-/// A line on standard error that is overwritten each time, and erased at the end of the search. A line
-/// that can't be written is skipped.
+/// A line on standard error that is overwritten each time, and erased at the end of the search. A
+/// line that can't be written is skipped.
 #[derive(Drop)]
 pub struct ProgressLine<'a> {
     rt: &'a HostRuntime,

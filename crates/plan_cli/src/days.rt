@@ -63,18 +63,9 @@ fn project_text(
     ensures refused { IfErr result (Refuses
         (spec.TellsNoProjectDays name.now start.now marks.now (as_available project.now))) }
 {
-    let schedule = match schedule_by(alloc, name, project) {
-        Ok(schedule) => schedule,
-        Err(fault) => return Err(fault),
-    };
-    let calendar = match calendar_of(alloc, start, marks) {
-        Ok(calendar) => calendar,
-        Err(fault) => return Err(fault),
-    };
-    match schedule_days(alloc, project.network(), &schedule, &calendar) {
-        Ok(text) => Ok(text),
-        Err(fault) => Err(fault),
-    }
+    let schedule = schedule_by(alloc, name, project)?;
+    let calendar = calendar_of(alloc, start, marks)?;
+    schedule_days(alloc, project.network(), &schedule, &calendar)
 }
 
 /// Returns the working days of the project in a file.
@@ -124,18 +115,9 @@ fn doc_text(
     ensures refused { IfErr result (Refuses
         (spec.TellsNoShopDays name.now start.now marks.now (shop_of doc.now))) }
 {
-    let (shop, schedule) = match shop_schedule_by(alloc, name, doc) {
-        Ok(made) => made,
-        Err(fault) => return Err(fault),
-    };
-    let calendar = match calendar_of(alloc, start, marks) {
-        Ok(calendar) => calendar,
-        Err(fault) => return Err(fault),
-    };
-    match shop_schedule_days(alloc, &shop, &schedule, &calendar) {
-        Ok(text) => Ok(text),
-        Err(fault) => Err(fault),
-    }
+    let (shop, schedule) = shop_schedule_by(alloc, name, doc)?;
+    let calendar = calendar_of(alloc, start, marks)?;
+    shop_schedule_days(alloc, &shop, &schedule, &calendar)
 }
 
 /// Returns the working days of an instance in a job shop file.

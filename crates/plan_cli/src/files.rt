@@ -40,13 +40,8 @@ pub fn run_on_named<I: Inputs, W: Sink, V: Watcher>(
         let mut reader = inputs.standard();
         return run_task(alloc, task, watcher, &mut reader, writer);
     }
-    match inputs.open(path) {
-        Err(fault) => Err(fault),
-        Ok(file) => {
-            let mut reader = file;
-            run_task(alloc, task, watcher, &mut reader, writer)
-        }
-    }
+    let mut reader = inputs.open(path)?;
+    run_task(alloc, task, watcher, &mut reader, writer)
 }
 
 // Reads the file with this name, or standard input if the name is `-`: at most one byte more than
@@ -60,13 +55,7 @@ fn read_named<I: Inputs>(alloc: Global, inputs: &I, name: &str) -> Result<Vec<u8
     if name == "-" {
         return read_file(alloc, &mut inputs.standard());
     }
-    match inputs.open(name) {
-        Err(fault) => Err(fault),
-        Ok(file) => {
-            let mut reader = file;
-            read_file(alloc, &mut reader)
-        }
-    }
+    read_file(alloc, &mut inputs.open(name)?)
 }
 
 /// Runs [`Task::Check`] on the files with these names, one of which may be `-` for standard input.

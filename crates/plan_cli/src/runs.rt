@@ -42,14 +42,9 @@ fn answer<R: Source, W: Sink, V: Watcher>(
         R.faults reader.new ≡ R.faults reader.old + 1 }
     ensures output { IsErrOf result CliFault.Output → HasSinkFailed W.Sink writer.old writer.new }
 {
-    let file = match read_file(alloc, reader) {
-        Ok(file) => file,
-        Err(fault) => return Err(fault),
-    };
-    match text_of(alloc, task, &file, watcher) {
-        Ok(text) => write_text(writer, &text),
-        Err(fault) => Err(fault),
-    }
+    let file = read_file(alloc, reader)?;
+    let text = text_of(alloc, task, &file, watcher)?;
+    write_text(writer, &text)
 }
 
 /// Reads a file, and writes the text of a task for it. The watcher is called during a proof.

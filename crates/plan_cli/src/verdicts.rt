@@ -57,10 +57,7 @@ fn instance_text(alloc: Global, listed: &[u8], instance: &Instance) -> Result<St
     ensures made { IfText result (spec.TellsVerdictOn listed.now instance.now) }
     ensures refused { IfErr result (Refuses (spec.TellsBadStarts listed.now instance.now)) }
 {
-    let starts = match read_starts(alloc, instance.network().len(), listed) {
-        Ok(starts) => starts,
-        Err(fault) => return Err(fault),
-    };
+    let starts = read_starts(alloc, instance.network().len(), listed)?;
     match check(alloc, instance, &starts) {
         Ok(verdict) => Ok(verdict_text(alloc, verdict)?),
         Err(_) => Err(CliFault::Memory),

@@ -1,19 +1,33 @@
 use Rattle.std.specs.Prelude.{string_bytes}
+use Rattle.std.proofs.lemmas.Result.{IfOk-weaker}
+use Rattle.plan_gantt.specs.CalendarTable.{IsCalendarTable, HasActivityBeyond}
+use Rattle.plan_cli.specs.Run.{Refuses}
 use Rattle.plan_cli.specs.ScheduleRun.{as_available}
-use Rattle.plan_cli.proofs.DaysLemmas.{days_shown, no_calendar, days_beyond}
+use Rattle.plan_cli.specs.DaysRun.{IsDaysBy, TellsBeyond, TellsNoProjectDays}
+use Rattle.plan_cli.proofs.DaysLemmas.{days_shown, days_beyond}
+use Rattle.plan_cli.proofs.RunLemmas.{if_err_weaker}
 use Rattle.plan_cli.proofs.days.project_text.Goals as goal
 
-pub returns-in-Err-calendar_of-clause-refused : goal.returns-in-Err-calendar_of-clause-refused
-returns-in-Err-calendar_of-clause-refused c =
-    no_calendar c.args.name.now c.args.start.now c.args.marks.now (as_available c.args.project.now) c.in-Ok.schedule c.in-Err-calendar_of.fault
-    c.in-Ok.ensures.made c.in-Err-calendar_of.ensures.refused
-
-pub returns-in-Ok-schedule_days-clause-made : goal.returns-in-Ok-schedule_days-clause-made
-returns-in-Ok-schedule_days-clause-made c =
-    days_shown c.args.name.now c.args.start.now c.args.marks.now (as_available c.args.project.now) c.in-Ok.schedule c.in-Ok-calendar_of.calendar c.network.result.now
-    (string_bytes c.in-Ok-schedule_days.text) c.in-Ok.ensures.made c.in-Ok-calendar_of.ensures.made c.network.ensures.network c.in-Ok-schedule_days.ensures.made
+pub returns-clause-made : goal.returns-clause-made
+returns-clause-made c =
+    let a = c.args in
+    let i = as_available a.project.now in
+    let s = c.in_ok-schedule.schedule in
+    let calendar = c.in_ok-calendar.calendar in
+    let net = c.network.result.now in
+    IfOk-weaker c.schedule_days.result (λ text. IsCalendarTable calendar net s.starts.items (string_bytes text))
+    (λ text. IsDaysBy a.name.now a.start.now a.marks.now i (string_bytes text))
+    (λ text shown. days_shown a.name.now a.start.now a.marks.now i s calendar net (string_bytes text)
+    c.in_ok-schedule.ensures.made c.in_ok-calendar.ensures.made c.network.ensures.network shown) c.schedule_days.ensures.made
 
 pub returns-clause-refused : goal.returns-clause-refused
 returns-clause-refused c =
-    days_beyond c.args.name.now c.args.start.now c.args.marks.now (as_available c.args.project.now) c.in-Ok.schedule c.in-Ok-calendar_of.calendar c.network.result.now
-    c.in-Err-schedule_days.fault c.in-Ok.ensures.made c.in-Ok-calendar_of.ensures.made c.network.ensures.network c.in-Err-schedule_days.ensures.refused
+    let a = c.args in
+    let i = as_available a.project.now in
+    let s = c.in_ok-schedule.schedule in
+    let calendar = c.in_ok-calendar.calendar in
+    let net = c.network.result.now in
+    if_err_weaker c.schedule_days.result (Refuses (TellsBeyond (HasActivityBeyond calendar net s.starts.items)))
+    (Refuses (TellsNoProjectDays a.name.now a.start.now a.marks.now i))
+    (λ e refused. days_beyond a.name.now a.start.now a.marks.now i s calendar net e
+    c.in_ok-schedule.ensures.made c.in_ok-calendar.ensures.made c.network.ensures.network refused) c.schedule_days.ensures.refused

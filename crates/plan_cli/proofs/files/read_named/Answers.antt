@@ -11,9 +11,9 @@ returns-then-eq-clause-bytes g c =
     subst (λ (k : Option (List ℕ)). IfOk c.read_file.result (λ read. AreRead read.items k)) (sym (named_standard standard file_of c.args.name.now (sym c.if-eq.ensures)))
     (read_known standard _ c.read_file.result c.standard.ensures c.read_file.ensures.bytes)
 
-pub returns-in-Ok-clause-bytes : goal.returns-in-Ok-clause-bytes
-returns-in-Ok-clause-bytes g c =
+pub returns-clause-bytes : goal.returns-clause-bytes
+returns-clause-bytes g c =
     let standard = g.I.Inputs.standard_bytes c.args.inputs.now in
     let file_of = g.I.Inputs.file_bytes c.args.inputs.now in
-    subst (λ (k : Option (List ℕ)). IfOk c.read_file-in-Ok.result (λ read. AreRead read.items k)) (sym (named_file standard file_of c.args.name.now (sym c.if-eq.ensures)))
-    (read_known (file_of c.args.name.now) _ c.read_file-in-Ok.result c.in-Ok.ensures.opened c.read_file-in-Ok.ensures.bytes)
+    subst (λ (k : Option (List ℕ)). IfOk c.read_file-2.result (λ read. AreRead read.items k)) (sym (named_file standard file_of c.args.name.now (sym c.if-eq.ensures)))
+    (read_known (file_of c.args.name.now) _ c.read_file-2.result c.in_ok-open.ensures.opened c.read_file-2.ensures.bytes)
