@@ -22,3 +22,5 @@ def _resolved():
 
 
 PROGRAM = _resolved()
+# Tests see no hints, unless they ask for them.
+os.environ.pop("PLAN_HINTS", None)

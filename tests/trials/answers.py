@@ -31,9 +31,10 @@ def same(what, found, wanted):
         raise Wrong(f"{what}\n  {differing}")
 
 
-def plan(folder, *words, given=b""):
-    """The status and both outputs of a command that is given in a folder."""
-    run = [PROGRAM, *words]
+def plan(folder, *words, given=b"", variable=None):
+    """The status and both outputs of a command that is given in a folder, with a variable of the
+    environment, as NAME=VALUE."""
+    run = ["env", variable, PROGRAM, *words] if variable else [PROGRAM, *words]
     done = subprocess.run(run, cwd=folder, input=given, capture_output=True, timeout=60)
     return done.returncode, done.stdout, done.stderr
 

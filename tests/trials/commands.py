@@ -18,8 +18,10 @@ A trial file lists files, commands and their outputs, to the byte:
     file long.sm is six.sm, line 33 "x"   a file that differs from an earlier one in that line
     with six.sm, line 38 "   1"           the same change, for the next command alone
     $ plan schedule lft six.sm            a command; `< pair.txt` at its end is standard input
+    $ PLAN_HINTS=1 plan cpm six.sm        a command with a variable of the environment
     | the lines of standard output        status 0 and nothing on standard error
-    ! the line on standard error          status 1 and nothing on standard output
+    ! the line on standard error          status 1 and nothing on standard output; the hint is a
+                                          second line
     ? the lines on standard error         status 2 and nothing on standard output
 
 A command without such lines prints nothing and exits with status 0. The commands run in a
@@ -46,7 +48,7 @@ FOLDER = os.path.join(HERE, "commands")
 PLAIN_FILE = re.compile(r'file (\S+)(?: (".*"))?')
 OTHER_FILE = re.compile(r'file (\S+) is (\S+), line (\d+) (".*")')
 CHANGE = re.compile(r'with (\S+), line (\d+) (".*")')
-COMMAND = re.compile(r"\$ plan (.*)")
+COMMAND = re.compile(r"\$ (?:(\w+=\S*) )?plan (.*)")
 
 
 class Block:
@@ -69,8 +71,8 @@ class Block:
 
     def wanted(self):
         """The status and both outputs that the block wants of its command."""
-        if len(self.told) > 1:
-            raise ValueError("more than one line is wanted of a fault")
+        if any(not line.startswith("hint: ") for line in self.told[1:]):
+            raise ValueError("more than one line of an error is wanted")
         if [self.printed, self.told, self.misused].count([]) < 2:
             raise ValueError("lines of several kinds are wanted")
         if self.misused:
@@ -128,7 +130,7 @@ class Trial:
     def do(self, block, place):
         """Writes a file, keeps a change, or gives a command."""
         if match := COMMAND.fullmatch(block.line):
-            self.run(block, place, shlex.split(match[1]))
+            self.run(block, place, shlex.split(match[2]), match[1])
         elif match := CHANGE.fullmatch(block.line):
             block.refuse_lines()
             self.changes.append((match[1], int(match[2]), quoted(match[3])))
@@ -148,7 +150,7 @@ class Trial:
             return quoted(text) if text else content_of(EXAMPLES, name)
         return block.wanted()[1]
 
-    def run(self, block, place, words):
+    def run(self, block, place, words, variable):
         """Gives a command, between the changes that are made for it, and compares the answer."""
         given = b""
         kept = [(name, content_of(self.folder, name)) for name, _, _ in self.changes]
@@ -156,7 +158,7 @@ class Trial:
             written(self.folder, name, changed(content_of(self.folder, name), number, line))
         if "<" in words:
             words, given = words[:-2], content_of(self.folder, words[-1])
-        same(place, plan(self.folder, *words, given=given), block.wanted())
+        same(place, plan(self.folder, *words, given=given, variable=variable), block.wanted())
         self.restore(kept)
         self.count += 1
 

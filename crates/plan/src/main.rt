@@ -7,43 +7,31 @@ use self::progress::ProgressLine;
 use clap::Error;
 use clap::error::ErrorKind;
 use plan_cli::{
-    CliFault, FileOrder, OfficeOrder, Order, Unwatched, check_on_files, command, explain_run,
-    order_of, run_on_file,
+    CliFault, FileOrder, OfficeOrder, Order, Unwatched, check_on_files, command, explain_run, help,
+    hint, order_of, run_on_file,
 };
 use plan_io::StdSink;
 use plan_serve::{
     ServeFault, Service, check_office_on_file, init_on_file, replay_on_files, serve_on_port,
 };
 use std::alloc::AllocError;
+use std::env;
+use std::io::{self, IsTerminal};
 use std::process::ExitCode;
-use std::{env, io};
 
-/// Why the program fails.
+/// Why no command starts.
 #[derive(Drop)]
-enum Failure {
-    File(CliFault),
-    Office(ServeFault),
+enum Misuse {
+    NoMemory,
     Usage(Error),
     NoText,
     NoCommand,
     OneInput,
 }
 
-impl From<CliFault> for Failure {
-    fn from(fault: CliFault) -> Failure {
-        Failure::File(fault)
-    }
-}
-
-impl From<ServeFault> for Failure {
-    fn from(fault: ServeFault) -> Failure {
-        Failure::Office(fault)
-    }
-}
-
-impl From<AllocError> for Failure {
-    fn from(_: AllocError) -> Failure {
-        Failure::File(CliFault::Memory)
+impl From<AllocError> for Misuse {
+    fn from(_: AllocError) -> Misuse {
+        Misuse::NoMemory
     }
 }
 
@@ -87,57 +75,83 @@ fn do_file_order(rt: &HostRuntime, order: FileOrder<'_>) -> Result<(), CliFault>
             run_on_file(rt, task, &mut ProgressLine::new(rt), path, &mut writer)
         }
         FileOrder::Check { file, starts } => check_on_files(rt, file, starts, &mut writer),
-        FileOrder::Explain(code) => explain_run(rt.alloc(), code, &mut writer),
+        FileOrder::Explain(words) => {
+            let line = words.join(rt.alloc(), " ")?;
+            explain_run(rt.alloc(), line.as_str(), &mut writer)
+        }
     }
 }
 
-// Does what the arguments ask for.
-fn do_order(rt: &HostRuntime, order: Order<'_>) -> Result<(), Failure> {
+// Whether hints are printed: as PLAN_HINTS says, else if standard error is a terminal.
+fn has_hints(rt: &HostRuntime) -> bool {
+    if let Ok(asked) = env::var(rt, "PLAN_HINTS") {
+        match asked.as_str() {
+            "1" => return true,
+            "0" => return false,
+            _ => {}
+        }
+    }
+    rt.stderr().is_terminal()
+}
+
+// Prints an error line and, if wanted, the hint for it, and returns the status 1.
+fn print_error(rt: &HostRuntime, file: Option<&str>, line: &str) -> u8 {
+    let _ = eprintln!(rt; "{line}");
+    if has_hints(rt)
+        && let Ok(Some(text)) = hint(rt.alloc(), file, line)
+    {
+        let _ = eprintln!(rt; "{text}");
+    }
+    1
+}
+
+// Does what the arguments ask for, and returns the status.
+fn do_order(rt: &HostRuntime, order: Order<'_>) -> Result<u8, Misuse> {
     match order {
         Order::File(
             FileOrder::Check {
                 file: "-",
                 starts: "-",
             },
-        ) => return Err(Failure::OneInput),
-        Order::File(order) => do_file_order(rt, order)?,
-        Order::Office(order) => do_office_order(rt, order)?,
+        ) => Err(Misuse::OneInput),
+        Order::File(order) => Ok(match do_file_order(rt, order) {
+            Ok(()) => 0,
+            Err(fault) => print_error(rt, order.file_of(fault.line()), fault.line()),
+        }),
+        Order::Office(order) => Ok(match do_office_order(rt, order) {
+            Ok(()) => 0,
+            Err(fault) => print_error(rt, order.file_of(fault.line()), fault.line()),
+        }),
     }
-    Ok(())
 }
 
 // Returns why the arguments can't be read: memory runs out, or one isn't UTF-8.
-fn args_failure(error: &io::Error) -> Failure {
+fn args_misuse(error: &io::Error) -> Misuse {
     if error.kind() == io::ErrorKind::OutOfMemory {
-        Failure::File(CliFault::Memory)
+        Misuse::NoMemory
     } else {
-        Failure::NoText
+        Misuse::NoText
     }
 }
 
-// Reads the command line and does what it asks for.
-fn run(rt: &HostRuntime) -> Result<(), Failure> {
+// Reads the command line, does what it asks for, and returns the status.
+fn run(rt: &HostRuntime) -> Result<u8, Misuse> {
     let alloc = rt.alloc();
-    let args = env::args(rt).map_err(|error| args_failure(&error))?;
+    let args = env::args(rt).map_err(|error| args_misuse(&error))?;
     let arguments: Vec<String> = args.collect(alloc)?;
-    let parsed = command(alloc)?.try_get_matches_from(arguments.as_slice());
-    let matches = parsed.map_err(Failure::Usage)?;
+    let help = help(alloc)?;
+    let parsed = command(alloc, help.as_str())?.try_get_matches_from(arguments.as_slice());
+    let matches = parsed.map_err(Misuse::Usage)?;
     let Some(order) = order_of(&matches) else {
-        return Err(Failure::NoCommand);
+        return Err(Misuse::NoCommand);
     };
     do_order(rt, order)
 }
 
-// Prints one line on standard error, and returns the status 1.
-fn print_fault<R: Eprint>(rt: &R, line: &str) -> u8 {
-    let _ = eprintln!(rt; "{line}");
-    1
-}
-
 // Prints clap's help or usage, and returns its status: that of usage even if it can't be printed.
-fn print_usage<R: Print + Eprint>(rt: &R, error: &Error) -> u8 {
+fn print_usage(rt: &HostRuntime, error: &Error) -> u8 {
     if error.kind() == ErrorKind::OutOfMemory {
-        return print_fault(rt, CliFault::Memory.line());
+        return print_error(rt, None, CliFault::Memory.line());
     }
     let printed = error.print(rt);
     if error.use_stderr() {
@@ -145,7 +159,7 @@ fn print_usage<R: Print + Eprint>(rt: &R, error: &Error) -> u8 {
     }
     match printed {
         Ok(()) => 0,
-        Err(_) => print_fault(rt, CliFault::Output.line()),
+        Err(_) => print_error(rt, None, CliFault::Output.line()),
     }
 }
 
@@ -155,22 +169,21 @@ fn print_misuse<R: Eprint>(rt: &R, what: &str) -> u8 {
     2
 }
 
-// Prints why the program fails, and returns its status.
-fn report(rt: &HostRuntime, failure: &Failure) -> u8 {
-    match failure {
-        Failure::File(fault) => print_fault(rt, fault.line()),
-        Failure::Office(fault) => print_fault(rt, fault.line()),
-        Failure::Usage(error) => print_usage(rt, error),
-        Failure::NoText => print_misuse(rt, "a word of the command line isn't UTF-8"),
-        Failure::NoCommand => print_misuse(rt, "no command"),
-        Failure::OneInput => print_misuse(rt, "FILE and STARTS can't both be standard input"),
+// Prints why no command starts, and returns the status.
+fn report(rt: &HostRuntime, misuse: &Misuse) -> u8 {
+    match misuse {
+        Misuse::NoMemory => print_error(rt, None, CliFault::Memory.line()),
+        Misuse::Usage(error) => print_usage(rt, error),
+        Misuse::NoText => print_misuse(rt, "a word of the command line isn't UTF-8"),
+        Misuse::NoCommand => print_misuse(rt, "no command"),
+        Misuse::OneInput => print_misuse(rt, "FILE and STARTS can't both be standard input"),
     }
 }
 
 fn main(rt: HostRuntime) -> ExitCode {
     let status = match run(&rt) {
-        Ok(()) => 0,
-        Err(failure) => report(&rt, &failure),
+        Ok(status) => status,
+        Err(misuse) => report(&rt, &misuse),
     };
     ExitCode::from(status)
 }

@@ -4,3 +4,4 @@ pub mod StartLemmas
 pub mod DaysLemmas
 pub mod CheckLemmas
 pub mod InputLemmas
+pub mod CodeLemmas

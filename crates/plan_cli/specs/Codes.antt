@@ -1,6 +1,6 @@
--- The codes of error lines, and the text of `plan explain` for each. Written by docs/entries
--- from docs/errors.md.
-use Rattle.std.specs.Prelude.{ℕ, List, codes}
+-- The codes of error lines: the likely cause and the text of `plan explain` for each. Written by
+-- docs/entries from docs/errors.md.
+use Rattle.std.specs.Prelude.{ℕ, Bool, true, false, List, codes}
 use Rattle.plan_cli.specs.declared.codes.Code.{Code}
 use Rattle.plan_cli.specs.declared.codes.Code.TheVariants as code
 
@@ -63,6 +63,72 @@ name_of code.Output = codes "I3"
 name_of code.PortInUse = codes "I4"
 name_of code.PortDenied = codes "I5"
 
+-- the likely cause in a few words
+abbrev pub cause_of : Code → List ℕ
+cause_of code.TooLong = codes "the file is too large"
+cause_of code.NotText = codes "the file isn't text"
+cause_of code.MissingHead = codes "a line of the header is missing"
+cause_of code.Unsupported = codes "the kind of project isn't supported"
+cause_of code.MissingSection = codes "a section is missing"
+cause_of code.BadNumber = codes "a number is missing or malformed"
+cause_of code.JobOrder = codes "job numbers out of order"
+cause_of code.Modes = codes "a job has several modes"
+cause_of code.Count = codes "a number is missing or extra"
+cause_of code.Limit = codes "a number is out of range"
+cause_of code.Double = codes "a successor is named twice"
+cause_of code.Cycle = codes "the activities form a cycle"
+cause_of code.NoInstance = codes "no instance of this name"
+cause_of code.BadMachine = codes "a machine number is too large"
+cause_of code.NeedsTooMuch = codes "a need exceeds the capacity"
+cause_of code.UnknownRule = codes "no such priority rule"
+cause_of code.MachineClosed = codes "a machine is closed"
+cause_of code.TooLarge = codes "too large for this search"
+cause_of code.BadBudget = codes "the budget is invalid"
+cause_of code.BadNodes = codes "the number of nodes is invalid"
+cause_of code.BadDate = codes "the first date is invalid"
+cause_of code.BadDays = codes "the weekday marks are invalid"
+cause_of code.BeyondCalendar = codes "the last day is after 9999-12-31"
+cause_of code.NoCalendar = codes "the plan has no calendar"
+cause_of code.UnknownCode = codes "no such code"
+cause_of code.BadMessage = codes "the request is incomplete or malformed"
+cause_of code.LargeBody = codes "the body is too large"
+cause_of code.Coding = codes "the body has a transfer coding"
+cause_of code.NoRoute = codes "no such path"
+cause_of code.OtherMethod = codes "no such method of this path"
+cause_of code.WrongKey = codes "the key is missing or wrong"
+cause_of code.NotFound = codes "no such plan or desk"
+cause_of code.BadBody = codes "the JSON is invalid"
+cause_of code.DeskExists = codes "the desk exists already"
+cause_of code.NotPublished = codes "the code isn't published"
+cause_of code.KindDiffers = codes "the code is of the other kind"
+cause_of code.OtherPlan = codes "the plan is a job shop"
+cause_of code.ManyPlans = codes "the desk is full"
+cause_of code.NumbersSpent = codes "the plan numbers are used up"
+cause_of code.BadFile = codes "the file is invalid"
+cause_of code.NoSchedule = codes "no such schedule"
+cause_of code.BadCalendar = codes "the calendar is invalid"
+cause_of code.NotOurs = codes "not the database of an office"
+cause_of code.Version = codes "the tables are of another version"
+cause_of code.NoKey = codes "no valid key on standard input"
+cause_of code.InUse = codes "another program has it open"
+cause_of code.NotThere = codes "no such file"
+cause_of code.NotWritable = codes "the permissions forbid writing"
+cause_of code.OfficeThere = codes "the office exists already"
+cause_of code.NoMemory = codes "memory ran out"
+cause_of code.StoreRefused = codes "the database can't be used"
+cause_of code.Input = codes "a file can't be read"
+cause_of code.Socket = codes "the port can't be used"
+cause_of code.Output = codes "the output can't be written"
+cause_of code.PortInUse = codes "another program has the port"
+cause_of code.PortDenied = codes "the permissions forbid this port"
+
+-- whether its line ends with the line of another error
+abbrev pub carries_error : Code → Bool
+carries_error code.BadFile = true
+carries_error code.NoSchedule = true
+carries_error code.BadCalendar = true
+carries_error _ = false
+
 -- the form of its line, the meaning and what to do
 abbrev pub entry_of : Code → List ℕ
 entry_of code.TooLong = codes "F1 line 0\nThe file is larger than 1,048,576 bytes.\nDelete comments and blank lines, or split the project.\n"
@@ -89,7 +155,7 @@ entry_of code.BadDate = codes "G1 date\nThe first date isn't a date from 1900-01
 entry_of code.BadDays = codes "G2 days\nThe weekday marks aren't seven digits 0 or 1, Monday first, or all of them are 0.\nWrite 1111100 for Monday to Friday.\n"
 entry_of code.BeyondCalendar = codes "G3 beyond calendar\nA day of the result is after 9999-12-31.\nMark more working days, or choose a coarser time unit.\n"
 entry_of code.NoCalendar = codes "G4 no calendar\nWorking days were requested, and the plan has no calendar.\nSet its first date and its weekday marks.\n"
-entry_of code.UnknownCode = codes "C1 unknown code\nNo error has this code.\nGive the first word of the error line in capitals, for example F7.\n"
+entry_of code.UnknownCode = codes "C1 unknown code\nNo error has this code.\nGive an error line or its first word, for example F7.\n"
 entry_of code.BadMessage = codes "H1 message\nThe connection doesn't start with the head of a request (at most 8,192 bytes and 64 fields); or the Host field is missing (HTTP/1.1) or occurs twice; or Content-Length isn't a number or has two values; or the body is shorter than Content-Length.\nSend a complete request, with an ordinary HTTP client.\n"
 entry_of code.LargeBody = codes "H2 too large\nThe body is larger than 1,048,576 bytes.\nSend a smaller file.\n"
 entry_of code.Coding = codes "H3 coding\nThe request has a Transfer-Encoding field.\nSend the body as it is, with Content-Length.\n"

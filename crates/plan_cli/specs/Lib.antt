@@ -32,3 +32,4 @@ pub mod VerdictText
 pub mod CheckRun
 pub mod Codes
 pub mod ExplainRun
+pub mod HintText

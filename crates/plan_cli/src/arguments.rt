@@ -3,9 +3,16 @@
 use clap::{Arg, ArgAction, Command, value_parser};
 use std::alloc::{AllocError, Global};
 
-// The examples at the end of the help.
-const EXAMPLES: &str =
-    "Examples:\n  plan chart lft examples/house.sm\n  plan cpm examples/house.sm\n  plan days lft 2024-03-01 1111100 examples/house.sm\n  plan shop mwkr examples/shops.txt ft06\n  plan best 200000 examples/shops.txt ft06\n\nA command that fails prints one line, which begins with a code; plan explain CODE tells what it\nmeans and what to do.";
+// The start of the help.
+const HELP_START: &str =
+    "Schedules projects and job shops: dates, schedules, charts and calendar days\n\nUsage: plan <COMMAND>\n";
+
+// The end of the help.
+const HELP_END: &str =
+    "  help          Prints this text, or the help of a command\n\nOptions:\n  -h, --help     Print help\n  -V, --version  Print version\n\nExamples:\n  plan chart lft examples/house.sm\n  plan cpm examples/house.sm\n  plan days lft 2024-03-01 1111100 examples/house.sm\n  plan shop mwkr examples/shops.txt ft06\n  plan best 200000 examples/shops.txt ft06\n\nA command that fails prints one line that starts with a code; plan explain CODE prints the meaning\nand what to do. On a terminal a hint follows; PLAN_HINTS=0 turns it off, PLAN_HINTS=1 on.\n";
+
+// The column in which the help describes a command.
+const ABOUT_COLUMN: usize = 14;
 
 /// The form of an argument.
 #[derive(Clone, Copy, PartialEq, Eq)]
@@ -18,6 +25,8 @@ enum Form {
     Name,
     /// One or more names.
     Names,
+    /// One or more texts, the first of which may begin with a hyphen.
+    Texts,
     /// A port.
     Port,
     /// A number of connections, or none.
@@ -56,35 +65,54 @@ struct Entry {
     arguments: &'static [Argument],
 }
 
+/// The commands for one kind of task.
+#[derive(Clone, Copy)]
+struct Group {
+    heading: &'static str,
+    commands: &'static [Entry],
+}
+
 const FILE: Argument = Argument {
     name: "FILE",
     form: Form::Name,
-    help: "a file, or - for standard input",
+    help: "the input file, or - for standard input",
+};
+
+const PROJECT_RULE: Argument = Argument {
+    name: "RULE",
+    form: Form::Text,
+    help: "the priority rule: lft, slk, spt, mts or num",
+};
+
+const SHOP_RULE: Argument = Argument {
+    name: "RULE",
+    form: Form::Text,
+    help: "the priority rule: spt, mwkr or fcfs",
 };
 
 const RULE: Argument = Argument {
     name: "RULE",
     form: Form::Text,
-    help: "lft, slk, spt, mts or num; of a job shop spt, mwkr or fcfs",
+    help: "the priority rule: lft, slk, spt, mts or num; for a job shop spt, mwkr or fcfs",
 };
 
 const INSTANCE: Argument = Argument {
     name: "INSTANCE",
     form: Form::Text,
-    help: "the name of an instance of the file, or - in a file without names",
+    help: "the name of an instance in the file, or - if the file has no names",
 };
 
 // The instance of a job shop file, for commands that also take project files.
 const INSTANCE_IF_SHOP: Argument = Argument {
     name: "INSTANCE",
     form: Form::OptionalText,
-    help: "of a job shop file: the name of an instance, or - in a file without names",
+    help: "for a job shop file: the name of an instance, or - if the file has no names",
 };
 
 const BUDGET: Argument = Argument {
     name: "BUDGET",
     form: Form::Text,
-    help: "how many words the search may visit, 1 to 200000",
+    help: "how many partial schedules the search may visit, 1 to 200000",
 };
 
 const NODES: Argument = Argument {
@@ -96,97 +124,65 @@ const NODES: Argument = Argument {
 const DATABASE: Argument = Argument {
     name: "DB",
     form: Form::Name,
-    help: "the file in which an office is kept, an SQLite database",
+    help: "the SQLite database of the office",
 };
 
-const COMMANDS: [Entry; 15] = [
+const PROJECT_COMMANDS: [Entry; 4] = [
     Entry {
         name: "cpm",
-        about: "Prints the date table of a project",
+        about: "Prints the critical-path dates of a project",
         examples: "Example:\n  plan cpm examples/house.sm",
         arguments: &[FILE],
     },
     Entry {
         name: "schedule",
-        about: "Prints the schedule of a project by a priority rule",
+        about: "Prints a schedule of a project by a priority rule",
         examples: "Example:\n  plan schedule lft examples/house.sm",
-        arguments: &[
-            Argument {
-                name: "RULE",
-                form: Form::Text,
-                help: "lft, slk, spt, mts or num",
-            },
-            FILE,
-        ],
-    },
-    Entry {
-        name: "chart",
-        about: "Draws the schedule of a project or a job shop by a priority rule",
-        examples: "Examples:\n  plan chart lft examples/house.sm\n  plan chart mwkr examples/shops.txt ft06",
-        arguments: &[RULE, FILE, INSTANCE_IF_SHOP],
-    },
-    Entry {
-        name: "days",
-        about: "Prints the working days of a schedule by a priority rule",
-        examples: "Examples:\n  plan days lft 2024-03-01 1111100 examples/house.sm\n  plan days mwkr 2024-03-01 1111100 examples/shops.txt ft06",
-        arguments: &[
-            RULE,
-            Argument {
-                name: "START",
-                form: Form::Text,
-                help: "the first date, as 2024-03-01",
-            },
-            Argument {
-                name: "MARKS",
-                form: Form::Text,
-                help: "a 1 for each weekday on which work is done, else a 0, Monday first",
-            },
-            FILE,
-            INSTANCE_IF_SHOP,
-        ],
+        arguments: &[PROJECT_RULE, FILE],
     },
     Entry {
         name: "best-project",
-        about: "Prints the best schedule of a project that a search finds, and whether it is proved optimal",
+        about: "Searches for a shortest schedule of a project",
         examples: "Example:\n  plan best-project 200000 examples/house.sm",
         arguments: &[BUDGET, FILE],
     },
     Entry {
         name: "check",
-        about: "Tells the first thing that is wrong with starts of a project, or that they are active",
+        about: "Checks start times of a project, and prints the first violation",
         examples: "Example:\n  plan check examples/six.sm examples/starts.txt",
         arguments: &[
             FILE,
             Argument {
                 name: "STARTS",
                 form: Form::Text,
-                help: "a file of starts, one number a word, or - for standard input",
+                help: "a file with one start time per activity, or - for standard input",
             },
         ],
+    },
+];
+
+const SHOP_COMMANDS: [Entry; 4] = [
+    Entry {
+        name: "names",
+        about: "Prints the names of the instances in a job shop file",
+        examples: "Example:\n  plan names examples/shops.txt",
+        arguments: &[FILE],
     },
     Entry {
         name: "shop",
-        about: "Prints the schedule of a job shop by a priority rule",
+        about: "Prints a schedule of a job shop by a priority rule",
         examples: "Example:\n  plan shop mwkr examples/shops.txt ft06",
-        arguments: &[
-            Argument {
-                name: "RULE",
-                form: Form::Text,
-                help: "spt, mwkr or fcfs",
-            },
-            FILE,
-            INSTANCE,
-        ],
+        arguments: &[SHOP_RULE, FILE, INSTANCE],
     },
     Entry {
         name: "best",
-        about: "Prints the best schedule of a job shop that a search finds, and whether it is proved optimal",
+        about: "Searches for a shortest schedule of a small job shop",
         examples: "Example:\n  plan best 200000 examples/shops.txt ft06",
         arguments: &[BUDGET, FILE, INSTANCE],
     },
     Entry {
         name: "prove",
-        about: "Prints a schedule of a job shop, proved optimal or with a lower bound of all makespans",
+        about: "Prints a schedule of a job shop and a proved lower bound",
         examples: "Example:\n  plan prove 1000000 examples/shops.txt ft06",
         arguments: &[
             NODES,
@@ -195,54 +191,51 @@ const COMMANDS: [Entry; 15] = [
             Argument {
                 name: "progress",
                 form: Form::Flag,
-                help: "tell on standard error how far the search is, every 500000 nodes",
+                help: "show on standard error how far the search is, every 500000 nodes",
             },
         ],
     },
+];
+
+const SCHEDULE_COMMANDS: [Entry; 2] = [
     Entry {
-        name: "names",
-        about: "Prints the names of the instances of a job shop file",
-        examples: "Example:\n  plan names examples/shops.txt",
-        arguments: &[FILE],
+        name: "chart",
+        about: "Draws the schedule by a priority rule",
+        examples: "Examples:\n  plan chart lft examples/house.sm\n  plan chart mwkr examples/shops.txt ft06",
+        arguments: &[RULE, FILE, INSTANCE_IF_SHOP],
     },
     Entry {
-        name: "explain",
-        about: "Tells what the code of a fault means, and what to do",
-        examples: "Example:\n  plan explain F7",
-        arguments: &[Argument {
-            name: "CODE",
-            form: Form::Text,
-            help: "the first word of the line of a fault",
-        }],
+        name: "days",
+        about: "Prints the calendar days of the schedule by a priority rule",
+        examples: "Examples:\n  plan days lft 2024-03-01 1111100 examples/house.sm\n  plan days mwkr 2024-03-01 1111100 examples/shops.txt ft06",
+        arguments: &[
+            RULE,
+            Argument {
+                name: "START",
+                form: Form::Text,
+                help: "the first date, for example 2024-03-01",
+            },
+            Argument {
+                name: "MARKS",
+                form: Form::Text,
+                help: "seven digits, Monday first: 1 for a working day, 0 for a free day",
+            },
+            FILE,
+            INSTANCE_IF_SHOP,
+        ],
     },
+];
+
+const SERVER_COMMANDS: [Entry; 4] = [
     Entry {
         name: "init",
-        about: "Makes an office in a file; its key is the first line of standard input",
+        about: "Creates an office; its key is the first line of standard input",
         examples: "Example:\n  plan init office.db < office.key",
         arguments: &[DATABASE],
     },
     Entry {
-        name: "check-office",
-        about: "Tests every row of an office, and prints how many there are and a digest of them",
-        examples: "Example:\n  plan check-office office.db",
-        arguments: &[DATABASE],
-    },
-    Entry {
-        name: "replay",
-        about: "Answers HTTP requests that are in files, one connection each, and prints the responses",
-        examples: "Example:\n  plan replay office.db request-1 request-2",
-        arguments: &[
-            DATABASE,
-            Argument {
-                name: "REQ",
-                form: Form::Names,
-                help: "a file with the bytes of one connection",
-            },
-        ],
-    },
-    Entry {
         name: "serve",
-        about: "Answers HTTP requests on 127.0.0.1, one connection after another",
+        about: "Answers HTTP requests on 127.0.0.1",
         examples: "Example:\n  plan serve office.db 8080",
         arguments: &[
             DATABASE,
@@ -259,21 +252,74 @@ const COMMANDS: [Entry; 15] = [
             Argument {
                 name: "patience",
                 form: Form::Seconds,
-                help: "how long a connection may take for its request, and for its response, 1 to 60",
+                help: "time limit of a request, and again of its response, 1 to 60",
             },
             Argument {
                 name: "log",
                 form: Form::Flag,
-                help: "tell each connection in a line on standard error",
+                help: "print one line for each connection on standard error",
             },
         ],
+    },
+    Entry {
+        name: "check-office",
+        about: "Tests every row of an office, and prints counts and a digest",
+        examples: "Example:\n  plan check-office office.db",
+        arguments: &[DATABASE],
+    },
+    Entry {
+        name: "replay",
+        about: "Answers the HTTP requests in files, and prints the responses",
+        examples: "Example:\n  plan replay office.db request-1 request-2",
+        arguments: &[
+            DATABASE,
+            Argument {
+                name: "REQ",
+                form: Form::Names,
+                help: "a file with the bytes of one connection",
+            },
+        ],
+    },
+];
+
+const HELP_COMMANDS: [Entry; 1] = [Entry {
+    name: "explain",
+    about: "Prints the meaning of an error and what to do",
+    examples: "Examples:\n  plan explain F7\n  plan explain E10 F9 line 31",
+    arguments: &[Argument {
+        name: "CODE",
+        form: Form::Texts,
+        help: "the code of an error, in capitals or not, or the whole error line",
+    }],
+}];
+
+const GROUPS: [Group; 5] = [
+    Group {
+        heading: "Projects",
+        commands: &PROJECT_COMMANDS,
+    },
+    Group {
+        heading: "Job shops",
+        commands: &SHOP_COMMANDS,
+    },
+    Group {
+        heading: "Projects and job shops",
+        commands: &SCHEDULE_COMMANDS,
+    },
+    Group {
+        heading: "Server",
+        commands: &SERVER_COMMANDS,
+    },
+    Group {
+        heading: "Help",
+        commands: &HELP_COMMANDS,
     },
 ];
 
 // Makes an argument of clap without its parser.
 fn plain<'a>(alloc: Global, argument: &Argument) -> Arg<'a> {
     let form = argument.form;
-    let hyphen = form == Form::Text || form == Form::OptionalText;
+    let hyphen = matches!(form, Form::Text | Form::OptionalText | Form::Texts);
     Arg::new(alloc, argument.name)
         .required(form.is_required())
         .allow_hyphen_values(hyphen)
@@ -284,7 +330,7 @@ fn plain<'a>(alloc: Global, argument: &Argument) -> Arg<'a> {
 fn arg_of<'a>(alloc: Global, argument: &Argument) -> Arg<'a> {
     let arg = plain(alloc, argument);
     match argument.form {
-        Form::Names => arg.num_args(1..),
+        Form::Names | Form::Texts => arg.num_args(1..),
         Form::Port => arg.value_parser(value_parser!(u16).range(1..=65535)),
         Form::Count => arg
             .value_parser(value_parser!(u32).range(1..=1000000))
@@ -310,15 +356,42 @@ fn subcommand<'a>(alloc: Global, entry: &Entry) -> Result<Command<'a>, AllocErro
     Ok(command)
 }
 
-/// Returns the parser of the command line.
-pub fn command<'a>(alloc: Global) -> Result<Command<'a>, AllocError> {
+// Appends the line of a command to the help.
+fn push_row(text: &mut String, entry: &Entry) -> Result<(), AllocError> {
+    text.push_str("  ")?;
+    text.push_str(entry.name)?;
+    for _ in entry.name.len()..ABOUT_COLUMN {
+        text.push_str(" ")?;
+    }
+    text.push_str(entry.about)?;
+    text.push_str("\n")
+}
+
+/// Returns the help of the program: the commands by task, with one line each.
+pub fn help(alloc: Global) -> Result<String, AllocError> {
+    let mut text = HELP_START.to_string(alloc)?;
+    for group in &GROUPS {
+        text.push_str("\n")?;
+        text.push_str(group.heading)?;
+        text.push_str(":\n")?;
+        for entry in group.commands {
+            push_row(&mut text, entry)?;
+        }
+    }
+    text.push_str(HELP_END)?;
+    Ok(text)
+}
+
+/// Returns the parser of the command line, which prints this text as its help.
+pub fn command<'a>(alloc: Global, help: &'a str) -> Result<Command<'a>, AllocError> {
     let mut command = Command::new(alloc, "plan")
         .version("0.4.0")
-        .about("Plans projects and job shops: dates, schedules, charts, working days")
-        .after_help(EXAMPLES)
+        .override_help(help)
         .subcommand_required(true);
-    for entry in &COMMANDS {
-        command = command.subcommand(subcommand(alloc, entry)?)?;
+    for group in &GROUPS {
+        for entry in group.commands {
+            command = command.subcommand(subcommand(alloc, entry)?)?;
+        }
     }
     Ok(command)
 }

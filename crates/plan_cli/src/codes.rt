@@ -1,8 +1,8 @@
-//! The codes of error lines, and the text of `plan explain` for each. Written by docs/entries
-//! from docs/errors.md.
+//! The codes of error lines: the likely cause and the text of `plan explain` for each. Written by
+//! docs/entries from docs/errors.md.
 
 ghost use Rattle.std.specs.Prelude.{◌≡◌, IfSome, IfNone};
-ghost use Rattle.plan_cli.specs.Codes.{name_of, entry_of};
+ghost use Rattle.plan_cli.specs.Codes.{name_of, cause_of, entry_of, carries_error};
 ghost use Rattle.plan_cli.specs.declared.codes.Code.{Code};
 
 /// The code of an error line.
@@ -133,6 +133,141 @@ impl Code {
         }
     }
 
+    /// Returns its name, such as `F9`.
+    pub(crate) fn name(self) -> &'static str
+        ensures { result.now ≡ name_of self }
+    {
+        match self {
+            Code::TooLong => "F1",
+            Code::NotText => "F2",
+            Code::MissingHead => "F3",
+            Code::Unsupported => "F4",
+            Code::MissingSection => "F5",
+            Code::BadNumber => "F6",
+            Code::JobOrder => "F7",
+            Code::Modes => "F8",
+            Code::Count => "F9",
+            Code::Limit => "F10",
+            Code::Double => "F11",
+            Code::Cycle => "F12",
+            Code::NoInstance => "F13",
+            Code::BadMachine => "F14",
+            Code::NeedsTooMuch => "S1",
+            Code::UnknownRule => "S3",
+            Code::MachineClosed => "S4",
+            Code::TooLarge => "S5",
+            Code::BadBudget => "S6",
+            Code::BadNodes => "S7",
+            Code::BadDate => "G1",
+            Code::BadDays => "G2",
+            Code::BeyondCalendar => "G3",
+            Code::NoCalendar => "G4",
+            Code::UnknownCode => "C1",
+            Code::BadMessage => "H1",
+            Code::LargeBody => "H2",
+            Code::Coding => "H3",
+            Code::NoRoute => "H4",
+            Code::OtherMethod => "H5",
+            Code::WrongKey => "E01",
+            Code::NotFound => "E02",
+            Code::BadBody => "E03",
+            Code::DeskExists => "E04",
+            Code::NotPublished => "E05",
+            Code::KindDiffers => "E06",
+            Code::OtherPlan => "E07",
+            Code::ManyPlans => "E08",
+            Code::NumbersSpent => "E09",
+            Code::BadFile => "E10",
+            Code::NoSchedule => "E11",
+            Code::BadCalendar => "E12",
+            Code::NotOurs => "K1",
+            Code::Version => "K2",
+            Code::NoKey => "K3",
+            Code::InUse => "K4",
+            Code::NotThere => "K5",
+            Code::NotWritable => "K6",
+            Code::OfficeThere => "K7",
+            Code::NoMemory => "E90",
+            Code::StoreRefused => "E91",
+            Code::Input => "I1",
+            Code::Socket => "I2",
+            Code::Output => "I3",
+            Code::PortInUse => "I4",
+            Code::PortDenied => "I5",
+        }
+    }
+
+    /// Returns the likely cause in a few words.
+    pub(crate) fn cause(self) -> &'static str
+        ensures { result.now ≡ cause_of self }
+    {
+        match self {
+            Code::TooLong => "the file is too large",
+            Code::NotText => "the file isn't text",
+            Code::MissingHead => "a line of the header is missing",
+            Code::Unsupported => "the kind of project isn't supported",
+            Code::MissingSection => "a section is missing",
+            Code::BadNumber => "a number is missing or malformed",
+            Code::JobOrder => "job numbers out of order",
+            Code::Modes => "a job has several modes",
+            Code::Count => "a number is missing or extra",
+            Code::Limit => "a number is out of range",
+            Code::Double => "a successor is named twice",
+            Code::Cycle => "the activities form a cycle",
+            Code::NoInstance => "no instance of this name",
+            Code::BadMachine => "a machine number is too large",
+            Code::NeedsTooMuch => "a need exceeds the capacity",
+            Code::UnknownRule => "no such priority rule",
+            Code::MachineClosed => "a machine is closed",
+            Code::TooLarge => "too large for this search",
+            Code::BadBudget => "the budget is invalid",
+            Code::BadNodes => "the number of nodes is invalid",
+            Code::BadDate => "the first date is invalid",
+            Code::BadDays => "the weekday marks are invalid",
+            Code::BeyondCalendar => "the last day is after 9999-12-31",
+            Code::NoCalendar => "the plan has no calendar",
+            Code::UnknownCode => "no such code",
+            Code::BadMessage => "the request is incomplete or malformed",
+            Code::LargeBody => "the body is too large",
+            Code::Coding => "the body has a transfer coding",
+            Code::NoRoute => "no such path",
+            Code::OtherMethod => "no such method of this path",
+            Code::WrongKey => "the key is missing or wrong",
+            Code::NotFound => "no such plan or desk",
+            Code::BadBody => "the JSON is invalid",
+            Code::DeskExists => "the desk exists already",
+            Code::NotPublished => "the code isn't published",
+            Code::KindDiffers => "the code is of the other kind",
+            Code::OtherPlan => "the plan is a job shop",
+            Code::ManyPlans => "the desk is full",
+            Code::NumbersSpent => "the plan numbers are used up",
+            Code::BadFile => "the file is invalid",
+            Code::NoSchedule => "no such schedule",
+            Code::BadCalendar => "the calendar is invalid",
+            Code::NotOurs => "not the database of an office",
+            Code::Version => "the tables are of another version",
+            Code::NoKey => "no valid key on standard input",
+            Code::InUse => "another program has it open",
+            Code::NotThere => "no such file",
+            Code::NotWritable => "the permissions forbid writing",
+            Code::OfficeThere => "the office exists already",
+            Code::NoMemory => "memory ran out",
+            Code::StoreRefused => "the database can't be used",
+            Code::Input => "a file can't be read",
+            Code::Socket => "the port can't be used",
+            Code::Output => "the output can't be written",
+            Code::PortInUse => "another program has the port",
+            Code::PortDenied => "the permissions forbid this port",
+        }
+    }
+
+    /// Whether its line ends with the line of another error, as in `E10 F9 line 31`.
+    pub(crate) fn carries_error(self) -> bool
+        ensures { result ≡ carries_error self }
+    {
+        matches!(self, Code::BadFile | Code::NoSchedule | Code::BadCalendar)
+    }
+
     /// Returns the form of its line, the meaning and what to do.
     pub(crate) fn entry(self) -> &'static str
         ensures { result.now ≡ entry_of self }
@@ -211,7 +346,7 @@ impl Code {
                 "G4 no calendar\nWorking days were requested, and the plan has no calendar.\nSet its first date and its weekday marks.\n"
             }
             Code::UnknownCode => {
-                "C1 unknown code\nNo error has this code.\nGive the first word of the error line in capitals, for example F7.\n"
+                "C1 unknown code\nNo error has this code.\nGive an error line or its first word, for example F7.\n"
             }
             Code::BadMessage => {
                 "H1 message\nThe connection doesn't start with the head of a request (at most 8,192 bytes and 64 fields); or the Host field is missing (HTTP/1.1) or occurs twice; or Content-Length isn't a number or has two values; or the body is shorter than Content-Length.\nSend a complete request, with an ordinary HTTP client.\n"

@@ -1,38 +1,98 @@
 //! `plan explain`: the meaning of a code and its remedy.
 
-ghost use Rattle.std.specs.Prelude.{◌≡◌, ◌⊎◌, ◌+◌, ◌≤◌, IfErr, IsErrOf, OnOk, codes};
+ghost use Rattle.std.specs.Prelude.{◌≡◌, ◌⊎◌, ◌+◌, ◌≤◌, IfErr, IfOk, IsErrOf, OnOk, codes, drop};
+ghost use Rattle.std.specs.Prelude.{string_bytes};
 ghost use Rattle.plan_io.specs.Devices.{most_calls};
 ghost use Rattle.plan_cli.specs.Run.{HasSinkFailed, Refuses, Writes};
-ghost use Rattle.plan_cli.specs.ExplainRun.{IsEntryOf, TellsNoCode};
+ghost use Rattle.plan_cli.specs.ExplainRun as spec;
+ghost use Rattle.plan_cli.specs.ExplainRun.{CarriesCode, Explains, IsCodeOf, StartsWithCode};
+ghost use Rattle.plan_cli.specs.ExplainRun.{TellsNoCode};
 
 use crate::bytes::write_text;
 use crate::codes::Code;
 use crate::fault::{CliFault, refusal_by};
 use plan_io::Sink;
-use std::alloc::Global;
+use plan_psplib::Words;
+use std::alloc::{AllocError, Global};
+use std::str::from_utf8;
 
-// Returns the error of an unknown code.
+// Returns the code with this name.
+#[tactic(auto, using(crate::proofs::CodeLemmas::no_name))]
+fn code_of(name: &[u8]) -> Option<Code>
+    ensures { IsCodeOf name.now result }
+{
+    match from_utf8(name) {
+        Ok(name) => Code::parse(name),
+        Err(_) => None,
+    }
+}
+
+/// Returns the code that the next token names.
+pub(crate) fn next_code(tokens: &mut Words<'_>) -> Option<Code>
+    ensures code { StartsWithCode tokens.old result }
+    ensures rest { tokens.new ≡ drop 1 tokens.old }
+{
+    let name = tokens.next_word()?;
+    code_of(name)
+}
+
+// Returns the code of the error that a line carries behind its own code.
+fn carried_code(code: Code, mut tokens: Words<'_>) -> Option<Code>
+    ensures { CarriesCode code tokens.entry result }
+{
+    if !code.carries_error() {
+        return None;
+    }
+    next_code(&mut tokens)
+}
+
+// Returns the entry of a code and that of the code that its line carries.
+fn explanation(alloc: Global, code: Code, carried: Option<Code>) -> Result<String, AllocError>
+    ensures { IfOk result (λ text. string_bytes text ≡ spec.explanation code carried) }
+{
+    let mut text = code.entry().to_string(alloc)?;
+    if let Some(carried) = carried {
+        text.push_str("\n")?;
+        text.push_str(carried.entry())?;
+    }
+    Ok(text)
+}
+
+// Returns the error of a line that starts with no code.
 fn no_code(alloc: Global) -> CliFault
     ensures { Refuses (λ line. line ≡ codes "C1 unknown code") result }
 {
     refusal_by("C1 unknown code".to_string(alloc))
 }
 
-/// Writes the entry of a code, such as `F9`: the form of its error line, the meaning and the
-/// remedy, each on its own line. Any other text is refused with `C1`, and nothing is written. A
-/// call of the writer that fails isn't repeated.
-pub fn explain_run<W: Sink>(alloc: Global, code: &str, writer: &mut W) -> Result<(), CliFault>
+// Returns the text that explains an error line.
+fn explanation_text(alloc: Global, line: &str) -> Result<String, CliFault>
+    ensures text { IfOk result (λ text. Explains line.now (string_bytes text)) }
+    ensures refused { IfErr result (Refuses (TellsNoCode line.now)) }
+{
+    let line = line.to_ascii_uppercase(alloc)?;
+    let mut tokens = Words::new(line.as_bytes());
+    let Some(code) = next_code(&mut tokens) else {
+        return Err(no_code(alloc));
+    };
+    Ok(explanation(alloc, code, carried_code(code, tokens))?)
+}
+
+/// Writes the entry of the code that starts an error line, such as `F9 line 31`, in capitals or
+/// not: the form of its line, the meaning and the remedy, each on its own line. If the line carries
+/// another error, such as `E10 F9 line 31`, an empty line and the entry of that one follow. Any
+/// other text is refused with `C1`, and nothing is written. A call of the writer that fails isn't
+/// repeated.
+pub fn explain_run<W: Sink>(alloc: Global, line: &str, writer: &mut W) -> Result<(), CliFault>
     ensures writes { W.calls writer.new ≤ W.calls writer.old + most_calls }
-    // The entry if there is one, else nothing; a part of the entry if the output fails.
-    ensures text { Writes (IsEntryOf code.now) (TellsNoCode code.now)
+    // The explanation if there is one, else nothing; a part of it if the output fails.
+    ensures text { Writes (Explains line.now) (TellsNoCode line.now)
         (W.taken writer.old) (W.taken writer.new) result }
     // With any other error than that of the output, nothing is written.
     ensures quiet { IfErr result (λ e. (e ≡ CliFault.Output) ⊎ (writer.new ≡ writer.old)) }
     ensures fine { OnOk result (W.faults writer.new ≡ W.faults writer.old) }
     ensures output { IsErrOf result CliFault.Output → HasSinkFailed W.Sink writer.old writer.new }
 {
-    match Code::parse(code) {
-        Some(code) => write_text(writer, code.entry().as_bytes()),
-        None => Err(no_code(alloc)),
-    }
+    let text = explanation_text(alloc, line)?;
+    write_text(writer, text.as_bytes())
 }

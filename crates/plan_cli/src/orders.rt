@@ -4,6 +4,7 @@ use crate::tasks::Task;
 use clap::ArgMatches;
 
 /// What the arguments ask of files.
+#[derive(Clone, Copy)]
 pub enum FileOrder<'a> {
     /// A task on the file with this name.
     Task(Task<'a>, &'a str),
@@ -11,11 +12,34 @@ pub enum FileOrder<'a> {
     Watched(Task<'a>, &'a str),
     /// The verdict on the starts in one file, for the project in another.
     Check { file: &'a str, starts: &'a str },
-    /// The meaning of a code.
-    Explain(&'a str),
+    /// The meaning of an error line, which is given as one argument or as several.
+    Explain(&'a [&'a str]),
+}
+
+// Returns the name of a file as hints print it.
+fn shown_name(path: &str) -> &str {
+    if path == "-" { "standard input" } else { path }
+}
+
+impl<'a> FileOrder<'a> {
+    /// Returns the name of the file that an error line is about, if it is known.
+    pub fn file_of(&self, line: &str) -> Option<&'a str> {
+        if line == "I3 output" {
+            return None;
+        }
+        match self {
+            FileOrder::Task(_, path) | FileOrder::Watched(_, path) => Some(shown_name(path)),
+            FileOrder::Check { starts, .. } if line.ends_with(" of the starts") => {
+                Some(shown_name(starts))
+            }
+            FileOrder::Check { file, .. } if line != "I1 file" => Some(shown_name(file)),
+            FileOrder::Check { .. } | FileOrder::Explain(_) => None,
+        }
+    }
 }
 
 /// What the arguments ask of an office in a file.
+#[derive(Clone, Copy)]
 pub enum OfficeOrder<'a> {
     /// Make a new office.
     Init {
@@ -42,6 +66,22 @@ pub enum OfficeOrder<'a> {
         /// Whether each served connection is logged on standard error.
         is_logged: bool,
     },
+}
+
+impl<'a> OfficeOrder<'a> {
+    /// Returns the name of the office's file, unless an error line is about a socket, standard input
+    /// or another file.
+    pub fn file_of(&self, line: &str) -> Option<&'a str> {
+        if line.starts_with('I') {
+            return None;
+        }
+        match self {
+            OfficeOrder::Init { database }
+            | OfficeOrder::Check { database }
+            | OfficeOrder::Replay { database, .. }
+            | OfficeOrder::Serve { database, .. } => Some(database),
+        }
+    }
 }
 
 /// What the arguments ask for.
@@ -137,7 +177,7 @@ fn proof_order<'a>(arguments: &'a ArgMatches<'_>) -> Option<FileOrder<'a>> {
 // Returns the order of any other command.
 fn file_order<'a>(name: &str, arguments: &'a ArgMatches<'_>) -> Option<FileOrder<'a>> {
     match name {
-        "explain" => Some(FileOrder::Explain(arguments.get_str("CODE")?)),
+        "explain" => Some(FileOrder::Explain(arguments.get_strs("CODE")?)),
         "prove" => proof_order(arguments),
         "check" => Some(FileOrder::Check {
             file: arguments.get_str("FILE")?,
