@@ -15,25 +15,25 @@ pub unite-requires : goal.unite-requires
 unite-requires c =
     let items = c.succs-k-items.result.now in
     let rows = c.args.rows.now in
-    let k = get_or items c.loop-k.k-index 0 in
-    let arc = (c.succs-k-items.ensures.exact.exact k).0 (Contains-get_or items c.loop-k.k-index 0 c.loop-k-test.true) in
-    let activity = c.succs-k-items.ensures.activities c.loop-k.k-index c.loop-k-test.true in
+    let k = get_or items c.succs.k-index 0 in
+    let arc = (c.succs-k-items.ensures.exact.exact k).0 (Contains-get_or items c.succs.k-index 0 c.succs-test.true) in
+    let activity = c.succs-k-items.ensures.activities c.succs.k-index c.succs-test.true in
     let reach = c.requires.after k arc in
     let within : k - 1 < length rows = omega (arith, c.requires.rows, activity) in
     let read : row_at rows (k - 1) ≡ c.index-rows-place.result.items = row_at-read rows (k - 1) c.index-rows-place.result within c.index-rows-place.is in
-    omega (arith, length-set c.loop-k.row.items (k - 1) true, c.loop-k.invariant.far.whole, reach.whole, ap length read, ap length c.deref.ensures.value)
+    omega (arith, length-set c.succs.row.items (k - 1) true, c.succs.invariant.far.whole, reach.whole, ap length read, ap length c.deref.ensures.value)
 
-pub loop-k-preserved : goal.loop-k-preserved
-loop-k-preserved c =
+pub succs-preserved : goal.succs-preserved
+succs-preserved c =
     let net = c.args.network.now in
     let items = c.succs-k-items.result.now in
     let rows = c.args.rows.now in
-    let row = c.loop-k.row.items in
-    let m = c.loop-k.k-index in
+    let row = c.succs.row.items in
+    let m = c.succs.k-index in
     let k = get_or items m 0 in
-    let inv = c.loop-k.invariant in
-    let arc = (c.succs-k-items.ensures.exact.exact k).0 (Contains-get_or items m 0 c.loop-k-test.true) in
-    let activity = c.succs-k-items.ensures.activities m c.loop-k-test.true in
+    let inv = c.succs.invariant in
+    let arc = (c.succs-k-items.ensures.exact.exact k).0 (Contains-get_or items m 0 c.succs-test.true) in
+    let activity = c.succs-k-items.ensures.activities m c.succs-test.true in
     let place : k - 1 < length row = omega (arith, activity, inv.far.whole) in
     elim c.if-not-index.branch [
       | then-not-index w ↦
@@ -63,5 +63,5 @@ loop-k-preserved c =
 
 pub returns : goal.returns
 returns c =
-    IsReach-from_successors c.args.network.now c.args.j c.loop-k.row.items c.len.ensures.sound.limits c.loop-k.invariant.far
-    (each_of_rising (IsArc c.args.network.now c.args.j) (IsPlaced c.loop-k.row.items) c.succs-k-items.result.now c.succs-k-items.ensures.exact (λ m within. c.loop-k.invariant.met m (omega (arith, c.loop-k-test.false))))
+    IsReach-from_successors c.args.network.now c.args.j c.succs.row.items c.len.ensures.sound.limits c.succs.invariant.far
+    (each_of_rising (IsArc c.args.network.now c.args.j) (IsPlaced c.succs.row.items) c.succs-k-items.result.now c.succs-k-items.ensures.exact (λ m within. c.succs.invariant.met m (omega (arith, c.succs-test.false))))
