@@ -1,0 +1,65 @@
+-- What a kernel knows of a problem (docs/DEFINITIONS.md, "Clauses").
+use Rattle.std.specs.Prelude.{◌≡◌, ℕ, ◌≤◌, ◌<◌, ◌⊎◌, true, List, Vec, Option, Some, None, All, Contains}
+use Rattle.std.specs.declared.alloc.Global.{Global}
+use Rattle.std.specs.List.Sorted.{IsPermutation}
+use Rattle.plan_sgs.specs.Problem.{IsFeasible, IsShortest, makespan}
+use Rattle.plan_kernel.specs.declared.literal.TheConstants.{LIMIT}
+use Rattle.plan_kernel.specs.declared.input.Input.{Input}
+use Rattle.plan_kernel.specs.declared.literal.Literal.{Literal}
+use Rattle.plan_kernel.specs.declared.known.Known.{Known}
+use Rattle.plan_kernel.specs.declared.conflict.Conflict.{Conflict}
+use Rattle.plan_kernel.specs.Inputs.{problem_of}
+use Rattle.plan_kernel.specs.Clauses.{IsShorter, IsConsequence, AreFacts, IsConflict, NoneIsShorter, IsListed}
+
+-- a feasible list of starts with its makespan
+pub record IsBest (input : Input) (starts : List ℕ) (upper : ℕ) : Type 0 where
+  pub feasible : IsFeasible (problem_of input) starts
+  pub makespan_is : makespan (problem_of input) starts ≡ upper
+
+-- no feasible list of starts has a makespan below a number
+abbrev pub IsLowerBound : Input → ℕ → Type 0
+IsLowerBound input lower = (starts : List ℕ) → IsFeasible (problem_of input) starts → lower ≤ makespan (problem_of input) starts
+
+-- each feasible list of starts with a makespan below the upper bound has a makespan of at least a number
+abbrev pub IsEndReached : Input → ℕ → ℕ → Type 0
+IsEndReached input upper end = (starts : List ℕ) → IsShorter input upper starts → end ≤ makespan (problem_of input) starts
+
+-- a clause that is kept holds
+abbrev pub IsKept : Input → ℕ → Option (Vec Literal Global) → Type 0
+IsKept input upper None = Unit {0}
+IsKept input upper (Some clause) = IsConsequence input upper clause.items
+
+-- What is known is true of each feasible list of starts with a makespan below the upper bound: facts and clauses. Where the upper
+-- bound is refuted there is no such list. The best list, if one was found, is feasible and has the upper bound as its makespan.
+pub record AreKnown (known : Known) : Type 0 where
+  pub limit : known.upper ≤ LIMIT
+  pub best : known.found ≡ true → IsBest known.input known.best.items known.upper
+  pub facts : AreFacts known.input known.upper known.facts.items
+  pub clauses : All (IsKept known.input known.upper) known.clauses.items
+  pub refuted : known.refuted ≡ true → NoneIsShorter known.input known.upper
+
+-- what is known is true, and the literals of the conflict, if it is open, hold together in none of these lists
+pub record IsTrueOf (known : Known) (conflict : Conflict) : Type 0 where
+  pub holds : AreKnown known
+  pub apart : conflict.open ≡ true → IsConflict known.input known.upper conflict.values.items
+  pub listed : IsListed conflict.values.items conflict.touched.items
+
+-- what a kernel keeps
+pub record State : Type 0 where
+  pub known : Known
+  pub conflict : Conflict
+
+-- one clause was stored among others
+abbrev pub HasStored : List (Option (Vec Literal Global)) → List (Option (Vec Literal Global)) → Vec Literal Global → Type 0
+HasStored old new clause = All (λ kept. Contains old kept ⊎ (kept ≡ Some clause)) new
+
+-- a clause has the literals of another in another order
+abbrev pub IsReordered : Option (Vec Literal Global) → Option (Vec Literal Global) → Type 0
+IsReordered None new = ⊥
+IsReordered (Some old) None = ⊥
+IsReordered (Some old) (Some new) = IsPermutation old.items new.items
+
+-- each clause is one of before, or has the literals of one in another order
+abbrev pub HasReordered : List (Option (Vec Literal Global)) → List (Option (Vec Literal Global)) → Type 0
+HasReordered old new =
+    All (λ kept. Contains old kept ⊎ ((other : Option (Vec Literal Global)) × Contains old other × IsReordered other kept)) new
