@@ -60,8 +60,8 @@ IsNegated values clause =
     (half : ℕ) → at values half ≢ 0 → Contains clause (negated (record { half = half; value = at values half }))
 
 -- no fact is above its value of before, but at one half, where it is at most a value
-abbrev pub IsRaisedTo : List ℕ → List ℕ → Literal → Type 0
-IsRaisedTo old new l = (half : ℕ) → (at new half ≤ at old half) ⊎ ((half ≡ l.half) × (at new half ≤ l.value))
+abbrev pub IsRaisedTo : List ℕ → List ℕ → ℕ → ℕ → Type 0
+IsRaisedTo old new half value = (other : ℕ) → (at new other ≤ at old other) ⊎ ((other ≡ half) × (at new other ≤ value))
 
 -- the negation of some clause that holds was put in
 abbrev pub HasAdded : Input → ℕ → List ℕ → List ℕ → Option Literal → Type 0

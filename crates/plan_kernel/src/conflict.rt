@@ -68,7 +68,7 @@ fn add(values: &mut Vec<u32>, touched: &mut Vec<u32>, facts: &[u32], literal: Li
     ensures covered { IsTrue result → spec.IsCovered facts.now values.new.items literal }
 {
     let place = literal.half as usize;
-    if literal.value <= at(facts, literal.half) {
+    if literal.value <= at(facts, place) {
         return true;
     }
     if place >= values.len() {
@@ -167,7 +167,7 @@ pub fn resolve(known: &Known, conflict: &mut Conflict, half: u32, reason: Reason
     ensures holds { IsTrueOf known.now conflict.new }
     ensures open { result ≡ conflict.new.open }
 {
-    let value = at(&conflict.values, half);
+    let value = at(&conflict.values, half as usize);
     clear_half(&mut conflict.values, &mut conflict.touched, half);
     let pivot = Some(Literal { half, value });
     conflict.open = conflict.open && add_reason(known, conflict, reason, pivot);
@@ -181,7 +181,7 @@ pub fn learned(alloc: Global, conflict: &Conflict) -> Result<Vec<Literal>, Alloc
 {
     let mut clause = Vec::with_capacity(alloc, conflict.touched.len())?;
     'halves: for &half in &conflict.touched {
-        let value = at(&conflict.values, half);
+        let value = at(&conflict.values, half as usize);
         if value > 0 {
             clause.push(negated(Literal { half, value }))?;
         }

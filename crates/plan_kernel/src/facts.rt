@@ -6,16 +6,15 @@ ghost use Rattle.plan_kernel.specs.Clauses as spec;
 ghost use Rattle.plan_kernel.specs.Kernels as kernels;
 
 use crate::input::Input;
-use crate::literal::{LIMIT, Literal, at};
+use crate::literal::{LIMIT, at};
 use std::alloc::{AllocError, Global};
 
 // Raises the value of a half, if there is such a half.
-pub fn raise(facts: &mut Vec<u32>, literal: Literal)
-    ensures { spec.IsRaisedTo facts.old.items facts.new.items literal }
+pub fn raise(facts: &mut Vec<u32>, half: usize, value: u32)
+    ensures { spec.IsRaisedTo facts.old.items facts.new.items half value }
 {
-    let place = literal.half as usize;
-    if place < facts.len() && facts[place] < literal.value {
-        facts[place] = literal.value;
+    if half < facts.len() && facts[half] < value {
+        facts[half] = value;
     }
 }
 
@@ -28,15 +27,7 @@ pub fn raise_latest(facts: &mut Vec<u32>, input: &Input, upper: u32)
     let left = LIMIT - upper + 1;
     'activities: for (place, &duration) in input.durations.iter().enumerate() {
         let half = place.saturating_mul(2).saturating_add(1);
-        if half < facts.len() {
-            raise(
-                facts,
-                Literal {
-                    half: half as u32,
-                    value: left.saturating_add(duration),
-                },
-            );
-        }
+        raise(facts, half, left.saturating_add(duration));
     }
 }
 
@@ -59,9 +50,7 @@ pub fn greatest_end(facts: &[u32], input: &Input, upper: u32) -> u32
     let mut greatest = 0;
     'activities: for (place, &duration) in input.durations.iter().enumerate() {
         let half = place.saturating_mul(2);
-        if half < facts.len() {
-            greatest = greatest.max(facts[half].saturating_add(duration));
-        }
+        greatest = greatest.max(at(facts, half).saturating_add(duration));
     }
     greatest
 }

@@ -8,7 +8,7 @@ use crate::input::{Input, need};
 use crate::literal::at;
 
 // The end of an activity.
-fn end(input: &Input, starts: &[u32], activity: u32) -> u64
+fn end(input: &Input, starts: &[u32], activity: usize) -> u64
     ensures { result ≡ end_of (problem_of input.now) starts.now activity }
 {
     at(starts, activity) as u64 + at(&input.durations, activity) as u64
@@ -19,7 +19,9 @@ fn keeps_arcs(input: &Input, starts: &[u32]) -> bool
     ensures { IsTrue result → KeepsArcs (problem_of input.now) starts.now }
 {
     'arcs: for arc in &input.arcs {
-        if end(input, starts, arc.from) + arc.lag as u64 > at(starts, arc.to) as u64 {
+        if end(input, starts, arc.from as usize) + arc.lag as u64
+            > at(starts, arc.to as usize) as u64
+        {
             return false;
         }
     }
@@ -27,15 +29,15 @@ fn keeps_arcs(input: &Input, starts: &[u32]) -> bool
 }
 
 // Whether the activities that run at an instant need no more of a resource than there is.
-fn fits(input: &Input, starts: &[u32], instant: u32, resource: u32) -> bool
+fn fits(input: &Input, starts: &[u32], instant: u32, resource: usize) -> bool
     requires { length starts.now ≡ length input.now.durations.items }
     ensures { IsTrue result → usage (problem_of input.now) (all_placed starts.now) instant resource
         ≤ capacity (problem_of input.now) resource }
 {
     let mut used: u64 = 0;
-    'activities: for (place, &start) in starts.iter().enumerate() {
-        if start <= instant && (instant as u64) < end(input, starts, place as u32) {
-            used = used.saturating_add(need(input, place as u32, resource) as u64);
+    'activities: for place in 0..input.durations.len() {
+        if at(starts, place) <= instant && (instant as u64) < end(input, starts, place) {
+            used = used.saturating_add(need(input, place, resource) as u64);
         }
     }
     used <= at(&input.capacities, resource) as u64
@@ -47,7 +49,7 @@ fn fits_all(input: &Input, starts: &[u32], instant: u32) -> bool
     ensures { IsTrue result → FitsAt (problem_of input.now) starts.now instant }
 {
     'resources: for resource in 0..input.capacities.len() {
-        if !fits(input, starts, instant, resource as u32) {
+        if !fits(input, starts, instant, resource) {
             return false;
         }
     }
@@ -60,8 +62,8 @@ fn greatest_end(input: &Input, starts: &[u32]) -> u64
     ensures { result ≡ makespan (problem_of input.now) starts.now }
 {
     let mut greatest = 0;
-    'activities: for (place, &start) in starts.iter().enumerate() {
-        greatest = greatest.max(start as u64 + at(&input.durations, place as u32) as u64);
+    'activities: for place in 0..input.durations.len() {
+        greatest = greatest.max(end(input, starts, place));
     }
     greatest
 }

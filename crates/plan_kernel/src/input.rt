@@ -42,11 +42,11 @@ pub struct Input {
 }
 
 /// What an activity needs of a resource, 0 if there is no such activity or resource.
-pub fn need(input: &Input, activity: u32, resource: u32) -> u32
+pub fn need(input: &Input, activity: usize, resource: usize) -> u32
     ensures { result ≡ problems.need (spec.problem_of input.now) activity resource }
 {
-    if (activity as usize) < input.needs.len() {
-        at(&input.needs[activity as usize], resource)
+    if activity < input.needs.len() {
+        at(&input.needs[activity], resource)
     } else {
         0
     }

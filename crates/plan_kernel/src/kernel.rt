@@ -106,7 +106,7 @@ impl Kernel {
     pub fn fact(&self, half: u32) -> u32
         ensures { result ≡ literals.at self.now.known.facts.items half }
     {
-        at(&self.known.facts, half)
+        at(&self.known.facts, half as usize)
     }
 
     /// Whether there is a conflict.
@@ -120,7 +120,7 @@ impl Kernel {
     pub fn conflict(&self, half: u32) -> u32
         ensures { result ≡ literals.at self.now.conflict.values.items half }
     {
-        at(&self.conflict.values, half)
+        at(&self.conflict.values, half as usize)
     }
 
     /// The halves that have a value in the conflict.

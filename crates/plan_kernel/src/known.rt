@@ -130,7 +130,7 @@ pub fn learn(known: &mut Known, clause: Vec<Literal>) -> Result<Lesson, KernelFa
         return Ok(Lesson::Refuted);
     }
     if clause.len() == 1 {
-        raise(&mut known.facts, clause[0]);
+        raise(&mut known.facts, clause[0].half as usize, clause[0].value);
         return Ok(Lesson::Fact(clause[0].half));
     }
     let literals = known

@@ -35,12 +35,8 @@ pub fn negated(literal: Literal) -> Literal
 }
 
 /// The number at a place, 0 where there is none.
-pub fn at(list: &[u32], place: u32) -> u32
+pub fn at(list: &[u32], place: usize) -> u32
     ensures { result ≡ spec.at list.now place }
 {
-    if (place as usize) < list.len() {
-        list[place as usize]
-    } else {
-        0
-    }
+    if place < list.len() { list[place] } else { 0 }
 }

@@ -97,13 +97,12 @@ fn below(quantity: u32, value: u32) -> Literal
 fn are_apart(input: &Input, first: u32, second: u32) -> bool
     ensures { IsTrue result → spec.AreApart (problem_of input.now) first second }
 {
-    if at(&input.durations, first) == 0 || at(&input.durations, second) == 0 {
+    if at(&input.durations, first as usize) == 0 || at(&input.durations, second as usize) == 0 {
         return false;
     }
-    'resources: for (place, &capacity) in input.capacities.iter().enumerate() {
-        let resource = place as u32;
-        let both = need(input, first, resource) as u64 + need(input, second, resource) as u64;
-        if both > capacity as u64 {
+    'resources: for (resource, &capacity) in input.capacities.iter().enumerate() {
+        let one = need(input, first as usize, resource) as u64;
+        if one + need(input, second as usize, resource) as u64 > capacity as u64 {
             return true;
         }
     }
@@ -126,7 +125,7 @@ fn fill_arc(
     if !is_activity(input, from) || !is_activity(input, to) {
         return Ok(false);
     }
-    let weight = at(&input.durations, from).saturating_add(lag);
+    let weight = at(&input.durations, from as usize).saturating_add(lag);
     clause.clear();
     clause.push(below(from, value))?;
     clause.push(at_least(to, value.saturating_add(weight)))?;
@@ -148,7 +147,7 @@ fn fill_before(
     if !is_activity(input, first) || !is_activity(input, second) {
         return Ok(false);
     }
-    let end = value.saturating_add(at(&input.durations, first));
+    let end = value.saturating_add(at(&input.durations, first as usize));
     clause.clear();
     clause.push(below(quantity, 1))?;
     clause.push(below(first, value))?;
@@ -174,7 +173,7 @@ fn fill_after(
     {
         return Ok(false);
     }
-    let end = value.saturating_add(at(&input.durations, second));
+    let end = value.saturating_add(at(&input.durations, second as usize));
     clause.clear();
     clause.push(at_least(quantity, 1))?;
     clause.push(below(second, value))?;
@@ -188,7 +187,7 @@ fn is_member(input: &Input, from: u32, until: u32, member: Member) -> bool
     ensures { IsTrue result → spec.IsMember input.now from until member }
 {
     is_activity(input, member.activity)
-        && member.time <= at(&input.durations, member.activity)
+        && member.time <= at(&input.durations, member.activity as usize)
         && member.time <= until - from
 }
 
@@ -212,7 +211,7 @@ fn energy(input: &Input, resource: u32, members: &[Member]) -> u64
 {
     let mut sum: u64 = 0;
     'members: for member in members {
-        let each = need(input, member.activity, resource) as u64;
+        let each = need(input, member.activity as usize, resource as usize) as u64;
         sum = sum.saturating_add(each.saturating_mul(member.time as u64));
     }
     sum
@@ -225,7 +224,7 @@ fn is_overloaded(input: &Input, resource: u32, from: u32, until: u32, members: &
     if (resource as usize) >= input.capacities.len() || from >= until || until > LIMIT {
         return false;
     }
-    let room = at(&input.capacities, resource) as u64 * (until - from) as u64;
+    let room = at(&input.capacities, resource as usize) as u64 * (until - from) as u64;
     are_members(input, from, until, members) && energy(input, resource, members) > room
 }
 
@@ -242,7 +241,7 @@ fn fill_member(
     requires limit { until ≤ LIMIT }
     ensures { OnOk result (spec.Fills input.now from until member clause.old.items clause.new.items) }
 {
-    let duration = at(&input.durations, member.activity);
+    let duration = at(&input.durations, member.activity as usize);
     let latest = from + member.time;
     if latest > duration {
         clause.push(below(member.activity, latest - duration))?;
