@@ -1,6 +1,6 @@
 -- Clauses, facts and conflicts: what they say of all feasible schedules that are shorter than a makespan
 -- (docs/DEFINITIONS.md, "Clauses"). Conflict analysis as in Marques-Silva and Sakallah (1999).
-use Rattle.std.specs.Prelude.{◌≡◌, ◌≢◌, ℕ, ◌≤◌, ◌<◌, ◌⊎◌, List, Option, Some, None, All, Contains}
+use Rattle.std.specs.Prelude.{◌≡◌, ◌≢◌, ℕ, ◌≤◌, ◌<◌, ◌⊎◌, Bool, not, nat_eq, List, Option, Some, None, All, Contains}
 use Rattle.plan_sgs.specs.Problem.{IsFeasible, makespan}
 use Rattle.plan_kernel.specs.declared.literal.Literal.{Literal}
 use Rattle.plan_kernel.specs.declared.input.Input.{Input}
@@ -33,6 +33,10 @@ NoneIsShorter input upper = (starts : List ℕ) → IsShorter input upper starts
 abbrev pub IsListed : List ℕ → List ℕ → Type 0
 IsListed values touched = (half : ℕ) → at values half ≢ 0 → Contains touched half
 
+-- a half is another one
+abbrev pub is_other : ℕ → ℕ → Bool
+is_other half other = not (nat_eq other half)
+
 -- no value has fallen
 abbrev pub IsRaised : List ℕ → List ℕ → Type 0
 IsRaised old new = (half : ℕ) → at old half ≤ at new half
@@ -54,10 +58,17 @@ Implies l (Some pivot) = (l.half ≡ pivot.half) × (pivot.value ≤ l.value)
 abbrev pub AreCovered : List ℕ → List ℕ → Option Literal → List Literal → Type 0
 AreCovered facts values pivot clause = All (λ l. Implies l pivot ⊎ IsCovered facts values (negated l)) clause
 
+-- the negation of the literal of a half, if it has one, is in a clause
+abbrev pub IsNegatedAt : List ℕ → List Literal → ℕ → Type 0
+IsNegatedAt values clause half = at values half ≢ 0 → Contains clause (negated (record { half = half; value = at values half }))
+
+-- those of some halves
+abbrev pub AreNegated : List ℕ → List Literal → List ℕ → Type 0
+AreNegated values clause halves = All (IsNegatedAt values clause) halves
+
 -- the negation of each literal of a conflict is in a clause
 abbrev pub IsNegated : List ℕ → List Literal → Type 0
-IsNegated values clause =
-    (half : ℕ) → at values half ≢ 0 → Contains clause (negated (record { half = half; value = at values half }))
+IsNegated values clause = (half : ℕ) → IsNegatedAt values clause half
 
 -- no fact is above its value of before, but at one half, where it is at most a value
 abbrev pub IsRaisedTo : List ℕ → List ℕ → ℕ → ℕ → Type 0

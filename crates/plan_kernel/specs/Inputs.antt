@@ -1,6 +1,6 @@
 -- Scheduling problems as plain numbers (docs/DEFINITIONS.md, "Schedules").
-use Rattle.std.specs.Prelude.{◌≡◌, ℕ, ◌+◌, ◌≤◌, ◌<◌, List, length, get_or, map}
-use Rattle.plan_sgs.specs.Problem.{Problem, Link, duration, capacity, usage, all_placed, IsFeasible, makespan}
+use Rattle.std.specs.Prelude.{◌≡◌, ℕ, ◌+◌, ◌≤◌, ◌<◌, List, Some, length, get_or, map}
+use Rattle.plan_sgs.specs.Problem.{Problem, Link, duration, capacity, amount_of, usage, all_placed, IsFeasible, makespan}
 use Rattle.plan_kernel.specs.declared.input.Arc.{Arc}
 use Rattle.plan_kernel.specs.declared.input.Input.{Input}
 
@@ -20,6 +20,14 @@ problem_of input = record {
 -- the end of an activity
 abbrev pub end_of : Problem → List ℕ → ℕ → ℕ
 end_of p starts i = get_or starts i 0 + duration p i
+
+-- what an activity needs of a resource at an instant
+abbrev pub amount_at : Problem → List ℕ → ℕ → ℕ → ℕ → ℕ
+amount_at p starts t k i = amount_of p t k i (Some (get_or starts i 0))
+
+-- an arc is kept
+abbrev pub KeepsArc : Problem → List ℕ → Arc → Type 0
+KeepsArc p starts arc = end_of p starts arc.from + arc.lag ≤ get_or starts arc.to 0
 
 -- no resource is overloaded at an instant
 abbrev pub FitsAt : Problem → List ℕ → ℕ → Type 0

@@ -1,5 +1,5 @@
 -- What a kernel knows of a problem (docs/DEFINITIONS.md, "Clauses").
-use Rattle.std.specs.Prelude.{◌≡◌, ℕ, ◌≤◌, ◌<◌, ◌⊎◌, true, List, Vec, Option, Some, None, All, Contains}
+use Rattle.std.specs.Prelude.{◌≡◌, ℕ, ◌≤◌, ◌<◌, ◌⊎◌, true, List, [], Vec, Option, Some, None, All, Contains}
 use Rattle.std.specs.declared.alloc.Global.{Global}
 use Rattle.std.specs.List.Sorted.{IsPermutation}
 use Rattle.plan_sgs.specs.Problem.{IsFeasible, IsShortest, makespan}
@@ -38,6 +38,18 @@ pub record AreKnown (known : Known) : Type 0 where
   pub clauses : All (IsKept known.input known.upper) known.clauses.items
   pub refuted : known.refuted ≡ true → NoneIsShorter known.input known.upper
 
+-- what is known is what was known
+pub record IsUnchanged (old new : Known) : Type 0 where
+  pub input : new.input ≡ old.input
+  pub upper : new.upper ≡ old.upper
+  pub found : new.found ≡ old.found
+  pub best : new.best ≡ old.best
+  pub facts : new.facts ≡ old.facts
+  pub clauses : new.clauses.items ≡ old.clauses.items
+  pub free : new.free ≡ old.free
+  pub literals : new.literals ≡ old.literals
+  pub refuted : new.refuted ≡ old.refuted
+
 -- what is known is true, and the literals of the conflict, if it is open, hold together in none of these lists
 pub record IsTrueOf (known : Known) (conflict : Conflict) : Type 0 where
   pub holds : AreKnown known
@@ -48,6 +60,11 @@ pub record IsTrueOf (known : Known) (conflict : Conflict) : Type 0 where
 pub record State : Type 0 where
   pub known : Known
   pub conflict : Conflict
+
+-- no literals, or those of a kept clause
+abbrev pub IsAmong : List (Option (Vec Literal Global)) → List Literal → Type 0
+IsAmong clauses literals =
+    (literals ≡ []) ⊎ ((kept : Vec Literal Global) × Contains clauses (Some kept) × (kept.items ≡ literals))
 
 -- one clause was stored among others
 abbrev pub HasStored : List (Option (Vec Literal Global)) → List (Option (Vec Literal Global)) → Vec Literal Global → Type 0

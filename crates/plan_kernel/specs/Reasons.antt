@@ -1,6 +1,6 @@
 -- Reasons: the clauses that hold by the problem alone (docs/DEFINITIONS.md, "Clauses"). Energy as in Schutt, Feydt, Stuckey and
 -- Wallace (2011).
-use Rattle.std.specs.Prelude.{◌≡◌, ℕ, ◌+◌, ◌*◌, ◌-◌, ◌≤◌, ◌<◌, ◌⊎◌, List, sum_by, length, get_or, All, Contains}
+use Rattle.std.specs.Prelude.{◌≡◌, ◌≢◌, ℕ, ◌+◌, ◌*◌, ◌-◌, ◌≤◌, ◌<◌, ◌⊎◌, List, sum_by, length, get_or, All, Contains}
 use Rattle.std.specs.List.{AllPairs}
 use Rattle.plan_sgs.specs.Problem.{Problem, count, duration, need, capacity}
 use Rattle.plan_kernel.specs.declared.literal.TheConstants.{LIMIT}
@@ -8,17 +8,24 @@ use Rattle.plan_kernel.specs.declared.literal.Literal.{Literal}
 use Rattle.plan_kernel.specs.declared.input.Input.{Input}
 use Rattle.plan_kernel.specs.declared.input.Order.{Order}
 use Rattle.plan_kernel.specs.declared.reason.Member.{Member}
+use Rattle.plan_kernel.specs.declared.reason.OrderAt.{OrderAt}
 use Rattle.plan_kernel.specs.Inputs.{problem_of}
 use Rattle.plan_kernel.specs.Literals.{no_order, Fails}
+use Rattle.plan_kernel.specs.Clauses.{IsShorter}
 
 -- an activity, below the limit
 abbrev pub IsWritable : Input → ℕ → Type 0
 IsWritable input i = (i < count (problem_of input)) × (i < LIMIT)
 
+-- the two activities of an order
+abbrev pub pair_of : OrderAt → Order
+pair_of o = record { first = o.first; second = o.second }
+
 -- an order with its quantity, below the limit
-abbrev pub IsOrder : Input → Order × ℕ → Type 0
+abbrev pub IsOrder : Input → OrderAt → Type 0
 IsOrder input o =
-    (place : ℕ) × (o.1 ≡ count (problem_of input) + place) × (get_or input.orders.items place no_order ≡ o.0) × (o.1 < LIMIT)
+    (place : ℕ) × (o.quantity ≡ count (problem_of input) + place)
+    × (get_or input.orders.items place no_order ≡ pair_of o) × (o.quantity < LIMIT)
 
 -- the literal that a quantity is at least a value
 abbrev pub at_least : ℕ → ℕ → Literal
@@ -28,10 +35,10 @@ at_least quantity value = record { half = 2 * quantity; value = value }
 abbrev pub below : ℕ → ℕ → Literal
 below quantity value = record { half = 2 * quantity + 1; value = LIMIT + 1 - value }
 
--- two activities that last and need more of some resource together than there is
+-- two different activities that last and need more of some resource together than there is
 abbrev pub AreApart : Problem → ℕ → ℕ → Type 0
 AreApart p i j =
-    (0 < duration p i) × (0 < duration p j)
+    (i ≢ j) × (0 < duration p i) × (0 < duration p j)
     × ((k : ℕ) × (k < length p.capacities) × (capacity p k < need p i k + need p j k))
 
 -- an activity that can be in a window for so long
@@ -66,4 +73,5 @@ IsWithin input from until starts m =
 -- a clause has the literals of one member more
 abbrev pub Fills : Input → ℕ → ℕ → Member → List Literal → List Literal → Type 0
 Fills input from until m old new =
-    (starts : List ℕ) → All (Fails input starts) new → All (Fails input starts) old × IsWithin input from until starts m
+    (starts : List ℕ) → IsShorter input LIMIT starts → All (Fails input starts) new
+    → All (Fails input starts) old × IsWithin input from until starts m

@@ -1,6 +1,6 @@
 //! The conflict: literals that don't all hold together.
 
-ghost use Rattle.std.specs.Prelude.{◌≡◌, ◌≤◌, All, true, false, IfOk, IfSome, IsTrue};
+ghost use Rattle.std.specs.Prelude.{◌≡◌, ◌≤◌, All, true, false, filter, IfOk, IfSome, IsTrue};
 ghost use Rattle.plan_kernel.specs.Clauses as spec;
 ghost use Rattle.plan_kernel.specs.Kernels.{AreKnown, IsTrueOf};
 
@@ -48,6 +48,13 @@ fn clear(values: &mut Vec<u32>, touched: &mut Vec<u32>)
     touched.clear();
 }
 
+// Takes a half out of a list.
+fn take_out(touched: &mut Vec<u32>, half: u32)
+    ensures { touched.new.items ≡ filter (spec.is_other half) touched.old.items }
+{
+    touched.retain(|&other| other != half);
+}
+
 // Takes the literal of a half out.
 fn clear_half(values: &mut Vec<u32>, touched: &mut Vec<u32>, half: u32)
     requires { spec.IsListed values.old.items touched.old.items }
@@ -56,7 +63,7 @@ fn clear_half(values: &mut Vec<u32>, touched: &mut Vec<u32>, half: u32)
 {
     if (half as usize) < values.len() {
         values[half as usize] = 0;
-        touched.retain(|&other| other != half);
+        take_out(touched, half);
     }
 }
 
@@ -131,7 +138,7 @@ fn add_reason(
 {
     if let Reason::Kept(clause) = reason {
         let clause = clause_of(&known.clauses, clause);
-        return !clause.is_empty()
+        return clause.len() > 0
             && add_clause(
                 &mut conflict.values,
                 &mut conflict.touched,

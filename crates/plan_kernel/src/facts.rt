@@ -26,7 +26,7 @@ pub fn raise_latest(facts: &mut Vec<u32>, input: &Input, upper: u32)
 {
     let left = LIMIT - upper + 1;
     'activities: for (place, &duration) in input.durations.iter().enumerate() {
-        let half = place.saturating_mul(2).saturating_add(1);
+        let half = 2 * place + 1;
         raise(facts, half, left.saturating_add(duration));
     }
 }
@@ -49,7 +49,7 @@ pub fn greatest_end(facts: &[u32], input: &Input, upper: u32) -> u32
 {
     let mut greatest = 0;
     'activities: for (place, &duration) in input.durations.iter().enumerate() {
-        let half = place.saturating_mul(2);
+        let half = 2 * place;
         greatest = greatest.max(at(facts, half).saturating_add(duration));
     }
     greatest

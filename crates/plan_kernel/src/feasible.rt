@@ -1,15 +1,19 @@
 //! The check of a list of starts.
 
-ghost use Rattle.std.specs.Prelude.{◌≡◌, ◌≤◌, ◌<◌, ℕ, length, IfSome, IsTrue};
+ghost use Rattle.std.specs.Prelude.{◌≡◌, ◌≤◌, ◌<◌, ◌^◌, ℕ, length, IfSome, IsTrue};
 ghost use Rattle.plan_sgs.specs.Problem.{IsFeasible, KeepsArcs, KeepsCapacities, all_placed, usage, capacity, makespan};
-ghost use Rattle.plan_kernel.specs.Inputs.{problem_of, end_of, FitsAt, IsMakespanOf};
+ghost use Rattle.plan_kernel.specs.Inputs.{problem_of, end_of, FitsAt, IsMakespanOf, amount_at};
 
-use crate::input::{Input, need};
+use crate::input::{Input, capacity, need};
 use crate::literal::at;
+
+/// The most of a resource that a list of starts may use at once.
+const MOST_USED: u64 = 1 << 62;
 
 // The end of an activity.
 fn end(input: &Input, starts: &[u32], activity: usize) -> u64
-    ensures { result ≡ end_of (problem_of input.now) starts.now activity }
+    ensures value { result ≡ end_of (problem_of input.now) starts.now activity }
+    ensures small { result < 2 ^ 33 }
 {
     at(starts, activity) as u64 + at(&input.durations, activity) as u64
 }
@@ -28,19 +32,34 @@ fn keeps_arcs(input: &Input, starts: &[u32]) -> bool
     true
 }
 
+// What an activity needs of a resource at an instant.
+fn amount(input: &Input, starts: &[u32], instant: u32, resource: usize, activity: usize) -> u64
+    ensures value { result
+        ≡ amount_at (problem_of input.now) starts.now instant resource activity }
+    ensures small { result < 2 ^ 32 }
+{
+    if at(starts, activity) <= instant && (instant as u64) < end(input, starts, activity) {
+        need(input, activity, resource) as u64
+    } else {
+        0
+    }
+}
+
 // Whether the activities that run at an instant need no more of a resource than there is.
 fn fits(input: &Input, starts: &[u32], instant: u32, resource: usize) -> bool
     requires { length starts.now ≡ length input.now.durations.items }
     ensures { IsTrue result → usage (problem_of input.now) (all_placed starts.now) instant resource
         ≤ capacity (problem_of input.now) resource }
 {
+    let capacity = capacity(input, resource).min(MOST_USED);
     let mut used: u64 = 0;
     'activities: for place in 0..input.durations.len() {
-        if at(starts, place) <= instant && (instant as u64) < end(input, starts, place) {
-            used = used.saturating_add(need(input, place, resource) as u64);
+        used += amount(input, starts, instant, resource, place);
+        if used > capacity {
+            return false;
         }
     }
-    used <= at(&input.capacities, resource) as u64
+    true
 }
 
 // Whether this is so of each resource.

@@ -36,7 +36,7 @@ pub struct Input {
     /// For each activity its need of each resource.
     pub needs: Vec<Vec<u32>>,
     /// How much there is of each resource.
-    pub capacities: Vec<u32>,
+    pub capacities: Vec<u64>,
     /// Any two activities; only the clauses of orders depend on them.
     pub orders: Vec<Order>,
 }
@@ -47,6 +47,17 @@ pub fn need(input: &Input, activity: usize, resource: usize) -> u32
 {
     if activity < input.needs.len() {
         at(&input.needs[activity], resource)
+    } else {
+        0
+    }
+}
+
+/// How much there is of a resource, 0 if there is no such resource.
+pub fn capacity(input: &Input, resource: usize) -> u64
+    ensures { result ≡ problems.capacity (spec.problem_of input.now) resource }
+{
+    if resource < input.capacities.len() {
+        input.capacities[resource]
     } else {
         0
     }
@@ -119,7 +130,7 @@ impl Input {
             durations: durations_of(alloc, instance)?,
             arcs: arcs_of(alloc, instance)?,
             needs: needs_of(alloc, instance)?,
-            capacities: narrow(alloc, instance.caps())?,
+            capacities: Vec::from_slice(alloc, instance.caps())?,
             orders,
         })
     }

@@ -178,7 +178,8 @@ impl Kernel {
     pub fn keep(&mut self, alloc: Global) -> Result<Lesson, KernelFault>
         ensures same { self.new.known.input ≡ self.old.known.input }
         ensures upper { self.new.known.upper ≡ self.old.known.upper }
-        ensures err { OnErr result (self.new ≡ self.old) }
+        ensures err { OnErr result (spec.IsUnchanged self.old.known self.new.known) }
+        ensures conflict { OnErr result (self.new.conflict ≡ self.old.conflict) }
     {
         if !self.conflict.open {
             return Err(KernelFault::NoConflict);

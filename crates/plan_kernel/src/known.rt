@@ -1,6 +1,6 @@
 //! What a kernel knows of a problem.
 
-ghost use Rattle.std.specs.Prelude.{◌≡◌, ◌≤◌, true, IfOk, IsTrue, IsFalse, OnOk, OnErr};
+ghost use Rattle.std.specs.Prelude.{◌≡◌, ◌≤◌, ◌<◌, ◌^◌, true, length, IfOk, IsTrue, IsFalse, OnOk, OnErr};
 ghost use Rattle.plan_kernel.specs.Clauses.{IsConsequence};
 ghost use Rattle.plan_kernel.specs.Kernels as spec;
 
@@ -84,7 +84,9 @@ pub fn lower_bound(known: &Known) -> u32
 }
 
 /// The literals of a kept clause; none if there is no such clause.
-pub fn clause_of(clauses: &[Option<Vec<Literal>>], clause: u32) -> &[Literal] {
+pub fn clause_of(clauses: &[Option<Vec<Literal>>], clause: u32) -> &[Literal]
+    ensures { spec.IsAmong clauses.now result.now }
+{
     if clause as usize >= clauses.len() {
         return &[];
     }
@@ -123,7 +125,7 @@ pub fn learn(known: &mut Known, clause: Vec<Literal>) -> Result<Lesson, KernelFa
     ensures holds { spec.AreKnown known.new }
     ensures input { known.new.input ≡ known.old.input }
     ensures upper { known.new.upper ≡ known.old.upper }
-    ensures err { OnErr result (known.new ≡ known.old) }
+    ensures err { OnErr result (spec.IsUnchanged known.old known.new) }
 {
     if clause.len() == 0 {
         known.refuted = true;
@@ -137,7 +139,7 @@ pub fn learn(known: &mut Known, clause: Vec<Literal>) -> Result<Lesson, KernelFa
         .literals
         .saturating_add(clause.len() as u64)
         .saturating_add(PER_CLAUSE);
-    if literals > MOST_LITERALS {
+    if literals > MOST_LITERALS || known.clauses.len() as u64 > MOST_LITERALS {
         return Err(KernelFault::Full);
     }
     let kept = store(&mut known.clauses, &mut known.free, clause)?;
@@ -151,8 +153,9 @@ fn store(
     free: &mut Vec<u32>,
     clause: Vec<Literal>,
 ) -> Result<u32, AllocError>
+    requires { length clauses.old.items < 2 ^ 32 }
     ensures ok { OnOk result (spec.HasStored clauses.old.items clauses.new.items clause) }
-    ensures err { OnErr result (clauses.new ≡ clauses.old) }
+    ensures err { OnErr result (clauses.new.items ≡ clauses.old.items) }
     ensures free { OnErr result (free.new ≡ free.old) }
 {
     if let Some(&number) = free.last() {

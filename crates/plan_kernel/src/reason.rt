@@ -5,7 +5,7 @@ ghost use Rattle.plan_kernel.specs.Inputs.{problem_of};
 ghost use Rattle.plan_kernel.specs.Clauses.{IsConsequence};
 ghost use Rattle.plan_kernel.specs.Reasons as spec;
 
-use crate::input::{Arc, Input, Order, need};
+use crate::input::{Arc, Input, capacity, need};
 use crate::literal::{LIMIT, Literal, at};
 use std::alloc::AllocError;
 
@@ -58,14 +58,27 @@ fn is_activity(input: &Input, activity: u32) -> bool
     (activity as usize) < input.durations.len() && activity < LIMIT
 }
 
-// The quantity of an order, if there is such an order and literals of it can be written.
-fn quantity_of(input: &Input, order: u32) -> Option<(Order, u32)>
+/// An order with its quantity.
+#[derive(Clone, Copy, Drop)]
+pub struct OrderAt {
+    pub first: u32,
+    pub second: u32,
+    pub quantity: u32,
+}
+
+// An order with its quantity, if there is such an order and literals of it can be written.
+fn ordering(input: &Input, order: u32) -> Option<OrderAt>
     ensures { IfSome result (spec.IsOrder input.now) }
 {
     let place = order as usize;
     let quantity = input.durations.len().saturating_add(place);
     if place < input.orders.len() && quantity < LIMIT as usize {
-        Some((input.orders[place], quantity as u32))
+        let pair = input.orders[place];
+        Some(OrderAt {
+            first: pair.first,
+            second: pair.second,
+            quantity: quantity as u32,
+        })
     } else {
         None
     }
@@ -97,12 +110,15 @@ fn below(quantity: u32, value: u32) -> Literal
 fn are_apart(input: &Input, first: u32, second: u32) -> bool
     ensures { IsTrue result → spec.AreApart (problem_of input.now) first second }
 {
-    if at(&input.durations, first as usize) == 0 || at(&input.durations, second as usize) == 0 {
+    if first == second
+        || at(&input.durations, first as usize) == 0
+        || at(&input.durations, second as usize) == 0
+    {
         return false;
     }
-    'resources: for (resource, &capacity) in input.capacities.iter().enumerate() {
+    'resources: for resource in 0..input.capacities.len() {
         let one = need(input, first as usize, resource) as u64;
-        if one + need(input, second as usize, resource) as u64 > capacity as u64 {
+        if one + need(input, second as usize, resource) as u64 > capacity(input, resource) {
             return true;
         }
     }
@@ -141,17 +157,17 @@ fn fill_before(
 ) -> Result<bool, AllocError>
     ensures { IfOk result (λ is. IsTrue is → IsConsequence input.now LIMIT clause.new.items) }
 {
-    let Some((Order { first, second }, quantity)) = quantity_of(input, order) else {
+    let Some(o) = ordering(input, order) else {
         return Ok(false);
     };
-    if !is_activity(input, first) || !is_activity(input, second) {
+    if !is_activity(input, o.first) || !is_activity(input, o.second) {
         return Ok(false);
     }
-    let end = value.saturating_add(at(&input.durations, first as usize));
+    let end = value.saturating_add(at(&input.durations, o.first as usize));
     clause.clear();
-    clause.push(below(quantity, 1))?;
-    clause.push(below(first, value))?;
-    clause.push(at_least(second, end))?;
+    clause.push(below(o.quantity, 1))?;
+    clause.push(below(o.first, value))?;
+    clause.push(at_least(o.second, end))?;
     Ok(true)
 }
 
@@ -164,20 +180,20 @@ fn fill_after(
 ) -> Result<bool, AllocError>
     ensures { IfOk result (λ is. IsTrue is → IsConsequence input.now LIMIT clause.new.items) }
 {
-    let Some((Order { first, second }, quantity)) = quantity_of(input, order) else {
+    let Some(o) = ordering(input, order) else {
         return Ok(false);
     };
-    if !is_activity(input, first)
-        || !is_activity(input, second)
-        || !are_apart(input, first, second)
+    if !is_activity(input, o.first)
+        || !is_activity(input, o.second)
+        || !are_apart(input, o.first, o.second)
     {
         return Ok(false);
     }
-    let end = value.saturating_add(at(&input.durations, second as usize));
+    let end = value.saturating_add(at(&input.durations, o.second as usize));
     clause.clear();
-    clause.push(at_least(quantity, 1))?;
-    clause.push(below(second, value))?;
-    clause.push(at_least(first, end))?;
+    clause.push(at_least(o.quantity, 1))?;
+    clause.push(below(o.second, value))?;
+    clause.push(at_least(o.first, end))?;
     Ok(true)
 }
 
@@ -224,7 +240,7 @@ fn is_overloaded(input: &Input, resource: u32, from: u32, until: u32, members: &
     if (resource as usize) >= input.capacities.len() || from >= until || until > LIMIT {
         return false;
     }
-    let room = at(&input.capacities, resource as usize) as u64 * (until - from) as u64;
+    let room = capacity(input, resource as usize).saturating_mul((until - from) as u64);
     are_members(input, from, until, members) && energy(input, resource, members) > room
 }
 
