@@ -1,6 +1,6 @@
 -- Facts: the latest starts below an upper bound, and the ends that are reached.
-use Rattle.std.proofs.Common.{◌≡◌, ◌∙◌, ℕ, ◌+◌, ◌-◌, ◌*◌, ◌≤◌, ◌<◌, ◌⊎◌, inl, inr, List, max, length, get_or, ap, arith}
-use Rattle.plan_sgs.specs.Problem.{count, duration, makespan}
+use Rattle.std.proofs.Common.{◌≡◌, ◌∙◌, ℕ, ◌+◌, ◌-◌, ◌*◌, ◌≤◌, ◌<◌, ◌⊎◌, inl, inr, List, suc, min, max, length, get_or, ap, arith}
+use Rattle.plan_sgs.specs.Problem.{count, duration, makespan, greatest_below}
 use Rattle.plan_sgs.proofs.TotalLemmas.{greatest_above}
 use Rattle.plan_kernel.specs.declared.literal.TheConstants.{LIMIT}
 use Rattle.plan_kernel.specs.declared.input.Input.{Input}
@@ -42,3 +42,10 @@ end_reached input upper place greatest new facts inside are reached less starts 
       let end : at starts place + duration p place ≤ makespan p starts = greatest_above (count p) (λ j. get_or starts j 0 + duration p j) place activity in
       omega (arith, here, are starts short (2 * place), level_even input starts place, quantity_start input starts place activity, duration_is input place, end)
 ]
+
+-- the greatest of one number more, where each is cut at a limit
+pub end_more : (f : ℕ → ℕ) (n greatest here new limit : ℕ) → greatest ≡ min (greatest_below n f) limit → here ≡ min (f n) limit → new ≡ max greatest here
+    → new ≡ min (greatest_below (n + 1) f) limit
+end_more f n greatest here new limit before is most =
+    let next : greatest_below (n + 1) f ≡ max (greatest_below n f) (f n) = let same : n + 1 ≡ suc n = omega arith in ap (λ (m : ℕ). greatest_below m f) same in
+    omega (arith, before, is, most, next)

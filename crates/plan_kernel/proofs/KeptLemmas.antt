@@ -1,5 +1,5 @@
 -- Kept clauses: the literals of one of them, and the same in another order.
-use Rattle.std.proofs.Common.{◌≡◌, ◌∙◌, ℕ, ◌≤◌, ◌<◌, ◌⊎◌, inl, inr, List, Vec, [], Option, Some, None, Contains, length, get_or, set, refl, sym, ap, subst, arith}
+use Rattle.std.proofs.Common.{◌≡◌, ◌∙◌, ℕ, ◌≤◌, ◌<◌, ◌⊎◌, inl, inr, List, Vec, [], ◌∷◌, Option, Some, None, Contains, length, get_or, set, refl, sym, ap, subst, arith}
 use Rattle.std.specs.List.{All}
 use Rattle.std.specs.List.Sorted.{IsPermutation}
 use Rattle.std.specs.declared.alloc.Global.{Global}
@@ -67,3 +67,9 @@ hole_at old place was hole inside there same =
 pub kept_at : (clauses : List Kept) (place : ℕ) (was : Kept) (literals : Vec Literal Global) → place < length clauses → was ≡ get_or clauses place was
     → was ≡ Some literals → Contains clauses (Some literals)
 kept_at clauses place was literals inside there is = subst (λ (o : Kept). Contains clauses o) is (let at : Contains clauses was = (place, inside, sym there) in at)
+
+-- a clause of one literal
+pub one_literal : (clause : List Literal) (d : Literal) → length clause ≡ 1 → clause ≡ get_or clause 0 d ∷ []
+one_literal [] d one = absurd (omega (arith, one))
+one_literal (l ∷ []) d one = refl
+one_literal (l ∷ (m ∷ rest)) d one = absurd (omega (arith, one))

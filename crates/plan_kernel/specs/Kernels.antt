@@ -1,15 +1,18 @@
 -- What a kernel knows of a problem (docs/DEFINITIONS.md, "Clauses").
-use Rattle.std.specs.Prelude.{◌≡◌, ℕ, ◌≤◌, ◌<◌, ◌⊎◌, true, List, [], Vec, Option, Some, None, All, Contains}
+use Rattle.std.specs.Prelude.{◌≡◌, ℕ, ◌+◌, ◌*◌, ◌≤◌, ◌<◌, ◌⊎◌, true, List, [], Vec, Option, Some, None, ◌∷◌, All, Contains, length, get_or}
 use Rattle.std.specs.declared.alloc.Global.{Global}
 use Rattle.std.specs.List.Sorted.{IsPermutation}
-use Rattle.plan_sgs.specs.Problem.{IsFeasible, IsShortest, makespan}
+use Rattle.plan_sgs.specs.Problem.{IsFeasible, makespan, greatest_below}
 use Rattle.plan_kernel.specs.declared.literal.TheConstants.{LIMIT}
 use Rattle.plan_kernel.specs.declared.input.Input.{Input}
 use Rattle.plan_kernel.specs.declared.literal.Literal.{Literal}
 use Rattle.plan_kernel.specs.declared.known.Known.{Known}
+use Rattle.plan_kernel.specs.declared.known.Lesson.{Lesson}
+use Rattle.plan_kernel.specs.declared.known.Lesson.TheVariants.{Refuted, Fact, Clause}
+use Rattle.plan_kernel.specs.Literals.{at}
 use Rattle.plan_kernel.specs.declared.conflict.Conflict.{Conflict}
 use Rattle.plan_kernel.specs.Inputs.{problem_of}
-use Rattle.plan_kernel.specs.Clauses.{IsShorter, IsConsequence, AreFacts, IsConflict, NoneIsShorter, IsListed}
+use Rattle.plan_kernel.specs.Clauses.{IsShorter, IsConsequence, AreFacts, IsConflict, NoneIsShorter, IsListed, IsNegated}
 
 -- a feasible list of starts with its makespan
 pub record IsBest (input : Input) (starts : List ℕ) (upper : ℕ) : Type 0 where
@@ -55,6 +58,24 @@ pub record IsTrueOf (known : Known) (conflict : Conflict) : Type 0 where
   pub holds : AreKnown known
   pub apart : conflict.open ≡ true → IsConflict known.input known.upper conflict.values.items
   pub listed : IsListed conflict.values.items conflict.touched.items
+
+-- the greatest known start with its duration
+abbrev pub end_in : Input → List ℕ → ℕ
+end_in input facts = greatest_below (length input.durations.items) (λ i. at facts (2 * i) + at input.durations.items i)
+
+abbrev pub known_end : Known → ℕ
+known_end known = end_in known.input known.facts.items
+
+-- what became of a clause: without literals it refutes, with one it is a fact, unless there is no such half, and else it is kept
+abbrev pub IsLesson : Known → Vec Literal Global → Lesson → Type 0
+IsLesson new clause Refuted = (clause.items ≡ []) × (new.refuted ≡ true)
+IsLesson new clause (Fact half) =
+    (l : Literal) × (clause.items ≡ l ∷ []) × (half ≡ l.half) × (half < length new.facts.items → l.value ≤ at new.facts.items half)
+IsLesson new clause (Clause number) = get_or new.clauses.items number None ≡ Some clause
+
+-- the lesson of a conflict: the clause of its negation
+abbrev pub HasLearned : Known → Known → List ℕ → Lesson → Type 0
+HasLearned old new values lesson = (clause : Vec Literal Global) × IsNegated values clause.items × IsLesson new clause lesson
 
 -- what a kernel keeps
 pub record State : Type 0 where

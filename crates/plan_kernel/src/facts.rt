@@ -1,6 +1,6 @@
 //! Facts: literals that hold in every feasible schedule that is shorter than the best one.
 
-ghost use Rattle.std.specs.Prelude.{◌≡◌, ◌≤◌, ◌<◌, ℕ, IfOk};
+ghost use Rattle.std.specs.Prelude.{◌≡◌, ◌≤◌, ◌<◌, ℕ, min, length, IfOk};
 ghost use Rattle.plan_kernel.specs.Literals as literals;
 ghost use Rattle.plan_kernel.specs.Clauses as spec;
 ghost use Rattle.plan_kernel.specs.Kernels as kernels;
@@ -11,7 +11,9 @@ use std::alloc::{AllocError, Global};
 
 // Raises the value of a half, if there is such a half.
 pub fn raise(facts: &mut Vec<u32>, half: usize, value: u32)
-    ensures { spec.IsRaisedTo facts.old.items facts.new.items half value }
+    ensures most { spec.IsRaisedTo facts.old.items facts.new.items half value }
+    ensures risen { half < length facts.new.items → value ≤ literals.at facts.new.items half }
+    ensures others { spec.IsRaised facts.old.items facts.new.items }
 {
     if half < facts.len() && facts[half] < value {
         facts[half] = value;
@@ -45,7 +47,8 @@ pub fn first_facts(alloc: Global, input: &Input) -> Result<Vec<u32>, AllocError>
 pub fn greatest_end(facts: &[u32], input: &Input, upper: u32) -> u32
     requires limit { upper ≤ LIMIT }
     requires facts { spec.AreFacts input.now upper facts.now }
-    ensures { kernels.IsEndReached input.now upper result }
+    ensures reached { kernels.IsEndReached input.now upper result }
+    ensures value { result ≡ min (kernels.end_in input.now facts.now) 4294967295 }
 {
     let mut greatest = 0;
     'activities: for (place, &duration) in input.durations.iter().enumerate() {

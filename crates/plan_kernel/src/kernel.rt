@@ -36,7 +36,7 @@ impl Model for Kernel {
 }
 
 impl Kernel {
-    ghost use Rattle.std.specs.Prelude.{◌≡◌, ◌≤◌, ℕ, true, false, length, IfOk, IfSome, IsTrue, IsFalse, OnErr, OnOk};
+    ghost use Rattle.std.specs.Prelude.{◌≡◌, ◌≤◌, ℕ, true, false, length, IfOk, IfSome, IfNone, IsTrue, IsFalse, IsErrOf, OnErr, OnOk, min, ◌&&◌, ◌<◌};
     ghost use Rattle.plan_sgs.specs.Problem.{IsShortest};
     ghost use Rattle.plan_kernel.specs.Inputs.{problem_of};
     ghost use Rattle.plan_kernel.specs.Literals as literals;
@@ -69,7 +69,9 @@ impl Kernel {
 
     /// The best list of starts, if one was found.
     pub fn best(&self) -> Option<&[u32]>
-        ensures { IfSome result (λ starts. spec.IsBest self.now.known.input starts.now self.now.known.upper) }
+        ensures some { IfSome result (λ starts.
+            spec.IsBest self.now.known.input starts.now self.now.known.upper) }
+        ensures none { IfNone result (self.now.known.found ≡ false) }
     {
         if self.known.found {
             Some(self.known.best.as_slice())
@@ -84,13 +86,17 @@ impl Kernel {
         ensures lower { spec.IsLowerBound self.now.known.input result }
         ensures below { result ≤ self.now.known.upper }
         ensures refuted { self.now.known.refuted ≡ true → result ≡ self.now.known.upper }
+        ensures known { self.now.known.refuted ≡ false
+            → result ≡ min (spec.known_end self.now.known) self.now.known.upper }
     {
         lower_bound(&self.known)
     }
 
     /// Whether the best list of starts is proved to be a shortest one.
     pub fn is_optimal(&self) -> bool
-        ensures { IsTrue result → IsShortest (problem_of self.now.known.input) self.now.known.best.items }
+        ensures shortest { IsTrue result
+            → IsShortest (problem_of self.now.known.input) self.now.known.best.items }
+        ensures value { result ≡ (self.now.known.found && self.now.known.refuted) }
     {
         self.known.found && self.known.refuted
     }
@@ -154,7 +160,7 @@ impl Kernel {
     /// Returns whether it is a reason. If not, there is no conflict.
     pub fn begin(&mut self, reason: Reason) -> bool
         ensures same { self.new.known.input ≡ self.old.known.input }
-        ensures upper { self.new.known.upper ≡ self.old.known.upper }
+        ensures known { self.new.known ≡ self.old.known }
         ensures open { result ≡ self.new.conflict.open }
     {
         begin(&self.known, &mut self.conflict, reason)
@@ -167,7 +173,7 @@ impl Kernel {
     /// Returns whether it is a reason and there was a conflict. If not, there is no conflict now.
     pub fn resolve(&mut self, half: u32, reason: Reason) -> bool
         ensures same { self.new.known.input ≡ self.old.known.input }
-        ensures upper { self.new.known.upper ≡ self.old.known.upper }
+        ensures known { self.new.known ≡ self.old.known }
         ensures open { result ≡ self.new.conflict.open }
     {
         resolve(&self.known, &mut self.conflict, half, reason)
@@ -178,6 +184,11 @@ impl Kernel {
     pub fn keep(&mut self, alloc: Global) -> Result<Lesson, KernelFault>
         ensures same { self.new.known.input ≡ self.old.known.input }
         ensures upper { self.new.known.upper ≡ self.old.known.upper }
+        ensures learned { IfOk result
+            (spec.HasLearned self.old.known self.new.known self.old.conflict.values.items) }
+        ensures closed { OnOk result (self.new.conflict.open ≡ false) }
+        ensures no_conflict { IsErrOf result KernelFault.NoConflict
+            → self.old.conflict.open ≡ false }
         ensures err { OnErr result (spec.IsUnchanged self.old.known self.new.known) }
         ensures conflict { OnErr result (self.new.conflict ≡ self.old.conflict) }
     {
@@ -196,7 +207,9 @@ impl Kernel {
     /// Returns whether the list was taken. If not, the kernel is as it was.
     pub fn lower(&mut self, starts: Vec<u32>) -> bool
         ensures same { self.new.known.input ≡ self.old.known.input }
-        ensures taken { IsTrue result → self.new.known.best.items ≡ starts.items }
+        ensures taken { IsTrue result
+            → spec.IsBest self.new.known.input starts.items self.new.known.upper }
+        ensures less { IsTrue result → self.new.known.upper < self.old.known.upper }
         ensures refused { IsFalse result → self.new ≡ self.old }
     {
         lower(&mut self.known, starts)

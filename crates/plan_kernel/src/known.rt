@@ -1,8 +1,9 @@
 //! What a kernel knows of a problem.
 
-ghost use Rattle.std.specs.Prelude.{◌≡◌, ◌≤◌, ◌<◌, ◌^◌, true, length, IfOk, IsTrue, IsFalse, OnOk, OnErr};
+ghost use Rattle.std.specs.Prelude.{◌≡◌, ◌≤◌, ◌<◌, ◌^◌, true, false, length, get_or, min, IfErr, Some, None, IfOk, IsTrue, IsFalse, OnOk, OnErr};
 ghost use Rattle.plan_kernel.specs.Clauses.{IsConsequence};
 ghost use Rattle.plan_kernel.specs.Kernels as spec;
+ghost use Rattle.plan_kernel.specs.declared.fault.KernelFault.TheVariants.{NoConflict};
 
 use crate::facts::{first_facts, greatest_end, raise, raise_latest};
 use crate::fault::KernelFault;
@@ -75,6 +76,8 @@ pub fn lower_bound(known: &Known) -> u32
     ensures lower { spec.IsLowerBound known.now.input result }
     ensures below { result ≤ known.now.upper }
     ensures refuted { known.now.refuted ≡ true → result ≡ known.now.upper }
+    ensures known { known.now.refuted ≡ false
+        → result ≡ min (spec.known_end known.now) known.now.upper }
 {
     if known.refuted {
         known.upper
@@ -102,7 +105,8 @@ pub fn lower(known: &mut Known, starts: Vec<u32>) -> bool
     ensures holds { spec.AreKnown known.new }
     ensures input { known.new.input ≡ known.old.input }
     ensures upper { known.new.upper ≤ known.old.upper }
-    ensures taken { IsTrue result → known.new.best.items ≡ starts.items }
+    ensures taken { IsTrue result → spec.IsBest known.new.input starts.items known.new.upper }
+    ensures less { IsTrue result → known.new.upper < known.old.upper }
     ensures refused { IsFalse result → known.new ≡ known.old }
 {
     let Some(makespan) = makespan_of(&known.input, &starts) else {
@@ -125,6 +129,8 @@ pub fn learn(known: &mut Known, clause: Vec<Literal>) -> Result<Lesson, KernelFa
     ensures holds { spec.AreKnown known.new }
     ensures input { known.new.input ≡ known.old.input }
     ensures upper { known.new.upper ≡ known.old.upper }
+    ensures lesson { IfOk result (spec.IsLesson known.new clause) }
+    ensures full { IfErr result (λ fault. fault ≡ NoConflict → ⊥) }
     ensures err { OnErr result (spec.IsUnchanged known.old known.new) }
 {
     if clause.len() == 0 {
@@ -132,8 +138,9 @@ pub fn learn(known: &mut Known, clause: Vec<Literal>) -> Result<Lesson, KernelFa
         return Ok(Lesson::Refuted);
     }
     if clause.len() == 1 {
-        raise(&mut known.facts, clause[0].half as usize, clause[0].value);
-        return Ok(Lesson::Fact(clause[0].half));
+        let literal = clause[0];
+        raise(&mut known.facts, literal.half as usize, literal.value);
+        return Ok(Lesson::Fact(literal.half));
     }
     let literals = known
         .literals
@@ -154,6 +161,7 @@ fn store(
     clause: Vec<Literal>,
 ) -> Result<u32, AllocError>
     requires { length clauses.old.items < 2 ^ 32 }
+    ensures at { IfOk result (λ number. get_or clauses.new.items number None ≡ Some clause) }
     ensures ok { OnOk result (spec.HasStored clauses.old.items clauses.new.items clause) }
     ensures err { OnErr result (clauses.new.items ≡ clauses.old.items) }
     ensures free { OnErr result (free.new ≡ free.old) }

@@ -11,6 +11,8 @@ mod kernel;
 mod known;
 mod literal;
 mod reason;
+#[cfg(test)]
+mod tests;
 
 pub use fault::KernelFault;
 pub use input::{Arc, Input, Order};

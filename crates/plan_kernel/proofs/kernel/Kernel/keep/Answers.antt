@@ -1,3 +1,6 @@
+use Rattle.std.proofs.Common.{ℕ, List, ap, subst}
+use Rattle.plan_kernel.specs.Clauses.{IsNegated}
+use Rattle.plan_kernel.specs.Kernels.{State}
 use Rattle.plan_kernel.proofs.ConflictLemmas.{taught}
 use Rattle.plan_kernel.proofs.kernel.Kernel.keep.Goals as goal
 
@@ -13,3 +16,9 @@ invariant_of-self c = record {
   apart = rw (c.learn.ensures.input, c.learn.ensures.upper) c.self.invariant.apart;
   listed = c.self.invariant.listed;
 }
+
+pub returns-clause-learned : goal.returns-clause-learned
+returns-clause-learned c =
+    let clause = c.in_ok-clause.clause in
+    let old = ap (λ (s : State). s.conflict.values.items) c.self.view_is in
+    (clause, subst (λ (values : List ℕ). IsNegated values clause.items) old c.in_ok-clause.ensures, c.in_ok-lesson.ensures.lesson)
