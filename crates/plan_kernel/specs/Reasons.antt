@@ -1,5 +1,5 @@
--- Reasons: the clauses that hold by the problem alone (docs/DEFINITIONS.md, "Clauses"). Energy as in Schutt, Feydt, Stuckey and
--- Wallace (2011).
+-- Reasons: the clauses that hold by the problem alone (docs/DEFINITIONS.md, "Clauses"). Energy as
+-- in Schutt, Feydt, Stuckey and Wallace (2011).
 use Rattle.std.specs.Prelude.{◌≡◌, ◌≢◌, ℕ, ◌+◌, ◌*◌, ◌-◌, ◌≤◌, ◌<◌, ◌⊎◌, List, sum_by, length, get_or, All, Contains}
 use Rattle.std.specs.List.{AllPairs}
 use Rattle.plan_sgs.specs.Problem.{Problem, count, duration, need, capacity}
