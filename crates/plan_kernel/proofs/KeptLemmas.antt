@@ -1,5 +1,5 @@
 -- Kept clauses: the literals of one of them, and the same in another order.
-use Rattle.std.proofs.Common.{◌≡◌, ◌∙◌, ℕ, ◌≤◌, ◌<◌, ◌⊎◌, inl, inr, List, Vec, [], ◌∷◌, Option, Some, None, Contains, length, get_or, set, refl, sym, ap, subst, arith}
+use Rattle.std.proofs.Common.{◌≡◌, ℕ, ◌<◌, ◌⊎◌, inl, inr, List, Vec, [], ◌∷◌, Option, Some, None, Contains, length, get_or, set, refl, sym, subst, arith}
 use Rattle.std.specs.List.{All}
 use Rattle.std.specs.List.Sorted.{IsPermutation}
 use Rattle.std.specs.declared.alloc.Global.{Global}
@@ -9,7 +9,7 @@ use Rattle.std.proofs.lemmas.List.Sorted.{All-permutation, IsPermutation-sym}
 use Rattle.plan_kernel.specs.declared.literal.Literal.{Literal}
 use Rattle.plan_kernel.specs.declared.input.Input.{Input}
 use Rattle.plan_kernel.specs.Literals.{Fails}
-use Rattle.plan_kernel.specs.Clauses.{IsShorter, IsConsequence}
+use Rattle.plan_kernel.specs.Clauses.{IsConsequence}
 use Rattle.plan_kernel.specs.Kernels.{Kept, IsKept, IsAmong, IsReordered, HasReordered}
 
 -- the literals of a kept clause, if there are any

@@ -1,7 +1,7 @@
 -- Literals: lower bounds of starts, of what is left of starts below a limit, and of orders of two
 -- activities (docs/DEFINITIONS.md, "Clauses"). Lazy clause generation as in Ohrimenko, Stuckey and
 -- Codish (2009).
-use Rattle.std.specs.Prelude.{◌≡◌, ℕ, ◌+◌, ◌-◌, ◌/◌, ◌%◌, ◌<◌, ◌≤◌, cond, nat_eq, nat_lt, nat_le, List, get_or}
+use Rattle.std.specs.Prelude.{ℕ, ◌+◌, ◌-◌, ◌/◌, ◌%◌, ◌<◌, ◌≤◌, cond, nat_eq, nat_lt, nat_le, List, get_or}
 use Rattle.plan_sgs.specs.Problem.{Problem, count, duration}
 use Rattle.plan_kernel.specs.declared.literal.TheConstants.{LIMIT}
 use Rattle.plan_kernel.specs.declared.literal.Literal.{Literal}

@@ -151,7 +151,9 @@ impl Kernel {
     }
 
     /// The literals of a kept clause. A clause that was dropped, or never kept, has none.
-    pub fn clause(&self, clause: u32) -> &[Literal] {
+    pub fn clause(&self, clause: u32) -> &[Literal]
+        ensures { spec.IsAmong self.now.known.clauses.items result.now }
+    {
         clause_of(&self.known.clauses, clause)
     }
 

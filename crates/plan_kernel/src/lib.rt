@@ -12,6 +12,7 @@ mod kernel;
 mod known;
 mod literal;
 mod reason;
+mod shop;
 
 pub use fault::KernelFault;
 pub use input::{Arc, Input, Order};
