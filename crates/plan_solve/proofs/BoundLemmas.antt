@@ -1,0 +1,16 @@
+-- The bound of the empty word is one of all makespans.
+use Rattle.std.proofs.Common.{ℕ, ◌≤◌, List, [], ◌++◌, arith}
+use Rattle.plan_sgs.specs.Problem.{makespan}
+use Rattle.plan_sgs.specs.Instances.{Planned, IsInstance, problem_of}
+use Rattle.plan_sgs.specs.ProjectWords.{bound_of, makespan_by}
+use Rattle.plan_sgs.specs.ProjectLaws.{ProjectBoundHolds, ProjectWordsReach, ReachesBy}
+use Rattle.plan_sgs.proofs.FullWordLemmas.{words_reach}
+use Rattle.plan_sgs.proofs.WordBoundLemmas.{bound_holds}
+use Rattle.plan_solve.specs.Solutions.{IsLowerBound}
+
+pub bound_of_none : (i : Planned) → IsInstance i → IsLowerBound (problem_of i) (bound_of i [])
+unfolding ProjectBoundHolds ProjectWordsReach
+bound_of_none i instance starts feasible =
+    let h : ReachesBy i (makespan (problem_of i) starts) = words_reach i starts instance feasible in
+    let b : bound_of i [] ≤ makespan_by i h.word = bound_holds i [] h.word instance h.full in
+    omega (arith, b, h.makespan)
