@@ -3,6 +3,7 @@
 #pragma once
 #include <algorithm>
 #include <cstdint>
+#include <cstdio>
 #include <vector>
 
 using std::vector;
@@ -124,6 +125,46 @@ class Kernel {
         count = 0;
     }
 
+    // All activities end before the upper bound.
+    void raise_latest() {
+        for (Number x = 0; x <= model.count; x++) {
+            Number d = x < model.count ? model.durations[x] : 0;
+            facts[2 * x + 1] = std::max(facts[2 * x + 1], FAR + 1 + d - upper);
+        }
+    }
+
+    // The log has quantities by their numbers from 1 on: activities, the makespan, and orders.
+    void log_literal(Literal l) const {
+        fprintf(log, l.half % 2 == 0 ? " %u>=%u" : " %u<=%u", l.half / 2 + 1,
+                l.half % 2 == 0 ? l.value : FAR - l.value);
+    }
+    void log_reason(const Reason &r) const {
+        const char *names[] = {"kept", "arc", "before", "after", "energy"};
+        fprintf(log, " %s", names[r.kind]);
+        if (r.kind == ArcRule) {
+            const Arc &arc = model.arcs[r.index];
+            fprintf(log, " %u %u", arc.from + 1, arc.to + 1);
+        } else {
+            fprintf(log, " %u", r.kind == Kept ? r.index : r.index + 1);
+        }
+        if (r.kind != Kept) fprintf(log, " %u", r.from);
+        if (r.kind == Energy) fprintf(log, " %u", r.to);
+        for (Member m : r.members) fprintf(log, " %u*%u", m.activity + 1, m.instants);
+        fprintf(log, "\n");
+    }
+    void log_schedule() const {
+        if (!log) return;
+        fprintf(log, "schedule %u", upper);
+        for (Number start : best) fprintf(log, " %u", start);
+        fprintf(log, "\n");
+    }
+    void log_kept(const char *what) const {
+        if (!log) return;
+        fprintf(log, "%s", what);
+        for (Literal l : scratch) log_literal(l);
+        fprintf(log, "\n");
+    }
+
     // The clause that the conflict refutes.
     void write_conflict() {
         scratch.clear();
@@ -135,11 +176,19 @@ public:
     Number upper;
     vector<Number> best;
     bool is_refuted = false;  // no feasible schedule is below the upper bound
+    FILE *log = nullptr;
+
+    // Begins the log: the orders, and the first schedule.
+    void log_to(FILE *file) {
+        log = file;
+        for (const Pair &p : model.pairs) fprintf(log, "order %u %u\n", p.first + 1, p.second + 1);
+        log_schedule();
+    }
 
     Kernel(const Model &of, vector<Number> starts, Number makespan, Number most_literals)
         : model(of), cap(most_literals), facts(2 * of.variables()), conflict(2 * of.variables()),
           is_touched(2 * of.variables()), upper(makespan), best(std::move(starts)) {
-        for (Number x = 0; x <= of.count; x++) facts[2 * x + 1] = FAR + 1 - upper;
+        raise_latest();
         for (Number p = 0; p < of.pairs.size(); p++) facts[2 * of.pair_variable(p) + 1] = FAR - 1;
     }
 
@@ -158,12 +207,16 @@ public:
     const vector<Literal> &written() const { return scratch; }
 
     void begin(const Reason &r) {
+        if (log) fprintf(log, "begin");
+        if (log) log_reason(r);
         clear();
         write(r);
         for (Literal l : scratch) add(negation(l));
     }
 
     void resolve(Number h, const Reason &r) {
+        if (log) fprintf(log, h % 2 == 0 ? "resolve %u>=" : "resolve %u<=", h / 2 + 1);
+        if (log) log_reason(r);
         write(r);
         Number v = conflict[h];
         auto is_resolved = [&](Literal l) { return l.half == h && l.value >= v; };
@@ -180,32 +233,40 @@ public:
         write_conflict();
         if (count == 0) {
             is_refuted = true;
+            log_kept("refuted");
             return IsProved;
         }
         if (count == 1) {
             Literal l = scratch[0];
             facts[l.half] = std::max(facts[l.half], l.value);
+            log_kept("fact");
             return IsFact;
         }
         if (literals.size() + count > cap) return IsFull;
         places.push_back(Number(literals.size()));
         sizes.push_back(count);
         literals.insert(literals.end(), scratch.begin(), scratch.end());
+        if (log) fprintf(log, "keep %u", clauses() - 1);
+        log_kept("");
         return IsClause;
     }
 
     void lower_to(const vector<Number> &starts, Number makespan) {
         best = starts;
         upper = makespan;
-        for (Number x = 0; x <= model.count; x++)
-            facts[2 * x + 1] = std::max(facts[2 * x + 1], FAR + 1 - upper);
+        raise_latest();
+        log_schedule();
     }
 
     // Drops the clauses that aren't to stay.
     void compact(const vector<bool> &stays) {
         Number at = 0, count = 0;
         for (Number id = 0; id < sizes.size(); id++) {
-            if (!stays[id]) continue;
+            if (!stays[id]) {
+                if (log) fprintf(log, "drop %u\n", id);
+                continue;
+            }
+            if (log && count != id) fprintf(log, "move %u %u\n", id, count);
             Number size = sizes[id], from = places[id];
             std::copy_n(literals.begin() + from, size, literals.begin() + at);
             places[count] = at;

@@ -50,7 +50,7 @@ fn add_orders(
 ) -> Result<(), AllocError> {
     let network = instance.network();
     let count = network.len() as u32;
-    for second in first + 1..count {
+    for second in first.saturating_add(1)..count {
         let is_placed = is_marked(reached, first.wrapping_mul(count).wrapping_add(second))
             || is_marked(reached, second.wrapping_mul(count).wrapping_add(first));
         if !is_placed

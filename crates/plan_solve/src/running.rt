@@ -44,6 +44,15 @@ fn kernel_of(alloc: Global, instance: &Instance, starts: &[u64]) -> Result<Kerne
     Ok(kernel)
 }
 
+// The greater of two lower bounds: a simple one and the kernel's.
+fn lower_bound(instance: &Instance, kernel: &Kernel, simple: u64) -> u64
+    requires problem { inputs.problem_of kernel.now.known.input ≡ problem_of instance.now }
+    requires simple { IsLowerBound (problem_of instance.now) simple }
+    ensures { IsLowerBound (problem_of instance.now) result }
+{
+    simple.max(kernel.lower_bound() as u64)
+}
+
 // Tells a watcher how far a search is. Returns whether the search should end.
 fn tell<W: Watcher>(
     watcher: &mut W,
@@ -58,7 +67,7 @@ fn tell<W: Watcher>(
         (W.was_told watcher.old) (W.was_told watcher.new) }
 {
     if let Some(_starts) = kernel.best() {
-        let lower = simple.max(kernel.lower_bound() as u64);
+        let lower = lower_bound(instance, kernel, simple);
         watcher.tell(kernel.upper() as u64, lower, conflicts);
     }
     watcher.is_late()
@@ -88,7 +97,7 @@ pub fn run<W: Watcher>(
     };
     Ok(Found {
         starts,
-        lower: simple.max(search.kernel.lower_bound() as u64),
+        lower: lower_bound(instance, &search.kernel, simple),
         conflicts: used,
     })
 }
