@@ -1,0 +1,9 @@
+pub mod InputLemmas
+pub mod LevelLemmas
+pub mod ConflictLemmas
+pub mod TouchedLemmas
+pub mod FactLemmas
+pub mod FeasibleLemmas
+pub mod EnergyLemmas
+pub mod ReasonLemmas
+pub mod KeptLemmas
