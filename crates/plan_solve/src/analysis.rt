@@ -146,7 +146,10 @@ impl Analysis {
             half: entry.half,
             value: entry.value,
         };
-        match self.explainer.explain(model, trail, literal, entry.cause, place)? {
+        match self
+            .explainer
+            .explain(model, trail, literal, entry.cause, place)?
+        {
             Some(why) => Ok(kernel.begin(self.explainer.reason(why))),
             None => Ok(false),
         }
@@ -167,7 +170,10 @@ impl Analysis {
         };
         let literal = literal_of(kernel, entry.half);
         self.uncount(entry.half);
-        match self.explainer.explain(model, trail, literal, entry.cause, place)? {
+        match self
+            .explainer
+            .explain(model, trail, literal, entry.cause, place)?
+        {
             Some(why) => Ok(kernel.resolve(entry.half, self.explainer.reason(why))),
             None => Ok(false),
         }

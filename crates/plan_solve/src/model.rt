@@ -21,7 +21,7 @@ pub struct Model {
     pub kinds: u32,
     pub durations: Vec<u32>,
     needs: Vec<u32>,
-    pub capacities: Vec<u32>,
+    capacities: Vec<u32>,
     links: Vec<Link>,
     orders: Vec<Order>,
     /// For each activity the arcs that begin with it.
@@ -52,6 +52,15 @@ fn flat_needs(alloc: Global, input: &Input) -> Result<Vec<u32>, AllocError> {
     Ok(needs)
 }
 
+// How much there is of each resource. No more than 2^32 - 1 is ever in use.
+fn capacities_of(alloc: Global, input: &Input) -> Result<Vec<u32>, AllocError> {
+    let mut capacities = Vec::with_capacity(alloc, input.capacities.len())?;
+    for &capacity in &input.capacities {
+        capacities.push(capacity.min(0xffff_ffff) as u32)?;
+    }
+    Ok(capacities)
+}
+
 // The arcs, with the durations of the activities that they begin with.
 fn links_of(alloc: Global, input: &Input) -> Result<Vec<Link>, AllocError> {
     let mut links = Vec::with_capacity(alloc, input.arcs.len())?;
@@ -74,7 +83,7 @@ impl Model {
             kinds: narrow(kinds),
             durations: Vec::from_slice(alloc, input.durations.as_slice())?,
             needs: flat_needs(alloc, input)?,
-            capacities: Vec::from_slice(alloc, input.capacities.as_slice())?,
+            capacities: capacities_of(alloc, input)?,
             links: links_of(alloc, input)?,
             orders: Vec::from_slice(alloc, input.orders.as_slice())?,
             links_from: empty_rows(alloc, count)?,

@@ -56,7 +56,11 @@ fn add_orders(
         if !is_placed
             && orders.len() < MOST_ORDERS
             && network.duration(second + 1) > 0
-            && exceed(instance.needs(first + 1), instance.needs(second + 1), instance.caps())
+            && exceed(
+                instance.needs(first + 1),
+                instance.needs(second + 1),
+                instance.caps(),
+            )
         {
             orders.push(Order { first, second })?;
         }

@@ -88,7 +88,11 @@ impl Parts {
         for resource in 0..model.kinds {
             let need = model.need(activity, resource);
             if need > 0 {
-                let amount = if is_more { need } else { 0u32.wrapping_sub(need) };
+                let amount = if is_more {
+                    need
+                } else {
+                    0u32.wrapping_sub(need)
+                };
                 self.add(resource, from, to, amount);
             }
         }

@@ -1,7 +1,7 @@
 //! What follows from bounds that have risen.
 
-use crate::literals::{at_least, at_most, negated};
 use crate::lists::{Waiting, row};
+use crate::literals::{at_least, at_most, negated};
 use crate::model::Model;
 use crate::parts::Parts;
 use crate::stop::{Cause, Stop};
@@ -184,12 +184,7 @@ impl State {
     }
 
     /// What follows from all bounds that have risen.
-    pub fn propagate(
-        &mut self,
-        alloc: Global,
-        model: &Model,
-        kernel: &Kernel,
-    ) -> Result<(), Stop> {
+    pub fn propagate(&mut self, alloc: Global, model: &Model, kernel: &Kernel) -> Result<(), Stop> {
         for _ in 0..u64::MAX {
             self.propagate_entries(alloc, model, kernel)?;
             self.propagate_resources(model)?;

@@ -9,6 +9,7 @@ use std::alloc::{AllocError, Global};
 
 /// How many clauses are kept at first, and how many more after each reduction.
 const FIRST_CLAUSES: u64 = 4_000;
+
 const MORE_CLAUSES: u64 = 500;
 
 /// Clauses of at most so many levels stay.
@@ -89,9 +90,7 @@ impl Clauses {
             return false;
         }
         let levels = self.levels[place];
-        levels <= FEW_LEVELS
-            || levels < limit
-            || self.used[place].saturating_add(LATE) > conflict
+        levels <= FEW_LEVELS || levels < limit || self.used[place].saturating_add(LATE) > conflict
     }
 
     /// Drops about half of the clauses: those of many levels that weren't used of late.

@@ -4,8 +4,8 @@ ghost use Rattle.std.specs.Prelude.{◌≡◌, ◌≤◌, IfOk};
 
 use crate::activity::Activity;
 use crate::analysis::{Analysis, greatest_level};
-use crate::literals::{at_most, negated};
 use crate::lists::at;
+use crate::literals::{at_most, negated};
 use crate::model::Model;
 use crate::propagation::State;
 use crate::reduction::Clauses;
@@ -165,7 +165,10 @@ impl Search {
             &mut self.kernel,
         )?;
         let trail = &self.state.trail;
-        if self.analysis.begin(&self.model, trail, &mut self.kernel, clash)? {
+        if self
+            .analysis
+            .begin(&self.model, trail, &mut self.kernel, clash)?
+        {
             let _ = keep(alloc, &mut self.kernel)?;
         }
         Ok(())
@@ -215,7 +218,9 @@ impl Search {
     {
         bump(&self.kernel, &mut self.activity)?;
         let back = greatest_level(&self.kernel, &self.state.trail, half);
-        let spread = self.analysis.spread(&self.kernel, &self.state.trail, conflict);
+        let spread = self
+            .analysis
+            .spread(&self.kernel, &self.state.trail, conflict);
         match keep(alloc, &mut self.kernel)? {
             Some(Lesson::Refuted) => Ok(false),
             Some(Lesson::Fact(half)) => self.take_fact(half),
@@ -251,7 +256,10 @@ impl Search {
             return Ok(false);
         }
         let trail = &self.state.trail;
-        if !self.analysis.begin(&self.model, trail, &mut self.kernel, clash)? {
+        if !self
+            .analysis
+            .begin(&self.model, trail, &mut self.kernel, clash)?
+        {
             return Ok(false);
         }
         let level = greatest_level(&self.kernel, &self.state.trail, NONE);
@@ -326,12 +334,12 @@ impl Search {
     {
         if self.state.trail.level() == 0 {
             settle(
-            alloc,
-            &mut self.analysis,
-            &self.model,
-            &self.state.trail,
-            &mut self.kernel,
-        )?;
+                alloc,
+                &mut self.analysis,
+                &self.model,
+                &self.state.trail,
+                &mut self.kernel,
+            )?;
             self.state.trail.forget();
             if let Some(literal) = self.raising() {
                 self.decide(literal)?;

@@ -77,7 +77,14 @@ fn searched<W: Watcher>(
             conflicts: 0,
         });
     }
-    let found = run(alloc, instance, &schedule.starts, simple, conflicts, watcher)?;
+    let found = run(
+        alloc,
+        instance,
+        &schedule.starts,
+        simple,
+        conflicts,
+        watcher,
+    )?;
     Ok(Solved {
         schedule: best_of(alloc, instance, schedule, &found.starts)?,
         lower: found.lower,

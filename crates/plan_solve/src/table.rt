@@ -1,7 +1,7 @@
 //! The time table: what the fixed parts of activities leave no room for.
 
-use crate::literals::{at_least, at_most};
 use crate::lists::{is_marked, row};
+use crate::literals::{at_least, at_most};
 use crate::model::Model;
 use crate::parts::Parts;
 use crate::stop::{Cause, Clash, Stop};
@@ -111,7 +111,10 @@ fn check_slice(
     if first >= behind {
         return Ok(());
     }
-    let (most, capacity) = (peak(parts, resource, first, behind), model.capacity(resource));
+    let (most, capacity) = (
+        peak(parts, resource, first, behind),
+        model.capacity(resource),
+    );
     if most > capacity {
         let instant = overload(parts, resource, first, behind, capacity).unwrap_or(first);
         return Err(Stop::Clash(Clash::Overload(resource, instant)));

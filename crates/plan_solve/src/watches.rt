@@ -106,7 +106,10 @@ impl Watches {
         half: u32,
     ) -> Result<bool, Stop> {
         let clause = kernel.clause(watch.clause);
-        let (first, second) = (at(&self.first, watch.clause), at(&self.second, watch.clause));
+        let (first, second) = (
+            at(&self.first, watch.clause),
+            at(&self.second, watch.clause),
+        );
         let refuted = negated(Literal {
             half,
             value: watch.threshold,
@@ -119,7 +122,11 @@ impl Watches {
             return Ok(false);
         }
         if let Some(place) = place_of_open(clause, trail, first, second) {
-            let moved = if is_first { &mut self.first } else { &mut self.second };
+            let moved = if is_first {
+                &mut self.first
+            } else {
+                &mut self.second
+            };
             put(moved, watch.clause, place);
             self.watch(watch.clause, literal_at(clause, place))?;
             return Ok(true);
