@@ -4,23 +4,8 @@ lower bound follows from the clauses. It reads the project and the log and trust
 
     tests/trials/clause_log.py PROJECT.sm LOG
 
-Quantities are numbered from 1: activities, the makespan, and orders in the order of their lines. An
-order of I and J is 1 if I ends before J starts, else 0. A literal is `X>=V` or `X<=V`. Lines:
-
-    order I J                 an order
-    schedule M S1 S2 ..       starts of a feasible schedule; from here on shorter ones are sought
-    begin REASON              the conflict is the negation of a reason's clause, without facts
-    resolve X>= REASON        the conflict's literal X>=V is replaced by the other literals of a
-    resolve X<= REASON        reason's clause, negated; the clause has a literal that implies it
-    keep ID LITERAL ..        the negation of the conflict is kept under a number
-    fact LITERAL              the same, if it has one literal
-    refuted                   the same, if it has none: no schedule is shorter
-    drop ID, move ID NEW      a clause is dropped, or gets another number
-    lower V                   no schedule is shorter than V
-
-A reason is one of: kept ID; arc I J V (I < V, or J >= V + duration of I); before Q V, after Q V (order
-Q is 0, or its first < V, or its second >= V + duration of its first; and the other way round);
-energy K A B I*M .. (a start of some I is below A + M - duration or above B - M).
+The format is in crates/plan_solve/README.md, "Log". Inside, a literal is (quantity, sign, value): with
+sign 1 the quantity is at least the value, with sign -1 at most minus the value.
 """
 
 import sys
@@ -35,15 +20,11 @@ def expect(holds, why):
         raise Refused(why)
 
 
-def section(lines, title, skipped):
-    at = next(k for k, line in enumerate(lines) if line.startswith(title)) + 1 + skipped
-    rows = []
-    for line in lines[at:]:
-        if line.startswith("*"):
-            break
-        if not line.startswith("-"):
-            rows.append([int(word) for word in line.split()])
-    return rows
+def section(lines, title):
+    """The rows of numbers below a title and a line of column heads."""
+    at = next(k for k, line in enumerate(lines) if line.startswith(title)) + 2
+    end = next(k for k in range(at, len(lines)) if lines[k].startswith("*"))
+    return [list(map(int, line.split())) for line in lines[at:end] if not line.startswith("-")]
 
 
 class Project:
@@ -51,11 +32,11 @@ class Project:
 
     def __init__(self, text):
         lines = [line.strip() for line in text.splitlines()]
-        nexts, rows = section(lines, "PRECEDENCE", 1), section(lines, "REQUESTS", 1)
+        nexts, rows = section(lines, "PRECEDENCE"), section(lines, "REQUESTS")
         self.count = len(rows)
         self.durations = [0] + [row[2] for row in rows]
         self.needs = [[]] + [row[3:] for row in rows]
-        self.capacities = section(lines, "RESOURCEAVAIL", 1)[0]
+        self.capacities = section(lines, "RESOURCEAVAIL")[0]
         self.arcs = {(row[0], j) for row in nexts for j in row[3:]}
 
     def is_feasible(self, starts):
@@ -69,8 +50,11 @@ class Project:
                     return False
         return True
 
+    def are_apart(self, i, j):
+        rows = zip(self.needs[i], self.needs[j], self.capacities)
+        return self.durations[i] * self.durations[j] > 0 and any(a + b > c for a, b, c in rows)
 
-# A literal is (quantity, sign, value): sign 1 says at least the value, sign -1 at most minus the value.
+
 def literal(word):
     sign, by = (1, ">=") if ">=" in word else (-1, "<=")
     quantity, value = word.split(by)
@@ -91,9 +75,7 @@ class Checker:
         self.conflict, self.upper, self.is_refuted = None, None, False
 
     def raise_fact(self, quantity, sign, value):
-        known = self.facts.get((quantity, sign))
-        if known is None or known < value:
-            self.facts[quantity, sign] = value
+        self.facts[quantity, sign] = max(value, self.facts.get((quantity, sign), value))
 
     def order(self, i, j):
         self.orders.append((int(i), int(j)))
@@ -108,9 +90,8 @@ class Checker:
         expect(end == int(makespan), "the makespan is another")
         expect(self.upper is None or end < self.upper, "the schedule isn't shorter")
         self.upper = end
-        for x, duration in enumerate(self.project.durations + [0]):
-            if x > 0:
-                self.raise_fact(x, -1, -(end - 1 - duration))
+        for x, duration in enumerate(self.project.durations[1:] + [0], 1):
+            self.raise_fact(x, -1, -(end - 1 - duration))
 
     def clause(self, kind, *words):
         """The clause of a reason."""
@@ -121,24 +102,18 @@ class Checker:
         if kind == "arc":
             i, j, value = map(int, words)
             expect((i, j) in self.project.arcs or j == self.project.count + 1, "there is no arc")
-            return [(i, -1, 1 - value), (j, 1, value + self.project.durations[i])]
+            return self.follows(i, j, value)
         expect(kind in ("before", "after"), "there is no such reason")
         number, value = map(int, words)
         first, second = self.orders[number - 1]
         order = self.project.count + 1 + number
         if kind == "before":
             return [(order, -1, 0)] + self.follows(first, second, value)
-        self.expect_apart(first, second)
+        expect(self.project.are_apart(first, second), "the activities can overlap")
         return [(order, 1, 1)] + self.follows(second, first, value)
 
     def follows(self, first, second, value):
         return [(first, -1, 1 - value), (second, 1, value + self.project.durations[first])]
-
-    def expect_apart(self, i, j):
-        project = self.project
-        expect(project.durations[i] > 0 and project.durations[j] > 0, "an activity takes no time")
-        rows = zip(project.needs[i], project.needs[j], project.capacities)
-        expect(any(a + b > most for a, b, most in rows), "the activities can overlap")
 
     def energy(self, kind, start, end, *members):
         """Some activity is in a window for less than its time, since all together are too much."""
@@ -157,9 +132,9 @@ class Checker:
 
     def add(self, clause):
         for quantity, sign, value in map(negated, clause):
-            if self.facts.get((quantity, sign), -10**12) < value:
-                known = self.conflict.get((quantity, sign), -10**12)
-                self.conflict[quantity, sign] = max(known, value)
+            half = quantity, sign
+            if half not in self.facts or self.facts[half] < value:
+                self.conflict[half] = max(value, self.conflict.get(half, value))
 
     def begin(self, *reason):
         self.conflict = {}
@@ -197,11 +172,8 @@ class Checker:
         self.clauses[int(new)] = self.clauses.pop(int(number))
 
     def lower(self, value):
-        known = max(
-            self.facts[x, 1] + duration
-            for x, duration in enumerate(self.project.durations + [0])
-            if x > 0
-        )
+        lengths = enumerate(self.project.durations[1:] + [0], 1)
+        known = max(self.facts[x, 1] + duration for x, duration in lengths)
         known = self.upper if self.is_refuted else min(known, self.upper)
         expect(int(value) <= known, "the lower bound is more than what is known")
 
