@@ -44,10 +44,9 @@ class Project:
         if len(starts) != self.count + 1 or any(ends[i] > starts[j] for i, j in self.arcs):
             return False
         for t in set(starts[1:]):
-            runs = [j for j in range(1, self.count + 1) if starts[j] <= t < ends[j]]
-            for k, most in enumerate(self.capacities):
-                if sum(self.needs[j][k] for j in runs) > most:
-                    return False
+            runs = [self.needs[j] for j in range(1, self.count + 1) if starts[j] <= t < ends[j]]
+            if any(sum(used) > most for used, most in zip(zip(*runs), self.capacities)):
+                return False
         return True
 
     def are_apart(self, i, j):
@@ -57,13 +56,8 @@ class Project:
 
 def literal(word):
     sign, by = (1, ">=") if ">=" in word else (-1, "<=")
-    quantity, value = word.split(by)
-    return int(quantity), sign, sign * int(value)
-
-
-def negated(one):
-    quantity, sign, value = one
-    return quantity, -sign, 1 - value
+    quantity, value = map(int, word.split(by))
+    return quantity, sign, sign * value
 
 
 class Checker:
@@ -80,8 +74,7 @@ class Checker:
     def order(self, i, j):
         self.orders.append((int(i), int(j)))
         quantity = self.project.count + 1 + len(self.orders)
-        self.raise_fact(quantity, 1, 0)
-        self.raise_fact(quantity, -1, -1)
+        self.facts |= {(quantity, 1): 0, (quantity, -1): -1}
 
     def schedule(self, makespan, *starts):
         starts = [0] + [int(start) for start in starts]
@@ -95,16 +88,16 @@ class Checker:
 
     def clause(self, kind, *words):
         """The clause of a reason."""
-        if kind == "kept":
-            return self.clauses[int(words[0])]
         if kind == "energy":
             return self.energy(*words)
+        if kind == "kept":
+            return self.clauses[int(words[0])]
+        number, *others, value = map(int, words)
         if kind == "arc":
-            i, j, value = map(int, words)
-            expect((i, j) in self.project.arcs or j == self.project.count + 1, "there is no arc")
-            return self.follows(i, j, value)
-        expect(kind in ("before", "after"), "there is no such reason")
-        number, value = map(int, words)
+            (j,) = others
+            expect((number, j) in self.project.arcs or j == self.project.count + 1, "no such arc")
+            return self.follows(number, j, value)
+        expect(kind in ("before", "after") and number > 0, "there is no such reason")
         first, second = self.orders[number - 1]
         order = self.project.count + 1 + number
         if kind == "before":
@@ -120,19 +113,19 @@ class Checker:
         kind, start, end = int(kind) - 1, int(start), int(end)
         pairs = [tuple(map(int, member.split("*"))) for member in members]
         expect(len({i for i, _ in pairs}) == len(pairs), "a member is named twice")
-        expect(start < end, "the window is empty")
+        expect(start < end and kind >= 0, "there is no such window")
         clause, energy = [], 0
         for i, time in pairs:
             duration = self.project.durations[i]
-            expect(1 <= time <= min(duration, end - start), "a member's time is wrong")
+            expect(i > 0 < time <= min(duration, end - start), "a member's time is wrong")
             energy += time * self.project.needs[i][kind]
             clause += [(i, -1, -(start + time - duration - 1)), (i, 1, end - time + 1)]
         expect(energy > self.project.capacities[kind] * (end - start), "the members fit")
         return clause
 
     def add(self, clause):
-        for quantity, sign, value in map(negated, clause):
-            half = quantity, sign
+        for quantity, sign, value in clause:
+            half, value = (quantity, -sign), 1 - value
             if half not in self.facts or self.facts[half] < value:
                 self.conflict[half] = max(value, self.conflict.get(half, value))
 
@@ -150,7 +143,7 @@ class Checker:
 
     def learned(self, words):
         """The negation of the conflict, which has to have these literals."""
-        clause = [negated((x, sign, value)) for (x, sign), value in self.conflict.items()]
+        clause = [(x, -sign, 1 - value) for (x, sign), value in self.conflict.items()]
         expect(sorted(clause) == sorted(map(literal, words)), "the conflict is another")
         return clause
 
@@ -190,25 +183,17 @@ def check(project, log):
         try:
             expect(words and words[0] in STEPS, "there is no such line")
             getattr(checker, words[0])(*words[1:])
-        except (LookupError, TypeError, ValueError, AttributeError) as error:
-            raise Refused(f"line {number}: {error!r}") from error
-        except Refused as refused:
-            raise Refused(f"line {number}: {refused}") from None
+        except (Refused, LookupError, TypeError, ValueError, AttributeError) as error:
+            raise Refused(f"line {number}: {error!r}") from None
     expect(words and words[0] == "lower", "the last line is no lower bound")
 
 
 def main():
-    texts = []
-    for path in sys.argv[1:3]:
-        with open(path, encoding="ascii") as file:
-            texts.append(file.read())
     try:
-        check(*texts)
+        check(*(open(path, encoding="ascii").read() for path in sys.argv[1:3]))
     except Refused as refused:
-        print(refused)
-        return 1
-    return 0
+        sys.exit(str(refused))
 
 
 if __name__ == "__main__":
-    sys.exit(main())
+    main()
