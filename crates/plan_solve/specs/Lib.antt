@@ -2,4 +2,4 @@ pub mod Solutions
 pub mod Progress
 pub use Rattle.plan_sgs.specs.Problem
 pub use Rattle.plan_sgs.specs.Instances
-pub use Rattle.plan_sgs.specs.Placing
+pub use Rattle.plan_sgs.specs.Placement

@@ -1,7 +1,7 @@
 -- Active schedules with lower bounds of all makespans (docs/definitions.md, "Proofs of optima").
 use Rattle.std.specs.Prelude.{◌≡◌, ℕ, ◌≤◌, ◌<◌, List}
 use Rattle.plan_sgs.specs.Problem.{Problem, IsFeasible, IsActive, makespan}
-use Rattle.plan_sgs.specs.Placing.{AllEndBy, latest_end}
+use Rattle.plan_sgs.specs.Placement.{AllEndBy, latest_end}
 use Rattle.plan_sgs.specs.declared.schedule.Schedule.{Schedule}
 use Rattle.plan_solve.specs.declared.fault.SolveFault.{SolveFault}
 use Rattle.plan_solve.specs.declared.solving.Solved.{Solved}

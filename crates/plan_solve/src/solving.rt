@@ -4,7 +4,7 @@
 ghost use Rattle.std.specs.Prelude.{◌≡◌, ◌≤◌, nat_eq, IfOk, IfErr, IfSome, IsErrOf};
 ghost use Rattle.plan_sgs.specs.Problem.{IsActive, IsShortest, makespan};
 ghost use Rattle.plan_sgs.specs.Instances.{problem_of};
-ghost use Rattle.plan_sgs.specs.Placing.{AllEndBy, latest_end};
+ghost use Rattle.plan_sgs.specs.Placement.{AllEndBy, latest_end};
 ghost use Rattle.plan_solve.specs.Progress.{HearsTruth};
 ghost use Rattle.plan_solve.specs.Solutions as spec;
 
