@@ -1,4 +1,4 @@
-//! When a search begins again from what it has learned.
+//! When a search begins again with what was learned.
 
 /// How many conflicts a search may have before it begins again, in units of the sequence.
 const BASE: u64 = 100;
