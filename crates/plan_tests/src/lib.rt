@@ -6,6 +6,8 @@
 #[cfg(test)]
 mod calendars;
 #[cfg(test)]
+mod clauses;
+#[cfg(test)]
 mod dates;
 #[cfg(test)]
 mod devices;

@@ -1,0 +1,51 @@
+-- Facts: the latest starts below an upper bound, and the ends that are reached.
+use Rattle.std.proofs.Common.{◌≡◌, ℕ, ◌+◌, ◌-◌, ◌*◌, ◌≤◌, ◌<◌, ◌⊎◌, inl, inr, List, suc, min, max, length, get_or, ap, arith}
+use Rattle.plan_sgs.specs.Problem.{count, duration, makespan, greatest_below}
+use Rattle.plan_sgs.proofs.TotalLemmas.{greatest_above}
+use Rattle.plan_kernel.specs.declared.literal.TheConstants.{LIMIT}
+use Rattle.plan_kernel.specs.declared.input.Input.{Input}
+use Rattle.plan_kernel.specs.Inputs.{problem_of}
+use Rattle.plan_kernel.specs.Literals.{at, level}
+use Rattle.plan_kernel.specs.Clauses.{AreFacts, IsRaisedTo}
+use Rattle.plan_kernel.specs.Kernels.{IsEndReached}
+use Rattle.plan_kernel.proofs.InputLemmas.{count_is, duration_is}
+use Rattle.plan_kernel.proofs.LevelLemmas.{ends_before, quantity_start, level_even, level_odd}
+
+-- an activity ends before the upper bound, so that its start leaves at least a value below the limit
+pub latest_holds : (input : Input) (upper place value : ℕ) (old new : List ℕ) → upper ≤ LIMIT → place < length input.durations.items → AreFacts input upper old
+    → value ≤ LIMIT - upper + 1 + at input.durations.items place → IsRaisedTo old new (2 * place + 1) value → AreFacts input upper new
+latest_holds input upper place value old new limit inside are small raised starts short half = elim (raised half) [
+  | inl kept ↦ omega (arith, kept, are starts short half)
+  | inr (same, most) ↦
+      let activity : place < count (problem_of input) = omega (arith, inside, count_is input) in
+      omega (
+        arith,
+        most,
+        small,
+        limit,
+        ap (level input starts) same,
+        level_odd input starts place,
+        quantity_start input starts place activity,
+        ends_before input upper starts place short activity,
+        duration_is input place,
+      )
+]
+
+-- a known start with its duration is reached
+pub end_reached : (input : Input) (upper place greatest new : ℕ) (facts : List ℕ) → place < length input.durations.items → AreFacts input upper facts
+    → IsEndReached input upper greatest → (new ≤ greatest) ⊎ (new ≤ at facts (2 * place) + at input.durations.items place) → IsEndReached input upper new
+end_reached input upper place greatest new facts inside are reached less starts short = elim less [
+  | inl before ↦ omega (arith, before, reached starts short)
+  | inr here ↦
+      let p = problem_of input in
+      let activity : place < count p = omega (arith, inside, count_is input) in
+      let end : at starts place + duration p place ≤ makespan p starts = greatest_above (count p) (λ j. get_or starts j 0 + duration p j) place activity in
+      omega (arith, here, are starts short (2 * place), level_even input starts place, quantity_start input starts place activity, duration_is input place, end)
+]
+
+-- the greatest of one number more, where each is cut at a limit
+pub end_more : (f : ℕ → ℕ) (n greatest here new limit : ℕ) → greatest ≡ min (greatest_below n f) limit → here ≡ min (f n) limit → new ≡ max greatest here
+    → new ≡ min (greatest_below (n + 1) f) limit
+end_more f n greatest here new limit before is most =
+    let next : greatest_below (n + 1) f ≡ max (greatest_below n f) (f n) = let same : n + 1 ≡ suc n = omega arith in ap (λ (m : ℕ). greatest_below m f) same in
+    omega (arith, before, is, most, next)

@@ -1,0 +1,10 @@
+pub mod InputLemmas
+pub mod LevelLemmas
+pub mod ConflictLemmas
+pub mod TouchedLemmas
+pub mod FactLemmas
+pub mod FeasibleLemmas
+pub mod EnergyLemmas
+pub mod ReasonLemmas
+pub mod KeptLemmas
+pub mod ShopLemmas

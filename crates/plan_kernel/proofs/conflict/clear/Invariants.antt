@@ -1,0 +1,7 @@
+use Rattle.std.proofs.Common.{◌≢◌, ℕ, drop, Contains}
+use Rattle.plan_kernel.specs.Literals.{at}
+use Rattle.plan_kernel.proofs.conflict.clear.Given as goal
+
+-- what isn't 0 is among the halves that are left
+abbrev pub invariant-halves : goal.invariant-halves
+invariant-halves l = (half : ℕ) → at l.values.items half ≢ 0 → Contains (drop l.half-index l.half-items) half

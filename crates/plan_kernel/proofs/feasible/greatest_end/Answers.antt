@@ -1,0 +1,10 @@
+use Rattle.std.proofs.Common.{arith}
+use Rattle.plan_kernel.specs.Inputs.{problem_of}
+use Rattle.plan_kernel.proofs.InputLemmas.{count_is}
+use Rattle.plan_kernel.proofs.FeasibleLemmas.{greatest_whole}
+use Rattle.plan_kernel.proofs.feasible.greatest_end.Goals as goal
+
+pub returns : goal.returns
+returns c =
+    greatest_whole (problem_of c.args.input.now) c.args.starts.now c.activities.place c.activities.greatest
+    (omega (arith, c.activities-test.false, c.activities.auto.place-end, c.len-place-end.ensures, count_is c.args.input.now)) c.activities.invariant

@@ -1,0 +1,8 @@
+use Rattle.std.proofs.Common.{◌≡◌}
+use Rattle.plan_sgs.specs.Problem.{greatest_below}
+use Rattle.plan_kernel.specs.Inputs.{problem_of, end_of}
+use Rattle.plan_kernel.proofs.feasible.greatest_end.Given as goal
+
+-- the greatest end so far
+abbrev pub invariant-activities : goal.invariant-activities
+invariant-activities l = l.greatest ≡ greatest_below l.place (end_of (problem_of l.input) l.starts)

@@ -1,0 +1,12 @@
+use Rattle.std.proofs.Common.{◌∙◌, ap, sym, arith}
+use Rattle.plan_kernel.specs.Literals.{at}
+use Rattle.plan_kernel.proofs.InputLemmas.{need_inside, need_past}
+use Rattle.plan_kernel.proofs.input.need.Goals as goal
+
+pub returns-then-activity-len : goal.returns-then-activity-len
+returns-then-activity-len c =
+    c.at.ensures ∙ ap (λ xs. at xs c.args.resource) c.deref.ensures.value
+    ∙ sym (need_inside c.args.input.now c.args.activity c.args.resource c.index.result.now (omega (arith, c.if-activity-len.true, c.len.ensures)) c.index.ensures)
+
+pub returns-else-activity-len : goal.returns-else-activity-len
+returns-else-activity-len c = sym (need_past c.args.input.now c.args.activity c.args.resource (omega (arith, c.if-activity-len.false, c.len.ensures)))

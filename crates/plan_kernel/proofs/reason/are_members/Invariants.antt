@@ -1,0 +1,7 @@
+use Rattle.std.proofs.Common.{take}
+use Rattle.plan_kernel.specs.Reasons.{AreMembers}
+use Rattle.plan_kernel.proofs.reason.are_members.Given as goal
+
+-- the members so far
+abbrev pub invariant-members : goal.invariant-members
+invariant-members l = AreMembers l.input l.from l.until (take l.place l.members)

@@ -1,0 +1,118 @@
+-- What a kernel knows of a problem (docs/definitions.md, "Clauses").
+use Rattle.std.specs.Prelude.{◌≡◌, ℕ, ◌+◌, ◌*◌, ◌≤◌, ◌<◌, ◌⊎◌, true, List, [], Vec, Option, Some, None, ◌∷◌, All, Contains, length, get_or}
+use Rattle.std.specs.declared.alloc.Global.{Global}
+use Rattle.std.specs.List.Sorted.{IsPermutation}
+use Rattle.plan_sgs.specs.Problem.{IsFeasible, makespan, greatest_below}
+use Rattle.plan_kernel.specs.declared.literal.TheConstants.{LIMIT}
+use Rattle.plan_kernel.specs.declared.input.Input.{Input}
+use Rattle.plan_kernel.specs.declared.literal.Literal.{Literal}
+use Rattle.plan_kernel.specs.declared.known.Known.{Known}
+use Rattle.plan_kernel.specs.declared.known.Lesson.{Lesson}
+use Rattle.plan_kernel.specs.declared.known.Lesson.TheVariants.{Refuted, Fact, Clause}
+use Rattle.plan_kernel.specs.Literals.{at}
+use Rattle.plan_kernel.specs.declared.conflict.Conflict.{Conflict}
+use Rattle.plan_kernel.specs.Inputs.{problem_of}
+use Rattle.plan_kernel.specs.Clauses.{IsShorter, IsConsequence, AreFacts, IsConflict, NoneIsShorter, IsListed, IsNegated}
+
+-- a feasible list of starts with its makespan
+pub record IsBest (input : Input) (starts : List ℕ) (upper : ℕ) : Type 0 where
+  pub feasible : IsFeasible (problem_of input) starts
+  pub makespan_is : makespan (problem_of input) starts ≡ upper
+
+-- no feasible list of starts has a makespan below a number
+abbrev pub IsLowerBound : Input → ℕ → Type 0
+IsLowerBound input lower =
+    (starts : List ℕ) → IsFeasible (problem_of input) starts
+    → lower ≤ makespan (problem_of input) starts
+
+-- each shorter list of starts has a makespan of at least a number
+abbrev pub IsEndReached : Input → ℕ → ℕ → Type 0
+IsEndReached input upper end =
+    (starts : List ℕ) → IsShorter input upper starts → end ≤ makespan (problem_of input) starts
+
+-- a place for a clause: the clause that is kept there, if there is one
+abbrev pub Kept : Type 0
+Kept = Option (Vec Literal Global)
+
+-- a clause that is kept holds
+abbrev pub IsKept : Input → ℕ → Kept → Type 0
+IsKept input upper None = Unit {0}
+IsKept input upper (Some clause) = IsConsequence input upper clause.items
+
+-- What is known is true: facts and clauses hold in each shorter list of starts. If the upper bound is refuted there is no such list. The best list, if one was
+-- found, is feasible, and its makespan is the upper bound.
+pub record AreKnown (known : Known) : Type 0 where
+  pub limit : known.upper ≤ LIMIT
+  pub best : known.found ≡ true → IsBest known.input known.best.items known.upper
+  pub facts : AreFacts known.input known.upper known.facts.items
+  pub clauses : All (IsKept known.input known.upper) known.clauses.items
+  pub refuted : known.refuted ≡ true → NoneIsShorter known.input known.upper
+
+-- what is known is what was known
+pub record IsUnchanged (old new : Known) : Type 0 where
+  pub input : new.input ≡ old.input
+  pub upper : new.upper ≡ old.upper
+  pub found : new.found ≡ old.found
+  pub best : new.best ≡ old.best
+  pub facts : new.facts ≡ old.facts
+  pub clauses : new.clauses.items ≡ old.clauses.items
+  pub free : new.free ≡ old.free
+  pub literals : new.literals ≡ old.literals
+  pub refuted : new.refuted ≡ old.refuted
+
+-- what is known is true, and the literals of the conflict, if it is open, hold together in no
+-- shorter list
+pub record IsTrueOf (known : Known) (conflict : Conflict) : Type 0 where
+  pub holds : AreKnown known
+  pub apart : conflict.open ≡ true → IsConflict known.input known.upper conflict.values.items
+  pub listed : IsListed conflict.values.items conflict.touched.items
+
+-- the greatest known start with its duration
+abbrev pub end_in : Input → List ℕ → ℕ
+end_in input facts =
+    greatest_below (length input.durations.items)
+    (λ i. at facts (2 * i) + at input.durations.items i)
+
+abbrev pub known_end : Known → ℕ
+known_end known = end_in known.input known.facts.items
+
+-- what became of a clause: without literals it refutes, with one it is a fact, unless there is no
+-- such half, and else it is kept
+abbrev pub IsLesson : Known → Vec Literal Global → Lesson → Type 0
+IsLesson new clause Refuted = (clause.items ≡ []) × (new.refuted ≡ true)
+IsLesson new clause (Fact half) =
+    (l : Literal) × (clause.items ≡ l ∷ []) × (half ≡ l.half)
+    × (half < length new.facts.items → l.value ≤ at new.facts.items half)
+IsLesson new clause (Clause number) = get_or new.clauses.items number None ≡ Some clause
+
+-- the lesson of a conflict: the clause of its negation
+abbrev pub HasLearned : Known → List ℕ → Lesson → Type 0
+HasLearned new values lesson =
+    (clause : Vec Literal Global) × IsNegated values clause.items × IsLesson new clause lesson
+
+-- what a kernel keeps
+pub record State : Type 0 where
+  pub known : Known
+  pub conflict : Conflict
+
+-- no literals, or those of a kept clause
+abbrev pub IsAmong : List Kept → List Literal → Type 0
+IsAmong clauses literals =
+    (literals ≡ [])
+    ⊎ ((kept : Vec Literal Global) × Contains clauses (Some kept) × (kept.items ≡ literals))
+
+-- one clause was stored among others
+abbrev pub HasStored : List Kept → List Kept → Vec Literal Global → Type 0
+HasStored old new clause = All (λ kept. Contains old kept ⊎ (kept ≡ Some clause)) new
+
+-- a clause has the literals of another in another order
+abbrev pub IsReordered : Kept → Kept → Type 0
+IsReordered None new = ⊥
+IsReordered (Some old) None = ⊥
+IsReordered (Some old) (Some new) = IsPermutation old.items new.items
+
+-- each clause is one of before, or has the literals of one in another order
+abbrev pub HasReordered : List Kept → List Kept → Type 0
+HasReordered old new =
+    All (λ kept. Contains old kept ⊎ ((other : Kept) × Contains old other × IsReordered other kept))
+    new

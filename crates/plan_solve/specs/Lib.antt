@@ -1,0 +1,5 @@
+pub mod Solutions
+pub mod Progress
+pub use Rattle.plan_sgs.specs.Problem
+pub use Rattle.plan_sgs.specs.Instances
+pub use Rattle.plan_sgs.specs.Placement

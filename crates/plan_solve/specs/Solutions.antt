@@ -1,0 +1,32 @@
+-- Active schedules with lower bounds of all makespans (docs/definitions.md, "Proofs of optima").
+use Rattle.std.specs.Prelude.{◌≡◌, ℕ, ◌≤◌, ◌<◌, List}
+use Rattle.plan_sgs.specs.Problem.{Problem, IsFeasible, IsActive, makespan}
+use Rattle.plan_sgs.specs.Placement.{AllEndBy, latest_end}
+use Rattle.plan_sgs.specs.declared.schedule.Schedule.{Schedule}
+use Rattle.plan_solve.specs.declared.fault.SolveFault.{SolveFault}
+use Rattle.plan_solve.specs.declared.solving.Solved.{Solved}
+use Rattle.plan_solve.specs.declared.fault.SolveFault.TheVariants.{NoMemory, BadConflicts}
+
+-- no feasible list of starts has a makespan below a number
+abbrev pub IsLowerBound : Problem → ℕ → Type 0
+IsLowerBound p lower = (starts : List ℕ) → IsFeasible p starts → lower ≤ makespan p starts
+
+-- an active schedule with its makespan, whose ends can all be shown
+pub record IsActiveSchedule (p : Problem) (schedule : Schedule) : Type 0 where
+  pub active : IsActive p schedule.starts.items
+  pub makespan_is : schedule.makespan ≡ makespan p schedule.starts.items
+  pub ends : AllEndBy p schedule.starts.items latest_end
+
+-- an active schedule and a lower bound
+pub record IsSolutionOf (p : Problem) (solved : Solved) : Type 0 where
+  pub schedule : IsActiveSchedule p solved.schedule
+  pub lower : IsLowerBound p solved.lower
+
+-- how many conflicts may be allowed
+abbrev pub IsConflictLimit : ℕ → Type 0
+IsConflictLimit conflicts = (0 < conflicts) × (conflicts ≤ 1000000000)
+
+-- a number of conflicts is refused if it isn't allowed, and for nothing else but want of memory
+abbrev pub RefusesSolving : ℕ → SolveFault → Type 0
+RefusesSolving conflicts NoMemory = Unit {0}
+RefusesSolving conflicts BadConflicts = IsConflictLimit conflicts → ⊥

@@ -1,0 +1,31 @@
+//! Shortest schedules of projects with scarce resources, as far as a search by lazy clause generation
+//! finds and proves them.
+#![tactic(auto)]
+
+mod activity;
+mod analysis;
+mod bounds;
+mod explanation;
+mod fault;
+mod lists;
+mod literals;
+mod model;
+mod orders;
+mod parts;
+mod propagation;
+mod reduction;
+mod restarts;
+mod running;
+mod schedules;
+mod search;
+mod solving;
+mod stop;
+mod table;
+mod trail;
+mod watcher;
+mod watches;
+mod windows;
+
+pub use fault::SolveFault;
+pub use solving::{MOST_CONFLICTS, Solved, solve, solve_watched};
+pub use watcher::{Unwatched, Watcher};

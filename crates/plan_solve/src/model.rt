@@ -1,0 +1,210 @@
+//! The numbers of a problem, by what propagation looks up.
+
+use crate::lists::{at, empty_rows, mark, push_to, row};
+use plan_kernel::{Input, Order};
+use std::alloc::{AllocError, Global};
+
+/// Activity `to` starts no earlier than `weight` after the start of activity `from`.
+#[derive(Clone, Copy, Drop)]
+pub struct Link {
+    pub from: u32,
+    pub to: u32,
+    pub weight: u32,
+}
+
+/// The numbers of a problem. Activities, resources, arcs and orders are numbered from 0.
+#[derive(Drop)]
+pub struct Model {
+    /// How many activities there are.
+    pub count: u32,
+    /// How many resources there are.
+    pub kinds: u32,
+    pub durations: Vec<u32>,
+    needs: Vec<u32>,
+    capacities: Vec<u32>,
+    links: Vec<Link>,
+    orders: Vec<Order>,
+    /// For each activity the arcs that begin with it.
+    pub links_from: Vec<Vec<u32>>,
+    /// For each activity the arcs that end with it.
+    pub links_to: Vec<Vec<u32>>,
+    /// For each activity its orders.
+    pub orders_of: Vec<Vec<u32>>,
+    /// For each resource the activities that last and need it.
+    pub users: Vec<Vec<u32>>,
+    /// The resources of which each user needs all.
+    pub is_unary: Vec<bool>,
+    /// For each activity the unary resources that it needs.
+    pub unary_of: Vec<Vec<u32>>,
+}
+
+// The least of two numbers that fit 32 bits.
+fn narrow(number: usize) -> u32 {
+    (number & 0xffff_ffff) as u32
+}
+
+// The needs of all activities, one after another.
+fn flat_needs(alloc: Global, input: &Input) -> Result<Vec<u32>, AllocError> {
+    let mut needs = Vec::new(alloc);
+    for list in &input.needs {
+        needs.extend_from_slice(list.as_slice())?;
+    }
+    Ok(needs)
+}
+
+// How much there is of each resource. No more than 2^32 - 1 is ever in use.
+fn capacities_of(alloc: Global, input: &Input) -> Result<Vec<u32>, AllocError> {
+    let mut capacities = Vec::with_capacity(alloc, input.capacities.len())?;
+    for &capacity in &input.capacities {
+        capacities.push(capacity.min(0xffff_ffff) as u32)?;
+    }
+    Ok(capacities)
+}
+
+// The arcs, with the durations of the activities that they begin with.
+fn links_of(alloc: Global, input: &Input) -> Result<Vec<Link>, AllocError> {
+    let mut links = Vec::with_capacity(alloc, input.arcs.len())?;
+    for arc in &input.arcs {
+        links.push(Link {
+            from: arc.from,
+            to: arc.to,
+            weight: at(&input.durations, arc.from).saturating_add(arc.lag),
+        })?;
+    }
+    Ok(links)
+}
+
+impl Model {
+    /// The numbers of a problem.
+    pub fn new(alloc: Global, input: &Input) -> Result<Model, AllocError> {
+        let (count, kinds) = (input.durations.len(), input.capacities.len());
+        let mut model = Model {
+            count: narrow(count),
+            kinds: narrow(kinds),
+            durations: Vec::from_slice(alloc, input.durations.as_slice())?,
+            needs: flat_needs(alloc, input)?,
+            capacities: capacities_of(alloc, input)?,
+            links: links_of(alloc, input)?,
+            orders: Vec::from_slice(alloc, input.orders.as_slice())?,
+            links_from: empty_rows(alloc, count)?,
+            links_to: empty_rows(alloc, count)?,
+            orders_of: empty_rows(alloc, count)?,
+            users: empty_rows(alloc, kinds)?,
+            is_unary: vec![in alloc; true; kinds]?,
+            unary_of: empty_rows(alloc, count)?,
+        };
+        model.list_links()?;
+        model.list_orders()?;
+        for resource in 0..model.kinds {
+            model.list_users(resource)?;
+            model.list_unary(resource)?;
+        }
+        Ok(model)
+    }
+
+    fn list_links(&mut self) -> Result<(), AllocError> {
+        for (place, link) in self.links.iter().enumerate() {
+            push_to(&mut self.links_from, link.from, narrow(place))?;
+            push_to(&mut self.links_to, link.to, narrow(place))?;
+        }
+        Ok(())
+    }
+
+    fn list_orders(&mut self) -> Result<(), AllocError> {
+        for (place, order) in self.orders.iter().enumerate() {
+            push_to(&mut self.orders_of, order.first, narrow(place))?;
+            push_to(&mut self.orders_of, order.second, narrow(place))?;
+        }
+        Ok(())
+    }
+
+    fn list_users(&mut self, resource: u32) -> Result<(), AllocError> {
+        let capacity = at(&self.capacities, resource);
+        for activity in 0..self.count {
+            let need = self.need(activity, resource);
+            if need > 0 && self.duration(activity) > 0 {
+                push_to(&mut self.users, resource, activity)?;
+                if need != capacity {
+                    mark(&mut self.is_unary, resource, false);
+                }
+            }
+        }
+        Ok(())
+    }
+
+    fn list_unary(&mut self, resource: u32) -> Result<(), AllocError> {
+        if (resource as usize) < self.is_unary.len() && self.is_unary[resource as usize] {
+            for &activity in row(&self.users, resource) {
+                push_to(&mut self.unary_of, activity, resource)?;
+            }
+        }
+        Ok(())
+    }
+
+    /// How long an activity lasts.
+    pub fn duration(&self, activity: u32) -> u32 {
+        at(&self.durations, activity)
+    }
+
+    /// What an activity needs of a resource.
+    pub fn need(&self, activity: u32, resource: u32) -> u32 {
+        at(
+            &self.needs,
+            activity.wrapping_mul(self.kinds).wrapping_add(resource),
+        )
+    }
+
+    /// How much there is of a resource.
+    pub fn capacity(&self, resource: u32) -> u32 {
+        at(&self.capacities, resource)
+    }
+
+    /// The arc at a place; one from an activity to itself if there is none.
+    pub fn link(&self, place: u32) -> Link {
+        if (place as usize) < self.links.len() {
+            self.links[place as usize]
+        } else {
+            Link {
+                from: 0,
+                to: 0,
+                weight: 0,
+            }
+        }
+    }
+
+    /// The order at a place; one of an activity and itself if there is none.
+    pub fn order(&self, place: u32) -> Order {
+        if (place as usize) < self.orders.len() {
+            self.orders[place as usize]
+        } else {
+            Order {
+                first: 0,
+                second: 0,
+            }
+        }
+    }
+
+    /// How many orders there are.
+    pub fn orders(&self) -> u32 {
+        narrow(self.orders.len())
+    }
+
+    /// The quantity of an order.
+    pub fn quantity(&self, order: u32) -> u32 {
+        self.count.wrapping_add(order)
+    }
+
+    /// The one activity without a successor, if it is the only one.
+    pub fn sink(&self) -> Option<u32> {
+        let mut sink = None;
+        for activity in 0..self.count {
+            if row(&self.links_from, activity).is_empty() {
+                if sink.is_some() {
+                    return None;
+                }
+                sink = Some(activity);
+            }
+        }
+        sink
+    }
+}

@@ -1,0 +1,243 @@
+//! What follows from bounds that have risen.
+
+use crate::lists::{Waiting, row};
+use crate::literals::{at_least, at_most, negated};
+use crate::model::Model;
+use crate::parts::Parts;
+use crate::stop::{Cause, Stop};
+use crate::table;
+use crate::trail::{Entry, Trail};
+use crate::watches::Watches;
+use crate::windows::Windows;
+use plan_kernel::{Kernel, Literal};
+use std::alloc::{AllocError, Global};
+
+/// All that propagation keeps.
+#[derive(Drop)]
+pub struct State {
+    pub trail: Trail,
+    pub watches: Watches,
+    parts: Parts,
+    windows: Windows,
+    // activities whose bounds have risen, those whose bounds were taken back, and unary resources of
+    // which a user has risen
+    stale: Waiting,
+    loose: Waiting,
+    busy: Waiting,
+}
+
+// What follows along the arcs from an activity that starts later.
+fn push_successors(model: &Model, trail: &mut Trail, activity: u32) -> Result<(), Stop> {
+    for &arc in row(&model.links_from, activity) {
+        let link = model.link(arc);
+        let value = trail.earliest(activity).saturating_add(link.weight);
+        trail.set(at_least(link.to, value), Cause::Arc(arc))?;
+    }
+    Ok(())
+}
+
+// What follows along the arcs to an activity that starts sooner.
+fn push_predecessors(model: &Model, trail: &mut Trail, activity: u32) -> Result<(), Stop> {
+    for &arc in row(&model.links_to, activity) {
+        let link = model.link(arc);
+        let value = trail.latest(activity);
+        trail.set(at_most(link.from, value, link.weight), Cause::Arc(arc))?;
+    }
+    Ok(())
+}
+
+// One activity before another: what follows if that is so, and whether it can be.
+fn propagate_side(
+    model: &Model,
+    trail: &mut Trail,
+    first: u32,
+    second: u32,
+    literal: Literal,
+    cause: Cause,
+) -> Result<(), Stop> {
+    let duration = model.duration(first);
+    let end = trail.earliest(first).saturating_add(duration);
+    if end > trail.latest(second) && !trail.is_false(literal) {
+        trail.set(negated(literal), cause)?;
+    }
+    if trail.is_true(literal) {
+        trail.set(at_least(second, end), cause)?;
+        let latest = trail.latest(second);
+        trail.set(at_most(first, latest, duration), cause)?;
+    }
+    Ok(())
+}
+
+// An order, both ways.
+fn propagate_order(model: &Model, trail: &mut Trail, place: u32) -> Result<(), Stop> {
+    let order = model.order(place);
+    let quantity = model.quantity(place);
+    let (first, second) = (order.first, order.second);
+    let before = Cause::Before(place, trail.earliest(first));
+    propagate_side(model, trail, first, second, at_least(quantity, 1), before)?;
+    let after = Cause::After(place, trail.earliest(second));
+    propagate_side(model, trail, second, first, at_most(quantity, 0, 0), after)
+}
+
+impl State {
+    /// Nothing is known yet. Use of resources is counted before a horizon.
+    pub fn new(
+        alloc: Global,
+        model: &Model,
+        halves: usize,
+        horizon: u32,
+    ) -> Result<State, AllocError> {
+        let count = model.count as usize;
+        Ok(State {
+            trail: Trail::new(alloc, halves)?,
+            watches: Watches::new(alloc, halves)?,
+            parts: Parts::new(alloc, model, horizon)?,
+            windows: Windows::new(alloc, model)?,
+            stale: Waiting::new(alloc, count)?,
+            loose: Waiting::new(alloc, count)?,
+            busy: Waiting::new(alloc, model.kinds as usize)?,
+        })
+    }
+
+    /// Whether the use of resources can be counted.
+    pub fn is_whole(&self) -> bool {
+        self.parts.is_whole()
+    }
+
+    /// Looks at an activity again.
+    pub fn note(&mut self, model: &Model, activity: u32) -> Result<(), AllocError> {
+        self.stale.add(activity)?;
+        for &resource in row(&model.unary_of, activity) {
+            self.busy.add(resource)?;
+        }
+        Ok(())
+    }
+
+    // What follows from the start of an activity.
+    fn propagate_start(&mut self, model: &Model, entry: Entry) -> Result<(), Stop> {
+        let activity = entry.half / 2;
+        if entry.half % 2 == 0 {
+            push_successors(model, &mut self.trail, activity)?;
+        } else {
+            push_predecessors(model, &mut self.trail, activity)?;
+        }
+        self.note(model, activity)?;
+        for &order in row(&model.orders_of, activity) {
+            propagate_order(model, &mut self.trail, order)?;
+        }
+        Ok(())
+    }
+
+    // What follows from an entry.
+    fn propagate_entry(
+        &mut self,
+        alloc: Global,
+        model: &Model,
+        kernel: &Kernel,
+        entry: Entry,
+    ) -> Result<(), Stop> {
+        let (old, value) = (entry.old, entry.value);
+        self.watches
+            .propagate(alloc, kernel, &mut self.trail, entry.half, old, value)?;
+        let quantity = entry.half / 2;
+        if quantity < model.count {
+            self.propagate_start(model, entry)
+        } else {
+            propagate_order(model, &mut self.trail, quantity - model.count)
+        }
+    }
+
+    // What follows from all entries by arcs, orders and clauses.
+    fn propagate_entries(
+        &mut self,
+        alloc: Global,
+        model: &Model,
+        kernel: &Kernel,
+    ) -> Result<(), Stop> {
+        for _ in 0..u64::MAX {
+            let Some(entry) = self.trail.next() else {
+                break;
+            };
+            self.propagate_entry(alloc, model, kernel, entry)?;
+        }
+        Ok(())
+    }
+
+    // What follows by the resources, until a bound rises.
+    fn propagate_resources(&mut self, model: &Model) -> Result<(), Stop> {
+        for _ in 0..u64::MAX {
+            if !self.trail.is_settled() {
+                return Ok(());
+            }
+            let Some(activity) = self.stale.pop() else {
+                break;
+            };
+            table::propagate(model, &mut self.parts, &mut self.trail, activity)?;
+        }
+        for _ in 0..model.kinds {
+            let Some(resource) = self.busy.pop() else {
+                break;
+            };
+            self.windows.check_unary(model, &self.trail, resource)?;
+        }
+        Ok(())
+    }
+
+    /// What follows from all bounds that have risen.
+    pub fn propagate(&mut self, alloc: Global, model: &Model, kernel: &Kernel) -> Result<(), Stop> {
+        for _ in 0..u64::MAX {
+            self.propagate_entries(alloc, model, kernel)?;
+            self.propagate_resources(model)?;
+            if self.trail.is_settled() && self.stale.is_empty() {
+                break;
+            }
+        }
+        Ok(())
+    }
+
+    /// Looks for a window in which a resource has more work than it can do.
+    pub fn check_windows(
+        &mut self,
+        alloc: Global,
+        model: &Model,
+        horizon: u32,
+    ) -> Result<(), Stop> {
+        self.windows.check_all(alloc, model, &self.trail, horizon)
+    }
+
+    /// What follows before any bound has risen.
+    pub fn propagate_all(&mut self, model: &Model) -> Result<(), Stop> {
+        for activity in 0..model.count {
+            self.note(model, activity)?;
+            push_successors(model, &mut self.trail, activity)?;
+        }
+        Ok(())
+    }
+
+    /// Takes all bounds back that follow from decisions above a level.
+    pub fn go_back(&mut self, model: &Model, level: u32) -> Result<(), AllocError> {
+        if self.trail.level() <= level {
+            return Ok(());
+        }
+        for _ in 0..self.trail.len() {
+            let Some(half) = self.trail.undo(level) else {
+                break;
+            };
+            self.loose.add(half / 2)?;
+        }
+        self.trail.close(level);
+        for _ in 0..model.count {
+            let Some(activity) = self.loose.pop() else {
+                break;
+            };
+            let behind = self
+                .trail
+                .earliest(activity)
+                .saturating_add(model.duration(activity));
+            let first = self.trail.latest(activity);
+            self.parts.shrink(model, activity, first, behind);
+        }
+        self.stale.clear();
+        Ok(())
+    }
+}

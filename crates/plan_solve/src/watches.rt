@@ -1,0 +1,190 @@
+//! Kept clauses by the literals of which one must hold as soon as all others are false.
+
+use crate::lists::{at, put};
+use crate::literals::negated;
+use crate::stop::{Cause, Stop};
+use crate::trail::Trail;
+use plan_kernel::{Kernel, Literal};
+use std::alloc::{AllocError, Global};
+use std::mem;
+
+/// A clause of which a watched literal is false from a value of a half on.
+#[derive(Clone, Copy, Drop)]
+struct Watch {
+    clause: u32,
+    threshold: u32,
+}
+
+/// For each half the clauses that it may make false, and for each clause the places of the two
+/// literals that are watched (Moskewicz, Madigan, Zhao, Zhang and Malik, "Chaff", 2001).
+#[derive(Drop)]
+pub struct Watches {
+    lists: Vec<Vec<Watch>>,
+    first: Vec<u32>,
+    second: Vec<u32>,
+}
+
+/// The literal at a place of a clause; one that always holds if there is none.
+pub fn literal_at(clause: &[Literal], place: u32) -> Literal {
+    if (place as usize) < clause.len() {
+        clause[place as usize]
+    } else {
+        Literal { half: 0, value: 0 }
+    }
+}
+
+// The place of a literal that isn't false, other than two.
+fn place_of_open(clause: &[Literal], trail: &Trail, one: u32, other: u32) -> Option<u32> {
+    let mut place: u32 = 0;
+    for &literal in clause {
+        if place != one && place != other && !trail.is_false(literal) {
+            return Some(place);
+        }
+        place = place.wrapping_add(1);
+    }
+    None
+}
+
+impl Watches {
+    /// No clauses, for so many halves.
+    pub fn new(alloc: Global, halves: usize) -> Result<Watches, AllocError> {
+        let mut lists = Vec::with_capacity(alloc, halves)?;
+        for _ in 0..halves {
+            lists.push(Vec::new(alloc))?;
+        }
+        Ok(Watches {
+            lists,
+            first: Vec::new(alloc),
+            second: Vec::new(alloc),
+        })
+    }
+
+    // Watches a literal of a clause.
+    fn watch(&mut self, clause: u32, literal: Literal) -> Result<(), AllocError> {
+        let refuting = negated(literal);
+        let half = refuting.half as usize;
+        if half < self.lists.len() {
+            let threshold = refuting.value;
+            self.lists[half].push(Watch { clause, threshold })?;
+        }
+        Ok(())
+    }
+
+    /// Watches two literals of a clause by their places.
+    pub fn add(
+        &mut self,
+        kernel: &Kernel,
+        clause: u32,
+        first: u32,
+        second: u32,
+    ) -> Result<(), AllocError> {
+        for _ in self.first.len()..(clause as usize).saturating_add(1) {
+            self.first.push(0)?;
+            self.second.push(0)?;
+        }
+        put(&mut self.first, clause, first);
+        put(&mut self.second, clause, second);
+        let literals = kernel.clause(clause);
+        self.watch(clause, literal_at(literals, first))?;
+        self.watch(clause, literal_at(literals, second))
+    }
+
+    /// Watches nothing.
+    pub fn clear(&mut self) {
+        for place in 0..self.lists.len() {
+            self.lists[place].clear();
+        }
+    }
+
+    // Looks at a clause of which a watched literal has become false. Returns whether another literal
+    // is watched in its place.
+    fn visit(
+        &mut self,
+        kernel: &Kernel,
+        trail: &mut Trail,
+        watch: Watch,
+        half: u32,
+    ) -> Result<bool, Stop> {
+        let clause = kernel.clause(watch.clause);
+        let (first, second) = (
+            at(&self.first, watch.clause),
+            at(&self.second, watch.clause),
+        );
+        let refuted = negated(Literal {
+            half,
+            value: watch.threshold,
+        });
+        let one = literal_at(clause, first);
+        let is_first = one.half == refuted.half && one.value == refuted.value;
+        let left = if is_first { second } else { first };
+        let literal = literal_at(clause, left);
+        if trail.is_true(literal) {
+            return Ok(false);
+        }
+        if let Some(place) = place_of_open(clause, trail, first, second) {
+            let moved = if is_first {
+                &mut self.first
+            } else {
+                &mut self.second
+            };
+            put(moved, watch.clause, place);
+            self.watch(watch.clause, literal_at(clause, place))?;
+            return Ok(true);
+        }
+        trail.set(literal, Cause::Kept(watch.clause))?;
+        Ok(false)
+    }
+
+    // Looks at the clauses of a list that a half has made false by rising, and leaves the others.
+    fn scan(
+        &mut self,
+        kernel: &Kernel,
+        trail: &mut Trail,
+        list: &mut Vec<Watch>,
+        half: u32,
+        old: u32,
+        value: u32,
+    ) -> Result<(), Stop> {
+        let mut stay: usize = 0;
+        let mut outcome = Ok(());
+        for place in 0..list.len() {
+            let watch = list[place];
+            let is_hit = outcome.is_ok() && old < watch.threshold && watch.threshold <= value;
+            let mut has_moved = false;
+            if is_hit {
+                match self.visit(kernel, trail, watch, half) {
+                    Ok(moved) => has_moved = moved,
+                    Err(stop) => outcome = Err(stop),
+                }
+            }
+            if !has_moved && stay < list.len() {
+                list[stay] = watch;
+                stay = stay.saturating_add(1);
+            }
+        }
+        list.truncate(stay);
+        outcome
+    }
+
+    /// Looks at the clauses that a half has made false by rising from one value to another.
+    pub fn propagate(
+        &mut self,
+        alloc: Global,
+        kernel: &Kernel,
+        trail: &mut Trail,
+        half: u32,
+        old: u32,
+        value: u32,
+    ) -> Result<(), Stop> {
+        let place = half as usize;
+        if place >= self.lists.len() {
+            return Ok(());
+        }
+        let mut list = mem::replace(&mut self.lists[place], Vec::new(alloc));
+        let outcome = self.scan(kernel, trail, &mut list, half, old, value);
+        if place < self.lists.len() {
+            self.lists[place] = list;
+        }
+        outcome
+    }
+}

@@ -1,0 +1,102 @@
+#!/usr/bin/env python3
+"""Tries the checker of logs: it accepts those of a program, and refuses damaged ones.
+
+    tests/trials/clause_logs.py [--projects N] [--damaged N] PROGRAM WORD..
+
+runs PROGRAM WORD.. --log LOG FILE for drawn projects of 20 activities (50), and damages some logs (20).
+"""
+
+import argparse
+import os
+import random
+import subprocess
+import sys
+import tempfile
+
+sys.dont_write_bytecode = True
+TOP = os.path.dirname(os.path.dirname(os.path.dirname(os.path.abspath(__file__))))
+sys.path.append(os.path.join(TOP, "bench"))
+import clause_log
+import files
+import progen
+
+
+def logged(words, folder, seed):
+    """A project of 20 activities, and the log of its solution."""
+    path, log = (os.path.join(folder, name) for name in ("drawn.sm", "drawn.log"))
+    text = files.project(*progen.made(20, 1.5, 0.75, 0.2, seed))
+    with open(path, "w", encoding="ascii") as file:
+        file.write(text)
+    subprocess.run([*words, "--log", log, path], stdout=subprocess.DEVNULL, check=True)
+    with open(log, encoding="ascii") as file:
+        return text, file.read()
+
+
+def accepts(text, log):
+    try:
+        clause_log.check(text, log)
+    except clause_log.Refused:
+        return False
+    return True
+
+
+def greater(word):
+    """A literal or a number one greater."""
+    head, by, tail = word.rpartition("=")
+    return f"{head}{by}{int(tail) + 1}"
+
+
+# Each of these makes a line say what doesn't follow.
+def more_lower(lines, draw):
+    return [*lines[:-1], greater(lines[-1].replace(" ", "=")).replace("=", " ")]
+
+
+def without_reason(lines, draw):
+    at = draw.choice([k for k, line in enumerate(lines) if line.startswith("resolve")])
+    return lines[:at] + lines[at + 1 :]
+
+
+def stronger_fact(lines, draw):
+    at = draw.choice([k for k, line in enumerate(lines) if line.startswith("fact") and ">=" in line])
+    return lines[:at] + [greater(lines[at])] + lines[at + 1 :]
+
+
+def shorter_schedule(lines, draw):
+    at = next(k for k, line in enumerate(lines) if line.startswith("schedule"))
+    words = lines[at].split()
+    words[1] = str(int(words[1]) - 1)
+    return lines[:at] + [" ".join(words)] + lines[at + 1 :]
+
+
+def one_member_less(lines, draw):
+    at = draw.choice([k for k, line in enumerate(lines) if " energy " in line])
+    return lines[:at] + [lines[at].rpartition(" ")[0]] + lines[at + 1 :]
+
+
+DAMAGES = (more_lower, without_reason, stronger_fact, shorter_schedule, one_member_less)
+
+
+def main():
+    parser = argparse.ArgumentParser(prog="tests/trials/clause_logs.py")
+    parser.add_argument("--projects", type=int, default=50)
+    parser.add_argument("--damaged", type=int, default=20)
+    parser.add_argument("words", nargs=argparse.REMAINDER, metavar="PROGRAM")
+    given = parser.parse_args()
+    wrong, left = [], given.damaged
+    with tempfile.TemporaryDirectory() as folder:
+        for seed in range(given.projects):
+            text, log = logged(given.words, folder, seed)
+            if not accepts(text, log):
+                wrong.append(f"project {seed}: the log is refused")
+            damage = DAMAGES[left % len(DAMAGES)]
+            draw, lines = random.Random(seed), log.splitlines()
+            if left > 0 and "\nrefuted\n" in log and " energy " in log and "\nfact" in log:
+                left -= 1
+                if accepts(text, "\n".join(damage(lines, draw)) + "\n"):
+                    wrong.append(f"project {seed}: accepted in spite of {damage.__name__}")
+    print("\n".join([*wrong, f"{given.projects} logs, {given.damaged - left} damaged ones"]))
+    return 1 if wrong or left else 0
+
+
+if __name__ == "__main__":
+    sys.exit(main())
