@@ -212,7 +212,9 @@ impl Kernel {
         ensures taken { IsTrue result
             → spec.IsBest self.new.known.input starts.items self.new.known.upper }
         ensures less { IsTrue result → self.new.known.upper < self.old.known.upper }
-        ensures refused { IsFalse result → self.new ≡ self.old }
+        ensures refused { IsFalse result
+            → clauses.IsShorter self.old.known.input self.old.known.upper starts.items → ⊥ }
+        ensures unchanged { IsFalse result → self.new ≡ self.old }
     {
         lower(&mut self.known, starts)
     }

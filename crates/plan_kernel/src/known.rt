@@ -1,7 +1,7 @@
 //! What a kernel knows of a problem.
 
 ghost use Rattle.std.specs.Prelude.{◌≡◌, ◌≤◌, ◌<◌, ◌^◌, true, false, length, get_or, min, IfErr, Some, None, IfOk, IsTrue, IsFalse, OnOk, OnErr};
-ghost use Rattle.plan_kernel.specs.Clauses.{IsConsequence};
+ghost use Rattle.plan_kernel.specs.Clauses.{IsShorter, IsConsequence};
 ghost use Rattle.plan_kernel.specs.Kernels as spec;
 ghost use Rattle.plan_kernel.specs.declared.fault.KernelFault.TheVariants.{NoConflict};
 
@@ -107,7 +107,9 @@ pub fn lower(known: &mut Known, starts: Vec<u32>) -> bool
     ensures upper { known.new.upper ≤ known.old.upper }
     ensures taken { IsTrue result → spec.IsBest known.new.input starts.items known.new.upper }
     ensures less { IsTrue result → known.new.upper < known.old.upper }
-    ensures refused { IsFalse result → known.new ≡ known.old }
+    ensures refused { IsFalse result
+        → IsShorter known.old.input known.old.upper starts.items → ⊥ }
+    ensures unchanged { IsFalse result → known.new ≡ known.old }
 {
     let Some(makespan) = makespan_of(&known.input, &starts) else {
         return false;
