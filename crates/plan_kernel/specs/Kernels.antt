@@ -1,5 +1,5 @@
 -- What a kernel knows of a problem (docs/DEFINITIONS.md, "Clauses").
-use Rattle.std.specs.Prelude.{◌≡◌, ℕ, ◌+◌, ◌*◌, ◌≤◌, ◌<◌, ◌⊎◌, true, List, [], Vec, Option, Some, None, ◌∷◌, All, Contains, length, get_or}
+use Rattle.std.specs.Prelude.{◌≡◌, ℕ, ◌+◌, ◌-◌, ◌*◌, min, ◌≤◌, ◌<◌, ◌⊎◌, true, List, [], Vec, Option, Some, None, ◌∷◌, All, Contains, length, get_or}
 use Rattle.std.specs.declared.alloc.Global.{Global}
 use Rattle.std.specs.List.Sorted.{IsPermutation}
 use Rattle.plan_sgs.specs.Problem.{IsFeasible, makespan, greatest_below}
@@ -66,6 +66,16 @@ pub record IsTrueOf (known : Known) (conflict : Conflict) : Type 0 where
   pub holds : AreKnown known
   pub apart : conflict.open ≡ true → IsConflict known.input known.upper conflict.values.items
   pub listed : IsListed conflict.values.items conflict.touched.items
+
+-- how many halves there are: two for each activity and for each order
+abbrev pub count_halves : Input → ℕ
+count_halves input = 2 * (length input.durations.items + length input.orders.items)
+
+-- the facts say of the first n activities that they end before the upper bound, as far as numbers go
+abbrev pub AreLatest : Input → ℕ → List ℕ → ℕ → Type 0
+AreLatest input upper facts n =
+    (i : ℕ) → i < n → 2 * i + 1 < length facts
+    → min (LIMIT - upper + 1 + at input.durations.items i) 4294967295 ≤ at facts (2 * i + 1)
 
 -- the greatest known start with its duration
 abbrev pub end_in : Input → List ℕ → ℕ

@@ -1,6 +1,6 @@
 //! The conflict: literals that don't all hold together.
 
-ghost use Rattle.std.specs.Prelude.{◌≡◌, ◌≤◌, All, true, false, filter, IfOk, IfSome, IsTrue};
+ghost use Rattle.std.specs.Prelude.{◌≡◌, ◌≤◌, All, true, false, filter, IfOk, IfSome, IsTrue, length};
 ghost use Rattle.plan_kernel.specs.Clauses as spec;
 ghost use Rattle.plan_kernel.specs.Kernels.{AreKnown, IsTrueOf};
 
@@ -24,6 +24,7 @@ pub struct Conflict {
 /// No conflict, with room for literals of so many halves.
 pub fn no_conflict(alloc: Global, halves: usize) -> Result<Conflict, AllocError>
     ensures closed { IfOk result (λ conflict. conflict.open ≡ false) }
+    ensures size { IfOk result (λ conflict. length conflict.values.items ≡ halves) }
     ensures listed { IfOk result (λ conflict.
         spec.IsListed conflict.values.items conflict.touched.items) }
 {

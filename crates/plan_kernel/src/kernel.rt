@@ -46,6 +46,10 @@ impl Kernel {
     /// A kernel of a problem, with no list of starts yet: its upper bound is [`LIMIT`].
     pub fn new(alloc: Global, input: Input) -> Result<Kernel, AllocError>
         ensures input { IfOk result (λ kernel. kernel.known.input ≡ input) }
+        ensures halves { IfOk result (λ kernel.
+            length kernel.known.facts.items ≡ spec.count_halves input) }
+        ensures values { IfOk result (λ kernel.
+            length kernel.conflict.values.items ≡ spec.count_halves input) }
     {
         let known = first_known(alloc, input)?;
         let conflict = no_conflict(alloc, known.facts.len())?;

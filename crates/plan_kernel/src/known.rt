@@ -55,6 +55,8 @@ pub struct Known {
 pub fn first_known(alloc: Global, input: Input) -> Result<Known, AllocError>
     ensures input { IfOk result (λ known. known.input ≡ input) }
     ensures holds { IfOk result spec.AreKnown }
+    ensures size { IfOk result (λ known.
+        length known.facts.items ≡ spec.count_halves known.input) }
 {
     let facts = first_facts(alloc, &input)?;
     Ok(Known {
