@@ -1,7 +1,9 @@
 //! Worked examples of the libraries at the base: networks, tails and successors, profiles, the search of any
-//! tree, and what a memo keeps.
+//! tree, what a memo keeps, and the clause kernel.
 #![tactic(auto)]
 
+#[cfg(test)]
+mod clauses;
 #[cfg(test)]
 mod dates;
 #[cfg(test)]

@@ -1,13 +1,12 @@
 -- Conflicts: what their beginning, a resolution and their negation say.
-use Rattle.std.proofs.Common.{◌≡◌, ◌≢◌, ℕ, ◌≤◌, ◌<◌, ◌⊎◌, inl, inr, List, Option, Some, None, Contains, get_or, length, refl, sym, ap, arith}
-use Rattle.std.specs.List.{All}
+use Rattle.std.proofs.Common.{◌≡◌, ℕ, ◌≤◌, ◌<◌, ◌⊎◌, inl, inr, List, Some, None, ap, arith}
 use Rattle.std.proofs.lemmas.Bool.{cases_lt, cases_eq}
 use Rattle.std.proofs.lemmas.List.Elements.{All-contains, All-weaker}
 use Rattle.plan_kernel.specs.declared.literal.TheConstants.{LIMIT}
 use Rattle.plan_kernel.specs.declared.literal.Literal.{Literal}
 use Rattle.plan_kernel.specs.declared.input.Input.{Input}
 use Rattle.plan_kernel.specs.Literals.{at, level, Fails, negated}
-use Rattle.plan_kernel.specs.Clauses.{IsShorter, IsConsequence, AreFacts, IsConflict, IsRaised, IsCovered, IsClearedAt, Implies, AreCovered, IsNegated, HasAdded}
+use Rattle.plan_kernel.specs.Clauses.{IsShorter, IsConsequence, AreFacts, IsConflict, IsRaised, IsCovered, IsClearedAt, Implies, IsNegated, HasAdded}
 use Rattle.plan_kernel.proofs.LevelLemmas.{negated_holds, negated_fails}
 
 -- where facts hold and a conflict's literals hold, a literal whose negation is covered fails

@@ -1,11 +1,11 @@
 -- Energy: activities that are in a window for their times need no more, over time, than there is in the window.
-use Rattle.std.proofs.Common.{◌≡◌, ◌≢◌, ◌∙◌, ℕ, zero, suc, ◌+◌, ◌-◌, ◌*◌, ◌≤◌, ◌<◌, ◌⊎◌, inl, inr, List, [], ◌∷◌, length, get_or, refl, sym, ap, arith}
+use Rattle.std.proofs.Common.{◌≡◌, ◌≢◌, ℕ, zero, suc, ◌+◌, ◌-◌, ◌*◌, ◌≤◌, ◌<◌, inl, inr, List, [], ◌∷◌, length, get_or, refl, ap, arith}
 use Rattle.std.proofs.Math.Nat.{mul-suc}
 use Rattle.std.specs.List.{All, AllPairs, sum_by}
 use Rattle.std.proofs.lemmas.Bool.{cases_lt, cases_eq}
 use Rattle.std.proofs.lemmas.List.Sums.{sum_by-cons}
-use Rattle.std.proofs.lemmas.List.Elements.{All-head, All-tail, All-weaker}
-use Rattle.plan_sgs.specs.Problem.{Problem, count, duration, need, capacity, total, usage, all_placed, IsFeasible}
+use Rattle.std.proofs.lemmas.List.Elements.{All-head, All-tail}
+use Rattle.plan_sgs.specs.Problem.{Problem, count, duration, need, capacity, total, IsFeasible}
 use Rattle.plan_sgs.proofs.TotalLemmas.{total_same, total_none, total_plus, total_limit, total_above}
 use Rattle.plan_sgs.proofs.AmountLemmas.{amount_during}
 use Rattle.plan_sgs.proofs.StartLemmas.{usage_is, total_longer}

@@ -1,12 +1,12 @@
 -- Facts: the latest starts below an upper bound, and the ends that are reached.
-use Rattle.std.proofs.Common.{◌≡◌, ◌∙◌, ℕ, ◌+◌, ◌-◌, ◌*◌, ◌≤◌, ◌<◌, ◌⊎◌, inl, inr, List, suc, min, max, length, get_or, ap, arith}
+use Rattle.std.proofs.Common.{◌≡◌, ℕ, ◌+◌, ◌-◌, ◌*◌, ◌≤◌, ◌<◌, ◌⊎◌, inl, inr, List, suc, min, max, length, get_or, ap, arith}
 use Rattle.plan_sgs.specs.Problem.{count, duration, makespan, greatest_below}
 use Rattle.plan_sgs.proofs.TotalLemmas.{greatest_above}
 use Rattle.plan_kernel.specs.declared.literal.TheConstants.{LIMIT}
 use Rattle.plan_kernel.specs.declared.input.Input.{Input}
 use Rattle.plan_kernel.specs.Inputs.{problem_of}
-use Rattle.plan_kernel.specs.Literals.{at, quantity, level}
-use Rattle.plan_kernel.specs.Clauses.{IsShorter, AreFacts, IsRaisedTo}
+use Rattle.plan_kernel.specs.Literals.{at, level}
+use Rattle.plan_kernel.specs.Clauses.{AreFacts, IsRaisedTo}
 use Rattle.plan_kernel.specs.Kernels.{IsEndReached}
 use Rattle.plan_kernel.proofs.InputLemmas.{count_is, duration_is}
 use Rattle.plan_kernel.proofs.LevelLemmas.{ends_before, quantity_start, level_even, level_odd}

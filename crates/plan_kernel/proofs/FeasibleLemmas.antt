@@ -1,9 +1,8 @@
 -- The check of a list of starts.
-use Rattle.std.proofs.Common.{◌≡◌, ◌∙◌, ℕ, suc, ◌+◌, ◌≤◌, ◌<◌, List, take, length, get_or, ap, subst, sym, arith}
+use Rattle.std.proofs.Common.{◌≡◌, ◌∙◌, ℕ, ◌+◌, ◌≤◌, ◌<◌, List, take, length, get_or, ap, subst, arith}
 use Rattle.std.specs.List.{All}
 use Rattle.std.proofs.lemmas.List.Elements.{All-more}
 use Rattle.plan_sgs.specs.Problem.{Problem, count, capacity, usage, all_placed, total, greatest_below, makespan, KeepsCapacities}
-use Rattle.plan_sgs.specs.Verdicts.{IsOver}
 use Rattle.plan_sgs.proofs.Findings.{keeps_at_starts}
 use Rattle.plan_sgs.proofs.StartLemmas.{usage_is}
 use Rattle.plan_kernel.specs.declared.input.Arc.{Arc}

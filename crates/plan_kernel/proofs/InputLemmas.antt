@@ -4,8 +4,8 @@ use Rattle.std.specs.List.{All, slice_get}
 use Rattle.std.proofs.lemmas.Option.{get_or_from_slice_get, slice_get_within}
 use Rattle.std.specs.declared.alloc.Global.{Global}
 use Rattle.std.proofs.lemmas.List.{get_or-map, get_or_past, get_or_default, length-map, take_more, map-append}
-use Rattle.std.proofs.lemmas.List.Elements.{All-map, All-get_or}
-use Rattle.plan_sgs.specs.Problem.{Problem, Link, count, duration, need, capacity, KeepsArcs}
+use Rattle.std.proofs.lemmas.List.Elements.{All-map}
+use Rattle.plan_sgs.specs.Problem.{Link, count, duration, need, capacity, KeepsArcs}
 use Rattle.plan_sgs.specs.Instances as instances
 use Rattle.plan_kernel.specs.declared.input.Arc.{Arc}
 use Rattle.plan_kernel.specs.declared.input.Input.{Input}

@@ -1,5 +1,5 @@
 -- Kept clauses: the literals of one of them, and the same in another order.
-use Rattle.std.proofs.Common.{◌≡◌, ◌∙◌, ℕ, ◌≤◌, ◌<◌, ◌⊎◌, inl, inr, List, Vec, [], ◌∷◌, Option, Some, None, Contains, length, get_or, set, refl, sym, ap, subst, arith}
+use Rattle.std.proofs.Common.{◌≡◌, ℕ, ◌<◌, ◌⊎◌, inl, inr, List, Vec, [], ◌∷◌, Option, Some, None, Contains, length, get_or, set, refl, sym, subst, arith}
 use Rattle.std.specs.List.{All}
 use Rattle.std.specs.List.Sorted.{IsPermutation}
 use Rattle.std.specs.declared.alloc.Global.{Global}
@@ -9,8 +9,8 @@ use Rattle.std.proofs.lemmas.List.Sorted.{All-permutation, IsPermutation-sym}
 use Rattle.plan_kernel.specs.declared.literal.Literal.{Literal}
 use Rattle.plan_kernel.specs.declared.input.Input.{Input}
 use Rattle.plan_kernel.specs.Literals.{Fails}
-use Rattle.plan_kernel.specs.Clauses.{IsShorter, IsConsequence}
-use Rattle.plan_kernel.specs.Kernels.{IsKept, IsAmong, IsReordered, HasReordered}
+use Rattle.plan_kernel.specs.Clauses.{IsConsequence}
+use Rattle.plan_kernel.specs.Kernels.{Kept, IsKept, IsAmong, IsReordered, HasReordered}
 
 -- the literals of a kept clause, if there are any
 pub among_follows : (input : Input) (upper : ℕ) (clauses : List (Option (Vec Literal Global))) (literals : List Literal) → All (IsKept input upper) clauses
@@ -18,10 +18,6 @@ pub among_follows : (input : Input) (upper : ℕ) (clauses : List (Option (Vec L
 among_follows input upper clauses literals kept (inl none) some = absurd (some none)
 among_follows input upper clauses literals kept (inr (clause, there, is)) some =
     subst (λ (ls : List Literal). IsConsequence input upper ls) is (All-contains (IsKept input upper) clauses (Some clause) kept there)
-
--- one option of literals
-abbrev pub Kept : Type 0
-Kept = Option (Vec Literal Global)
 
 -- what is one of the clauses, or one of them in another order
 abbrev pub IsOneOf : List Kept → Kept → Type 0

@@ -7,3 +7,4 @@ pub mod FeasibleLemmas
 pub mod EnergyLemmas
 pub mod ReasonLemmas
 pub mod KeptLemmas
+pub mod ShopLemmas

@@ -1,11 +1,11 @@
 -- Reasons: where all literals of their clauses fail, a list of starts isn't feasible.
-use Rattle.std.proofs.Common.{◌≡◌, ◌≢◌, ◌∙◌, ℕ, ◌+◌, ◌-◌, ◌*◌, ◌≤◌, ◌<◌, ◌⊎◌, inl, inr, List, [], ◌∷◌, ◌++◌, cond, nat_le, take, length, get_or, refl, sym, ap, subst, arith}
+use Rattle.std.proofs.Common.{◌≡◌, ◌∙◌, ℕ, ◌+◌, ◌-◌, ◌*◌, ◌≤◌, ◌<◌, ◌⊎◌, inl, inr, List, [], ◌∷◌, ◌++◌, nat_le, take, length, get_or, sym, ap, subst, arith}
 use Rattle.std.specs.List.{All, AllPairs}
-use Rattle.std.proofs.lemmas.Bool.{cases_lt, cases_eq, cases_Bool, cond-true, cond-false, le-leb, leb-true, leb-false, lt-leb}
+use Rattle.std.proofs.lemmas.Bool.{cases_eq, cases_Bool, cond-true, cond-false, leb-true, leb-false}
 use Rattle.std.proofs.lemmas.List.Elements.{All-contains, All-more, All-weaker, Contains-append_left, Contains-push, Contains-get_or}
 use Rattle.std.proofs.lemmas.List.{take_more, get_or-take, length-take, get_or_default}
 use Rattle.std.proofs.lemmas.List.Quantifiers.{all_pairs_push}
-use Rattle.plan_sgs.specs.Problem.{Problem, count, duration, need, capacity, total, IsFeasible}
+use Rattle.plan_sgs.specs.Problem.{Problem, count, duration, need, total}
 use Rattle.plan_kernel.specs.declared.literal.TheConstants.{LIMIT}
 use Rattle.plan_kernel.specs.declared.literal.Literal.{Literal}
 use Rattle.plan_kernel.specs.declared.input.Arc.{Arc}
@@ -14,9 +14,9 @@ use Rattle.plan_kernel.specs.declared.input.Input.{Input}
 use Rattle.plan_kernel.specs.declared.reason.Member.{Member}
 use Rattle.plan_kernel.specs.declared.reason.OrderAt.{OrderAt}
 use Rattle.plan_kernel.specs.Inputs.{problem_of, KeepsArc, amount_at}
-use Rattle.plan_kernel.specs.Literals.{at, order_of, no_order, quantity, level, Fails}
-use Rattle.plan_kernel.specs.Clauses.{IsShorter, IsConsequence}
-use Rattle.plan_kernel.specs.Reasons.{IsWritable, IsOrder, pair_of, at_least, below, AreApart, IsMember, AreMembers, energy_of, IsOverloaded, IsWithin, Fills}
+use Rattle.plan_kernel.specs.Literals.{at, order_of, quantity, Fails}
+use Rattle.plan_kernel.specs.Clauses.{IsShorter}
+use Rattle.plan_kernel.specs.Reasons.{IsWritable, IsOrder, pair_of, at_least, below, AreApart, IsMember, AreMembers, IsOverloaded, IsWithin}
 use Rattle.plan_kernel.proofs.InputLemmas.{arc_kept, duration_is}
 use Rattle.plan_kernel.proofs.LevelLemmas.{quantity_within, quantity_start, quantity_order, level_even, level_odd}
 use Rattle.plan_kernel.proofs.EnergyLemmas.{window_need, energy_within, overlap_within}

@@ -1,6 +1,5 @@
 -- The halves of a conflict: which are listed, and which negations are in a clause.
-use Rattle.std.proofs.Common.{◌≡◌, ◌≢◌, ◌∙◌, ℕ, zero, suc, ◌+◌, ◌≤◌, ◌<◌, ◌⊎◌, inl, inr, Bool, true, not, nat_eq, cond, List, [], ◌∷◌, ◌++◌, Option, Contains, filter, take, length, get_or, set, refl, sym, ap, subst, arith}
-use Rattle.std.specs.List.{All}
+use Rattle.std.proofs.Common.{◌≡◌, ◌∙◌, ℕ, zero, suc, ◌+◌, ◌≤◌, ◌<◌, ◌⊎◌, inl, inr, Bool, true, nat_eq, List, [], ◌∷◌, ◌++◌, Option, Contains, filter, take, length, get_or, set, sym, ap, subst, arith}
 use Rattle.std.proofs.lemmas.Bool.{cases_eq, cond_both, cond-true, ne_eqb, not_from_false}
 use Rattle.std.proofs.lemmas.List.{get_or-set_same, get_or-set_other, take_all}
 use Rattle.std.proofs.lemmas.List.Elements.{All-weaker, All-more, All-contains, Contains-append_left, Contains-push}

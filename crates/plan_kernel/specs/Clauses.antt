@@ -1,5 +1,6 @@
--- Clauses, facts and conflicts: what they say of all feasible schedules that are shorter than a makespan
--- (docs/DEFINITIONS.md, "Clauses"). Conflict analysis as in Marques-Silva and Sakallah (1999).
+-- Clauses, facts and conflicts: what they say of all feasible lists of starts whose makespan is below
+-- an upper bound (docs/DEFINITIONS.md, "Clauses"). Conflict analysis as in Marques-Silva and
+-- Sakallah (1999).
 use Rattle.std.specs.Prelude.{◌≡◌, ◌≢◌, ℕ, ◌≤◌, ◌<◌, ◌⊎◌, Bool, not, nat_eq, List, Option, Some, None, All, Contains}
 use Rattle.plan_sgs.specs.Problem.{IsFeasible, makespan}
 use Rattle.plan_kernel.specs.declared.literal.Literal.{Literal}
@@ -14,16 +15,20 @@ pub record IsShorter (input : Input) (upper : ℕ) (starts : List ℕ) : Type 0 
 
 -- a clause holds in each of them: not all of its literals fail
 abbrev pub IsConsequence : Input → ℕ → List Literal → Type 0
-IsConsequence input upper clause = (starts : List ℕ) → IsShorter input upper starts → All (Fails input starts) clause → ⊥
+IsConsequence input upper clause =
+    (starts : List ℕ) → IsShorter input upper starts → All (Fails input starts) clause → ⊥
 
 -- each fact holds in each of them
 abbrev pub AreFacts : Input → ℕ → List ℕ → Type 0
-AreFacts input upper facts = (starts : List ℕ) → IsShorter input upper starts → (half : ℕ) → at facts half ≤ level input starts half
+AreFacts input upper facts =
+    (starts : List ℕ) → IsShorter input upper starts
+    → (half : ℕ) → at facts half ≤ level input starts half
 
 -- the literals of a conflict hold together in none of them
 abbrev pub IsConflict : Input → ℕ → List ℕ → Type 0
 IsConflict input upper values =
-    (starts : List ℕ) → IsShorter input upper starts → ((half : ℕ) → at values half ≤ level input starts half) → ⊥
+    (starts : List ℕ) → IsShorter input upper starts
+    → ((half : ℕ) → at values half ≤ level input starts half) → ⊥
 
 -- there is none of them
 abbrev pub NoneIsShorter : Input → ℕ → Type 0
@@ -60,7 +65,8 @@ AreCovered facts values pivot clause = All (λ l. Implies l pivot ⊎ IsCovered 
 
 -- the negation of the literal of a half, if it has one, is in a clause
 abbrev pub IsNegatedAt : List ℕ → List Literal → ℕ → Type 0
-IsNegatedAt values clause half = at values half ≢ 0 → Contains clause (negated (record { half = half; value = at values half }))
+IsNegatedAt values clause half =
+    at values half ≢ 0 → Contains clause (negated (record { half = half; value = at values half }))
 
 -- those of some halves
 abbrev pub AreNegated : List ℕ → List Literal → List ℕ → Type 0
@@ -72,7 +78,8 @@ IsNegated values clause = (half : ℕ) → IsNegatedAt values clause half
 
 -- no fact is above its value of before, but at one half, where it is at most a value
 abbrev pub IsRaisedTo : List ℕ → List ℕ → ℕ → ℕ → Type 0
-IsRaisedTo old new half value = (other : ℕ) → (at new other ≤ at old other) ⊎ ((other ≡ half) × (at new other ≤ value))
+IsRaisedTo old new half value =
+    (other : ℕ) → (at new other ≤ at old other) ⊎ ((other ≡ half) × (at new other ≤ value))
 
 -- the negation of some clause that holds was put in
 abbrev pub HasAdded : Input → ℕ → List ℕ → List ℕ → Option Literal → Type 0

@@ -31,7 +31,8 @@ KeepsArc p starts arc = end_of p starts arc.from + arc.lag ≤ get_or starts arc
 
 -- no resource is overloaded at an instant
 abbrev pub FitsAt : Problem → List ℕ → ℕ → Type 0
-FitsAt p starts t = (k : ℕ) → k < length p.capacities → usage p (all_placed starts) t k ≤ capacity p k
+FitsAt p starts t =
+    (k : ℕ) → k < length p.capacities → usage p (all_placed starts) t k ≤ capacity p k
 
 -- a list of starts is feasible, and has this makespan
 pub record IsMakespanOf (input : Input) (starts : List ℕ) (end : ℕ) : Type 0 where

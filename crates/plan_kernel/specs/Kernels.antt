@@ -21,19 +21,26 @@ pub record IsBest (input : Input) (starts : List ℕ) (upper : ℕ) : Type 0 whe
 
 -- no feasible list of starts has a makespan below a number
 abbrev pub IsLowerBound : Input → ℕ → Type 0
-IsLowerBound input lower = (starts : List ℕ) → IsFeasible (problem_of input) starts → lower ≤ makespan (problem_of input) starts
+IsLowerBound input lower =
+    (starts : List ℕ) → IsFeasible (problem_of input) starts
+    → lower ≤ makespan (problem_of input) starts
 
--- each feasible list of starts with a makespan below the upper bound has a makespan of at least a number
+-- each shorter list of starts has a makespan of at least a number
 abbrev pub IsEndReached : Input → ℕ → ℕ → Type 0
-IsEndReached input upper end = (starts : List ℕ) → IsShorter input upper starts → end ≤ makespan (problem_of input) starts
+IsEndReached input upper end =
+    (starts : List ℕ) → IsShorter input upper starts → end ≤ makespan (problem_of input) starts
+
+-- a place for a clause: the clause that is kept there, if there is one
+abbrev pub Kept : Type 0
+Kept = Option (Vec Literal Global)
 
 -- a clause that is kept holds
-abbrev pub IsKept : Input → ℕ → Option (Vec Literal Global) → Type 0
+abbrev pub IsKept : Input → ℕ → Kept → Type 0
 IsKept input upper None = Unit {0}
 IsKept input upper (Some clause) = IsConsequence input upper clause.items
 
--- What is known is true of each feasible list of starts with a makespan below the upper bound: facts and clauses. Where the upper
--- bound is refuted there is no such list. The best list, if one was found, is feasible and has the upper bound as its makespan.
+-- What is known is true: facts and clauses hold in each shorter list of starts. If the upper bound is refuted there is no such list. The best list, if one was
+-- found, is feasible, and its makespan is the upper bound.
 pub record AreKnown (known : Known) : Type 0 where
   pub limit : known.upper ≤ LIMIT
   pub best : known.found ≡ true → IsBest known.input known.best.items known.upper
@@ -53,7 +60,8 @@ pub record IsUnchanged (old new : Known) : Type 0 where
   pub literals : new.literals ≡ old.literals
   pub refuted : new.refuted ≡ old.refuted
 
--- what is known is true, and the literals of the conflict, if it is open, hold together in none of these lists
+-- what is known is true, and the literals of the conflict, if it is open, hold together in no
+-- shorter list
 pub record IsTrueOf (known : Known) (conflict : Conflict) : Type 0 where
   pub holds : AreKnown known
   pub apart : conflict.open ≡ true → IsConflict known.input known.upper conflict.values.items
@@ -61,21 +69,26 @@ pub record IsTrueOf (known : Known) (conflict : Conflict) : Type 0 where
 
 -- the greatest known start with its duration
 abbrev pub end_in : Input → List ℕ → ℕ
-end_in input facts = greatest_below (length input.durations.items) (λ i. at facts (2 * i) + at input.durations.items i)
+end_in input facts =
+    greatest_below (length input.durations.items)
+    (λ i. at facts (2 * i) + at input.durations.items i)
 
 abbrev pub known_end : Known → ℕ
 known_end known = end_in known.input known.facts.items
 
--- what became of a clause: without literals it refutes, with one it is a fact, unless there is no such half, and else it is kept
+-- what became of a clause: without literals it refutes, with one it is a fact, unless there is no
+-- such half, and else it is kept
 abbrev pub IsLesson : Known → Vec Literal Global → Lesson → Type 0
 IsLesson new clause Refuted = (clause.items ≡ []) × (new.refuted ≡ true)
 IsLesson new clause (Fact half) =
-    (l : Literal) × (clause.items ≡ l ∷ []) × (half ≡ l.half) × (half < length new.facts.items → l.value ≤ at new.facts.items half)
+    (l : Literal) × (clause.items ≡ l ∷ []) × (half ≡ l.half)
+    × (half < length new.facts.items → l.value ≤ at new.facts.items half)
 IsLesson new clause (Clause number) = get_or new.clauses.items number None ≡ Some clause
 
 -- the lesson of a conflict: the clause of its negation
-abbrev pub HasLearned : Known → Known → List ℕ → Lesson → Type 0
-HasLearned old new values lesson = (clause : Vec Literal Global) × IsNegated values clause.items × IsLesson new clause lesson
+abbrev pub HasLearned : Known → List ℕ → Lesson → Type 0
+HasLearned new values lesson =
+    (clause : Vec Literal Global) × IsNegated values clause.items × IsLesson new clause lesson
 
 -- what a kernel keeps
 pub record State : Type 0 where
@@ -83,21 +96,23 @@ pub record State : Type 0 where
   pub conflict : Conflict
 
 -- no literals, or those of a kept clause
-abbrev pub IsAmong : List (Option (Vec Literal Global)) → List Literal → Type 0
+abbrev pub IsAmong : List Kept → List Literal → Type 0
 IsAmong clauses literals =
-    (literals ≡ []) ⊎ ((kept : Vec Literal Global) × Contains clauses (Some kept) × (kept.items ≡ literals))
+    (literals ≡ [])
+    ⊎ ((kept : Vec Literal Global) × Contains clauses (Some kept) × (kept.items ≡ literals))
 
 -- one clause was stored among others
-abbrev pub HasStored : List (Option (Vec Literal Global)) → List (Option (Vec Literal Global)) → Vec Literal Global → Type 0
+abbrev pub HasStored : List Kept → List Kept → Vec Literal Global → Type 0
 HasStored old new clause = All (λ kept. Contains old kept ⊎ (kept ≡ Some clause)) new
 
 -- a clause has the literals of another in another order
-abbrev pub IsReordered : Option (Vec Literal Global) → Option (Vec Literal Global) → Type 0
+abbrev pub IsReordered : Kept → Kept → Type 0
 IsReordered None new = ⊥
 IsReordered (Some old) None = ⊥
 IsReordered (Some old) (Some new) = IsPermutation old.items new.items
 
 -- each clause is one of before, or has the literals of one in another order
-abbrev pub HasReordered : List (Option (Vec Literal Global)) → List (Option (Vec Literal Global)) → Type 0
+abbrev pub HasReordered : List Kept → List Kept → Type 0
 HasReordered old new =
-    All (λ kept. Contains old kept ⊎ ((other : Option (Vec Literal Global)) × Contains old other × IsReordered other kept)) new
+    All (λ kept. Contains old kept ⊎ ((other : Kept) × Contains old other × IsReordered other kept))
+    new

@@ -1,6 +1,7 @@
--- Literals: lower bounds of starts, of what is left of starts below a limit, and of orders of two activities
--- (docs/DEFINITIONS.md, "Clauses"). Lazy clause generation as in Ohrimenko, Stuckey and Codish (2009).
-use Rattle.std.specs.Prelude.{◌≡◌, ℕ, ◌+◌, ◌-◌, ◌/◌, ◌%◌, ◌<◌, ◌≤◌, cond, nat_eq, nat_lt, nat_le, List, get_or}
+-- Literals: lower bounds of starts, of what is left of starts below a limit, and of orders of two
+-- activities (docs/DEFINITIONS.md, "Clauses"). Lazy clause generation as in Ohrimenko, Stuckey and
+-- Codish (2009).
+use Rattle.std.specs.Prelude.{ℕ, ◌+◌, ◌-◌, ◌/◌, ◌%◌, ◌<◌, ◌≤◌, cond, nat_eq, nat_lt, nat_le, List, get_or}
 use Rattle.plan_sgs.specs.Problem.{Problem, count, duration}
 use Rattle.plan_kernel.specs.declared.literal.TheConstants.{LIMIT}
 use Rattle.plan_kernel.specs.declared.literal.Literal.{Literal}
@@ -14,7 +15,8 @@ at list place = get_or list place 0
 
 -- 1 if the first activity ends before the second starts, else 0
 abbrev pub order_of : Problem → List ℕ → Order → ℕ
-order_of p starts o = cond (nat_le (at starts o.first + duration p o.first) (at starts o.second)) 1 0
+order_of p starts o =
+    cond (nat_le (at starts o.first + duration p o.first) (at starts o.second)) 1 0
 
 -- no order in particular
 abbrev pub no_order : Order
@@ -24,12 +26,14 @@ no_order = record { first = 0; second = 0 }
 abbrev pub quantity : Input → List ℕ → ℕ → ℕ
 quantity input starts x =
     let p = problem_of input in
-    cond (nat_lt x (count p)) (at starts x) (order_of p starts (get_or input.orders.items (x - count p) no_order))
+    cond (nat_lt x (count p)) (at starts x)
+    (order_of p starts (get_or input.orders.items (x - count p) no_order))
 
 -- a quantity by its even half, and by its odd half what is left of it below the limit
 unfoldable pub level : Input → List ℕ → ℕ → ℕ
 level input starts half =
-    cond (nat_eq (half % 2) 0) (quantity input starts (half / 2)) (LIMIT - quantity input starts (half / 2))
+    cond (nat_eq (half % 2) 0) (quantity input starts (half / 2))
+    (LIMIT - quantity input starts (half / 2))
 
 -- a literal that holds in a list of starts
 abbrev pub Holds : Input → List ℕ → Literal → Type 0

@@ -1,6 +1,6 @@
--- Reasons: the clauses that hold by the problem alone (docs/DEFINITIONS.md, "Clauses"). Energy as in Schutt, Feydt, Stuckey and
--- Wallace (2011).
-use Rattle.std.specs.Prelude.{◌≡◌, ◌≢◌, ℕ, ◌+◌, ◌*◌, ◌-◌, ◌≤◌, ◌<◌, ◌⊎◌, List, sum_by, length, get_or, All, Contains}
+-- Reasons: the clauses that hold by the problem alone (docs/DEFINITIONS.md, "Clauses"). Energy as
+-- in Schutt, Feydt, Stuckey and Wallace (2011).
+use Rattle.std.specs.Prelude.{◌≡◌, ◌≢◌, ℕ, ◌+◌, ◌*◌, ◌-◌, ◌≤◌, ◌<◌, List, sum_by, length, get_or, All}
 use Rattle.std.specs.List.{AllPairs}
 use Rattle.plan_sgs.specs.Problem.{Problem, count, duration, need, capacity}
 use Rattle.plan_kernel.specs.declared.literal.TheConstants.{LIMIT}

@@ -100,8 +100,8 @@ fn implies(literal: Literal, pivot: Option<Literal>) -> bool
     }
 }
 
-// Puts the negations of a clause's literals in, except of those that imply the pivot. Returns whether
-// that could be done.
+// Puts the negations of a clause's literals in, except of those that imply the pivot. Returns
+// whether that could be done.
 fn add_clause(
     values: &mut Vec<u32>,
     touched: &mut Vec<u32>,

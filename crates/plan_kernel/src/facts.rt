@@ -20,7 +20,8 @@ pub fn raise(facts: &mut Vec<u32>, half: usize, value: u32)
     }
 }
 
-// Raises what each activity leaves below the limit to what it leaves if it ends before the upper bound.
+// Raises what each activity leaves below the limit to what it leaves if it ends before the upper
+// bound.
 pub fn raise_latest(facts: &mut Vec<u32>, input: &Input, upper: u32)
     requires limit { upper ≤ LIMIT }
     requires facts { spec.AreFacts input.now upper facts.old.items }

@@ -9,8 +9,8 @@ use crate::literal::at;
 use plan_sgs::Instance;
 use std::alloc::{AllocError, Global};
 
-/// Activity `to` starts no earlier than `lag` after the end of activity `from`. Activities are numbered
-/// from 0.
+/// Activity `to` starts no earlier than `lag` after the end of activity `from`. Activities are
+/// numbered from 0.
 #[derive(Clone, Copy, Drop)]
 pub struct Arc {
     pub from: u32,

@@ -13,12 +13,12 @@ use crate::reason::Reason;
 use std::alloc::{AllocError, Global};
 use std::marker::Model;
 
-/// Facts and clauses about the starts of a scheduling problem, and at most one conflict. All of it is
-/// true of each feasible list of starts whose makespan is below the upper bound, which is the makespan
-/// of the best list handed in.
+/// Facts and clauses about the starts of a scheduling problem, and at most one conflict. All of it
+/// is true of each feasible list of starts whose makespan is below the upper bound, which is the
+/// makespan of the best list handed in.
 ///
-/// Nothing but these calls changes what a kernel holds, so whatever calls them, in whatever order, can
-/// make it hold nothing false. Every call returns for every argument.
+/// Nothing but these calls changes what a kernel holds, so whatever calls them, in whatever order,
+/// can make it hold nothing false. Every call returns for every argument.
 #[derive(Drop)]
 pub struct Kernel {
     known: Known,
@@ -80,8 +80,8 @@ impl Kernel {
         }
     }
 
-    /// A number that no makespan of a feasible list of starts is below: the greatest known start with
-    /// its duration, or the upper bound if that is less or nothing is below it.
+    /// A number that no makespan of a feasible list of starts is below: the greatest known start
+    /// with its duration, or the upper bound if that is less or nothing is below it.
     pub fn lower_bound(&self) -> u32
         ensures lower { spec.IsLowerBound self.now.known.input result }
         ensures below { result ≤ self.now.known.upper }
@@ -151,7 +151,9 @@ impl Kernel {
     }
 
     /// The literals of a kept clause. A clause that was dropped, or never kept, has none.
-    pub fn clause(&self, clause: u32) -> &[Literal] {
+    pub fn clause(&self, clause: u32) -> &[Literal]
+        ensures { spec.IsAmong self.now.known.clauses.items result.now }
+    {
         clause_of(&self.known.clauses, clause)
     }
 
@@ -167,8 +169,8 @@ impl Kernel {
     }
 
     /// Replaces a half of the conflict by the other literals of a reason's clause, negated, except
-    /// those that are facts. Literals of the clause that imply the conflict's literal at this half are
-    /// what it is resolved on.
+    /// those that are facts. Literals of the clause that imply the conflict's literal at this half
+    /// are what it is resolved on.
     ///
     /// Returns whether it is a reason and there was a conflict. If not, there is no conflict now.
     pub fn resolve(&mut self, half: u32, reason: Reason) -> bool
@@ -179,13 +181,13 @@ impl Kernel {
         resolve(&self.known, &mut self.conflict, half, reason)
     }
 
-    /// Learns from the conflict: its negation is a clause. With no literal it refutes the upper bound,
-    /// with one it is a fact, and otherwise it is kept. The conflict is then gone.
+    /// Learns from the conflict: its negation is a clause. With no literal it refutes the upper
+    /// bound, with one it is a fact, and otherwise it is kept. The conflict is then gone.
     pub fn keep(&mut self, alloc: Global) -> Result<Lesson, KernelFault>
         ensures same { self.new.known.input ≡ self.old.known.input }
         ensures upper { self.new.known.upper ≡ self.old.known.upper }
         ensures learned { IfOk result
-            (spec.HasLearned self.old.known self.new.known self.old.conflict.values.items) }
+            (spec.HasLearned self.new.known self.old.conflict.values.items) }
         ensures closed { OnOk result (self.new.conflict.open ≡ false) }
         ensures no_conflict { IsErrOf result KernelFault.NoConflict
             → self.old.conflict.open ≡ false }
@@ -201,8 +203,8 @@ impl Kernel {
         Ok(lesson)
     }
 
-    /// Takes a list of starts if it is feasible and its makespan is below the upper bound, and lowers
-    /// the upper bound to it. Facts follow: each activity ends before the upper bound.
+    /// Takes a list of starts if it is feasible and its makespan is below the upper bound, and
+    /// lowers the upper bound to it. Facts follow: each activity ends before the upper bound.
     ///
     /// Returns whether the list was taken. If not, the kernel is as it was.
     pub fn lower(&mut self, starts: Vec<u32>) -> bool

@@ -30,8 +30,8 @@ pub enum Lesson {
     Clause(u32),
 }
 
-/// What is known of a problem: the best list of starts, and facts and clauses that hold in all shorter
-/// ones.
+/// What is known of a problem: the best list of starts, and facts and clauses that hold in all
+/// shorter ones.
 #[derive(Drop)]
 pub struct Known {
     pub input: Input,

@@ -1,5 +1,6 @@
-//! The clause kernel of `plan solve`: facts and clauses about the starts of a scheduling problem, each
-//! of which is proved to hold in every feasible schedule that is shorter than the best one so far.
+//! The clause kernel of `plan solve`: facts and clauses about the starts of a scheduling problem,
+//! each of which is proved to hold in every feasible schedule that is shorter than the best one so
+//! far.
 #![tactic(auto)]
 
 mod conflict;
@@ -11,8 +12,7 @@ mod kernel;
 mod known;
 mod literal;
 mod reason;
-#[cfg(test)]
-mod tests;
+mod shop;
 
 pub use fault::KernelFault;
 pub use input::{Arc, Input, Order};

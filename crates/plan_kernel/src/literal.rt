@@ -7,10 +7,11 @@ ghost use Rattle.plan_kernel.specs.Literals as spec;
 pub const LIMIT: u32 = 1_073_741_824;
 
 /// A bound of a quantity `x`, which is the start of activity `x` for `x` below the number `n` of
-/// activities, and 1 or 0 for order `x - n`: whether its first activity ends before its second starts.
+/// activities, and 1 or 0 for order `x - n`: whether its first activity ends before its second
+/// starts.
 ///
-/// Half `2 * x` with value `v` says that the quantity is at least `v`. Half `2 * x + 1` with value `v`
-/// says that the quantity is at most [`LIMIT`] - `v`.
+/// Half `2 * x` with value `v` says that the quantity is at least `v`. Half `2 * x + 1` with value
+/// `v` says that the quantity is at most [`LIMIT`] - `v`.
 #[derive(Clone, Copy, Drop)]
 pub struct Literal {
     pub half: u32,

@@ -16,20 +16,20 @@ pub struct Member {
     pub time: u32,
 }
 
-/// A clause that holds in every feasible schedule that is shorter than the best one, by what makes it
-/// hold.
+/// A clause that holds in every feasible schedule that is shorter than the best one, by what makes
+/// it hold.
 #[derive(Clone, Copy, Drop)]
 pub enum Reason<'a> {
     /// The kept clause of this number.
     Kept(u32),
-    /// An arc: `from` starts before `value`, or `to` starts at `value` + duration of `from` + lag or
-    /// later.
+    /// An arc: `from` starts before `value`, or `to` starts at `value` + duration of `from` + lag
+    /// or later.
     Arc {
         arc: u32,
         value: u32,
     },
-    /// An order that is 1: it is 0, or `first` starts before `value`, or `second` starts at `value` +
-    /// duration of `first` or later.
+    /// An order that is 1: it is 0, or `first` starts before `value`, or `second` starts at `value`
+    /// + duration of `first` or later.
     Before {
         order: u32,
         value: u32,
@@ -40,9 +40,9 @@ pub enum Reason<'a> {
         order: u32,
         value: u32,
     },
-    /// The window from `from` to `until` is too short for its members, which rise by their numbers: one
-    /// of them, which should be in it for `time`, starts before `from` + `time` - duration or after
-    /// `until` - `time`.
+    /// The window from `from` to `until` is too short for its members, which rise by their numbers:
+    /// one of them, which should be in it for `time`, starts before `from` + `time` - duration or
+    /// after `until` - `time`.
     Energy {
         resource: u32,
         from: u32,
@@ -255,7 +255,8 @@ fn fill_member(
     requires member { spec.IsMember input.now from until member }
     requires window { from < until }
     requires limit { until ≤ LIMIT }
-    ensures { OnOk result (spec.Fills input.now from until member clause.old.items clause.new.items) }
+    ensures { OnOk result
+        (spec.Fills input.now from until member clause.old.items clause.new.items) }
 {
     let duration = at(&input.durations, member.activity as usize);
     let latest = from + member.time;

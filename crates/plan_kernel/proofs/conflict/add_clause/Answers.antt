@@ -1,9 +1,6 @@
-use Rattle.std.proofs.Common.{◌∙◌, ℕ, ◌≤◌, inl, inr, List, Vec, ap, subst, sym, arith}
+use Rattle.std.proofs.Common.{inl, inr, arith}
 use Rattle.std.proofs.lemmas.List.{take_all}
-use Rattle.std.specs.declared.alloc.Global.{Global}
 use Rattle.plan_kernel.specs.declared.literal.Literal.{Literal}
-use Rattle.plan_kernel.specs.Literals.{at}
-use Rattle.plan_kernel.specs.Clauses.{IsListed, IsRaised, AreCovered}
 use Rattle.plan_kernel.proofs.TouchedLemmas.{covered_more}
 use Rattle.plan_kernel.proofs.conflict.add_clause.Goals as goal
 use Rattle.plan_kernel.proofs.conflict.add_clause.Goals.{else-not-implies-via-then-not-implies+else-not-add, else-not-implies-via-else-not-implies}

@@ -1,4 +1,4 @@
-use Rattle.std.proofs.Common.{◌∙◌, ◌≤◌, ◌<◌, ℕ, [], ◌∷◌, ◌++◌, List, length, get_or, ap, sym, subst, arith}
+use Rattle.std.proofs.Common.{◌∙◌, ◌<◌, ℕ, [], ◌∷◌, ◌++◌, List, length, get_or, ap, arith}
 use Rattle.plan_kernel.specs.declared.literal.Literal.{Literal}
 use Rattle.plan_kernel.specs.Literals.{at, negated}
 use Rattle.plan_kernel.proofs.TouchedLemmas.{negated_more, negated_none, negated_all}

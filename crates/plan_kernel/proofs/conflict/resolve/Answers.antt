@@ -1,4 +1,4 @@
-use Rattle.std.proofs.Common.{◌∙◌, ℕ, List, ap, sym}
+use Rattle.std.proofs.Common.{◌∙◌, ℕ, List, ap}
 use Rattle.std.proofs.lemmas.Bool.{both_ways}
 use Rattle.plan_kernel.specs.Literals.{at}
 use Rattle.plan_kernel.proofs.ConflictLemmas.{resolved}

@@ -1,7 +1,6 @@
-use Rattle.std.proofs.Common.{◌∙◌, ap, sym, arith}
+use Rattle.std.proofs.Common.{◌∙◌, sym, arith}
 use Rattle.plan_kernel.specs.Inputs.{problem_of}
-use Rattle.plan_kernel.specs.Literals.{at}
-use Rattle.plan_kernel.proofs.InputLemmas.{count_is, capacity_is}
+use Rattle.plan_kernel.proofs.InputLemmas.{count_is}
 use Rattle.plan_kernel.proofs.FeasibleLemmas.{fits_whole}
 use Rattle.plan_kernel.proofs.feasible.fits.Goals as goal
 

@@ -1,4 +1,4 @@
-use Rattle.std.proofs.Common.{◌≡◌, ◌+◌, ◌-◌, ℕ, Some, ap, sym, subst, arith}
+use Rattle.std.proofs.Common.{◌≡◌, ◌+◌, ◌-◌, ℕ, Some, subst, arith}
 use Rattle.std.specs.List.{slice_get}
 use Rattle.plan_kernel.proofs.InputLemmas.{rows_more}
 use Rattle.plan_kernel.proofs.input.needs_of.Goals as goal

@@ -1,4 +1,4 @@
-use Rattle.std.proofs.Common.{◌≡◌, ◌∙◌, ◌∷◌, [], List, ap, sym, refl, arith}
+use Rattle.std.proofs.Common.{◌∙◌, ◌∷◌, [], ap, sym, refl, arith}
 use Rattle.plan_kernel.specs.declared.literal.Literal.{Literal}
 use Rattle.plan_kernel.proofs.KeptLemmas.{one_literal}
 use Rattle.plan_kernel.proofs.known.learn.Goals as goal

@@ -1,4 +1,4 @@
-use Rattle.std.proofs.Common.{◌≡◌, ◌∙◌, ℕ, inl, inr, List, Vec, Option, Some, None, get_or, set, refl, ap, sym, subst, arith}
+use Rattle.std.proofs.Common.{◌∙◌, sym, arith}
 use Rattle.std.proofs.lemmas.List.Sorted.{IsPermutation-refl, IsPermutation-swap}
 use Rattle.std.specs.List.Sorted.{IsPermutation}
 use Rattle.plan_kernel.proofs.KeptLemmas.{reordered_none, swapped_at, hole_at}

@@ -1,6 +1,6 @@
-use Rattle.std.proofs.Common.{◌∙◌, ◌<◌, ◌-◌, ◌≤◌, get_or, sym, arith}
-use Rattle.std.proofs.lemmas.Bool.{leb-false, both_ways}
-use Rattle.plan_kernel.proofs.ReasonLemmas.{members_more, no_member}
+use Rattle.std.proofs.Common.{◌∙◌, sym, arith}
+use Rattle.std.proofs.lemmas.Bool.{leb-false}
+use Rattle.plan_kernel.proofs.ReasonLemmas.{members_more}
 use Rattle.plan_kernel.proofs.reason.are_members.Goals as goal
 use Rattle.plan_kernel.proofs.reason.are_members.Goals.{then-place-gt0, else-place-gt0}
 

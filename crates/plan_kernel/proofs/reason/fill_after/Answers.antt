@@ -1,4 +1,4 @@
-use Rattle.std.proofs.Common.{◌∙◌, ◌+◌, ◌≤◌, ℕ, List, ap, sym, arith}
+use Rattle.std.proofs.Common.{◌∙◌, ◌+◌, ◌≤◌, ℕ, List, ap, arith}
 use Rattle.plan_sgs.specs.Problem.{duration}
 use Rattle.plan_kernel.specs.Inputs.{problem_of}
 use Rattle.plan_kernel.specs.Literals.{at, Fails}

@@ -1,9 +1,5 @@
-use Rattle.std.proofs.Common.{◌∙◌, ◌≡◌, ◌+◌, ◌≤◌, ◌<◌, ℕ, List, [], ◌∷◌, ◌++◌, length, get_or, ap, sym, subst, arith}
-use Rattle.plan_sgs.specs.Problem.{duration}
-use Rattle.plan_kernel.specs.declared.literal.Literal.{Literal}
-use Rattle.plan_kernel.specs.Inputs.{problem_of}
+use Rattle.std.proofs.Common.{◌∙◌, ℕ, List, ap, arith}
 use Rattle.plan_kernel.specs.Literals.{at, Fails}
-use Rattle.plan_kernel.specs.Reasons.{at_least, below}
 use Rattle.plan_kernel.proofs.ReasonLemmas.{fails_last, arc_follows}
 use Rattle.plan_kernel.proofs.reason.fill_arc.Goals as goal
 

@@ -1,4 +1,3 @@
-use Rattle.std.proofs.Common.{arith}
 use Rattle.std.proofs.lemmas.List.{take_all}
 use Rattle.plan_kernel.proofs.ReasonLemmas.{within_more, energy_follows}
 use Rattle.plan_kernel.proofs.reason.fill_energy.Goals as goal

@@ -2,7 +2,6 @@ use Rattle.std.proofs.Common.{◌*◌, ◌-◌, ◌<◌, arith}
 use Rattle.std.proofs.lemmas.Bool.{ltb-true}
 use Rattle.plan_sgs.specs.Problem.{capacity}
 use Rattle.plan_kernel.specs.Inputs.{problem_of}
-use Rattle.plan_kernel.specs.Reasons.{energy_of}
 use Rattle.plan_kernel.proofs.InputLemmas.{resources_are}
 use Rattle.plan_kernel.proofs.reason.is_overloaded.Goals as goal
 

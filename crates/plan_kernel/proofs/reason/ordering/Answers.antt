@@ -1,4 +1,4 @@
-use Rattle.std.proofs.Common.{◌≡◌, ap, sym, refl, arith}
+use Rattle.std.proofs.Common.{◌≡◌, refl, arith}
 use Rattle.std.proofs.lemmas.List.Elements.{at_read}
 use Rattle.plan_kernel.specs.declared.input.Order.{Order}
 use Rattle.plan_kernel.specs.Literals.{no_order}

@@ -1,4 +1,4 @@
-use Rattle.std.proofs.Common.{◌∙◌, arith}
+use Rattle.std.proofs.Common.{◌∙◌}
 use Rattle.plan_kernel.proofs.InputLemmas.{same_problem}
 use Rattle.plan_kernel.proofs.input.Input.of_instance.Goals as goal
 

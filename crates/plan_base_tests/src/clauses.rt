@@ -1,6 +1,7 @@
-//! Two activities that share one resource: each way to prove that 7 is the least makespan.
+//! The clause kernel on two activities that share one resource: each way to prove that 7 is the least
+//! makespan.
 
-use super::*;
+use plan_kernel::{Input, Kernel, Lesson, Member, Order, Reason};
 use std::test::Fail;
 
 // Activities of 3 and 4 time units that need the one unit of a resource.
@@ -14,13 +15,7 @@ fn two_in_turn(rt: &HostRuntime) -> Result<Kernel, Fail> {
         arcs: Vec::new(alloc),
         needs,
         capacities: Vec::from_array(alloc, [1])?,
-        orders: Vec::from_array(
-            alloc,
-            [Order {
-                first: 0,
-                second: 1,
-            }],
-        )?,
+        orders: Vec::from_array(alloc, [Order { first: 0, second: 1 }])?,
     };
     Ok(Kernel::new(alloc, input)?)
 }
@@ -29,24 +24,12 @@ fn two_in_turn(rt: &HostRuntime) -> Result<Kernel, Fail> {
 fn energy_proves_the_optimum(rt: HostRuntime) -> Result<(), Fail> {
     let alloc = rt.alloc();
     let mut kernel = two_in_turn(&rt)?;
-    assert!(rt;
-        !kernel.lower(Vec::from_array(alloc, [0, 2])?),
-        "they overlap"
-    );
-    assert!(rt;
-        kernel.lower(Vec::from_array(alloc, [0, 3])?),
-        "one after the other"
-    );
+    assert!(rt; !kernel.lower(Vec::from_array(alloc, [0, 2])?), "they overlap");
+    assert!(rt; kernel.lower(Vec::from_array(alloc, [0, 3])?), "one after the other");
     assert_eq!(rt; kernel.upper(), 7);
     let members = [
-        Member {
-            activity: 0,
-            time: 3,
-        },
-        Member {
-            activity: 1,
-            time: 4,
-        },
+        Member { activity: 0, time: 3 },
+        Member { activity: 1, time: 4 },
     ];
     let window = Reason::Energy {
         resource: 0,
