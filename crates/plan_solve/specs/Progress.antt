@@ -1,4 +1,4 @@
--- How far a search is, and what a watcher is told of it (docs/DEFINITIONS.md, "Proofs of optima").
+-- How far a search is, and what a watcher is told of it (docs/DEFINITIONS.md, "Solutions").
 use Rattle.std.specs.Prelude.{◌≡◌, ◌⊎◌, ◌≤◌, ℕ, List}
 use Rattle.plan_sgs.specs.Problem.{Problem, IsFeasible, makespan}
 use Rattle.plan_solve.specs.Solutions.{IsLowerBound}

@@ -1,10 +1,9 @@
--- Active schedules with lower bounds of all makespans (docs/DEFINITIONS.md, "Proofs of optima").
+-- Active schedules with lower bounds of all makespans (docs/DEFINITIONS.md, "Solutions").
 use Rattle.std.specs.Prelude.{◌≡◌, ℕ, ◌≤◌, ◌<◌, List}
 use Rattle.plan_sgs.specs.Problem.{Problem, IsFeasible, IsActive, makespan}
 use Rattle.plan_sgs.specs.Placing.{AllEndBy, latest_end}
 use Rattle.plan_sgs.specs.declared.schedule.Schedule.{Schedule}
 use Rattle.plan_solve.specs.declared.fault.SolveFault.{SolveFault}
-use Rattle.plan_solve.specs.declared.solving.Solved.{Solved}
 use Rattle.plan_solve.specs.declared.fault.SolveFault.TheVariants.{NoMemory, BadConflicts}
 
 -- no feasible list of starts has a makespan below a number
@@ -16,11 +15,6 @@ pub record IsActiveSchedule (p : Problem) (schedule : Schedule) : Type 0 where
   pub active : IsActive p schedule.starts.items
   pub makespan_is : schedule.makespan ≡ makespan p schedule.starts.items
   pub ends : AllEndBy p schedule.starts.items latest_end
-
--- an active schedule and a lower bound
-pub record IsSolutionOf (p : Problem) (solved : Solved) : Type 0 where
-  pub schedule : IsActiveSchedule p solved.schedule
-  pub lower : IsLowerBound p solved.lower
 
 -- how many conflicts may be allowed
 abbrev pub IsConflictLimit : ℕ → Type 0
