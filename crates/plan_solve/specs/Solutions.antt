@@ -1,8 +1,9 @@
 -- Active schedules with lower bounds of all makespans (docs/DEFINITIONS.md, "Solutions").
-use Rattle.std.specs.Prelude.{◌≡◌, ℕ, ◌≤◌, ◌<◌, List}
+use Rattle.std.specs.Prelude.{◌≡◌, ℕ, ◌≤◌, ◌<◌, List, All}
 use Rattle.plan_sgs.specs.Problem.{Problem, IsFeasible, IsActive, makespan}
 use Rattle.plan_sgs.specs.Placing.{AllEndBy, latest_end}
 use Rattle.plan_sgs.specs.declared.schedule.Schedule.{Schedule}
+use Rattle.plan_shop.specs.Shop.{JobShop, problem_of}
 use Rattle.plan_solve.specs.declared.fault.SolveFault.{SolveFault}
 use Rattle.plan_solve.specs.declared.fault.SolveFault.TheVariants.{NoMemory, BadConflicts}
 
@@ -15,6 +16,12 @@ pub record IsActiveSchedule (p : Problem) (schedule : Schedule) : Type 0 where
   pub active : IsActive p schedule.starts.items
   pub makespan_is : schedule.makespan ≡ makespan p schedule.starts.items
   pub ends : AllEndBy p schedule.starts.items latest_end
+
+-- an active schedule of a shop with its makespan, no start of which is after 10,000,000
+pub record IsActiveShopSchedule (s : JobShop) (schedule : Schedule) : Type 0 where
+  pub active : IsActive (problem_of s) schedule.starts.items
+  pub makespan_is : schedule.makespan ≡ makespan (problem_of s) schedule.starts.items
+  pub within : All (λ t. t ≤ 10000000) schedule.starts.items
 
 -- how many conflicts may be allowed
 abbrev pub IsConflictLimit : ℕ → Type 0
