@@ -24,6 +24,10 @@ enum Form {
     Count,
     /// An option with a number of seconds.
     Seconds,
+    /// An option with a number of seconds of a search, or none.
+    SearchSeconds,
+    /// An option with a number of conflicts, or none.
+    Conflicts,
     /// An option without a value.
     Flag,
 }
@@ -31,10 +35,7 @@ enum Form {
 impl Form {
     // Whether the argument is required.
     fn is_required(self) -> bool {
-        !matches!(
-            self,
-            Form::OptionalText | Form::Count | Form::Seconds | Form::Flag
-        )
+        matches!(self, Form::Text | Form::Name | Form::Names | Form::Port)
     }
 }
 
@@ -99,7 +100,7 @@ const DATABASE: Argument = Argument {
     help: "the file in which an office is kept, an SQLite database",
 };
 
-const COMMANDS: [Entry; 15] = [
+const COMMANDS: [Entry; 16] = [
     Entry {
         name: "cpm",
         about: "Prints the date table of a project",
@@ -143,6 +144,24 @@ const COMMANDS: [Entry; 15] = [
             },
             FILE,
             INSTANCE_IF_SHOP,
+        ],
+    },
+    Entry {
+        name: "solve",
+        about: "Prints a schedule of a project, proved optimal or with a lower bound of all makespans",
+        examples: "Examples:\n  plan solve examples/house.sm\n  plan solve --seconds 60 examples/house.sm\n  plan solve --conflicts 1000 examples/house.sm",
+        arguments: &[
+            FILE,
+            Argument {
+                name: "seconds",
+                form: Form::SearchSeconds,
+                help: "how many seconds the search may take, 1 to 86400; 10 if no limit is given",
+            },
+            Argument {
+                name: "conflicts",
+                form: Form::Conflicts,
+                help: "how many conflicts the search may have, 1 to 1000000000",
+            },
         ],
     },
     Entry {
@@ -294,6 +313,14 @@ fn arg_of<'a>(alloc: Global, argument: &Argument) -> Arg<'a> {
             .value_name("SECONDS")
             .value_parser(value_parser!(u32).range(1..=60))
             .default_value("2"),
+        Form::SearchSeconds => arg
+            .long(argument.name)
+            .value_name("S")
+            .value_parser(value_parser!(u32).range(1..=86400)),
+        Form::Conflicts => arg
+            .long(argument.name)
+            .value_name("N")
+            .value_parser(value_parser!(u32).range(1..=1000000000)),
         Form::Flag => arg.long(argument.name).action(ArgAction::SetTrue),
         _ => arg,
     }

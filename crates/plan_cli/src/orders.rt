@@ -2,6 +2,10 @@
 
 use crate::tasks::Task;
 use clap::ArgMatches;
+use plan_solve::MOST_CONFLICTS;
+
+/// How many seconds a search of `solve` may take if no limit is given.
+const DEFAULT_SECONDS: u32 = 10;
 
 /// What the arguments ask of files.
 pub enum FileOrder<'a> {
@@ -9,8 +13,18 @@ pub enum FileOrder<'a> {
     Task(Task<'a>, &'a str),
     /// The same, with a line of progress on standard error.
     Watched(Task<'a>, &'a str),
+    /// A schedule of a project and a lower bound, by a search within these limits.
+    Solve {
+        file: &'a str,
+        conflicts: u64,
+        /// How many seconds the search may take; `None` if the conflicts alone limit it.
+        seconds: Option<u32>,
+    },
     /// The verdict on the starts in one file, for the project in another.
-    Check { file: &'a str, starts: &'a str },
+    Check {
+        file: &'a str,
+        starts: &'a str,
+    },
     /// The meaning of a code.
     Explain(&'a str),
 }
@@ -134,11 +148,31 @@ fn proof_order<'a>(arguments: &'a ArgMatches<'_>) -> Option<FileOrder<'a>> {
     })
 }
 
+// Returns the order of `solve`.
+fn solve_order<'a>(arguments: &'a ArgMatches<'_>) -> Option<FileOrder<'a>> {
+    let file = arguments.get_str("FILE")?;
+    let seconds: Option<u32> = arguments.get_one("seconds");
+    let conflicts: Option<u32> = arguments.get_one("conflicts");
+    Some(match conflicts {
+        Some(conflicts) => FileOrder::Solve {
+            file,
+            conflicts: u64::from(conflicts),
+            seconds,
+        },
+        None => FileOrder::Solve {
+            file,
+            conflicts: MOST_CONFLICTS,
+            seconds: Some(seconds.unwrap_or(DEFAULT_SECONDS)),
+        },
+    })
+}
+
 // Returns the order of any other command.
 fn file_order<'a>(name: &str, arguments: &'a ArgMatches<'_>) -> Option<FileOrder<'a>> {
     match name {
         "explain" => Some(FileOrder::Explain(arguments.get_str("CODE")?)),
         "prove" => proof_order(arguments),
+        "solve" => solve_order(arguments),
         "check" => Some(FileOrder::Check {
             file: arguments.get_str("FILE")?,
             starts: arguments.get_str("STARTS")?,

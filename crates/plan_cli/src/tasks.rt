@@ -10,9 +10,10 @@ use crate::fault::CliFault;
 use crate::names::names_text;
 use crate::proof::proof_text;
 use crate::solutions::{project_best_text, shop_best_text};
+use crate::solver::solution_text;
 use crate::tables::{date_text, schedule_text, shop_text};
 use crate::verdicts::check_text;
-use plan_prove::Watcher;
+use crate::watchers::{ProofWatcher, SolveWatcher};
 use std::alloc::Global;
 
 /// What to print of a project file or of an instance in a job shop file.
@@ -90,10 +91,17 @@ pub enum Task<'a> {
     BestProject {
         budget: &'a str,
     },
+    /// A schedule of a project and a lower bound of all makespans, as for [`Task::Prove`], by a
+    /// search of at most so many conflicts. A number outside 1–1,000,000,000 counts as the nearest
+    /// one inside. Error: `S1`.
+    Solve {
+        conflicts: u64,
+    },
 }
 
-/// Returns the text of a task for a file. The watcher is called during a proof.
-pub(crate) fn text_of<V: Watcher>(
+/// Returns the text of a task for a file. The watcher is called during
+/// a search of `prove` or `solve`.
+pub(crate) fn text_of<V: ProofWatcher + SolveWatcher>(
     alloc: Global,
     task: Task<'_>,
     file: &[u8],
@@ -108,6 +116,9 @@ pub(crate) fn text_of<V: Watcher>(
         Task::Chart { rule } => Ok(chart_text(alloc, rule, file)?.into_bytes()),
         Task::Days { rule, start, marks } => Ok(days_text(
             alloc, rule, start, marks, file,
+        )?.into_bytes()),
+        Task::Solve { conflicts } => Ok(solution_text(
+            alloc, conflicts, file, watcher,
         )?.into_bytes()),
         Task::BestProject { budget } => Ok(project_best_text(alloc, budget, file)?.into_bytes()),
         Task::Check { starts } => Ok(check_text(alloc, starts, file)?.into_bytes()),
