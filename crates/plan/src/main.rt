@@ -7,7 +7,7 @@ use self::progress::ProgressLine;
 use clap::Error;
 use clap::error::ErrorKind;
 use plan_cli::{
-    CliFault, FileOrder, OfficeOrder, Order, Unwatched, check_on_files, command, explain_run,
+    CliFault, FileOrder, OfficeOrder, Order, Task, Unwatched, check_on_files, command, explain_run,
     order_of, run_on_file,
 };
 use plan_io::StdSink;
@@ -85,6 +85,15 @@ fn do_file_order(rt: &HostRuntime, order: FileOrder<'_>) -> Result<(), CliFault>
         FileOrder::Task(task, path) => run_on_file(rt, task, &mut Unwatched, path, &mut writer),
         FileOrder::Watched(task, path) => {
             run_on_file(rt, task, &mut ProgressLine::new(rt), path, &mut writer)
+        }
+        FileOrder::Solve {
+            file,
+            conflicts,
+            seconds,
+        } => {
+            let task = Task::Solve { conflicts };
+            let mut line = ProgressLine::within(rt, seconds);
+            run_on_file(rt, task, &mut line, file, &mut writer)
         }
         FileOrder::Check { file, starts } => check_on_files(rt, file, starts, &mut writer),
         FileOrder::Explain(code) => explain_run(rt.alloc(), code, &mut writer),
