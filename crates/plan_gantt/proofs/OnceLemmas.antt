@@ -1,4 +1,4 @@
--- Of each of these texts there is only one, and no text if there is a line that tells why not.
+-- Each of these texts is unique. There is no text if there is an error line instead.
 use Rattle.std.proofs.Common.{ℕ, ◌≡◌, inl, inr, List, ◌++◌, refl, sym, ◌∙◌, ap, subst, arith}
 use Rattle.plan_net.specs.Network.{Net}
 use Rattle.plan_cpm.specs.Dates.{DateTable}

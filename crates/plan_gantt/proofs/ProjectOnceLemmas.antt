@@ -1,4 +1,4 @@
--- Of the best text of a project there is only one, and no text if there is a line that tells why not.
+-- The best text of a project is unique. There is no text if there is an error line instead.
 use Rattle.std.proofs.Common.{ℕ, ◌≡◌, inl, inr, List, ◌++◌, refl, sym, ◌∙◌, ap, subst, arith}
 use Rattle.plan_sgs.specs.Instances.{Planned, problem_of}
 use Rattle.plan_sgs.proofs.OnceLemmas.{feasible_fits, refusal_once, fit_not_refused}

@@ -9,7 +9,7 @@ use Rattle.plan_kernel.specs.declared.input.Order.{Order}
 use Rattle.plan_kernel.specs.declared.input.Input.{Input}
 use Rattle.plan_kernel.specs.Inputs.{problem_of}
 
--- the number at a place, 0 where there is none
+-- the number at a place, 0 if there is none
 abbrev pub at : List ℕ → ℕ → ℕ
 at list place = get_or list place 0
 

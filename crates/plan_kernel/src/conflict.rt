@@ -13,7 +13,7 @@ use std::alloc::{AllocError, Global};
 #[derive(Drop)]
 pub struct Conflict {
     pub open: bool,
-    /// For each half the value of its literal, 0 where there is none.
+    /// For each half the value of its literal, 0 if there is none.
     pub values: Vec<u32>,
     /// The halves that have a literal.
     pub touched: Vec<u32>,

@@ -35,7 +35,7 @@ pub fn negated(literal: Literal) -> Literal
     }
 }
 
-/// The number at a place, 0 where there is none.
+/// The number at a place, 0 if there is none.
 pub fn at(list: &[u32], place: usize) -> u32
     ensures { result ≡ spec.at list.now place }
 {

@@ -16,7 +16,7 @@ pub told : {A : Type 0} (read : Result A Fault) (e : ReadError) (fault : FileFau
 told read errors.Memory fault fails tells = inl tells
 told read (errors.Fault f) fault fails tells = inr (fails ∙ rw (tells.0, tells.1) refl, tells.2)
 
--- the names that are read are all names of a text that is fit to be read
+-- the names that are read are all names of a text that can be read
 pub names_read : (text : List ℕ) (given : List (List ℕ)) → names text ≡ Ok given → (plain text ≡ Ok tt) × (given ≡ names_of text)
 unfolding names
 names_read text given e = then_ok (plain text) _ given e (λ u good e. (good, sym (same_ok (names_of text) given e)))
@@ -31,7 +31,7 @@ names_fail text (errors.Fault f) fails = by_text (plain text) fails
     by_text (Ok u) e = absurd (cc)
     by_text (Err g) e = cc
 
--- of a text that is fit to be read, names aren't given because memory ran out alone
+-- if a text can be read, only out of memory prevents its names from being returned
 pub names_only : (text : List ℕ) (e : ReadError) (fault : FileFault) → plain text ≡ Ok tt → Fails e (names text) → TellsError e fault → IsWantOfMemory fault
 names_only text errors.Memory fault good fails tells = tells
 names_only text (errors.Fault f) fault good fails tells = let no : Err f ≡ Ok tt = sym (names_fail text (errors.Fault f) fails) ∙ good in absurd (cc)

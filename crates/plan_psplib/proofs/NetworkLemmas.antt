@@ -45,7 +45,7 @@ durations_good text d says j active =
     let total = says.total_fits in
     (small_get d.requests.durations (j - 1) says.durations_fit, omega (arith, part, total))
 
--- what is told of it is out of memory, or the cycle that is named
+-- the error is out of memory, or names the cycle
 pub told : (d : Document) (net : NetFault) (fault : FileFault) → IsFirstFault (network_of d) net → TellsOf net d.precedence_line fault → IsWantOfMemory fault ⊎ NamesCycleOf d fault
 told d nets.NoMemory fault h tells = inl tells
 told d nets.Size fault h tells = absurd tells

@@ -1,4 +1,4 @@
--- How far a search is, and what a watcher is told of it (docs/definitions.md, "Proofs of optima").
+-- The progress of a search, and the reports that a watcher gets (docs/definitions.md, "Clauses").
 use Rattle.std.specs.Prelude.{◌≡◌, ◌⊎◌, ◌≤◌, ℕ, List}
 use Rattle.plan_sgs.specs.Problem.{Problem, IsFeasible, makespan}
 use Rattle.plan_solve.specs.Solutions.{IsLowerBound}

@@ -96,12 +96,13 @@ fn searched<W: Watcher>(
 /// greatest lower bound of all makespans that it proves.
 ///
 /// Refused with [`SolveFault::BadConflicts`] if the number of conflicts is not from 1 to
-/// 1,000,000,000. Want of memory may come in place of any answer.
+/// 1,000,000,000. Out of memory can replace any result.
 pub fn solve(alloc: Global, instance: &Instance, conflicts: u64) -> Result<Solved, SolveFault>
     ensures active { IfOk result (λ solved.
         IsActive (problem_of instance.now) solved.schedule.starts.items) }
     ensures makespan { IfOk result (λ solved.
-        solved.schedule.makespan ≡ makespan (problem_of instance.now) solved.schedule.starts.items) }
+        solved.schedule.makespan
+        ≡ makespan (problem_of instance.now) solved.schedule.starts.items) }
     // No feasible schedule has a makespan below it.
     ensures lower { IfOk result (λ solved.
         spec.IsLowerBound (problem_of instance.now) solved.lower) }
@@ -119,7 +120,7 @@ pub fn solve(alloc: Global, instance: &Instance, conflicts: u64) -> Result<Solve
     solve_watched(alloc, instance, conflicts, &mut Unwatched)
 }
 
-/// The same; and while it searches it tells a watcher how far it is, who may end the search.
+/// Does the same, reports its progress to a watcher, and stops if the watcher says that it is late.
 pub fn solve_watched<W: Watcher>(
     alloc: Global,
     instance: &Instance,
@@ -129,7 +130,8 @@ pub fn solve_watched<W: Watcher>(
     ensures active { IfOk result (λ solved.
         IsActive (problem_of instance.now) solved.schedule.starts.items) }
     ensures makespan { IfOk result (λ solved.
-        solved.schedule.makespan ≡ makespan (problem_of instance.now) solved.schedule.starts.items) }
+        solved.schedule.makespan
+        ≡ makespan (problem_of instance.now) solved.schedule.starts.items) }
     // No feasible schedule has a makespan below it.
     ensures lower { IfOk result (λ solved.
         spec.IsLowerBound (problem_of instance.now) solved.lower) }

@@ -9,7 +9,8 @@ pub trait Watcher {
 
     /// The best makespan so far, a lower bound of all makespans, and how many conflicts there were.
     fn tell(&mut self, best: u64, lower: u64, conflicts: u64)
-        ensures { Hears (was_told self.old) (was_told self.new) (record { best = best; lower = lower; conflicts = conflicts }) };
+        ensures { Hears (was_told self.old) (was_told self.new)
+            (record { best = best; lower = lower; conflicts = conflicts }) };
 
     /// Whether the search should end now.
     fn is_late(&mut self) -> bool
