@@ -12,7 +12,9 @@ use Rattle.plan_calendar.proofs.WeekLemmas.{mark_by_day, marks_by_day, same_day,
 abbrev weekday_at : Workdays → ℕ
 weekday_at calendar = weekday_number (epoch_day calendar.start)
 
-pub working : (calendar : Workdays) (w t days : ℕ) (date : Date) → w ≡ weekday_at calendar → IsMarkedAfter calendar.marks w t days → epoch_day date ≡ epoch_day calendar.start +ℤ pos days → IsWorkingDay calendar t date
+pub working : (calendar : Workdays) (w t days : ℕ) (date : Date) → w ≡ weekday_at calendar →
+    IsMarkedAfter calendar.marks w t days → epoch_day date ≡ epoch_day calendar.start +ℤ pos days →
+    IsWorkingDay calendar t date
 working calendar w t days date same found after =
     let here : IsMarkedAfter calendar.marks (weekday_at calendar) t days = subst (λ v. IsMarkedAfter calendar.marks v t days) same found in
     record {

@@ -10,7 +10,7 @@ fn are_mark_digits(bytes: &[u8]) -> bool
     ensures other { result ≡ false → SomeIndex bytes.now (λ k.
         IsMarkDigit (slice_index bytes.now k) → ⊥) }
 {
-    'all: for k in 0..bytes.len() {
+    for k in 0..bytes.len() {
         if bytes[k] != b'0' {
             if bytes[k] != b'1' {
                 return false;

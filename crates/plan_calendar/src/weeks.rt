@@ -28,7 +28,7 @@ fn marks_of_week(marks: &[bool], weekday: u64) -> u64
     ensures some { 0 < result }
 {
     let mut count = 0;
-    'week: for days in 0..7u64 {
+    for days in 0..7u64 {
         if mark_at(marks, weekday, days) {
             count += 1;
         }
@@ -46,7 +46,7 @@ fn day_of_week(marks: &[bool], weekday: u64, before: u64) -> u64
     ensures within { result < 7 }
 {
     let mut left = before;
-    'week: for days in 0..7u64 {
+    for days in 0..7u64 {
         if mark_at(marks, weekday, days) {
             if left == 0 {
                 return days;

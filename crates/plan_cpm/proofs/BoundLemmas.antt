@@ -125,7 +125,9 @@ path_places net i [] limits activity walk = (activity.0, activity.1, tt)
 path_places net i (j ∷ others) limits activity (arc, walk) = (activity.0, activity.1, path_places net j others limits (arc_ends net i j limits arc).1 walk)
 
 -- a walk takes its durations, and for each arc the greatest lag at most
-length_after-most : (net : Net) (most i : ℕ) (others : List ℕ) → ((h k : ℕ) → IsArc net h k → lag_of net h k ≤ most) → IsWalk net i others → length_after net i others ≤ total_at net.durations others + most * length others
+length_after-most : (net : Net) (most i : ℕ) (others : List ℕ) →
+    ((h k : ℕ) → IsArc net h k → lag_of net h k ≤ most) → IsWalk net i others →
+    length_after net i others ≤ total_at net.durations others + most * length others
 unfolding total_at
 length_after-most net most i [] lags walk = omega arith
 length_after-most net most i (j ∷ others) lags (arc, walk) =
@@ -170,4 +172,6 @@ duration_bound_without_lags net duration sound greatest none =
 
 -- and has no more activities than there are
 pub path_count : (net : Net) (i : ℕ) (others : List ℕ) → IsSound net → IsPath net i others → length others < count_of net
-path_count net i others sound path = omega (arith, few net.durations (i ∷ others) (path_distinct net i others sound.limits sound.acyclic path.0 path.1) (path_places net i others sound.limits path.0 path.1))
+path_count net i others sound path = omega (arith, few net.durations (i ∷ others)
+    (path_distinct net i others sound.limits sound.acyclic path.0 path.1)
+    (path_places net i others sound.limits path.0 path.1))

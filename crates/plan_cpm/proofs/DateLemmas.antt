@@ -15,7 +15,9 @@ last_activity net i [] limits activity walk = activity
 last_activity net i (j ∷ others) limits activity (arc, walk) = last_activity net j others limits (arc_ends net i j limits arc).1 walk
 
 -- the greatest finish is the greatest length of all
-pub duration_greatest : (net : Net) (finishes : List ℕ) (duration : ℕ) → IsWithinLimits net → AreFinishes net finishes → (k : ℕ) × (k < length finishes) × (get_or finishes k 0 ≡ duration) → ((k : ℕ) → k < length finishes → get_or finishes k 0 ≤ duration) → IsGreatest (IsLength net) duration
+pub duration_greatest : (net : Net) (finishes : List ℕ) (duration : ℕ) → IsWithinLimits net →
+    AreFinishes net finishes → (k : ℕ) × (k < length finishes) × (get_or finishes k 0 ≡ duration) →
+    ((k : ℕ) → k < length finishes → get_or finishes k 0 ≤ duration) → IsGreatest (IsLength net) duration
 duration_greatest net finishes duration limits are (k, within, is) above = (some, every) where
   some : IsLength net duration
   some =
@@ -65,7 +67,11 @@ IsConsistent-from_parts net dates parts = record {
   whole : length dates.durations ≡ count_of net
   whole = ap length parts.durations
 
-  at : (i : ℕ) → i < length dates.durations → record { lasting : get_or dates.durations i 0 ≡ duration_of net (i + 1); begun : duration_of net (i + 1) ≤ get_or dates.finishes i 0; kept : duration_of net (i + 1) ≤ get_or dates.tails i 0; joined : get_or dates.tails i 0 + get_or dates.finishes i 0 ≤ dates.duration + duration_of net (i + 1); same : i + 1 - 1 ≡ i }
+  at : (i : ℕ) → i < length dates.durations → record
+      { lasting : get_or dates.durations i 0 ≡ duration_of net (i + 1); begun : duration_of net
+      (i + 1) ≤ get_or dates.finishes i 0; kept : duration_of net
+      (i + 1) ≤ get_or dates.tails i 0; joined : get_or dates.tails i 0 + get_or dates.finishes i 0 ≤
+      dates.duration + duration_of net (i + 1); same : i + 1 - 1 ≡ i }
   at i within =
       let same : i + 1 - 1 ≡ i = omega arith in
       let n = numbers net dates (i + 1) parts (omega arith, omega (arith, whole)) in
@@ -90,14 +96,20 @@ AreDates-from_parts net dates parts = record {
   next : (j : ℕ) → IsActivity net j → IsNextStart net dates.finishes dates.duration j (early_finish_of dates j + free_float_of dates j)
   next j activity = parts.free_floats.next j activity
 
-  free : (j k : ℕ) → IsArc net j k → (early_finish_of dates j + free_float_of dates j ≡ dates.duration) ⊎ ((h : ℕ) × IsArc net j h × (early_finish_of dates j + free_float_of dates j + lag_of net j h + duration_of net h ≡ get_or dates.finishes (h - 1) 0)) → IsLeast (IsSuccessorStart net dates j) (early_finish_of dates j + free_float_of dates j)
+  free : (j k : ℕ) → IsArc net j k → (early_finish_of dates j + free_float_of dates j ≡ dates.duration)
+      ⊎ ((h : ℕ) × IsArc net j h × (early_finish_of dates j + free_float_of dates j + lag_of net j h +
+      duration_of net h ≡ get_or dates.finishes (h - 1) 0)) →
+      IsLeast (IsSuccessorStart net dates j) (early_finish_of dates j + free_float_of dates j)
   free j k arc reached = (some reached, least) where
     least : (v : ℕ) → IsSuccessorStart net dates j v → early_finish_of dates j + free_float_of dates j ≤ v
     least v (h, arc', is) =
         let n = numbers net dates h parts (arc_ends net j h parts.limits arc').1 in
         omega (arith, is, n.lasting, n.begun, (next j (arc_ends net j h parts.limits arc').0).below h arc')
 
-    some : (early_finish_of dates j + free_float_of dates j ≡ dates.duration) ⊎ ((h : ℕ) × IsArc net j h × (early_finish_of dates j + free_float_of dates j + lag_of net j h + duration_of net h ≡ get_or dates.finishes (h - 1) 0)) → IsSuccessorStart net dates j (early_finish_of dates j + free_float_of dates j)
+    some : (early_finish_of dates j + free_float_of dates j ≡ dates.duration)
+        ⊎ ((h : ℕ) × IsArc net j h × (early_finish_of dates j + free_float_of dates j + lag_of net j h +
+        duration_of net h ≡ get_or dates.finishes (h - 1) 0)) →
+        IsSuccessorStart net dates j (early_finish_of dates j + free_float_of dates j)
     some (inl whole) =
         let activity = (arc_ends net j k parts.limits arc).1 in
         let n = numbers net dates k parts activity in
@@ -108,7 +120,11 @@ AreDates-from_parts net dates parts = record {
         let n = numbers net dates h parts (arc_ends net j h parts.limits arc').1 in
         (h, arc', omega (arith, is, n.lasting))
 
-  last : (j : ℕ) → ((k : ℕ) → IsArc net j k → ⊥) → (early_finish_of dates j + free_float_of dates j ≡ dates.duration) ⊎ ((h : ℕ) × IsArc net j h × (early_finish_of dates j + free_float_of dates j + lag_of net j h + duration_of net h ≡ get_or dates.finishes (h - 1) 0)) → early_finish_of dates j + free_float_of dates j ≡ dates.duration
+  last : (j : ℕ) → ((k : ℕ) → IsArc net j k → ⊥) →
+      (early_finish_of dates j + free_float_of dates j ≡ dates.duration)
+      ⊎ ((h : ℕ) × IsArc net j h × (early_finish_of dates j + free_float_of dates j + lag_of net j h +
+      duration_of net h ≡ get_or dates.finishes (h - 1) 0)) →
+      early_finish_of dates j + free_float_of dates j ≡ dates.duration
   last j none (inl whole) = whole
   last j none (inr (h, arc, is)) = absurd (none h arc)
 
@@ -161,7 +177,9 @@ KeepRecurrences-from_parts net dates parts top = record {
         let before = last_of h lastly.before in
         let arc' : IsArc net before j = subst (λ (x : ℕ). IsArc net before x) ends lastly.arc in
         let activity = (arc_ends net before j parts.limits arc').0 in
-        let low : path_length net h lastly.before ≤ early_finish_of dates before = (parts.finishes.greatest before activity).1 (path_length net h lastly.before) (h, lastly.before, (path.0, lastly.walk), refl, refl) in
+        let low : path_length net h lastly.before ≤ early_finish_of dates before =
+            (parts.finishes.greatest before activity).1 (path_length net h lastly.before)
+            (h, lastly.before, (path.0, lastly.walk), refl, refl) in
         let d : duration_of net (last_of g others) ≡ duration_of net j = ap (duration_of net) ends in
         let l : lag_of net before (last_of g others) ≡ lag_of net before j = ap (lag_of net before) ends in
         (before, arc', omega (arith, n.lasting, n.begun, long, lastly.longer, low, d, l, after before j arc'))
@@ -187,7 +205,9 @@ KeepRecurrences-from_parts net dates parts top = record {
     some ([], path, long) = (k, arc, omega (arith, n.lasting, n.begun, n.joined, long, ahead j k arc))
     some (h ∷ others, path, long) =
         let arc' = path.1.0 in
-        let low : path_length net h others ≤ get_or dates.tails (h - 1) 0 = (parts.tails.greatest h (arc_ends net j h parts.limits arc').1).1 (path_length net h others) (others, ((arc_ends net j h parts.limits arc').1, path.1.1), refl) in
+        let low : path_length net h others ≤ get_or dates.tails (h - 1) 0 =
+            (parts.tails.greatest h (arc_ends net j h parts.limits arc').1).1 (path_length net h others)
+            (others, ((arc_ends net j h parts.limits arc').1, path.1.1), refl) in
         (h, arc', omega (arith, n.lasting, n.begun, n.joined, long, low, ahead j h arc'))
 
   reached : (j : ℕ) × IsActivity net j × (early_finish_of dates j ≡ dates.duration)

@@ -27,18 +27,25 @@ after_finish net j k early late arc first second =
     let path = first.0 in
     let arc' : IsArc net (last_of path.0 path.1) k = subst (λ (x : ℕ). IsArc net x k) (sym path.3) arc in
     let same : lag_of net (last_of path.0 path.1) k ≡ lag_of net j k = ap (λ (x : ℕ). lag_of net x k) path.3 in
-    let longer : path_length net path.0 (path.1 ++ k ∷ []) ≤ late = second.1 (path_length net path.0 (path.1 ++ k ∷ [])) (path.0, path.1 ++ k ∷ [], (path.2.0, IsWalk-append net path.0 path.1 (k ∷ []) path.2.1 (arc', tt)), last_of-append path.0 path.1 (k ∷ []), refl) in
+    let longer : path_length net path.0 (path.1 ++ k ∷ []) ≤ late =
+        second.1 (path_length net path.0 (path.1 ++ k ∷ []))
+        (path.0, path.1 ++ k ∷ [], (path.2.0, IsWalk-append net path.0 path.1 (k ∷ []) path.2.1 (arc', tt)),
+        last_of-append path.0 path.1 (k ∷ []), refl) in
     omega (arith, longer, length_after-append net path.0 path.1 (k ∷ []), path.4, same)
 
 -- a predecessor's tail is no shorter than its duration, the lag and the tail after it
-pub before_tail : (net : Net) (j k long short : ℕ) → IsActivity net j → IsArc net j k → IsGreatest (IsLengthFrom net j) long → IsGreatest (IsLengthFrom net k) short → duration_of net j + lag_of net j k + short ≤ long
+pub before_tail : (net : Net) (j k long short : ℕ) → IsActivity net j → IsArc net j k →
+    IsGreatest (IsLengthFrom net j) long → IsGreatest (IsLengthFrom net k) short →
+    duration_of net j + lag_of net j k + short ≤ long
 before_tail net j k long short activity arc first second =
     let path = second.0 in
     let longer : path_length net j (k ∷ path.0) ≤ long = first.1 (path_length net j (k ∷ path.0)) (k ∷ path.0, (activity, (arc, path.1.1)), refl) in
     omega (arith, longer, path.2)
 
 -- a path to an activity and one from it make a path
-pub through : (net : Net) (j finish tail duration : ℕ) → IsGreatest (IsLengthTo net j) finish → IsGreatest (IsLengthFrom net j) tail → IsGreatest (IsLength net) duration → tail + finish ≤ duration + duration_of net j
+pub through : (net : Net) (j finish tail duration : ℕ) → IsGreatest (IsLengthTo net j) finish →
+    IsGreatest (IsLengthFrom net j) tail → IsGreatest (IsLength net) duration →
+    tail + finish ≤ duration + duration_of net j
 through net j finish tail duration first second all =
     let to = first.0 in
     let from = second.0 in
@@ -52,7 +59,9 @@ pub within_all : (net : Net) (j finish duration : ℕ) → IsGreatest (IsLengthT
 within_all net j finish duration first all = let to = first.0 in all.1 finish (to.0, to.1, to.2, to.4)
 
 -- an activity finishes no later than the next has to start
-pub finish_at_most_next : (net : Net) (finishes : List ℕ) (duration j v : ℕ) → IsWithinLimits net → AreFinishes net finishes → IsGreatest (IsLength net) duration → IsActivity net j → IsNextStart net finishes duration j v → get_or finishes (j - 1) 0 ≤ v
+pub finish_at_most_next : (net : Net) (finishes : List ℕ) (duration j v : ℕ) → IsWithinLimits net →
+    AreFinishes net finishes → IsGreatest (IsLength net) duration → IsActivity net j →
+    IsNextStart net finishes duration j v → get_or finishes (j - 1) 0 ≤ v
 finish_at_most_next net finishes duration j v limits are all activity next = by_case next.reached where
   by_case : (v ≡ duration) ⊎ ((k : ℕ) × IsArc net j k × (v + lag_of net j k + duration_of net k ≡ get_or finishes (k - 1) 0)) → get_or finishes (j - 1) 0 ≤ v
   by_case (inl last) = omega (arith, last, within_all net j (get_or finishes (j - 1) 0) duration (are.greatest j activity) all)
@@ -62,7 +71,11 @@ finish_at_most_next net finishes duration j v limits are all activity next = by_
       omega (arith, is, after)
 
 -- one more free float goes to the end of the list
-pub IsNextStart-push : (net : Net) (finishes list : List ℕ) (duration k value : ℕ) → length list ≡ k → IsNextStart net finishes duration (k + 1) (get_or finishes k 0 + value) → ((i : ℕ) → i < k → IsNextStart net finishes duration (i + 1) (get_or finishes i 0 + get_or list i 0)) → (i : ℕ) → i < k + 1 → IsNextStart net finishes duration (i + 1) (get_or finishes i 0 + get_or (list ++ value ∷ []) i 0)
+pub IsNextStart-push : (net : Net) (finishes list : List ℕ) (duration k value : ℕ) → length list ≡ k →
+    IsNextStart net finishes duration (k + 1) (get_or finishes k 0 + value) →
+    ((i : ℕ) → i < k → IsNextStart net finishes duration (i + 1) (get_or finishes i 0 + get_or list i 0)) →
+    (i : ℕ) → i < k + 1 → IsNextStart net finishes duration (i + 1)
+    (get_or finishes i 0 + get_or (list ++ value ∷ []) i 0)
 IsNextStart-push net finishes list duration k value whole here before =
     below_more (λ i. IsNextStart net finishes duration (i + 1) (get_or finishes i 0 + get_or (list ++ value ∷ []) i 0)) k earlier
     (subst (λ (x : ℕ). IsNextStart net finishes duration (k + 1) (get_or finishes k 0 + x)) (sym (get_or_push list value 0 k whole)) here) where

@@ -14,7 +14,9 @@ pub record RightBetween (P : ℕ → ℕ → Type 0) (order list : List ℕ) (lo
   pub right : (k : ℕ) → low ≤ k → k < high → k < length order → P (get_or order k 0) (get_or list (get_or order k 0 - 1) 0)
 
 -- the activities at two places of the order have two places in a list
-pub order_apart : (net : Net) (order : List ℕ) → IsLeastOrder net order → ((k : ℕ) → k < length order → IsActivity net (get_or order k 0)) → (k m : ℕ) → k < length order → m < length order → k ≢ m → get_or order k 0 - 1 ≢ get_or order m 0 - 1
+pub order_apart : (net : Net) (order : List ℕ) → IsLeastOrder net order →
+    ((k : ℕ) → k < length order → IsActivity net (get_or order k 0)) → (k m : ℕ) → k < length order →
+    m < length order → k ≢ m → get_or order k 0 - 1 ≢ get_or order m 0 - 1
 order_apart net order least activities k m within inside apart same = distinct (omega (arith, same, activities k within, activities m inside)) where
   distinct : get_or order k 0 ≡ get_or order m 0 → ⊥
   distinct equal = elim (cases_order k m) [
@@ -26,12 +28,23 @@ order_apart net order least activities k m within inside apart same = distinct (
   ]
 
 -- a number that is set for one activity changes that of no other
-pub set_apart : (net : Net) (order list : List ℕ) → IsLeastOrder net order → ((k : ℕ) → k < length order → IsActivity net (get_or order k 0)) → (k m v : ℕ) → k < length order → m < length order → k ≢ m → get_or (set list (get_or order m 0 - 1) v) (get_or order k 0 - 1) 0 ≡ get_or list (get_or order k 0 - 1) 0
-set_apart net order list least activities k m v within inside apart = get_or-set_other list (get_or order m 0 - 1) (get_or order k 0 - 1) v 0 (order_apart net order least activities k m within inside apart)
+pub set_apart : (net : Net) (order list : List ℕ) → IsLeastOrder net order →
+    ((k : ℕ) → k < length order → IsActivity net (get_or order k 0)) → (k m v : ℕ) → k < length order →
+    m < length order → k ≢ m → get_or (set list (get_or order m 0 - 1) v)
+    (get_or order k 0 - 1) 0 ≡ get_or list (get_or order k 0 - 1) 0
+set_apart net order list least activities k m v within inside apart =
+    get_or-set_other list (get_or order m 0 - 1) (get_or order k 0 - 1) v 0
+    (order_apart net order least activities k m within inside apart)
 
 -- one more number is right
-pub RightBetween-set : (P : ℕ → ℕ → Type 0) (net : Net) (order list : List ℕ) (low high m v : ℕ) → IsLeastOrder net order → ((k : ℕ) → k < length order → IsActivity net (get_or order k 0)) → length list ≡ count_of net → m < length order → P (get_or order m 0) v → (new_low new_high : ℕ) → ((k : ℕ) → new_low ≤ k → k < new_high → k ≢ m → (low ≤ k) × (k < high)) → RightBetween P order list low high → RightBetween P order (set list (get_or order m 0 - 1) v) new_low new_high
-RightBetween-set P net order list low high m v least activities whole inside here new_low new_high between right = record { right = λ k lower upper within. by_case k lower upper within (cases_eq k m) } where
+pub RightBetween-set : (P : ℕ → ℕ → Type 0) (net : Net) (order list : List ℕ) (low high m v : ℕ) →
+    IsLeastOrder net order → ((k : ℕ) → k < length order → IsActivity net (get_or order k 0)) →
+    length list ≡ count_of net → m < length order → P (get_or order m 0) v → (new_low new_high : ℕ) →
+    ((k : ℕ) → new_low ≤ k → k < new_high → k ≢ m → (low ≤ k) × (k < high)) →
+    RightBetween P order list low high → RightBetween P order
+    (set list (get_or order m 0 - 1) v) new_low new_high
+RightBetween-set P net order list low high m v least activities whole inside here new_low new_high between
+    right = record { right = λ k lower upper within. by_case k lower upper within (cases_eq k m) } where
   by_case : (k : ℕ) → new_low ≤ k → k < new_high → k < length order → (k ≡ m) ⊎ (k ≡ m → ⊥) → P (get_or order k 0) (get_or (set list (get_or order m 0 - 1) v) (get_or order k 0 - 1) 0)
   by_case k lower upper within (inl same) =
       let a = activities m inside in
@@ -43,13 +56,17 @@ RightBetween-set P net order list low high m v least activities whole inside her
       subst (P (get_or order k 0)) (sym (set_apart net order list least activities k m v within inside other)) (right.right k bounds.0 bounds.1 within)
 
 -- the predecessors of the activity at m are done
-pub preds_right : (P : ℕ → ℕ → Type 0) (net : Net) (order list : List ℕ) (m : ℕ) → IsLeastOrder net order → m < length order → RightBetween P order list 0 m → (i : ℕ) → IsArc net i (get_or order m 0) → P i (get_or list (i - 1) 0)
+pub preds_right : (P : ℕ → ℕ → Type 0) (net : Net) (order list : List ℕ) (m : ℕ) → IsLeastOrder net order →
+    m < length order → RightBetween P order list 0 m → (i : ℕ) → IsArc net i (get_or order m 0) →
+    P i (get_or list (i - 1) 0)
 preds_right P net order list m least inside right i arc =
     let place = earlier net order least.least i (get_or order m 0) m arc inside refl in
     subst (λ (x : ℕ). P x (get_or list (x - 1) 0)) place.2 (right.right place.0 (omega arith) place.1 (omega (arith, place.1)))
 
 -- what holds of the activities behind the place m holds of the successors of that at m
-pub succs_done : (Q : ℕ → Type 0) (net : Net) (order : List ℕ) (m : ℕ) → IsWithinLimits net → IsLeastOrder net order → m < length order → ((p : ℕ) → m + 1 ≤ p → p < length order → Q (get_or order p 0)) → (k : ℕ) → IsArc net (get_or order m 0) k → Q k
+pub succs_done : (Q : ℕ → Type 0) (net : Net) (order : List ℕ) (m : ℕ) → IsWithinLimits net →
+    IsLeastOrder net order → m < length order → ((p : ℕ) → m + 1 ≤ p → p < length order →
+    Q (get_or order p 0)) → (k : ℕ) → IsArc net (get_or order m 0) k → Q k
 succs_done Q net order m limits least inside done k arc = by_place (place_in order k (least.each k (arc_ends net (get_or order m 0) k limits arc).1)) where
   same_place : (q : ℕ) → q < length order → get_or order q 0 ≡ get_or order m 0 → (m ≡ q) ⊎ ((m < q) ⊎ (q < m)) → m ≡ q
   same_place q inside' same (inl equal) = equal
@@ -63,7 +80,9 @@ succs_done Q net order m limits least inside done k arc = by_place (place_in ord
       subst Q is (done p (omega (arith, at, before.1)) within)
 
 -- the successors of the activity at m are done, from the end on
-pub succs_right : (P : ℕ → ℕ → Type 0) (net : Net) (order list : List ℕ) (m : ℕ) → IsWithinLimits net → IsLeastOrder net order → m < length order → RightBetween P order list (m + 1) (length order) → (k : ℕ) → IsArc net (get_or order m 0) k → P k (get_or list (k - 1) 0)
+pub succs_right : (P : ℕ → ℕ → Type 0) (net : Net) (order list : List ℕ) (m : ℕ) → IsWithinLimits net →
+    IsLeastOrder net order → m < length order → RightBetween P order list (m + 1) (length order) → (k : ℕ) →
+    IsArc net (get_or order m 0) k → P k (get_or list (k - 1) 0)
 succs_right P net order list m limits least inside right = succs_done (λ j. P j (get_or list (j - 1) 0)) net order m limits least inside (λ p lower within. right.right p lower within within)
 
 -- where the order is done, each activity is

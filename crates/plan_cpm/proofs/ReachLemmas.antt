@@ -33,12 +33,6 @@ leads_via net j h limits ([], path, some, ends) = absurd (omega arith)
 leads_via net j h limits (k ∷ [], path, some, ends) = (k, path.1.0, inl ends)
 leads_via net j h limits (k ∷ g ∷ others, path, some, ends) = (k, path.1.0, inr (g ∷ others, ((arc_ends net j k limits path.1.0).1, path.1.1), omega arith, ends))
 
--- nothing is marked at the beginning
-pub IsReachSoFar-nil : (net : Net) (j n : ℕ) → n ≡ count_of net → IsReachSoFar net j (replicate n false)
-IsReachSoFar-nil net j n whole = record {
-  whole = length-replicate n false ∙ whole;
-  led = λ k activity marked. absurd (false≢true (sym (unmarked n (k - 1)) ∙ marked));
-  closed = λ k h activity marked leads. absurd (false≢true (sym (unmarked n (k - 1)) ∙ marked));
 } where
   unmarked : (m i : ℕ) → get_or (replicate m false) i false ≡ false
   unmarked zero i = refl
@@ -46,7 +40,12 @@ IsReachSoFar-nil net j n whole = record {
   unmarked (suc m) (suc i) = unmarked m i
 
 -- a successor and all to which paths lead from it are marked
-pub IsReachSoFar-add : (net : Net) (j k : ℕ) (row other after : List Bool) → IsWithinLimits net → IsActivity net j → IsArc net j k → IsReachSoFar net j row → IsReach net k other → length after ≡ length row → ((i : ℕ) → get_or (set row (k - 1) true) i false ≡ true → get_or after i false ≡ true) → ((i : ℕ) → get_or other i false ≡ true → get_or after i false ≡ true) → ((i : ℕ) → get_or after i false ≡ true → (get_or (set row (k - 1) true) i false ≡ true) ⊎ (get_or other i false ≡ true)) → IsReachSoFar net j after
+pub IsReachSoFar-add : (net : Net) (j k : ℕ) (row other after : List Bool) → IsWithinLimits net →
+    IsActivity net j → IsArc net j k → IsReachSoFar net j row → IsReach net k other →
+    length after ≡ length row → ((i : ℕ) → get_or (set row (k - 1) true) i false ≡ true →
+    get_or after i false ≡ true) → ((i : ℕ) → get_or other i false ≡ true → get_or after i false ≡ true) →
+    ((i : ℕ) → get_or after i false ≡ true → (get_or (set row (k - 1) true) i false ≡ true)
+    ⊎ (get_or other i false ≡ true)) → IsReachSoFar net j after
 IsReachSoFar-add net j k row other after limits activity arc far reach same kept added alone = record {
   whole = same ∙ far.whole;
   led = λ h there marked. led h there (source h there (alone (h - 1) marked));
@@ -96,7 +95,9 @@ IsReach-from_successors net j row limits far met = record { whole = far.whole; e
   marked h (k, arc, inr leads) = far.closed k h (arc_ends net j k limits arc).1 (met k arc) leads
 
 -- the marks that are set are as many as the total successors
-pub IsCountOf-reach : (net : Net) (j : ℕ) (row : List Bool) (count : ℕ) → IsSound net → IsActivity net j → IsReach net j row → IsCountOf (λ k. (1 ≤ k) × (k ≤ length row) × IsPlaced row k) count → IsCountOf (IsTotalSuccessor net j) count
+pub IsCountOf-reach : (net : Net) (j : ℕ) (row : List Bool) (count : ℕ) → IsSound net → IsActivity net j →
+    IsReach net j row → IsCountOf (λ k. (1 ≤ k) × (k ≤ length row) × IsPlaced row k) count →
+    IsCountOf (IsTotalSuccessor net j) count
 IsCountOf-reach net j row count sound activity reach counted = record {
   members = counted.members;
   lists = ListsRising-same (λ k. (1 ≤ k) × (k ≤ length row) × IsPlaced row k) (IsTotalSuccessor net j) counted.members same counted.lists;
@@ -122,19 +123,11 @@ set_keeps row k within i marked = by_case (cases_eq i k) where
   by_case (inl equal) = subst (λ (x : ℕ). get_or (set row k true) x false ≡ true) (sym equal) (get_or-set_same row k true false within)
   by_case (inr apart) = get_or-set_other row k i true false apart ∙ marked
 
--- one more mark of the other row is added
-pub united_more : (start row other : List Bool) (n : ℕ) → n < length row → get_or other n false ≡ true → ((i : ℕ) → get_or start i false ≡ true → get_or row i false ≡ true) → ((i : ℕ) → i < n → get_or other i false ≡ true → get_or row i false ≡ true) → ((i : ℕ) → get_or row i false ≡ true → (get_or start i false ≡ true) ⊎ (get_or other i false ≡ true)) → ((i : ℕ) → get_or start i false ≡ true → get_or (set row n true) i false ≡ true) × ((i : ℕ) → i < n + 1 → get_or other i false ≡ true → get_or (set row n true) i false ≡ true) × ((i : ℕ) → get_or (set row n true) i false ≡ true → (get_or start i false ≡ true) ⊎ (get_or other i false ≡ true))
-united_more start row other n within here kept added alone = (
-  (λ i marked. set_keeps row n within i (kept i marked)),
-  below_more (λ i. get_or other i false ≡ true → get_or (set row n true) i false ≡ true) n (λ i lower marked. set_keeps row n within i (added i lower marked)) (λ marked. get_or-set_same row n true false within),
-  λ i marked. from i marked (cases_eq i n),
-) where
-  from : (i : ℕ) → get_or (set row n true) i false ≡ true → (i ≡ n) ⊎ (i ≡ n → ⊥) → (get_or start i false ≡ true) ⊎ (get_or other i false ≡ true)
-  from i marked (inl equal) = inr (subst (λ (x : ℕ). get_or other x false ≡ true) (sym equal) here)
-  from i marked (inr apart) = alone i (sym (get_or-set_other row n i true false apart) ∙ marked)
-
 -- one more number goes to the end of the list
-pub IsCountOf-push : (net : Net) (list : List ℕ) (k value : ℕ) → length list ≡ k → IsCountOf (IsTotalSuccessor net (k + 1)) value → ((i : ℕ) → i < k → IsCountOf (IsTotalSuccessor net (i + 1)) (get_or list i 0)) → (i : ℕ) → i < k + 1 → IsCountOf (IsTotalSuccessor net (i + 1)) (get_or (list ++ value ∷ []) i 0)
+pub IsCountOf-push : (net : Net) (list : List ℕ) (k value : ℕ) → length list ≡ k →
+    IsCountOf (IsTotalSuccessor net (k + 1)) value →
+    ((i : ℕ) → i < k → IsCountOf (IsTotalSuccessor net (i + 1)) (get_or list i 0)) → (i : ℕ) → i < k + 1 →
+    IsCountOf (IsTotalSuccessor net (i + 1)) (get_or (list ++ value ∷ []) i 0)
 IsCountOf-push net list k value whole here before =
     below_more (λ i. IsCountOf (IsTotalSuccessor net (i + 1)) (get_or (list ++ value ∷ []) i 0)) k earlier
     (subst (IsCountOf (IsTotalSuccessor net (k + 1))) (sym (get_or_push list value 0 k whole)) here) where

@@ -152,7 +152,9 @@ module _ (net : Net) (limits : IsWithinLimits net) (order : List ℕ) (least : I
       (all.0, record { whole = all.1; greatest = each_right (λ j. IsGreatest (IsLengthTo net j)) net order all.0 least all.2 })
 
   -- the tail of the activity at m, where those behind it are right
-  some_tail : (list : List ℕ) (m : ℕ) → m < length order → RightBetween (λ j. IsGreatest (IsLengthFrom net j)) order list (m + 1) (length order) → (v : ℕ) × IsGreatest (IsLengthFrom net (get_or order m 0)) v
+  some_tail : (list : List ℕ) (m : ℕ) → m < length order →
+      RightBetween (λ j. IsGreatest (IsLengthFrom net j)) order list (m + 1) (length order) →
+      (v : ℕ) × IsGreatest (IsLengthFrom net (get_or order m 0)) v
   some_tail list m inside right = by_most (some_most (λ arc. arc.0 ≡ j) (λ arc. lag_of net j arc.1 + get_or list (arc.1 - 1) 0) (λ arc. cases_eq arc.0 j) net.arcs)
     where
       j : ℕ
@@ -191,7 +193,9 @@ module _ (net : Net) (limits : IsWithinLimits net) (order : List ℕ) (least : I
 -- ---- the duration and the free floats
 
 -- the greatest number of a list that isn't empty
-some_greatest : (first : ℕ) (others : List ℕ) → (w : ℕ) × ((k : ℕ) × (k < length (first ∷ others)) × (get_or (first ∷ others) k 0 ≡ w)) × ((k : ℕ) → k < length (first ∷ others) → get_or (first ∷ others) k 0 ≤ w)
+some_greatest : (first : ℕ) (others : List ℕ) → (w : ℕ)
+    × ((k : ℕ) × (k < length (first ∷ others)) × (get_or (first ∷ others) k 0 ≡ w))
+    × ((k : ℕ) → k < length (first ∷ others) → get_or (first ∷ others) k 0 ≤ w)
 some_greatest first [] = (first, (0, omega arith, refl), λ k within. only k within)
   where
     only : (k : ℕ) → k < length (first ∷ []) → get_or (first ∷ []) k 0 ≤ first
@@ -252,7 +256,8 @@ some_next net finishes duration j limits are activity =
             let there : IsArc net j arc.1 = subst (λ (h : ℕ). IsArc net h arc.1) same has in
             inr (arc.1, there, omega (arith, is, room arc.1 there))
 
-some_floats : (net : Net) (finishes : List ℕ) (duration : ℕ) → IsWithinLimits net → AreFinishes net finishes → IsGreatest (IsLength net) duration → (list : List ℕ) × AreFreeFloats net finishes duration list
+some_floats : (net : Net) (finishes : List ℕ) (duration : ℕ) → IsWithinLimits net → AreFinishes net finishes →
+    IsGreatest (IsLength net) duration → (list : List ℕ) × AreFreeFloats net finishes duration list
 some_floats net finishes duration limits are all =
     let listed = some_list (λ j v. IsNextStart net finishes duration j (get_or finishes (j - 1) 0 + v)) (count_of net) (λ j low high. float j (low, high)) in
     (listed.0, record { whole = listed.1; next = λ j activity. listed.2 j activity.0 activity.1 })

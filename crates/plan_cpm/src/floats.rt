@@ -17,7 +17,7 @@ fn greatest(values: &[u64]) -> u64
     ensures above { EachIndex values.now (λ k. slice_index values.now k ≤ result) }
 {
     let mut most = values[0];
-    'values: for k in 1..values.len() {
+    for k in 1..values.len() {
         if values[k] > most {
             most = values[k];
         }
@@ -33,7 +33,7 @@ fn lower_before(network: &Network, k: u32, start: u64, nexts: &mut Vec<u64>)
     ensures { LowersBefore network.now k start nexts.old.items nexts.new.items }
 {
     let lags = network.lags_into(k);
-    'preds: for (m, &j) in network.preds(k).iter().enumerate() {
+    for (m, &j) in network.preds(k).iter().enumerate() {
         let place = j as usize - 1;
         let end = start - lags[m];
         nexts[place] = nexts[place].min(end);
@@ -51,7 +51,7 @@ fn next_starts(
     ensures { IfOk result (λ list. AreNextStarts network.now finishes.now duration list.items) }
 {
     let mut nexts = vec![in alloc; duration; network.len()]?;
-    'all: for i in 0..network.len() {
+    for i in 0..network.len() {
         let k = i as u32 + 1;
         let start = finishes[i] - network.duration(k);
         lower_before(network, k, start, &mut nexts);
@@ -72,7 +72,7 @@ fn free_floats(
 {
     let nexts = next_starts(alloc, network, finishes, duration)?;
     let mut list = Vec::new(alloc);
-    'all: for k in 0..network.len() {
+    for k in 0..network.len() {
         list.push(nexts[k] - finishes[k])?;
     }
     Ok(list)
@@ -83,7 +83,7 @@ fn durations_of(alloc: Global, network: &Network) -> Result<Vec<u64>, AllocError
     ensures { IfOk result (λ list. list.items ≡ network.now.durations) }
 {
     let mut list = Vec::new(alloc);
-    'all: for k in 0..network.len() {
+    for k in 0..network.len() {
         list.push(network.duration(k as u32 + 1))?;
     }
     Ok(list)

@@ -22,7 +22,7 @@ fn last_before(network: &Network, j: u32, finishes: &[u64]) -> u64
 {
     let lags = network.lags_into(j);
     let mut latest = 0u64;
-    'preds: for (k, &i) in network.preds(j).iter().enumerate() {
+    for (k, &i) in network.preds(j).iter().enumerate() {
         let ready = finishes[i as usize - 1] + lags[k];
         latest = latest.max(ready);
     }
@@ -34,7 +34,7 @@ pub(crate) fn earliest_finishes(alloc: Global, network: &Network) -> Result<Vec<
     ensures { IfOk result (λ list. AreFinishes network.now list.items) }
 {
     let mut finishes = vec![in alloc; 0u64; network.len()]?;
-    'turns: for &j in network.order() {
+    for &j in network.order() {
         let start = last_before(network, j, &finishes);
         finishes[j as usize - 1] = start + network.duration(j);
     }
@@ -49,7 +49,7 @@ fn raise_before(network: &Network, j: u32, tail: u64, rests: &mut Vec<u64>)
     ensures { RaisesBefore network.now j tail rests.old.items rests.new.items }
 {
     let lags = network.lags_into(j);
-    'preds: for (k, &i) in network.preds(j).iter().enumerate() {
+    for (k, &i) in network.preds(j).iter().enumerate() {
         let place = i as usize - 1;
         let rest = lags[k] + tail;
         rests[place] = rests[place].max(rest);
@@ -63,7 +63,7 @@ pub fn tails(alloc: Global, network: &Network) -> Result<Vec<u64>, AllocError>
     let mut tails = vec![in alloc; 0u64; network.len()]?;
     let order = network.order();
     let mut left = order.len();
-    'back: while left > 0 {
+    while left > 0 {
         left -= 1;
         let j = order[left];
         // what follows `j` stands where its tail will

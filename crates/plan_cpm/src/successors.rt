@@ -20,7 +20,7 @@ fn unite(row: &mut Vec<bool>, other: &[bool])
     ensures alone { (k : ℕ) → slice_index_or row.new.items k false ≡ true →
         (slice_index_or row.old.items k false ≡ true) ⊎ (slice_index_or other.now k false ≡ true) }
 {
-    'marks: for (k, &more) in other.iter().enumerate() {
+    for (k, &more) in other.iter().enumerate() {
         if more {
             row[k] = true;
         }
@@ -40,7 +40,7 @@ fn reach_of(
     ensures { IfOk result (λ row. IsReach network.now j row.items) }
 {
     let mut row = vec![in alloc; false; network.len()]?;
-    'succs: for &k in network.succs(j) {
+    for &k in network.succs(j) {
         let place = k as usize - 1;
         if !row[place] {
             row[place] = true;
@@ -56,7 +56,7 @@ fn marks_set(row: &[bool]) -> u32
     ensures { IsCountOf (λ k. (1 ≤ k) × (k ≤ length row.now) × IsPlaced row.now k) result }
 {
     let mut count = 0;
-    'marks: for &mark in row {
+    for &mark in row {
         if mark {
             count += 1;
         }
@@ -69,7 +69,7 @@ fn empty_rows(alloc: Global, count: usize) -> Result<Vec<Vec<bool>>, AllocError>
     ensures { IfOk result (λ rows. length rows.items ≡ count) }
 {
     let mut rows = Vec::new(alloc);
-    'rows: for _ in 0..count {
+    for _ in 0..count {
         rows.push(Vec::new(alloc))?;
     }
     Ok(rows)
@@ -82,7 +82,7 @@ fn reaches(alloc: Global, network: &Network) -> Result<Vec<Vec<bool>>, AllocErro
     let mut rows = empty_rows(alloc, network.len())?;
     let order = network.order();
     let mut left = order.len();
-    'back: while left > 0 {
+    while left > 0 {
         left -= 1;
         let j = order[left];
         let row = reach_of(alloc, network, j, &rows)?;
@@ -97,7 +97,7 @@ pub fn total_successors(alloc: Global, network: &Network) -> Result<Vec<u32>, Al
 {
     let rows = reaches(alloc, network)?;
     let mut list = Vec::new(alloc);
-    'all: for k in 0..network.len() {
+    for k in 0..network.len() {
         list.push(marks_set(&rows[k]))?;
     }
     Ok(list)

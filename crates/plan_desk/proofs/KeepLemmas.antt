@@ -159,7 +159,9 @@ keep_key s w digest k fits = record {
   lags_differ = k.lags_differ;
   few = all_changed (λ row. length (filter (is_plan_of row.desk) w.plans) ≤ 100) (λ row. length (filter (is_plan_of row.desk) w.plans) ≤ 100) (is_desk s) (with_digest digest)
       (λ x in_ h. h) (λ x h. h) w.desks k.few;
-  owned = all_weaker (λ row h. there_changed (λ desk. row.n < desk.next) (λ desk. row.n < desk.next) (is_desk row.desk) (is_desk s) (with_digest digest) (λ x. refl) (next_stays row.n) w.desks h) w.plans k.owned;
+  owned = all_weaker (λ row h. there_changed (λ desk. row.n < desk.next) (λ desk. row.n < desk.next)
+      (is_desk row.desk) (is_desk s) (with_digest digest) (λ x. refl) (next_stays row.n) w.desks h) w.plans
+      k.owned;
   bound = k.bound;
   lagged = k.lagged;
 }

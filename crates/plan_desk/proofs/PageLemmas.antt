@@ -148,11 +148,6 @@ schedule_refused bound rule line reply Rest RestOfShop (inr (kind, (s, shop, tol
           (inl (line, told, (e, refl))),
     ))
 
--- texts can show what is made
-pub schedule_fits : (bound : BoundPlan) (rule : Text) (it : Scheduled) → IsScheduled bound rule it → ScheduleFits it
-schedule_fits bound rule (made.Project p schedule) (kind, project, done) = done.fits
-schedule_fits bound rule (made.Shop s schedule) (kind, shop, done) = done.fits
-
 -- no page is made, and the store is blamed for no plan of a sound office
 pub no_page : (IsSeen : View → Text → Type 0) (Route : View → Text → Outcome) (r : Result rows.Reply BookFault) (fault : BookFault) → IsErrAnd r (λ e. e ≡ fault)
     → (fault ≡ Store → (v : View) (n : Text) → IsSeen v n → IsWorld (alone v) → ⊥) → MakesPage IsSeen Route r

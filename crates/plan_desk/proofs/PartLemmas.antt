@@ -51,10 +51,6 @@ part_some : {A : Type 0} (P Q : A → Type 0) (Rest Other : A → Outcome) → (
 unfolding some
 part_some P Q Rest Other holds parts reply c (x, p, h) = (x, holds x p, parts x reply c h)
 
--- the same line or value, by equal words
-part_made : (status : ℕ) (text other : Text) (made : Change) → text ≡ other → IsPart (makes status text made) (makes status other made)
-part_made status text other made same reply c h = subst (λ t. makes status t made reply c) same h
-
 part_of_plan : (v u : View) (n : Text) (Rest Other : Plan → Outcome) → LooksAlike v u → ((plan : Plan) → IsPart (Rest plan) (Other plan)) → IsPart (of_plan v n Rest) (of_plan u n Other)
 unfolding of_plan
 part_of_plan v u n Rest Other alike parts = part_given _ _ _ _ _ (alike.seen n) parts
@@ -141,12 +137,16 @@ part_dates v u n alike =
 part_of_schedule : (v u : View) (plan : Plan) (rule : Text) (Rest : Planned → List ℕ → Outcome) → LooksAlike v u → IsPart (OfSchedule v plan rule Rest) (OfSchedule u plan rule Rest)
 unfolding OfSchedule
 part_of_schedule v u plan rule Rest alike =
-    part_some _ _ _ _ (λ p is. project_alike v u plan p alike is) (λ p reply c h. subst (λ i. why_or (TellsRefusal rule i) bad_schedule (IsScheduleBy i rule) (Rest i) reply c) (bound_alike v u plan p alike) h)
+    part_some _ _ _ _ (λ p is. project_alike v u plan p alike is)
+        (λ p reply c h. subst (λ i. why_or (TellsRefusal rule i) bad_schedule (IsScheduleBy i rule)
+        (Rest i) reply c) (bound_alike v u plan p alike) h)
 
 part_of_shop_schedule : (v u : View) (plan : Plan) (rule : Text) (Rest : JobShop → List ℕ → Outcome) → LooksAlike v u → IsPart (OfShopSchedule v plan rule Rest) (OfShopSchedule u plan rule Rest)
 unfolding OfShopSchedule
 part_of_shop_schedule v u plan rule Rest alike =
-    part_some _ _ _ _ (λ s is. is) (λ s reply c h. subst (λ usable. why_or (TellsShopRefusal rule s usable) bad_schedule (IsShopScheduleBy s usable rule) (Rest s) reply c) (open_alike v u plan.n s.machines alike) h)
+    part_some _ _ _ _ (λ s is. is) (λ s reply c h. subst
+        (λ usable. why_or (TellsShopRefusal rule s usable) bad_schedule (IsShopScheduleBy s usable rule)
+        (Rest s) reply c) (open_alike v u plan.n s.machines alike) h)
 
 part_schedules : (v u : View) (n rule : Text) → LooksAlike v u → IsPart (Schedules v n rule) (Schedules u n rule)
 unfolding Schedules

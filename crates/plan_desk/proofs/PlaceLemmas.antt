@@ -39,10 +39,6 @@ capacities_in-step places available k x made inside is =
     ∙ ap (λ y. y ∷ capacities_in places (k + 1 + 1) (drop (suc k) available)) is
     ∙ sym (ap (capacities_in places (k + 1)) (drop-cons available k 0 inside)))
 
--- one more machine is looked at
-pub machines_in-step : (places : List BoundPlace) (n : ℕ) → machines_in places (n + 1) ≡ machines_in places n ++ is_open_at (capacity_at places n) ∷ []
-machines_in-step places n = rw add-one
-
 -- a capacity is made for each resource
 pub length-capacities_in : (places : List BoundPlace) (k : ℕ) (available : List ℕ) → length (capacities_in places k available) ≡ length available
 length-capacities_in places k [] = refl

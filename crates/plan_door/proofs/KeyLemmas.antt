@@ -92,7 +92,8 @@ at_end old mid new line short first then end = record {
 }
 
 -- a front that ends with a line feed
-pub with_feed : (old mid new : Option (List ℕ)) (line : List ℕ) (byte : ℕ) → length line < longest_line → Consumes old mid line → Consumes mid new (byte ∷ []) → byte ≡ 10 → IsFront old new (line ++ byte ∷ [])
+pub with_feed : (old mid new : Option (List ℕ)) (line : List ℕ) (byte : ℕ) → length line < longest_line →
+    Consumes old mid line → Consumes mid new (byte ∷ []) → byte ≡ 10 → IsFront old new (line ++ byte ∷ [])
 with_feed old mid new line byte short first then is = record {
   short = let n = length-append line (byte ∷ []) in omega (arith, n, short);
   consumed = Consumes-trans old mid new line (byte ∷ []) first then;

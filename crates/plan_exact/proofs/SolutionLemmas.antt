@@ -65,7 +65,9 @@ found_in_words t initial budget k = by_budget (cases_Bool (nat_le (length (visit
 pub optimal_in_words : (t : WordTree) (initial budget : ℕ) → (outcome t initial budget).optimal ≡ true → IsFirstLeast t initial (words t) (outcome t initial budget).found
 optimal_in_words t initial budget optimal = by_budget (cases_Bool (nat_le (length (visited_words t initial)) budget))
   where
-    by_budget : (nat_le (length (visited_words t initial)) budget ≡ true) ⊎ (nat_le (length (visited_words t initial)) budget ≡ false) → IsFirstLeast t initial (words t) (outcome t initial budget).found
+    by_budget : (nat_le (length (visited_words t initial)) budget ≡ true)
+        ⊎ (nat_le (length (visited_words t initial)) budget ≡ false) →
+        IsFirstLeast t initial (words t) (outcome t initial budget).found
     by_budget (inl e) = subst (λ (o : Outcome). IsFirstLeast t initial (words t) o.found) (sym (outcome-enough t initial budget e)) (first_least t initial (words t))
     by_budget (inr e) = absurd (cc (optimal, ap (λ (o : Outcome). o.optimal) (outcome-cut t initial budget e)))
 
@@ -86,7 +88,9 @@ taken_is_full : (s : JobShop) (list : List (List ℕ)) (value : ℕ) (word : Opt
 unfolding tree_of TreeHasWords
 taken_is_full s list value None are taken = record { is_full = initial_word-full s; makespan = taken }
 taken_is_full s list value (Some w) are taken =
-    let there : Contains list w = subst (λ (us : List (List ℕ)). Contains us w) (sym taken.split) (Contains-append_right taken.before (w ∷ taken.after) w (Contains-get_or (w ∷ taken.after) 0 w (omega arith))) in
+    let there : Contains list w = subst (λ (us : List (List ℕ)). Contains us w) (sym taken.split)
+        (Contains-append_right taken.before (w ∷ taken.after) w
+        (Contains-get_or (w ∷ taken.after) 0 w (omega arith))) in
     let is : IsFullWord s w = record { is_word = (tree_has_words s w).0 (All-contains (IsWord (tree_of s)) list w are there); full = taken.full } in
     record { is_full = is; makespan = taken.is }
 

@@ -31,7 +31,9 @@ after_words_found : (t : WordTree) (s : Standing) (ws : List (List ℕ)) → ((a
 after_words_found t s [] = inr refl
 after_words_found t s (w ∷ ws) = by_left (cases_lt 0 s.left) (after_words_found t (after_word t s w) ws)
   where
-    by_left : (0 < s.left) ⊎ (s.left ≤ 0) → ((after_words t (after_word t s w) ws).left ≡ 0) ⊎ ((after_words t (after_word t s w) ws).found ≡ best t (after_word t s w).found ws) → ((after_words t s (w ∷ ws)).left ≡ 0) ⊎ ((after_words t s (w ∷ ws)).found ≡ best t s.found (w ∷ ws))
+    by_left : (0 < s.left) ⊎ (s.left ≤ 0) → ((after_words t (after_word t s w) ws).left ≡ 0)
+        ⊎ ((after_words t (after_word t s w) ws).found ≡ best t (after_word t s w).found ws) →
+        ((after_words t s (w ∷ ws)).left ≡ 0) ⊎ ((after_words t s (w ∷ ws)).found ≡ best t s.found (w ∷ ws))
     by_left (inl l) (inl e) = inl e
     by_left (inl l) (inr e) = inr (e ∙ ap (λ p. best t p.found ws) (after_word_more t s w l))
     by_left (inr l) e = inl (ap (λ (p : Standing). p.left) (after_words_stuck t s w ws (omega (arith, l))))
@@ -67,7 +69,10 @@ explored_by t n u (a ∷ letters) s f go h =
     from_same (inl e) = visit_stuck t n child s.found s e ∙ sym (visit_stuck t n child f s e)
     from_same (inr e) = ap (λ g. after_words t s (visit t n child g)) e
 
-    next : (s.left ≡ 0) ⊎ (s.found ≡ f) → ((after_words t s (visit t n child f)).left ≡ 0) ⊎ ((after_words t s (visit t n child f)).found ≡ best t s.found (visit t n child f)) → ((after_words t s (visit t n child f)).left ≡ 0) ⊎ ((after_words t s (visit t n child f)).found ≡ best t f (visit t n child f))
+    next : (s.left ≡ 0) ⊎ (s.found ≡ f) → ((after_words t s (visit t n child f)).left ≡ 0)
+        ⊎ ((after_words t s (visit t n child f)).found ≡ best t s.found (visit t n child f)) →
+        ((after_words t s (visit t n child f)).left ≡ 0)
+        ⊎ ((after_words t s (visit t n child f)).found ≡ best t f (visit t n child f))
     next (inl e) r = inl (ap (λ (p : Standing). p.left) (visit_stuck t n child f s e))
     next (inr e) (inl r) = inl r
     next (inr e) (inr r) = inr (r ∙ ap (λ g. best t g (visit t n child f)) e)
@@ -83,16 +88,23 @@ explored_is t (suc n) u s = by_left (cases_eq s.left 0) (explored_by t n u (t.le
     made : List (List ℕ)
     made = visit_by t (visit t n) u (better t s.found u) (t.letters u)
 
-    by_bound : 0 < s.left → (nat_le s.found.value (t.bound u) ≡ true) ⊎ (nat_le s.found.value (t.bound u) ≡ false) → letters_done ≡ after_words t (after_word t s u) made → explored t (suc n) u s ≡ after_words t s (visit t (suc n) u s.found)
+    by_bound : 0 < s.left → (nat_le s.found.value (t.bound u) ≡ true)
+        ⊎ (nat_le s.found.value (t.bound u) ≡ false) → letters_done ≡ after_words t (after_word t s u) made →
+        explored t (suc n) u s ≡ after_words t s (visit t (suc n) u s.found)
     by_bound l (inl high) e =
         cond-true (nat_eq s.left 0 || nat_le s.found.value (t.bound u)) (after_word t s u) letters_done (or_right (nat_eq s.left 0) (nat_le s.found.value (t.bound u)) high)
         ∙ sym (ap (λ ws. after_words t s (u ∷ ws)) (cond-true (nat_le s.found.value (t.bound u)) [] made high))
     by_bound l (inr under) e =
-        cond-false (nat_eq s.left 0 || nat_le s.found.value (t.bound u)) (after_word t s u) letters_done (or_from (nat_eq s.left 0) (nat_le s.found.value (t.bound u)) (ne_eqb s.left 0 (λ q. omega (arith, q, l))) under)
+        cond-false (nat_eq s.left 0 || nat_le s.found.value (t.bound u)) (after_word t s u) letters_done
+            (or_from (nat_eq s.left 0) (nat_le s.found.value (t.bound u))
+            (ne_eqb s.left 0 (λ q. omega (arith, q, l))) under)
         ∙ e
         ∙ sym (ap (λ ws. after_words t s (u ∷ ws)) (cond-false (nat_le s.found.value (t.bound u)) [] made under))
 
-    by_left : (s.left ≡ 0) ⊎ (s.left ≡ 0 → ⊥) → (((after_word t s u).left ≡ 0) ⊎ ((after_word t s u).found ≡ better t s.found u) → letters_done ≡ after_words t (after_word t s u) made) → explored t (suc n) u s ≡ after_words t s (visit t (suc n) u s.found)
+    by_left : (s.left ≡ 0) ⊎ (s.left ≡ 0 → ⊥) → (((after_word t s u).left ≡ 0)
+        ⊎ ((after_word t s u).found ≡ better t s.found u) →
+        letters_done ≡ after_words t (after_word t s u) made) →
+        explored t (suc n) u s ≡ after_words t s (visit t (suc n) u s.found)
     by_left (inl e) go =
         cond-true (nat_eq s.left 0 || nat_le s.found.value (t.bound u)) (after_word t s u) letters_done (or_left (nat_eq s.left 0) (nat_le s.found.value (t.bound u)) (eq-eqb s.left 0 e))
         ∙ after_word_stuck t s u e
@@ -139,7 +151,9 @@ outcome_is t initial budget k =
     part : Outcome
     part = record { optimal = false; found = best t f (take budget (visited_words t initial)) }
 
-    by_budget : (budget < length (visited_words t initial)) ⊎ (length (visited_words t initial) ≤ budget) → outcome_so_far (after_words t s (visited_words t initial)) ≡ cond (nat_le (length (visited_words t initial)) budget) whole part
+    by_budget : (budget < length (visited_words t initial)) ⊎ (length (visited_words t initial) ≤ budget) →
+        outcome_so_far (after_words t s (visited_words t initial)) ≡ cond
+        (nat_le (length (visited_words t initial)) budget) whole part
     by_budget (inl few) =
         ap outcome_so_far (process_some t s (visited_words t initial) budget refl few)
         ∙ sym (cond-false (nat_le (length (visited_words t initial)) budget) whole part (lt-leb (length (visited_words t initial)) budget few))

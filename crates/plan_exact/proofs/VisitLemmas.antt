@@ -70,7 +70,9 @@ best_visit t bounded (suc n) u f w = by_bound (cases_Bool (nat_le f.value (t.bou
     open_words : List (List ℕ)
     open_words = visit_by t (visit t n) u (better t f u) (t.letters u)
 
-    by_bound : (nat_le f.value (t.bound u) ≡ true) ⊎ (nat_le f.value (t.bound u) ≡ false) → best t (better t f u) open_words ≡ best t (better t f u) (words_by t n u (t.letters u)) → best t f (visit t (suc n) u f) ≡ best t f (words_from t (suc n) u)
+    by_bound : (nat_le f.value (t.bound u) ≡ true) ⊎ (nat_le f.value (t.bound u) ≡ false) →
+        best t (better t f u) open_words ≡ best t (better t f u) (words_by t n u (t.letters u)) →
+        best t f (visit t (suc n) u f) ≡ best t f (words_from t (suc n) u)
     by_bound (inl closed) e =
         let high : f.value ≤ t.bound u = leb-true f.value (t.bound u) closed in
         let b : AllByRecursion (IsBelow t u) (words_from t (suc n) u) = members t (suc n) u w in
@@ -116,7 +118,9 @@ abbrev Stands : WordTree → List (List ℕ) → List (List ℕ) → List (List 
 Stands t pre ws post = words t ≡ pre ++ ws ++ post
 
 -- the least before a word is the best of the words that stand before it
-least_is : (t : WordTree) (initial : ℕ) → LettersRise t → (pre : List (List ℕ)) (u : List ℕ) (post : List (List ℕ)) → words t ≡ pre ++ u ∷ post → least t initial u ≡ (best t (initial_found initial) pre).value
+least_is : (t : WordTree) (initial : ℕ) → LettersRise t →
+    (pre : List (List ℕ)) (u : List ℕ) (post : List (List ℕ)) → words t ≡ pre ++ u ∷ post →
+    least t initial u ≡ (best t (initial_found initial) pre).value
 unfolding least words
 least_is t initial rise pre u post e =
     let o : Ordered (pre ++ u ∷ post) = subst Ordered e (in_order t rise t.depth [] tt) in
@@ -126,7 +130,10 @@ least_is t initial rise pre u post e =
 -- by letters: what is visited of the words that stand there is what the search makes
 visited_by : (t : WordTree) (initial : ℕ) → BoundHolds t → (n : ℕ) (u letters : List ℕ) (pre post : List (List ℕ)) → IsWord t u → Follow t u letters
     → words t ≡ pre ++ (words_by t n u letters ++ post)
-    → ((a : ℕ) (front back : List (List ℕ)) → Contains (t.letters u) a → words t ≡ front ++ (words_from t n (u ++ a ∷ []) ++ back) → filter (is_visited t initial) (words_from t n (u ++ a ∷ [])) ≡ visit t n (u ++ a ∷ []) (best t (initial_found initial) front))
+    → ((a : ℕ) (front back : List (List ℕ)) → Contains (t.letters u) a →
+        words t ≡ front ++ (words_from t n (u ++ a ∷ []) ++ back) →
+        filter (is_visited t initial) (words_from t n (u ++ a ∷ [])) ≡ visit t n (u ++ a ∷ [])
+        (best t (initial_found initial) front))
     → filter (is_visited t initial) (words_by t n u letters) ≡ visit_by t (visit t n) u (best t (initial_found initial) pre) letters
 visited_by t initial bounded n u [] pre post w follow e go = refl
 visited_by t initial bounded n u (a ∷ letters) pre post w follow e go =
@@ -135,8 +142,13 @@ visited_by t initial bounded n u (a ∷ letters) pre post w follow e go =
     let f : Found = best t (initial_found initial) pre in
     let split : words t ≡ pre ++ (mine ++ (rest ++ post)) = e ∙ ap (λ ws. pre ++ ws) (append_assoc mine rest post) in
     let first : filter (is_visited t initial) mine ≡ visit t n (u ++ a ∷ []) f = go a pre (rest ++ post) follow.0 split in
-    let later : filter (is_visited t initial) rest ≡ visit_by t (visit t n) u (best t (initial_found initial) (pre ++ mine)) letters = visited_by t initial bounded n u letters (pre ++ mine) post w follow.1 (split ∙ sym (append_assoc pre mine (rest ++ post))) go in
-    let same : best t (initial_found initial) (pre ++ mine) ≡ best t f (visit t n (u ++ a ∷ []) f) = fold-append (better t) (initial_found initial) pre mine ∙ sym (best_visit t bounded n (u ++ a ∷ []) f (word_push t u a w follow.0)) in
+    let later : filter (is_visited t initial) rest ≡ visit_by t (visit t n) u
+        (best t (initial_found initial) (pre ++ mine)) letters =
+        visited_by t initial bounded n u letters (pre ++ mine) post w follow.1
+        (split ∙ sym (append_assoc pre mine (rest ++ post))) go in
+    let same : best t (initial_found initial) (pre ++ mine) ≡ best t f (visit t n (u ++ a ∷ []) f) =
+        fold-append (better t) (initial_found initial) pre mine
+        ∙ sym (best_visit t bounded n (u ++ a ∷ []) f (word_push t u a w follow.0)) in
     filter-append (is_visited t initial) mine rest
     ∙ ap (λ ws. ws ++ filter (is_visited t initial) rest) first
     ∙ ap (λ ws. visit t n (u ++ a ∷ []) f ++ ws) (later ∙ ap (λ g. visit_by t (visit t n) u g letters) same)
@@ -156,7 +168,9 @@ by_bound t initial n u f w low opened = by_test (cases_Bool (nat_le f.value (t.b
         let h : f.value ≤ t.bound u = leb-true f.value (t.bound u) high in
         let closed : is_open t initial u ≡ false = le-ltb (t.bound u) (least t initial u) (omega (arith, h, low)) in
         filter_none (is_visited t initial) (words_by t n u (t.letters u))
-        (each_weaker (IsProperlyBelow t u) (λ x. is_visited t initial x ≡ false) (λ x b. closed_below t initial u x closed b) (words_by t n u (t.letters u)) (proper_members t n u (t.letters u) w (all_follow t u)))
+        (each_weaker (IsProperlyBelow t u) (λ x. is_visited t initial x ≡ false)
+            (λ x b. closed_below t initial u x closed b) (words_by t n u (t.letters u))
+            (proper_members t n u (t.letters u) w (all_follow t u)))
         ∙ sym (cond-true (nat_le f.value (t.bound u)) [] made high)
     by_test (inr under) =
         let h : t.bound u < f.value = leb-false f.value (t.bound u) under in

@@ -51,7 +51,9 @@ found_any test (v ∷ vs) zero d inside e = ap (λ b. b || list_any test vs) e
 found_any test (v ∷ vs) (suc i) d inside e = ap (λ b. test v || b) (found_any test vs i d (omega (arith, inside)) e) ∙ or_true (test v)
 
 -- behind the cells so far stands the next one
-pub next_cell : (before : List ℕ) (cell : ℕ → List ℕ) (k : ℕ) (old next new : List ℕ) → old ≡ before ++ lines_from cell 0 k → next ≡ cell k → new ≡ old ++ next → new ≡ before ++ lines_from cell 0 (k + 1)
+pub next_cell : (before : List ℕ) (cell : ℕ → List ℕ) (k : ℕ) (old next new : List ℕ) →
+    old ≡ before ++ lines_from cell 0 k → next ≡ cell k → new ≡ old ++ next →
+    new ≡ before ++ lines_from cell 0 (k + 1)
 next_cell before cell k old next new so_far is step =
     let place : k ≡ 0 + k = omega arith in
     step ∙ ap (λ bytes. old ++ bytes) is ∙ ap (λ bytes. bytes ++ cell k) so_far

@@ -17,22 +17,12 @@ unequal : (a b : ℕ) → (a ≡ b → ⊥) → nat_eq a b ≡ false
 unequal a b n = grind (arith, nat_tests)
 
 -- one place more
-next_place : (s : JobShop) (starts : List ℕ) (m n : ℕ) → first_intervals s starts m (n + 1) ≡ first_intervals s starts m n ++ map (step_interval s starts) (cond (nat_eq (machine_of s n) m) (n ∷ []) [])
+next_place : (s : JobShop) (starts : List ℕ) (m n : ℕ) →
+    first_intervals s starts m (n + 1) ≡ first_intervals s starts m n
+    ++ map (step_interval s starts) (cond (nat_eq (machine_of s n) m) (n ∷ []) [])
 next_place s starts m n =
     let place : n + 1 ≡ suc n = omega arith in
     ap (first_intervals s starts m) place ∙ map-append (step_interval s starts) (those_below n (λ x. nat_eq (machine_of s x) m)) (cond (nat_eq (machine_of s n) m) (n ∷ []) [])
-
-pub intervals_more : (s : JobShop) (starts : List ℕ) (m n : ℕ) → machine_of s n ≡ m → first_intervals s starts m (n + 1) ≡ first_intervals s starts m n ++ step_interval s starts n ∷ []
-intervals_more s starts m n is =
-    let f = step_interval s starts in
-    let test : nat_eq (machine_of s n) m ≡ true = equal (machine_of s n) m is in
-    next_place s starts m n ∙ ap (λ b. first_intervals s starts m n ++ map f (cond b (n ∷ []) [])) test
-
-pub intervals_same : (s : JobShop) (starts : List ℕ) (m n : ℕ) → (machine_of s n ≡ m → ⊥) → first_intervals s starts m (n + 1) ≡ first_intervals s starts m n
-intervals_same s starts m n isnt =
-    let f = step_interval s starts in
-    let test : nat_eq (machine_of s n) m ≡ false = unequal (machine_of s n) m isnt in
-    next_place s starts m n ∙ ap (λ b. first_intervals s starts m n ++ map f (cond b (n ∷ []) [])) test ∙ append-nil (first_intervals s starts m n)
 
 -- those of all steps
 pub all_intervals : (s : JobShop) (starts : List ℕ) (m n : ℕ) (items : List Interval) → items ≡ first_intervals s starts m n → n ≡ count_steps s → items ≡ machine_intervals s starts m

@@ -57,7 +57,7 @@ fn push_cells(text: &mut String, makespan: u64, intervals: &[Interval]) -> Resul
         (spec.chart_unit makespan) intervals.now (spec.chart_cells makespan)) }
 {
     let unit = chart_unit(makespan);
-    'cells: for cell in 0..chart_cells(makespan) {
+    for cell in 0..chart_cells(makespan) {
         text.push_str(cell_text(unit, intervals, cell))?;
     }
     Ok(())
@@ -142,7 +142,7 @@ pub fn chart(
 {
     let mut text = String::new(alloc);
     push_unit(&mut text, makespan)?;
-    'all: for k in 0..network.len() {
+    for k in 0..network.len() {
         push_activity(&mut text, network, starts, makespan, k as u32 + 1)?;
     }
     Ok(text)

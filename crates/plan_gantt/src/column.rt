@@ -27,7 +27,7 @@ pub fn push_numbers(text: &mut String, numbers: &[u64]) -> Result<(), AllocError
     ensures { OnOk result
         (string_bytes text.new ≡ string_bytes text.old ++ number_columns numbers.now) }
 {
-    'all: for &n in numbers {
+    for &n in numbers {
         push_number(text, n)?;
     }
     Ok(())

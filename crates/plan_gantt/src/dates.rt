@@ -58,7 +58,7 @@ pub fn date_table(alloc: Global, network: &Network, dates: &Dates) -> Result<Str
 {
     let mut text = String::new(alloc);
     text.push_str(" act       d      ES      EF      LS      LF      TF      FF\n")?;
-    'all: for k in 0..network.len() {
+    for k in 0..network.len() {
         push_line(&mut text, network, dates, k as u32 + 1)?;
     }
     let duration = dates.duration();

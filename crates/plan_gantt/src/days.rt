@@ -124,7 +124,7 @@ pub fn calendar_table(
 {
     let mut text = String::new(alloc);
     text.push_str(" act       first        last\n")?;
-    'all: for k in 0..network.len() {
+    for k in 0..network.len() {
         push_line(&mut text, network, starts, calendar, k as u32 + 1)?;
     }
     Ok(text)

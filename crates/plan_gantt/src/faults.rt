@@ -43,7 +43,7 @@ fn push_spaced(text: &mut String, numbers: &[u32]) -> Result<(), AllocError>
     ensures { OnOk result
         (string_bytes text.new ≡ string_bytes text.old ++ spaced_numbers numbers.now) }
 {
-    'all: for n in numbers {
+    for n in numbers {
         write!(text, " {n}")?;
     }
     Ok(())

@@ -46,7 +46,7 @@ pub(crate) fn push_schedule_table(
         string_bytes text.old ++ schedule_table_text network.now starts.now makespan) }
 {
     text.push_str(" act       d   start     end\n")?;
-    'all: for k in 0..network.len() {
+    for k in 0..network.len() {
         push_line(text, network, starts, k as u32 + 1)?;
     }
     push_makespan(text, makespan)

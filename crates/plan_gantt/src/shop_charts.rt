@@ -51,7 +51,7 @@ fn machine_intervals(
         (λ v. v.start + v.duration ≤ latest_end) intervals.items) }
 {
     let mut intervals = Vec::new(alloc);
-    'all: for x in 0..step_count(shop) {
+    for x in 0..step_count(shop) {
         if machine_at(shop, x) == machine {
             intervals.push(step_interval(shop, starts, x))?;
         }
@@ -75,7 +75,7 @@ pub fn shop_chart(
 {
     let mut text = String::new(alloc);
     push_unit(&mut text, makespan)?;
-    'all: for machine in 0..shop.machines() {
+    for machine in 0..shop.machines() {
         let intervals = machine_intervals(alloc, shop, starts, machine)?;
         push_line(&mut text, makespan, machine, &intervals)?;
     }

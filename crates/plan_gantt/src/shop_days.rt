@@ -64,7 +64,7 @@ pub fn shop_calendar_table(
 {
     let mut text = String::new(alloc);
     text.push_str(" job    step       first        last\n")?;
-    'all: for x in 0..step_count(shop) {
+    for x in 0..step_count(shop) {
         push_line(&mut text, shop, starts, calendar, x)?;
     }
     Ok(text)

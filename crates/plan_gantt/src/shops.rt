@@ -52,7 +52,7 @@ pub(crate) fn push_shop_table(
         string_bytes text.old ++ shop_table_text shop.now starts.now makespan) }
 {
     text.push_str(" job    step    mach       d   start     end\n")?;
-    'all: for x in 0..step_count(shop) {
+    for x in 0..step_count(shop) {
         push_line(text, shop, starts, x)?;
     }
     push_makespan(text, makespan)

@@ -27,7 +27,8 @@ run_more : (w : World) (r : Request) (reply : Reply) (after : World) (requests :
 unfolding IsRun IsRealStep
 run_more w r reply after requests replies worlds step rest = (step, rest)
 
-told_of : DesksAreApart → (desk : Text) (w : World) (requests : List Request) (replies : List Reply) (worlds : List World) → IsRun w requests replies worlds → AreTold desk (view desk w) requests replies
+told_of : DesksAreApart → (desk : Text) (w : World) (requests : List Request) (replies : List Reply)
+    (worlds : List World) → IsRun w requests replies worlds → AreTold desk (view desk w) requests replies
 unfolding DesksAreApart
 told_of apart desk w requests replies worlds run = apart desk w requests replies worlds run
 

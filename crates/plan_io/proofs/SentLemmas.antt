@@ -6,7 +6,9 @@ use Rattle.std.proofs.KnownBytes.{Appends-trans}
 use Rattle.std.specs.Io.KnownBytes.{Appends}
 
 -- behind the first bytes the next ones are taken, in the order in which they stand
-pub appends_next : (before between after : Option (List ℕ)) (bytes : List ℕ) (sent n : ℕ) → Appends before between (take sent bytes) → Appends between after (take n (take (length bytes - sent) (drop sent bytes))) → Appends before after (take (sent + n) bytes)
+pub appends_next : (before between after : Option (List ℕ)) (bytes : List ℕ) (sent n : ℕ) →
+    Appends before between (take sent bytes) → Appends between after
+    (take n (take (length bytes - sent) (drop sent bytes))) → Appends before after (take (sent + n) bytes)
 appends_next before between after bytes sent n front next =
     let First : List ℕ → Type 0 = λ taken. Appends before after taken in
     let Next : List ℕ → Type 0 = λ rest. Appends between after (take n rest) in

@@ -13,7 +13,9 @@ abbrev pub bare : Val
 bare = vstruct vnil
 
 -- what it owns is nothing, and can be added anywhere
-pub owns_bare : {M : Type 1} {𝓤 : Ura M} {𝓛 : Logic 𝓤} {K : Type 0} {Γ : List (Item 𝓤)} {G : Goal 𝓤 𝓛.H} → K → Step K 𝓛 (‵ ((Struct (record { name = []; args = []; types = []; fields = [] })).own_val tt (bare ∷ [])) ∷ Γ) G Γ G
+pub owns_bare : {M : Type 1} {𝓤 : Ura M} {𝓛 : Logic 𝓤} {K : Type 0} {Γ : List (Item 𝓤)} {G : Goal 𝓤 𝓛.H} → K →
+    Step K 𝓛 (‵ ((Struct (record { name = []; args = []; types = []; fields = [] })).own_val tt (bare ∷ []))
+    ∷ Γ) G Γ G
 owns_bare mark = step (λ rest.
     nothing mark $ feq_i mark (List Val) (bare ∷ []) (bare ∷ []) refl $
     fjoin mark $ fpack mark (Valss []) (within (record { name = []; args = []; types = []; fields = [] }) tt (bare ∷ [])) tt $ rest)

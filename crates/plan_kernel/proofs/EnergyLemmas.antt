@@ -34,7 +34,9 @@ window_need p starts k from until m some lasts room late early = elim (cases_lt 
         arith,
         after,
         early,
-        block_total start m.time (need p m.activity k) f (λ x low. amount_during p (from + (start + x)) k m.activity (get_or starts m.activity 0) (omega (arith, after)) (omega (arith, low, lasts, after))),
+        block_total start m.time (need p m.activity k) f
+            (λ x low. amount_during p (from + (start + x)) k m.activity (get_or starts m.activity 0)
+            (omega (arith, after)) (omega (arith, low, lasts, after))),
         total_longer (start + m.time) (until - from) f (omega (arith, after, early)),
       )
   | inr before ↦

@@ -32,7 +32,9 @@ once_in net order least p q before within same =
     (least p within).0.1 (stands_in (take p order) (get_or order p 0) q inside (get_or-take p order q 0 before ∙ same))
 
 -- along a walk the places in the order rise
-walk_later : (net : Net) (order : List ℕ) → Comes_least net order → (i : ℕ) (others : List ℕ) (p : ℕ) → IsWalk net i others → p < length order → get_or order p 0 ≡ last_of i others → (q : ℕ) × (q + length others ≤ p) × (get_or order q 0 ≡ i)
+walk_later : (net : Net) (order : List ℕ) → Comes_least net order → (i : ℕ) (others : List ℕ) (p : ℕ) →
+    IsWalk net i others → p < length order → get_or order p 0 ≡ last_of i others →
+    (q : ℕ) × (q + length others ≤ p) × (get_or order q 0 ≡ i)
 walk_later net order least i [] p walk within is = (p, omega arith, is)
 walk_later net order least i (j ∷ others) p (arc, walk) within is =
     let there = walk_later net order least j others p walk within is in

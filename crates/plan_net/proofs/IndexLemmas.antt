@@ -32,7 +32,9 @@ pub record IsPlaceOf (a : Inside) (i j row place : ℕ) : Type 0 where
   pub stands : get_or (row_at a.preds.items row) place 0 ≡ i
 
 -- what a search in the rows of the predecessors finds
-pub placed_in : (a : Inside) (rows : List (Vec ℕ Global)) (i j row place : ℕ) → rows ≡ a.preds.items → (row + 1 ≡ j) × (row < length rows) × (place < length (row_at rows row)) × (get_or (row_at rows row) place 0 ≡ i) → IsPlaceOf a i j row place
+pub placed_in : (a : Inside) (rows : List (Vec ℕ Global)) (i j row place : ℕ) → rows ≡ a.preds.items →
+    (row + 1 ≡ j) × (row < length rows) × (place < length (row_at rows row))
+    × (get_or (row_at rows row) place 0 ≡ i) → IsPlaceOf a i j row place
 placed_in a rows i j row place same found =
     let here = subst (λ (rs : List (Vec ℕ Global)). (row + 1 ≡ j) × (row < length rs) × (place < length (row_at rs row)) × (get_or (row_at rs row) place 0 ≡ i)) same found in
     record { of_end = here.0; row_within = here.1; within = here.2; stands = here.3 }
@@ -71,13 +73,18 @@ lag_at a net i j row place ok same at = subst (λ (n : Net). get_or (row_at a.la
   here =
       let inside : row < count_of (net_of a) = omega (arith, ok.preds_count, at.row_within) in
       let back : j - 1 ≡ row = omega (arith, at.of_end) in
-      let first : (m : ℕ) → m < place → get_or (row_at a.preds.items row) m 0 ≢ i = λ m lower is. let up : get_or (row_at a.preds.items row) m 0 < get_or (row_at a.preds.items row) place 0 = rising_later (row_at a.preds.items row) (ok.preds row inside).rising m place lower at.within in absurd (omega (arith, up, is, at.stands)) in
+      let first : (m : ℕ) → m < place → get_or (row_at a.preds.items row) m 0 ≢ i = λ m lower is.
+          let up : get_or (row_at a.preds.items row) m 0 < get_or (row_at a.preds.items row) place 0 =
+          rising_later (row_at a.preds.items row) (ok.preds row inside).rising m place lower at.within in
+          absurd (omega (arith, up, is, at.stands)) in
       sym (lag_beside-map (lag_in a.preds.items a.lags.items) a.arcs.items i j (arc_placed a i j row place ok at)
       ∙ ap (λ (k : ℕ). beside (row_at a.preds.items k) (row_at a.lags.items k) i) back
       ∙ beside-at (row_at a.preds.items row) (row_at a.lags.items row) place i at.within at.stands first)
 
 -- in the row of lags of j stand those of the arcs to j
-row_of_lags : (a : Inside) (net : Net) (row j : ℕ) → IsIndexed a → net_of a ≡ net → row + 1 ≡ j → row < length a.preds.items → row_at a.lags.items row ≡ map (λ i. lag_of net i j) (row_at a.preds.items row)
+row_of_lags : (a : Inside) (net : Net) (row j : ℕ) → IsIndexed a → net_of a ≡ net → row + 1 ≡ j →
+    row < length a.preds.items → row_at a.lags.items row ≡ map (λ i. lag_of net i j)
+    (row_at a.preds.items row)
 row_of_lags a net row j ok same of_end within =
     same_entries (row_at a.lags.items row) (map (λ i. lag_of net i j) (row_at a.preds.items row)) (long ∙ sym (length-map (row_at a.preds.items row) (λ i. lag_of net i j))) each where
       long : length (row_at a.lags.items row) ≡ length (row_at a.preds.items row)
@@ -90,14 +97,18 @@ row_of_lags a net row j ok same of_end within =
           ∙ sym (get_or-map (λ i. lag_of net i j) (row_at a.preds.items row) k 0 0 inside)
 
 -- which an index reads
-lags_read : (a : Inside) (net : Net) (j : ℕ) (lags : Vec ℕ Global) → IsIndexed a → net_of a ≡ net → IsActivity net j → lags ≡ get_or a.lags.items (j - 1) lags → lags.items ≡ map (λ i. lag_of net i j) (row_at a.preds.items (j - 1))
+lags_read : (a : Inside) (net : Net) (j : ℕ) (lags : Vec ℕ Global) → IsIndexed a → net_of a ≡ net →
+    IsActivity net j → lags ≡ get_or a.lags.items (j - 1) lags →
+    lags.items ≡ map (λ i. lag_of net i j) (row_at a.preds.items (j - 1))
 lags_read a net j lags ok same activity is =
     let counted : count_of (net_of a) ≡ count_of net = ap count_of same in
     sym (row_at-read a.lags.items (j - 1) lags (omega (arith, ok.lags_count, counted, activity)) is)
     ∙ row_of_lags a net (j - 1) j ok same (omega (arith, activity)) (omega (arith, ok.preds_count, counted, activity))
 
 -- they stand beside each rising list of the predecessors of j
-pub lags_listed : (a : Inside) (net : Net) (j : ℕ) (lags : Vec ℕ Global) → IsIndexed a → net_of a ≡ net → IsActivity net j → lags ≡ get_or a.lags.items (j - 1) lags → (row : List ℕ) → ListsRising (λ i. IsArc net i j) row → lags.items ≡ map (λ i. lag_of net i j) row
+pub lags_listed : (a : Inside) (net : Net) (j : ℕ) (lags : Vec ℕ Global) → IsIndexed a → net_of a ≡ net →
+    IsActivity net j → lags ≡ get_or a.lags.items (j - 1) lags → (row : List ℕ) →
+    ListsRising (λ i. IsArc net i j) row → lags.items ≡ map (λ i. lag_of net i j) row
 lags_listed a net j lags ok same activity is row listed =
     lags_read a net j lags ok same activity is ∙ ap (map (λ i. lag_of net i j)) (rising_once (λ i. IsArc net i j) (row_at a.preds.items (j - 1)) row preds listed) where
       preds : ListsRising (λ i. IsArc net i j) (row_at a.preds.items (j - 1))
@@ -108,7 +119,9 @@ lags_listed a net j lags ok same activity is row listed =
           (subst (λ (k : ℕ). ListsRising (λ i. IsArc (net_of a) i k) (row_at a.preds.items (j - 1))) back (ok.preds (j - 1) (omega (arith, counted, activity))))
 
 -- and none of them is above the limit
-pub lags_limited : (a : Inside) (net : Net) (j : ℕ) (lags : Vec ℕ Global) → IsIndexed a → net_of a ≡ net → IsActivity net j → lags ≡ get_or a.lags.items (j - 1) lags → (k : ℕ) → k < length lags.items → get_or lags.items k 0 ≤ LONGEST_LAG
+pub lags_limited : (a : Inside) (net : Net) (j : ℕ) (lags : Vec ℕ Global) → IsIndexed a → net_of a ≡ net →
+    IsActivity net j → lags ≡ get_or a.lags.items (j - 1) lags → (k : ℕ) → k < length lags.items →
+    get_or lags.items k 0 ≤ LONGEST_LAG
 lags_limited a net j lags ok same activity is k within =
     let here : lags.items ≡ map (λ i. lag_of net i j) (row_at a.preds.items (j - 1)) = lags_read a net j lags ok same activity is in
     let long : length lags.items ≡ length (row_at a.preds.items (j - 1)) = ap length here ∙ length-map (row_at a.preds.items (j - 1)) (λ i. lag_of net i j) in
@@ -124,15 +137,21 @@ lag_within a i j row place ok at =
     (omega (arith, ok.lags_count, inside), omega (arith, ok.lags row inside, at.within))
 
 -- the network with one lag changed in the rows
-pub net_of-set_lag : (a : Inside) (i j row place w : ℕ) (before : Vec ℕ Global) → IsIndexed a → IsPlaceOf a i j row place → before ≡ get_or a.lags.items row before → net_of (record a { lags = with_item a.lags row (with_item before place w) }) ≡ with_lag (net_of a) i j w
+pub net_of-set_lag : (a : Inside) (i j row place w : ℕ) (before : Vec ℕ Global) → IsIndexed a →
+    IsPlaceOf a i j row place → before ≡ get_or a.lags.items row before →
+    net_of (record a { lags = with_item a.lags row (with_item before place w) }) ≡ with_lag (net_of a) i j w
 net_of-set_lag a i j row place w before ok at is =
     let inside : row < count_of (net_of a) = omega (arith, ok.preds_count, at.row_within) in
     let within = lag_within a i j row place ok at in
     let items : row_at a.lags.items row ≡ before.items = row_at-read a.lags.items row before within.0 is in
     let within' : place < length before.items = subst (λ (xs : List ℕ). place < length xs) items within.1 in
-    let first : (m : ℕ) → m < place → get_or (row_at a.preds.items row) m 0 ≢ i = λ m lower same. let up : get_or (row_at a.preds.items row) m 0 < get_or (row_at a.preds.items row) place 0 = rising_later (row_at a.preds.items row) (ok.preds row inside).rising m place lower at.within in absurd (omega (arith, up, same, at.stands)) in
+    let first : (m : ℕ) → m < place → get_or (row_at a.preds.items row) m 0 ≢ i = λ m lower same.
+        let up : get_or (row_at a.preds.items row) m 0 < get_or (row_at a.preds.items row) place 0 =
+        rising_later (row_at a.preds.items row) (ok.preds row inside).rising m place lower at.within in
+        absurd (omega (arith, up, same, at.stands)) in
     let ends : All (λ arc. 1 ≤ arc.1) a.arcs.items = All-weaker (IsGoodArc (net_of a)) (λ arc. 1 ≤ arc.1) (λ arc good. good.1.0) a.arcs.items ok.limits.arcs in
-    let changed : map (lag_in a.preds.items (set a.lags.items row (with_item before place w))) a.arcs.items ≡ lags_with a.arcs.items (map (lag_in a.preds.items a.lags.items) a.arcs.items) i (row + 1) w =
+    let changed : map (lag_in a.preds.items (set a.lags.items row (with_item before place w))) a.arcs.items ≡
+        lags_with a.arcs.items (map (lag_in a.preds.items a.lags.items) a.arcs.items) i (row + 1) w =
     lags-set a.preds.items a.lags.items a.arcs.items row place i w before ok.limits.new_arcs ends within.0 is at.within within' at.stands first in
     let net : List ℕ → Net = λ lags. record { durations = a.durations.items; arcs = a.arcs.items; lags = lags } in
     ap net (changed ∙ ap (λ (k : ℕ). lags_with a.arcs.items (map (lag_in a.preds.items a.lags.items) a.arcs.items) i k w) at.of_end)
@@ -148,7 +167,9 @@ IsWithinLimits-with_lag net i j w good limits = record {
 }
 
 -- a change of one lag keeps the rows in step
-pub IsIndexed-set_lag : (a : Inside) (i j row place w : ℕ) (before : Vec ℕ Global) → w ≤ LONGEST_LAG → IsIndexed a → IsPlaceOf a i j row place → before ≡ get_or a.lags.items row before → IsIndexed (record a { lags = with_item a.lags row (with_item before place w) })
+pub IsIndexed-set_lag : (a : Inside) (i j row place w : ℕ) (before : Vec ℕ Global) → w ≤ LONGEST_LAG →
+    IsIndexed a → IsPlaceOf a i j row place → before ≡ get_or a.lags.items row before →
+    IsIndexed (record a { lags = with_item a.lags row (with_item before place w) })
 IsIndexed-set_lag a i j row place w before good ok at is = record {
   limits = subst IsWithinLimits (sym (net_of-set_lag a i j row place w before ok at is)) (IsWithinLimits-with_lag (net_of a) i j w good ok.limits);
   preds_count = ok.preds_count;
@@ -175,7 +196,12 @@ net_of-unlagged a none =
     ap net (lags-none a.preds.items a.lags.items a.arcs.items none)
 
 -- rows that list the predecessors and the successors are in step with the arcs
-IsIndexed-listed : (a : Inside) → IsWithinLimits (unlagged a.durations.items a.arcs.items) → length a.preds.items ≡ count_of (net_of a) → ((k : ℕ) → ListsRising (λ i. IsArc (net_of a) i (k + 1)) (row_at a.preds.items k)) → length a.succs.items ≡ count_of (net_of a) → ((k : ℕ) → ListsRising (IsArc (net_of a) (k + 1)) (row_at a.succs.items k)) → AreNoLags a.preds.items a.lags.items → IsIndexed a
+IsIndexed-listed : (a : Inside) → IsWithinLimits (unlagged a.durations.items a.arcs.items) →
+    length a.preds.items ≡ count_of (net_of a) → ((k : ℕ) →
+    ListsRising (λ i. IsArc (net_of a) i (k + 1)) (row_at a.preds.items k)) →
+    length a.succs.items ≡ count_of (net_of a) → ((k : ℕ) →
+    ListsRising (IsArc (net_of a) (k + 1)) (row_at a.succs.items k)) → AreNoLags a.preds.items a.lags.items →
+    IsIndexed a
 IsIndexed-listed a limits preds_count preds succs_count succs none = record {
   limits = subst IsWithinLimits (sym (net_of-unlagged a none)) limits;
   preds_count = preds_count;
@@ -187,7 +213,9 @@ IsIndexed-listed a limits preds_count preds succs_count succs none = record {
 }
 
 -- the network of good durations, and of new arcs between activities, is within the limits
-IsWithinLimits-unlagged : (durations : List ℕ) (arcs : List (ℕ × ℕ)) → HasGoodSize (unlagged durations arcs) → HasGoodDurations (unlagged durations arcs) → HasGoodArcs (unlagged durations arcs) → HasNewArcs (unlagged durations arcs) → IsWithinLimits (unlagged durations arcs)
+IsWithinLimits-unlagged : (durations : List ℕ) (arcs : List (ℕ × ℕ)) → HasGoodSize (unlagged durations arcs) →
+    HasGoodDurations (unlagged durations arcs) → HasGoodArcs (unlagged durations arcs) →
+    HasNewArcs (unlagged durations arcs) → IsWithinLimits (unlagged durations arcs)
 IsWithinLimits-unlagged durations arcs size good inside new_arcs = record {
   size = size;
   durations = good;
@@ -197,9 +225,18 @@ IsWithinLimits-unlagged durations arcs size good inside new_arcs = record {
 }
 
 -- rows of the beginnings of arcs, turned once and turned twice, are in step with the arcs
-pub IsIndexed-made : (a : Inside) (rows : List (Vec ℕ Global)) → HasGoodSize (unlagged a.durations.items a.arcs.items) → HasGoodDurations (unlagged a.durations.items a.arcs.items) → HasGoodArcs (unlagged a.durations.items a.arcs.items) → HasNewArcs (unlagged a.durations.items a.arcs.items) → AreBeginnings (length a.durations.items) a.arcs.items rows → AreTurned rows (length rows) a.succs.items → AreTurned a.succs.items (length a.succs.items) a.preds.items → AreNoLags a.preds.items a.lags.items → IsIndexed a
+pub IsIndexed-made : (a : Inside) (rows : List (Vec ℕ Global)) →
+    HasGoodSize (unlagged a.durations.items a.arcs.items) →
+    HasGoodDurations (unlagged a.durations.items a.arcs.items) →
+    HasGoodArcs (unlagged a.durations.items a.arcs.items) →
+    HasNewArcs (unlagged a.durations.items a.arcs.items) →
+    AreBeginnings (length a.durations.items) a.arcs.items rows → AreTurned rows (length rows) a.succs.items →
+    AreTurned a.succs.items (length a.succs.items) a.preds.items → AreNoLags a.preds.items a.lags.items →
+    IsIndexed a
 IsIndexed-made a rows size durations arcs new_arcs beginnings succs preds none =
-    IsIndexed-listed a (IsWithinLimits-unlagged a.durations.items a.arcs.items size durations arcs new_arcs) (preds.whole ∙ whole) (preds_turned (net_of a) a.succs.items a.preds.items arcs whole listed preds) whole listed none where
+    IsIndexed-listed a (IsWithinLimits-unlagged a.durations.items a.arcs.items size durations arcs new_arcs)
+        (preds.whole ∙ whole) (preds_turned (net_of a) a.succs.items a.preds.items arcs whole listed preds)
+        whole listed none where
       whole : length a.succs.items ≡ count_of (net_of a)
       whole = succs.whole ∙ beginnings.whole
 
@@ -207,7 +244,9 @@ IsIndexed-made a rows size durations arcs new_arcs beginnings succs preds none =
       listed = succs_turned (net_of a) rows a.succs.items arcs beginnings succs
 
 -- rows of successors, turned once and turned twice, are in step with their arcs
-pub IsIndexed-rows : (a : Inside) (lists : List (Vec ℕ Global)) → HasGoodSize (unlagged a.durations.items []) → HasGoodDurations (unlagged a.durations.items []) → AreRows (length a.durations.items) (rows_in lists) → a.arcs.items ≡ arcs_of_rows 1 (rows_in lists)
+pub IsIndexed-rows : (a : Inside) (lists : List (Vec ℕ Global)) →
+    HasGoodSize (unlagged a.durations.items []) → HasGoodDurations (unlagged a.durations.items []) →
+    AreRows (length a.durations.items) (rows_in lists) → a.arcs.items ≡ arcs_of_rows 1 (rows_in lists)
     → AreTurned lists (length lists) a.preds.items → AreTurned a.preds.items (length a.preds.items) a.succs.items → AreNoLags a.preds.items a.lags.items → IsIndexed a
 IsIndexed-rows a lists size durations are same preds succs none =
     IsIndexed-listed a limits beginnings.whole listed (succs.whole ∙ beginnings.whole) (succs_turned (net_of a) a.preds.items a.succs.items limits.arcs beginnings succs) none where
@@ -218,6 +257,8 @@ IsIndexed-rows a lists size durations are same preds succs none =
       beginnings = subst (λ (arcs : List (ℕ × ℕ)). AreBeginnings (length a.durations.items) arcs a.preds.items) (sym same) (AreBeginnings-rows (length a.durations.items) lists a.preds.items are preds)
 
       listed : (k : ℕ) → ListsRising (λ i. IsArc (net_of a) i (k + 1)) (row_at a.preds.items k)
-      listed k = ListsRising-same (λ i. (1 ≤ i) × (i ≤ length lists) × Contains (row_at lists (i - 1)) (k + 1)) (λ i. IsArc (net_of a) i (k + 1)) (row_at a.preds.items k) (same_arcs k) (preds.each k) where
+      listed k = ListsRising-same (λ i. (1 ≤ i) × (i ≤ length lists)
+          × Contains (row_at lists (i - 1)) (k + 1)) (λ i. IsArc (net_of a) i (k + 1))
+          (row_at a.preds.items k) (same_arcs k) (preds.each k) where
         same_arcs : (k : ℕ) (i : ℕ) → ((1 ≤ i) × (i ≤ length lists) × Contains (row_at lists (i - 1)) (k + 1)) ↔ IsArc (net_of a) i (k + 1)
         same_arcs k i = (λ here. (beginnings.each k i).0 (((preds.each k).exact i).1 here), λ arc. ((preds.each k).exact i).0 ((beginnings.each k i).1 arc))

@@ -103,7 +103,9 @@ All-lags_with P [] (lag ∷ lags) i j w holds all = all
 All-lags_with P (arc ∷ arcs) (lag ∷ lags) i j w holds all =
     elim (cases_Bool (joins arc i j)) [
       | inl is ↦ subst (λ (t : Bool). All P (cond t (w ∷ lags) (lag ∷ lags_with arcs lags i j w))) (sym is) (All-cons P w lags holds (All-tail P lag lags all))
-      | inr isnt ↦ subst (λ (t : Bool). All P (cond t (w ∷ lags) (lag ∷ lags_with arcs lags i j w))) (sym isnt) (All-cons P lag (lags_with arcs lags i j w) (All-head P lag lags all) (All-lags_with P arcs lags i j w holds (All-tail P lag lags all)))
+      | inr isnt ↦ subst (λ (t : Bool). All P (cond t (w ∷ lags) (lag ∷ lags_with arcs lags i j w)))
+          (sym isnt) (All-cons P lag (lags_with arcs lags i j w) (All-head P lag lags all)
+          (All-lags_with P arcs lags i j w holds (All-tail P lag lags all)))
     ]
 
 -- the lag that was set
@@ -161,7 +163,9 @@ AreApart-from_new (arc ∷ arcs) new_arcs = (again, AreApart-from_new arcs (λ k
   again (k, within, is) = new_arcs (suc k) (omega arith) arc (slice_get-get_or arcs k arc within ∙ ap (λ a. Some a) is) (Contains-front arc (take k arcs))
 
 -- a function that differs at one arc alone gives the lags with that one replaced
-map-lags_with : (f g : ℕ × ℕ → ℕ) (arcs : List (ℕ × ℕ)) (i j w : ℕ) → g (i, j) ≡ w → ((arc : ℕ × ℕ) → Contains arcs arc → (arc ≡ (i, j) → ⊥) → g arc ≡ f arc) → AreApart arcs → map g arcs ≡ lags_with arcs (map f arcs) i j w
+map-lags_with : (f g : ℕ × ℕ → ℕ) (arcs : List (ℕ × ℕ)) (i j w : ℕ) → g (i, j) ≡ w →
+    ((arc : ℕ × ℕ) → Contains arcs arc → (arc ≡ (i, j) → ⊥) → g arc ≡ f arc) → AreApart arcs →
+    map g arcs ≡ lags_with arcs (map f arcs) i j w
 unfolding AreApart
 map-lags_with f g [] i j w here agree apart = refl
 map-lags_with f g (arc ∷ arcs) i j w here agree apart =
@@ -223,9 +227,17 @@ lags-none preds lags arcs none = map-zeros (lag_in preds lags) arcs (λ arc. at 
       ap (λ (values : List ℕ). beside (row_at preds (arc.1 - 1)) values arc.0) (row_at-past lags (arc.1 - 1) past) ∙ beside-zeros (row_at preds (arc.1 - 1)) 0 arc.0
 
 -- one lag in the rows is changed
-pub lags-set : (preds lags : List (Vec ℕ Global)) (arcs : List (ℕ × ℕ)) (row place i w : ℕ) (before : Vec ℕ Global) → ((k : ℕ) → k < length arcs → (arc : ℕ × ℕ) → slice_get arcs k ≡ Some arc → Contains (take k arcs) arc → ⊥) → All (λ arc. 1 ≤ arc.1) arcs → row < length lags → before ≡ get_or lags row before → place < length (row_at preds row) → place < length before.items → get_or (row_at preds row) place 0 ≡ i → ((m : ℕ) → m < place → get_or (row_at preds row) m 0 ≢ i) → map (lag_in preds (set lags row (with_item before place w))) arcs ≡ lags_with arcs (map (lag_in preds lags) arcs) i (row + 1) w
+pub lags-set : (preds lags : List (Vec ℕ Global)) (arcs : List (ℕ × ℕ)) (row place i w : ℕ)
+    (before : Vec ℕ Global) → ((k : ℕ) → k < length arcs → (arc : ℕ × ℕ) → slice_get arcs k ≡ Some arc →
+    Contains (take k arcs) arc → ⊥) → All (λ arc. 1 ≤ arc.1) arcs → row < length lags →
+    before ≡ get_or lags row before → place < length (row_at preds row) → place < length before.items →
+    get_or (row_at preds row) place 0 ≡ i → ((m : ℕ) → m < place → get_or (row_at preds row) m 0 ≢ i) →
+    map (lag_in preds (set lags row (with_item before place w))) arcs ≡ lags_with arcs
+    (map (lag_in preds lags) arcs) i (row + 1) w
 lags-set preds lags arcs row place i w before new_arcs ends within is inside inside' here first =
-    map-lags_with (lag_in preds lags) (lag_in preds (set lags row (with_item before place w))) arcs i (row + 1) w changed (λ arc has other. kept arc (ends_low arc has) other (cases_eq (arc.1 - 1) row)) (AreApart-from_new arcs new_arcs) where
+    map-lags_with (lag_in preds lags) (lag_in preds (set lags row (with_item before place w))) arcs i
+        (row + 1) w changed (λ arc has other. kept arc (ends_low arc has) other (cases_eq (arc.1 - 1) row))
+        (AreApart-from_new arcs new_arcs) where
       ends_low : (arc : ℕ × ℕ) → Contains arcs arc → 1 ≤ arc.1
       ends_low arc has = All-contains (λ (a : ℕ × ℕ). 1 ≤ a.1) arcs arc ends has
 
@@ -270,7 +282,9 @@ unfolding lag_of
 lag_of-limit net i j good = lag_beside-limit net.arcs net.lags LONGEST_LAG i j good.1
 
 -- what stands in a list of lags beside the predecessors of j
-pub lag_in_place : (net : Net) (j : ℕ) (preds lags : List ℕ) (k : ℕ) → lags ≡ map (λ i. lag_of net i j) preds → k < length preds → (k < length lags) × (get_or lags k 0 ≡ lag_of net (get_or preds k 0) j)
+pub lag_in_place : (net : Net) (j : ℕ) (preds lags : List ℕ) (k : ℕ) →
+    lags ≡ map (λ i. lag_of net i j) preds → k < length preds →
+    (k < length lags) × (get_or lags k 0 ≡ lag_of net (get_or preds k 0) j)
 lag_in_place net j preds lags k beside' within =
     let long : length lags ≡ length preds = ap length beside' ∙ length-map preds (λ i. lag_of net i j) in
     (omega (arith, long, within), ap (λ (values : List ℕ). get_or values k 0) beside' ∙ get_or-map (λ i. lag_of net i j) preds k 0 0 within)
@@ -283,11 +297,6 @@ lag_of-with_lag net i j w good arc = lag_beside-with net.arcs net.lags i j w goo
 pub lag_of-with_lag_other : (net : Net) (i j w h k : ℕ) → ((h ≡ i) × (k ≡ j) → ⊥) → lag_of (with_lag net i j w) h k ≡ lag_of net h k
 unfolding lag_of
 lag_of-with_lag_other net i j w h k other = lag_beside-with_other net.arcs net.lags i j w h k other
-
--- no lag if there is no arc
-pub lag_of-none : (net : Net) (i j : ℕ) → (IsArc net i j → ⊥) → lag_of net i j ≡ 0
-unfolding lag_of
-lag_of-none net i j misses = lag_beside-none net.arcs net.lags i j misses
 
 -- without lags each is 0
 lag_beside-zeros : (arcs : List (ℕ × ℕ)) (n i j : ℕ) → lag_beside arcs (replicate n 0) i j ≡ 0
@@ -302,10 +311,6 @@ lag_beside-zeros (arc ∷ arcs) (suc n) i j =
       | inl is ↦ ap (λ (t : Bool). cond t 0 (lag_beside arcs (replicate n 0) i j)) is
       | inr isnt ↦ ap (λ (t : Bool). cond t 0 (lag_beside arcs (replicate n 0) i j)) isnt ∙ lag_beside-zeros arcs n i j
     ]
-
-pub lag_of-unlagged : (durations : List ℕ) (arcs : List (ℕ × ℕ)) (i j : ℕ) → lag_of (unlagged durations arcs) i j ≡ 0
-unfolding lag_of
-lag_of-unlagged durations arcs i j = lag_beside-zeros arcs (length arcs) i j
 
 -- the lags of a network whose lags are what a function gives of its arcs
 lags_by : (net : Net) (f : ℕ × ℕ → ℕ) → net.lags ≡ map f net.arcs → net.lags ≡ map (λ arc. lag_of net arc.0 arc.1) net.arcs

@@ -46,7 +46,9 @@ row_at-past (r ∷ rows) zero past = absurd (omega arith)
 row_at-past (r ∷ rows) (suc k) past = row_at-past rows k (omega arith)
 
 -- what a pushed row adds to what holds of each row
-pub rows_push : {T : Type 0} (P : ℕ → List T → Type 0) (rows : List (Vec T Global)) (row : Vec T Global) → ((k : ℕ) → k < length rows → P k (row_at rows k)) → P (length rows) row.items → (k : ℕ) → k < length (rows ++ row ∷ []) → P k (row_at (rows ++ row ∷ []) k)
+pub rows_push : {T : Type 0} (P : ℕ → List T → Type 0) (rows : List (Vec T Global)) (row : Vec T Global) →
+    ((k : ℕ) → k < length rows → P k (row_at rows k)) → P (length rows) row.items → (k : ℕ) →
+    k < length (rows ++ row ∷ []) → P k (row_at (rows ++ row ∷ []) k)
 rows_push P rows row before here k within = by_case (cases_lt k (length rows)) where
   by_case : (k < length rows) ⊎ (length rows ≤ k) → P k (row_at (rows ++ row ∷ []) k)
   by_case (inl earlier) = subst (P k) (sym (row_at-push_before rows k row earlier)) (before k earlier)
@@ -68,14 +70,18 @@ HasNoMark-push marks row count is none r column = by_case (cases_lt r (length (m
   by_case (inr past) = ap (λ (items : List Bool). get_or items column false) (row_at-past (marks ++ row ∷ []) r past)
 
 -- the mark that was set
-pub mark_at-set_here : (marks : List (Vec Bool Global)) (row column : ℕ) (before : Vec Bool Global) → row < length marks → before ≡ get_or marks row before → column < length (row_at marks row) → mark_at (set marks row (with_item before column true)) row column ≡ true
+pub mark_at-set_here : (marks : List (Vec Bool Global)) (row column : ℕ) (before : Vec Bool Global) →
+    row < length marks → before ≡ get_or marks row before → column < length (row_at marks row) →
+    mark_at (set marks row (with_item before column true)) row column ≡ true
 mark_at-set_here marks row column before within is inside =
     let items : row_at marks row ≡ before.items = row_at-read marks row before within is in
     let inside' : column < length before.items = subst (λ (items : List Bool). column < length items) items inside in
     ap (λ (items : List Bool). get_or items column false) (row_at-set_same marks row (with_item before column true) within) ∙ get_or-set_same before.items column true false inside'
 
 -- the other marks
-pub mark_at-set_other : (marks : List (Vec Bool Global)) (row column : ℕ) (before : Vec Bool Global) → row < length marks → before ≡ get_or marks row before → (r k : ℕ) → (r ≢ row) ⊎ (k ≢ column) → mark_at (set marks row (with_item before column true)) r k ≡ mark_at marks r k
+pub mark_at-set_other : (marks : List (Vec Bool Global)) (row column : ℕ) (before : Vec Bool Global) →
+    row < length marks → before ≡ get_or marks row before → (r k : ℕ) → (r ≢ row) ⊎ (k ≢ column) →
+    mark_at (set marks row (with_item before column true)) r k ≡ mark_at marks r k
 mark_at-set_other marks row column before within is r k (inl other) = ap (λ (items : List Bool). get_or items k false) (row_at-set_other marks r row (with_item before column true) other)
 mark_at-set_other marks row column before within is r k (inr other) = by_case (cases_eq r row) where
   by_case : (r ≡ row) ⊎ (r ≡ row → ⊥) → mark_at (set marks row (with_item before column true)) r k ≡ mark_at marks r k
@@ -87,7 +93,9 @@ mark_at-set_other marks row column before within is r k (inr other) = by_case (c
   by_case (inr different) = ap (λ (items : List Bool). get_or items k false) (row_at-set_other marks r row (with_item before column true) different)
 
 -- a mark is set in a square
-pub IsSquare-set : (count : ℕ) (marks : List (Vec Bool Global)) (row column : ℕ) (before : Vec Bool Global) → row < length marks → before ≡ get_or marks row before → IsSquare count marks → IsSquare count (set marks row (with_item before column true))
+pub IsSquare-set : (count : ℕ) (marks : List (Vec Bool Global)) (row column : ℕ) (before : Vec Bool Global) →
+    row < length marks → before ≡ get_or marks row before → IsSquare count marks →
+    IsSquare count (set marks row (with_item before column true))
 IsSquare-set count marks row column before within is square =
     record { rows = length-set marks row (with_item before column true) ∙ square.rows; columns = λ k lower. by_case k lower (cases_eq k row) } where
       by_case : (k : ℕ) → k < count → (k ≡ row) ⊎ (k ≡ row → ⊥) → length (row_at (set marks row (with_item before column true)) k) ≡ count
@@ -100,7 +108,9 @@ IsSquare-set count marks row column before within is square =
       by_case k lower (inr other) = ap length (row_at-set_other marks k row (with_item before column true) other) ∙ square.columns k lower
 
 -- the mark that two indexes read
-pub mark_read : (marks : List (Vec Bool Global)) (row column : ℕ) (before : Vec Bool Global) (mark : Bool) → row < length marks → column < length (row_at marks row) → before ≡ get_or marks row before → mark ≡ get_or before.items column mark → mark ≡ mark_at marks row column
+pub mark_read : (marks : List (Vec Bool Global)) (row column : ℕ) (before : Vec Bool Global) (mark : Bool) →
+    row < length marks → column < length (row_at marks row) → before ≡ get_or marks row before →
+    mark ≡ get_or before.items column mark → mark ≡ mark_at marks row column
 mark_read marks row column before mark within inside is reads =
     let items : row_at marks row ≡ before.items = row_at-read marks row before within is in
     let inside' : column < length before.items = subst (λ (xs : List Bool). column < length xs) items inside in
@@ -114,7 +124,10 @@ arc_of_place arc low high =
     ap (λ (i : ℕ). (i, arc.1)) from ∙ ap (λ (j : ℕ). (arc.0 - 1 + 1, j)) to
 
 -- the arc at k is new where its mark is not set
-pub IsNewArc-unmarked : (durations : List ℕ) (arcs : List (ℕ × ℕ)) (k : ℕ) (marks : List (Vec Bool Global)) → k < length arcs → HasGoodArcs (unlagged durations arcs) → AreMarks (take k arcs) marks → mark_at marks ((get_or arcs k (0, 0)).1 - 1) ((get_or arcs k (0, 0)).0 - 1) ≡ false → IsNewArc (unlagged durations arcs) k
+pub IsNewArc-unmarked : (durations : List ℕ) (arcs : List (ℕ × ℕ)) (k : ℕ) (marks : List (Vec Bool Global)) →
+    k < length arcs → HasGoodArcs (unlagged durations arcs) → AreMarks (take k arcs) marks →
+    mark_at marks ((get_or arcs k (0, 0)).1 - 1) ((get_or arcs k (0, 0)).0 - 1) ≡ false →
+    IsNewArc (unlagged durations arcs) k
 IsNewArc-unmarked durations arcs k marks within good known unmarked arc at has =
     let is : get_or arcs k (0, 0) ≡ arc = get_or_from_slice_get arcs k arc (0, 0) at in
     let ends : IsGoodArc (unlagged durations arcs) (get_or arcs k (0, 0)) = All-get_or (IsGoodArc (unlagged durations arcs)) arcs k (0, 0) within good in
@@ -122,15 +135,11 @@ IsNewArc-unmarked durations arcs k marks within good known unmarked arc at has =
     let has' : Contains (take k arcs) ((get_or arcs k (0, 0)).0 - 1 + 1, (get_or arcs k (0, 0)).1 - 1 + 1) = subst (Contains (take k arcs)) same has in
     false≢true (sym unmarked ∙ (known ((get_or arcs k (0, 0)).1 - 1) ((get_or arcs k (0, 0)).0 - 1)).1 has')
 
--- the arc at k was there before where its mark is set
-pub IsFirstDoubleArc-marked : (durations : List ℕ) (arcs : List (ℕ × ℕ)) (k : ℕ) (marks : List (Vec Bool Global)) → k < length arcs → HasGoodArcs (unlagged durations arcs) → AreMarks (take k arcs) marks → ((m : ℕ) → m < k → IsNewArc (unlagged durations arcs) m) → mark_at marks ((get_or arcs k (0, 0)).1 - 1) ((get_or arcs k (0, 0)).0 - 1) ≡ true → IsFirstDoubleArc (unlagged durations arcs) (get_or arcs k (0, 0))
-IsFirstDoubleArc-marked durations arcs k marks within good known earlier marked =
-    let ends : IsGoodArc (unlagged durations arcs) (get_or arcs k (0, 0)) = All-get_or (IsGoodArc (unlagged durations arcs)) arcs k (0, 0) within good in
-    let has : Contains (take k arcs) ((get_or arcs k (0, 0)).0 - 1 + 1, (get_or arcs k (0, 0)).1 - 1 + 1) = (known ((get_or arcs k (0, 0)).1 - 1) ((get_or arcs k (0, 0)).0 - 1)).0 marked in
-    (k, slice_get-get_or arcs k (0, 0) within, subst (Contains (take k arcs)) (sym (arc_of_place (get_or arcs k (0, 0)) ends.0.0 ends.1.0)) has, earlier)
-
 -- the mark of one more arc is set
-AreMarks-push : (done : List (ℕ × ℕ)) (arc : ℕ × ℕ) (row column : ℕ) (marks : List (Vec Bool Global)) (before : Vec Bool Global) → row < length marks → column < length (row_at marks row) → before ≡ get_or marks row before → arc ≡ (column + 1, row + 1) → AreMarks done marks → AreMarks (done ++ arc ∷ []) (set marks row (with_item before column true))
+AreMarks-push : (done : List (ℕ × ℕ)) (arc : ℕ × ℕ) (row column : ℕ) (marks : List (Vec Bool Global))
+    (before : Vec Bool Global) → row < length marks → column < length (row_at marks row) →
+    before ≡ get_or marks row before → arc ≡ (column + 1, row + 1) → AreMarks done marks →
+    AreMarks (done ++ arc ∷ []) (set marks row (with_item before column true))
 AreMarks-push done arc row column marks before within inside is here known r k = by_case (cases_eq r row) (cases_eq k column) where
   elsewhere : (r ≢ row) ⊎ (k ≢ column) → mark_at (set marks row (with_item before column true)) r k ≡ true ↔ Contains (done ++ arc ∷ []) (k + 1, r + 1)
   elsewhere other = ((λ marked. Contains-append_left done (arc ∷ []) (k + 1, r + 1) ((known r k).0 (sym kept ∙ marked))), λ has. from (Contains-push_cases done arc (k + 1, r + 1) has)) where
@@ -151,13 +160,19 @@ AreMarks-push done arc row column marks before within inside is here known r k =
       let e1 : row + 1 ≡ r + 1 = omega (arith, same_row) in
       let same : arc ≡ (k + 1, r + 1) = here ∙ (ap (λ (x : ℕ). (x, row + 1)) e0 ∙ ap (λ (x : ℕ). (k + 1, x)) e1) in
       let marked : mark_at (set marks row (with_item before column true)) row column ≡ true = mark_at-set_here marks row column before within is inside in
-      let marked' : mark_at (set marks row (with_item before column true)) r k ≡ true = subst (λ (x : ℕ). mark_at (set marks row (with_item before column true)) x k ≡ true) (sym same_row) (subst (λ (x : ℕ). mark_at (set marks row (with_item before column true)) row x ≡ true) (sym same_column) marked) in
+      let marked' : mark_at (set marks row (with_item before column true)) r k ≡ true =
+          subst (λ (x : ℕ). mark_at (set marks row (with_item before column true)) x k ≡ true) (sym same_row)
+          (subst (λ (x : ℕ). mark_at (set marks row (with_item before column true)) row x ≡ true)
+          (sym same_column) marked) in
       ((λ _. subst (Contains (done ++ arc ∷ [])) same (Contains-push done arc)), (λ _. marked'))
   by_case (inl same) (inr apart) = elsewhere (inr apart)
   by_case (inr apart) w = elsewhere (inl apart)
 
 -- the row and the column of an arc with good ends are within a square
-pub place_within : (durations : List ℕ) (arcs : List (ℕ × ℕ)) (k : ℕ) (marks : List (Vec Bool Global)) → k < length arcs → HasGoodArcs (unlagged durations arcs) → IsSquare (length durations) marks → ((get_or arcs k (0, 0)).1 - 1 < length marks) × ((get_or arcs k (0, 0)).0 - 1 < length (row_at marks ((get_or arcs k (0, 0)).1 - 1)))
+pub place_within : (durations : List ℕ) (arcs : List (ℕ × ℕ)) (k : ℕ) (marks : List (Vec Bool Global)) →
+    k < length arcs → HasGoodArcs (unlagged durations arcs) → IsSquare (length durations) marks →
+    ((get_or arcs k (0, 0)).1 - 1 < length marks) × ((get_or arcs k (0, 0)).0 - 1 < length
+    (row_at marks ((get_or arcs k (0, 0)).1 - 1)))
 place_within durations arcs k marks within good square =
     let ends : IsGoodArc (unlagged durations arcs) (get_or arcs k (0, 0)) = All-get_or (IsGoodArc (unlagged durations arcs)) arcs k (0, 0) within good in
     let low : (get_or arcs k (0, 0)).1 - 1 < length durations = omega (arith, ends.1.0, ends.1.1) in
@@ -166,9 +181,15 @@ place_within durations arcs k marks within good square =
     (omega arith, omega (arith, ends.0.0, ends.0.1))
 
 -- a turn of the search for double arcs
-pub AreMarks-more : (durations : List ℕ) (arcs : List (ℕ × ℕ)) (k : ℕ) (marks : List (Vec Bool Global)) (before : Vec Bool Global) → k < length arcs → HasGoodArcs (unlagged durations arcs) → IsSquare (length durations) marks → before ≡ get_or marks ((get_or arcs k (0, 0)).1 - 1) before → AreMarks (take k arcs) marks → AreMarks (take (k + 1) arcs) (set marks ((get_or arcs k (0, 0)).1 - 1) (with_item before ((get_or arcs k (0, 0)).0 - 1) true))
+pub AreMarks-more : (durations : List ℕ) (arcs : List (ℕ × ℕ)) (k : ℕ) (marks : List (Vec Bool Global))
+    (before : Vec Bool Global) → k < length arcs → HasGoodArcs (unlagged durations arcs) →
+    IsSquare (length durations) marks → before ≡ get_or marks ((get_or arcs k (0, 0)).1 - 1) before →
+    AreMarks (take k arcs) marks → AreMarks (take (k + 1) arcs)
+    (set marks ((get_or arcs k (0, 0)).1 - 1) (with_item before ((get_or arcs k (0, 0)).0 - 1) true))
 AreMarks-more durations arcs k marks before within good square is known =
     let ends : IsGoodArc (unlagged durations arcs) (get_or arcs k (0, 0)) = All-get_or (IsGoodArc (unlagged durations arcs)) arcs k (0, 0) within good in
     let place = place_within durations arcs k marks within good square in
     subst (λ (done : List (ℕ × ℕ)). AreMarks done (set marks ((get_or arcs k (0, 0)).1 - 1) (with_item before ((get_or arcs k (0, 0)).0 - 1) true))) (sym (take_more arcs k (0, 0) within))
-    (AreMarks-push (take k arcs) (get_or arcs k (0, 0)) ((get_or arcs k (0, 0)).1 - 1) ((get_or arcs k (0, 0)).0 - 1) marks before place.0 place.1 is (arc_of_place (get_or arcs k (0, 0)) ends.0.0 ends.1.0) known)
+    (AreMarks-push (take k arcs) (get_or arcs k (0, 0)) ((get_or arcs k (0, 0)).1 - 1)
+        ((get_or arcs k (0, 0)).0 - 1) marks before place.0 place.1 is
+        (arc_of_place (get_or arcs k (0, 0)) ends.0.0 ends.1.0) known)

@@ -36,7 +36,9 @@ last_arc net i j (k ∷ others) (arc, walk) =
     record { before = j ∷ last.before; walk = (arc, last.walk); arc = last.arc; longer = omega (arith, last.longer) }
 
 -- a walk over the members of a list to its last, and on
-walk_closes : (net : Net) (i : ℕ) (rest : List ℕ) (end : ℕ) → ((k : ℕ) → k + 1 < length (i ∷ rest) → IsArc net (get_or (i ∷ rest) k 0) (get_or (i ∷ rest) (k + 1) 0)) → IsArc net (get_or (i ∷ rest) (length (i ∷ rest) - 1) 0) end → IsWalk net i (rest ++ end ∷ [])
+walk_closes : (net : Net) (i : ℕ) (rest : List ℕ) (end : ℕ) →
+    ((k : ℕ) → k + 1 < length (i ∷ rest) → IsArc net (get_or (i ∷ rest) k 0) (get_or (i ∷ rest) (k + 1) 0)) →
+    IsArc net (get_or (i ∷ rest) (length (i ∷ rest) - 1) 0) end → IsWalk net i (rest ++ end ∷ [])
 walk_closes net i [] end along last = (last, tt)
 walk_closes net i (j ∷ rest) end along last = (along 0 (omega arith), walk_closes net j rest end after last') where
   after : (k : ℕ) → k + 1 < length (j ∷ rest) → IsArc net (get_or (j ∷ rest) k 0) (get_or (j ∷ rest) (k + 1) 0)

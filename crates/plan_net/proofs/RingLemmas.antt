@@ -12,7 +12,10 @@ use Rattle.plan_net.proofs.RisingLemmas.{stands_in, place_in, least_once}
 use Rattle.plan_net.proofs.TrailLemmas.{comes_once, step_from}
 
 -- on a ring one comes to each member after any number of steps
-again : (net : Net) (ring : List ℕ) (from : ℕ) → 1 ≤ length ring → Comes net from (get_or ring 0 0) → ((k : ℕ) → k + 1 < length ring → IsLeastCaughtBefore net (get_or ring k 0) (get_or ring (k + 1) 0)) → IsLeastCaughtBefore net (get_or ring (length ring - 1) 0) (get_or ring 0 0) → (steps k : ℕ) → k < length ring → (later : ℕ) × (steps ≤ later) × Comes net later (get_or ring k 0)
+again : (net : Net) (ring : List ℕ) (from : ℕ) → 1 ≤ length ring → Comes net from (get_or ring 0 0) →
+    ((k : ℕ) → k + 1 < length ring → IsLeastCaughtBefore net (get_or ring k 0) (get_or ring (k + 1) 0)) →
+    IsLeastCaughtBefore net (get_or ring (length ring - 1) 0) (get_or ring 0 0) → (steps k : ℕ) →
+    k < length ring → (later : ℕ) × (steps ≤ later) × Comes net later (get_or ring k 0)
 again net ring from some start along around zero zero within = (from, omega arith, start)
 again net ring from some start along around zero (suc k) within =
     let before = again net ring from some start along around zero k (omega arith) in
@@ -27,7 +30,10 @@ again net ring from some start along around (suc steps) (suc k) within =
     (suc before.0, omega (arith, before.1), (get_or ring k 0, before.2, subst (λ (x : ℕ). IsLeastCaughtBefore net (get_or ring k 0) (get_or ring x 0)) same (along k (omega arith))))
 
 -- from a ring no step leads away
-stays : (net : Net) (ring : List ℕ) (from : ℕ) → 1 ≤ length ring → Comes net from (get_or ring 0 0) → ((k : ℕ) → k + 1 < length ring → IsLeastCaughtBefore net (get_or ring k 0) (get_or ring (k + 1) 0)) → IsLeastCaughtBefore net (get_or ring (length ring - 1) 0) (get_or ring 0 0) → (more j : ℕ) → Comes net (from + more) j → (k : ℕ) × (k < length ring) × (get_or ring k 0 ≡ j)
+stays : (net : Net) (ring : List ℕ) (from : ℕ) → 1 ≤ length ring → Comes net from (get_or ring 0 0) →
+    ((k : ℕ) → k + 1 < length ring → IsLeastCaughtBefore net (get_or ring k 0) (get_or ring (k + 1) 0)) →
+    IsLeastCaughtBefore net (get_or ring (length ring - 1) 0) (get_or ring 0 0) → (more j : ℕ) →
+    Comes net (from + more) j → (k : ℕ) × (k < length ring) × (get_or ring k 0 ≡ j)
 stays net ring from some start along around zero j comes =
     let same : from + 0 ≡ from = omega arith in
     (0, omega arith, comes_once net from (get_or ring 0 0) j start (subst (λ (n : ℕ). Comes net n j) same comes))
@@ -80,7 +86,9 @@ IsBackRing-from_trail net trail at from walked within is = record {
       let whole : length trail ≡ suc (length trail - 1) = omega (arith, within) in
       let first : from + 0 ≡ from = omega arith in
       let comes : Comes net (suc (length trail - 1)) at = subst (λ (n : ℕ). Comes net n at) whole walked.next in
-      let step : IsLeastCaughtBefore net (get_or trail (length trail - 1) 0) at = step_from net (length trail - 1) (get_or trail (length trail - 1) 0) at (walked.steps (length trail - 1) (omega (arith, within))) comes in
+      let step : IsLeastCaughtBefore net (get_or trail (length trail - 1) 0) at =
+          step_from net (length trail - 1) (get_or trail (length trail - 1) 0) at
+          (walked.steps (length trail - 1) (omega (arith, within))) comes in
       subst (λ (x : ℕ). IsLeastCaughtBefore net x (get_or (drop from trail) 0 0)) (sym (get_or-drop from trail (length (drop from trail) - 1) 0 ∙ ap (λ (k : ℕ). get_or trail k 0) last))
       (subst (λ (x : ℕ). IsLeastCaughtBefore net (get_or trail (length trail - 1) 0) x) (sym (get_or-drop from trail 0 0 ∙ ap (λ (k : ℕ). get_or trail k 0) first ∙ is)) step)
 
@@ -107,8 +115,12 @@ IsRing-reverse net ring back = record {
   some = omega (arith, back.some, whole);
   along = λ k lower. along k (omega (arith, whole, lower));
   around = around;
-  once = λ a b lower within same. back.once (length ring - 1 - b) (length ring - 1 - a) (omega (arith, whole, within, lower)) (omega (arith, whole, within, lower)) (sym (at b (omega (arith, whole, within))) ∙ sym same ∙ at a (omega (arith, whole, within, lower)));
-  recurring = λ j. (λ has. (back.recurring j).0 (Contains-permutation (reverse ring) ring j (IsPermutation-sym ring (reverse ring) (IsPermutation-reverse ring)) has), λ always. Contains-permutation ring (reverse ring) j (IsPermutation-reverse ring) ((back.recurring j).1 always));
+  once = λ a b lower within same. back.once (length ring - 1 - b) (length ring - 1 - a)
+      (omega (arith, whole, within, lower)) (omega (arith, whole, within, lower))
+      (sym (at b (omega (arith, whole, within))) ∙ sym same ∙ at a (omega (arith, whole, within, lower)));
+  recurring = λ j. (λ has. (back.recurring j).0 (Contains-permutation (reverse ring) ring j
+      (IsPermutation-sym ring (reverse ring) (IsPermutation-reverse ring)) has), λ always.
+      Contains-permutation ring (reverse ring) j (IsPermutation-reverse ring) ((back.recurring j).1 always));
 } where
   whole : length (reverse ring) ≡ length ring
   whole = length-reverse ring
@@ -158,12 +170,16 @@ turned-high ring m k within lower higher =
 turned_to : (ring : List ℕ) (m j : ℕ) → Contains ring j → Contains (turned ring m) j
 unfolding turned
 turned_to ring m j has =
-    Contains-permutation (take m ring ++ drop m ring) (drop m ring ++ take m ring) j (IsPermutation-append_comm (take m ring) (drop m ring)) (subst (λ (list : List ℕ). Contains list j) (sym (take-append-drop m ring)) has)
+    Contains-permutation (take m ring ++ drop m ring) (drop m ring ++ take m ring) j
+        (IsPermutation-append_comm (take m ring) (drop m ring))
+        (subst (λ (list : List ℕ). Contains list j) (sym (take-append-drop m ring)) has)
 
 turned_from : (ring : List ℕ) (m j : ℕ) → Contains (turned ring m) j → Contains ring j
 unfolding turned
 turned_from ring m j has =
-    subst (λ (list : List ℕ). Contains list j) (take-append-drop m ring) (Contains-permutation (drop m ring ++ take m ring) (take m ring ++ drop m ring) j (IsPermutation-append_comm (drop m ring) (take m ring)) has)
+    subst (λ (list : List ℕ). Contains list j) (take-append-drop m ring)
+        (Contains-permutation (drop m ring ++ take m ring) (take m ring ++ drop m ring) j
+        (IsPermutation-append_comm (drop m ring) (take m ring)) has)
 
 -- a ring along the arcs, from its least member on, is the named cycle
 IsNamedCycle-turned : (net : Net) (ring : List ℕ) (m : ℕ) → IsRing net ring → m < length ring → ((k : ℕ) → k < length ring → get_or ring m 0 ≤ get_or ring k 0) → IsNamedCycle net (turned ring m)
@@ -181,17 +197,26 @@ IsNamedCycle-turned net ring m closed within lowest = record {
   joined : (x y a b : ℕ) → a ≡ x → b ≡ y → IsLeastCaughtBefore net x y → IsLeastCaughtBefore net a b
   joined x y a b first second step = subst (λ (z : ℕ). IsLeastCaughtBefore net z b) (sym first) (subst (λ (z : ℕ). IsLeastCaughtBefore net x z) (sym second) step)
 
-  along : (k : ℕ) → k + 1 < length ring → (k + 1 + m < length ring) ⊎ (length ring ≤ k + 1 + m) → (k + m < length ring) ⊎ (length ring ≤ k + m) → IsLeastCaughtBefore net (get_or (turned ring m) (k + 1) 0) (get_or (turned ring m) k 0)
+  along : (k : ℕ) → k + 1 < length ring → (k + 1 + m < length ring) ⊎ (length ring ≤ k + 1 + m) →
+      (k + m < length ring) ⊎ (length ring ≤ k + m) →
+      IsLeastCaughtBefore net (get_or (turned ring m) (k + 1) 0) (get_or (turned ring m) k 0)
   along k lower (inl low) w =
       let next : k + m + 1 ≡ k + 1 + m = omega arith in
-      joined (get_or ring (k + m + 1) 0) (get_or ring (k + m) 0) _ _ (turned-low ring m (k + 1) low ∙ ap (λ (x : ℕ). get_or ring x 0) (sym next)) (turned-low ring m k (omega arith)) (closed.along (k + m) (omega arith))
+      joined (get_or ring (k + m + 1) 0) (get_or ring (k + m) 0) _ _
+          (turned-low ring m (k + 1) low ∙ ap (λ (x : ℕ). get_or ring x 0) (sym next))
+          (turned-low ring m k (omega arith)) (closed.along (k + m) (omega arith))
   along k lower (inr high) (inl low) =
       let first : k + 1 + m - length ring ≡ 0 = omega arith in
       let last : k + m ≡ length ring - 1 = omega arith in
-      joined (get_or ring 0 0) (get_or ring (length ring - 1) 0) _ _ (turned-high ring m (k + 1) within lower high ∙ ap (λ (x : ℕ). get_or ring x 0) first) (turned-low ring m k low ∙ ap (λ (x : ℕ). get_or ring x 0) last) closed.around
+      joined (get_or ring 0 0) (get_or ring (length ring - 1) 0) _ _
+          (turned-high ring m (k + 1) within lower high ∙ ap (λ (x : ℕ). get_or ring x 0) first)
+          (turned-low ring m k low ∙ ap (λ (x : ℕ). get_or ring x 0) last) closed.around
   along k lower (inr high) (inr higher) =
       let next : k + m - length ring + 1 ≡ k + 1 + m - length ring = omega arith in
-      joined (get_or ring (k + m - length ring + 1) 0) (get_or ring (k + m - length ring) 0) _ _ (turned-high ring m (k + 1) within lower high ∙ ap (λ (x : ℕ). get_or ring x 0) (sym next)) (turned-high ring m k within (omega arith) higher) (closed.along (k + m - length ring) (omega arith))
+      joined (get_or ring (k + m - length ring + 1) 0) (get_or ring (k + m - length ring) 0) _ _
+          (turned-high ring m (k + 1) within lower high ∙ ap (λ (x : ℕ). get_or ring x 0) (sym next))
+          (turned-high ring m k within (omega arith) higher)
+          (closed.along (k + m - length ring) (omega arith))
 
   first_is : get_or (turned ring m) 0 0 ≡ get_or ring m 0
   first_is = let same : 0 + m ≡ m = omega arith in turned-low ring m 0 (omega arith) ∙ ap (λ (x : ℕ). get_or ring x 0) same
@@ -199,11 +224,18 @@ IsNamedCycle-turned net ring m closed within lowest = record {
   around : (m ≡ 0) ⊎ (m ≡ 0 → ⊥) → IsLeastCaughtBefore net (get_or (turned ring m) 0 0) (get_or (turned ring m) (length (turned ring m) - 1) 0)
   around (inl none) =
       let last : length (turned ring m) - 1 + m ≡ length ring - 1 = omega (arith, whole) in
-      joined (get_or ring 0 0) (get_or ring (length ring - 1) 0) _ _ (first_is ∙ ap (λ (x : ℕ). get_or ring x 0) none) (turned-low ring m (length (turned ring m) - 1) (omega (arith, whole, within)) ∙ ap (λ (x : ℕ). get_or ring x 0) last) closed.around
+      joined (get_or ring 0 0) (get_or ring (length ring - 1) 0) _ _
+          (first_is ∙ ap (λ (x : ℕ). get_or ring x 0) none)
+          (turned-low ring m (length (turned ring m) - 1) (omega (arith, whole, within))
+          ∙ ap (λ (x : ℕ). get_or ring x 0) last) closed.around
   around (inr some) =
       let next : m - 1 + 1 ≡ m = omega (arith, some) in
       let last : length (turned ring m) - 1 + m - length ring ≡ m - 1 = omega (arith, whole, within, some) in
-      joined (get_or ring (m - 1 + 1) 0) (get_or ring (m - 1) 0) _ _ (first_is ∙ ap (λ (x : ℕ). get_or ring x 0) (sym next)) (turned-high ring m (length (turned ring m) - 1) within (omega (arith, whole, within)) (omega (arith, whole, within, some)) ∙ ap (λ (x : ℕ). get_or ring x 0) last) (closed.along (m - 1) (omega (arith, within, some)))
+      joined (get_or ring (m - 1 + 1) 0) (get_or ring (m - 1) 0) _ _
+          (first_is ∙ ap (λ (x : ℕ). get_or ring x 0) (sym next))
+          (turned-high ring m (length (turned ring m) - 1) within (omega (arith, whole, within))
+          (omega (arith, whole, within, some)) ∙ ap (λ (x : ℕ). get_or ring x 0) last)
+          (closed.along (m - 1) (omega (arith, within, some)))
 
   from : (j : ℕ) → Contains (turned ring m) j → Contains ring j
   from j has = turned_from ring m j has
@@ -220,11 +252,19 @@ IsNamedCycle-turned net ring m closed within lowest = record {
 
   once : (a b : ℕ) → a < b → b < length ring → (a + m < length ring) ⊎ (length ring ≤ a + m) → (b + m < length ring) ⊎ (length ring ≤ b + m) → get_or (turned ring m) a 0 ≢ get_or (turned ring m) b 0
   once a b lower inside (inl low_a) (inl low_b) same = closed.once (a + m) (b + m) (omega arith) low_b (sym (turned-low ring m a low_a) ∙ same ∙ turned-low ring m b low_b)
-  once a b lower inside (inl low_a) (inr high_b) same = closed.once (b + m - length ring) (a + m) (omega arith) low_a (sym (turned-high ring m b within inside high_b) ∙ sym same ∙ turned-low ring m a low_a)
+  once a b lower inside (inl low_a) (inr high_b) same =
+      closed.once (b + m - length ring) (a + m) (omega arith) low_a
+      (sym (turned-high ring m b within inside high_b) ∙ sym same ∙ turned-low ring m a low_a)
   once a b lower inside (inr high_a) (inl low_b) same = absurd (omega arith)
-  once a b lower inside (inr high_a) (inr high_b) same = closed.once (a + m - length ring) (b + m - length ring) (omega arith) (omega arith) (sym (turned-high ring m a within (omega arith) high_a) ∙ same ∙ turned-high ring m b within inside high_b)
+  once a b lower inside (inr high_a) (inr high_b) same =
+      closed.once (a + m - length ring) (b + m - length ring) (omega arith) (omega arith)
+      (sym (turned-high ring m a within (omega arith) high_a) ∙ same
+      ∙ turned-high ring m b within inside high_b)
 
 -- what the reversal and the turn make of the ring
-pub IsNamedCycle-from_back_ring : (net : Net) (ring : List ℕ) (m : ℕ) → IsBackRing net ring → m < length (reverse ring) → ((k : ℕ) → k < length (reverse ring) → get_or (reverse ring) m 0 ≤ get_or (reverse ring) k 0) → IsNamedCycle net (drop m (reverse ring) ++ take m (reverse ring))
+pub IsNamedCycle-from_back_ring : (net : Net) (ring : List ℕ) (m : ℕ) → IsBackRing net ring →
+    m < length (reverse ring) → ((k : ℕ) → k < length (reverse ring) →
+    get_or (reverse ring) m 0 ≤ get_or (reverse ring) k 0) →
+    IsNamedCycle net (drop m (reverse ring) ++ take m (reverse ring))
 unfolding turned
 IsNamedCycle-from_back_ring net ring m back within lowest = IsNamedCycle-turned net (reverse ring) m (IsRing-reverse net ring back) within lowest

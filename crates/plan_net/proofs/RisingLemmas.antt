@@ -44,7 +44,9 @@ rising_later list rising a (suc b) before within =
     ]
 
 -- the first of a rising list of the numbers with P at which O holds is the least with both
-pub least_of_rising : (P O : ℕ → Type 0) (list : List ℕ) (at : ℕ) → ListsRising P list → at < length list → O (get_or list at 0) → ((k : ℕ) → k < at → O (get_or list k 0) → ⊥) → IsLeast (λ i. P i × O i) (get_or list at 0)
+pub least_of_rising : (P O : ℕ → Type 0) (list : List ℕ) (at : ℕ) → ListsRising P list → at < length list →
+    O (get_or list at 0) → ((k : ℕ) → k < at → O (get_or list k 0) → ⊥) →
+    IsLeast (λ i. P i × O i) (get_or list at 0)
 least_of_rising P O list at listed within here before =
     (((listed.exact (get_or list at 0)).0 (Contains-get_or list at 0 within), here), least) where
       at_place : (v k : ℕ) → O v → k < length list → get_or list k 0 ≡ v → (k < at) ⊎ (at ≤ k) → get_or list at 0 ≤ v

@@ -22,7 +22,9 @@ pub arc_ends : (net : Net) (i j : ℕ) → IsWithinLimits net → IsArc net i j 
 arc_ends net i j ok arc = All-contains (IsGoodArc net) net.arcs (i, j) ok.arcs arc
 
 -- the row at j - 1, where that at k lists what P says of k + 1
-shifted : (count : ℕ) (P : ℕ → ℕ → Type 0) (rows : List (Vec ℕ Global)) → length rows ≡ count → ((k : ℕ) → k < count → ListsRising (P (k + 1)) (row_at rows k)) → (j : ℕ) (row : Vec ℕ Global) → 1 ≤ j → j ≤ count → row ≡ get_or rows (j - 1) row → ListsRising (P j) row.items
+shifted : (count : ℕ) (P : ℕ → ℕ → Type 0) (rows : List (Vec ℕ Global)) → length rows ≡ count →
+    ((k : ℕ) → k < count → ListsRising (P (k + 1)) (row_at rows k)) → (j : ℕ) (row : Vec ℕ Global) → 1 ≤ j →
+    j ≤ count → row ≡ get_or rows (j - 1) row → ListsRising (P j) row.items
 shifted count P rows whole lists j row low high is =
     let within : j - 1 < count = omega arith in
     let inside : j - 1 < length rows = omega arith in
@@ -32,13 +34,15 @@ shifted count P rows whole lists j row low high is =
     subst (λ (k : ℕ). ListsRising (P k) row.items) same (subst (λ (xs : List ℕ). ListsRising (P (j - 1 + 1)) xs) here listed)
 
 -- the row of the predecessors of j
-pub preds_listed : (a : Inside) (net : Net) (j : ℕ) (row : Vec ℕ Global) → IsIndexed a → net_of a ≡ net → IsActivity net j → row ≡ get_or a.preds.items (j - 1) row → ListsRising (λ i. IsArc net i j) row.items
+pub preds_listed : (a : Inside) (net : Net) (j : ℕ) (row : Vec ℕ Global) → IsIndexed a → net_of a ≡ net →
+    IsActivity net j → row ≡ get_or a.preds.items (j - 1) row → ListsRising (λ i. IsArc net i j) row.items
 preds_listed a net j row ok same activity is =
     let P : Net → Type 0 = λ n. IsActivity n j → ListsRising (λ i. IsArc n i j) row.items in
     subst P same (λ here. shifted (count_of (net_of a)) (λ k i. IsArc (net_of a) i k) a.preds.items ok.preds_count ok.preds j row here.0 here.1 is) activity
 
 -- the row of the successors of j
-pub succs_listed : (a : Inside) (net : Net) (j : ℕ) (row : Vec ℕ Global) → IsIndexed a → net_of a ≡ net → IsActivity net j → row ≡ get_or a.succs.items (j - 1) row → ListsRising (IsArc net j) row.items
+pub succs_listed : (a : Inside) (net : Net) (j : ℕ) (row : Vec ℕ Global) → IsIndexed a → net_of a ≡ net →
+    IsActivity net j → row ≡ get_or a.succs.items (j - 1) row → ListsRising (IsArc net j) row.items
 succs_listed a net j row ok same activity is =
     let P : Net → Type 0 = λ n. IsActivity n j → ListsRising (IsArc n j) row.items in
     subst P same (λ here. shifted (count_of (net_of a)) (λ k i. IsArc (net_of a) k i) a.succs.items ok.succs_count ok.succs j row here.0 here.1 is) activity

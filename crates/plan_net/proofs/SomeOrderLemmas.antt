@@ -52,7 +52,9 @@ decide_arc net i j = by_search (some_element (λ arc. (arc.0 ≡ i) × (arc.1 �
 -- an activity has an open predecessor, or all its predecessors are placed
 open_before : (net : Net) (placed : List Bool) (j : ℕ)
     → ((i : ℕ) × IsArc net i j × IsOpen placed i) ⊎ ((i : ℕ) → IsArc net i j → IsPlaced placed i)
-open_before net placed j = by_search (some_element (λ arc. (arc.1 ≡ j) × IsOpen placed arc.0) (λ arc. decide_both (arc.1 ≡ j) (IsOpen placed arc.0) (cases_eq arc.1 j) (λ _. decide_open placed arc.0)) net.arcs)
+open_before net placed j = by_search (some_element (λ arc. (arc.1 ≡ j) × IsOpen placed arc.0)
+    (λ arc. decide_both (arc.1 ≡ j) (IsOpen placed arc.0) (cases_eq arc.1 j) (λ _. decide_open placed arc.0))
+    net.arcs)
   where
     by_search : ((arc : ℕ × ℕ) × Contains net.arcs arc × ((arc.1 ≡ j) × IsOpen placed arc.0)) ⊎ ((arc : ℕ × ℕ) → Contains net.arcs arc → (arc.1 ≡ j) × IsOpen placed arc.0 → ⊥)
         → ((i : ℕ) × IsArc net i j × IsOpen placed i) ⊎ ((i : ℕ) → IsArc net i j → IsPlaced placed i)
@@ -138,7 +140,9 @@ record AreMet (net : Net) (trail : List ℕ) (met : List Bool) : Type 0 where
 module _ (net : Net) (limits : IsWithinLimits net) (placed : List Bool) (caught : IsCaughtOpen net placed) (stuck : IsStuck net placed) where
   -- before each caught activity there is a least open one
   some_before : (at : ℕ) → IsCaught net at → (i : ℕ) × IsLeast (λ h. IsArc net h at × IsOpen placed h) i
-  some_before at is = by_search (least_below (λ h. IsArc net h at × IsOpen placed h) (λ h. decide_both (IsArc net h at) (IsOpen placed h) (decide_arc net h at) (λ _. decide_open placed h)) (suc (count_of net)))
+  some_before at is = by_search (least_below (λ h. IsArc net h at × IsOpen placed h)
+      (λ h. decide_both (IsArc net h at) (IsOpen placed h) (decide_arc net h at) (λ _. decide_open placed h))
+      (suc (count_of net)))
     where
       here : IsActivity net at × IsOpen placed at
       here = (caught at).0 is
@@ -214,7 +218,9 @@ named_of net loop = by_ring (reverse (drop loop.place loop.trail)) refl
         let least' = subst (λ (xs : List ℕ). (least.0 < length xs) × ((k : ℕ) → k < length xs → get_or xs least.0 0 ≤ get_or xs k 0)) (sym is) (least.1, least.2) in (
           drop least.0 (reverse ring) ++ take least.0 (reverse ring),
           IsNamedCycle-from_back_ring net ring least.0 (IsBackRing-from_trail net loop.trail loop.at loop.place loop.walked loop.within loop.found) least'.0 least'.1,
-          omega (arith, length-append (drop least.0 (reverse ring)) (take least.0 (reverse ring)), length-drop least.0 (reverse ring), length-take least.0 (reverse ring), length-reverse ring, length-drop loop.place loop.trail, loop.short),
+          omega (arith, length-append (drop least.0 (reverse ring))
+              (take least.0 (reverse ring)), length-drop least.0 (reverse ring), length-take least.0
+              (reverse ring), length-reverse ring, length-drop loop.place loop.trail, loop.short),
         )
 
 -- a network within the limits is sound and has a least order, or it has a named cycle

@@ -29,29 +29,40 @@ pub IsLeastOrder-with_lag : (net : Net) (i j w : ℕ) (order : List ℕ) → IsL
 IsLeastOrder-with_lag net i j w order least = record { whole = least.whole; each = least.each; least = least.least }
 
 -- whether a lag was changed or not, the network is sound and its order the same
-pub sound_after : (net after : Net) (order : List ℕ) (i j w : ℕ) (result : Result (Unit {0}) NetFault) → OnOk result (IsArc net i j × (w ≤ LONGEST_LAG) × (after ≡ with_lag net i j w)) → OnErr result (after ≡ net) → IsSound net × IsLeastOrder net order → IsSound after × IsLeastOrder after order
+pub sound_after : (net after : Net) (order : List ℕ) (i j w : ℕ) (result : Result (Unit {0}) NetFault) →
+    OnOk result (IsArc net i j × (w ≤ LONGEST_LAG) × (after ≡ with_lag net i j w)) →
+    OnErr result (after ≡ net) → IsSound net × IsLeastOrder net order →
+    IsSound after × IsLeastOrder after order
 sound_after net after order i j w (Ok done) ok err sound =
     subst (λ (n : Net). IsSound n × IsLeastOrder n order) (sym ok.2) (IsSound-with_lag net i j w ok.1 sound.0, IsLeastOrder-with_lag net i j w order sound.1)
 sound_after net after order i j w (Err fault) ok err sound = subst (λ (n : Net). IsSound n × IsLeastOrder n order) (sym err) sound
 
 -- a lag that was changed is the one that was handed in
-pub lag_after : (net after : Net) (i j w : ℕ) (result : Result (Unit {0}) NetFault) → IsSound net → OnOk result (IsArc net i j × (w ≤ LONGEST_LAG) × (after ≡ with_lag net i j w)) → OnOk result (lag_of after i j ≡ w)
+pub lag_after : (net after : Net) (i j w : ℕ) (result : Result (Unit {0}) NetFault) → IsSound net →
+    OnOk result (IsArc net i j × (w ≤ LONGEST_LAG) × (after ≡ with_lag net i j w)) →
+    OnOk result (lag_of after i j ≡ w)
 lag_after net after i j w (Ok done) sound ok = ap (λ (n : Net). lag_of n i j) ok.2 ∙ lag_of-with_lag net i j w sound.limits.lags ok.0
 lag_after net after i j w (Err fault) sound ok = ok
 
 -- and all other lags are as they were
-pub lags_after : (net after : Net) (i j w : ℕ) (result : Result (Unit {0}) NetFault) → OnOk result (IsArc net i j × (w ≤ LONGEST_LAG) × (after ≡ with_lag net i j w)) → OnOk result ((h k : ℕ) → ((h ≡ i) × (k ≡ j) → ⊥) → lag_of after h k ≡ lag_of net h k)
+pub lags_after : (net after : Net) (i j w : ℕ) (result : Result (Unit {0}) NetFault) →
+    OnOk result (IsArc net i j × (w ≤ LONGEST_LAG) × (after ≡ with_lag net i j w)) →
+    OnOk result ((h k : ℕ) → ((h ≡ i) × (k ≡ j) → ⊥) → lag_of after h k ≡ lag_of net h k)
 lags_after net after i j w (Ok done) ok = λ h k other. ap (λ (n : Net). lag_of n h k) ok.2 ∙ lag_of-with_lag_other net i j w h k other
 lags_after net after i j w (Err fault) ok = ok
 
 -- what an order of which no mark is left gives
-pub sound_from_turns : (net : Net) (order : List ℕ) (placed : List Bool) → IsWithinLimits net → IsPlacedOrder net order placed → ((j : ℕ) → 1 ≤ j → j ≤ length placed → IsPlaced placed j) → IsSound net × IsLeastOrder net order
+pub sound_from_turns : (net : Net) (order : List ℕ) (placed : List Bool) → IsWithinLimits net →
+    IsPlacedOrder net order placed → ((j : ℕ) → 1 ≤ j → j ≤ length placed → IsPlaced placed j) →
+    IsSound net × IsLeastOrder net order
 sound_from_turns net order placed limits turns each =
     let whole : IsLeastOrder net order = IsLeastOrder-from_turns net order placed turns (λ j activity. each j activity.0 (omega (arith, activity.1, turns.whole))) in
     (record { limits = limits; acyclic = IsAcyclic-from_order net order whole }, whole)
 
 -- the least open activity is the least caught one
-pub least_caught : (net : Net) (placed : List Bool) (first : ℕ) → length placed ≡ count_of net → IsCaughtOpen net placed → IsLeast (λ h. (1 ≤ h) × (h ≤ length placed) × IsOpen placed h) first → IsLeast (IsCaught net) first
+pub least_caught : (net : Net) (placed : List Bool) (first : ℕ) → length placed ≡ count_of net →
+    IsCaughtOpen net placed → IsLeast (λ h. (1 ≤ h) × (h ≤ length placed) × IsOpen placed h) first →
+    IsLeast (IsCaught net) first
 least_caught net placed first whole open_ones least = (
   (open_ones first).1 ((least.0.0, omega (arith, least.0.1, whole)), least.0.2),
   λ v caught. let here = (open_ones v).0 caught in least.1 v (here.0.0, omega (arith, here.0.1, whole), here.1),

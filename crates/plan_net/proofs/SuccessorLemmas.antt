@@ -67,13 +67,18 @@ all_from P i f (j ∷ row) = (f j, all_from P i f row)
 later_sources : (low i : ℕ) (rows : List (List ℕ)) → low ≤ i → AllByRecursion (λ (arc : ℕ × ℕ). low ≤ arc.0) (arcs_of_rows i rows)
 later_sources low i [] below = tt
 later_sources low i (row ∷ rows) below =
-    all_append (λ (arc : ℕ × ℕ). low ≤ arc.0) (arcs_from i row) (arcs_of_rows (i + 1) rows) (all_from (λ (arc : ℕ × ℕ). low ≤ arc.0) i (λ j. below) row) (later_sources low (i + 1) rows (omega (arith, below)))
+    all_append (λ (arc : ℕ × ℕ). low ≤ arc.0) (arcs_from i row) (arcs_of_rows (i + 1) rows)
+        (all_from (λ (arc : ℕ × ℕ). low ≤ arc.0) i (λ j. below) row)
+        (later_sources low (i + 1) rows (omega (arith, below)))
 
 rows_repeat_none : (n i : ℕ) (rows : List (List ℕ)) → AllByRecursion (IsRow n) rows → NoRepeat (arcs_of_rows i rows)
 rows_repeat_none n i [] h = tt
 rows_repeat_none n i (row ∷ rows) h =
     let later = later_sources (i + 1) (i + 1) rows (omega arith) in
-    let apart : (j : ℕ) → AllByRecursion (λ (y : ℕ × ℕ). y ≢ (i, j)) (arcs_of_rows (i + 1) rows) = λ j. all_along (λ (y : ℕ × ℕ). i + 1 ≤ y.0) (λ (y : ℕ × ℕ). y ≢ (i, j)) (λ y from e. let same = ap (λ (arc : ℕ × ℕ). arc.0) e in absurd (omega (arith, from, same))) (arcs_of_rows (i + 1) rows) later in
+    let apart : (j : ℕ) → AllByRecursion (λ (y : ℕ × ℕ). y ≢ (i, j)) (arcs_of_rows (i + 1) rows) =
+        λ j. all_along (λ (y : ℕ × ℕ). i + 1 ≤ y.0) (λ (y : ℕ × ℕ). y ≢ (i, j)) (λ y from e.
+        let same = ap (λ (arc : ℕ × ℕ). arc.0) e in
+        absurd (omega (arith, from, same))) (arcs_of_rows (i + 1) rows) later in
     no_repeat-append (arcs_from i row) (arcs_of_rows (i + 1) rows) (row_repeats_none i row h.0.1) (rows_repeat_none n (i + 1) rows h.1)
     (all_from (λ (x : ℕ × ℕ). AllByRecursion (λ (y : ℕ × ℕ). y ≢ x) (arcs_of_rows (i + 1) rows)) i apart row)
 
@@ -89,10 +94,14 @@ row_inside n i (j ∷ row) low high h = (((low, high), h.0), row_inside n i row 
 rows_inside : (n i : ℕ) (rows : List (List ℕ)) → 1 ≤ i → i + length rows ≤ n + 1 → AllByRecursion (IsRow n) rows → AllByRecursion (IsInside n) (arcs_of_rows i rows)
 rows_inside n i [] low high h = tt
 rows_inside n i (row ∷ rows) low high h =
-    all_append (IsInside n) (arcs_from i row) (arcs_of_rows (i + 1) rows) (row_inside n i row low (omega (arith, high)) h.0.0) (rows_inside n (i + 1) rows (omega (arith, low)) (omega (arith, high)) h.1)
+    all_append (IsInside n) (arcs_from i row) (arcs_of_rows (i + 1) rows)
+        (row_inside n i row low (omega (arith, high)) h.0.0)
+        (rows_inside n (i + 1) rows (omega (arith, low)) (omega (arith, high)) h.1)
 
 -- the network of good durations and of rows is within the limits
-pub IsWithinLimits-rows : (durations : List ℕ) (rows : List (List ℕ)) → HasGoodSize (unlagged durations []) → HasGoodDurations (unlagged durations []) → AreRows (length durations) rows → IsWithinLimits (unlagged durations (arcs_of_rows 1 rows))
+pub IsWithinLimits-rows : (durations : List ℕ) (rows : List (List ℕ)) → HasGoodSize (unlagged durations []) →
+    HasGoodDurations (unlagged durations []) → AreRows (length durations) rows →
+    IsWithinLimits (unlagged durations (arcs_of_rows 1 rows))
 IsWithinLimits-rows durations rows size good are = record {
   size = size;
   durations = good;
@@ -146,7 +155,9 @@ row_in_arcs i (list ∷ lists) zero j has =
     Contains-append_left (arcs_from i list.items) (arcs_of_rows (i + 1) (rows_in lists)) (i + 0, j) (subst (λ (h : ℕ). Contains (arcs_from i list.items) (h, j)) same (in_row i list.items j has))
 row_in_arcs i (list ∷ lists) (suc k) j has =
     let same : i + 1 + k ≡ i + suc k = omega arith in
-    Contains-append_right (arcs_from i list.items) (arcs_of_rows (i + 1) (rows_in lists)) (i + suc k, j) (subst (λ (h : ℕ). Contains (arcs_of_rows (i + 1) (rows_in lists)) (h, j)) same (row_in_arcs (i + 1) lists k j has))
+    Contains-append_right (arcs_from i list.items) (arcs_of_rows (i + 1) (rows_in lists)) (i + suc k, j)
+        (subst (λ (h : ℕ). Contains (arcs_of_rows (i + 1) (rows_in lists)) (h, j)) same
+        (row_in_arcs (i + 1) lists k j has))
 
 -- ---- the rows as numbers of rows
 
@@ -172,7 +183,9 @@ row_is n (list ∷ lists) (suc k) h = row_is n lists k h.1
 
 pub AreNumbersOfRows-rows : (n : ℕ) (lists : List (Vec ℕ Global)) → AreRows n (rows_in lists) → AreNumbersOfRows lists
 AreNumbersOfRows-rows n lists are = record {
-  inside = λ k j has. let here = All-contains (λ x. (1 ≤ x) × (x ≤ n)) (row_at lists k) j (All-from_recursion (λ x. (1 ≤ x) × (x ≤ n)) (row_at lists k) (row_is n lists k are.each).0) has in (here.0, omega (arith, here.1, count_rows lists, are.whole));
+  inside = λ k j has. let here = All-contains (λ x. (1 ≤ x) × (x ≤ n)) (row_at lists k) j
+      (All-from_recursion (λ x. (1 ≤ x) × (x ≤ n)) (row_at lists k) (row_is n lists k are.each).0) has in
+      (here.0, omega (arith, here.1, count_rows lists, are.whole));
   once = λ k. HoldsOnce-distinct (row_at lists k) (row_is n lists k are.each).1;
 } where
   count_rows : (ls : List (Vec ℕ Global)) → length (rows_in ls) ≡ length ls
@@ -203,17 +216,23 @@ nothing_behind [] = refl
 nothing_behind (arc ∷ arcs) = ap (λ (rest : List (ℕ × ℕ)). arc ∷ rest) (nothing_behind arcs)
 
 -- a row that is put behind the rows
-pub arcs_of_rows-push : (i : ℕ) (lists : List (Vec ℕ Global)) (list : Vec ℕ Global) → arcs_of_rows i (rows_in (lists ++ list ∷ [])) ≡ arcs_of_rows i (rows_in lists) ++ arcs_from (i + length lists) list.items
+pub arcs_of_rows-push : (i : ℕ) (lists : List (Vec ℕ Global)) (list : Vec ℕ Global) →
+    arcs_of_rows i (rows_in (lists ++ list ∷ [])) ≡ arcs_of_rows i (rows_in lists)
+    ++ arcs_from (i + length lists) list.items
 arcs_of_rows-push i [] list =
     let same : i ≡ i + 0 = omega arith in
     subst (λ (h : ℕ). arcs_from i list.items ++ [] ≡ arcs_from h list.items) same (nothing_behind (arcs_from i list.items))
 arcs_of_rows-push i (first ∷ lists) list =
     let same : i + 1 + length lists ≡ i + suc (length lists) = omega arith in
     let rest = subst (λ (h : ℕ). arcs_of_rows (i + 1) (rows_in (lists ++ list ∷ [])) ≡ arcs_of_rows (i + 1) (rows_in lists) ++ arcs_from h list.items) same (arcs_of_rows-push (i + 1) lists list) in
-    ap (λ (arcs : List (ℕ × ℕ)). arcs_from i first.items ++ arcs) rest ∙ sym (append_assoc (arcs_from i first.items) (arcs_of_rows (i + 1) (rows_in lists)) (arcs_from (i + suc (length lists)) list.items))
+    ap (λ (arcs : List (ℕ × ℕ)). arcs_from i first.items ++ arcs) rest
+        ∙ sym (append_assoc (arcs_from i first.items) (arcs_of_rows (i + 1) (rows_in lists))
+        (arcs_from (i + suc (length lists)) list.items))
 
 -- the first rows and the next one
-pub arcs_of_rows-more : (lists : List (Vec ℕ Global)) (k : ℕ) (list : Vec ℕ Global) → k < length lists → list ≡ get_or lists k list → arcs_of_rows 1 (rows_in (take (k + 1) lists)) ≡ arcs_of_rows 1 (rows_in (take k lists)) ++ arcs_from (k + 1) list.items
+pub arcs_of_rows-more : (lists : List (Vec ℕ Global)) (k : ℕ) (list : Vec ℕ Global) → k < length lists →
+    list ≡ get_or lists k list → arcs_of_rows 1 (rows_in (take (k + 1) lists)) ≡ arcs_of_rows 1
+    (rows_in (take k lists)) ++ arcs_from (k + 1) list.items
 arcs_of_rows-more lists k list within is =
     let next : take (k + 1) lists ≡ take k lists ++ list ∷ [] = take_more lists k list within ∙ ap (λ (l : Vec ℕ Global). take k lists ++ l ∷ []) (sym is) in
     let below : k ≤ length lists = omega (arith, within) in

@@ -70,7 +70,9 @@ comes_ready net order placed limits turns j (activity, misses, before) =
     (activity, still_open net order placed turns j activity misses, λ i arc. (turns.marks i (arc_ends net i j limits arc).0).1 (before i arc))
 
 -- the mark of one more activity is set, which goes to the end of the list
-pub marks_push : (net : Net) (list : List ℕ) (marks : List Bool) (j : ℕ) → IsActivity net j → j - 1 < length marks → ((h : ℕ) → IsActivity net h → IsPlaced marks h ↔ Contains list h) → (h : ℕ) → IsActivity net h → IsPlaced (set marks (j - 1) true) h ↔ Contains (list ++ j ∷ []) h
+pub marks_push : (net : Net) (list : List ℕ) (marks : List Bool) (j : ℕ) → IsActivity net j →
+    j - 1 < length marks → ((h : ℕ) → IsActivity net h → IsPlaced marks h ↔ Contains list h) → (h : ℕ) →
+    IsActivity net h → IsPlaced (set marks (j - 1) true) h ↔ Contains (list ++ j ∷ []) h
 marks_push net list marks j activity within are h activity' = by_case (cases_eq h j) where
   by_case : (h ≡ j) ⊎ (h ≡ j → ⊥) → IsPlaced (set marks (j - 1) true) h ↔ Contains (list ++ j ∷ []) h
   by_case (inl same) =
@@ -88,7 +90,9 @@ marks_push net list marks j activity within are h activity' = by_case (cases_eq 
     from (inr same) = absurd (other (sym same))
 
 -- a turn: the least ready activity is placed
-pub IsPlacedOrder-push : (net : Net) (order : List ℕ) (placed : List Bool) (j : ℕ) → IsWithinLimits net → IsPlacedOrder net order placed → IsLeast (IsReady net placed) j → IsPlacedOrder net (order ++ j ∷ []) (set placed (j - 1) true)
+pub IsPlacedOrder-push : (net : Net) (order : List ℕ) (placed : List Bool) (j : ℕ) → IsWithinLimits net →
+    IsPlacedOrder net order placed → IsLeast (IsReady net placed) j →
+    IsPlacedOrder net (order ++ j ∷ []) (set placed (j - 1) true)
 IsPlacedOrder-push net order placed j limits turns ready = record {
   whole = length-set placed (j - 1) true ∙ turns.whole;
   counted = omega (arith, length_push order j, open_count-set placed (j - 1) within is_open, turns.counted);
@@ -154,7 +158,9 @@ IsStuckBelow-succs net placed j first succs listed below low held h activity low
 -- up to one of them, where those before it do
 pub IsStuckBelow-at : (net : Net) (placed : List Bool) (j at : ℕ) (succs : List ℕ) → ListsRising (IsArc net j) succs → IsStuckBelowBut net placed j → at < length succs → get_or succs at 0 < j
     → ((m : ℕ) → m < at → get_or succs m 0 < j → (i : ℕ) × IsArc net i (get_or succs m 0) × IsOpen placed i) → IsStuckBelow net placed (get_or succs at 0)
-IsStuckBelow-at net placed j at succs listed below within low held = IsStuckBelow-succs net placed j (get_or succs at 0) succs listed below (omega (arith, low)) (λ m inside lower. before m inside lower (cases_lt m at)) where
+IsStuckBelow-at net placed j at succs listed below within low held =
+    IsStuckBelow-succs net placed j (get_or succs at 0) succs listed below (omega (arith, low))
+    (λ m inside lower. before m inside lower (cases_lt m at)) where
   before : (m : ℕ) → m < length succs → get_or succs m 0 < get_or succs at 0 → (m < at) ⊎ (at ≤ m) → (i : ℕ) × IsArc net i (get_or succs m 0) × IsOpen placed i
   before m inside lower (inl earlier) = held m earlier (omega (arith, lower, low))
   before m inside lower (inr later) = let up : get_or succs at 0 ≤ get_or succs m 0 = rising_at_most succs listed.rising at m later inside in absurd (omega (arith, up, lower))

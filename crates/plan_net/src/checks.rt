@@ -14,7 +14,7 @@ pub fn first_bad_duration(durations: &[u64]) -> Option<u32>
     ensures none { IfNone result (HasGoodDurations (unlagged durations.now [])) }
 {
     let mut sum = 0;
-    'durations: for (k, &duration) in durations.iter().enumerate() {
+    for (k, &duration) in durations.iter().enumerate() {
         if duration > LONGEST_DURATION || sum + duration > LONGEST_SUM {
             return Some(k as u32 + 1);
         }
@@ -36,7 +36,7 @@ pub fn first_bad_arc(durations: &[u64], arcs: &[(u32, u32)]) -> Option<(u32, u32
     ensures none { IfNone result (HasGoodArcs (unlagged durations.now arcs.now)) }
 {
     let count = durations.len();
-    'arcs: for &(i, j) in arcs {
+    for &(i, j) in arcs {
         if !is_activity(count, i) || !is_activity(count, j) {
             return Some((i, j));
         }

@@ -27,7 +27,7 @@ fn trail_from(
     let mut trail = Vec::new(alloc);
     let mut met = vec![in alloc; false; arcs.len()]?;
     let mut at = first;
-    'walk: while !met[at as usize - 1] {
+    while !met[at as usize - 1] {
         met[at as usize - 1] = true;
         trail.push(at)?;
         at = match open_pred(arcs, at, placed) {
@@ -46,7 +46,7 @@ fn place_of_least(members: &[u32]) -> usize
         slice_index members.now result ≤ slice_index members.now k) }
 {
     let mut place = 0;
-    'members: for k in 0..members.len() {
+    for k in 0..members.len() {
         if members[k] < members[place] {
             place = k;
         }
@@ -61,7 +61,7 @@ fn place_of_met(trail: &[u32], at: u32) -> usize
     ensures found { slice_index trail.now result ≡ at }
 {
     let mut place = 0;
-    'trail: for k in 0..trail.len() {
+    for k in 0..trail.len() {
         if trail[k] == at {
             place = k;
         }

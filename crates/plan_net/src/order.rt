@@ -15,7 +15,7 @@ pub fn open_pred(arcs: &Arcs, j: u32, placed: &[bool]) -> Option<u32>
     ensures some { IfSome result (IsLeast (λ i. IsArc arcs.now i j × IsOpen placed.now i)) }
     ensures none { IfNone result ((i : ℕ) → IsArc arcs.now i j → IsPlaced placed.now i) }
 {
-    'preds: for &i in arcs.preds(j) {
+    for &i in arcs.preds(j) {
         if !placed[i as usize - 1] {
             return Some(i);
         }
@@ -33,7 +33,7 @@ fn least_ready(arcs: &Arcs, placed: &[bool], first: u32) -> Option<u32>
     ensures none { IfNone result (IsStuck arcs.now placed.now) }
 {
     let count = arcs.len() as u32;
-    'activities: for j in first..=count {
+    for j in first..=count {
         if !placed[j as usize - 1] {
             match open_pred(arcs, j, placed) {
                 None => return Some(j),
@@ -54,7 +54,7 @@ fn next_from(arcs: &Arcs, j: u32, placed: &[bool]) -> u32
     ensures first { 1 ≤ result }
     ensures below { IsStuckBelow arcs.now placed.now result }
 {
-    'succs: for &k in arcs.succs(j) {
+    for &k in arcs.succs(j) {
         if k < j && open_pred(arcs, k, placed).is_none() {
             return k;
         }
@@ -70,7 +70,7 @@ pub fn least_order(alloc: Global, arcs: &Arcs) -> Result<(Vec<u32>, Vec<bool>), 
     let mut order = Vec::new(alloc);
     let mut placed = vec![in alloc; false; arcs.len()]?;
     let mut first = 1;
-    'turns: while let Some(j) = least_ready(arcs, &placed, first) {
+    while let Some(j) = least_ready(arcs, &placed, first) {
         order.push(j)?;
         placed[j as usize - 1] = true;
         first = next_from(arcs, j, &placed);
@@ -85,7 +85,7 @@ pub fn first_open(placed: &[bool]) -> Option<u32>
         (λ h. (1 ≤ h) × (h ≤ length placed.now) × IsOpen placed.now h) j) }
     ensures none { IfNone result ((j : ℕ) → 1 ≤ j → j ≤ length placed.now → IsPlaced placed.now j) }
 {
-    'marks: for (k, &mark) in placed.iter().enumerate() {
+    for (k, &mark) in placed.iter().enumerate() {
         if !mark {
             return Some(k as u32 + 1);
         }

@@ -16,7 +16,7 @@ pub fn no_marks(alloc: Global, count: usize) -> Result<Vec<Vec<bool>>, AllocErro
     ensures empty { IfOk result (λ marks. HasNoMark marks.items) }
 {
     let mut marks = Vec::new(alloc);
-    'rows: for _ in 0..count {
+    for _ in 0..count {
         marks.push(vec![in alloc; false; count]?)?;
     }
     Ok(marks)
@@ -34,7 +34,7 @@ pub fn first_double_arc(
     ensures some { IfSome result (IsFirstDoubleArc (unlagged durations.now arcs.now)) }
     ensures none { IfNone result (HasNewArcs (unlagged durations.now arcs.now)) }
 {
-    'arcs: for &(i, j) in arcs {
+    for &(i, j) in arcs {
         let row = j as usize - 1;
         let column = i as usize - 1;
         if marks[row][column] {
@@ -50,7 +50,7 @@ pub fn no_lags(alloc: Global, rows: &[Vec<u32>]) -> Result<Vec<Vec<u64>>, AllocE
     ensures { IfOk result (λ lags. AreNoLags rows.now lags.items) }
 {
     let mut lags = Vec::new(alloc);
-    'rows: for k in 0..rows.len() {
+    for k in 0..rows.len() {
         lags.push(vec![in alloc; 0; rows[k].len()]?)?;
     }
     Ok(lags)

@@ -14,7 +14,10 @@ pub rows_before_both : (p q : List ℕ → Bool) (all : List NumberedLine) → r
 rows_before_both p q [] = refl
 rows_before_both p q (line ∷ others) = by_tests (p line.text) (q line.text) refl refl (rows_before_both p q others)
   where
-    by_tests : (a b : Bool) → p line.text ≡ a → q line.text ≡ b → rows (λ _. true) (λ text. p text || q text) others ≡ before_end p (before_end q others) → rows (λ _. true) (λ text. p text || q text) (line ∷ others) ≡ before_end p (before_end q (line ∷ others))
+    by_tests : (a b : Bool) → p line.text ≡ a → q line.text ≡ b →
+        rows (λ _. true) (λ text. p text || q text) others ≡ before_end p (before_end q others) →
+        rows (λ _. true) (λ text. p text || q text) (line ∷ others) ≡ before_end p
+        (before_end q (line ∷ others))
     by_tests true true e f same = rw (e, f) refl
     by_tests true false e f same = rw (e, f, e) refl
     by_tests false true e f same = rw (e, f) refl

@@ -48,11 +48,16 @@ block_listed : (name : List ℕ) (all : List NumberedLine) (s : Stream) → bloc
 block_listed name [] s e = absurd (cc)
 block_listed name (line ∷ others) s e = by_line (instance_name line.text) (block_listed name others s) e
   where
-    by_name : (other : List ℕ) (b : Bool) → bytes_eq other name ≡ b → (block name others ≡ Some s → Contains (all_names others) name) → (if b then Some (block_from line.number others) else block name others) ≡ Some s → Contains (other ∷ all_names others) name
+    by_name : (other : List ℕ) (b : Bool) → bytes_eq other name ≡ b →
+        (block name others ≡ Some s → Contains (all_names others) name) →
+        (if b then Some (block_from line.number others) else block name others) ≡ Some s →
+        Contains (other ∷ all_names others) name
     by_name other true is rest e = here other name (all_names others) (same_name other name is)
     by_name other false is rest e = later other name (all_names others) (rest e)
 
-    by_line : (o : Option (List ℕ)) → (block name others ≡ Some s → Contains (all_names others) name) → (if is_name name o then Some (block_from line.number others) else block name others) ≡ Some s → Contains (cons_option o (all_names others)) name
+    by_line : (o : Option (List ℕ)) → (block name others ≡ Some s → Contains (all_names others) name) →
+        (if is_name name o then Some (block_from line.number others) else block name others) ≡ Some s →
+        Contains (cons_option o (all_names others)) name
     by_line None rest e = rest e
     by_line (Some other) rest e = by_name other (bytes_eq other name) refl rest e
 
@@ -64,11 +69,16 @@ block_unlisted name (line ∷ others) e h = by_line (instance_name line.text) (b
     by_place other is rest (inl same) = let both : true ≡ false = sym (name_same other name same) ∙ is in absurd (cc)
     by_place other is rest (inr behind) = rest behind
 
-    by_name : (other : List ℕ) (b : Bool) → bytes_eq other name ≡ b → (block name others ≡ None → Contains (all_names others) name → ⊥) → (if b then Some (block_from line.number others) else block name others) ≡ None → Contains (other ∷ all_names others) name → ⊥
+    by_name : (other : List ℕ) (b : Bool) → bytes_eq other name ≡ b →
+        (block name others ≡ None → Contains (all_names others) name → ⊥) →
+        (if b then Some (block_from line.number others) else block name others) ≡ None →
+        Contains (other ∷ all_names others) name → ⊥
     by_name other true is rest e h = absurd (cc)
     by_name other false is rest e h = by_place other is (rest e) (first_or_later other name (all_names others) h)
 
-    by_line : (o : Option (List ℕ)) → (block name others ≡ None → Contains (all_names others) name → ⊥) → (if is_name name o then Some (block_from line.number others) else block name others) ≡ None → Contains (cons_option o (all_names others)) name → ⊥
+    by_line : (o : Option (List ℕ)) → (block name others ≡ None → Contains (all_names others) name → ⊥) →
+        (if is_name name o then Some (block_from line.number others) else block name others) ≡ None →
+        Contains (cons_option o (all_names others)) name → ⊥
     by_line None rest e h = rest e h
     by_line (Some other) rest e h = by_name other (bytes_eq other name) refl rest e h
 
@@ -82,7 +92,9 @@ stream_listed name text s e = by_form (is_bare text) e
     by_name true is e = here bare_name name [] (sym (same_name name bare_name is))
     by_name false is e = absurd (cc)
 
-    by_form : (b : Bool) → (if b then (if bytes_eq name bare_name then Some (bare_stream text) else None) else block name (lines text)) ≡ Some s → Contains (if b then bare_name ∷ [] else all_names (lines text)) name
+    by_form : (b : Bool) → (if b then (if bytes_eq name bare_name then Some (bare_stream text) else None) else
+        block name (lines text)) ≡ Some s → Contains
+        (if b then bare_name ∷ [] else all_names (lines text)) name
     by_form true e = by_name (bytes_eq name bare_name) refl e
     by_form false e = block_listed name (lines text) s e
 
@@ -98,7 +110,9 @@ stream_unlisted name text e h = by_form (is_bare text) e h
     by_name true is e h = absurd (cc)
     by_name false is e h = by_place is (first_or_later bare_name name [] h)
 
-    by_form : (b : Bool) → (if b then (if bytes_eq name bare_name then Some (bare_stream text) else None) else block name (lines text)) ≡ None → Contains (if b then bare_name ∷ [] else all_names (lines text)) name → ⊥
+    by_form : (b : Bool) → (if b then (if bytes_eq name bare_name then Some (bare_stream text) else None) else
+        block name (lines text)) ≡ None → Contains
+        (if b then bare_name ∷ [] else all_names (lines text)) name → ⊥
     by_form true e h = by_name (bytes_eq name bare_name) refl e h
     by_form false e h = block_unlisted name (lines text) e h
 
@@ -137,25 +151,36 @@ avoids_limited : (least most : ℕ) (s : Stream) → Avoids (limited_at least mo
 unfolding limited_at limited
 avoids_limited least most s =
     avoids_then (number_at s) _ (avoids_number s) (λ n.
-    avoids_then (limited least most n.0) _ (avoids_then (check (nat_le least n.0.value && nat_le n.0.value most) code.Limit n.0.line) _ (avoids_check _ code.Limit n.0.line (λ e. absurd (cc))) (λ u. avoids_ok n.0.value)) (λ value.
+    avoids_then (limited least most n.0) _ (avoids_then
+        (check (nat_le least n.0.value && nat_le n.0.value most) code.Limit n.0.line) _
+        (avoids_check _ code.Limit n.0.line (λ e. absurd (cc))) (λ u. avoids_ok n.0.value)) (λ value.
     avoids_ok _))
 
 avoids_step : (machines total : ℕ) (s : Stream) → Avoids (step_at machines total s)
 unfolding step_at machine_at duration_at
 avoids_step machines total s =
-    avoids_then (machine_at machines s) _ (avoids_then (number_at s) _ (avoids_number s) (λ n. avoids_then (check (nat_lt n.0.value machines) code.BadMachine n.0.line) _ (avoids_check _ code.BadMachine n.0.line (λ e. absurd (cc))) (λ u. avoids_ok _))) (λ machine.
-    avoids_then (duration_at total machine.1) _ (avoids_then (number_at machine.1) _ (avoids_number machine.1) (λ n. avoids_then (check (nat_le n.0.value greatest && nat_le (total + n.0.value) greatest_total) code.Limit n.0.line) _ (avoids_check _ code.Limit n.0.line (λ e. absurd (cc))) (λ u. avoids_ok _))) (λ time.
+    avoids_then (machine_at machines s) _ (avoids_then (number_at s) _ (avoids_number s)
+        (λ n. avoids_then (check (nat_lt n.0.value machines) code.BadMachine n.0.line) _
+        (avoids_check _ code.BadMachine n.0.line (λ e. absurd (cc))) (λ u. avoids_ok _))) (λ machine.
+    avoids_then (duration_at total machine.1) _ (avoids_then (number_at machine.1) _ (avoids_number machine.1)
+        (λ n. avoids_then (check (nat_le n.0.value greatest && nat_le (total + n.0.value) greatest_total)
+        code.Limit n.0.line) _ (avoids_check _ code.Limit n.0.line (λ e. absurd (cc))) (λ u. avoids_ok _)))
+        (λ time.
     avoids_ok _))
 
 avoids_steps : (machines total more : ℕ) (before : List Step) (s : Stream) → Avoids (steps_at machines total more before s)
 unfolding steps_at
 avoids_steps machines total zero before s = avoids_ok _
-avoids_steps machines total (suc more) before s = avoids_then (step_at machines (total + time_of before) s) _ (avoids_step machines (total + time_of before) s) (λ step. avoids_steps machines total more (before ++ step.0 ∷ []) step.1)
+avoids_steps machines total (suc more) before s = avoids_then (step_at machines (total + time_of before) s) _
+    (avoids_step machines (total + time_of before) s)
+    (λ step. avoids_steps machines total more (before ++ step.0 ∷ []) step.1)
 
 avoids_jobs : (machines more : ℕ) (before : List (List Step)) (s : Stream) → Avoids (jobs_at machines more before s)
 unfolding jobs_at
 avoids_jobs machines zero before s = avoids_ok _
-avoids_jobs machines (suc more) before s = avoids_then (steps_at machines (total_time before) machines [] s) _ (avoids_steps machines (total_time before) machines [] s) (λ job. avoids_jobs machines more (before ++ job.0 ∷ []) job.1)
+avoids_jobs machines (suc more) before s = avoids_then (steps_at machines (total_time before) machines [] s) _
+    (avoids_steps machines (total_time before) machines [] s)
+    (λ job. avoids_jobs machines more (before ++ job.0 ∷ []) job.1)
 
 avoids_shop : (s : Stream) → Avoids (shop_at s)
 unfolding shop_at
@@ -209,7 +234,9 @@ missing_unlisted name text errors.Memory fault fails tells missing listed = let 
 missing_unlisted name text (errors.Fault f) fault fails tells missing listed = shop_missing name text f fails (sym tells.0 ∙ missing) listed
 
 -- a name that isn't listed is missing, whatever memory there is
-pub unlisted_missing : (name text : List ℕ) (e : ReadError) (fault : FileFault) → ((f : Fault) → located name text ≡ Err f → e ≡ errors.Fault f) → TellsError e fault → plain text ≡ Ok tt → (Contains (names_of text) name → ⊥) → (fault.code ≡ code.NoInstance) × (fault.line ≡ last_line text)
+pub unlisted_missing : (name text : List ℕ) (e : ReadError) (fault : FileFault) →
+    ((f : Fault) → located name text ≡ Err f → e ≡ errors.Fault f) → TellsError e fault → plain text ≡ Ok tt →
+    (Contains (names_of text) name → ⊥) → (fault.code ≡ code.NoInstance) × (fault.line ≡ last_line text)
 unlisted_missing name text e fault early tells good unlisted =
     let missing : Fault = record { code = code.NoInstance; line = last_line text } in
     let told = subst (λ (other : ReadError). TellsError other fault) (early missing (located_unlisted name text good unlisted)) tells in

@@ -56,7 +56,8 @@ goes_machine machines n s t p below =
     ok_bind (number_at s) _ (record { value = n; line = t.last }, t) (n, t) (goes_number s t n p)
     (ok_bind (check (nat_lt n machines) code.BadMachine t.last) _ tt (n, t) (ok_check _ code.BadMachine t.last (lt-ltb n machines below)) refl)
 
-step_goes : (machines total : ℕ) (s : Stream) (x : Step × Stream) → step_at machines total s ≡ Ok x → Goes s (x.0.machine ∷ x.0.time ∷ []) x.1 × IsStep machines x.0 × (total + x.0.time ≤ greatest_total)
+step_goes : (machines total : ℕ) (s : Stream) (x : Step × Stream) → step_at machines total s ≡ Ok x →
+    Goes s (x.0.machine ∷ x.0.time ∷ []) x.1 × IsStep machines x.0 × (total + x.0.time ≤ greatest_total)
 unfolding step_at
 step_goes machines total s x e =
     then_ok (machine_at machines s) _ x e (λ m first e.
@@ -66,7 +67,8 @@ step_goes machines total s x e =
     let P : Step × Stream → Type 0 = λ z. Goes s (z.0.machine ∷ z.0.time ∷ []) z.1 × IsStep machines z.0 × (total + z.0.time ≤ greatest_total) in
     subst P (same_ok (record { machine = m.0; time = p.0 }, p.1) x e) (goes_append s m.1 p.1 (m.0 ∷ []) (p.0 ∷ []) machine.0 time.0, (machine.1, time.1), time.2)))
 
-goes_step : (machines total : ℕ) (step : Step) (s t : Stream) → Goes s (step.machine ∷ step.time ∷ []) t → IsStep machines step → total + step.time ≤ greatest_total → step_at machines total s ≡ Ok (step, t)
+goes_step : (machines total : ℕ) (step : Step) (s t : Stream) → Goes s (step.machine ∷ step.time ∷ []) t →
+    IsStep machines step → total + step.time ≤ greatest_total → step_at machines total s ≡ Ok (step, t)
 unfolding step_at
 goes_step machines total step s t p is fits =
     let a = goes_split s t (step.machine ∷ []) (step.time ∷ []) p in
@@ -82,7 +84,9 @@ record AreSteps (machines more earlier : ℕ) (before new : List Step) (s t : St
   each : AllByRecursion (IsStep machines) new
   total : earlier + time_of before + time_of new ≤ greatest_total
 
-steps_goes : (machines total more : ℕ) (before : List Step) (s : Stream) (x : List Step × Stream) → total + time_of before ≤ greatest_total → steps_at machines total more before s ≡ Ok x → (new : List Step) × (x.0 ≡ before ++ new) × AreSteps machines more total before new s x.1
+steps_goes : (machines total more : ℕ) (before : List Step) (s : Stream) (x : List Step × Stream) →
+    total + time_of before ≤ greatest_total → steps_at machines total more before s ≡ Ok x →
+    (new : List Step) × (x.0 ≡ before ++ new) × AreSteps machines more total before new s x.1
 unfolding steps_at
 steps_goes machines total zero before s x fits e =
     let P : List Step × Stream → Type 0 = λ z. (new : List Step) × (z.0 ≡ before ++ new) × AreSteps machines 0 total before new s z.1 in
@@ -104,7 +108,9 @@ steps_goes machines total (suc more) before s x fits e =
       },
     ))
 
-goes_steps : (machines total : ℕ) (before new : List Step) (s t : Stream) → Goes s (job_numbers new) t → AllByRecursion (IsStep machines) new → total + time_of before + time_of new ≤ greatest_total → steps_at machines total (length new) before s ≡ Ok (before ++ new, t)
+goes_steps : (machines total : ℕ) (before new : List Step) (s t : Stream) → Goes s (job_numbers new) t →
+    AllByRecursion (IsStep machines) new → total + time_of before + time_of new ≤ greatest_total →
+    steps_at machines total (length new) before s ≡ Ok (before ++ new, t)
 unfolding steps_at
 goes_steps machines total before [] s t p each fits = ap (λ (u : Stream). Ok (before, u)) (sym p) ∙ ap (λ (xs : List Step). Ok (xs, t)) (sym (append-nil before))
 goes_steps machines total before (step ∷ steps) s t p each fits =
@@ -121,7 +127,9 @@ record AreJobs (machines more : ℕ) (before new : List (List Step)) (s t : Stre
   each : AllByRecursion (IsJob machines) new
   total : total_time before + total_time new ≤ greatest_total
 
-jobs_goes : (machines more : ℕ) (before : List (List Step)) (s : Stream) (x : List (List Step) × Stream) → total_time before ≤ greatest_total → jobs_at machines more before s ≡ Ok x → (new : List (List Step)) × (x.0 ≡ before ++ new) × AreJobs machines more before new s x.1
+jobs_goes : (machines more : ℕ) (before : List (List Step)) (s : Stream) (x : List (List Step) × Stream) →
+    total_time before ≤ greatest_total → jobs_at machines more before s ≡ Ok x →
+    (new : List (List Step)) × (x.0 ≡ before ++ new) × AreJobs machines more before new s x.1
 unfolding jobs_at
 jobs_goes machines zero before s x fits e =
     let P : List (List Step) × Stream → Type 0 = λ z. (new : List (List Step)) × (z.0 ≡ before ++ new) × AreJobs machines 0 before new s z.1 in
@@ -148,7 +156,10 @@ jobs_goes machines (suc more) before s x fits e =
       },
     ))
 
-goes_jobs : (machines : ℕ) (before new : List (List Step)) (s t : Stream) → Goes s (flat_map job_numbers new) t → AllByRecursion (IsJob machines) new → total_time before + total_time new ≤ greatest_total → jobs_at machines (length new) before s ≡ Ok (before ++ new, t)
+goes_jobs : (machines : ℕ) (before new : List (List Step)) (s t : Stream) →
+    Goes s (flat_map job_numbers new) t → AllByRecursion (IsJob machines) new →
+    total_time before + total_time new ≤ greatest_total →
+    jobs_at machines (length new) before s ≡ Ok (before ++ new, t)
 unfolding jobs_at
 goes_jobs machines before [] s t p each fits = ap (λ (u : Stream). Ok (before, u)) (sym p) ∙ ap (λ (xs : List (List Step)). Ok (xs, t)) (sym (append-nil before))
 goes_jobs machines before (job ∷ jobs) s t p each fits =
@@ -200,10 +211,13 @@ shop_read s d begins is =
     let total = is.total in
     ok_bind (limited_at 1 most_jobs s) _ (length d.jobs, a.0) d (goes_limited 1 most_jobs (length d.jobs) s a.0 a.1 is.jobs.0 is.jobs.1)
     (ok_bind (limited_at 1 most_machines a.0) _ (d.machines, b.0) d (goes_limited 1 most_machines d.machines a.0 b.0 b.1 is.machines.0 is.machines.1)
-    (ok_bind (jobs_at d.machines (length d.jobs) [] b.0) _ (d.jobs, all.0) d (goes_jobs d.machines [] d.jobs b.0 all.0 b.2 (recursion_from_All (IsJob d.machines) d.jobs is.steps) (omega (arith, total))) refl))
+    (ok_bind (jobs_at d.machines (length d.jobs) [] b.0) _ (d.jobs, all.0) d
+        (goes_jobs d.machines [] d.jobs b.0 all.0 b.2 (recursion_from_All (IsJob d.machines) d.jobs is.steps)
+        (omega (arith, total))) refl))
 
 -- what holds of all jobs holds of the one at k
-pub job_at_good : {X : Type 0} (P : List Step → Type 0) (items : X → List Step) (rows : List X) (k : ℕ) (row : X) → row ≡ get_or rows k row → k < length (map items rows) → All P (map items rows) → P (items row)
+pub job_at_good : {X : Type 0} (P : List Step → Type 0) (items : X → List Step) (rows : List X) (k : ℕ)
+    (row : X) → row ≡ get_or rows k row → k < length (map items rows) → All P (map items rows) → P (items row)
 job_at_good P items rows k row is below all =
     let counted = length-map rows items in
     let same : get_or (map items rows) k (items row) ≡ items row = get_or-map items rows k row (items row) (omega (arith, counted, below)) ∙ ap items (sym is) in

@@ -27,13 +27,22 @@ module _ (machines total : ℕ) where
   unfolding steps_at
   steps-suc k s = refl
 
-  pub steps_go_on : (count i : ℕ) (before : List Step) (s : Stream) (step : Step) (after : Stream) (whole : Result (List Step × Stream) Fault) → i < count → step_at machines (total + time_of before) s ≡ Ok (step, after) → steps_at machines total (count - i) before s ≡ whole → steps_at machines total (count - (i + 1)) (before ++ step ∷ []) after ≡ whole
+  pub steps_go_on : (count i : ℕ) (before : List Step) (s : Stream) (step : Step) (after : Stream)
+      (whole : Result (List Step × Stream) Fault) → i < count →
+      step_at machines (total + time_of before) s ≡ Ok (step, after) →
+      steps_at machines total (count - i) before s ≡ whole →
+      steps_at machines total (count - (i + 1)) (before ++ step ∷ []) after ≡ whole
   steps_go_on count i before s step after whole = goes_on other_steps one_step behind_step steps-suc count i (before, s) (step, after) whole
 
-  pub steps_fail : (e : ReadError) (count i : ℕ) (before : List Step) (s : Stream) (whole : Result (List Step × Stream) Fault) → i < count → Fails e (step_at machines (total + time_of before) s) → steps_at machines total (count - i) before s ≡ whole → Fails e whole
+  pub steps_fail : (e : ReadError) (count i : ℕ) (before : List Step) (s : Stream)
+      (whole : Result (List Step × Stream) Fault) → i < count →
+      Fails e (step_at machines (total + time_of before) s) →
+      steps_at machines total (count - i) before s ≡ whole → Fails e whole
   steps_fail e count i before s whole = fails other_steps one_step behind_step steps-suc e count i (before, s) whole
 
-  pub steps_done : (count i : ℕ) (before : List Step) (s : Stream) (whole : Result (List Step × Stream) Fault) → count ≤ i → steps_at machines total (count - i) before s ≡ whole → whole ≡ Ok (before, s)
+  pub steps_done : (count i : ℕ) (before : List Step) (s : Stream)
+      (whole : Result (List Step × Stream) Fault) → count ≤ i →
+      steps_at machines total (count - i) before s ≡ whole → whole ≡ Ok (before, s)
   unfolding steps_at
   steps_done count i before s whole past is = sym (is_done other_steps one_step behind_step steps-suc count i (before, s) whole past is)
 
@@ -55,12 +64,21 @@ module _ (machines : ℕ) where
   unfolding jobs_at
   jobs-suc k s = refl
 
-  pub jobs_go_on : (count i : ℕ) (before : List (List Step)) (s : Stream) (job : List Step) (after : Stream) (whole : Result (List (List Step) × Stream) Fault) → i < count → steps_at machines (total_time before) machines [] s ≡ Ok (job, after) → jobs_at machines (count - i) before s ≡ whole → jobs_at machines (count - (i + 1)) (before ++ job ∷ []) after ≡ whole
+  pub jobs_go_on : (count i : ℕ) (before : List (List Step)) (s : Stream) (job : List Step) (after : Stream)
+      (whole : Result (List (List Step) × Stream) Fault) → i < count →
+      steps_at machines (total_time before) machines [] s ≡ Ok (job, after) →
+      jobs_at machines (count - i) before s ≡ whole →
+      jobs_at machines (count - (i + 1)) (before ++ job ∷ []) after ≡ whole
   jobs_go_on count i before s job after whole = goes_on other_jobs one_job behind_job jobs-suc count i (before, s) (job, after) whole
 
-  pub jobs_fail : (e : ReadError) (count i : ℕ) (before : List (List Step)) (s : Stream) (whole : Result (List (List Step) × Stream) Fault) → i < count → Fails e (steps_at machines (total_time before) machines [] s) → jobs_at machines (count - i) before s ≡ whole → Fails e whole
+  pub jobs_fail : (e : ReadError) (count i : ℕ) (before : List (List Step)) (s : Stream)
+      (whole : Result (List (List Step) × Stream) Fault) → i < count →
+      Fails e (steps_at machines (total_time before) machines [] s) →
+      jobs_at machines (count - i) before s ≡ whole → Fails e whole
   jobs_fail e count i before s whole = fails other_jobs one_job behind_job jobs-suc e count i (before, s) whole
 
-  pub jobs_done : (count i : ℕ) (before : List (List Step)) (s : Stream) (whole : Result (List (List Step) × Stream) Fault) → count ≤ i → jobs_at machines (count - i) before s ≡ whole → whole ≡ Ok (before, s)
+  pub jobs_done : (count i : ℕ) (before : List (List Step)) (s : Stream)
+      (whole : Result (List (List Step) × Stream) Fault) → count ≤ i →
+      jobs_at machines (count - i) before s ≡ whole → whole ≡ Ok (before, s)
   unfolding jobs_at
   jobs_done count i before s whole past is = sym (is_done other_jobs one_job behind_job jobs-suc count i (before, s) whole past is)

@@ -110,7 +110,9 @@ remove_keeps xs i c within there other =
     elim (cases_order at.0 i) [
       | inl same ↦ absurd (other (sym at.2 ∙ ap (λ n. get_or xs n 0) same))
       | inr (inl before) ↦ there_at (remove xs i) at.0 c (omega arith) (get_or-remove_below xs i 0 at.0 before within ∙ at.2)
-      | inr (inr behind) ↦ there_at (remove xs i) (at.0 - 1) c (omega arith) (get_or-remove_above xs i 0 (at.0 - 1) (omega arith) within ∙ (let e : at.0 - 1 + 1 ≡ at.0 = omega arith in ap (λ n. get_or xs n 0) e) ∙ at.2)
+      | inr (inr behind) ↦ there_at (remove xs i) (at.0 - 1) c (omega arith)
+          (get_or-remove_above xs i 0 (at.0 - 1) (omega arith) within
+          ∙ (let e : at.0 - 1 + 1 ≡ at.0 = omega arith in ap (λ n. get_or xs n 0) e) ∙ at.2)
     ]
 
 -- what is taken out of a rising list is there no more

@@ -44,7 +44,9 @@ raised_first rows from to needs rows2 some raised =
     ext_get_or 0 (get_or rows2 0 []) (get_or rows 0 []) (raised.even 0)
     (λ k below. let e = inside_before from to 0 (get_or needs k 0) some in let sum = raised.each 0 k in omega arith)
 
-pub raised_steps : (changes : List ℕ) (rows : List (List ℕ)) (from to : ℕ) (needs : List ℕ) (rows2 : List (List ℕ)) → IsSteps changes rows → 0 < from → IsRaised rows from to needs rows2 → IsSteps changes rows2
+pub raised_steps : (changes : List ℕ) (rows : List (List ℕ)) (from to : ℕ) (needs : List ℕ)
+    (rows2 : List (List ℕ)) → IsSteps changes rows → 0 < from → IsRaised rows from to needs rows2 →
+    IsSteps changes rows2
 raised_steps changes rows from to needs rows2 steps some raised = record {
   one_more = raised.size ∙ steps.one_more;
   even = λ i inside. raised.even i ∙ steps.even i (let e = raised.size in omega arith) ∙ sym (raised.even 0);
@@ -73,7 +75,9 @@ added_rows changes rows start end t n steps start_there end_there =
                 ] in
                 inside_yes (changes_until changes start) (changes_until changes end) (changes_until changes t) n no_fewer fewer ∙ sym (inside_yes start end t n since early))
             | inr late ↦
-                (inside_after (changes_until changes start) (changes_until changes end) (changes_until changes t) n (until_mono changes end t steps.rising late) ∙ sym (inside_after start end t n late))
+                (inside_after (changes_until changes start) (changes_until changes end)
+                    (changes_until changes t) n (until_mono changes end t steps.rising late)
+                    ∙ sym (inside_after start end t n late))
           ])
     ]
 
@@ -120,15 +124,20 @@ unadded f g start end needs sum (suc t) k no_start no_end same =
     ]
 
 -- the five stages of placing: two cuts, the rows between them raised, two merges
-pub record IsStaged (changes : List ℕ) (rows : List (List ℕ)) (start end : ℕ) (needs changes1 : List ℕ) (rows1 : List (List ℕ)) (changes2 : List ℕ) (rows2 rows3 : List (List ℕ)) (changes4 : List ℕ) (rows4 : List (List ℕ)) (changes5 : List ℕ) (rows5 : List (List ℕ)) : Type 0 where
+pub record IsStaged (changes : List ℕ) (rows : List (List ℕ)) (start end : ℕ) (needs changes1 : List ℕ)
+    (rows1 : List (List ℕ)) (changes2 : List ℕ) (rows2 rows3 : List (List ℕ)) (changes4 : List ℕ)
+    (rows4 : List (List ℕ)) (changes5 : List ℕ) (rows5 : List (List ℕ)) : Type 0 where
   pub opened : IsCut changes rows start changes1 rows1
   pub closed : IsCut changes1 rows1 end changes2 rows2
   pub raised : IsRaised rows2 (changes_until changes2 start) (changes_until changes2 end) needs rows3
   pub end_merged : IsMerged changes2 rows3 end changes4 rows4
   pub start_merged : IsMerged changes4 rows4 start changes5 rows5
 
-pub placed : (changes : List ℕ) (rows : List (List ℕ)) (start end : ℕ) (needs changes1 : List ℕ) (rows1 : List (List ℕ)) (changes2 : List ℕ) (rows2 rows3 : List (List ℕ)) (changes4 : List ℕ) (rows4 : List (List ℕ)) (changes5 : List ℕ) (rows5 : List (List ℕ))
-    → AreChanges changes (amount changes rows) → IsStaged changes rows start end needs changes1 rows1 changes2 rows2 rows3 changes4 rows4 changes5 rows5 → IsPlaced changes rows start end needs changes5 rows5
+pub placed : (changes : List ℕ) (rows : List (List ℕ)) (start end : ℕ) (needs changes1 : List ℕ)
+    (rows1 : List (List ℕ)) (changes2 : List ℕ) (rows2 rows3 : List (List ℕ)) (changes4 : List ℕ)
+    (rows4 : List (List ℕ)) (changes5 : List ℕ) (rows5 : List (List ℕ))
+    → AreChanges changes (amount changes rows) → IsStaged changes rows start end needs changes1 rows1 changes2
+        rows2 rows3 changes4 rows4 changes5 rows5 → IsPlaced changes rows start end needs changes5 rows5
 placed changes rows start end needs changes1 rows1 changes2 rows2 rows3 changes4 rows4 changes5 rows5 true_changes s =
     let steps2 = s.closed.usage.steps in
     let start_there = s.closed.kept start s.opened.there in

@@ -14,7 +14,8 @@ cond_zero true n none = none
 cond_zero false n none = refl
 
 -- the row in force
-pub row_copied : (changes : List ℕ) (rows : List (List ℕ)) (t i : ℕ) (row : List ℕ) → IsSteps changes rows → i ≡ changes_until changes t → i < length rows → get_or rows i [] ≡ row → IsRowOf changes rows t row
+pub row_copied : (changes : List ℕ) (rows : List (List ℕ)) (t i : ℕ) (row : List ℕ) → IsSteps changes rows →
+    i ≡ changes_until changes t → i < length rows → get_or rows i [] ≡ row → IsRowOf changes rows t row
 row_copied changes rows t i row steps is inside same = record {
   even = ap length (sym same) ∙ steps.even i inside;
   each = λ k. ap (λ r. get_or r k 0) (sym same) ∙ ap (λ n. amount_at rows n k) is ∙ sym (amount_row changes rows t k);
@@ -29,14 +30,6 @@ inside_before from to i n before = cond-false _ _ _ (and_left _ _ (lt-leb from i
 pub inside_after : (from to i n : ℕ) → to ≤ i → cond (nat_le from i && nat_lt i to) n 0 ≡ 0
 inside_after from to i n after = cond-false _ _ _ (and_right _ _ (le-ltb i to after))
 
--- no row is raised yet
-pub raised_none : (amounts : List ℕ) (from : ℕ) (needs : List ℕ) → AreRaised amounts from from needs amounts
-raised_none amounts from needs = record {
-  size = refl;
-  each = λ i k below. elim (cases_lt i from) [
-    | inl before ↦ (let e = inside_before from from i (get_or needs k 0) before in omega arith)
-    | inr after ↦ (let e = inside_after from from i (get_or needs k 0) after in omega arith)
-  ];
 }
 
 -- the row that is next to be raised is still as it was
@@ -83,7 +76,9 @@ with_row xs i w ys wide fits =
 
 -- one more row is raised
 pub raised_more : (amounts : List ℕ) (from i : ℕ) (needs amounts2 row sums amounts3 : List ℕ) → from ≤ i → length row ≡ length needs → AreRaised amounts from i needs amounts2
-    → ((k : ℕ) → k < length needs → get_or row k 0 ≡ get_or amounts2 (i * length needs + k) 0) → IsRowWith row needs sums → IsWithRow amounts2 i sums amounts3 → AreRaised amounts from (i + 1) needs amounts3
+    → ((k : ℕ) → k < length needs → get_or row k 0 ≡ get_or amounts2 (i * length needs + k) 0) →
+        IsRowWith row needs sums → IsWithRow amounts2 i sums amounts3 →
+        AreRaised amounts from (i + 1) needs amounts3
 raised_more amounts from i needs amounts2 row sums amounts3 first even raised is with put =
     let wide : length sums ≡ length needs = with.even ∙ even in
     record {

@@ -21,7 +21,9 @@ HasRoomUntil caps changes rows needs t n =
 pub room_none : (caps changes : List ℕ) (rows : List (List ℕ)) (needs : List ℕ) (t : ℕ) → IsRising changes → HasRoomUntil caps changes rows needs t (changes_until changes t)
 room_none caps changes rows needs t rising u k since before inside = absurd (let m = until_mono changes t u rising since in omega arith)
 
-pub room_more : (caps changes : List ℕ) (rows : List (List ℕ)) (needs : List ℕ) (t i : ℕ) → HasRoomUntil caps changes rows needs t i → HasRoomAt caps rows needs i → HasRoomUntil caps changes rows needs t (i + 1)
+pub room_more : (caps changes : List ℕ) (rows : List (List ℕ)) (needs : List ℕ) (t i : ℕ) →
+    HasRoomUntil caps changes rows needs t i → HasRoomAt caps rows needs i →
+    HasRoomUntil caps changes rows needs t (i + 1)
 room_more caps changes rows needs t i room here u k since before inside =
     elim (cases_eq (changes_until changes u) i) [
       | inl same ↦ (let h = here k inside in let e = amount_is changes rows u k i same in omega arith)
@@ -73,7 +75,9 @@ pub record IsSought (caps changes : List ℕ) (rows : List (List ℕ)) (needs : 
   pub room : HasRoomUntil caps changes rows needs t i
   pub none : (u : ℕ) → from ≤ u → u < t → Fits caps (amount changes rows) u d needs → ⊥
 
-pub sought_first : (caps changes : List ℕ) (rows : List (List ℕ)) (needs : List ℕ) (from d first : ℕ) → IsRising changes → first ≡ changes_until changes from → IsSought caps changes rows needs from d first from first
+pub sought_first : (caps changes : List ℕ) (rows : List (List ℕ)) (needs : List ℕ) (from d first : ℕ) →
+    IsRising changes → first ≡ changes_until changes from →
+    IsSought caps changes rows needs from d first from first
 sought_first caps changes rows needs from d first rising is = record {
   since = omega arith;
   later = λ j begun near inside. (elim (cases_lt (get_or changes j 0) from) [
@@ -109,7 +113,8 @@ sought_stuck caps changes rows needs from d first t i rising is begun inside lon
       ]);
     }
 
-pub sought_found : (caps changes : List ℕ) (rows : List (List ℕ)) (needs : List ℕ) (from d first t i : ℕ) → IsSought caps changes rows needs from d first t i → Fits caps (amount changes rows) t d needs
+pub sought_found : (caps changes : List ℕ) (rows : List (List ℕ)) (needs : List ℕ) (from d first t i : ℕ) →
+    IsSought caps changes rows needs from d first t i → Fits caps (amount changes rows) t d needs
     → IsEarliest caps (amount changes rows) from d needs t
 sought_found caps changes rows needs from d first t i sought fits = record {
   since = sought.since;
@@ -131,7 +136,9 @@ last_empty last changes rows k rising ended =
     sym (amount_is changes rows t k (length changes) all) ∙ ended t k (omega arith)
 
 -- behind the last change there is room for what fits at all
-pub last_room : (last : ℕ) (caps changes : List ℕ) (rows : List (List ℕ)) (needs : List ℕ) → IsRising changes → IsEndedBy last changes rows → FitsEmpty caps needs → HasRoomAt caps rows needs (length changes)
+pub last_room : (last : ℕ) (caps changes : List ℕ) (rows : List (List ℕ)) (needs : List ℕ) →
+    IsRising changes → IsEndedBy last changes rows → FitsEmpty caps needs →
+    HasRoomAt caps rows needs (length changes)
 last_room last caps changes rows needs rising ended empty k inside =
     let none = last_empty last changes rows k rising ended in
     let fits = empty k inside in

@@ -47,7 +47,9 @@ other_from state others x is =
     (le-leb others.tail (get_or state.tails.items x 0) is.tail)
 
 -- a fact of each of the others
-pub each_other : (P : ℕ → Type 0) (state : State) (others : Others) (clique : Vec ℕ Global) → ((z : ℕ) → Contains clique.items z → is_other state others z ≡ true → P z) → All P (others_of state others clique.items)
+pub each_other : (P : ℕ → Type 0) (state : State) (others : Others) (clique : Vec ℕ Global) →
+    ((z : ℕ) → Contains clique.items z → is_other state others z ≡ true → P z) →
+    All P (others_of state others clique.items)
 each_other P state others clique each k d below =
     let zs = others_of state others clique.items in
     each (get_or zs k d)
@@ -55,7 +57,9 @@ each_other P state others clique each k d below =
     (filter_passes (is_other state others) clique.items k d below)
 
 -- of two steps of a clique one ends before the other starts
-pub either_first : (g : Graph) (starts : List ℕ) (clique : Vec ℕ Global) (x y : ℕ) → KeepsClique g starts clique → Contains clique.items x → Contains clique.items y → (x ≡ y → ⊥) → IsBefore g starts x y ⊎ IsBefore g starts y x
+pub either_first : (g : Graph) (starts : List ℕ) (clique : Vec ℕ Global) (x y : ℕ) →
+    KeepsClique g starts clique → Contains clique.items x → Contains clique.items y → (x ≡ y → ⊥) →
+    IsBefore g starts x y ⊎ IsBefore g starts y x
 either_first g starts clique x y kept in_x in_y unlike = elim (cases_lt x y) [
   | inl less ↦ kept.apart x y in_x in_y less
   | inr least ↦ elim (kept.apart y x in_y in_x (omega (arith, least, unlike))) [
@@ -82,7 +86,9 @@ filled g limit start rest state others clique starts kept there fill late early 
     let R = IsClear (λ x. get_or starts x 0) (time_in g) in
     let zs : List ℕ = others_of state others clique.items in
     let but : ℕ = others.but in
-    let clear : All (R but) zs = each_other (R but) state others clique (λ z in_z passes. either_first g starts clique but z kept there in_z (λ same. (other_parts state others z passes).another (sym same))) in
+    let clear : All (R but) zs = each_other (R but) state others clique
+        (λ z in_z passes. either_first g starts clique but z kept there in_z
+        (λ same. (other_parts state others z passes).another (sym same))) in
     let order : InOrder R (but ∷ zs) = (recursion_from_All (R but) zs clear, others_in_order g state others clique starts kept) in
     let from : AllByRecursion (λ z. start ≤ get_or starts z 0) (but ∷ zs) =
     (late, recursion_from_All (λ z. start ≤ get_or starts z 0) zs (each_other (λ z. start ≤ get_or starts z 0) state others clique (λ z in_z passes. all_late z passes))) in
@@ -140,7 +146,9 @@ between g starts start end (z ∷ zs) order late early some =
     (recursion_from_All (λ y. start ≤ get_or starts y 0) (z ∷ zs) late) (recursion_from_All (λ y. get_or starts y 0 + time_in g y ≤ end) (z ∷ zs) early)
 
 -- others that start later and leave more are others too
-other_of_more : (state : State) (others last : Others) (z : ℕ) → last.but ≡ others.but → others.head ≤ last.head → others.tail ≤ last.tail → is_other state last z ≡ true → is_other state others z ≡ true
+other_of_more : (state : State) (others last : Others) (z : ℕ) → last.but ≡ others.but →
+    others.head ≤ last.head → others.tail ≤ last.tail → is_other state last z ≡ true →
+    is_other state others z ≡ true
 other_of_more state others last z same later longer passes =
     let is : IsOther state last z = other_parts state last z passes in
     other_from state others z (record { another = λ e. is.another (omega (arith, e, same)); head = omega (arith, later, is.head); tail = omega (arith, longer, is.tail) })
@@ -174,14 +182,20 @@ ahead_leaves g limit times value state others last clique is ahead same later lo
       small,
       most,
       some,
-      between g starts (get_or starts others.but 0 + time_in g others.but) (limit - suc last.tail) zs (others_in_order g state last clique starts (is starts h.kept)) late early (omega (arith, most, some)),
+      between g starts (get_or starts others.but 0 + time_in g others.but) (limit - suc last.tail) zs
+          (others_in_order g state last clique starts (is starts h.kept)) late early
+          (omega (arith, most, some)),
     )
 
 -- what goes behind others goes beyond them from the start, and what goes ahead of them from the finish
-pub beyond_from_start : (g : Graph) (limit : ℕ) (state : State) (clique : Vec ℕ Global) (end : End) (others : Others) → end ≡ Start → IsBehind g limit state clique others → GoesBeyond g limit state clique end others
+pub beyond_from_start : (g : Graph) (limit : ℕ) (state : State) (clique : Vec ℕ Global) (end : End)
+    (others : Others) → end ≡ Start → IsBehind g limit state clique others →
+    GoesBeyond g limit state clique end others
 beyond_from_start g limit state clique end others is behind = subst (λ (e : End). GoesBeyond g limit state clique e others) (sym is) behind
 
-pub beyond_from_finish : (g : Graph) (limit : ℕ) (state : State) (clique : Vec ℕ Global) (end : End) (others : Others) → end ≡ Finish → IsAhead g limit state clique others → GoesBeyond g limit state clique end others
+pub beyond_from_finish : (g : Graph) (limit : ℕ) (state : State) (clique : Vec ℕ Global) (end : End)
+    (others : Others) → end ≡ Finish → IsAhead g limit state clique others →
+    GoesBeyond g limit state clique end others
 beyond_from_finish g limit state clique end others is ahead = subst (λ (e : End). GoesBeyond g limit state clique e others) (sym is) ahead
 
 -- a step that goes beyond others stays as far away from an end as the others take it

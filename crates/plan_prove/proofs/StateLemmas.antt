@@ -61,7 +61,8 @@ none_left g limit old mid new answer none follows refuted =
     subst (λ (o : Option Bool). Deduces g limit old new o) (sym none) (λ starts h. refuted starts (follows starts h))
 
 -- what follows from a state and then refutes, refutes the state
-pub none_after : (g : Graph) (limit : ℕ) (old mid new : State) (given answer : Option Bool) → given ≡ None → answer ≡ None → Follows g limit old mid → Deduces g limit mid new given → Deduces g limit old new answer
+pub none_after : (g : Graph) (limit : ℕ) (old mid new : State) (given answer : Option Bool) → given ≡ None →
+    answer ≡ None → Follows g limit old mid → Deduces g limit mid new given → Deduces g limit old new answer
 none_after g limit old mid new given answer was none follows deduces =
     let refuted : IsRefuted g limit mid = subst (λ (o : Option Bool). Deduces g limit mid new o) was deduces in
     none_left g limit old mid new answer none follows refuted
@@ -179,13 +180,17 @@ no_room g limit state x y one other is_one is_other none starts h before =
     absurd (omega (arith, none, before, is_one.head, is_one.time, is_other.time, is_other.tail, h.heads x, h.tails y))
 
 -- where one step of a pair doesn't go before the other, this goes before it
-pub first_goes : (g : Graph) (limit : ℕ) (state : State) (k : ℕ) (p : Pair) → k < length g.pairs.items → p ≡ get_or g.pairs.items k p → NotBefore g limit state p.second p.first → GoesBefore g limit state p.first p.second
+pub first_goes : (g : Graph) (limit : ℕ) (state : State) (k : ℕ) (p : Pair) → k < length g.pairs.items →
+    p ≡ get_or g.pairs.items k p → NotBefore g limit state p.second p.first →
+    GoesBefore g limit state p.first p.second
 first_goes g limit state k p below there never starts h = elim (other_side g starts k p below there h.kept) [
   | inl before ↦ before
   | inr after ↦ absurd (never starts h after)
 ]
 
-pub second_goes : (g : Graph) (limit : ℕ) (state : State) (k : ℕ) (p : Pair) → k < length g.pairs.items → p ≡ get_or g.pairs.items k p → NotBefore g limit state p.first p.second → GoesBefore g limit state p.second p.first
+pub second_goes : (g : Graph) (limit : ℕ) (state : State) (k : ℕ) (p : Pair) → k < length g.pairs.items →
+    p ≡ get_or g.pairs.items k p → NotBefore g limit state p.first p.second →
+    GoesBefore g limit state p.second p.first
 second_goes g limit state k p below there never starts h = elim (other_side g starts k p below there h.kept) [
   | inl before ↦ absurd (never starts h before)
   | inr after ↦ after

@@ -14,7 +14,9 @@ use Rattle.plan_psplib.proofs.GoesLemmas.{Goes, goes_append, goes_split, goes_sp
 abbrev AreAmounts : List ℕ → Type 0
 AreAmounts ns = AllByRecursion (λ n. n ≤ greatest) ns
 
-amounts_goes : (more : ℕ) (before : List ℕ) (s : Stream) (x : List ℕ × Stream) → amounts_at more before s ≡ Ok x → (new : List ℕ) × (x.0 ≡ before ++ new) × (length new ≡ more) × Goes s new x.1 × AreAmounts new
+amounts_goes : (more : ℕ) (before : List ℕ) (s : Stream) (x : List ℕ × Stream) →
+    amounts_at more before s ≡ Ok x → (new : List ℕ) × (x.0 ≡ before ++ new) × (length new ≡ more)
+    × Goes s new x.1 × AreAmounts new
 unfolding amounts_at
 amounts_goes zero before s x e =
     let P : List ℕ × Stream → Type 0 = λ z. (new : List ℕ) × (z.0 ≡ before ++ new) × (length new ≡ 0) × Goes s new z.1 × AreAmounts new in
@@ -46,9 +48,13 @@ pub goes_duration : (total d : ℕ) (s t : Stream) → Goes s (d ∷ []) t → d
 unfolding duration_at
 goes_duration total d s t p small fits =
     ok_bind (number_at s) _ (record { value = d; line = t.last }, t) (d, t) (goes_number s t d p)
-    (ok_bind (check (nat_le d greatest && nat_le (total + d) greatest_total) code.Limit t.last) _ tt (d, t) (ok_check _ code.Limit t.last (true_both (nat_le d greatest) (nat_le (total + d) greatest_total) (le-leb d greatest small) (le-leb (total + d) greatest_total fits))) refl)
+    (ok_bind (check (nat_le d greatest && nat_le (total + d) greatest_total) code.Limit t.last) _ tt (d, t)
+        (ok_check _ code.Limit t.last (true_both (nat_le d greatest) (nat_le (total + d) greatest_total)
+        (le-leb d greatest small) (le-leb (total + d) greatest_total fits))) refl)
 
-request_goes : (k job total : ℕ) (s : Stream) (x : Request × Stream) → request_row_at k job total s ≡ Ok x → Goes s (job ∷ 1 ∷ x.0.duration ∷ x.0.needs) x.1 × (x.0.duration ≤ greatest) × (total + x.0.duration ≤ greatest_total) × IsNeeds k x.0.needs
+request_goes : (k job total : ℕ) (s : Stream) (x : Request × Stream) → request_row_at k job total s ≡ Ok x →
+    Goes s (job ∷ 1 ∷ x.0.duration ∷ x.0.needs) x.1 × (x.0.duration ≤ greatest)
+    × (total + x.0.duration ≤ greatest_total) × IsNeeds k x.0.needs
 unfolding request_row_at
 request_goes k job total s x e =
     then_ok (expect_at job code.JobOrder s) _ x e (λ a first e.
@@ -64,7 +70,9 @@ request_goes k job total s x e =
     (goes_append b d.1 ns.1 (d.0 ∷ []) needs.0 duration.0 needs.3)) in
     subst P (same_ok (record { duration = d.0; needs = ns.0 }, ns.1) x e) (subst Q (sym needs.1) (whole, duration.1, duration.2, (needs.2, needs.4)))))))
 
-goes_request : (k job total : ℕ) (r : Request) (s t : Stream) → Goes s (job ∷ 1 ∷ r.duration ∷ r.needs) t → r.duration ≤ greatest → total + r.duration ≤ greatest_total → IsNeeds k r.needs → request_row_at k job total s ≡ Ok (r, t)
+goes_request : (k job total : ℕ) (r : Request) (s t : Stream) → Goes s (job ∷ 1 ∷ r.duration ∷ r.needs) t →
+    r.duration ≤ greatest → total + r.duration ≤ greatest_total → IsNeeds k r.needs →
+    request_row_at k job total s ≡ Ok (r, t)
 unfolding request_row_at
 goes_request k job total r s t p small fits needs =
     let a = goes_split s t (job ∷ []) (1 ∷ r.duration ∷ r.needs) p in
@@ -102,7 +110,9 @@ behind-with_row rows row ds nss =
     ap (λ (all : List ℕ). let r : Requests = record { durations = all; needs = rows.needs ++ row.needs ∷ [] ++ nss } in r) (append_assoc rows.durations (row.duration ∷ []) ds)
     ∙ ap (λ (all : List (List ℕ)). let r : Requests = record { durations = rows.durations ++ row.duration ∷ ds; needs = all } in r) (append_assoc rows.needs (row.needs ∷ []) nss)
 
-requests_goes : (k more job : ℕ) (rows : Requests) (s : Stream) (x : Requests × Stream) → sum rows.durations ≤ greatest_total → request_rows_at k more job rows s ≡ Ok x → (ds : List ℕ) × (nss : List (List ℕ)) × (x.0 ≡ behind rows ds nss) × AreRows k more job rows ds nss s x.1
+requests_goes : (k more job : ℕ) (rows : Requests) (s : Stream) (x : Requests × Stream) →
+    sum rows.durations ≤ greatest_total → request_rows_at k more job rows s ≡ Ok x →
+    (ds : List ℕ) × (nss : List (List ℕ)) × (x.0 ≡ behind rows ds nss) × AreRows k more job rows ds nss s x.1
 unfolding request_rows_at
 requests_goes k zero job rows s x fits e =
     let P : Requests × Stream → Type 0 = λ z. (ds : List ℕ) × (nss : List (List ℕ)) × (z.0 ≡ behind rows ds nss) × AreRows k 0 job rows ds nss s z.1 in
@@ -127,7 +137,10 @@ requests_goes k (suc more) job rows s x fits e =
       },
     ))
 
-goes_requests : (k job : ℕ) (rows : Requests) (ds : List ℕ) (nss : List (List ℕ)) (s t : Stream) → length nss ≡ length ds → Goes s (request_numbers job ds nss) t → AreAmounts ds → sum rows.durations + sum ds ≤ greatest_total → AllByRecursion (IsNeeds k) nss → request_rows_at k (length ds) job rows s ≡ Ok (behind rows ds nss, t)
+goes_requests : (k job : ℕ) (rows : Requests) (ds : List ℕ) (nss : List (List ℕ)) (s t : Stream) →
+    length nss ≡ length ds → Goes s (request_numbers job ds nss) t → AreAmounts ds →
+    sum rows.durations + sum ds ≤ greatest_total → AllByRecursion (IsNeeds k) nss →
+    request_rows_at k (length ds) job rows s ≡ Ok (behind rows ds nss, t)
 unfolding request_rows_at
 goes_requests k job rows [] [] s t same p small fits each = ap (λ (u : Stream). Ok (rows, u)) (sym p) ∙ ap (λ (r : Requests). Ok (r, t)) (behind-nil rows)
 goes_requests k job rows [] (ns ∷ nss) s t same p small fits each = absurd (omega (arith, same))
@@ -137,7 +150,8 @@ goes_requests k job rows (d ∷ ds) (ns ∷ nss) s t same p small fits each =
     let a = goes_split s t (job ∷ 1 ∷ d ∷ ns) (request_numbers (job + 1) ds nss) p in
     let sums = sum_behind rows.durations d ds in
     let all = sum_by-cons (λ n. n) d ds in
-    ok_bind (request_row_at k job (sum rows.durations) s) _ (row, a.0) (behind rows (d ∷ ds) (ns ∷ nss), t) (goes_request k job (sum rows.durations) row s a.0 a.1 small.0 (omega (arith, all, fits)) each.0)
+    ok_bind (request_row_at k job (sum rows.durations) s) _ (row, a.0) (behind rows (d ∷ ds) (ns ∷ nss), t)
+        (goes_request k job (sum rows.durations) row s a.0 a.1 small.0 (omega (arith, all, fits)) each.0)
     (goes_requests k (job + 1) (with_row rows row) ds nss a.0 t (omega (arith, same)) a.2 small.1 (omega (arith, sums, fits)) each.1
     ∙ ap (λ (r : Requests). Ok (r, t)) (behind-with_row rows row ds nss))
 
@@ -178,7 +192,9 @@ requests_read n k s r h =
     let a = spells_goes s (request_numbers 1 r.durations r.needs) h.spelled in
     let total = h.total in
     let same = h.needs_count ∙ sym h.durations_count in
-    let read : request_rows_at k n 1 none s ≡ Ok (r, a.0) = ap (λ more. request_rows_at k more 1 none s) (sym h.durations_count) ∙ goes_requests k 1 none r.durations r.needs s a.0 same a.1 h.small (omega (arith, total)) h.each in
+    let read : request_rows_at k n 1 none s ≡ Ok (r, a.0) =
+        ap (λ more. request_rows_at k more 1 none s) (sym h.durations_count)
+        ∙ goes_requests k 1 none r.durations r.needs s a.0 same a.1 h.small (omega (arith, total)) h.each in
     ok_bind (request_rows_at k n 1 none s) _ (r, a.0) r read
     (ok_bind (end_at a.0) _ tt r (none_end a.0 a.2) refl)
 

@@ -51,7 +51,9 @@ abbrev AreNew : ℕ → List ℕ → List ℕ → Type 0
 AreNew n before [] = Unit {0}
 AreNew n before (j ∷ js) = (1 ≤ j) × (j ≤ n) × (is_among before j ≡ false) × AreNew n (before ++ j ∷ []) js
 
-successors_goes : (n count : ℕ) (before : List ℕ) (s : Stream) (x : List ℕ × Stream) → successors_at n count before s ≡ Ok x → (new : List ℕ) × (x.0 ≡ before ++ new) × (length new ≡ count) × Goes s new x.1 × AreNew n before new
+successors_goes : (n count : ℕ) (before : List ℕ) (s : Stream) (x : List ℕ × Stream) →
+    successors_at n count before s ≡ Ok x → (new : List ℕ) × (x.0 ≡ before ++ new) × (length new ≡ count)
+    × Goes s new x.1 × AreNew n before new
 unfolding successors_at
 successors_goes n zero before s x e =
     let P : List ℕ × Stream → Type 0 = λ z. (new : List ℕ) × (z.0 ≡ before ++ new) × (length new ≡ 0) × Goes s new z.1 × AreNew n before new in
@@ -95,10 +97,15 @@ goes_row n job row s t p are =
     (ok_bind (number_at b.0) _ (record { value = length row; line = c.0.last }, c.0) (row, t) (goes_number b.0 c.0 (length row) c.1)
     (goes_successors n [] row c.0 t c.2 are)))
 
-rows_goes : (n more job : ℕ) (arcs : List (ℕ × ℕ)) (s : Stream) (x : List (ℕ × ℕ) × Stream) → precedence_rows_at n more job arcs s ≡ Ok x → (rows : List (List ℕ)) × (length rows ≡ more) × AllByRecursion (AreNew n []) rows × Goes s (precedence_numbers job rows) x.1 × (x.0 ≡ arcs ++ arcs_of_rows job rows)
+rows_goes : (n more job : ℕ) (arcs : List (ℕ × ℕ)) (s : Stream) (x : List (ℕ × ℕ) × Stream) →
+    precedence_rows_at n more job arcs s ≡ Ok x → (rows : List (List ℕ)) × (length rows ≡ more)
+    × AllByRecursion (AreNew n []) rows × Goes s (precedence_numbers job rows) x.1
+    × (x.0 ≡ arcs ++ arcs_of_rows job rows)
 unfolding precedence_rows_at
 rows_goes n zero job arcs s x e =
-    let P : List (ℕ × ℕ) × Stream → Type 0 = λ z. (rows : List (List ℕ)) × (length rows ≡ 0) × AllByRecursion (AreNew n []) rows × Goes s (precedence_numbers job rows) z.1 × (z.0 ≡ arcs ++ arcs_of_rows job rows) in
+    let P : List (ℕ × ℕ) × Stream → Type 0 = λ z. (rows : List (List ℕ)) × (length rows ≡ 0)
+        × AllByRecursion (AreNew n []) rows × Goes s (precedence_numbers job rows) z.1
+        × (z.0 ≡ arcs ++ arcs_of_rows job rows) in
     subst P (same_ok (arcs, s) x e) ([], refl, tt, refl, sym (append-nil arcs))
 rows_goes n (suc more) job arcs s x e =
     then_ok (precedence_row_at n job s) _ x e (λ y read e.
@@ -111,7 +118,9 @@ rows_goes n (suc more) job arcs s x e =
       rest.4 ∙ append_assoc arcs (arcs_from job y.0) (arcs_of_rows (job + 1) rest.0),
     ))
 
-goes_rows : (n job : ℕ) (arcs : List (ℕ × ℕ)) (rows : List (List ℕ)) (s t : Stream) → Goes s (precedence_numbers job rows) t → AllByRecursion (AreNew n []) rows → precedence_rows_at n (length rows) job arcs s ≡ Ok (arcs ++ arcs_of_rows job rows, t)
+goes_rows : (n job : ℕ) (arcs : List (ℕ × ℕ)) (rows : List (List ℕ)) (s t : Stream) →
+    Goes s (precedence_numbers job rows) t → AllByRecursion (AreNew n []) rows →
+    precedence_rows_at n (length rows) job arcs s ≡ Ok (arcs ++ arcs_of_rows job rows, t)
 unfolding precedence_rows_at
 goes_rows n job arcs [] s t p are = ap (λ (u : Stream). Ok (arcs, u)) (sym p) ∙ ap (λ (xs : List (ℕ × ℕ)). Ok (xs, t)) (sym (append-nil arcs))
 goes_rows n job arcs (row ∷ rows) s t p are =

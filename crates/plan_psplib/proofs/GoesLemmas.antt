@@ -85,9 +85,13 @@ pub number_goes : (s : Stream) (x : LineNumber × Stream) → number_at s ≡ Ok
 unfolding number_at
 number_goes s x e = from s.words refl e
   where
-    found : (word : LineWord) (words : List LineWord) (o : Option ℕ) → number word.text ≡ o → s.words ≡ word ∷ words → as_number word o (record { last = word.line; words = words }) ≡ Ok x → Goes s (x.0.value ∷ []) x.1
+    found : (word : LineWord) (words : List LineWord) (o : Option ℕ) → number word.text ≡ o →
+        s.words ≡ word ∷ words → as_number word o (record { last = word.line; words = words }) ≡ Ok x →
+        Goes s (x.0.value ∷ []) x.1
     found word words None is at e = absurd (cc)
-    found word words (Some n) is at e = let same : (record { value = n; line = word.line }, record { last = word.line; words = words }) ≡ x = cc in subst (λ (y : LineNumber × Stream). Goes s (y.0.value ∷ []) y.1) same (word, words, at, is, refl)
+    found word words (Some n) is at e = let same :
+        (record { value = n; line = word.line }, record { last = word.line; words = words }) ≡ x = cc in
+        subst (λ (y : LineNumber × Stream). Goes s (y.0.value ∷ []) y.1) same (word, words, at, is, refl)
 
     from : (ws : List LineWord) → s.words ≡ ws → number_of_words s.last ws ≡ Ok x → Goes s (x.0.value ∷ []) x.1
     from [] at e = absurd (cc)
@@ -141,7 +145,8 @@ limited_is least most v n e =
 
 pub is_limited : (least most : ℕ) (v : LineNumber) → least ≤ v.value → v.value ≤ most → limited least most v ≡ Ok v.value
 unfolding limited
-is_limited least most v low high = ok_bind (check (nat_le least v.value && nat_le v.value most) code.Limit v.line) _ tt v.value (ok_check _ code.Limit v.line (true_between least most v.value low high)) refl
+is_limited least most v low high = ok_bind (check (nat_le least v.value && nat_le v.value most) code.Limit
+    v.line) _ tt v.value (ok_check _ code.Limit v.line (true_between least most v.value low high)) refl
 
 pub limited_goes : (least most : ℕ) (s : Stream) (x : ℕ × Stream) → limited_at least most s ≡ Ok x → Goes s (x.0 ∷ []) x.1 × (least ≤ x.0) × (x.0 ≤ most)
 unfolding limited_at

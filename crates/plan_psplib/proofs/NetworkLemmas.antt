@@ -65,7 +65,9 @@ pub project_good : (text : List ℕ) (d : Document) (net : Net) → Says text d 
 project_good text d net says is sound = record {
   network = sound;
   rows = says.rows ∙ ap count_of (sym is);
-  needs = All-from_recursion (AreAmounts (length d.available)) d.requests.needs (all_along (IsNeeds (length d.available)) (AreAmounts (length d.available)) (amounts_all (length d.available)) d.requests.needs says.needs);
+  needs = All-from_recursion (AreAmounts (length d.available)) d.requests.needs
+      (all_along (IsNeeds (length d.available)) (AreAmounts (length d.available))
+      (amounts_all (length d.available)) d.requests.needs says.needs);
   available = (refl, All-from_recursion (λ amount. amount ≤ greatest) d.available says.available_fit);
   resources = says.resources_fit;
 }
@@ -80,7 +82,9 @@ rows_count f [] = refl
 rows_count f (x ∷ xs) = ap suc (rows_count f xs)
 
 -- what holds of all rows holds of the one at k
-pub row_good : {X : Type 0} (P : List ℕ → Type 0) (items : X → List ℕ) (rows : List X) (k : ℕ) (row : X) (n : ℕ) → length (map items rows) ≡ n → k < n → row ≡ get_or rows k row → All P (map items rows) → P (items row)
+pub row_good : {X : Type 0} (P : List ℕ → Type 0) (items : X → List ℕ) (rows : List X) (k : ℕ) (row : X)
+    (n : ℕ) → length (map items rows) ≡ n → k < n → row ≡ get_or rows k row → All P (map items rows) →
+    P (items row)
 row_good P items rows k row n count below is all =
     let same = rows_count items rows in
     all_get P (map items rows) k (items row) (recursion_from_All P (map items rows) all) (get_row items rows k row (omega (arith, same, count, below)) is)

@@ -24,10 +24,15 @@ amounts-suc : (k : ℕ) (s : Amounts) → others (suc k) s ≡ (one s >>= λ v. 
 unfolding amounts_at
 amounts-suc k s = refl
 
-pub amounts_go_on : (count i : ℕ) (before : List ℕ) (s : Stream) (amount : ℕ) (after : Stream) (total : Result (List ℕ × Stream) Fault) → i < count → within_at greatest s ≡ Ok (amount, after) → amounts_at (count - i) before s ≡ total → amounts_at (count - (i + 1)) (before ++ amount ∷ []) after ≡ total
+pub amounts_go_on : (count i : ℕ) (before : List ℕ) (s : Stream) (amount : ℕ) (after : Stream)
+    (total : Result (List ℕ × Stream) Fault) → i < count → within_at greatest s ≡ Ok (amount, after) →
+    amounts_at (count - i) before s ≡ total → amounts_at (count - (i + 1))
+    (before ++ amount ∷ []) after ≡ total
 amounts_go_on count i before s amount after total = goes_on others one behind amounts-suc count i (before, s) (amount, after) total
 
-pub amounts_fail : (e : ReadError) (count i : ℕ) (before : List ℕ) (s : Stream) (total : Result (List ℕ × Stream) Fault) → i < count → Fails e (within_at greatest s) → amounts_at (count - i) before s ≡ total → Fails e total
+pub amounts_fail : (e : ReadError) (count i : ℕ) (before : List ℕ) (s : Stream)
+    (total : Result (List ℕ × Stream) Fault) → i < count → Fails e (within_at greatest s) →
+    amounts_at (count - i) before s ≡ total → Fails e total
 amounts_fail e count i before s total = fails others one behind amounts-suc e count i (before, s) total
 
 pub amounts_done : (count i : ℕ) (before : List ℕ) (s : Stream) (total : Result (List ℕ × Stream) Fault) → count ≤ i → amounts_at (count - i) before s ≡ total → total ≡ Ok (before, s)
@@ -52,12 +57,21 @@ module _ (resources : ℕ) where
   unfolding request_rows_at
   rows-suc k s = refl
 
-  pub requests_go_on : (count i job : ℕ) (rows : Requests) (s : Stream) (row : Request) (after : Stream) (total : Result (Requests × Stream) Fault) → i < count → request_row_at resources job (sum rows.durations) s ≡ Ok (row, after) → request_rows_at resources (count - i) job rows s ≡ total → request_rows_at resources (count - (i + 1)) (job + 1) (with_row rows row) after ≡ total
+  pub requests_go_on : (count i job : ℕ) (rows : Requests) (s : Stream) (row : Request) (after : Stream)
+      (total : Result (Requests × Stream) Fault) → i < count →
+      request_row_at resources job (sum rows.durations) s ≡ Ok (row, after) →
+      request_rows_at resources (count - i) job rows s ≡ total →
+      request_rows_at resources (count - (i + 1)) (job + 1) (with_row rows row) after ≡ total
   requests_go_on count i job rows s row after total = goes_on other_rows one_row behind_row rows-suc count i (job, rows, s) (row, after) total
 
-  pub requests_fail : (e : ReadError) (count i job : ℕ) (rows : Requests) (s : Stream) (total : Result (Requests × Stream) Fault) → i < count → Fails e (request_row_at resources job (sum rows.durations) s) → request_rows_at resources (count - i) job rows s ≡ total → Fails e total
+  pub requests_fail : (e : ReadError) (count i job : ℕ) (rows : Requests) (s : Stream)
+      (total : Result (Requests × Stream) Fault) → i < count →
+      Fails e (request_row_at resources job (sum rows.durations) s) →
+      request_rows_at resources (count - i) job rows s ≡ total → Fails e total
   requests_fail e count i job rows s total = fails other_rows one_row behind_row rows-suc e count i (job, rows, s) total
 
-  pub requests_done : (count i job : ℕ) (rows : Requests) (s : Stream) (total : Result (Requests × Stream) Fault) → count ≤ i → request_rows_at resources (count - i) job rows s ≡ total → total ≡ Ok (rows, s)
+  pub requests_done : (count i job : ℕ) (rows : Requests) (s : Stream)
+      (total : Result (Requests × Stream) Fault) → count ≤ i →
+      request_rows_at resources (count - i) job rows s ≡ total → total ≡ Ok (rows, s)
   unfolding request_rows_at
   requests_done count i job rows s total past whole = sym (is_done other_rows one_row behind_row rows-suc count i (job, rows, s) total past whole)

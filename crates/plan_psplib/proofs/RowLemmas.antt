@@ -33,10 +33,15 @@ module _ (n : ℕ) where
   unfolding successors_at
   successors-suc k s = refl
 
-  pub successors_go_on : (count i : ℕ) (found : List ℕ) (s : Stream) (job : ℕ) (after : Stream) (total : Result (List ℕ × Stream) Fault) → i < count → successor_at n found s ≡ Ok (job, after) → successors_at n (count - i) found s ≡ total → successors_at n (count - (i + 1)) (found ++ job ∷ []) after ≡ total
+  pub successors_go_on : (count i : ℕ) (found : List ℕ) (s : Stream) (job : ℕ) (after : Stream)
+      (total : Result (List ℕ × Stream) Fault) → i < count → successor_at n found s ≡ Ok (job, after) →
+      successors_at n (count - i) found s ≡ total →
+      successors_at n (count - (i + 1)) (found ++ job ∷ []) after ≡ total
   successors_go_on count i found s job after total = goes_on others one behind successors-suc count i (found, s) (job, after) total
 
-  pub successors_fail : (e : ReadError) (count i : ℕ) (found : List ℕ) (s : Stream) (total : Result (List ℕ × Stream) Fault) → i < count → Fails e (successor_at n found s) → successors_at n (count - i) found s ≡ total → Fails e total
+  pub successors_fail : (e : ReadError) (count i : ℕ) (found : List ℕ) (s : Stream)
+      (total : Result (List ℕ × Stream) Fault) → i < count → Fails e (successor_at n found s) →
+      successors_at n (count - i) found s ≡ total → Fails e total
   successors_fail e count i found s total = fails others one behind successors-suc e count i (found, s) total
 
   pub successors_done : (count i : ℕ) (found : List ℕ) (s : Stream) (total : Result (List ℕ × Stream) Fault) → count ≤ i → successors_at n (count - i) found s ≡ total → total ≡ Ok (found, s)
@@ -61,18 +66,29 @@ module _ (n : ℕ) where
   unfolding precedence_rows_at
   rows-suc k s = refl
 
-  pub rows_go_on : (count i job : ℕ) (arcs : List (ℕ × ℕ)) (s : Stream) (row : List ℕ) (after : Stream) (total : Result (List (ℕ × ℕ) × Stream) Fault) → i < count → precedence_row_at n job s ≡ Ok (row, after) → precedence_rows_at n (count - i) job arcs s ≡ total → precedence_rows_at n (count - (i + 1)) (job + 1) (arcs ++ arcs_from job row) after ≡ total
+  pub rows_go_on : (count i job : ℕ) (arcs : List (ℕ × ℕ)) (s : Stream) (row : List ℕ) (after : Stream)
+      (total : Result (List (ℕ × ℕ) × Stream) Fault) → i < count →
+      precedence_row_at n job s ≡ Ok (row, after) → precedence_rows_at n (count - i) job arcs s ≡ total →
+      precedence_rows_at n (count - (i + 1)) (job + 1) (arcs ++ arcs_from job row) after ≡ total
   rows_go_on count i job arcs s row after total = goes_on other_rows one_row behind_row rows-suc count i (job, arcs, s) (row, after) total
 
-  pub rows_fail : (e : ReadError) (count i job : ℕ) (arcs : List (ℕ × ℕ)) (s : Stream) (total : Result (List (ℕ × ℕ) × Stream) Fault) → i < count → Fails e (precedence_row_at n job s) → precedence_rows_at n (count - i) job arcs s ≡ total → Fails e total
+  pub rows_fail : (e : ReadError) (count i job : ℕ) (arcs : List (ℕ × ℕ)) (s : Stream)
+      (total : Result (List (ℕ × ℕ) × Stream) Fault) → i < count → Fails e (precedence_row_at n job s) →
+      precedence_rows_at n (count - i) job arcs s ≡ total → Fails e total
   rows_fail e count i job arcs s total = fails other_rows one_row behind_row rows-suc e count i (job, arcs, s) total
 
-  pub rows_done : (count i job : ℕ) (arcs : List (ℕ × ℕ)) (s : Stream) (total : Result (List (ℕ × ℕ) × Stream) Fault) → count ≤ i → precedence_rows_at n (count - i) job arcs s ≡ total → total ≡ Ok (arcs, s)
+  pub rows_done : (count i job : ℕ) (arcs : List (ℕ × ℕ)) (s : Stream)
+      (total : Result (List (ℕ × ℕ) × Stream) Fault) → count ≤ i →
+      precedence_rows_at n (count - i) job arcs s ≡ total → total ≡ Ok (arcs, s)
   unfolding precedence_rows_at
   rows_done count i job arcs s total past whole = sym (is_done other_rows one_row behind_row rows-suc count i (job, arcs, s) total past whole)
 
 -- of what is read behind a row
-pub rows_behind : (n : ℕ) (done : ℕ) (lists : List (Vec ℕ Global)) (list : Vec ℕ Global) (s : Stream) (total : Result (List (ℕ × ℕ) × Stream) Fault) (more : ℕ) → length lists ≡ done → precedence_rows_at n more (done + 1 + 1) (arcs_of_rows 1 (rows_in lists) ++ arcs_from (done + 1) list.items) s ≡ total → precedence_rows_at n more (done + 1 + 1) (arcs_of_rows 1 (rows_in (lists ++ list ∷ []))) s ≡ total
+pub rows_behind : (n : ℕ) (done : ℕ) (lists : List (Vec ℕ Global)) (list : Vec ℕ Global) (s : Stream)
+    (total : Result (List (ℕ × ℕ) × Stream) Fault) (more : ℕ) → length lists ≡ done →
+    precedence_rows_at n more (done + 1 + 1) (arcs_of_rows 1 (rows_in lists)
+    ++ arcs_from (done + 1) list.items) s ≡ total →
+    precedence_rows_at n more (done + 1 + 1) (arcs_of_rows 1 (rows_in (lists ++ list ∷ []))) s ≡ total
 rows_behind n done lists list s total more count e =
     let next : 1 + length lists ≡ done + 1 = omega (arith, count) in
     let same = arcs_of_rows-push 1 lists list ∙ ap (λ (job : ℕ). arcs_of_rows 1 (rows_in lists) ++ arcs_from job list.items) next in

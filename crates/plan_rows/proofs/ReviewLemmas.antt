@@ -63,7 +63,8 @@ any_as p q agree [] = refl
 any_as p q agree (x ∷ xs) = grind (arith, agree x, any_as p q agree xs)
 
 -- one arc more is taken out
-pub arcs_step : (desk : Text) (n : ℕ) (arcs : List (ℕ × ℕ)) (i j : ℕ) (d : ℕ × ℕ) (k q : HeldKey) (old mid new : List HeldKey) → i < length arcs → j ≡ suc i → shown_key k ≡ key_at desk n (get_or arcs i d)
+pub arcs_step : (desk : Text) (n : ℕ) (arcs : List (ℕ × ℕ)) (i j : ℕ) (d : ℕ × ℕ) (k q : HeldKey)
+    (old mid new : List HeldKey) → i < length arcs → j ≡ suc i → shown_key k ≡ key_at desk n (get_or arcs i d)
     → holds_key mid q ≡ (holds_key old q && not (is_arc_key desk n (take i arcs) q)) → holds_key new q ≡ cond (same_key (shown_key k) (shown_key q)) false (holds_key mid q)
     → holds_key new q ≡ (holds_key old q && not (is_arc_key desk n (take j arcs) q))
 arcs_step desk n arcs i j d k q old mid new low next key was now =
@@ -119,7 +120,9 @@ owned_here plan row key same has =
     let parts = and_parts (same_text l.desk key.0 && (l.n == key.1)) ((l.source == key.2) && (l.target == key.3)) (sym (lag_key key.0 l.desk key.1 l.n key.2 l.source key.3 l.target) ∙ same) in
     plan_key plan.desk l.desk plan.n l.n ∙ one_plan_key key.0 key.1 plan.desk l.desk plan.n l.n has parts.0
 
-walk_owner : (plan : Plan) (q : HeldKey) → HasArc plan (shown_key q) → (rows : List LagRecord) → AllByRecursion (λ lag. same_key (plan.desk, plan.n, 0, 0) (lag.desk, lag.n, 0, 0) ≡ false) (map lag_kept rows) → has_row lag_key_of rows q ≡ true → ⊥
+walk_owner : (plan : Plan) (q : HeldKey) → HasArc plan (shown_key q) → (rows : List LagRecord) →
+    AllByRecursion (λ lag. same_key (plan.desk, plan.n, 0, 0) (lag.desk, lag.n, 0, 0) ≡ false)
+    (map lag_kept rows) → has_row lag_key_of rows q ≡ true → ⊥
 walk_owner plan q has [] all some = both_ways false refl some
 walk_owner plan q has (row ∷ rows) all some = by_test (cases_Bool (same_key (shown_key q) (lag_key_of row))) (walk_owner plan q has rows all.1)
   where
@@ -175,7 +178,9 @@ tells_either P Q false false c e p never = subst (λ x. Tells (not x) (P ⊎ Q))
 pub pending_more : (plans : List Plan) (plan : Plan) (old new : List HeldKey) (q : HeldKey) → Tells (not (holds_key old q)) (SomeHasArc plans (shown_key q)) → IsStruckBy plan old new q
     → Tells (not (holds_key new q)) (SomeHasArc (plans ++ plan ∷ []) (shown_key q))
 pending_more plans plan old new q was struck =
-    tells_same (some_more plans plan (shown_key q)) (some_less plans plan (shown_key q)) (not (holds_key new q)) (tells_either (SomeHasArc plans (shown_key q)) (HasArc plan (shown_key q)) (holds_key old q) struck.0 (holds_key new q) struck.1 was struck.2)
+    tells_same (some_more plans plan (shown_key q)) (some_less plans plan (shown_key q))
+        (not (holds_key new q)) (tells_either (SomeHasArc plans (shown_key q)) (HasArc plan (shown_key q))
+        (holds_key old q) struck.0 (holds_key new q) struck.1 was struck.2)
 
 pub seen_more : (plans : List Plan) (seen : List PlanSeen) (plan : Plan) (one : PlanSeen) → AreSeen plans seen → IsSeen plan one → AreSeen (plans ++ plan ∷ []) (seen ++ one ∷ [])
 seen_more [] [] plan one are is = (is, tt)
@@ -270,7 +275,9 @@ heads (plan ∷ plans) [] are = absurd are
 heads (plan ∷ plans) (one ∷ seen) are = ap₂ ◌∷◌ are.0.head (heads plans seen are.1)
 
 -- plans differ where what is kept of them does
-pub seen_apart : (plans : List Plan) (seen : List PlanSeen) → AreSeen plans seen → (b : Bool) → Tells b (AllDiffer (λ x y. is_plan x.desk x.n y) (map head_seen seen)) → Tells b (AllDiffer (λ x y. is_plan x.desk x.n y) plans)
+pub seen_apart : (plans : List Plan) (seen : List PlanSeen) → AreSeen plans seen → (b : Bool) →
+    Tells b (AllDiffer (λ x y. is_plan x.desk x.n y) (map head_seen seen)) →
+    Tells b (AllDiffer (λ x y. is_plan x.desk x.n y) plans)
 seen_apart plans seen are b t =
     tells_same (differ_under head_of (λ x y. is_plan x.desk x.n y) plans) (differ_seen head_of (λ x y. is_plan x.desk x.n y) plans) b
     (subst (λ l. Tells b (AllDiffer (λ x y. is_plan x.desk x.n y) l)) (heads plans seen are) t)
@@ -281,14 +288,17 @@ seen_count desk plans seen are =
     sym (length-filter-map head_seen (is_plan_of desk) seen) ∙ ap (λ l. length (filter (is_plan_of desk) l)) (heads plans seen are) ∙ length-filter-map head_of (is_plan_of desk) plans
 
 -- a rule of keys holds of plans where it holds of what is kept of them
-pub seen_owned : (w : World) (plans : List Plan) (seen : List PlanSeen) → AreSeen plans seen → (b : Bool) → Tells b (AllByRecursion (λ row. IsOwned w (head_seen row)) seen) → Tells b (AllByRecursion (IsOwned w) plans)
+pub seen_owned : (w : World) (plans : List Plan) (seen : List PlanSeen) → AreSeen plans seen → (b : Bool) →
+    Tells b (AllByRecursion (λ row. IsOwned w (head_seen row)) seen) →
+    Tells b (AllByRecursion (IsOwned w) plans)
 seen_owned w plans seen are b t =
     tells_same (map_all head_of (IsOwned w) plans) (all_map head_of (IsOwned w) plans) b
     (subst (λ l. Tells b (AllByRecursion (IsOwned w) l)) (heads plans seen are)
     (tells_same (all_map head_seen (IsOwned w) seen) (map_all head_seen (IsOwned w) seen) b t))
 
 -- they stand at the same places
-seen_from : (desk : Text) (n j : ℕ) (plans : List Plan) (seen : List PlanSeen) → AreSeen plans seen → position_from (λ row. is_plan desk n (head_seen row)) j seen ≡ position_from (is_plan desk n) j plans
+seen_from : (desk : Text) (n j : ℕ) (plans : List Plan) (seen : List PlanSeen) → AreSeen plans seen →
+    position_from (λ row. is_plan desk n (head_seen row)) j seen ≡ position_from (is_plan desk n) j plans
 seen_from desk n j [] [] are = refl
 seen_from desk n j [] (one ∷ seen) are = absurd are
 seen_from desk n j (plan ∷ plans) [] are = absurd are
@@ -299,7 +309,8 @@ seen_place desk n plans seen are =
     position_from-zero (λ row. is_plan desk n (head_seen row)) seen ∙ seen_from desk n 0 plans seen are ∙ sym (position_from-zero (is_plan desk n) plans)
 
 -- where none is kept there is none
-pub none_seen : (desk : Text) (n : ℕ) (plans : List Plan) (seen : List PlanSeen) → AreSeen plans seen → position (λ row. is_plan desk n (head_seen row)) seen ≡ None → find (is_plan desk n) plans ≡ None
+pub none_seen : (desk : Text) (n : ℕ) (plans : List Plan) (seen : List PlanSeen) → AreSeen plans seen →
+    position (λ row. is_plan desk n (head_seen row)) seen ≡ None → find (is_plan desk n) plans ≡ None
 none_seen desk n plans seen are e = subst (λ l. find (is_plan desk n) l ≡ None) (map-id plans) (find_none_at (λ x. x) (is_plan desk n) plans (sym (seen_place desk n plans seen are) ∙ e))
 
 seen_at : (plans : List Plan) (seen : List PlanSeen) (i : ℕ) (d : Plan) (e : PlanSeen) → AreSeen plans seen → i < length seen → IsSeen (get_or plans i d) (get_or seen i e)
@@ -310,7 +321,8 @@ seen_at (plan ∷ plans) (one ∷ seen) zero d e are low = are.0
 seen_at (plan ∷ plans) (one ∷ seen) (suc i) d e are low = seen_at plans seen i d e are.1 (omega (arith, low))
 
 -- and where one is kept there is its plan
-pub one_seen : (desk : Text) (n : ℕ) (plans : List Plan) (seen : List PlanSeen) (i : ℕ) (row : PlanSeen) → AreSeen plans seen → position (λ r. is_plan desk n (head_seen r)) seen ≡ Some i → row ≡ get_or seen i row
+pub one_seen : (desk : Text) (n : ℕ) (plans : List Plan) (seen : List PlanSeen) (i : ℕ) (row : PlanSeen) →
+    AreSeen plans seen → position (λ r. is_plan desk n (head_seen r)) seen ≡ Some i → row ≡ get_or seen i row
     → (plan : Plan) × (find (is_plan desk n) plans ≡ Some plan) × IsSeen plan row
 one_seen desk n plans seen i row are e is =
     let there = sym (seen_place desk n plans seen are) ∙ e in
@@ -337,8 +349,12 @@ found_arc [] key apart none = absurd none
 found_arc (p ∷ ps) key apart (inl has) = (p, grind (arith, has.0), has)
 found_arc (p ∷ ps) key apart (inr there) = by_test (cases_Bool (is_plan key.0 key.1 p)) (found_arc ps key apart.1 there)
   where
-    by_test : (is_plan key.0 key.1 p ≡ true) ⊎ (is_plan key.0 key.1 p ≡ false) → ((plan : Plan) × (find (is_plan key.0 key.1) ps ≡ Some plan) × HasArc plan key) → (plan : Plan) × (find (is_plan key.0 key.1) (p ∷ ps) ≡ Some plan) × HasArc plan key
-    by_test (inl in_) more = absurd (both_ways (is_plan p.desk p.n more.0) (found_has (λ y. is_plan p.desk p.n y ≡ false) (is_plan key.0 key.1) ps more.0 more.1 apart.0).0 (one_plan key.0 key.1 p more.0 in_ more.2.0))
+    by_test : (is_plan key.0 key.1 p ≡ true) ⊎ (is_plan key.0 key.1 p ≡ false) →
+        ((plan : Plan) × (find (is_plan key.0 key.1) ps ≡ Some plan) × HasArc plan key) →
+        (plan : Plan) × (find (is_plan key.0 key.1) (p ∷ ps) ≡ Some plan) × HasArc plan key
+    by_test (inl in_) more = absurd (both_ways (is_plan p.desk p.n more.0)
+        (found_has (λ y. is_plan p.desk p.n y ≡ false) (is_plan key.0 key.1) ps more.0 more.1 apart.0).0
+        (one_plan key.0 key.1 p more.0 in_ more.2.0))
     by_test (inr out_) more = (more.0, grind (arith, out_, more.1), more.2)
 
 some_found : (plans : List Plan) (key : RowKey) (plan : Plan) → find (is_plan key.0 key.1) plans ≡ Some plan → HasArc plan key → SomeHasArc plans key
@@ -360,11 +376,15 @@ lag_kept_rule w row apart has low =
 
 lag_rule_kept : (w : World) (row : Lag) → IsLagRow w row → SomeHasArc w.plans (arc_key row) × (is_from_to 1 10000 row.lag ≡ true)
 lag_rule_kept w row rule =
-    let there = there_some (plan_in w row.desk row.n) (λ plan. (plan.kind ≡ kinds.Project) × ((p : Project) × SaysProject plan.body p × (has_arc p.network row.source row.target ≡ true)) × (is_from_to 1 10000 row.lag ≡ true)) rule in
+    let there = there_some (plan_in w row.desk row.n)
+        (λ plan. (plan.kind ≡ kinds.Project) × ((p : Project) × SaysProject plan.body p
+        × (has_arc p.network row.source row.target ≡ true)) × (is_from_to 1 10000 row.lag ≡ true)) rule in
     let own = found_has (λ x. Unit {0}) (is_plan row.desk row.n) w.plans there.0 there.1 (all_unit w.plans) in
     (some_found w.plans (arc_key row) there.0 there.1 (own.1, there.2.0, there.2.1), there.2.2)
 
-lags_kept : (w : World) (rows : List Lag) → AllDiffer (λ a b. is_plan a.desk a.n b) w.plans → AllByRecursion (λ row. SomeHasArc w.plans (arc_key row)) rows → AllByRecursion (λ row. is_from_to 1 10000 row.lag ≡ true) rows
+lags_kept : (w : World) (rows : List Lag) → AllDiffer (λ a b. is_plan a.desk a.n b) w.plans →
+    AllByRecursion (λ row. SomeHasArc w.plans (arc_key row)) rows →
+    AllByRecursion (λ row. is_from_to 1 10000 row.lag ≡ true) rows
     → AllByRecursion (IsLagRow w) rows
 lags_kept w [] apart on low = tt
 lags_kept w (row ∷ rows) apart on low = (lag_kept_rule w row apart on.0 low.0, lags_kept w rows apart on.1 low.1)

@@ -59,14 +59,19 @@ module _ {R A : Type 0} (g : R → A) (p : A → Bool) where
       by_test (inl in_) rest =
           rw (cond-true (p (g row)) (Some (g row)) (find p (map g rows)) in_, cond-false (not (p (g row))) (1 + position_or_len (λ row. p (g row)) rows) 0 (not_from_true (p (g row)) in_)) refl
       by_test (inr out_) rest =
-          let is : position_or_len (λ row. p (g row)) (row ∷ rows) ≡ suc (position_or_len (λ row. p (g row)) rows) = cond-true (not (p (g row))) (1 + position_or_len (λ row. p (g row)) rows) 0 (not_from_false (p (g row)) out_) ∙ (omega arith) in
+          let is : position_or_len (λ row. p (g row)) (row ∷ rows) ≡ suc
+              (position_or_len (λ row. p (g row)) rows) =
+              cond-true (not (p (g row))) (1 + position_or_len (λ row. p (g row)) rows) 0
+              (not_from_false (p (g row)) out_) ∙ (omega arith) in
           rw (cond-false (p (g row)) (Some (g row)) (find p (map g rows)) out_, is) (rest (omega (arith, less, is)))
 
   -- the row that is found stands at the place that is found
   pub find_at_place : (rows : List R) (i : ℕ) (d : R) → position (λ row. p (g row)) rows ≡ Some i → find p (map g rows) ≡ Some (g (get_or rows i d))
   find_at_place rows i d e = by_test (cases_Bool (nat_lt (position_or_len (λ row. p (g row)) rows) (length rows)))
     where
-      by_test : (nat_lt (position_or_len (λ row. p (g row)) rows) (length rows) ≡ true) ⊎ (nat_lt (position_or_len (λ row. p (g row)) rows) (length rows) ≡ false) → find p (map g rows) ≡ Some (g (get_or rows i d))
+      by_test : (nat_lt (position_or_len (λ row. p (g row)) rows) (length rows) ≡ true)
+          ⊎ (nat_lt (position_or_len (λ row. p (g row)) rows) (length rows) ≡ false) →
+          find p (map g rows) ≡ Some (g (get_or rows i d))
       by_test (inr out_) = absurd (grind (arith, e, out_))
       by_test (inl in_) =
           let same : position_or_len (λ row. p (g row)) rows ≡ i = grind (arith, e, in_) in

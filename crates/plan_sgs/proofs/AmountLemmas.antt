@@ -13,7 +13,9 @@ fits_at p placed j t x k fit low within =
     let here = all_below_at (duration p j) (λ x. all_below (length p.capacities) (λ k. nat_le (usage p placed (t + x) k + need p j k) (capacity p k))) x fit low in
     leb-true (usage p placed (t + x) k + need p j k) (capacity p k) (all_below_at (length p.capacities) (λ k. nat_le (usage p placed (t + x) k + need p j k) (capacity p k)) k here within)
 
-pub fits_from : (p : Problem) (placed : List (Option ℕ)) (j t : ℕ) → ((x k : ℕ) → x < duration p j → k < length p.capacities → usage p placed (t + x) k + need p j k ≤ capacity p k) → fits p placed j t ≡ true
+pub fits_from : (p : Problem) (placed : List (Option ℕ)) (j t : ℕ) →
+    ((x k : ℕ) → x < duration p j → k < length p.capacities →
+    usage p placed (t + x) k + need p j k ≤ capacity p k) → fits p placed j t ≡ true
 unfolding fits
 fits_from p placed j t keeps =
     all_below_from (duration p j) (λ x. all_below (length p.capacities) (λ k. nat_le (usage p placed (t + x) k + need p j k) (capacity p k))) (λ x low.
@@ -65,7 +67,8 @@ horizon_above p i m (Some r ∷ placed) (suc j) s is =
 -- what has ended by t needs nothing then
 pub amount_ended : (p : Problem) (t k i : ℕ) (start : Option ℕ) → ((s : ℕ) → start ≡ Some s → s + duration p i ≤ t) → amount_of p t k i start ≡ 0
 amount_ended p t k i None ended = refl
-amount_ended p t k i (Some s) ended = cond-false (nat_le s t && nat_lt t (s + duration p i)) (need p i k) 0 (and_right (nat_le s t) (nat_lt t (s + duration p i)) (le-ltb t (s + duration p i) (ended s refl)))
+amount_ended p t k i (Some s) ended = cond-false (nat_le s t && nat_lt t (s + duration p i)) (need p i k) 0
+    (and_right (nat_le s t) (nat_lt t (s + duration p i)) (le-ltb t (s + duration p i) (ended s refl)))
 
 -- what starts after t needs nothing then
 pub amount_before : (p : Problem) (t k i s : ℕ) → t < s → amount_of p t k i (Some s) ≡ 0
@@ -73,7 +76,9 @@ amount_before p t k i s early = cond-false (nat_le s t && nat_lt t (s + duration
 
 -- what runs at t has its needs then
 pub amount_during : (p : Problem) (t k i s : ℕ) → s ≤ t → t < s + duration p i → amount_of p t k i (Some s) ≡ need p i k
-amount_during p t k i s begun runs = cond-true (nat_le s t && nat_lt t (s + duration p i)) (need p i k) 0 (and_from (nat_le s t) (nat_lt t (s + duration p i)) (le-leb s t begun) (lt-ltb t (s + duration p i) runs))
+amount_during p t k i s begun runs = cond-true (nat_le s t && nat_lt t (s + duration p i)) (need p i k) 0
+    (and_from (nat_le s t) (nat_lt t (s + duration p i)) (le-leb s t begun)
+    (lt-ltb t (s + duration p i) runs))
 
 -- nothing is in use once all that is placed has ended
 pub usage_ended : (p : Problem) (placed : List (Option ℕ)) (t k : ℕ) → ((i s : ℕ) → get_or placed i None ≡ Some s → s + duration p i ≤ t) → usage p placed t k ≡ 0

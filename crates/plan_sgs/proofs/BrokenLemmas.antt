@@ -45,7 +45,9 @@ pub no_loop : (net : Net) (j : ℕ) → IsSound net → IsActivity net j → IsA
 no_loop net j sound activity arc = sound.acyclic j (j ∷ []) ((activity, (arc, tt)), omega arith, refl)
 
 -- a list of starts that breaks no arc keeps all
-pub kept_arcs : (i : Planned) (s : List ℕ) → IsSound i.project.network → ((h : ℕ) → h < count_of i.project.network → (j : ℕ) → IsArc i.project.network (h + 1) j → IsTooSoon i.project.network s (h + 1) j → ⊥) → KeepsArcs (problem_of i) s
+pub kept_arcs : (i : Planned) (s : List ℕ) → IsSound i.project.network →
+    ((h : ℕ) → h < count_of i.project.network → (j : ℕ) → IsArc i.project.network (h + 1) j →
+    IsTooSoon i.project.network s (h + 1) j → ⊥) → KeepsArcs (problem_of i) s
 unfolding problem_of
 kept_arcs i s sound none = links_have i (λ a. get_or s a.from 0 + duration (problem_of i) a.from + a.lag ≤ get_or s a.to 0) kept where
   kept : (h j : ℕ) → IsArc i.project.network h j → get_or s (h - 1) 0 + get_or i.project.network.durations (h - 1) 0 + lag_of i.project.network h j ≤ get_or s (j - 1) 0
@@ -131,7 +133,9 @@ release_whole i s j instance size = record {
       end_of-placed p placed h (get_or s h 0) (placed_start s h inside)
 
 -- a profile that holds all needs before an instant is what an activity that starts by then asks for
-pub asked_at : (i : Planned) (net : Net) (s : List ℕ) (j end d : ℕ) (profile : Profile) (row : List ℕ) → net ≡ i.project.network → IsActivity i.project.network j → HoldsBefore end (problem_of i) s profile → get_or s (j - 1) 0 ≤ end
+pub asked_at : (i : Planned) (net : Net) (s : List ℕ) (j end d : ℕ) (profile : Profile) (row : List ℕ) →
+    net ≡ i.project.network → IsActivity i.project.network j → HoldsBefore end (problem_of i) s profile →
+    get_or s (j - 1) 0 ≤ end
     → d ≡ duration_of net j → slice_get i.project.needs (j - 1) ≡ Some row → IsAskedFor (problem_of i) s (j - 1) (capacities profile) (in_use profile) d row
 asked_at i net s j end d profile row is activity holds ends lasts here = record {
   capacities = holds.caps;
@@ -143,10 +147,14 @@ asked_at i net s j end d profile row is activity holds ends lasts here = record 
   place = omega (arith, activity.0)
 
 -- an activity that lasts some time needs no more than there is
-pub needs_room : (i : Planned) (net : Net) (j d : ℕ) (caps row : List ℕ) → net ≡ i.project.network → IsActivity i.project.network j → NeedsFit (problem_of i) → caps ≡ (problem_of i).capacities → d ≡ duration_of net j → slice_get i.project.needs (j - 1) ≡ Some row
+pub needs_room : (i : Planned) (net : Net) (j d : ℕ) (caps row : List ℕ) → net ≡ i.project.network →
+    IsActivity i.project.network j → NeedsFit (problem_of i) → caps ≡ (problem_of i).capacities →
+    d ≡ duration_of net j → slice_get i.project.needs (j - 1) ≡ Some row
     → 0 < d → (k : ℕ) → k < length caps → get_or row k 0 ≤ get_or caps k 0
 needs_room i net j d caps row is activity fit same lasts here some k within =
     let place : j ≡ j - 1 + 1 = omega (arith, activity.0) in
     let long : duration_of net j ≡ duration (problem_of i) (j - 1) = ap (λ (n : Net). duration_of n j) is ∙ sym (duration-problem i (j - 1) j place) in
-    let room : need (problem_of i) (j - 1) k ≤ capacity (problem_of i) k = fit (j - 1) k (omega (arith, activity.0, activity.1, count-problem i)) (omega (arith, some, lasts, long)) (omega (arith, within, ap length same)) in
+    let room : need (problem_of i) (j - 1) k ≤ capacity (problem_of i) k =
+        fit (j - 1) k (omega (arith, activity.0, activity.1, count-problem i))
+        (omega (arith, some, lasts, long)) (omega (arith, within, ap length same)) in
     omega (arith, room, need-problem i (j - 1) j row place here k, ap (λ (xs : List ℕ). get_or xs k 0) same)

@@ -100,13 +100,17 @@ row_not_before row rising from_one k within = count_none (λ j. nat_eq (j - 1) (
 -- an arc is counted
 pub between_some : (net : Net) (j k : ℕ) → IsArc net j k → 1 ≤ arcs_between net.arcs (j - 1) (k - 1)
 between_some net j k (m, within, is) = count_some (λ arc. nat_eq (arc.0 - 1) (j - 1) && nat_eq (arc.1 - 1) (k - 1)) net.arcs m (j, k) within
-    (subst (λ (arc : ℕ × ℕ). (nat_eq (arc.0 - 1) (j - 1) && nat_eq (arc.1 - 1) (k - 1)) ≡ true) (sym is) (and_from (nat_eq (j - 1) (j - 1)) (nat_eq (k - 1) (k - 1)) (eq-eqb (j - 1) (j - 1) refl) (eq-eqb (k - 1) (k - 1) refl)))
+    (subst (λ (arc : ℕ × ℕ). (nat_eq (arc.0 - 1) (j - 1) && nat_eq (arc.1 - 1) (k - 1)) ≡ true) (sym is)
+        (and_from (nat_eq (j - 1) (j - 1)) (nat_eq (k - 1) (k - 1)) (eq-eqb (j - 1) (j - 1) refl)
+        (eq-eqb (k - 1) (k - 1) refl)))
 
 pair_is : (arc : ℕ × ℕ) (a b : ℕ) → arc.0 ≡ a → arc.1 ≡ b → arc ≡ (a, b)
 pair_is arc a b from to = ap (λ (x : ℕ). (x, arc.1)) from ∙ ap (λ (y : ℕ). (a, y)) to
 
 -- the arc at a place that is counted
-arc_is : (net : Net) (j h : ℕ) → IsWithinLimits net → IsActivity net j → (k : ℕ) → k < length net.arcs → (nat_eq ((get_or net.arcs k (0, 0)).0 - 1) (j - 1) && nat_eq ((get_or net.arcs k (0, 0)).1 - 1) h) ≡ true → get_or net.arcs k (0, 0) ≡ (j, h + 1)
+arc_is : (net : Net) (j h : ℕ) → IsWithinLimits net → IsActivity net j → (k : ℕ) → k < length net.arcs →
+    (nat_eq ((get_or net.arcs k (0, 0)).0 - 1) (j - 1) && nat_eq ((get_or net.arcs k (0, 0)).1 - 1) h) ≡
+    true → get_or net.arcs k (0, 0) ≡ (j, h + 1)
 arc_is net j h limits activity k within is =
     let arc = get_or net.arcs k (0, 0) in
     let parts = and_parts (nat_eq (arc.0 - 1) (j - 1)) (nat_eq (arc.1 - 1) h) is in
@@ -125,11 +129,17 @@ between_arc net j h limits activity some =
 pub between_once : (net : Net) (j h : ℕ) → IsWithinLimits net → IsActivity net j → arcs_between net.arcs (j - 1) h ≤ 1
 between_once net j h limits activity = count_once (λ arc. nat_eq (arc.0 - 1) (j - 1) && nat_eq (arc.1 - 1) h) net.arcs (0, 0) (λ a b before within one two.
     let long : length (take b net.arcs) ≡ b = length-take-le b net.arcs (omega (arith, within)) in
-    let same : get_or (take b net.arcs) a (0, 0) ≡ get_or net.arcs b (0, 0) = get_or-take b net.arcs a (0, 0) before ∙ arc_is net j h limits activity a (omega (arith, before, within)) one ∙ sym (arc_is net j h limits activity b within two) in
-    limits.new_arcs b within (get_or net.arcs b (0, 0)) (slice_get-get_or net.arcs b (0, 0) within) (subst (λ (arc : ℕ × ℕ). Contains (take b net.arcs) arc) same (Contains-get_or (take b net.arcs) a (0, 0) (omega (arith, before, long)))))
+    let same : get_or (take b net.arcs) a (0, 0) ≡ get_or net.arcs b (0, 0) =
+        get_or-take b net.arcs a (0, 0) before ∙ arc_is net j h limits activity a
+        (omega (arith, before, within)) one ∙ sym (arc_is net j h limits activity b within two) in
+    limits.new_arcs b within (get_or net.arcs b (0, 0)) (slice_get-get_or net.arcs b (0, 0) within)
+        (subst (λ (arc : ℕ × ℕ). Contains (take b net.arcs) arc) same
+        (Contains-get_or (take b net.arcs) a (0, 0) (omega (arith, before, long)))))
 
 -- an activity stands in the row of successors as often as arcs lead to it
-pub row_as_arcs : (net : Net) (j : ℕ) (row : List ℕ) → IsWithinLimits net → IsActivity net j → ListsRising (IsArc net j) row → ((k : ℕ) → k < length row → 1 ≤ get_or row k 0) → (h : ℕ) → times_in_row row h ≡ arcs_between net.arcs (j - 1) h
+pub row_as_arcs : (net : Net) (j : ℕ) (row : List ℕ) → IsWithinLimits net → IsActivity net j →
+    ListsRising (IsArc net j) row → ((k : ℕ) → k < length row → 1 ≤ get_or row k 0) → (h : ℕ) →
+    times_in_row row h ≡ arcs_between net.arcs (j - 1) h
 row_as_arcs net j row limits activity listed from_one h = elim (cases_lt 0 (times_in_row row h)) [
   | inl some ↦
       let at = count_place (λ k. nat_eq (k - 1) h) row 0 (omega (arith, some)) in
@@ -151,15 +161,21 @@ pub degrees_first : (n : ℕ) (waits : List ℕ) → waits ≡ replicate n 0 →
 degrees_first n waits none = subst (AreInDegrees n []) (sym none) (record { size = length-replicate n 0; each = λ h below. get_or-replicate n h 0 0 below })
 
 -- one arc more
-pub degrees_more : (n k : ℕ) (arcs : List (ℕ × ℕ)) (waits : List ℕ) (i : ℕ) → k < length arcs → (get_or arcs k (0, 0)).1 - 1 ≡ i → i < n → AreInDegrees n (take k arcs) waits → AreInDegrees n (take (k + 1) arcs) (set waits i (get_or waits i 0 + 1))
+pub degrees_more : (n k : ℕ) (arcs : List (ℕ × ℕ)) (waits : List ℕ) (i : ℕ) → k < length arcs →
+    (get_or arcs k (0, 0)).1 - 1 ≡ i → i < n → AreInDegrees n (take k arcs) waits →
+    AreInDegrees n (take (k + 1) arcs) (set waits i (get_or waits i 0 + 1))
 degrees_more n k arcs waits i within is below are = record {
   size = length-set waits i (get_or waits i 0 + 1) ∙ are.size;
   each = λ h inside.
-      let more : count_by (λ arc. nat_eq (arc.1 - 1) h) (take (k + 1) arcs) ≡ count_by (λ arc. nat_eq (arc.1 - 1) h) (take k arcs) + tally (nat_eq ((get_or arcs k (0, 0)).1 - 1) h) = sum_by_more (λ (arc : ℕ × ℕ). tally (nat_eq (arc.1 - 1) h)) arcs k (0, 0) within in
+      let more : count_by (λ arc. nat_eq (arc.1 - 1) h) (take (k + 1) arcs) ≡ count_by
+          (λ arc. nat_eq (arc.1 - 1) h) (take k arcs) + tally (nat_eq ((get_or arcs k (0, 0)).1 - 1) h) =
+          sum_by_more (λ (arc : ℕ × ℕ). tally (nat_eq (arc.1 - 1) h)) arcs k (0, 0) within in
       let which : tally (nat_eq ((get_or arcs k (0, 0)).1 - 1) h) ≡ tally (nat_eq i h) = ap (λ (m : ℕ). tally (nat_eq m h)) is in
       elim (cases_eq i h) [
         | inl same ↦
-            let here : get_or (set waits i (get_or waits i 0 + 1)) h 0 ≡ get_or waits i 0 + 1 = subst (λ (m : ℕ). get_or (set waits i (get_or waits i 0 + 1)) m 0 ≡ get_or waits i 0 + 1) same (get_or-set_same waits i (get_or waits i 0 + 1) 0 (omega (arith, below, are.size))) in
+            let here : get_or (set waits i (get_or waits i 0 + 1)) h 0 ≡ get_or waits i 0 + 1 =
+                subst (λ (m : ℕ). get_or (set waits i (get_or waits i 0 + 1)) m 0 ≡ get_or waits i 0 + 1) same
+                (get_or-set_same waits i (get_or waits i 0 + 1) 0 (omega (arith, below, are.size))) in
             let one : tally (nat_eq i h) ≡ 1 = ap (λ (b : Bool). tally b) (eq-eqb i h same) in
             omega (arith, more, which, here, one, are.each h inside, ap (λ (m : ℕ). get_or waits m 0) same)
         | inr other ↦

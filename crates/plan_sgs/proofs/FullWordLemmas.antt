@@ -125,7 +125,9 @@ pub words_go_on : WordsGoOn
 unfolding WordsGoOn is_full
 words_go_on i w instance word open_word =
     let missing = all_below_not (depth_of i) (λ j. is_member j (places w)) open_word in
-    let next = some_eligible (problem_of i) (rank_by i.project.network) (λ _. 0) (places w) (bounded i instance).inside (ranked i instance.project.network) (λ k d within. omega arith) (suc (rank_by i.project.network missing.0)) missing.0 (omega arith) missing.1 missing.2 in
+    let next = some_eligible (problem_of i) (rank_by i.project.network) (λ _. 0) (places w)
+        (bounded i instance).inside (ranked i instance.project.network) (λ k d within. omega arith)
+        (suc (rank_by i.project.network missing.0)) missing.0 (omega arith) missing.1 missing.2 in
     (suc next.0, letter_from i w next.0 next.1 next.2)
 
 -- each feasible list has a full word that is no longer
@@ -133,11 +135,17 @@ pub words_reach : ProjectWordsReach
 unfolding ProjectWordsReach makespan_by
 words_reach i starts instance feasible = record {
   word = map suc (by_starts (problem_of i) starts);
-  full = list_word i (by_starts (problem_of i) starts) (rule_list_is (problem_of i) (rank_by i.project.network) (λ h. get_or starts h 0) (bounded i instance).inside (ranked i instance.project.network));
+  full = list_word i (by_starts (problem_of i) starts)
+      (rule_list_is (problem_of i) (rank_by i.project.network) (λ h. get_or starts h 0)
+      (bounded i instance).inside (ranked i instance.project.network));
   makespan =
       let low : makespan (problem_of i) (serial (problem_of i) (by_starts (problem_of i) starts)) ≤ makespan (problem_of i) starts =
       by_starts_least (problem_of i) (rank_by i.project.network) starts (bounded i instance).inside instance.fit (ranked i instance.project.network) feasible in
-      let same : makespan (problem_of i) (serial (problem_of i) (places (map suc (by_starts (problem_of i) starts)))) ≡ makespan (problem_of i) (serial (problem_of i) (by_starts (problem_of i) starts)) = ap (λ (js : List ℕ). makespan (problem_of i) (serial (problem_of i) js)) (places_suc (by_starts (problem_of i) starts)) in
+      let same : makespan (problem_of i) (serial (problem_of i)
+          (places (map suc (by_starts (problem_of i) starts)))) ≡ makespan (problem_of i)
+          (serial (problem_of i) (by_starts (problem_of i) starts)) =
+          ap (λ (js : List ℕ). makespan (problem_of i) (serial (problem_of i) js))
+          (places_suc (by_starts (problem_of i) starts)) in
       omega (arith, low, same);
 }
 
@@ -145,7 +153,9 @@ words_reach i starts instance feasible = record {
 pub least_is_shortest : LeastProjectWordIsShortest
 unfolding LeastProjectWordIsShortest makespan_by
 least_is_shortest i w instance full least =
-    least_shortest (problem_of i) (rank_by i.project.network) (places w) (bounded i instance).inside instance.fit (ranked i instance.project.network) (told_by_places (problem_of i) (places w) (full_list i w full)) (λ other list.
+    least_shortest (problem_of i) (rank_by i.project.network) (places w)
+        (bounded i instance).inside instance.fit (ranked i instance.project.network)
+        (told_by_places (problem_of i) (places w) (full_list i w full)) (λ other list.
     let numbered = list_word i other (told_by_entries (problem_of i) other (bounded i instance).inside list) in
     let low : makespan (problem_of i) (serial (problem_of i) (places w)) ≤ makespan (problem_of i) (serial (problem_of i) (places (map suc other))) = least (map suc other) numbered in
     omega (arith, low, ap (λ (js : List ℕ). makespan (problem_of i) (serial (problem_of i) js)) (places_suc other)))

@@ -29,10 +29,14 @@ need-problem i h j row is here q =
     ap (λ (xs : List ℕ). get_or xs q 0) same
 
 -- the first need that is too much of the first activity that has one
-pub too_much_here : (i : Planned) (h k act res : ℕ) (row : List ℕ) → act ≡ h + 1 → res ≡ k + 1 → h < count_of i.project.network → 0 < duration_of i.project.network act → slice_get i.project.needs (act - 1) ≡ Some row → IsFirstAbove row i.capacities k
+pub too_much_here : (i : Planned) (h k act res : ℕ) (row : List ℕ) → act ≡ h + 1 → res ≡ k + 1 →
+    h < count_of i.project.network → 0 < duration_of i.project.network act →
+    slice_get i.project.needs (act - 1) ≡ Some row → IsFirstAbove row i.capacities k
     → ((g q : ℕ) → g < h → IsTooMuch (problem_of i) g q → ⊥) → IsFirstTooMuch (problem_of i) act res
 unfolding problem_of
-too_much_here i h k act res row act_is res_is inside lasts here (within, above, first) none = (h, k, omega (arith, act_is), omega (arith, res_is), (inside, within, omega (arith, lasts, duration-problem i h act act_is), too_much), least) where
+too_much_here i h k act res row act_is res_is inside lasts here (within, above, first) none =
+    (h, k, omega (arith, act_is), omega (arith, res_is),
+    (inside, within, omega (arith, lasts, duration-problem i h act act_is), too_much), least) where
   too_much : capacity (problem_of i) k < need (problem_of i) h k
   too_much = rw (need-problem i h act row act_is here k) above
 
@@ -62,7 +66,9 @@ none_more i h act row act_is here within none g q low more = elim (cases_eq g h)
 ]
 
 -- or where it has no duration
-pub none_more_short : (i : Planned) (h act : ℕ) → act ≡ h + 1 → duration_of i.project.network act ≤ 0 → ((g q : ℕ) → g < h → IsTooMuch (problem_of i) g q → ⊥) → (g q : ℕ) → g < h + 1 → IsTooMuch (problem_of i) g q → ⊥
+pub none_more_short : (i : Planned) (h act : ℕ) → act ≡ h + 1 → duration_of i.project.network act ≤ 0 →
+    ((g q : ℕ) → g < h → IsTooMuch (problem_of i) g q → ⊥) → (g q : ℕ) → g < h + 1 →
+    IsTooMuch (problem_of i) g q → ⊥
 none_more_short i h act act_is short none g q low more = elim (cases_eq g h) [
   | inr other ↦ none g q (omega (arith, low, other)) more
   | inl same ↦

@@ -33,7 +33,9 @@ turn_at p (j ∷ js) taken (suc k) turns within =
     (rest.0, subst (λ (xs : List ℕ). is_eligible p xs (get_or js k 0) ≡ true) (append_assoc taken (j ∷ []) (take k js)) rest.1)
 
 -- and from all of these the whole
-pub turns_from : (p : Problem) (js taken : List ℕ) → ((k : ℕ) → k < length js → (get_or js k 0 < count p) × (is_eligible p (taken ++ take k js) (get_or js k 0) ≡ true)) → takes_in_turn p taken js ≡ true
+pub turns_from : (p : Problem) (js taken : List ℕ) →
+    ((k : ℕ) → k < length js → (get_or js k 0 < count p)
+    × (is_eligible p (taken ++ take k js) (get_or js k 0) ≡ true)) → takes_in_turn p taken js ≡ true
 turns_from p [] taken each = refl
 turns_from p (j ∷ js) taken each =
     let first = each 0 (omega arith) in
@@ -97,7 +99,9 @@ count_push p j js = elim (cases_Bool (is_member j js)) [
   | inr new ↦ elim (cases_lt j (count p)) [
     | inl inside ↦ omega (arith, taken_more p js j inside new)
     | inr outside ↦
-        let same : taken_count p (js ++ j ∷ []) ≡ taken_count p js = total_same (count p) (λ i. one_if (is_member i (js ++ j ∷ []))) (λ i. one_if (is_member i js)) (λ i below. ap one_if (member_other i j js (λ e. omega (arith, e, below, outside)))) in
+        let same : taken_count p (js ++ j ∷ []) ≡ taken_count p js =
+            total_same (count p) (λ i. one_if (is_member i (js ++ j ∷ []))) (λ i. one_if (is_member i js))
+            (λ i below. ap one_if (member_other i j js (λ e. omega (arith, e, below, outside)))) in
         omega (arith, same)
   ]
 ]
@@ -126,7 +130,9 @@ none_again p js k size all within again =
 
 -- an order told by places is one told entry by entry
 pub told_by_entries : (p : Problem) (js : List ℕ) → LinksInside p → IsActivityList p js → is_activity_list p js ≡ true
-told_by_entries p js inside list = and_from (nat_eq (length js) (count p)) (takes_in_turn p [] js) (eq-eqb (length js) (count p) list.each_once) (turns_from p js [] (λ k within. (list.none_else k 0 within, eligible k within))) where
+told_by_entries p js inside list = and_from (nat_eq (length js) (count p)) (takes_in_turn p [] js)
+    (eq-eqb (length js) (count p) list.each_once) (turns_from p js []
+    (λ k within. (list.none_else k 0 within, eligible k within))) where
   there : (j : ℕ) → j < count p → (k : ℕ) × (k < length js) × (get_or js k 0 ≡ j)
   there j below = let has = list.all_there j below in (has.0, has.1, get_or_default js has.0 0 j has.1 ∙ has.2)
 

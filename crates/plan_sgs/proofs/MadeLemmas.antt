@@ -14,7 +14,9 @@ pub record AreMade (p : Problem) (list starts : List ℕ) : Type 0 where
   pub active : IsActive p starts
   pub ends : AllEndBy p starts 6020000
 
-pub made : (p : Problem) (list starts : List ℕ) (first placed : List (Option ℕ)) → IsBounded p → IsTurnList p list → first ≡ unplaced (count p) → placed ≡ serial_from p first (places list) → EndsBy p placed 6020000 → starts ≡ map start_or_zero placed → AreMade p list starts
+pub made : (p : Problem) (list starts : List ℕ) (first placed : List (Option ℕ)) → IsBounded p →
+    IsTurnList p list → first ≡ unplaced (count p) → placed ≡ serial_from p first (places list) →
+    EndsBy p placed 6020000 → starts ≡ map start_or_zero placed → AreMade p list starts
 unfolding serial
 made p list starts first placed bounded turns none all ends are =
     let whole : placed ≡ serial_from p (unplaced (count p)) (places list) = all ∙ ap (λ (xs : List (Option ℕ)). serial_from p xs (places list)) none in
@@ -24,5 +26,7 @@ made p list starts first placed bounded turns none all ends are =
     record {
       serial = is;
       active = active;
-      ends = subst (λ (xs : List ℕ). AllEndBy p xs 6020000) (sym are) (all_end p placed 6020000 (omega (arith, size, active.feasible.each_started)) ends (λ i. let short : duration p i ≤ 10000 = bounded.lasting i in omega (arith, short)));
+      ends = subst (λ (xs : List ℕ). AllEndBy p xs 6020000) (sym are)
+          (all_end p placed 6020000 (omega (arith, size, active.feasible.each_started)) ends (λ i.
+          let short : duration p i ≤ 10000 = bounded.lasting i in omega (arith, short)));
     }

@@ -33,7 +33,9 @@ marks_set n marks taken j are inside = record {
 }
 
 -- the predecessors that are marked are taken
-pub released_taken : (i : Planned) (marks : List Bool) (taken : List ℕ) (j : ℕ) → IsSound i.project.network → AreMarksOf (count_of i.project.network) marks taken → 1 ≤ j → IsReleased i.project.network marks j → All (λ a. a.to ≡ j - 1 → is_member a.from taken ≡ true) (problem_of i).links
+pub released_taken : (i : Planned) (marks : List Bool) (taken : List ℕ) (j : ℕ) → IsSound i.project.network →
+    AreMarksOf (count_of i.project.network) marks taken → 1 ≤ j → IsReleased i.project.network marks j →
+    All (λ a. a.to ≡ j - 1 → is_member a.from taken ≡ true) (problem_of i).links
 released_taken i marks taken j sound are low released = links_from i (λ a. a.to ≡ j - 1 → is_member a.from taken ≡ true) (λ a b arc to.
     let ends = arc_ends i.project.network a b sound.limits arc in
     let same : b ≡ j = omega (arith, to, ends.1, low) in
@@ -41,21 +43,35 @@ released_taken i marks taken j sound are low released = links_from i (λ a. a.to
     sym (are.each (a - 1) (omega (arith, ends.0))) ∙ marked)
 
 -- and those that are taken are marked
-pub taken_released : (i : Planned) (marks : List Bool) (taken : List ℕ) (j : ℕ) → IsSound i.project.network → AreMarksOf (count_of i.project.network) marks taken → All (λ a. a.to ≡ j - 1 → is_member a.from taken ≡ true) (problem_of i).links → IsReleased i.project.network marks j
+pub taken_released : (i : Planned) (marks : List Bool) (taken : List ℕ) (j : ℕ) → IsSound i.project.network →
+    AreMarksOf (count_of i.project.network) marks taken →
+    All (λ a. a.to ≡ j - 1 → is_member a.from taken ≡ true) (problem_of i).links →
+    IsReleased i.project.network marks j
 taken_released i marks taken j sound are all a arc =
     let ends = arc_ends i.project.network a j sound.limits arc in
     let has : is_member (a - 1) taken ≡ true = link_at i (λ b. b.to ≡ j - 1 → is_member b.from taken ≡ true) all a j arc refl in
     are.each (a - 1) (omega (arith, ends.0)) ∙ has
 
 -- what may come by the marks may come by the list
-pub can_come_eligible : (i : Planned) (marks : List Bool) (taken : List ℕ) (j : ℕ) → IsSound i.project.network → AreMarksOf (count_of i.project.network) marks taken → CanCome i.project.network marks j → (j - 1 < count (problem_of i)) × (is_eligible (problem_of i) taken (j - 1) ≡ true)
-can_come_eligible i marks taken j sound are (activity, open_now, released) = (omega (arith, activity, count-problem i), eligible_from (problem_of i) taken (j - 1) (sym (are.each (j - 1) (omega (arith, activity))) ∙ open_now) (released_taken i marks taken j sound are activity.0 released))
+pub can_come_eligible : (i : Planned) (marks : List Bool) (taken : List ℕ) (j : ℕ) →
+    IsSound i.project.network → AreMarksOf (count_of i.project.network) marks taken →
+    CanCome i.project.network marks j → (j - 1 < count (problem_of i))
+    × (is_eligible (problem_of i) taken (j - 1) ≡ true)
+can_come_eligible i marks taken j sound are (activity, open_now, released) =
+    (omega (arith, activity, count-problem i), eligible_from (problem_of i) taken (j - 1)
+    (sym (are.each (j - 1) (omega (arith, activity))) ∙ open_now)
+    (released_taken i marks taken j sound are activity.0 released))
 
 -- and the other way round
-pub eligible_can_come : (i : Planned) (marks : List Bool) (taken : List ℕ) (j : ℕ) → IsSound i.project.network → AreMarksOf (count_of i.project.network) marks taken → 1 ≤ j → j - 1 < count (problem_of i) → is_eligible (problem_of i) taken (j - 1) ≡ true → CanCome i.project.network marks j
+pub eligible_can_come : (i : Planned) (marks : List Bool) (taken : List ℕ) (j : ℕ) →
+    IsSound i.project.network → AreMarksOf (count_of i.project.network) marks taken → 1 ≤ j →
+    j - 1 < count (problem_of i) → is_eligible (problem_of i) taken (j - 1) ≡ true →
+    CanCome i.project.network marks j
 eligible_can_come i marks taken j sound are low inside eligible =
     let within : j - 1 < count_of i.project.network = omega (arith, inside, count-problem i) in
-    ((low, omega (arith, low, within)), are.each (j - 1) within ∙ eligible_not (problem_of i) taken (j - 1) eligible, taken_released i marks taken j sound are (eligible_preds (problem_of i) taken (j - 1) eligible))
+    ((low, omega (arith, low, within)), are.each (j - 1) within
+        ∙ eligible_not (problem_of i) taken (j - 1) eligible, taken_released i marks taken j sound are
+        (eligible_preds (problem_of i) taken (j - 1) eligible))
 
 -- the place of a number in a list, where it first stands
 pub place_of : List ℕ → ℕ → ℕ

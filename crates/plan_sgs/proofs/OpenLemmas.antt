@@ -15,7 +15,9 @@ links_between p g h = count_by (λ a. nat_eq a.from g && nat_eq a.to h) p.links
 
 -- an activity may come where it isn't taken, and no such link leads to it
 pub eligible_open : (p : Problem) (taken : List ℕ) (h : ℕ) → is_eligible p taken h ≡ (not (is_member h taken) && nat_eq (open_links p taken h) 0)
-eligible_open p taken h = ap (λ (b : Bool). not (is_member h taken) && b) (all_fail (is_open taken h) (λ a. not (nat_eq a.to h) || is_member a.from taken) (λ a. turned (nat_eq a.to h) (is_member a.from taken)) p.links) where
+eligible_open p taken h = ap (λ (b : Bool). not (is_member h taken) && b)
+    (all_fail (is_open taken h) (λ a. not (nat_eq a.to h) || is_member a.from taken)
+    (λ a. turned (nat_eq a.to h) (is_member a.from taken)) p.links) where
   turned : (to has : Bool) → (not to || has) ≡ not (to && not has)
   turned true true = refl
   turned true false = refl
@@ -52,7 +54,9 @@ open_none : (p : Problem) (taken : List ℕ) (h : ℕ) → is_eligible p taken h
 open_none p taken h is = eqb-true (open_links p taken h) 0 (and_parts (not (is_member h taken)) (nat_eq (open_links p taken h) 0) (sym (eligible_open p taken h) ∙ is)).1
 
 -- those that are taken still wait for none, once an eligible one is taken
-pub settled_more : (p : Problem) (taken : List ℕ) (g : ℕ) → ((h : ℕ) → is_member h taken ≡ true → open_links p taken h ≡ 0) → is_eligible p taken g ≡ true → (h : ℕ) → is_member h (taken ++ g ∷ []) ≡ true → open_links p (taken ++ g ∷ []) h ≡ 0
+pub settled_more : (p : Problem) (taken : List ℕ) (g : ℕ) →
+    ((h : ℕ) → is_member h taken ≡ true → open_links p taken h ≡ 0) → is_eligible p taken g ≡ true → (h : ℕ) →
+    is_member h (taken ++ g ∷ []) ≡ true → open_links p (taken ++ g ∷ []) h ≡ 0
 settled_more p taken g settled eligible h has = omega (arith, none, open_more p taken g h (eligible_not p taken g eligible)) where
   none : open_links p taken h ≡ 0
   none = elim (cases_eq h g) [
@@ -68,18 +72,28 @@ freed before now fell = elim (cases_eq before 0) [
 ]
 
 -- the eligible ones, once one of them is taken: those that were, without it, and those that are freed
-pub queued_more : (p : Problem) (taken : List ℕ) (g h times came : ℕ) → is_eligible p taken g ≡ true → (is_member h taken ≡ true → open_links p taken h ≡ 0) → times + tally (nat_eq g h) ≡ tally (is_eligible p taken h)
+pub queued_more : (p : Problem) (taken : List ℕ) (g h times came : ℕ) → is_eligible p taken g ≡ true →
+    (is_member h taken ≡ true → open_links p taken h ≡ 0) →
+    times + tally (nat_eq g h) ≡ tally (is_eligible p taken h)
     → came ≡ tally (nat_lt 0 (open_links p taken h) && nat_eq (open_links p (taken ++ g ∷ []) h) 0) → times + came ≡ tally (is_eligible p (taken ++ g ∷ []) h)
 queued_more p taken g h times came eligible settled counted freed_now = elim (cases_eq h g) [
   | inl same ↦
       let is : tally (is_eligible p taken h) ≡ 1 = ap (λ (b : Bool). tally b) (ap (is_eligible p taken) same ∙ eligible) in
       let it : tally (nat_eq g h) ≡ 1 = ap (λ (b : Bool). tally b) (eq-eqb g h (sym same)) in
-      let out : tally (is_eligible p (taken ++ g ∷ []) h) ≡ 0 = ap (λ (b : Bool). tally b) (eligible_open p (taken ++ g ∷ []) h ∙ ap (λ (b : Bool). not b && nat_eq now 0) (ap (λ (k : ℕ). is_member k (taken ++ g ∷ [])) same ∙ member_last g taken)) in
+      let out : tally (is_eligible p (taken ++ g ∷ []) h) ≡ 0 =
+          ap (λ (b : Bool). tally b) (eligible_open p (taken ++ g ∷ []) h
+          ∙ ap (λ (b : Bool). not b && nat_eq now 0)
+          (ap (λ (k : ℕ). is_member k (taken ++ g ∷ [])) same ∙ member_last g taken)) in
       omega (arith, is, it, out, counted, none (ap (open_links p taken) same ∙ open_none p taken g eligible))
   | inr other ↦ elim (cases_Bool (is_member h taken)) [
-    | inl has ↦ omega (arith, apart other, counted, before, after other, none (settled has), ap (λ (b : Bool). tally (not b && nat_eq (open_links p taken h) 0)) has, ap (λ (b : Bool). tally (not b && nat_eq now 0)) has)
+    | inl has ↦ omega (arith, apart other, counted, before, after other, none (settled has), ap
+        (λ (b : Bool). tally (not b && nat_eq (open_links p taken h) 0)) has, ap
+        (λ (b : Bool). tally (not b && nat_eq now 0)) has)
     | inr new ↦
-        omega (arith, apart other, counted, before, after other, freed_now, ap (λ (b : Bool). tally (not b && nat_eq (open_links p taken h) 0)) new, ap (λ (b : Bool). tally (not b && nat_eq now 0)) new, freed (open_links p taken h) now (omega (arith, open_more p taken g h (eligible_not p taken g eligible))))
+        omega (arith, apart other, counted, before, after other, freed_now, ap
+            (λ (b : Bool). tally (not b && nat_eq (open_links p taken h) 0)) new, ap
+            (λ (b : Bool). tally (not b && nat_eq now 0)) new, freed (open_links p taken h) now
+            (omega (arith, open_more p taken g h (eligible_not p taken g eligible))))
   ]
 ] where
   now : ℕ

@@ -135,7 +135,9 @@ walks_reached net f (suc n) j =
     (top.0, walk_in net (suc n) j top.0 top.1, top.2)
 
 walks_above : (net : Net) (f : List ℕ → ℕ) (j : ℕ) (others : List ℕ) → IsSound net → IsActivity net j → IsWalk net j others → f others ≤ greatest_of f (walks_from net (count_of net) j)
-walks_above net f j others sound activity walk = greatest_of_above f (walks_from net (count_of net) j) others (walk_there net (count_of net) j others walk (omega (arith, path_count net j others sound (activity, walk))))
+walks_above net f j others sound activity walk = greatest_of_above f (walks_from net (count_of net) j) others
+    (walk_there net (count_of net) j others walk (omega
+    (arith, path_count net j others sound (activity, walk))))
 
 -- tails are the greatest lengths of the paths that begin with each activity
 pub tails_are_greatest : TailsAreGreatest

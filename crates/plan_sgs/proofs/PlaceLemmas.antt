@@ -35,7 +35,8 @@ fits_empty p h d caps row fit inside same_d same_caps needs lasts k within =
     omega (arith, needs.each k, cap, fit h k inside (omega (arith, lasts, same_d)) (omega (arith, within, size)))
 
 -- it ends in time
-pub ends_in_time : (p : Problem) (placed : List (Option ℕ)) (h start d : ℕ) → IsBounded p → h < count p → EndsBy p placed 6020000 → d ≡ duration p h → start ≡ earliest p placed h → start + d ≤ 10000000
+pub ends_in_time : (p : Problem) (placed : List (Option ℕ)) (h start d : ℕ) → IsBounded p → h < count p →
+    EndsBy p placed 6020000 → d ≡ duration p h → start ≡ earliest p placed h → start + d ≤ 10000000
 ends_in_time p placed h start d bounded inside ends same_d is =
     let limit : duration p h ≤ 10000 = bounded.lasting h in
     omega (arith, same_d, is, limit, earliest_soon p placed h 6020000 bounded inside ends)
@@ -57,7 +58,11 @@ none_used used p none t k within =
     omega (arith, first, none t k)
 
 -- what a profile answers for an activity is its earliest start
-pub start_is : (i : Planned) (used : ℕ → ℕ → ℕ) (caps : List ℕ) (placed : List (Option ℕ)) (j from d t : ℕ) (row : List ℕ) → IsInstance i → IsActivity i.project.network j → caps ≡ (problem_of i).capacities → d ≡ duration (problem_of i) (j - 1)
-    → slice_get i.project.needs (j - 1) ≡ Some row → IsUsageOf used (problem_of i) placed → from ≡ release (problem_of i) placed (j - 1) → IsEarliestIn caps used from d row t → t ≡ earliest (problem_of i) placed (j - 1)
+pub start_is : (i : Planned) (used : ℕ → ℕ → ℕ) (caps : List ℕ) (placed : List (Option ℕ)) (j from d t : ℕ)
+    (row : List ℕ) → IsInstance i → IsActivity i.project.network j → caps ≡ (problem_of i).capacities →
+    d ≡ duration (problem_of i) (j - 1)
+    → slice_get i.project.needs (j - 1) ≡ Some row → IsUsageOf used (problem_of i) placed →
+        from ≡ release (problem_of i) placed (j - 1) → IsEarliestIn caps used from d row t →
+        t ≡ earliest (problem_of i) placed (j - 1)
 start_is i used caps placed j from d t row instance activity same_caps same_d here is released found =
     found_from used caps (problem_of i) placed (j - 1) from d t row instance.fit (activity_place i j activity) same_caps same_d (needs_place i j row activity here) is released found

@@ -37,7 +37,9 @@ fold_least : (p : Problem) (placed : List (Option ℕ)) (j u m : ℕ) (links : L
 fold_least p placed j u m [] low all = low
 fold_least p placed j u m (a ∷ links) low all =
     fold_least p placed j u (later p placed j m a) links
-    (cond_both (nat_eq a.to j) (max m (end_of p placed a.from + a.lag)) m (λ x. x ≤ u) (λ yes. omega (arith, low, All-head (λ b. b.to ≡ j → end_of p placed b.from + b.lag ≤ u) a links all (eqb-true a.to j yes))) (λ no. low))
+    (cond_both (nat_eq a.to j) (max m (end_of p placed a.from + a.lag)) m (λ x. x ≤ u)
+        (λ yes. omega (arith, low, All-head (λ b. b.to ≡ j → end_of p placed b.from + b.lag ≤ u) a links all
+        (eqb-true a.to j yes))) (λ no. low))
     (All-tail (λ b. b.to ≡ j → end_of p placed b.from + b.lag ≤ u) a links all)
 
 -- a release is no earlier than each predecessor's end and lag, and is the least such
@@ -52,17 +54,22 @@ pub end_of-placed : (p : Problem) (placed : List (Option ℕ)) (i s : ℕ) → g
 end_of-placed p placed i s is = ap (end_from (duration p i)) is
 
 -- placing one more adds its amount
-pub usage_set : (p : Problem) (placed : List (Option ℕ)) (j t u k : ℕ) → length placed ≡ count p → j < count p → get_or placed j None ≡ None → usage p placed u k + amount_of p u k j (Some t) ≡ usage p (set placed j (Some t)) u k
+pub usage_set : (p : Problem) (placed : List (Option ℕ)) (j t u k : ℕ) → length placed ≡ count p →
+    j < count p → get_or placed j None ≡ None → usage p placed u k + amount_of p u k j (Some t) ≡ usage p
+    (set placed j (Some t)) u k
 unfolding usage
 usage_set p placed j t u k size inside open_place =
     total_changed (count p) (λ i. amount_of p u k i (get_or placed i None)) (λ i. amount_of p u k i (get_or (set placed j (Some t)) i None)) j (amount_of p u k j (Some t)) inside
     (λ i below other. ap (amount_of p u k i) (sym (get_or-set_other placed j i (Some t) None other)))
     (let before : amount_of p u k j (get_or placed j None) ≡ 0 = ap (amount_of p u k j) open_place in
-    let after : amount_of p u k j (get_or (set placed j (Some t)) j None) ≡ amount_of p u k j (Some t) = ap (amount_of p u k j) (get_or-set_same placed j (Some t) None (omega (arith, size, inside))) in
+    let after : amount_of p u k j (get_or (set placed j (Some t)) j None) ≡ amount_of p u k j (Some t) =
+        ap (amount_of p u k j) (get_or-set_same placed j (Some t) None (omega (arith, size, inside))) in
     omega (arith, before, after))
 
 -- what fits keeps the capacities
-pub keeps_set : (p : Problem) (placed : List (Option ℕ)) (j t : ℕ) → length placed ≡ count p → j < count p → get_or placed j None ≡ None → KeepsCapacities p placed → fits p placed j t ≡ true → KeepsCapacities p (set placed j (Some t))
+pub keeps_set : (p : Problem) (placed : List (Option ℕ)) (j t : ℕ) → length placed ≡ count p → j < count p →
+    get_or placed j None ≡ None → KeepsCapacities p placed → fits p placed j t ≡ true →
+    KeepsCapacities p (set placed j (Some t))
 keeps_set p placed j t size inside open_place keeps fit u k within = by_time (cases_lt u t) (cases_lt u (t + duration p j)) where
   more : usage p placed u k + amount_of p u k j (Some t) ≡ usage p (set placed j (Some t)) u k
   more = usage_set p placed j t u k size inside open_place
@@ -105,11 +112,16 @@ amount_least p t k i most (Some s) limit = limit s refl
 
 -- Beside activities that need no more from then on than in a list of starts that keeps the capacities, one more fits where it starts in
 -- that list.
-pub fits_beside : (p : Problem) (placed : List (Option ℕ)) (other : List ℕ) (j : ℕ) → length placed ≡ count p → length other ≡ count p → j < count p → get_or placed j None ≡ None → KeepsCapacities p (all_placed other)
+pub fits_beside : (p : Problem) (placed : List (Option ℕ)) (other : List ℕ) (j : ℕ) →
+    length placed ≡ count p → length other ≡ count p → j < count p → get_or placed j None ≡ None →
+    KeepsCapacities p (all_placed other)
     → ((i s t k : ℕ) → get_or placed i None ≡ Some s → get_or other j 0 ≤ t → amount_of p t k i (Some s) ≤ amount_of p t k i (Some (get_or other i 0))) → fits p placed j (get_or other j 0) ≡ true
 unfolding usage
 fits_beside p placed other j size other_size inside open_place keeps less = fits_from p placed j (get_or other j 0) (λ x k low within.
-    let more : usage p placed (get_or other j 0 + x) k + amount_of p (get_or other j 0 + x) k j (Some (get_or other j 0)) ≡ usage p (set placed j (Some (get_or other j 0))) (get_or other j 0 + x) k = usage_set p placed j (get_or other j 0) (get_or other j 0 + x) k size inside open_place in
+    let more : usage p placed (get_or other j 0 + x) k + amount_of p (get_or other j 0 + x) k j
+        (Some (get_or other j 0)) ≡ usage p (set placed j (Some (get_or other j 0)))
+        (get_or other j 0 + x) k = usage_set p placed j (get_or other j 0)
+        (get_or other j 0 + x) k size inside open_place in
     let all : usage p (set placed j (Some (get_or other j 0))) (get_or other j 0 + x) k ≤ usage p (all_placed other) (get_or other j 0 + x) k = grows (get_or other j 0 + x) k (omega arith) in
     let runs : amount_of p (get_or other j 0 + x) k j (Some (get_or other j 0)) ≡ need p j k = amount_during p (get_or other j 0 + x) k j (get_or other j 0) (omega arith) (omega (arith, low)) in
     omega (arith, more, all, runs, keeps (get_or other j 0 + x) k within)) where
@@ -120,7 +132,9 @@ fits_beside p placed other j size other_size inside open_place keeps less = fits
             (λ s is. less i s t k (sym (get_or-set_other placed j i (Some (get_or other j 0)) None apart) ∙ is) late)
         | inl same ↦
             let here : get_or (set placed j (Some (get_or other j 0))) i None ≡ Some (get_or other i 0) =
-            subst (λ (x : ℕ). get_or (set placed j (Some (get_or other j 0))) x None ≡ Some (get_or other x 0)) (sym same) (get_or-set_same placed j (Some (get_or other j 0)) None (omega (arith, size, inside))) in
+            subst (λ (x : ℕ). get_or (set placed j (Some (get_or other j 0))) x None ≡ Some
+                (get_or other x 0)) (sym same) (get_or-set_same placed j (Some (get_or other j 0)) None
+                (omega (arith, size, inside))) in
             let equal : amount_of p t k i (get_or (set placed j (Some (get_or other j 0))) i None) ≡ amount_of p t k i (Some (get_or other i 0)) = ap (amount_of p t k i) here in
             omega (arith, equal)
       ]
@@ -142,7 +156,9 @@ release_beside p placed other j keeps ready early = release_least p placed j (ge
     omega (arith, end_of-placed p placed (get_or p.links k d).from from.0 from.1, start, same, keeps k d within))
 
 -- what one placement keeps
-pub partial_set : (p : Problem) (placed : List (Option ℕ)) (j : ℕ) → NeedsFit p → IsPartial p placed → j < count p → get_or placed j None ≡ None → IsReady p placed j → IsPartial p (set placed j (Some (earliest p placed j)))
+pub partial_set : (p : Problem) (placed : List (Option ℕ)) (j : ℕ) → NeedsFit p → IsPartial p placed →
+    j < count p → get_or placed j None ≡ None → IsReady p placed j →
+    IsPartial p (set placed j (Some (earliest p placed j)))
 partial_set p placed j fit partial inside open_place ready = record {
   size = length-set placed j (Some (earliest p placed j)) ∙ partial.size;
   capacities = keeps_set p placed j (earliest p placed j) partial.size inside open_place partial.capacities least.fitting;
@@ -163,7 +179,9 @@ partial_set p placed j fit partial inside open_place ready = record {
   kept : (i s : ℕ) → get_or placed i None ≡ Some s → get_or (set placed j (Some (earliest p placed j))) i None ≡ Some s
   kept i s is = get_or-set_other placed j i (Some (earliest p placed j)) None (apart i s is) ∙ is
 
-  links : All (λ a. (s t : ℕ) → get_or (set placed j (Some (earliest p placed j))) a.from None ≡ Some s → get_or (set placed j (Some (earliest p placed j))) a.to None ≡ Some t → s + duration p a.from + a.lag ≤ t) p.links
+  links : All (λ a. (s t : ℕ) → get_or (set placed j (Some (earliest p placed j))) a.from None ≡ Some s →
+      get_or (set placed j (Some (earliest p placed j))) a.to None ≡ Some t →
+      s + duration p a.from + a.lag ≤ t) p.links
   links k d low s t from_is to_is =
       let a = get_or p.links k d in
       let from = set_cases placed j (earliest p placed j) (get_or p.links k d).from s within from_is in
@@ -195,7 +213,10 @@ partial_set p placed j fit partial inside open_place ready = record {
       let equal : amount_of p t k i (Some s) ≡ amount_of p t k i (Some (get_or other i 0)) = ap (λ (x : ℕ). amount_of p t k i (Some x)) (sym (agree i s is)) in
       omega (arith, equal)))
 
-  left : (i t : ℕ) → get_or (set placed j (Some (earliest p placed j))) i None ≡ Some t → (other : List ℕ) → IsFeasible p other → ((h s : ℕ) → h ≢ i → get_or (set placed j (Some (earliest p placed j))) h None ≡ Some s → get_or other h 0 ≡ s) → t ≤ get_or other i 0
+  left : (i t : ℕ) → get_or (set placed j (Some (earliest p placed j))) i None ≡ Some t → (other : List ℕ) →
+      IsFeasible p other → ((h s : ℕ) → h ≢ i → get_or
+      (set placed j (Some (earliest p placed j))) h None ≡ Some s → get_or other h 0 ≡ s) →
+      t ≤ get_or other i 0
   left i t is other feasible agree = elim (set_cases placed j (earliest p placed j) i t within is) [
     | inl here ↦
         let low : earliest p placed j ≤ get_or other j 0 = here_least other feasible (λ h s there. agree h s (λ same. apart h s there (same ∙ here.0)) (kept h s there)) in

@@ -49,7 +49,9 @@ pub word_ends : (i : Planned) (w : List ℕ) → IsInstance i → IsWord i w →
 word_ends i w instance word h s is =
     let limits = bounded i instance in
     let partial = word_partial i [] instance tt in
-    let all = ends_after (problem_of i) (places w) [] (unplaced (depth_of i)) limits partial.0.size (word_turns i [] w word).turns (λ g r there. absurd (none-some r (sym (unplaced_at (depth_of i) g) ∙ there))) h s is in
+    let all = ends_after (problem_of i) (places w) [] (unplaced (depth_of i)) limits partial.0.size
+        (word_turns i [] w word).turns (λ g r there. absurd
+        (none-some r (sym (unplaced_at (depth_of i) g) ∙ there))) h s is in
     let most : bound_of (problem_of i) (places w) ≤ 6020000 = bound_within (problem_of i) (places w) limits (omega (arith, words_most i w word, length-places w)) in
     omega (arith, all, most)
 
@@ -111,10 +113,14 @@ none_greatest : (n : ℕ) (f : ℕ → ℕ) → ((h : ℕ) → f h ≡ 0) → 0 
 none_greatest n f none = let low : greatest_below n f ≤ 0 = greatest_least n f 0 (λ h below. omega (arith, none h)) in omega (arith, low)
 
 pub no_end : (i : Planned) (v : Standing) → standing i [] ≡ v → 0 ≡ end_by v.instance v.word
-no_end i v is = subst (λ (x : Standing). 0 ≡ end_by x.instance x.word) is (none_greatest (depth_of i) (end_of (problem_of i) (placed_by i [])) (λ h. ap (end_from (duration (problem_of i) h)) (unplaced_at (depth_of i) h)))
+no_end i v is = subst (λ (x : Standing). 0 ≡ end_by x.instance x.word) is
+    (none_greatest (depth_of i) (end_of (problem_of i) (placed_by i []))
+    (λ h. ap (end_from (duration (problem_of i) h)) (unplaced_at (depth_of i) h)))
 
 pub no_reach : (i : Planned) (v : Standing) → standing i [] ≡ v → 0 ≡ reach_by v.instance v.word
-no_reach i v is = subst (λ (x : Standing). 0 ≡ reach_by x.instance x.word) is (none_greatest (depth_of i) (reach_of i (placed_by i [])) (λ h. ap (end_from (tail_of i.project.network (suc h))) (unplaced_at (depth_of i) h)))
+no_reach i v is = subst (λ (x : Standing). 0 ≡ reach_by x.instance x.word) is
+    (none_greatest (depth_of i) (reach_of i (placed_by i []))
+    (λ h. ap (end_from (tail_of i.project.network (suc h))) (unplaced_at (depth_of i) h)))
 
 -- the greatest end is no later than all ends
 pub end_limit : (v : Standing) (placed : List (Option ℕ)) → TreeFacts v placed → end_by v.instance v.word ≤ 6020000
@@ -163,7 +169,9 @@ greatest_placed : (n : ℕ) (length_of : ℕ → ℕ) (placed : List (Option ℕ
 greatest_placed n length_of placed j s inside within none =
     let here : end_from (length_of j) (get_or (set placed j (Some s)) j None) ≡ s + length_of j = ap (end_from (length_of j)) (get_or-set_same placed j (Some s) None within) in
     let before : end_from (length_of j) (get_or placed j None) ≡ 0 = ap (end_from (length_of j)) none in
-    let all = greatest_changed n (λ h. end_from (length_of h) (get_or placed h None)) (λ h. end_from (length_of h) (get_or (set placed j (Some s)) h None)) j inside (omega (arith, here, before)) (λ h other.
+    let all = greatest_changed n (λ h. end_from (length_of h) (get_or placed h None))
+        (λ h. end_from (length_of h) (get_or (set placed j (Some s)) h None)) j inside
+        (omega (arith, here, before)) (λ h other.
     ap (end_from (length_of h)) (sym (get_or-set_other placed j h (Some s) None other))) in
     omega (arith, all, here)
 
@@ -172,11 +180,17 @@ pub next_turn : (v : Standing) (placed : List (Option ℕ)) (a start end reach :
     → end ≡ max (end_by v.instance v.word) (start + duration (problem_of v.instance) (a - 1)) → reach ≡ max (reach_by v.instance v.word) (start + tail_of v.instance.project.network (suc (a - 1)))
     → IsTurn v.instance (v.word ++ a ∷ []) (record { letter = a; end = end; reach = reach })
 next_turn v placed a start end reach facts can is ends reaches = record {
-  latest = omega (arith, ends, before_end, greatest_placed (depth_of v.instance) (duration (problem_of v.instance)) placed (a - 1) start (omega (arith, can.inside, facts.size)) can.inside can.none, after_end);
-  farthest = omega (arith, reaches, before_reach, greatest_placed (depth_of v.instance) (λ h. tail_of v.instance.project.network (suc h)) placed (a - 1) start (omega (arith, can.inside, facts.size)) can.inside can.none, after_reach);
+  latest = omega (arith, ends, before_end, greatest_placed (depth_of v.instance)
+      (duration (problem_of v.instance)) placed (a - 1) start
+      (omega (arith, can.inside, facts.size)) can.inside can.none, after_end);
+  farthest = omega (arith, reaches, before_reach, greatest_placed (depth_of v.instance)
+      (λ h. tail_of v.instance.project.network (suc h)) placed (a - 1) start
+      (omega (arith, can.inside, facts.size)) can.inside can.none, after_reach);
 } where
   after : set placed (a - 1) (Some start) ≡ placed_by v.instance (v.word ++ a ∷ [])
-  after = ap (λ (t : ℕ). set placed (a - 1) (Some t)) is ∙ ap (λ (xs : List (Option ℕ)). set xs (a - 1) (Some (earliest (problem_of v.instance) xs (a - 1)))) facts.placed_are ∙ sym (placed_push v.instance v.word a)
+  after = ap (λ (t : ℕ). set placed (a - 1) (Some t)) is
+      ∙ ap (λ (xs : List (Option ℕ)). set xs (a - 1) (Some (earliest (problem_of v.instance) xs (a - 1))))
+      facts.placed_are ∙ sym (placed_push v.instance v.word a)
 
   before_end : greatest_below (depth_of v.instance) (end_of (problem_of v.instance) placed) ≡ end_by v.instance v.word
   before_end = ap (λ (xs : List (Option ℕ)). greatest_below (depth_of v.instance) (end_of (problem_of v.instance) xs)) facts.placed_are
@@ -196,7 +210,9 @@ word_of-push turns turn = map_push (λ (t : Turn). t.letter) turns turn
 
 turns_push : (i : Planned) (u : List ℕ) (turns : List Turn) (turn : Turn) → AreTurns i u turns → IsTurn i (u ++ word_of turns ++ turn.letter ∷ []) turn → AreTurns i u (turns ++ turn ∷ [])
 turns_push i u [] turn are is = (subst (λ (xs : List ℕ). IsTurn i (xs ++ turn.letter ∷ []) turn) (append-nil u) is, tt)
-turns_push i u (t ∷ ts) turn are is = (are.0, turns_push i (u ++ t.letter ∷ []) ts turn are.1 (subst (λ (xs : List ℕ). IsTurn i (xs ++ turn.letter ∷ []) turn) (sym (append_assoc u (t.letter ∷ []) (word_of ts))) is))
+turns_push i u (t ∷ ts) turn are is = (are.0, turns_push i (u ++ t.letter ∷ []) ts turn are.1
+    (subst (λ (xs : List ℕ). IsTurn i (xs ++ turn.letter ∷ []) turn)
+    (sym (append_assoc u (t.letter ∷ []) (word_of ts))) is))
 
 turns_front : (i : Planned) (u : List ℕ) (turns : List Turn) (turn : Turn) → AreTurns i u (turns ++ turn ∷ []) → AreTurns i u turns
 turns_front i u [] turn are = tt
@@ -261,7 +277,9 @@ last_is i w u placed a instance is_word are word = record {
   word = parts.0;
   letter = parts.1.0;
   undone = undone;
-  last = ap (λ (xs : List (Option ℕ)). get_or xs (a - 1) None) pushed ∙ get_or-set_same (placed_by i u) (a - 1) (Some (earliest (problem_of i) (placed_by i u) (a - 1))) None (omega (arith, letter.inside, (word_partial i u instance parts.0).0.size))
+  last = ap (λ (xs : List (Option ℕ)). get_or xs (a - 1) None) pushed
+      ∙ get_or-set_same (placed_by i u) (a - 1) (Some (earliest (problem_of i) (placed_by i u) (a - 1))) None
+      (omega (arith, letter.inside, (word_partial i u instance parts.0).0.size))
       ∙ ap (λ (xs : List (Option ℕ)). Some (earliest (problem_of i) xs (a - 1))) (sym undone);
 } where
   parts : Follows i [] u × Follows i ([] ++ u) (a ∷ [])
@@ -299,7 +317,9 @@ tree_pop i tails least placed profiles after turns whole turn n waits raised tre
   word = can.word;
   placed_are = can.undone;
   waits_are = waits_pop i (word_of turns) turn.letter waits raised (subst (λ (xs : List ℕ). AreWaits i xs waits) word tree.waits_are) can.letter lowers;
-  profiles_are = profiles_pop i (word_of turns) turn.letter n profiles after (subst (λ (xs : List ℕ). AreProfiles i xs profiles) word tree.profiles_are) (omega (arith, size, length-map turns (λ (t : Turn). t.letter))) cut;
+  profiles_are = profiles_pop i (word_of turns) turn.letter n profiles after
+      (subst (λ (xs : List ℕ). AreProfiles i xs profiles) word tree.profiles_are)
+      (omega (arith, size, length-map turns (λ (t : Turn). t.letter))) cut;
   turns_are = turns_front i [] turns turn (subst (AreTurns i []) all tree.turns_are);
 } where
   word : word_of whole ≡ word_of turns ++ turn.letter ∷ []
@@ -342,10 +362,15 @@ pub behind : (i : Planned) (turns : List Turn) (placed : List (Option ℕ)) (pro
     → IsBehind i turns placed profiles
 behind i turns placed profiles instance word are kept size = record {
   last = last;
-  held = λ profile is. subst (Holds profile (problem_of i)) (sym last.undone) (held_before i (word_of turns) (word_of (take (length turns - 1) turns)) (get_or turns (length turns - 1) no_turn_yet).letter (length turns - 1) profiles profile kept split short is);
+  held = λ profile is. subst (Holds profile (problem_of i)) (sym last.undone)
+      (held_before i (word_of turns) (word_of (take (length turns - 1) turns))
+      (get_or turns (length turns - 1) no_turn_yet).letter
+      (length turns - 1) profiles profile kept split short is);
 } where
   split : word_of turns ≡ word_of (take (length turns - 1) turns) ++ (get_or turns (length turns - 1) no_turn_yet).letter ∷ []
-  split = turns_split turns (length turns) (get_or turns (length turns - 1) no_turn_yet) refl (omega (arith, kept.some, size)) (get_or_default turns (length turns - 1) no_turn_yet (get_or turns (length turns - 1) no_turn_yet) (omega (arith, kept.some, size)))
+  split = turns_split turns (length turns) (get_or turns (length turns - 1) no_turn_yet) refl
+      (omega (arith, kept.some, size)) (get_or_default turns (length turns - 1) no_turn_yet
+      (get_or turns (length turns - 1) no_turn_yet) (omega (arith, kept.some, size)))
 
   last : IsLast i (word_of (take (length turns - 1) turns)) placed (get_or turns (length turns - 1) no_turn_yet).letter
   last = last_is i (word_of turns) (word_of (take (length turns - 1) turns)) placed (get_or turns (length turns - 1) no_turn_yet).letter instance word are split
@@ -377,7 +402,9 @@ profiles_more i w profiles after made are size held more = subst (AreProfiles i 
   held = λ k profile within is. elim (cases_eq k (length profiles)) [
     | inl last ↦
         let same : profile ≡ made = is ∙ get_or_push profiles made profile k (sym last) in
-        subst (λ (x : Profile). Holds x (problem_of i) (placed_by i (take k w))) (sym same) (subst (λ (xs : List ℕ). Holds made (problem_of i) (placed_by i xs)) (sym (take_all k w (omega (arith, last, size)))) held)
+        subst (λ (x : Profile). Holds x (problem_of i) (placed_by i (take k w))) (sym same)
+            (subst (λ (xs : List ℕ). Holds made (problem_of i) (placed_by i xs))
+            (sym (take_all k w (omega (arith, last, size)))) held)
     | inr other ↦
         let before : k < length profiles = omega (arith, within, other, length_push profiles made) in
         are.held k profile before (is ∙ get_or_append_left profiles (made ∷ []) profile k before)

@@ -74,7 +74,9 @@ queued_skip keys waits n entries are some = record {
   ]
 
 -- the next activity waits for none, and comes in
-pub queued_push : (keys waits : List ℕ) (n : ℕ) (e : Entry) (old new : List Entry) → AreQueued keys waits n old → get_or waits n 0 ≡ 0 → IsKeyed keys e → e.0.1 - 1 ≡ n → IsPermutation (e ∷ old) new → KeepsHeap by_key old new → AreQueued keys waits (n + 1) new
+pub queued_push : (keys waits : List ℕ) (n : ℕ) (e : Entry) (old new : List Entry) →
+    AreQueued keys waits n old → get_or waits n 0 ≡ 0 → IsKeyed keys e → e.0.1 - 1 ≡ n →
+    IsPermutation (e ∷ old) new → KeepsHeap by_key old new → AreQueued keys waits (n + 1) new
 queued_push keys waits n e old new are none keyed place same kept = record {
   queue = queue_pushed keys e old new are.queue keyed same kept;
   free = λ h. omega (arith, are.free h, below_next h n (nat_eq (get_or waits h 0) 0), one h, times_pushed e old new same h, ap (λ (k : ℕ). tally (nat_eq k h)) place);
@@ -98,7 +100,9 @@ not_less Equal Greater a b c d one two is = inr (sym one, omega (arith, two))
 not_less Greater r a b c d one two is = inl one
 
 -- what goes out has the least key, and of those with that key the least number
-pub popped_first : (keys : List ℕ) (e : Entry) (old new : List Entry) → IsQueue keys old → PopsGreatest by_key old e new → (k : ℕ) → k < length old → (e.0.0 < (get_or old k e).0.0) ⊎ ((e.0.0 ≡ (get_or old k e).0.0) × (e.0.1 ≤ (get_or old k e).0.1))
+pub popped_first : (keys : List ℕ) (e : Entry) (old new : List Entry) → IsQueue keys old →
+    PopsGreatest by_key old e new → (k : ℕ) → k < length old →
+    (e.0.0 < (get_or old k e).0.0) ⊎ ((e.0.0 ≡ (get_or old k e).0.0) × (e.0.1 ≤ (get_or old k e).0.1))
 popped_first keys e old new queue pops k within =
     let x = get_or old k e in
     let least : is_lt (by_key e x) ≡ false = All-get_or (λ (y : Entry). is_lt (by_key e y) ≡ false) old k e within (pops queue.ordered).1 in
@@ -110,7 +114,9 @@ pub record AreLowered (row : List ℕ) (k : ℕ) (old now : List ℕ) : Type 0 w
   pub each : (h : ℕ) → h < length old → get_or now h 0 + times_in_row (take k row) h ≡ get_or old h 0
 
 -- the next of the row waits for one at least, if it did before
-pub next_waits : (row : List ℕ) (k : ℕ) (old now : List ℕ) → IsStrictlyIncreasing row → ((m : ℕ) → m < length row → 1 ≤ get_or row m 0) → k < length row → get_or row k 0 - 1 < length old → AreLowered row k old now → 1 ≤ get_or old (get_or row k 0 - 1) 0 → 1 ≤ get_or now (get_or row k 0 - 1) 0
+pub next_waits : (row : List ℕ) (k : ℕ) (old now : List ℕ) → IsStrictlyIncreasing row →
+    ((m : ℕ) → m < length row → 1 ≤ get_or row m 0) → k < length row → get_or row k 0 - 1 < length old →
+    AreLowered row k old now → 1 ≤ get_or old (get_or row k 0 - 1) 0 → 1 ≤ get_or now (get_or row k 0 - 1) 0
 next_waits row k old now rising from_one within inside lowered waits = omega (arith, waits, row_not_before row rising from_one k within, lowered.each (get_or row k 0 - 1) inside)
 
 -- and is lowered next
@@ -122,7 +128,9 @@ lowered_more row k old now within inside waits lowered = record {
       let more : times_in_row (take (k + 1) row) h ≡ times_in_row (take k row) h + tally (nat_eq i h) = sum_by_more (λ j. tally (nat_eq (j - 1) h)) row k 0 within in
       elim (cases_eq i h) [
         | inl same ↦
-            let here : get_or (set now i (get_or now i 0 - 1)) h 0 ≡ get_or now i 0 - 1 = subst (λ (m : ℕ). get_or (set now i (get_or now i 0 - 1)) m 0 ≡ get_or now i 0 - 1) same (get_or-set_same now i (get_or now i 0 - 1) 0 (omega (arith, inside, lowered.size))) in
+            let here : get_or (set now i (get_or now i 0 - 1)) h 0 ≡ get_or now i 0 - 1 =
+                subst (λ (m : ℕ). get_or (set now i (get_or now i 0 - 1)) m 0 ≡ get_or now i 0 - 1) same
+                (get_or-set_same now i (get_or now i 0 - 1) 0 (omega (arith, inside, lowered.size))) in
             let one : tally (nat_eq i h) ≡ 1 = ap tally (eq-eqb i h same) in
             omega (arith, here, more, one, waits, lowered.each h below, ap (λ (m : ℕ). get_or now m 0) same)
         | inr other ↦
@@ -134,7 +142,9 @@ lowered_more row k old now within inside waits lowered = record {
   i = get_or row k 0 - 1
 
 -- the next of the row has what it had, and is raised next
-pub raised_more : (row : List ℕ) (k : ℕ) (old now : List ℕ) → IsStrictlyIncreasing row → ((m : ℕ) → m < length row → 1 ≤ get_or row m 0) → k < length row → get_or row k 0 - 1 < length old → AreLowered row k now old
+pub raised_more : (row : List ℕ) (k : ℕ) (old now : List ℕ) → IsStrictlyIncreasing row →
+    ((m : ℕ) → m < length row → 1 ≤ get_or row m 0) → k < length row → get_or row k 0 - 1 < length old →
+    AreLowered row k now old
     → (get_or now (get_or row k 0 - 1) 0 ≡ get_or old (get_or row k 0 - 1) 0) × AreLowered row (k + 1) (set now (get_or row k 0 - 1) (get_or now (get_or row k 0 - 1) 0 + 1)) old
 raised_more row k old now rising from_one within inside raised = (
   omega (arith, raised.each i inside', row_not_before row rising from_one k within),
@@ -145,7 +155,9 @@ raised_more row k old now rising from_one within inside raised = (
         let before = raised.each h (omega (arith, below, length-set now i (get_or now i 0 + 1))) in
         elim (cases_eq i h) [
           | inl same ↦
-              let here : get_or (set now i (get_or now i 0 + 1)) h 0 ≡ get_or now i 0 + 1 = subst (λ (m : ℕ). get_or (set now i (get_or now i 0 + 1)) m 0 ≡ get_or now i 0 + 1) same (get_or-set_same now i (get_or now i 0 + 1) 0 inside') in
+              let here : get_or (set now i (get_or now i 0 + 1)) h 0 ≡ get_or now i 0 + 1 =
+                  subst (λ (m : ℕ). get_or (set now i (get_or now i 0 + 1)) m 0 ≡ get_or now i 0 + 1) same
+                  (get_or-set_same now i (get_or now i 0 + 1) 0 inside') in
               let one : tally (nat_eq i h) ≡ 1 = ap tally (eq-eqb i h same) in
               omega (arith, here, more, one, before, ap (λ (m : ℕ). get_or now m 0) same)
           | inr other ↦
@@ -209,7 +221,9 @@ and_true true b is = is
 and_true false b is = refl
 
 -- the next waits for none, and comes into the queue
-pub joining_push : (row : List ℕ) (k : ℕ) (now keys : List ℕ) (first before after : List Entry) (e : Entry) → k < length row → AreJoining row k now keys first before → get_or now (get_or row k 0 - 1) 0 ≡ 0 → IsKeyed keys e → e.0.1 ≡ get_or row k 0
+pub joining_push : (row : List ℕ) (k : ℕ) (now keys : List ℕ) (first before after : List Entry) (e : Entry) →
+    k < length row → AreJoining row k now keys first before → get_or now (get_or row k 0 - 1) 0 ≡ 0 →
+    IsKeyed keys e → e.0.1 ≡ get_or row k 0
     → IsPermutation (e ∷ before) after → KeepsHeap by_key before after → AreJoining row (k + 1) now keys first after
 joining_push row k now keys first before after e within joining none keyed is same kept =
     joining_more row k now keys first before after within joining (queue_pushed keys e before after joining.queue keyed same kept) comes where
@@ -223,14 +237,18 @@ joining_push row k now keys first before after e within joining none keyed is sa
           omega (arith, times_pushed e before after same h, place, both)
 
 -- the next waits for some
-pub joining_skip : (row : List ℕ) (k : ℕ) (now keys : List ℕ) (first before : List Entry) → k < length row → AreJoining row k now keys first before → (get_or now (get_or row k 0 - 1) 0 ≡ 0 → ⊥) → AreJoining row (k + 1) now keys first before
+pub joining_skip : (row : List ℕ) (k : ℕ) (now keys : List ℕ) (first before : List Entry) → k < length row →
+    AreJoining row k now keys first before → (get_or now (get_or row k 0 - 1) 0 ≡ 0 → ⊥) →
+    AreJoining row (k + 1) now keys first before
 joining_skip row k now keys first before within joining some = joining_more row k now keys first before before within joining joining.queue (λ h.
     let i = get_or row k 0 - 1 in
     let none : tally (nat_eq i h && nat_eq (get_or now i 0) 0) ≡ 0 = ap tally (and_right (nat_eq i h) (nat_eq (get_or now i 0) 0) (ne_eqb (get_or now i 0) 0 some)) in
     omega (arith, none))
 
 -- once the whole row was looked at, those have come in that wait for none now and did for some before
-pub joined_all : (net : Net) (j : ℕ) (row : List ℕ) (k : ℕ) (old now keys : List ℕ) (first entries : List Entry) → IsWithinLimits net → IsActivity net j → ListsRising (IsArc net j) row → ((m : ℕ) → m < length row → IsActivity net (get_or row m 0)) → length row ≤ k
+pub joined_all : (net : Net) (j : ℕ) (row : List ℕ) (k : ℕ) (old now keys : List ℕ)
+    (first entries : List Entry) → IsWithinLimits net → IsActivity net j → ListsRising (IsArc net j) row →
+    ((m : ℕ) → m < length row → IsActivity net (get_or row m 0)) → length row ≤ k
     → Lowers net j old now → AreJoining row k now keys first entries → Joins old now first entries
 joined_all net j row k old now keys first entries limits activity listed activities all lowers joining h below =
     let whole : times_in_row (take k row) h ≡ times_in_row row h = ap (λ (xs : List ℕ). times_in_row xs h) (take_all k row all) in
@@ -248,14 +266,20 @@ joined_all net j row k old now keys first entries limits activity listed activit
       | inr some ↦
           let came : times_in entries h ≡ times_in first h + 0 =
           joining.free h ∙ ap (λ (b : Bool). times_in first h + cond b (times_in_row (take k row) h) 0) (ne_eqb (get_or now h 0) 0 some) in
-          let none : tally (nat_lt 0 (get_or old h 0) && nat_eq (get_or now h 0) 0) ≡ 0 = ap tally (and_right (nat_lt 0 (get_or old h 0)) (nat_eq (get_or now h 0) 0) (ne_eqb (get_or now h 0) 0 some)) in
+          let none : tally (nat_lt 0 (get_or old h 0) && nat_eq (get_or now h 0) 0) ≡ 0 =
+              ap tally (and_right (nat_lt 0 (get_or old h 0)) (nat_eq (get_or now h 0) 0)
+              (ne_eqb (get_or now h 0) 0 some)) in
           omega (arith, came, none)
     ]
 
 -- the next of the successors is an activity, and waits for one at least
-pub next_known : (net : Net) (j : ℕ) (row : List ℕ) (k : ℕ) (old now : List ℕ) → length old ≡ count_of net → ListsRising (IsArc net j) row → ((m : ℕ) → m < length row → IsActivity net (get_or row m 0)) → ((h : ℕ) → IsArc net j h → 1 ≤ get_or old (h - 1) 0) → k < length row
+pub next_known : (net : Net) (j : ℕ) (row : List ℕ) (k : ℕ) (old now : List ℕ) → length old ≡ count_of net →
+    ListsRising (IsArc net j) row → ((m : ℕ) → m < length row → IsActivity net (get_or row m 0)) →
+    ((h : ℕ) → IsArc net j h → 1 ≤ get_or old (h - 1) 0) → k < length row
     → AreLowered row k old now → IsActivity net (get_or row k 0) × (get_or row k 0 - 1 < length old) × (1 ≤ get_or now (get_or row k 0 - 1) 0)
-next_known net j row k old now size listed activities waiting within lowered = (activities k within, inside, next_waits row k old now listed.rising (λ m low. (activities m low).0) within inside lowered waits) where
+next_known net j row k old now size listed activities waiting within lowered =
+    (activities k within, inside, next_waits row k old now listed.rising
+    (λ m low. (activities m low).0) within inside lowered waits) where
   inside : get_or row k 0 - 1 < length old
   inside = omega (arith, activities k within, size)
 
@@ -263,7 +287,10 @@ next_known net j row k old now size listed activities waiting within lowered = (
   waits = waiting (get_or row k 0) ((listed.exact (get_or row k 0)).0 (Contains-get_or row k 0 within))
 
 -- once the whole row was lowered
-pub lowered_all : (net : Net) (j : ℕ) (row : List ℕ) (k : ℕ) (old now : List ℕ) → IsWithinLimits net → IsActivity net j → ListsRising (IsArc net j) row → ((m : ℕ) → m < length row → IsActivity net (get_or row m 0)) → length row ≤ k → AreLowered row k old now → Lowers net j old now
+pub lowered_all : (net : Net) (j : ℕ) (row : List ℕ) (k : ℕ) (old now : List ℕ) → IsWithinLimits net →
+    IsActivity net j → ListsRising (IsArc net j) row →
+    ((m : ℕ) → m < length row → IsActivity net (get_or row m 0)) → length row ≤ k → AreLowered row k old now →
+    Lowers net j old now
 lowered_all net j row k old now limits activity listed activities all lowered = record {
   size = lowered.size;
   each = λ h below.

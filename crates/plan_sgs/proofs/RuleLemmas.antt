@@ -57,7 +57,9 @@ chosen_skip p key taken other n isnt before = elim before [
   ]
 
 -- it is the first eligible one
-chosen_first : (p : Problem) (key : ℕ → ℕ) (taken : List ℕ) (other n : ℕ) → is_eligible p taken n ≡ true → eligible p taken n ≡ [] → ((h : ℕ) → h < n → is_eligible p taken h ≡ true → ⊥) → IsChosenBelow p key taken other (suc n)
+chosen_first : (p : Problem) (key : ℕ → ℕ) (taken : List ℕ) (other n : ℕ) → is_eligible p taken n ≡ true →
+    eligible p taken n ≡ [] → ((h : ℕ) → h < n → is_eligible p taken h ≡ true → ⊥) →
+    IsChosenBelow p key taken other (suc n)
 chosen_first p key taken other n is none misses = inr (
   let long : length (eligible p taken (suc n)) ≡ 1 = ap (λ (xs : List ℕ). length xs) one in omega (arith, long),
   subst (IsFirstBelow p key taken (suc n)) (ap (least_key key other) (sym one)) (record {
@@ -76,8 +78,14 @@ chosen_first p key taken other n is none misses = inr (
   ]
 
 -- it is one more eligible one
-chosen_more : (p : Problem) (key : ℕ → ℕ) (taken : List ℕ) (other n : ℕ) → is_eligible p taken n ≡ true → 0 < length (eligible p taken n) → IsFirstBelow p key taken n (least_key key other (eligible p taken n)) → IsChosenBelow p key taken other (suc n)
-chosen_more p key taken other n is some before = inr (let long : length (eligible p taken (suc n)) ≡ length (eligible p taken n ++ n ∷ []) = ap (λ (xs : List ℕ). length xs) pushed in omega (arith, long, more (eligible p taken n)), subst (IsFirstBelow p key taken (suc n)) (sym chosen) (by_key (cases_lt (key n) (key (least_key key other (eligible p taken n)))))) where
+chosen_more : (p : Problem) (key : ℕ → ℕ) (taken : List ℕ) (other n : ℕ) → is_eligible p taken n ≡ true →
+    0 < length (eligible p taken n) → IsFirstBelow p key taken n (least_key key other (eligible p taken n)) →
+    IsChosenBelow p key taken other (suc n)
+chosen_more p key taken other n is some before = inr
+    (let long : length (eligible p taken (suc n)) ≡ length (eligible p taken n ++ n ∷ []) =
+    ap (λ (xs : List ℕ). length xs) pushed in
+    omega (arith, long, more (eligible p taken n)), subst (IsFirstBelow p key taken (suc n)) (sym chosen)
+    (by_key (cases_lt (key n) (key (least_key key other (eligible p taken n)))))) where
   pushed : eligible p taken (suc n) ≡ eligible p taken n ++ n ∷ []
   pushed = ap (λ (b : Bool). eligible p taken n ++ cond b (n ∷ []) []) is
 
@@ -88,8 +96,13 @@ chosen_more p key taken other n is some before = inr (let long : length (eligibl
   chosen : least_key key other (eligible p taken (suc n)) ≡ lesser key (least_key key other (eligible p taken n)) n
   chosen = ap (least_key key other) pushed ∙ least_key-push key other (eligible p taken n) n some
 
-  by_key : (key n < key (least_key key other (eligible p taken n))) ⊎ (key (least_key key other (eligible p taken n)) ≤ key n) → IsFirstBelow p key taken (suc n) (lesser key (least_key key other (eligible p taken n)) n)
-  by_key (inl less) = subst (IsFirstBelow p key taken (suc n)) (sym (cond-true (nat_lt (key n) (key (least_key key other (eligible p taken n)))) n (least_key key other (eligible p taken n)) (lt-ltb (key n) (key (least_key key other (eligible p taken n))) less))) (record {
+  by_key : (key n < key (least_key key other (eligible p taken n)))
+      ⊎ (key (least_key key other (eligible p taken n)) ≤ key n) →
+      IsFirstBelow p key taken (suc n) (lesser key (least_key key other (eligible p taken n)) n)
+  by_key (inl less) = subst (IsFirstBelow p key taken (suc n))
+      (sym (cond-true (nat_lt (key n) (key (least_key key other (eligible p taken n)))) n
+      (least_key key other (eligible p taken n)) (lt-ltb (key n)
+      (key (least_key key other (eligible p taken n))) less))) (record {
     inside = omega arith;
     eligible = is;
     first = λ h below passes. elim (cases_eq h n) [
@@ -100,7 +113,10 @@ chosen_more p key taken other n is some before = inr (let long : length (eligibl
       ]
     ];
   })
-  by_key (inr level) = subst (IsFirstBelow p key taken (suc n)) (sym (cond-false (nat_lt (key n) (key (least_key key other (eligible p taken n)))) n (least_key key other (eligible p taken n)) (le-ltb (key n) (key (least_key key other (eligible p taken n))) level))) (record {
+  by_key (inr level) = subst (IsFirstBelow p key taken (suc n))
+      (sym (cond-false (nat_lt (key n) (key (least_key key other (eligible p taken n)))) n
+      (least_key key other (eligible p taken n)) (le-ltb (key n)
+      (key (least_key key other (eligible p taken n))) level))) (record {
     inside = omega (arith, before.inside);
     eligible = before.eligible;
     first = λ h below passes. elim (cases_eq h n) [
@@ -156,7 +172,9 @@ some_link p k within = first p.links k within where
   first (a ∷ links) (suc k) within = first links k (omega (arith, within))
 
 -- below each activity that isn't taken there is an eligible one, of no greater level, where the levels don't fall along the links
-pub some_eligible : (p : Problem) (rank level : ℕ → ℕ) (taken : List ℕ) → LinksInside p → IsRanked p rank → All (λ a. level a.from ≤ level a.to) p.links → (bound j : ℕ) → rank j < bound → j < count p → is_member j taken ≡ false
+pub some_eligible : (p : Problem) (rank level : ℕ → ℕ) (taken : List ℕ) → LinksInside p → IsRanked p rank →
+    All (λ a. level a.from ≤ level a.to) p.links → (bound j : ℕ) → rank j < bound → j < count p →
+    is_member j taken ≡ false
     → (i : ℕ) × (i < count p) × (is_eligible p taken i ≡ true) × (level i ≤ level j)
 some_eligible p rank level taken inside ranked levels zero j low within new = absurd (omega (arith, low))
 some_eligible p rank level taken inside ranked levels (suc bound) j low within new = elim (cases_Bool (list_all (λ a. not (nat_eq a.to j) || is_member a.from taken) p.links)) [
@@ -209,7 +227,9 @@ turns_untaken p [] taken turns = tt
 turns_untaken p (j ∷ js) taken turns =
     let turn = turn_parts p taken j js turns in
     ((turn.0, eligible_not p taken j turn.1), weaker p js taken j (turns_untaken p js (taken ++ j ∷ []) turn.2)) where
-      weaker : (p : Problem) (js taken : List ℕ) (j : ℕ) → AllByRecursion (λ i. (i < count p) × (is_member i (taken ++ j ∷ []) ≡ false)) js → AllByRecursion (λ i. (i < count p) × (is_member i taken ≡ false)) js
+      weaker : (p : Problem) (js taken : List ℕ) (j : ℕ) →
+          AllByRecursion (λ i. (i < count p) × (is_member i (taken ++ j ∷ []) ≡ false)) js →
+          AllByRecursion (λ i. (i < count p) × (is_member i taken ≡ false)) js
       weaker p [] taken j all = tt
       weaker p (i ∷ js) taken j (here, all) = ((here.0, (or_parts (is_member i taken) (nat_eq j i || false) (sym (member_push i j taken) ∙ here.1)).0), weaker p js taken j all)
 
@@ -220,11 +240,15 @@ pub record Continues (p : Problem) (key : ℕ → ℕ) (taken : List ℕ) (n : �
   pub size : length js ≡ n
   pub rises : All (λ a. key a.from ≤ key a.to) p.links → RisesBy key js
 
-each_least : (p : Problem) (key : ℕ → ℕ) (taken js : List ℕ) (b : ℕ) → ((i : ℕ) → i < count p → is_member i taken ≡ false → b ≤ key i) → AllByRecursion (λ i. (i < count p) × (is_member i taken ≡ false)) js → AllByRecursion (λ i. b ≤ key i) js
+each_least : (p : Problem) (key : ℕ → ℕ) (taken js : List ℕ) (b : ℕ) →
+    ((i : ℕ) → i < count p → is_member i taken ≡ false → b ≤ key i) →
+    AllByRecursion (λ i. (i < count p) × (is_member i taken ≡ false)) js → AllByRecursion (λ i. b ≤ key i) js
 each_least p key taken [] b least all = tt
 each_least p key taken (j ∷ js) b least (here, all) = (least j here.0 here.1, each_least p key taken js b least all)
 
-continues_more : (p : Problem) (key : ℕ → ℕ) (taken : List ℕ) (n : ℕ) (js : List ℕ) → IsNext p key taken → Continues p key (taken ++ next_of p key taken ∷ []) n js → Continues p key taken (suc n) (next_of p key taken ∷ js)
+continues_more : (p : Problem) (key : ℕ → ℕ) (taken : List ℕ) (n : ℕ) (js : List ℕ) → IsNext p key taken →
+    Continues p key (taken ++ next_of p key taken ∷ []) n js →
+    Continues p key taken (suc n) (next_of p key taken ∷ js)
 continues_more p key taken n js next rest = record {
   list = rest.list ∙ append_assoc taken (next_of p key taken ∷ []) js;
   turns = turns;
@@ -238,7 +262,9 @@ pub rule_continues : (p : Problem) (rank key : ℕ → ℕ) → LinksInside p �
 rule_continues p rank key inside ranked zero taken counted = ([], record { list = sym (append-nil taken); turns = refl; size = refl; rises = λ levels. tt })
 rule_continues p rank key inside ranked (suc n) taken counted =
     let next = next_there p rank key taken inside ranked (omega (arith, counted)) in
-    let one : taken_count p taken + 1 ≡ taken_count p (taken ++ next_of p key taken ∷ []) = taken_more p taken (next_of p key taken) next.first.inside (eligible_not p taken (next_of p key taken) next.first.eligible) in
+    let one : taken_count p taken + 1 ≡ taken_count p (taken ++ next_of p key taken ∷ []) =
+        taken_more p taken (next_of p key taken) next.first.inside
+        (eligible_not p taken (next_of p key taken) next.first.eligible) in
     let rest = rule_continues p rank key inside ranked n (taken ++ next_of p key taken ∷ []) (omega (arith, counted, one)) in
     (next_of p key taken ∷ rest.0, continues_more p key taken n rest.0 next rest.1)
 

@@ -47,12 +47,16 @@ run_open p js i placed bounded size run within =
       ends = λ h s is. omega (arith, limit, run.ends h s is);
     }
 
-pub run_more : (p : Problem) (js : List ℕ) (i : ℕ) (placed : List (Option ℕ)) → IsBounded p → IsRun p js i placed → i < length js → IsRun p js (i + 1) (set placed (get_or js i 0) (Some (earliest p placed (get_or js i 0))))
+pub run_more : (p : Problem) (js : List ℕ) (i : ℕ) (placed : List (Option ℕ)) → IsBounded p →
+    IsRun p js i placed → i < length js → IsRun p js (i + 1)
+    (set placed (get_or js i 0) (Some (earliest p placed (get_or js i 0))))
 run_more p js i placed bounded run within = record {
   turns = subst (λ (xs : List ℕ). takes_in_turn p xs (drop (i + 1) js) ≡ true) (sym longer) turn.2;
   rest = sym (ap (serial_from p placed) (drop_more js i 0 within)) ∙ run.rest;
   size = length-set placed (get_or js i 0) (Some (earliest p placed (get_or js i 0))) ∙ run.size;
-  taken = subst (TakenIs (set placed (get_or js i 0) (Some (earliest p placed (get_or js i 0))))) (sym longer) (taken_set placed (take i js) (get_or js i 0) (earliest p placed (get_or js i 0)) (omega (arith, run.size, turn.0)) run.taken);
+  taken = subst (TakenIs (set placed (get_or js i 0) (Some (earliest p placed (get_or js i 0))))) (sym longer)
+      (taken_set placed (take i js) (get_or js i 0) (earliest p placed (get_or js i 0))
+      (omega (arith, run.size, turn.0)) run.taken);
   ends = λ h s is.
       let new = eligible_not p (take i js) (get_or js i 0) turn.1 in
       let limit : s + duration p h ≤ bound_of p (take i js) + 10000 + duration p (get_or js i 0) = ends_set p placed (get_or js i 0) (bound_of p (take i js)) bounded run.size turn.0 run.ends h s is in
@@ -66,7 +70,9 @@ run_more p js i placed bounded run within = record {
   longer = take_more js i 0 within
 
 -- the whole list is placed
-pub run_ends : (p : Problem) (js : List ℕ) (i : ℕ) (placed : List (Option ℕ)) → IsBounded p → length js ≡ count p → IsRun p js i placed → length js ≤ i → (placed ≡ serial_from p (unplaced (count p)) js) × EndsBy p placed 6020000
+pub run_ends : (p : Problem) (js : List ℕ) (i : ℕ) (placed : List (Option ℕ)) → IsBounded p →
+    length js ≡ count p → IsRun p js i placed → length js ≤ i →
+    (placed ≡ serial_from p (unplaced (count p)) js) × EndsBy p placed 6020000
 run_ends p js i placed bounded size run all =
     let same : take i js ≡ js = take_all i js all in
     let limit : bound_of p (take i js) ≤ 6020000 = bound_within p (take i js) bounded (omega (arith, size, ap (λ (xs : List ℕ). length xs) same)) in

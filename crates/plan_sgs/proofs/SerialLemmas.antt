@@ -29,7 +29,9 @@ eligible_not p taken j is = not-true (is_member j taken) (and_parts (not (is_mem
 
 pub eligible_preds : (p : Problem) (taken : List ℕ) (j : ℕ) → is_eligible p taken j ≡ true → All (λ a. a.to ≡ j → is_member a.from taken ≡ true) p.links
 eligible_preds p taken j is k d within to =
-    let passes = all_pass (λ a. not (nat_eq a.to j) || is_member a.from taken) p.links (and_parts (not (is_member j taken)) (list_all (λ a. not (nat_eq a.to j) || is_member a.from taken) p.links) is).1 k d within in
+    let passes = all_pass (λ a. not (nat_eq a.to j) || is_member a.from taken) p.links
+        (and_parts (not (is_member j taken)) (list_all
+        (λ a. not (nat_eq a.to j) || is_member a.from taken) p.links) is).1 k d within in
     elim (or_cases (not (nat_eq (get_or p.links k d).to j)) (is_member (get_or p.links k d).from taken) passes) [
       | inl other ↦ absurd (both_ways (nat_eq (get_or p.links k d).to j) (not-true (nat_eq (get_or p.links k d).to j) other) (eq-eqb (get_or p.links k d).to j to))
       | inr has ↦ has
@@ -41,7 +43,9 @@ eligible_from p taken j new preds =
     (pass_all (λ a. not (nat_eq a.to j) || is_member a.from taken) p.links (λ k d within.
     elim (cases_eq (get_or p.links k d).to j) [
       | inl to ↦ or_right (not (nat_eq (get_or p.links k d).to j)) (is_member (get_or p.links k d).from taken) (preds k d within to)
-      | inr other ↦ or_left (not (nat_eq (get_or p.links k d).to j)) (is_member (get_or p.links k d).from taken) (not_from_false (nat_eq (get_or p.links k d).to j) (ne_eqb (get_or p.links k d).to j other))
+      | inr other ↦ or_left (not (nat_eq (get_or p.links k d).to j))
+          (is_member (get_or p.links k d).from taken)
+          (not_from_false (nat_eq (get_or p.links k d).to j) (ne_eqb (get_or p.links k d).to j other))
     ]))
 
 -- who is in a list with one more at its end
@@ -87,7 +91,9 @@ taken_set placed taken j t inside is i = elim (cases_eq i j) [
 ]
 
 -- the parts of a turn
-pub turn_parts : (p : Problem) (taken : List ℕ) (j : ℕ) (js : List ℕ) → takes_in_turn p taken (j ∷ js) ≡ true → (j < count p) × (is_eligible p taken j ≡ true) × (takes_in_turn p (taken ++ j ∷ []) js ≡ true)
+pub turn_parts : (p : Problem) (taken : List ℕ) (j : ℕ) (js : List ℕ) →
+    takes_in_turn p taken (j ∷ js) ≡ true → (j < count p) × (is_eligible p taken j ≡ true)
+    × (takes_in_turn p (taken ++ j ∷ []) js ≡ true)
 turn_parts p taken j js turns =
     let parts = and_parts (nat_lt j (count p) && is_eligible p taken j) (takes_in_turn p (taken ++ j ∷ []) js) turns in
     let here = and_parts (nat_lt j (count p)) (is_eligible p taken j) parts.0 in
@@ -102,7 +108,9 @@ pub ready_from : (p : Problem) (placed : List (Option ℕ)) (taken : List ℕ) (
 ready_from p placed taken j is eligible k d within to = taken_placed placed taken (get_or p.links k d).from is (eligible_preds p taken j eligible k d within to)
 
 -- what is kept all along a list
-pub partial_after : (p : Problem) (js taken : List ℕ) (placed : List (Option ℕ)) → NeedsFit p → IsPartial p placed → TakenIs placed taken → takes_in_turn p taken js ≡ true → IsPartial p (serial_from p placed js) × TakenIs (serial_from p placed js) (taken ++ js)
+pub partial_after : (p : Problem) (js taken : List ℕ) (placed : List (Option ℕ)) → NeedsFit p →
+    IsPartial p placed → TakenIs placed taken → takes_in_turn p taken js ≡ true →
+    IsPartial p (serial_from p placed js) × TakenIs (serial_from p placed js) (taken ++ js)
 partial_after p [] taken placed fit partial is turns = (partial, subst (TakenIs placed) (sym (append-nil taken)) is)
 partial_after p (j ∷ js) taken placed fit partial is turns =
     let turn = turn_parts p taken j js turns in

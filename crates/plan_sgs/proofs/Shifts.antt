@@ -58,7 +58,9 @@ usage_before p s other j u k whole whole' inside rest early =
     omega (arith, changed, usage_is p s u k whole, usage_is p other u k whole')
 
 -- from the old start on usage doesn't grow
-usage_after : (p : Problem) (s other : List ℕ) (j u k : ℕ) → length s ≡ count p → length other ≡ count p → j < count p → ((i : ℕ) → i ≢ j → get_or other i 0 ≡ get_or s i 0) → get_or other j 0 ≤ get_or s j 0 → get_or s j 0 ≤ u
+usage_after : (p : Problem) (s other : List ℕ) (j u k : ℕ) → length s ≡ count p → length other ≡ count p →
+    j < count p → ((i : ℕ) → i ≢ j → get_or other i 0 ≡ get_or s i 0) → get_or other j 0 ≤ get_or s j 0 →
+    get_or s j 0 ≤ u
     → usage p (all_placed other) u k ≤ usage p (all_placed s) u k
 usage_after p s other j u k whole whole' inside rest order since =
     let less : amount_at p other u k j ≤ amount_at p s u k j = amount_left p u k j (get_or other j 0) (get_or s j 0) order since in
@@ -67,7 +69,9 @@ usage_after p s other j u k whole whole' inside rest order since =
     omega (arith, changed, usage_is p s u k whole, usage_is p other u k whole')
 
 -- capacities are kept once an activity has moved to an earlier instant from which on it fits
-capacities_moved : (p : Problem) (s other : List ℕ) (j t : ℕ) → IsFeasible p s → length other ≡ count p → j < count p → get_or other j 0 ≡ t → ((i : ℕ) → i ≢ j → get_or other i 0 ≡ get_or s i 0) → CanStartAt p s j t → KeepsCapacities p (all_placed other)
+capacities_moved : (p : Problem) (s other : List ℕ) (j t : ℕ) → IsFeasible p s → length other ≡ count p →
+    j < count p → get_or other j 0 ≡ t → ((i : ℕ) → i ≢ j → get_or other i 0 ≡ get_or s i 0) →
+    CanStartAt p s j t → KeepsCapacities p (all_placed other)
 capacities_moved p s other j t feasible whole inside here rest can u k within =
     let earlier : t < get_or s j 0 = can.earlier in
     elim (cases_lt u (get_or s j 0)) [
@@ -116,7 +120,9 @@ start_from_shift p s j feasible has =
             let to_is : get_or other a.to 0 ≡ get_or other j 0 = ap (λ (i : ℕ). get_or other i 0) to in
             omega (arith, has.feasible.arcs n d within, has.shift.rest a.from from, to_is);
         fits = λ u k since lasts before within.
-            omega (arith, usage_before p s other j u k feasible.each_started has.feasible.each_started has.inside has.shift.rest before, amount_during p u k j (get_or other j 0) since lasts, has.feasible.capacities u k within);
+            omega (arith, usage_before p s other j u k feasible.each_started has.feasible.each_started
+                has.inside has.shift.rest before, amount_during p u k j
+                (get_or other j 0) since lasts, has.feasible.capacities u k within);
       },
     )
 
@@ -133,7 +139,10 @@ pub record IsAskedFor (p : Problem) (s : List ℕ) (j : ℕ) (caps : List ℕ) (
   pub each : (k : ℕ) → need p j k ≡ get_or needs k 0
 
 -- an interval that fits in the profile and ends by the start, or what of it comes before, is room for the activity
-fits_to : (p : Problem) (s : List ℕ) (j t d : ℕ) (caps : List ℕ) (used : ℕ → ℕ → ℕ) (length_of : ℕ) (needs : List ℕ) → IsAskedFor p s j caps used length_of needs → Fits caps used t d needs → (u k : ℕ) → t ≤ u → u < t + d → u < get_or s j 0 → k < length p.capacities → usage p (all_placed s) u k + need p j k ≤ capacity p k
+fits_to : (p : Problem) (s : List ℕ) (j t d : ℕ) (caps : List ℕ) (used : ℕ → ℕ → ℕ) (length_of : ℕ)
+    (needs : List ℕ) → IsAskedFor p s j caps used length_of needs → Fits caps used t d needs → (u k : ℕ) →
+    t ≤ u → u < t + d → u < get_or s j 0 → k < length p.capacities →
+    usage p (all_placed s) u k + need p j k ≤ capacity p k
 fits_to p s j t d caps used length_of needs asked fits u k since before early within =
     let at : t + (u - t) ≡ u = omega (arith, since) in
     let room : used (t + (u - t)) k + get_or needs k 0 ≤ get_or caps k 0 = fits (u - t) k (omega (arith, since, before)) (omega (arith, within, ap length asked.capacities)) in
@@ -154,7 +163,9 @@ shift_after_release p s j r feasible release has =
     omega (arith, start.1.earlier, release.least start.0 start.1.released)
 
 -- what fits beside all and ends by the old start is a left shift
-pub shift_by_earliest : (p : Problem) (s : List ℕ) (j r : ℕ) (caps : List ℕ) (used : ℕ → ℕ → ℕ) (d : ℕ) (needs : List ℕ) (t : ℕ) → IsFeasible p s → j < count p → IsRelease p s j r → r < get_or s j 0 → IsAskedFor p s j caps used d needs
+pub shift_by_earliest : (p : Problem) (s : List ℕ) (j r : ℕ) (caps : List ℕ) (used : ℕ → ℕ → ℕ) (d : ℕ)
+    (needs : List ℕ) (t : ℕ) → IsFeasible p s → j < count p → IsRelease p s j r → r < get_or s j 0 →
+    IsAskedFor p s j caps used d needs
     → IsEarliest caps used r d needs t → t + d ≤ get_or s j 0 → HasShift p s j
 shift_by_earliest p s j r caps used d needs t feasible inside release late asked earliest ends = shift_from_start p s j t feasible inside (record {
   earlier = before (cases_lt 0 d);
@@ -168,7 +179,9 @@ shift_by_earliest p s j r caps used d needs t feasible inside release late asked
       omega (arith, soon, late)
 
 -- so is room at the last instant before the old start
-pub shift_by_last : (p : Problem) (s : List ℕ) (j r : ℕ) (caps : List ℕ) (used : ℕ → ℕ → ℕ) (d : ℕ) (needs : List ℕ) → IsFeasible p s → j < count p → IsRelease p s j r → r < get_or s j 0 → IsAskedFor p s j caps used d needs
+pub shift_by_last : (p : Problem) (s : List ℕ) (j r : ℕ) (caps : List ℕ) (used : ℕ → ℕ → ℕ) (d : ℕ)
+    (needs : List ℕ) → IsFeasible p s → j < count p → IsRelease p s j r → r < get_or s j 0 →
+    IsAskedFor p s j caps used d needs
     → Fits caps used (get_or s j 0 - 1) 1 needs → HasShift p s j
 shift_by_last p s j r caps used d needs feasible inside release late asked fits = shift_from_start p s j (get_or s j 0 - 1) feasible inside (record {
   earlier = omega (arith, late);
@@ -177,7 +190,9 @@ shift_by_last p s j r caps used d needs feasible inside release late asked fits 
 })
 
 -- and there is no other left shift: an interval that doesn't end by the old start lies over the last instant before it
-pub shift_found : (p : Problem) (s : List ℕ) (j r : ℕ) (caps : List ℕ) (used : ℕ → ℕ → ℕ) (d : ℕ) (needs : List ℕ) (t : ℕ) → IsFeasible p s → IsRelease p s j r → IsAskedFor p s j caps used d needs → IsEarliest caps used r d needs t
+pub shift_found : (p : Problem) (s : List ℕ) (j r : ℕ) (caps : List ℕ) (used : ℕ → ℕ → ℕ) (d : ℕ)
+    (needs : List ℕ) (t : ℕ) → IsFeasible p s → IsRelease p s j r → IsAskedFor p s j caps used d needs →
+    IsEarliest caps used r d needs t
     → HasShift p s j → (t + d ≤ get_or s j 0) ⊎ Fits caps used (get_or s j 0 - 1) 1 needs
 shift_found p s j r caps used d needs t feasible release asked earliest has =
     let start = start_from_shift p s j feasible has in
@@ -186,8 +201,12 @@ shift_found p s j r caps used d needs t feasible release asked earliest has =
     let before : at < get_or s j 0 = can.earlier in
     elim (cases_lt (get_or s j 0) (at + d)) [
       | inr ends ↦
-          let fits : Fits caps used at d needs = fits_from p s j at d caps used d needs asked ends (λ u k since lasts early within. can.fits u k since (omega (arith, lasts, asked.lasts)) early within) in
+          let fits : Fits caps used at d needs = fits_from p s j at d caps used d needs asked ends
+              (λ u k since lasts early within. can.fits u k since
+              (omega (arith, lasts, asked.lasts)) early within) in
           inl (omega (arith, ends, earliest.least at (release.least at can.released) fits))
       | inl over ↦
-          inr (fits_from p s j (get_or s j 0 - 1) 1 caps used d needs asked (omega (arith, before)) (λ u k since lasts early within. can.fits u k (omega (arith, since, before)) (omega (arith, early, over, asked.lasts)) early within))
+          inr (fits_from p s j (get_or s j 0 - 1) 1 caps used d needs asked (omega (arith, before))
+              (λ u k since lasts early within. can.fits u k (omega (arith, since, before))
+              (omega (arith, early, over, asked.lasts)) early within))
     ]

@@ -139,4 +139,6 @@ some_schedule i instance r =
 pub full_word_ends : (i : Planned) (w : List ℕ) → IsInstance i → IsFullWord i w → AllEndBy (problem_of i) (starts_by i w) latest_end
 unfolding serial
 full_word_ends i w instance full =
-    (made (problem_of i) w (starts_by i w) (unplaced (count (problem_of i))) (placed_by i w) (bounded i instance) ((word_turns i _ w full.0).from_one, full_list i w full) refl refl (word_ends i w instance full.0) refl).ends
+    (made (problem_of i) w (starts_by i w) (unplaced (count (problem_of i))) (placed_by i w)
+        (bounded i instance) ((word_turns i _ w full.0).from_one, full_list i w full) refl refl
+        (word_ends i w instance full.0) refl).ends

@@ -82,7 +82,9 @@ pub record AreSums (p : Problem) (s : List ℕ) (t n : ℕ) (sums : List ℕ) : 
 
 -- the needs of one activity more
 pub sums_with : (p : Problem) (s : List ℕ) (t n : ℕ) (sums row new : List ℕ) → AreSums p s t n sums → get_or s n 0 ≤ t → t < get_or s n 0 + duration p n
-    → ((k : ℕ) → need p n k ≡ get_or row k 0) → ((k : ℕ) → get_or row k 0 ≤ 10000) → length new ≡ length sums → ((k : ℕ) → get_or new k 0 ≡ get_or sums k 0 + get_or row k 0) → AreSums p s t (n + 1) new
+    → ((k : ℕ) → need p n k ≡ get_or row k 0) → ((k : ℕ) → get_or row k 0 ≤ 10000) →
+        length new ≡ length sums → ((k : ℕ) → get_or new k 0 ≡ get_or sums k 0 + get_or row k 0) →
+        AreSums p s t (n + 1) new
 sums_with p s t n sums row new are since before needs small wide each = record {
   wide = wide ∙ are.wide;
   each = λ k within. omega (arith, each k, are.each k within, needs k, amount_during p t k n (get_or s n 0) since before, total_next n (amount_at p s t k));
@@ -112,17 +114,22 @@ abbrev pub IsUsedByFirst : ℕ → Problem → List ℕ → ℕ → (ℕ → ℕ
 IsUsedByFirst end p s n used = (t k : ℕ) → t < end → k < length p.capacities → used t k ≡ total n (amount_at p s t k)
 
 -- where all needs keep the capacities, those of one more activity fit beside those of the first n before an instant
-pub next_fits : (end : ℕ) (p : Problem) (s : List ℕ) (n d : ℕ) (row caps : List ℕ) (used : ℕ → ℕ → ℕ) → length s ≡ count p → n < count p → caps ≡ p.capacities → ((k : ℕ) → need p n k ≡ get_or row k 0) → d ≤ duration p n → get_or s n 0 + d ≤ end
+pub next_fits : (end : ℕ) (p : Problem) (s : List ℕ) (n d : ℕ) (row caps : List ℕ) (used : ℕ → ℕ → ℕ) →
+    length s ≡ count p → n < count p → caps ≡ p.capacities → ((k : ℕ) → need p n k ≡ get_or row k 0) →
+    d ≤ duration p n → get_or s n 0 + d ≤ end
     → KeepsCapacities p (all_placed s) → IsUsedByFirst end p s n used → Fits caps used (get_or s n 0) d row
 next_fits end p s n d row caps used whole inside caps_are needs lasts ends kept first x k below within =
     let t = get_or s n 0 + x in
     let within' : k < length p.capacities = omega (arith, within, ap length caps_are) in
     let here : amount_at p s t k n ≡ need p n k = amount_during p t k n (get_or s n 0) (omega arith) (omega (arith, below, lasts)) in
     let longer : total (n + 1) (amount_at p s t k) ≤ total (count p) (amount_at p s t k) = total_longer (n + 1) (count p) (amount_at p s t k) (omega (arith, inside)) in
-    omega (arith, first t k (omega (arith, below, ends)) within', needs k, here, total_next n (amount_at p s t k), longer, usage_is p s t k whole, kept t k within', ap (λ (xs : List ℕ). get_or xs k 0) caps_are)
+    omega (arith, first t k (omega (arith, below, ends)) within', needs k, here, total_next n
+        (amount_at p s t k), longer, usage_is p s t k whole, kept t k within', ap
+        (λ (xs : List ℕ). get_or xs k 0) caps_are)
 
 -- an interval that is cut at an instant adds before it what the activity needs
-pub next_used : (end : ℕ) (p : Problem) (s : List ℕ) (n d : ℕ) (row : List ℕ) (used after : ℕ → ℕ → ℕ) → ((k : ℕ) → need p n k ≡ get_or row k 0) → d ≤ duration p n → (d ≡ duration p n) ⊎ (end ≤ get_or s n 0 + d)
+pub next_used : (end : ℕ) (p : Problem) (s : List ℕ) (n d : ℕ) (row : List ℕ) (used after : ℕ → ℕ → ℕ) →
+    ((k : ℕ) → need p n k ≡ get_or row k 0) → d ≤ duration p n → (d ≡ duration p n) ⊎ (end ≤ get_or s n 0 + d)
     → IsUsedByFirst end p s n used → ((t k : ℕ) → after t k ≡ used_with used (get_or s n 0) d row t k) → IsUsedByFirst end p s (n + 1) after
 next_used end p s n d row used after needs lasts cut first added t k before within =
     omega (arith, added t k, first t k before within, total_next n (amount_at p s t k), same) where
@@ -141,6 +148,8 @@ next_used end p s n d row used after needs lasts cut first added t k before with
               cond-true (nat_le start t && nat_lt t (start + d)) (get_or row k 0) 0 (and_from (nat_le start t) (nat_lt t (start + d)) (le-leb start t since) (lt-ltb t (start + d) (lasting under)))
               ∙ (sym (needs k) ∙ sym (amount_during p t k n start since under))
           | inr late ↦
-              cond-false (nat_le start t && nat_lt t (start + d)) (get_or row k 0) 0 (and_right (nat_le start t) (nat_lt t (start + d)) (le-ltb t (start + d) (omega (arith, late, lasts)))) ∙ sym (amount_late p t k n start late)
+              cond-false (nat_le start t && nat_lt t (start + d)) (get_or row k 0) 0
+                  (and_right (nat_le start t) (nat_lt t (start + d))
+                  (le-ltb t (start + d) (omega (arith, late, lasts)))) ∙ sym (amount_late p t k n start late)
         ]
       ]

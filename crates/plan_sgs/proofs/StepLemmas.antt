@@ -22,7 +22,9 @@ abbrev pub IsUsageOf : (ℕ → ℕ → ℕ) → Problem → List (Option ℕ) �
 IsUsageOf used p placed = (t k : ℕ) → k < length p.capacities → used t k ≡ usage p placed t k
 
 -- what fits in a profile fits by the definition
-pub fits_same : (used : ℕ → ℕ → ℕ) (caps : List ℕ) (p : Problem) (placed : List (Option ℕ)) (j t d : ℕ) (needs : List ℕ) → caps ≡ p.capacities → d ≡ duration p j → AreNeeds p j needs → IsUsageOf used p placed → Fits caps used t d needs → fits p placed j t ≡ true
+pub fits_same : (used : ℕ → ℕ → ℕ) (caps : List ℕ) (p : Problem) (placed : List (Option ℕ)) (j t d : ℕ)
+    (needs : List ℕ) → caps ≡ p.capacities → d ≡ duration p j → AreNeeds p j needs → IsUsageOf used p placed →
+    Fits caps used t d needs → fits p placed j t ≡ true
 fits_same used caps p placed j t d needs same_caps same_d same_needs is fit = fits_from p placed j t (λ x k low within.
     let cap : get_or caps k 0 ≡ capacity p k = ap (λ (xs : List ℕ). get_or xs k 0) same_caps in
     let size : length caps ≡ length p.capacities = ap (λ (xs : List ℕ). length xs) same_caps in
@@ -30,7 +32,9 @@ fits_same used caps p placed j t d needs same_caps same_d same_needs is fit = fi
     omega (arith, here, cap, is (t + x) k within, same_needs.each k))
 
 -- and the other way round
-pub fits_back : (used : ℕ → ℕ → ℕ) (caps : List ℕ) (p : Problem) (placed : List (Option ℕ)) (j t d : ℕ) (needs : List ℕ) → caps ≡ p.capacities → d ≡ duration p j → AreNeeds p j needs → IsUsageOf used p placed → fits p placed j t ≡ true → Fits caps used t d needs
+pub fits_back : (used : ℕ → ℕ → ℕ) (caps : List ℕ) (p : Problem) (placed : List (Option ℕ)) (j t d : ℕ)
+    (needs : List ℕ) → caps ≡ p.capacities → d ≡ duration p j → AreNeeds p j needs → IsUsageOf used p placed →
+    fits p placed j t ≡ true → Fits caps used t d needs
 fits_back used caps p placed j t d needs same_caps same_d same_needs is fit x k low within =
     let cap : get_or caps k 0 ≡ capacity p k = ap (λ (xs : List ℕ). get_or xs k 0) same_caps in
     let size : length caps ≡ length p.capacities = ap (λ (xs : List ℕ). length xs) same_caps in
@@ -39,12 +43,16 @@ fits_back used caps p placed j t d needs same_caps same_d same_needs is fit x k 
     omega (arith, here, cap, is (t + x) k inside, same_needs.each k)
 
 -- what a profile answers is the earliest start of the definition
-pub found_from : (used : ℕ → ℕ → ℕ) (caps : List ℕ) (p : Problem) (placed : List (Option ℕ)) (j from d t : ℕ) (needs : List ℕ) → NeedsFit p → j < count p → caps ≡ p.capacities → d ≡ duration p j → AreNeeds p j needs → IsUsageOf used p placed → from ≡ release p placed j
+pub found_from : (used : ℕ → ℕ → ℕ) (caps : List ℕ) (p : Problem) (placed : List (Option ℕ)) (j from d t : ℕ)
+    (needs : List ℕ) → NeedsFit p → j < count p → caps ≡ p.capacities → d ≡ duration p j →
+    AreNeeds p j needs → IsUsageOf used p placed → from ≡ release p placed j
     → IsEarliestIn caps used from d needs t → t ≡ earliest p placed j
 found_from used caps p placed j from d t needs fit inside same_caps same_d same_needs is released found =
     let least : IsEarliest p placed j (earliest p placed j) = earliest_is p placed j fit inside in
     let low : earliest p placed j ≤ t = least.least t (omega (arith, released, found.since)) (fits_same used caps p placed j t d needs same_caps same_d same_needs is found.fitting) in
-    let high : t ≤ earliest p placed j = found.least (earliest p placed j) (omega (arith, released, least.released)) (fits_back used caps p placed j (earliest p placed j) d needs same_caps same_d same_needs is least.fitting) in
+    let high : t ≤ earliest p placed j = found.least (earliest p placed j)
+        (omega (arith, released, least.released)) (fits_back used caps p placed j
+        (earliest p placed j) d needs same_caps same_d same_needs is least.fitting) in
     omega (arith, low, high)
 
 -- what is placed or not ends by an instant by which all that is placed does
@@ -57,7 +65,9 @@ end_of-limit p placed i last ends = by_start (get_or placed i None) refl where
 -- the release of an activity is soon after the end of what is placed
 pub release_soon : (p : Problem) (placed : List (Option ℕ)) (j last : ℕ) → IsBounded p → EndsBy p placed last → release p placed j ≤ last + 10000
 release_soon p placed j last bounded ends =
-    release_least p placed j (last + 10000) (λ k d within to. let lag : (get_or p.links k d).lag ≤ 10000 = bounded.lags k d within in omega (arith, end_of-limit p placed (get_or p.links k d).from last ends, lag))
+    release_least p placed j (last + 10000) (λ k d within to.
+        let lag : (get_or p.links k d).lag ≤ 10000 = bounded.lags k d within in
+        omega (arith, end_of-limit p placed (get_or p.links k d).from last ends, lag))
 
 -- an activity is placed soon after the end of what is placed
 pub earliest_soon : (p : Problem) (placed : List (Option ℕ)) (j last : ℕ) → IsBounded p → j < count p → EndsBy p placed last → earliest p placed j ≤ last + 10000
@@ -68,14 +78,18 @@ earliest_soon p placed j last bounded inside ends =
     let none : usage p placed (last + 10000 + x) k ≡ 0 = usage_ended p placed (last + 10000 + x) k (λ i s is. omega (arith, ends i s is)) in
     omega (arith, none, bounded.fit j k inside (omega (arith, low)) within)))
 
-pub ends_set : (p : Problem) (placed : List (Option ℕ)) (j last : ℕ) → IsBounded p → length placed ≡ count p → j < count p → EndsBy p placed last → EndsBy p (set placed j (Some (earliest p placed j))) (last + 10000 + duration p j)
+pub ends_set : (p : Problem) (placed : List (Option ℕ)) (j last : ℕ) → IsBounded p → length placed ≡ count p →
+    j < count p → EndsBy p placed last → EndsBy p (set placed j (Some (earliest p placed j)))
+    (last + 10000 + duration p j)
 ends_set p placed j last bounded size inside ends i s is = elim (set_cases placed j (earliest p placed j) i s (omega (arith, size, inside)) is) [
   | inl here ↦ omega (arith, here.1, ap (duration p) here.0, earliest_soon p placed j last bounded inside ends)
   | inr there ↦ omega (arith, ends i s there.1)
 ]
 
 -- the profile holds one more activity
-pub held_after : (used after : ℕ → ℕ → ℕ) (p : Problem) (placed : List (Option ℕ)) (j s d : ℕ) (needs : List ℕ) → length placed ≡ count p → j < count p → get_or placed j None ≡ None → d ≡ duration p j → AreNeeds p j needs → IsUsageOf used p placed
+pub held_after : (used after : ℕ → ℕ → ℕ) (p : Problem) (placed : List (Option ℕ)) (j s d : ℕ)
+    (needs : List ℕ) → length placed ≡ count p → j < count p → get_or placed j None ≡ None →
+    d ≡ duration p j → AreNeeds p j needs → IsUsageOf used p placed
     → ((t k : ℕ) → after t k ≡ used_with used s d needs t k) → IsUsageOf after p (set placed j (Some s))
 held_after used after p placed j s d needs size inside open_place same_d same_needs is more t k within =
     let one : usage p placed t k + amount_of p t k j (Some s) ≡ usage p (set placed j (Some s)) t k = usage_set p placed j s t k size inside open_place in
@@ -101,5 +115,7 @@ cond_limit false n = omega arith
 -- no bound is beyond the sum of all durations and a greatest lag for each
 pub bound_within : (p : Problem) (taken : List ℕ) → IsBounded p → length taken ≤ count p → bound_of p taken ≤ 6020000
 bound_within p taken bounded few =
-    let sums : total (count p) (λ i. cond (is_member i taken) (duration p i) 0) ≤ total (count p) (duration p) = total_grows (count p) (λ i. cond (is_member i taken) (duration p i) 0) (duration p) (λ i below. cond_limit (is_member i taken) (duration p i)) in
+    let sums : total (count p) (λ i. cond (is_member i taken) (duration p i) 0) ≤ total (count p)
+        (duration p) = total_grows (count p) (λ i. cond (is_member i taken) (duration p i) 0) (duration p)
+        (λ i below. cond_limit (is_member i taken) (duration p i)) in
     omega (arith, sums, bounded.work, bounded.few, few)

@@ -47,7 +47,9 @@ over_first p s t needs caps k are same (within, above, before) l over = elim (ca
 ]
 
 -- where there is none, none is overloaded
-pub over_none : (p : Problem) (s : List ℕ) (t : ℕ) (needs caps : List ℕ) → AreNeedsAt p s t needs → caps ≡ p.capacities → EachIndex caps (λ k. get_or needs k 0 ≤ get_or caps k 0) → (l : ℕ) → IsOver p s t l → ⊥
+pub over_none : (p : Problem) (s : List ℕ) (t : ℕ) (needs caps : List ℕ) → AreNeedsAt p s t needs →
+    caps ≡ p.capacities → EachIndex caps (λ k. get_or needs k 0 ≤ get_or caps k 0) → (l : ℕ) →
+    IsOver p s t l → ⊥
 over_none p s t needs caps are same within l over =
     let most : capacity p l < usage p (all_placed s) t l = over.more in
     omega (arith, most, within l (omega (arith, over.inside, ap length same)), are.each l over.inside, ap (λ (xs : List ℕ). get_or xs l 0) same)

@@ -78,7 +78,9 @@ pub record IsLetter (i : Planned) (u : List ℕ) (a : ℕ) : Type 0 where
 -- a letter that may follow
 pub letter_is : (i : Planned) (u : List ℕ) (a : ℕ) → Contains (letters_after i u) a → IsLetter i u a
 unfolding letters_after
-letter_is i u a (k, l, e) = record { from_one = omega (arith, number); inside = omega (arith, here.0, number); eligible = ap (is_eligible (problem_of i) (places u)) (omega (arith, number)) ∙ here.1 } where
+letter_is i u a (k, l, e) = record { from_one = omega (arith, number); inside =
+    omega (arith, here.0, number); eligible = ap (is_eligible (problem_of i) (places u))
+    (omega (arith, number)) ∙ here.1 } where
   js : List ℕ
   js = eligible (problem_of i) (places u) (depth_of i)
 
@@ -118,7 +120,9 @@ word_turns i u (a ∷ w) (here, there) =
     let rest = word_turns i (u ++ a ∷ []) w there in
     record {
       from_one = All-cons (λ b. 1 ≤ b) a w letter.from_one rest.from_one;
-      turns = turn_from (problem_of i) (places u) (a - 1) (places w) letter.inside letter.eligible (subst (λ (xs : List ℕ). takes_in_turn (problem_of i) xs (places w) ≡ true) (places_push u a) rest.turns);
+      turns = turn_from (problem_of i) (places u) (a - 1) (places w) letter.inside letter.eligible
+          (subst (λ (xs : List ℕ). takes_in_turn (problem_of i) xs (places w) ≡ true)
+          (places_push u a) rest.turns);
     }
 
 pub turns_word : (i : Planned) (u w : List ℕ) → All (λ a. 1 ≤ a) w → takes_in_turn (problem_of i) (places u) (places w) ≡ true → Follows i u w

@@ -44,7 +44,8 @@ kept_arcs s shop starts none = (arcs_are_neighbours s shop starts).1 (λ x below
     ])
 
 -- the first broken arc is that of the first step that is followed too soon
-pub broken_first : (s : JobShop) (starts : List ℕ) (x : ℕ) → x < count_steps s → IsBrokenAfter s starts x → ((h : ℕ) → h < x → IsBrokenAfter s starts h → ⊥) → IsFirstBroken (problem_of s) starts x (suc x)
+pub broken_first : (s : JobShop) (starts : List ℕ) (x : ℕ) → x < count_steps s → IsBrokenAfter s starts x →
+    ((h : ℕ) → h < x → IsBrokenAfter s starts h → ⊥) → IsFirstBroken (problem_of s) starts x (suc x)
 broken_first s starts x below broken none = record {
   broken = (step_link x, link_there s x below broken.0, omega (arith, broken.1, duration_is s x), refl, refl);
   first = links_have s (λ a. Breaks (problem_of s) starts a → IsNoLater x (suc x) a.from a.to) later;
@@ -132,7 +133,9 @@ pub over_inside : (s : JobShop) (starts : List ℕ) (t k : ℕ) → IsOver (prob
 over_inside s starts t k over = omega (arith, over.inside, machine_count s)
 
 -- behind a step in the way a step can start at no instant before its end
-pub behind_way : (s : JobShop) (starts : List ℕ) (x at y t : ℕ) → IsShop s → length starts ≡ count_steps s → x < count_steps s → y < count_steps s → IsInTheWay s starts x at y → at ≤ t → CanStartAt (problem_of s) starts x t → get_or starts y 0 + time_of s y ≤ t
+pub behind_way : (s : JobShop) (starts : List ℕ) (x at y t : ℕ) → IsShop s → length starts ≡ count_steps s →
+    x < count_steps s → y < count_steps s → IsInTheWay s starts x at y → at ≤ t →
+    CanStartAt (problem_of s) starts x t → get_or starts y 0 + time_of s y ≤ t
 behind_way s starts x at y t shop whole below other (same, long, lasts, before, over, late) order can = elim (cases_lt t (get_or starts y 0 + time_of s y)) [
   | inr after ↦ after
   | inl under ↦
@@ -151,11 +154,14 @@ behind_way s starts x at y t shop whole below other (same, long, lasts, before, 
 pub end_later : (s : JobShop) (starts : List ℕ) (x at e : ℕ) → IsEndInTheWay s starts x at e → at ≤ e
 end_later s starts x at e (y, other, (same, long, lasts, before, over, late), is) = omega (arith, late, is)
 
-pub end_behind : (s : JobShop) (starts : List ℕ) (x at e t : ℕ) → IsShop s → length starts ≡ count_steps s → x < count_steps s → IsEndInTheWay s starts x at e → at ≤ t → CanStartAt (problem_of s) starts x t → e ≤ t
+pub end_behind : (s : JobShop) (starts : List ℕ) (x at e t : ℕ) → IsShop s → length starts ≡ count_steps s →
+    x < count_steps s → IsEndInTheWay s starts x at e → at ≤ t → CanStartAt (problem_of s) starts x t → e ≤ t
 end_behind s starts x at e t shop whole below (y, other, way, is) order can = omega (arith, is, behind_way s starts x at y t shop whole below other way order can)
 
 -- with none in the way a released step can start at an instant before its start
-pub free_way : (s : JobShop) (starts : List ℕ) (x at : ℕ) → x < count_steps s → IsFeasible (problem_of s) starts → at < get_or starts x 0 → IsReleasedBy (problem_of s) starts x at → ((y : ℕ) → y < count_steps s → IsInTheWay s starts x at y → ⊥) → CanStartAt (problem_of s) starts x at
+pub free_way : (s : JobShop) (starts : List ℕ) (x at : ℕ) → x < count_steps s →
+    IsFeasible (problem_of s) starts → at < get_or starts x 0 → IsReleasedBy (problem_of s) starts x at →
+    ((y : ℕ) → y < count_steps s → IsInTheWay s starts x at y → ⊥) → CanStartAt (problem_of s) starts x at
 free_way s starts x at below feasible early released none = record { earlier = early; released = released; fits = fits } where
   fits : FitsBeforeStart (problem_of s) starts x at
   fits u k since lasts before within = elim (cases_eq (machine_of s x) k) [

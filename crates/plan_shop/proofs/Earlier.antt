@@ -21,18 +21,25 @@ pub record IsLeft (s : JobShop) (starts other : ℕ → ℕ) (xs : List Placed) 
   pub next : steps_done xs j < s.machines
   pub start : other (next_step s xs j) ≡ ready s xs j
   pub rest : (x : ℕ) → x ≢ next_step s xs j → other x ≡ starts x
-  pub room : (x : ℕ) → x < count_steps s → steps_done xs (job_of s x) ≤ place_of s x → x ≢ next_step s xs j → machine_of s x ≡ machine_of s (next_step s xs j) → 0 < time_of s x → 0 < time_of s (next_step s xs j) → ready s xs j + time_of s (next_step s xs j) ≤ starts x
+  pub room : (x : ℕ) → x < count_steps s → steps_done xs (job_of s x) ≤ place_of s x → x ≢ next_step s xs j →
+      machine_of s x ≡ machine_of s (next_step s xs j) → 0 < time_of s x → 0 < time_of s (next_step s xs j) →
+      ready s xs j + time_of s (next_step s xs j) ≤ starts x
 
 -- no step starts later
-pub moved_no_later : (s : JobShop) → IsShop s → (starts other : ℕ → ℕ) (xs : List Placed) (j : ℕ) → Reached s xs → IsSound s starts → Continues s starts xs → IsLeft s starts other xs j → (x : ℕ) → other x ≤ starts x
+pub moved_no_later : (s : JobShop) → IsShop s → (starts other : ℕ → ℕ) (xs : List Placed) (j : ℕ) →
+    Reached s xs → IsSound s starts → Continues s starts xs → IsLeft s starts other xs j → (x : ℕ) →
+    other x ≤ starts x
 moved_no_later s shop starts other xs j r sound con left x = elim (cases_eq x (next_step s xs j)) [
   | inl same ↦ omega (arith, ready_le s shop starts xs r sound con j left.job left.next, left.start, ap other same, ap starts same)
   | inr apart ↦ omega (arith, left.rest x apart)
 ]
 
 -- the moved step and another one on its machine are apart
-moved_beside : (s : JobShop) → IsShop s → (starts other : ℕ → ℕ) (xs : List Placed) (j : ℕ) → Reached s xs → IsSound s starts → Continues s starts xs → IsLeft s starts other xs j → (x : ℕ) → x < count_steps s → x ≢ next_step s xs j
-    → machine_of s x ≡ machine_of s (next_step s xs j) → 0 < time_of s x → 0 < time_of s (next_step s xs j) → (other x + time_of s x ≤ ready s xs j) ⊎ (ready s xs j + time_of s (next_step s xs j) ≤ other x)
+moved_beside : (s : JobShop) → IsShop s → (starts other : ℕ → ℕ) (xs : List Placed) (j : ℕ) → Reached s xs →
+    IsSound s starts → Continues s starts xs → IsLeft s starts other xs j → (x : ℕ) → x < count_steps s →
+    x ≢ next_step s xs j
+    → machine_of s x ≡ machine_of s (next_step s xs j) → 0 < time_of s x → 0 < time_of s (next_step s xs j) →
+        (other x + time_of s x ≤ ready s xs j) ⊎ (ready s xs j + time_of s (next_step s xs j) ≤ other x)
 moved_beside s shop starts other xs j r sound con left x l apart same tx ty = elim (cases_lt (place_of s x) (steps_done xs (job_of s x))) [
   | inl placed ↦
       inl (omega (arith, free_of s starts xs r con.placed x placed tx, ready_free s xs j ty, ap (machine_free s xs) same, left.rest x apart))
@@ -78,7 +85,9 @@ moved_sound s shop starts other xs j r sound con left = record { chain = chain; 
   ]
 
 -- and continues the word with the letter
-pub moved_continues : (s : JobShop) → IsShop s → (starts other : ℕ → ℕ) (xs : List Placed) (j : ℕ) → Reached s xs → IsSound s starts → Continues s starts xs → IsLeft s starts other xs j → Continues s other (place s xs j)
+pub moved_continues : (s : JobShop) → IsShop s → (starts other : ℕ → ℕ) (xs : List Placed) (j : ℕ) →
+    Reached s xs → IsSound s starts → Continues s starts xs → IsLeft s starts other xs j →
+    Continues s other (place s xs j)
 moved_continues s shop starts other xs j r sound con left = record {
   placed = (left.start, agrees_other s starts other xs y r new left.rest con.placed);
   unplaced = unplaced;
@@ -97,7 +106,9 @@ moved_continues s shop starts other xs j r sound con left = record {
 
   unplaced : (x : ℕ) → x < count_steps s → steps_done (p ∷ xs) (job_of s x) ≤ place_of s x → 0 < time_of s x → machine_free s (p ∷ xs) (machine_of s x) ≤ other x
   unplaced x l later t =
-      let distinct : x ≢ y = λ e. omega (arith, later, ap (place_of s) e, place_at s j (steps_done xs j) left.next, ap (λ z. steps_done (p ∷ xs) (job_of s z)) e, ap (steps_done (p ∷ xs)) job, done_same p xs j refl) in
+      let distinct : x ≢ y = λ e. omega (arith, later, ap (place_of s) e, place_at s j
+          (steps_done xs j) left.next, ap (λ z. steps_done (p ∷ xs) (job_of s z)) e, ap
+          (steps_done (p ∷ xs)) job, done_same p xs j refl) in
       let before : steps_done xs (job_of s x) ≤ place_of s x = omega (arith, later, done_more p xs (job_of s x)) in
       elim (free_cases s p xs (machine_of s x)) [
         | inl (same, ty, is) ↦ omega (arith, is, con.unplaced x l before t, left.room x l before distinct (sym same) t ty, left.rest x distinct)
@@ -108,19 +119,25 @@ moved_continues s shop starts other xs j r sound con left = record {
 abbrev pub moved : JobShop → List ℕ → List Placed → ℕ → List ℕ
 moved s starts xs j = set starts (next_step s xs j) (ready s xs j)
 
-moved_start : (s : JobShop) → IsShop s → (starts : List ℕ) (xs : List Placed) (j : ℕ) → length starts ≡ count_steps s → j < s.jobs → steps_done xs j < s.machines → at (moved s starts xs j) (next_step s xs j) ≡ ready s xs j
+moved_start : (s : JobShop) → IsShop s → (starts : List ℕ) (xs : List Placed) (j : ℕ) →
+    length starts ≡ count_steps s → j < s.jobs → steps_done xs j < s.machines →
+    at (moved s starts xs j) (next_step s xs j) ≡ ready s xs j
 moved_start s shop starts xs j whole l next = get_or-set_same starts (next_step s xs j) (ready s xs j) 0 (omega (arith, whole, number_below s shop j (steps_done xs j) l next))
 
 moved_rest : (s : JobShop) (starts : List ℕ) (xs : List Placed) (j : ℕ) (x : ℕ) → x ≢ next_step s xs j → at (moved s starts xs j) x ≡ at starts x
 moved_rest s starts xs j x apart = get_or-set_other starts (next_step s xs j) x (ready s xs j) 0 apart
 
 -- the moved list is feasible
-pub moved_feasible : (s : JobShop) → IsShop s → (starts : List ℕ) (xs : List Placed) (j : ℕ) → length starts ≡ count_steps s → Reached s xs → IsSound s (at starts) → Continues s (at starts) xs → IsLeft s (at starts) (at (moved s starts xs j)) xs j → IsFeasible (problem_of s) (moved s starts xs j)
+pub moved_feasible : (s : JobShop) → IsShop s → (starts : List ℕ) (xs : List Placed) (j : ℕ) →
+    length starts ≡ count_steps s → Reached s xs → IsSound s (at starts) → Continues s (at starts) xs →
+    IsLeft s (at starts) (at (moved s starts xs j)) xs j → IsFeasible (problem_of s) (moved s starts xs j)
 moved_feasible s shop starts xs j whole r sound con left =
     feasible_from s shop (moved s starts xs j) (length-set starts (next_step s xs j) (ready s xs j) ∙ whole) (moved_sound s shop (at starts) (at (moved s starts xs j)) xs j r sound con left)
 
 -- where all next steps have positive times, a step that isn't placed and isn't a next one starts after the first end
-later_after : (s : JobShop) → IsShop s → (starts : ℕ → ℕ) (xs : List Placed) (b : ℕ) → Reached s xs → IsSound s starts → Continues s starts xs → IsSoonest s xs b → (x : ℕ) → x < count_steps s → steps_done xs (job_of s x) < place_of s x → next_end s xs b ≤ starts x
+later_after : (s : JobShop) → IsShop s → (starts : ℕ → ℕ) (xs : List Placed) (b : ℕ) → Reached s xs →
+    IsSound s starts → Continues s starts xs → IsSoonest s xs b → (x : ℕ) → x < count_steps s →
+    steps_done xs (job_of s x) < place_of s x → next_end s xs b ≤ starts x
 later_after s shop starts xs b r sound con soonest x l later =
     let j = job_of s x in
     let k = steps_done xs j in
@@ -152,7 +169,9 @@ zero_mover s shop starts xs j whole z = record {
 }
 
 -- of the pending steps on the machine of the first end the one that starts first moves, where it competes; else the one of the first end
-soonest_mover : (s : JobShop) → IsShop s → (starts : List ℕ) (xs : List Placed) (b : ℕ) → length starts ≡ count_steps s → Reached s xs → IsSound s (at starts) → Continues s (at starts) xs → IsSoonest s xs b → (j : ℕ) × Mover s starts xs j
+soonest_mover : (s : JobShop) → IsShop s → (starts : List ℕ) (xs : List Placed) (b : ℕ) →
+    length starts ≡ count_steps s → Reached s xs → IsSound s (at starts) → Continues s (at starts) xs →
+    IsSoonest s xs b → (j : ℕ) × Mover s starts xs j
 soonest_mover s shop starts xs b whole r sound con soonest = by_list (pending s xs m) refl where
   m : ℕ
   m = machine_of s (next_step s xs b)
@@ -226,7 +245,9 @@ soonest_mover s shop starts xs b whole r sound con soonest = by_list (pending s 
       by_first f (pending_is s xs m f c) (λ x q. first_least_below (at starts) z zs x (subst (λ (ks : List ℕ). Contains ks x) are (pending_there s xs m x q)))
 
 -- where not all is placed, some next step can move to where it is ready
-pub mover : (s : JobShop) → IsShop s → (starts : List ℕ) (xs : List Placed) → length starts ≡ count_steps s → Reached s xs → IsSound s (at starts) → Continues s (at starts) xs → is_full s xs ≡ false → (j : ℕ) × Mover s starts xs j
+pub mover : (s : JobShop) → IsShop s → (starts : List ℕ) (xs : List Placed) → length starts ≡ count_steps s →
+    Reached s xs → IsSound s (at starts) → Continues s (at starts) xs → is_full s xs ≡ false →
+    (j : ℕ) × Mover s starts xs j
 mover s shop starts xs whole r sound con some =
     let c = choice s xs some in
     elim c.1 [
@@ -252,7 +273,9 @@ letter_is_there s shop w starts is some c =
       follows = letter_there (jobs_after s xs) j m.1.there;
       continued = record {
         feasible = moved_feasible s shop starts xs j whole r sound c.continues left;
-        continues = subst (λ (zs : List Placed). Continues s (at other) zs) (sym (placed_append s [] w (letter_of j ∷ []))) (moved_continues s shop (at starts) (at other) xs j r sound c.continues left);
+        continues = subst (λ (zs : List Placed). Continues s (at other) zs)
+            (sym (placed_append s [] w (letter_of j ∷ [])))
+            (moved_continues s shop (at starts) (at other) xs j r sound c.continues left);
       };
       no_later = moved_no_later s shop (at starts) (at other) xs j r sound c.continues left;
     }

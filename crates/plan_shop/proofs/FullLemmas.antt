@@ -39,7 +39,8 @@ makespan_of-is s xs =
     ∙ ap (λ n. greatest_below n (λ x. get_or (starts_of s xs) x 0 + duration (problem_of s) x)) (sym (count_is s))
 
 -- the word of a tree is one
-pub held-word : (s : JobShop) (tails done ends free starts : List ℕ) (turns : List Turn) (t : Standing) → standing s (word_of turns) ≡ t → IsKept s tails done ends free starts turns → IsWord t.shop t.word
+pub held-word : (s : JobShop) (tails done ends free starts : List ℕ) (turns : List Turn) (t : Standing) →
+    standing s (word_of turns) ≡ t → IsKept s tails done ends free starts turns → IsWord t.shop t.word
 held-word s tails done ends free starts turns t is kept =
     let Q : Standing → Type 0 = λ v. IsWord v.shop v.word in
     subst Q is (turns-follow s [] turns kept.turns_are)

@@ -72,7 +72,9 @@ pub record IsMoved (s : JobShop) (starts other : ℕ → ℕ) (x : ℕ) : Type 0
   pub rest : (y : ℕ) → y ≢ x → other y ≡ starts y
 
 -- the moved step starts no earlier than the step before it in its job ends
-ended_by : (s : JobShop) → IsShop s → (starts other : ℕ → ℕ) (x : ℕ) → IsMoved s starts other x → (zs : List Placed) → Reached s zs → Agrees starts zs → steps_done zs (job_of s x) ≡ place_of s x → job_end s zs (job_of s x) ≤ other x
+ended_by : (s : JobShop) → IsShop s → (starts other : ℕ → ℕ) (x : ℕ) → IsMoved s starts other x →
+    (zs : List Placed) → Reached s zs → Agrees starts zs → steps_done zs (job_of s x) ≡ place_of s x →
+    job_end s zs (job_of s x) ≤ other x
 ended_by s shop starts other x moved zs r a done = end_within s starts zs r a (job_of s x) (other x) last where
   last : (k : ℕ) → steps_done zs (job_of s x) ≡ suc k → starts (job_of s x * s.machines + k) + time_of s (job_of s x * s.machines + k) ≤ other x
   last k e =
@@ -87,13 +89,18 @@ times_first s y zero h = absurd (omega (arith, h))
 times_first s y (suc n) h = omega arith
 
 -- the next step of the moved step's job would end by the moved step's new end, where its machine is free by its new start
-soon : (s : JobShop) → IsShop s → (starts other : ℕ → ℕ) (x : ℕ) → IsMoved s starts other x → (zs : List Placed) → Reached s zs → Continues s starts zs → steps_done zs (job_of s x) ≤ place_of s x → (0 < time_of s x → machine_free s zs (machine_of s x) ≤ other x)
+soon : (s : JobShop) → IsShop s → (starts other : ℕ → ℕ) (x : ℕ) → IsMoved s starts other x →
+    (zs : List Placed) → Reached s zs → Continues s starts zs → steps_done zs (job_of s x) ≤ place_of s x →
+    (0 < time_of s x → machine_free s zs (machine_of s x) ≤ other x)
     → next_end s zs (job_of s x) ≤ other x + time_of s x
 soon s shop starts other x moved zs r con l free = elim (cases_eq (steps_done zs (job_of s x)) (place_of s x)) [
   | inl here ↦
       let y = next_step s zs (job_of s x) in
       let is : y ≡ x = omega (arith, number_is s x, here) in
-      let early : ready s zs (job_of s x) ≤ other x = ready_within s zs (job_of s x) (other x) (ended_by s shop starts other x moved zs r con.placed here) (λ t. omega (arith, free (omega (arith, t, ap (time_of s) is)), ap (λ z. machine_free s zs (machine_of s z)) is)) in
+      let early : ready s zs (job_of s x) ≤ other x =
+          ready_within s zs (job_of s x) (other x) (ended_by s shop starts other x moved zs r con.placed here)
+          (λ t. omega (arith, free (omega (arith, t, ap (time_of s) is)), ap
+          (λ z. machine_free s zs (machine_of s z)) is)) in
       omega (arith, early, ap (time_of s) is)
   | inr apart ↦
       let j = job_of s x in
@@ -106,13 +113,17 @@ soon s shop starts other x moved zs r con l free = elim (cases_eq (steps_done zs
       let before : y ≢ x = λ i. omega (arith, i, low, number_is s x) in
       let place : place_of s y ≡ k = place_at s j k (omega (arith, low, last)) in
       let there : y + (place_of s x - k) ≡ x = omega (arith, number_is s x, low) in
-      let reach : other y + times_from s y (place_of s x - k) ≤ other (y + (place_of s x - k)) = chain_to s shop other moved.sound_other (place_of s x - k) y (number_below s shop j k job (omega (arith, low, last))) (omega (arith, place, low, last)) in
+      let reach : other y + times_from s y (place_of s x - k) ≤ other (y + (place_of s x - k)) =
+          chain_to s shop other moved.sound_other (place_of s x - k) y
+          (number_below s shop j k job (omega (arith, low, last))) (omega (arith, place, low, last)) in
       let first : time_of s y ≤ times_from s y (place_of s x - k) = times_first s y (place_of s x - k) (omega (arith, low)) in
       omega (arith, early, reach, first, moved.rest y before, ap other there)
 ]
 
 -- as long as the moved step isn't placed, its machine is free by its new start
-pub free_le : (s : JobShop) → IsShop s → (starts other : ℕ → ℕ) (x : ℕ) → IsMoved s starts other x → (zs : List Placed) → Reached s zs → Continues s starts zs → steps_done zs (job_of s x) ≤ place_of s x → 0 < time_of s x → machine_free s zs (machine_of s x) ≤ other x
+pub free_le : (s : JobShop) → IsShop s → (starts other : ℕ → ℕ) (x : ℕ) → IsMoved s starts other x →
+    (zs : List Placed) → Reached s zs → Continues s starts zs → steps_done zs (job_of s x) ≤ place_of s x →
+    0 < time_of s x → machine_free s zs (machine_of s x) ≤ other x
 free_le s shop starts other x moved [] r con l t = omega arith
 free_le s shop starts other x moved (p ∷ zs) r con l t =
     let con' : Continues s starts zs = continues_less s starts p zs r con in
@@ -133,11 +144,14 @@ free_le s shop starts other x moved (p ∷ zs) r con l t =
       late : 0 < time_of s p.step → other x + time_of s x ≤ p.start → next_end s zs (job_of s x) ≤ other x + time_of s x → (time_of s (next_step s zs p.job) ≡ 0) ⊎ IsRival s zs p.job → ⊥
       late tp after end (inl none) = omega (arith, none, tp, ap (time_of s) r.2)
       late tp after end (inr rival) =
-          let least : next_end s zs rival.first ≤ next_end s zs (job_of s x) = rival.least (job_of s x) (job_below s shop x moved.below) (omega (arith, l, done_more p zs (job_of s x), place_below s shop x)) in
+          let least : next_end s zs rival.first ≤ next_end s zs (job_of s x) =
+              rival.least (job_of s x) (job_below s shop x moved.below)
+              (omega (arith, l, done_more p zs (job_of s x), place_below s shop x)) in
           omega (arith, after, end, least, rival.sooner, r.3)
 
 -- where a schedule continues a word, no step that the word places can move to an earlier start alone
-pub not_moved : (s : JobShop) → IsShop s → (starts other : ℕ → ℕ) (x : ℕ) → IsMoved s starts other x → (zs : List Placed) → Reached s zs → Continues s starts zs → place_of s x < steps_done zs (job_of s x) → ⊥
+pub not_moved : (s : JobShop) → IsShop s → (starts other : ℕ → ℕ) (x : ℕ) → IsMoved s starts other x →
+    (zs : List Placed) → Reached s zs → Continues s starts zs → place_of s x < steps_done zs (job_of s x) → ⊥
 not_moved s shop starts other x moved [] r con l = omega (arith, l)
 not_moved s shop starts other x moved (p ∷ zs) r con l = elim (placed_cases s p zs r.2 x l) [
   | inl before ↦ not_moved s shop starts other x moved zs r.0 (continues_less s starts p zs r con) before
@@ -148,7 +162,9 @@ not_moved s shop starts other x moved (p ∷ zs) r con l = elim (placed_cases s 
       let done : steps_done zs (job_of s x) ≡ place_of s x = omega (arith, n.1, ap (place_of s) new, ap (steps_done zs) job) in
       let is : next_step s zs p.job ≡ x = sym r.2 ∙ sym new in
       let ended : job_end s zs p.job ≤ other x = omega (arith, ended_by s shop starts other x moved zs r.0 con'.placed done, ap (job_end s zs) job) in
-      let early : ready s zs p.job ≤ other x = ready_within s zs p.job (other x) ended (λ t. omega (arith, free_le s shop starts other x moved zs r.0 con' (omega (arith, done)) (omega (arith, t, ap (time_of s) is)), ap (λ z. machine_free s zs (machine_of s z)) is)) in
+      let early : ready s zs p.job ≤ other x = ready_within s zs p.job (other x) ended
+          (λ t. omega (arith, free_le s shop starts other x moved zs r.0 con' (omega (arith, done))
+          (omega (arith, t, ap (time_of s) is)), ap (λ z. machine_free s zs (machine_of s z)) is)) in
       omega (arith, early, moved.less, r.3, con.placed.0, ap starts new)
 ]
 

@@ -34,7 +34,9 @@ those-first (suc n) f j below none passes = elim (cases_eq j n) [
 -- ---- a step that takes no time
 
 -- the first job whose next step takes no time may follow alone
-pub at_once-first : (s : JobShop) (xs : List Placed) (j : ℕ) → j < s.jobs → ((i : ℕ) → i < j → (has_next s xs i && nat_eq (time_of s (next_step s xs i)) 0) ≡ false) → (has_next s xs j && nat_eq (time_of s (next_step s xs j)) 0) ≡ true → jobs_after s xs ≡ j ∷ []
+pub at_once-first : (s : JobShop) (xs : List Placed) (j : ℕ) → j < s.jobs →
+    ((i : ℕ) → i < j → (has_next s xs i && nat_eq (time_of s (next_step s xs i)) 0) ≡ false) →
+    (has_next s xs j && nat_eq (time_of s (next_step s xs j)) 0) ≡ true → jobs_after s xs ≡ j ∷ []
 unfolding jobs_after
 at_once-first s xs j below none passes =
     let zeros = those-first s.jobs (λ i. has_next s xs i && nat_eq (time_of s (next_step s xs i)) 0) j below none passes in
@@ -60,7 +62,9 @@ unfolding IsSoFar
 so_far-skips t n None is none = those-no n (has_next t.shop (placed t)) none ∙ is
 so_far-skips t n (Some first) is none = record { head = is.head; rest = is.rest; list = those-no n (has_next t.shop (placed t)) none ∙ is.list; job = is.job; end = is.end }
 
-pub so_far-more : (t : Standing) (n end : ℕ) (first : Option (ℕ × ℕ)) (chosen : ℕ × ℕ) → IsSoFar t n first → has_next t.shop (placed t) n ≡ true → end ≡ next_end t.shop (placed t) n → IsSooner first (n, end) chosen → IsSoFar t (suc n) (Some chosen)
+pub so_far-more : (t : Standing) (n end : ℕ) (first : Option (ℕ × ℕ)) (chosen : ℕ × ℕ) → IsSoFar t n first →
+    has_next t.shop (placed t) n ≡ true → end ≡ next_end t.shop (placed t) n →
+    IsSooner first (n, end) chosen → IsSoFar t (suc n) (Some chosen)
 unfolding IsSoFar
 so_far-more t n end None chosen is next end_is sooner =
     let Q : ℕ × ℕ → Type 0 = λ r. IsSoFar t (suc n) (Some r) in
@@ -113,7 +117,9 @@ pub letters-none : (t : Standing) → with_zero t.shop (placed t) ≡ [] → wit
 unfolding jobs_after
 letters-none t zeros none = ap (λ zs. map letter_of (jobs_by t.shop (placed t) zs)) zeros ∙ ap (λ js. map letter_of (rivals_of_first t.shop (placed t) js)) none
 
-pub letters-rivals : (t : Standing) (first : ℕ × ℕ) (machine : ℕ) → with_zero t.shop (placed t) ≡ [] → IsFirstToEnd t first → machine ≡ machine_of t.shop (next_step t.shop (placed t) first.0) → letters_after t.shop (placed t) ≡ map letter_of (those_below t.shop.jobs (is_rival t machine first.1))
+pub letters-rivals : (t : Standing) (first : ℕ × ℕ) (machine : ℕ) → with_zero t.shop (placed t) ≡ [] →
+    IsFirstToEnd t first → machine ≡ machine_of t.shop (next_step t.shop (placed t) first.0) →
+    letters_after t.shop (placed t) ≡ map letter_of (those_below t.shop.jobs (is_rival t machine first.1))
 unfolding jobs_after
 letters-rivals t first machine zeros is machine_is =
     ap (λ zs. map letter_of (jobs_by t.shop (placed t) zs)) zeros
@@ -131,11 +137,15 @@ if-none t n None is all = so_far-empty t n is all
 if-none t n (Some first) is all = tt
 
 -- one job more among the rivals
-pub rivals-yes : (t : Standing) (machine end n : ℕ) (old list new : List ℕ) → list ≡ old ++ map letter_of (those_below n (is_rival t machine end)) → is_rival t machine end n ≡ true → new ≡ list ++ suc n ∷ [] → new ≡ old ++ map letter_of (those_below (suc n) (is_rival t machine end))
+pub rivals-yes : (t : Standing) (machine end n : ℕ) (old list new : List ℕ) →
+    list ≡ old ++ map letter_of (those_below n (is_rival t machine end)) → is_rival t machine end n ≡ true →
+    new ≡ list ++ suc n ∷ [] → new ≡ old ++ map letter_of (those_below (suc n) (is_rival t machine end))
 rivals-yes t machine end n old list new so_far passes is =
     is ∙ ap (λ xs. xs ++ suc n ∷ []) so_far ∙ append_assoc old (map letter_of (those_below n (is_rival t machine end))) (suc n ∷ [])
     ∙ ap (λ xs. old ++ xs) (sym (map-append letter_of (those_below n (is_rival t machine end)) (n ∷ [])))
     ∙ ap (λ xs. old ++ map letter_of xs) (sym (those-yes n (is_rival t machine end) passes))
 
-pub rivals-no : (t : Standing) (machine end n : ℕ) (old list : List ℕ) → list ≡ old ++ map letter_of (those_below n (is_rival t machine end)) → is_rival t machine end n ≡ false → list ≡ old ++ map letter_of (those_below (suc n) (is_rival t machine end))
+pub rivals-no : (t : Standing) (machine end n : ℕ) (old list : List ℕ) →
+    list ≡ old ++ map letter_of (those_below n (is_rival t machine end)) → is_rival t machine end n ≡ false →
+    list ≡ old ++ map letter_of (those_below (suc n) (is_rival t machine end))
 rivals-no t machine end n old list so_far fails = so_far ∙ ap (λ xs. old ++ map letter_of xs) (sym (those-no n (is_rival t machine end) fails))

@@ -53,7 +53,8 @@ those_rise zero f i j d l m = absurd (omega (arith, m))
 those_rise (suc n) f i j d l m = elim (cases_lt j (length (those_below n f))) [
   | inl before ↦
       let low : get_or (those_below n f) i d < get_or (those_below n f) j d = those_rise n f i j d l before in
-      let first : get_or (those_below n f ++ cond (f n) (n ∷ []) []) i d ≡ get_or (those_below n f) i d = get_or_append_left (those_below n f) (cond (f n) (n ∷ []) []) d i (omega (arith, l, before)) in
+      let first : get_or (those_below n f ++ cond (f n) (n ∷ []) []) i d ≡ get_or (those_below n f) i d =
+          get_or_append_left (those_below n f) (cond (f n) (n ∷ []) []) d i (omega (arith, l, before)) in
       let second : get_or (those_below n f ++ cond (f n) (n ∷ []) []) j d ≡ get_or (those_below n f) j d = get_or_append_left (those_below n f) (cond (f n) (n ∷ []) []) d j before in
       omega (arith, low, first, second)
   | inr last ↦
@@ -62,7 +63,9 @@ those_rise (suc n) f i j d l m = elim (cases_lt j (length (those_below n f))) [
       let inside : i < length (those_below n f) = omega (arith, long, short, m, l, last) in
       let first : get_or (those_below n f ++ cond (f n) (n ∷ []) []) i d ≡ get_or (those_below n f) i d = get_or_append_left (those_below n f) (cond (f n) (n ∷ []) []) d i inside in
       let low : get_or (those_below n f) i d < n = (there_passes n f (get_or (those_below n f) i d) (Contains-get_or (those_below n f) i d inside)).0 in
-      let second : get_or (those_below n f ++ cond (f n) (n ∷ []) []) j d ≡ get_or (cond (f n) (n ∷ []) []) (j - length (those_below n f)) d = get_or-append_right (those_below n f) (cond (f n) (n ∷ []) []) (length (those_below n f)) j d refl last in
+      let second : get_or (those_below n f ++ cond (f n) (n ∷ []) []) j d ≡ get_or (cond (f n) (n ∷ []) [])
+          (j - length (those_below n f)) d = get_or-append_right (those_below n f) (cond (f n) (n ∷ []) [])
+          (length (those_below n f)) j d refl last in
       let is : get_or (cond (f n) (n ∷ []) []) (j - length (those_below n f)) d ≡ n = one_is (f n) n (j - length (those_below n f)) d (omega (arith, long, m, last)) in
       omega (arith, first, low, second, is)
 ]
@@ -133,7 +136,8 @@ least_skips key x y ys r less h = record {
   first zero l = omega (arith, top, less)
   first (suc i) l = h.first i (omega (arith, l))
 
-least_keeps : (key : ℕ → ℕ) (x y : ℕ) (ys : List ℕ) (r place : ℕ) → key x ≤ key y → place < length (x ∷ ys) → get_or (x ∷ ys) place 0 ≡ r → ((i : ℕ) → i < length (x ∷ ys) → key r ≤ key (get_or (x ∷ ys) i 0))
+least_keeps : (key : ℕ → ℕ) (x y : ℕ) (ys : List ℕ) (r place : ℕ) → key x ≤ key y → place < length (x ∷ ys) →
+    get_or (x ∷ ys) place 0 ≡ r → ((i : ℕ) → i < length (x ∷ ys) → key r ≤ key (get_or (x ∷ ys) i 0))
     → ((i : ℕ) → i < place → key r < key (get_or (x ∷ ys) i 0)) → IsFirstLeast key (x ∷ y ∷ ys) r
 least_keeps key x y ys r zero order l there least first = record { place = zero; inside = omega arith; there = there; least = least'; first = λ i l. absurd (omega (arith, l)) } where
   least' : (i : ℕ) → i < length (x ∷ y ∷ ys) → key r ≤ key (get_or (x ∷ y ∷ ys) i 0)
@@ -185,14 +189,18 @@ greatest_skips key x y ys r less h = record {
   first zero l = omega (arith, top, less)
   first (suc i) l = h.first i (omega (arith, l))
 
-greatest_keeps : (key : ℕ → ℕ) (x y : ℕ) (ys : List ℕ) (r place : ℕ) → key y ≤ key x → place < length (x ∷ ys) → get_or (x ∷ ys) place 0 ≡ r → ((i : ℕ) → i < length (x ∷ ys) → key (get_or (x ∷ ys) i 0) ≤ key r)
+greatest_keeps : (key : ℕ → ℕ) (x y : ℕ) (ys : List ℕ) (r place : ℕ) → key y ≤ key x →
+    place < length (x ∷ ys) → get_or (x ∷ ys) place 0 ≡ r →
+    ((i : ℕ) → i < length (x ∷ ys) → key (get_or (x ∷ ys) i 0) ≤ key r)
     → ((i : ℕ) → i < place → key (get_or (x ∷ ys) i 0) < key r) → IsFirstGreatest key (x ∷ y ∷ ys) r
 greatest_keeps key x y ys r zero order l there greatest first = record { place = zero; inside = omega arith; there = there; greatest = greatest'; first = λ i l. absurd (omega (arith, l)) } where
   greatest' : (i : ℕ) → i < length (x ∷ y ∷ ys) → key (get_or (x ∷ y ∷ ys) i 0) ≤ key r
   greatest' zero l = greatest 0 (omega arith)
   greatest' (suc zero) l = omega (arith, greatest 0 (omega arith), order)
   greatest' (suc (suc i)) l = greatest (suc i) (omega (arith, l))
-greatest_keeps key x y ys r (suc place) order inside there greatest first = record { place = suc (suc place); inside = omega (arith, inside); there = there; greatest = greatest'; first = first' } where
+greatest_keeps key x y ys r (suc place) order inside there greatest first =
+    record { place = suc (suc place); inside = omega (arith, inside); there = there; greatest =
+    greatest'; first = first' } where
   greatest' : (i : ℕ) → i < length (x ∷ y ∷ ys) → key (get_or (x ∷ y ∷ ys) i 0) ≤ key r
   greatest' zero l = greatest 0 (omega arith)
   greatest' (suc zero) l = omega (arith, greatest 0 (omega arith), order)

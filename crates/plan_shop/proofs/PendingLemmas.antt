@@ -79,7 +79,9 @@ with_step t x p q (y ∷ ys) is w = (
 )
 
 -- before the first step
-pub gathered-none : (t : Standing) (pending : Pending) → IsSmallShop t.shop → pending ≡ record { heads = replicate 20 1000000000; times = replicate 20 0; tails = replicate 20 1000000000 } → IsGathered t 0 pending
+pub gathered-none : (t : Standing) (pending : Pending) → IsSmallShop t.shop →
+    pending ≡ record { heads = replicate 20 1000000000; times = replicate 20 0; tails =
+    replicate 20 1000000000 } → IsGathered t 0 pending
 gathered-none t pending small is = record {
   heads_size = ap (λ (p : Pending). length p.heads) is ∙ length-replicate {A = ℕ} 20 1000000000;
   times_size = ap (λ (p : Pending). length p.times) is ∙ length-replicate {A = ℕ} 20 0;
@@ -103,7 +105,9 @@ gathered-skips t x pending g none = record {
 }
 
 -- the placed steps of a job
-pub gathered-placed : (t : Standing) (j k : ℕ) (pending : Pending) → IsGathered t (j * t.shop.machines) pending → k ≤ steps_done (placed t) j → k ≤ t.shop.machines → IsGathered t (j * t.shop.machines + k) pending
+pub gathered-placed : (t : Standing) (j k : ℕ) (pending : Pending) →
+    IsGathered t (j * t.shop.machines) pending → k ≤ steps_done (placed t) j → k ≤ t.shop.machines →
+    IsGathered t (j * t.shop.machines + k) pending
 gathered-placed t j zero pending g low inside =
     let Q : ℕ → Type 0 = λ n. IsGathered t n pending in
     let same : j * t.shop.machines ≡ j * t.shop.machines + 0 = omega arith in
@@ -149,7 +153,9 @@ replaced-other old new m i q other r =
     same_parts (on_machine new i) (on_machine old i) head time tail
 
 -- an unplaced step that takes some time
-pub gathered-more : (t : Standing) (x : ℕ) (pending new : Pending) → IsSmallShop t.shop → IsGathered t x pending → is_placed t.shop (placed t) x ≡ false → (m : ℕ) → m < t.shop.machines → m ≡ machine_of t.shop x
+pub gathered-more : (t : Standing) (x : ℕ) (pending new : Pending) → IsSmallShop t.shop →
+    IsGathered t x pending → is_placed t.shop (placed t) x ≡ false → (m : ℕ) → m < t.shop.machines →
+    m ≡ machine_of t.shop x
     → (q : OnMachine) → IsWithStep t x (on_machine pending m) q → IsReplaced pending new m q → IsGathered t (suc x) new
 gathered-more t x pending new small g open_ m on m_is q w r = record {
   heads_size = ap (λ (xs : List ℕ). length xs) r.heads ∙ length-set pending.heads m q.head ∙ g.heads_size;
@@ -159,7 +165,9 @@ gathered-more t x pending new small g open_ m on m_is q w r = record {
   few = few;
 } where
   here : on_machine new m ≡ q
-  here = replaced-same pending new m q (omega (arith, on, g.heads_size, small.few_machines)) (omega (arith, on, g.times_size, small.few_machines)) (omega (arith, on, g.tails_size, small.few_machines)) r
+  here = replaced-same pending new m q (omega (arith, on, g.heads_size, small.few_machines))
+      (omega (arith, on, g.times_size, small.few_machines))
+      (omega (arith, on, g.tails_size, small.few_machines)) r
 
   each : (i : ℕ) → i < t.shop.machines → IsPendingOf t (those_below (suc x) (is_pending t i)) (on_machine new i)
   each i below = elim (cases_eq i m) [
@@ -215,7 +223,9 @@ at-here s w j i step small job place here =
       few = omega (arith, most, small.shop.all_steps);
     }
 
-pub at-read : (s : JobShop) (w : List ℕ) (t : Standing) → standing s w ≡ t → IsSmallShop s → (j i m : ℕ) (step : Step) → j < t.shop.jobs → i < m → m ≡ s.machines → slice_get s.steps (j * m + i) ≡ Some step → IsAt t j i step
+pub at-read : (s : JobShop) (w : List ℕ) (t : Standing) → standing s w ≡ t → IsSmallShop s →
+    (j i m : ℕ) (step : Step) → j < t.shop.jobs → i < m → m ≡ s.machines →
+    slice_get s.steps (j * m + i) ≡ Some step → IsAt t j i step
 at-read s w t is small j i m step job place m_is here =
     let Q : Standing → Type 0 = λ v. IsAt v j i step in
     let R : ℕ → Type 0 = λ n. slice_get s.steps (j * n + i) ≡ Some step in
@@ -249,7 +259,9 @@ at-end t j i head step at since is =
     omega (arith, is, at.time, ap (time_of t.shop) x, ap (λ m. end_at t.shop (placed t) j m) n)
 
 -- the bound of a job that has a next step
-pub job_bound-next : (t : Standing) (j head time tail : ℕ) → has_next t.shop (placed t) j ≡ true → head ≡ ready t.shop (placed t) j → time ≡ time_of t.shop (next_step t.shop (placed t) j) → tail ≡ tail_of t.shop (next_step t.shop (placed t) j)
+pub job_bound-next : (t : Standing) (j head time tail : ℕ) → has_next t.shop (placed t) j ≡ true →
+    head ≡ ready t.shop (placed t) j → time ≡ time_of t.shop (next_step t.shop (placed t) j) →
+    tail ≡ tail_of t.shop (next_step t.shop (placed t) j)
     → head + time + tail ≡ job_bound t.shop (placed t) j
 job_bound-next t j head time tail next head_is time_is tail_is =
     let s : JobShop = t.shop in
@@ -257,7 +269,10 @@ job_bound-next t j head time tail next head_is time_is tail_is =
     let below : steps_done xs j < s.machines = ltb-true (steps_done xs j) s.machines next in
     let place : place_of s (next_step s xs j) ≡ steps_done xs j = place_at s j (steps_done xs j) below in
     let count : s.machines - steps_done xs j ≡ suc (s.machines - suc (place_of s (next_step s xs j))) = omega (arith, below, place) in
-    let is : job_bound s xs j ≡ ready s xs j + times_from s (next_step s xs j) (s.machines - steps_done xs j) = cond-true (has_next s xs j) (ready s xs j + times_from s (next_step s xs j) (s.machines - steps_done xs j)) (job_end s xs j) next in
+    let is : job_bound s xs j ≡ ready s xs j + times_from s (next_step s xs j)
+        (s.machines - steps_done xs j) = cond-true (has_next s xs j)
+        (ready s xs j + times_from s (next_step s xs j) (s.machines - steps_done xs j))
+        (job_end s xs j) next in
     omega (arith, is, head_is, time_is, tail_is, ap (λ n. times_from s (next_step s xs j) n) count)
 
 -- the bound of a machine, once all steps are gathered
@@ -269,7 +284,9 @@ machine_bound-is t ps shop g m b below is =
     ∙ ap (λ n. bound_of_pending t.shop (placed t) (those_below n (is_pending t m))) (sym shop.all_steps)
 
 -- the time left of a job that has a next step
-pub time_left-next : (t : Standing) (j time tail : ℕ) → has_next t.shop (placed t) j ≡ true → time ≡ time_of t.shop (next_step t.shop (placed t) j) → tail ≡ tail_of t.shop (next_step t.shop (placed t) j) → time + tail ≡ time_left t.shop (placed t) j
+pub time_left-next : (t : Standing) (j time tail : ℕ) → has_next t.shop (placed t) j ≡ true →
+    time ≡ time_of t.shop (next_step t.shop (placed t) j) →
+    tail ≡ tail_of t.shop (next_step t.shop (placed t) j) → time + tail ≡ time_left t.shop (placed t) j
 time_left-next t j time tail next time_is tail_is =
     let s : JobShop = t.shop in
     let xs : List Placed = placed t in

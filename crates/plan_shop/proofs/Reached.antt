@@ -82,7 +82,10 @@ pub all_positive : (s : JobShop) (xs : List Placed) → with_zero s xs ≡ [] �
 all_positive s xs none k l next = elim (cases_eq (time_of s (next_step s xs k)) 0) [
   | inr some ↦ omega (arith, some)
   | inl zero_time ↦
-      absurd (nil_has_none (with_zero s xs) k none (passes_there s.jobs (is_zero s xs) k l (and_from (has_next s xs k) (nat_eq (time_of s (next_step s xs k)) 0) (has_next_from s xs k next) (eq-eqb (time_of s (next_step s xs k)) 0 zero_time))))
+      absurd (nil_has_none (with_zero s xs) k none
+          (passes_there s.jobs (is_zero s xs) k l (and_from (has_next s xs k)
+          (nat_eq (time_of s (next_step s xs k)) 0) (has_next_from s xs k next)
+          (eq-eqb (time_of s (next_step s xs k)) 0 zero_time))))
 ]
 
 -- the first of those with a next step that has the least end
@@ -95,7 +98,8 @@ soonest_there s xs n ns are =
     let t = there_passes s.jobs (has_next s xs) (soonest s xs n ns) there in
     (t.0, next_from s xs (soonest s xs n ns) t.1)
 
-pub soonest_least : (s : JobShop) (xs : List Placed) (n : ℕ) (ns : List ℕ) → with_next s xs ≡ n ∷ ns → (k : ℕ) → k < s.jobs → steps_done xs k < s.machines → next_end s xs (soonest s xs n ns) ≤ next_end s xs k
+pub soonest_least : (s : JobShop) (xs : List Placed) (n : ℕ) (ns : List ℕ) → with_next s xs ≡ n ∷ ns →
+    (k : ℕ) → k < s.jobs → steps_done xs k < s.machines → next_end s xs (soonest s xs n ns) ≤ next_end s xs k
 soonest_least s xs n ns are k l next =
     let there : Contains (with_next s xs) k = passes_there s.jobs (has_next s xs) k l (has_next_from s xs k next) in
     first_least_below (next_end s xs) n ns k (subst (λ (ks : List ℕ). Contains ks k) are there)
@@ -162,7 +166,13 @@ choice_by s xs [] (n ∷ ns) none are i c =
         next = f.1;
         least = soonest_least s xs n ns are;
         rivals = λ k l next same sooner.
-            let test : is_rival s xs b k ≡ true = and_from (has_next s xs k) (nat_eq (machine_of s (next_step s xs k)) (machine_of s (next_step s xs b)) && nat_lt (ready s xs k) (next_end s xs b)) (has_next_from s xs k next) (and_from (nat_eq (machine_of s (next_step s xs k)) (machine_of s (next_step s xs b))) (nat_lt (ready s xs k) (next_end s xs b)) (eq-eqb (machine_of s (next_step s xs k)) (machine_of s (next_step s xs b)) same) (lt-ltb (ready s xs k) (next_end s xs b) sooner)) in
+            let test : is_rival s xs b k ≡ true = and_from (has_next s xs k)
+                (nat_eq (machine_of s (next_step s xs k)) (machine_of s (next_step s xs b))
+                && nat_lt (ready s xs k) (next_end s xs b)) (has_next_from s xs k next)
+                (and_from (nat_eq (machine_of s (next_step s xs k)) (machine_of s (next_step s xs b)))
+                (nat_lt (ready s xs k) (next_end s xs b))
+                (eq-eqb (machine_of s (next_step s xs k)) (machine_of s (next_step s xs b)) same)
+                (lt-ltb (ready s xs k) (next_end s xs b) sooner)) in
             subst (λ (ks : List ℕ). Contains ks k) (sym (jobs_by_rivals s xs n ns none are)) (passes_there s.jobs (is_rival s xs b) k l test);
       }),
     )
@@ -209,20 +219,30 @@ end_other s p xs j e = cond-false (nat_eq p.job j) (p.start + time_of s p.step) 
 abbrev uses : JobShop → Placed → ℕ → Bool
 uses s p m = nat_eq (machine_of s p.step) m && nat_lt 0 (time_of s p.step)
 
-pub free_new : (s : JobShop) (p : Placed) (xs : List Placed) (m : ℕ) → machine_of s p.step ≡ m → 0 < time_of s p.step → machine_free s (p ∷ xs) m ≡ max (p.start + time_of s p.step) (machine_free s xs m)
+pub free_new : (s : JobShop) (p : Placed) (xs : List Placed) (m : ℕ) → machine_of s p.step ≡ m →
+    0 < time_of s p.step → machine_free s (p ∷ xs) m ≡ max (p.start + time_of s p.step) (machine_free s xs m)
 free_new s p xs m e t =
-    cond-true (uses s p m) (max (p.start + time_of s p.step) (machine_free s xs m)) (machine_free s xs m) (and_from (nat_eq (machine_of s p.step) m) (nat_lt 0 (time_of s p.step)) (eq-eqb (machine_of s p.step) m e) (lt-ltb 0 (time_of s p.step) t))
+    cond-true (uses s p m) (max (p.start + time_of s p.step) (machine_free s xs m)) (machine_free s xs m)
+        (and_from (nat_eq (machine_of s p.step) m) (nat_lt 0 (time_of s p.step))
+        (eq-eqb (machine_of s p.step) m e) (lt-ltb 0 (time_of s p.step) t))
 
 pub free_other : (s : JobShop) (p : Placed) (xs : List Placed) (m : ℕ) → (machine_of s p.step ≡ m → ⊥) → machine_free s (p ∷ xs) m ≡ machine_free s xs m
 free_other s p xs m e =
-    cond-false (uses s p m) (max (p.start + time_of s p.step) (machine_free s xs m)) (machine_free s xs m) (and_left (nat_eq (machine_of s p.step) m) (nat_lt 0 (time_of s p.step)) (ne_eqb (machine_of s p.step) m e))
+    cond-false (uses s p m) (max (p.start + time_of s p.step) (machine_free s xs m)) (machine_free s xs m)
+        (and_left (nat_eq (machine_of s p.step) m) (nat_lt 0 (time_of s p.step))
+        (ne_eqb (machine_of s p.step) m e))
 
 pub free_zero : (s : JobShop) (p : Placed) (xs : List Placed) (m : ℕ) → time_of s p.step ≡ 0 → machine_free s (p ∷ xs) m ≡ machine_free s xs m
 free_zero s p xs m e =
-    cond-false (uses s p m) (max (p.start + time_of s p.step) (machine_free s xs m)) (machine_free s xs m) (and_right (nat_eq (machine_of s p.step) m) (nat_lt 0 (time_of s p.step)) (le-ltb 0 (time_of s p.step) (omega (arith, e))))
+    cond-false (uses s p m) (max (p.start + time_of s p.step) (machine_free s xs m)) (machine_free s xs m)
+        (and_right (nat_eq (machine_of s p.step) m) (nat_lt 0 (time_of s p.step))
+        (le-ltb 0 (time_of s p.step) (omega (arith, e))))
 
 -- one more step uses the machine, or leaves it as it is
-pub free_cases : (s : JobShop) (p : Placed) (xs : List Placed) (m : ℕ) → ((machine_of s p.step ≡ m) × (0 < time_of s p.step) × (machine_free s (p ∷ xs) m ≡ max (p.start + time_of s p.step) (machine_free s xs m))) ⊎ (machine_free s (p ∷ xs) m ≡ machine_free s xs m)
+pub free_cases : (s : JobShop) (p : Placed) (xs : List Placed) (m : ℕ) →
+    ((machine_of s p.step ≡ m) × (0 < time_of s p.step)
+    × (machine_free s (p ∷ xs) m ≡ max (p.start + time_of s p.step) (machine_free s xs m)))
+    ⊎ (machine_free s (p ∷ xs) m ≡ machine_free s xs m)
 free_cases s p xs m = elim (cases_eq (machine_of s p.step) m) [
   | inr other ↦ inr (free_other s p xs m other)
   | inl same ↦ elim (cases_lt 0 (time_of s p.step)) [
@@ -242,27 +262,39 @@ pub ready_end : (s : JobShop) (xs : List Placed) (j : ℕ) → job_end s xs j �
 unfolding ready
 ready_end s xs j = elim (cases_eq (time_of s (next_step s xs j)) 0) [
   | inl none ↦
-      omega (arith, cond-true (nat_eq (time_of s (next_step s xs j)) 0) (job_end s xs j) (max (job_end s xs j) (machine_free s xs (machine_of s (next_step s xs j)))) (eq-eqb (time_of s (next_step s xs j)) 0 none))
+      omega (arith, cond-true (nat_eq (time_of s (next_step s xs j)) 0) (job_end s xs j)
+          (max (job_end s xs j) (machine_free s xs (machine_of s (next_step s xs j))))
+          (eq-eqb (time_of s (next_step s xs j)) 0 none))
   | inr some ↦
-      omega (arith, cond-false (nat_eq (time_of s (next_step s xs j)) 0) (job_end s xs j) (max (job_end s xs j) (machine_free s xs (machine_of s (next_step s xs j)))) (ne_eqb (time_of s (next_step s xs j)) 0 some))
+      omega (arith, cond-false (nat_eq (time_of s (next_step s xs j)) 0) (job_end s xs j)
+          (max (job_end s xs j) (machine_free s xs (machine_of s (next_step s xs j))))
+          (ne_eqb (time_of s (next_step s xs j)) 0 some))
 ]
 
 pub ready_free : (s : JobShop) (xs : List Placed) (j : ℕ) → 0 < time_of s (next_step s xs j) → machine_free s xs (machine_of s (next_step s xs j)) ≤ ready s xs j
 unfolding ready
 ready_free s xs j some =
-    omega (arith, cond-false (nat_eq (time_of s (next_step s xs j)) 0) (job_end s xs j) (max (job_end s xs j) (machine_free s xs (machine_of s (next_step s xs j)))) (ne_eqb (time_of s (next_step s xs j)) 0 (λ e. omega (arith, e, some))))
+    omega (arith, cond-false (nat_eq (time_of s (next_step s xs j)) 0) (job_end s xs j)
+        (max (job_end s xs j) (machine_free s xs (machine_of s (next_step s xs j))))
+        (ne_eqb (time_of s (next_step s xs j)) 0 (λ e. omega (arith, e, some))))
 
 pub ready_within : (s : JobShop) (xs : List Placed) (j b : ℕ) → job_end s xs j ≤ b → (0 < time_of s (next_step s xs j) → machine_free s xs (machine_of s (next_step s xs j)) ≤ b) → ready s xs j ≤ b
 unfolding ready
 ready_within s xs j b ended free = elim (cases_eq (time_of s (next_step s xs j)) 0) [
   | inl none ↦
-      omega (arith, ended, cond-true (nat_eq (time_of s (next_step s xs j)) 0) (job_end s xs j) (max (job_end s xs j) (machine_free s xs (machine_of s (next_step s xs j)))) (eq-eqb (time_of s (next_step s xs j)) 0 none))
+      omega (arith, ended, cond-true (nat_eq (time_of s (next_step s xs j)) 0) (job_end s xs j)
+          (max (job_end s xs j) (machine_free s xs (machine_of s (next_step s xs j))))
+          (eq-eqb (time_of s (next_step s xs j)) 0 none))
   | inr some ↦
-      omega (arith, ended, free (omega (arith, some)), cond-false (nat_eq (time_of s (next_step s xs j)) 0) (job_end s xs j) (max (job_end s xs j) (machine_free s xs (machine_of s (next_step s xs j)))) (ne_eqb (time_of s (next_step s xs j)) 0 some))
+      omega (arith, ended, free (omega (arith, some)), cond-false (nat_eq (time_of s (next_step s xs j)) 0)
+          (job_end s xs j) (max (job_end s xs j) (machine_free s xs (machine_of s (next_step s xs j))))
+          (ne_eqb (time_of s (next_step s xs j)) 0 some))
 ]
 
 -- what is placed with one more step was placed before, or is that step
-pub placed_cases : (s : JobShop) (p : Placed) (xs : List Placed) → p.step ≡ next_step s xs p.job → (x : ℕ) → place_of s x < steps_done (p ∷ xs) (job_of s x) → (place_of s x < steps_done xs (job_of s x)) ⊎ (x ≡ p.step)
+pub placed_cases : (s : JobShop) (p : Placed) (xs : List Placed) → p.step ≡ next_step s xs p.job → (x : ℕ) →
+    place_of s x < steps_done (p ∷ xs) (job_of s x) →
+    (place_of s x < steps_done xs (job_of s x)) ⊎ (x ≡ p.step)
 placed_cases s p xs step x l = elim (cases_eq p.job (job_of s x)) [
   | inr other ↦ inl (omega (arith, l, done_other p xs (job_of s x) other))
   | inl same ↦ elim (cases_lt (place_of s x) (steps_done xs (job_of s x))) [
@@ -306,7 +338,9 @@ done_le s (p ∷ xs) r j = elim (cases_eq p.job j) [
 ]
 
 -- a machine is free after all placed steps of positive time on it
-pub free_of : (s : JobShop) (starts : ℕ → ℕ) (xs : List Placed) → Reached s xs → Agrees starts xs → (x : ℕ) → place_of s x < steps_done xs (job_of s x) → 0 < time_of s x → starts x + time_of s x ≤ machine_free s xs (machine_of s x)
+pub free_of : (s : JobShop) (starts : ℕ → ℕ) (xs : List Placed) → Reached s xs → Agrees starts xs → (x : ℕ) →
+    place_of s x < steps_done xs (job_of s x) → 0 < time_of s x →
+    starts x + time_of s x ≤ machine_free s xs (machine_of s x)
 free_of s starts [] r a x l t = absurd (omega (arith, l))
 free_of s starts (p ∷ xs) r a x l t = elim (placed_cases s p xs r.2 x l) [
   | inl before ↦ omega (arith, free_of s starts xs r.0 a.1 x before t, free_more s p xs (machine_of s x))
@@ -316,7 +350,8 @@ free_of s starts (p ∷ xs) r a x l t = elim (placed_cases s p xs r.2 x l) [
 ]
 
 -- the end of a job is that of its last placed step
-pub end_is : (s : JobShop) (starts : ℕ → ℕ) (xs : List Placed) → Reached s xs → Agrees starts xs → (j k : ℕ) → steps_done xs j ≡ suc k → job_end s xs j ≡ starts (j * s.machines + k) + time_of s (j * s.machines + k)
+pub end_is : (s : JobShop) (starts : ℕ → ℕ) (xs : List Placed) → Reached s xs → Agrees starts xs → (j k : ℕ) →
+    steps_done xs j ≡ suc k → job_end s xs j ≡ starts (j * s.machines + k) + time_of s (j * s.machines + k)
 end_is s starts [] r a j k e = absurd (omega (arith, e))
 end_is s starts (p ∷ xs) r a j k e = elim (cases_eq p.job j) [
   | inl same ↦
@@ -334,14 +369,18 @@ end_none s (p ∷ xs) j e = elim (cases_eq p.job j) [
 ]
 
 -- where every number up to the job's done steps has its end by b, the job's end is by b
-pub end_within : (s : JobShop) (starts : ℕ → ℕ) (xs : List Placed) → Reached s xs → Agrees starts xs → (j b : ℕ) → ((k : ℕ) → steps_done xs j ≡ suc k → starts (j * s.machines + k) + time_of s (j * s.machines + k) ≤ b) → job_end s xs j ≤ b
+pub end_within : (s : JobShop) (starts : ℕ → ℕ) (xs : List Placed) → Reached s xs → Agrees starts xs →
+    (j b : ℕ) → ((k : ℕ) → steps_done xs j ≡ suc k →
+    starts (j * s.machines + k) + time_of s (j * s.machines + k) ≤ b) → job_end s xs j ≤ b
 end_within s starts xs r a j b last = by_done (steps_done xs j) refl where
   by_done : (n : ℕ) → steps_done xs j ≡ n → job_end s xs j ≤ b
   by_done zero e = omega (arith, end_none s xs j e)
   by_done (suc k) e = omega (arith, end_is s starts xs r a j k e, last k e)
 
 -- the steps of a job follow each other
-pub chain_of : (s : JobShop) (starts : ℕ → ℕ) (xs : List Placed) → Reached s xs → Agrees starts xs → (x : ℕ) → job_of s (suc x) ≡ job_of s x → place_of s (suc x) < steps_done xs (job_of s (suc x)) → starts x + time_of s x ≤ starts (suc x)
+pub chain_of : (s : JobShop) (starts : ℕ → ℕ) (xs : List Placed) → Reached s xs → Agrees starts xs → (x : ℕ) →
+    job_of s (suc x) ≡ job_of s x → place_of s (suc x) < steps_done xs (job_of s (suc x)) →
+    starts x + time_of s x ≤ starts (suc x)
 chain_of s starts [] r a x same l = absurd (omega (arith, l))
 chain_of s starts (p ∷ xs) r a x same l = elim (placed_cases s p xs r.2 (suc x) l) [
   | inl before ↦ chain_of s starts xs r.0 a.1 x same before
@@ -355,7 +394,9 @@ chain_of s starts (p ∷ xs) r a x same l = elim (placed_cases s p xs r.2 (suc x
 ]
 
 -- placed steps of positive time on one machine are apart
-pub apart_of : (s : JobShop) (starts : ℕ → ℕ) (xs : List Placed) → Reached s xs → Agrees starts xs → (x y : ℕ) → x ≢ y → place_of s x < steps_done xs (job_of s x) → place_of s y < steps_done xs (job_of s y) → machine_of s x ≡ machine_of s y
+pub apart_of : (s : JobShop) (starts : ℕ → ℕ) (xs : List Placed) → Reached s xs → Agrees starts xs →
+    (x y : ℕ) → x ≢ y → place_of s x < steps_done xs (job_of s x) →
+    place_of s y < steps_done xs (job_of s y) → machine_of s x ≡ machine_of s y
     → 0 < time_of s x → 0 < time_of s y → (starts x + time_of s x ≤ starts y) ⊎ (starts y + time_of s y ≤ starts x)
 apart_of s starts [] r a x y other lx ly same tx ty = absurd (omega (arith, lx))
 apart_of s starts (p ∷ xs) r a x y other lx ly same tx ty = elim (placed_cases s p xs r.2 x lx) [
@@ -390,7 +431,9 @@ continues_less s starts p xs r con = record { placed = con.placed.1; unplaced = 
   ]
 
 -- in a schedule that continues a word no next step starts before it is ready
-pub ready_le : (s : JobShop) → IsShop s → (starts : ℕ → ℕ) (xs : List Placed) → Reached s xs → IsSound s starts → Continues s starts xs → (j : ℕ) → j < s.jobs → steps_done xs j < s.machines → ready s xs j ≤ starts (next_step s xs j)
+pub ready_le : (s : JobShop) → IsShop s → (starts : ℕ → ℕ) (xs : List Placed) → Reached s xs →
+    IsSound s starts → Continues s starts xs → (j : ℕ) → j < s.jobs → steps_done xs j < s.machines →
+    ready s xs j ≤ starts (next_step s xs j)
 ready_le s shop starts xs r sound con j l next = ready_within s xs j (starts (next_step s xs j)) ended free where
   below : next_step s xs j < count_steps s
   below = number_below s shop j (steps_done xs j) l next

@@ -43,7 +43,9 @@ pub record GoesOn (rule : ShopRule) (s : JobShop) (t : Standing) (n : ℕ) : Typ
 
 pub goes-first : (rule : ShopRule) (s : JobShop) → GoesOn rule s (standing s []) 0
 unfolding giffler
-goes-first rule s = record { shop = refl; follows = tt; size = refl; rest = ap (λ n. rule_word s (chooser_of rule s) n []) (let is : s.jobs * s.machines - 0 ≡ s.jobs * s.machines = omega arith in is) }
+goes-first rule s = record { shop = refl; follows = tt; size = refl; rest =
+    ap (λ n. rule_word s (chooser_of rule s) n [])
+    (let is : s.jobs * s.machines - 0 ≡ s.jobs * s.machines = omega arith in is) }
 
 -- the letter of the rule
 pub record IsNextLetter (rule : ShopRule) (s : JobShop) (xs : List Placed) (a : ℕ) : Type 0 where
@@ -58,7 +60,9 @@ open_here : (rule : ShopRule) (s : JobShop) (t : Standing) (n : ℕ) → GoesOn 
 open_here rule s t n goes less =
     short_not_full s (placed_in s t.word) (reached_by s [] t.word tt goes.follows) (omega (arith, less, goes.size, length_placed s [] t.word))
 
-pub next-letter : (rule : ShopRule) (s : JobShop) (t : Standing) (n : ℕ) → GoesOn rule s t n → n < s.jobs * s.machines → (found : Option ℕ) → found ≡ letter_by rule t.shop (placed t) → (a : ℕ) → found ≡ Some a → IsNextLetter rule s (placed_in s t.word) a
+pub next-letter : (rule : ShopRule) (s : JobShop) (t : Standing) (n : ℕ) → GoesOn rule s t n →
+    n < s.jobs * s.machines → (found : Option ℕ) → found ≡ letter_by rule t.shop (placed t) → (a : ℕ) →
+    found ≡ Some a → IsNextLetter rule s (placed_in s t.word) a
 next-letter rule s t n goes less found found_is a is =
     let xs : List Placed = placed_in s t.word in
     let there : Contains (jobs_after s xs) (chooser_of rule s xs (jobs_after s xs)) = rule_follows s (chooser_of rule s) (chooses rule s) xs (open_here rule s t n goes less) in
@@ -77,7 +81,9 @@ next-none rule s t n goes less found found_is none =
       empty [] some is = absurd (omega (arith, some))
       empty (j ∷ js) some is = cc
 
-pub goes-more : (rule : ShopRule) (s : JobShop) (t u : Standing) (n a : ℕ) → GoesOn rule s t n → n < s.jobs * s.machines → IsNextLetter rule s (placed_in s t.word) a → u ≡ standing t.shop (t.word ++ a ∷ []) → GoesOn rule s u (suc n)
+pub goes-more : (rule : ShopRule) (s : JobShop) (t u : Standing) (n a : ℕ) → GoesOn rule s t n →
+    n < s.jobs * s.machines → IsNextLetter rule s (placed_in s t.word) a →
+    u ≡ standing t.shop (t.word ++ a ∷ []) → GoesOn rule s u (suc n)
 goes-more rule s t u n a goes less next is =
     let xs : List Placed = placed_in s t.word in
     let k : ℕ = s.jobs * s.machines - suc n in

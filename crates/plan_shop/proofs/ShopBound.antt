@@ -26,7 +26,8 @@ end_in_makespan s starts x l =
     omega (arith, greatest_above (count (problem_of s)) (λ i. get_or starts i 0 + duration (problem_of s) i) x (omega (arith, l, count_is s)), duration_is s x)
 
 -- so do the times of the rest of its job after its start
-pub chain_end : (s : JobShop) → IsShop s → (starts : ℕ → ℕ) (b : ℕ) → IsSound s starts → IsEnd s starts b → (n x : ℕ) → x < count_steps s → place_of s x + suc n ≤ s.machines → starts x + times_from s x (suc n) ≤ b
+pub chain_end : (s : JobShop) → IsShop s → (starts : ℕ → ℕ) (b : ℕ) → IsSound s starts → IsEnd s starts b →
+    (n x : ℕ) → x < count_steps s → place_of s x + suc n ≤ s.machines → starts x + times_from s x (suc n) ≤ b
 chain_end s shop starts b sound end zero x l within = omega (arith, end x l)
 chain_end s shop starts b sound end (suc n) x l within =
     let same : job_of s (suc x) ≡ job_of s x = next_job s x (omega (arith, within)) in
@@ -42,11 +43,16 @@ raised_within t h f b early free = elim (cases_eq t 0) [
 ]
 
 -- the head of each step after the next one of a job is at most its start
-head_at_le : (s : JobShop) → IsShop s → (starts : ℕ → ℕ) (xs : List Placed) → Reached s xs → IsSound s starts → Continues s starts xs → (j k : ℕ) → j < s.jobs → steps_done xs j + k < s.machines → head_at s xs j k ≤ starts (next_step s xs j + k)
+head_at_le : (s : JobShop) → IsShop s → (starts : ℕ → ℕ) (xs : List Placed) → Reached s xs →
+    IsSound s starts → Continues s starts xs → (j k : ℕ) → j < s.jobs → steps_done xs j + k < s.machines →
+    head_at s xs j k ≤ starts (next_step s xs j + k)
 head_at_le s shop starts xs r sound con j zero l within =
     let same : next_step s xs j + 0 ≡ next_step s xs j = omega arith in
     omega (arith, ready_le s shop starts xs r sound con j l (omega (arith, within)), ap starts same)
-head_at_le s shop starts xs r sound con j (suc k) l within = raised_within (time_of s x) (head_at s xs j k + time_of s (next_step s xs j + k)) (machine_free s xs (machine_of s x)) (starts x) (before (head_at_le s shop starts xs r sound con j k l (omega (arith, within)))) free where
+head_at_le s shop starts xs r sound con j (suc k) l within =
+    raised_within (time_of s x) (head_at s xs j k + time_of s (next_step s xs j + k))
+    (machine_free s xs (machine_of s x)) (starts x)
+    (before (head_at_le s shop starts xs r sound con j k l (omega (arith, within)))) free where
   x : ℕ
   x = next_step s xs j + suc k
 
@@ -74,7 +80,9 @@ head_at_le s shop starts xs r sound con j (suc k) l within = raised_within (time
   free t = con.unplaced x below (omega (arith, place, ap (steps_done xs) job)) t
 
 -- so is the head of each unplaced step
-pub head_le : (s : JobShop) → IsShop s → (starts : ℕ → ℕ) (xs : List Placed) → Reached s xs → IsSound s starts → Continues s starts xs → (x : ℕ) → x < count_steps s → steps_done xs (job_of s x) ≤ place_of s x → head_of s xs x ≤ starts x
+pub head_le : (s : JobShop) → IsShop s → (starts : ℕ → ℕ) (xs : List Placed) → Reached s xs →
+    IsSound s starts → Continues s starts xs → (x : ℕ) → x < count_steps s →
+    steps_done xs (job_of s x) ≤ place_of s x → head_of s xs x ≤ starts x
 head_le s shop starts xs r sound con x l unplaced =
     let j = job_of s x in
     let k = place_of s x - steps_done xs j in
@@ -86,14 +94,19 @@ tail_le : (s : JobShop) → IsShop s → (starts : ℕ → ℕ) (b : ℕ) → Is
 tail_le s shop starts b sound end x l = omega (arith, chain_end s shop starts b sound end (s.machines - suc (place_of s x)) x l (omega (arith, place_below s shop x)))
 
 -- the times of a job's unplaced steps
-job_bound_le : (s : JobShop) → IsShop s → (starts : ℕ → ℕ) (b : ℕ) (xs : List Placed) → Reached s xs → IsSound s starts → Continues s starts xs → IsEnd s starts b → (j : ℕ) → j < s.jobs → job_bound s xs j ≤ b
+job_bound_le : (s : JobShop) → IsShop s → (starts : ℕ → ℕ) (b : ℕ) (xs : List Placed) → Reached s xs →
+    IsSound s starts → Continues s starts xs → IsEnd s starts b → (j : ℕ) → j < s.jobs → job_bound s xs j ≤ b
 job_bound_le s shop starts b xs r sound con end j l = elim (cases_lt (steps_done xs j) s.machines) [
   | inl next ↦
       let n = s.machines - suc (steps_done xs j) in
       let x = next_step s xs j in
       let is : s.machines - steps_done xs j ≡ suc n = omega (arith, next) in
-      let rest : starts x + times_from s x (suc n) ≤ b = chain_end s shop starts b sound end n x (number_below s shop j (steps_done xs j) l next) (omega (arith, place_at s j (steps_done xs j) next, next)) in
-      omega (arith, rest, ap (times_from s x) is, ready_le s shop starts xs r sound con j l next, cond-true (has_next s xs j) (ready s xs j + times_from s x (s.machines - steps_done xs j)) (job_end s xs j) (lt-ltb (steps_done xs j) s.machines next))
+      let rest : starts x + times_from s x (suc n) ≤ b =
+          chain_end s shop starts b sound end n x (number_below s shop j (steps_done xs j) l next)
+          (omega (arith, place_at s j (steps_done xs j) next, next)) in
+      omega (arith, rest, ap (times_from s x) is, ready_le s shop starts xs r sound con j l next, cond-true
+          (has_next s xs j) (ready s xs j + times_from s x (s.machines - steps_done xs j)) (job_end s xs j)
+          (lt-ltb (steps_done xs j) s.machines next))
   | inr all ↦
       let ended : job_end s xs j ≤ b = end_within s starts xs r con.placed j b (λ k e. end (j * s.machines + k) (number_below s shop j k l (omega (arith, e, done_le s xs r j)))) in
       omega (arith, ended, cond-false (has_next s xs j) (ready s xs j + times_from s (next_step s xs j) (s.machines - steps_done xs j)) (job_end s xs j) (le-ltb (steps_done xs j) s.machines all))
@@ -129,12 +142,16 @@ pending_is s xs m x c = All-contains (IsPending s xs m) (pending s xs m) x (pend
 pub pending_there : (s : JobShop) (xs : List Placed) (m x : ℕ) → IsPending s xs m x → Contains (pending s xs m) x
 pending_there s xs m x p =
     let open_ : not (is_placed s xs x) ≡ true = ap not (le-ltb (place_of s x) (steps_done xs (job_of s x)) p.unplaced) in
-    let here : (nat_eq (machine_of s x) m && nat_lt 0 (time_of s x)) ≡ true = and_from (nat_eq (machine_of s x) m) (nat_lt 0 (time_of s x)) (eq-eqb (machine_of s x) m p.machine) (lt-ltb 0 (time_of s x) p.positive) in
+    let here : (nat_eq (machine_of s x) m && nat_lt 0 (time_of s x)) ≡ true =
+        and_from (nat_eq (machine_of s x) m) (nat_lt 0 (time_of s x)) (eq-eqb (machine_of s x) m p.machine)
+        (lt-ltb 0 (time_of s x) p.positive) in
     passes_there (count_steps s) (is_pending s xs m) x p.below (and_from (not (is_placed s xs x)) (nat_eq (machine_of s x) m && nat_lt 0 (time_of s x)) open_ here)
 
 pending_clear : (s : JobShop) (starts : ℕ → ℕ) (xs : List Placed) (m : ℕ) → IsSound s starts → InOrder (IsClear starts (time_of s)) (pending s xs m)
 pending_clear s starts xs m sound =
-    in_order_from (IsClear starts (time_of s)) (IsPending s xs m) (λ x y px py l. sound.apart x y l py.below (px.machine ∙ sym py.machine) px.positive py.positive) (pending s xs m) (those_rise (count_steps s) _) (pending_are s xs m)
+    in_order_from (IsClear starts (time_of s)) (IsPending s xs m)
+        (λ x y px py l. sound.apart x y l py.below (px.machine ∙ sym py.machine) px.positive py.positive)
+        (pending s xs m) (those_rise (count_steps s) _) (pending_are s xs m)
 
 each_weaker : (P Q : ℕ → Type 0) → ((x : ℕ) → P x → Q x) → (zs : List ℕ) → AllByRecursion P zs → AllByRecursion Q zs
 each_weaker P Q f [] a = tt
@@ -145,19 +162,32 @@ each_both P Q [] a b = tt
 each_both P Q (z ∷ zs) a b = ((a.0, b.0), each_both P Q zs a.1 b.1)
 
 -- the least head, all times and the least tail of steps that are clear of each other
-pending_le : (s : JobShop) (starts : ℕ → ℕ) (b : ℕ) (xs : List Placed) (zs : List ℕ) → InOrder (IsClear starts (time_of s)) zs → AllByRecursion (λ z. head_of s xs z ≤ starts z) zs → AllByRecursion (λ z. starts z + time_of s z + tail_of s z ≤ b) zs → bound_of_pending s xs zs ≤ b
+pending_le : (s : JobShop) (starts : ℕ → ℕ) (b : ℕ) (xs : List Placed) (zs : List ℕ) →
+    InOrder (IsClear starts (time_of s)) zs → AllByRecursion (λ z. head_of s xs z ≤ starts z) zs →
+    AllByRecursion (λ z. starts z + time_of s z + tail_of s z ≤ b) zs → bound_of_pending s xs zs ≤ b
 pending_le s starts b xs [] clear heads tails = omega arith
 pending_le s starts b xs (x ∷ zs) clear heads tails =
     let h = least_of (head_of s xs) x zs in
     let q = least_of (tail_of s) x zs in
     let first : h ≤ head_of s xs x = least_of_first (head_of s xs) x zs in
     let last : q ≤ tail_of s x = least_of_first (tail_of s) x zs in
-    let late : AllByRecursion (λ z. h ≤ starts z) (x ∷ zs) = (omega (arith, first, heads.0), each_weaker (λ z. (h ≤ head_of s xs z) × (head_of s xs z ≤ starts z)) (λ z. h ≤ starts z) (λ z p. omega (arith, p.0, p.1)) zs (each_both (λ z. h ≤ head_of s xs z) (λ z. head_of s xs z ≤ starts z) zs (least_of_rest (head_of s xs) x zs) heads.1)) in
-    let early : AllByRecursion (λ z. starts z + time_of s z ≤ b - q) (x ∷ zs) = (omega (arith, last, tails.0), each_weaker (λ z. (q ≤ tail_of s z) × (starts z + time_of s z + tail_of s z ≤ b)) (λ z. starts z + time_of s z ≤ b - q) (λ z p. omega (arith, p.0, p.1)) zs (each_both (λ z. q ≤ tail_of s z) (λ z. starts z + time_of s z + tail_of s z ≤ b) zs (least_of_rest (tail_of s) x zs) tails.1)) in
+    let late : AllByRecursion (λ z. h ≤ starts z) (x ∷ zs) =
+        (omega (arith, first, heads.0), each_weaker (λ z. (h ≤ head_of s xs z) × (head_of s xs z ≤ starts z))
+        (λ z. h ≤ starts z) (λ z p. omega (arith, p.0, p.1)) zs
+        (each_both (λ z. h ≤ head_of s xs z) (λ z. head_of s xs z ≤ starts z) zs
+        (least_of_rest (head_of s xs) x zs) heads.1)) in
+    let early : AllByRecursion (λ z. starts z + time_of s z ≤ b - q) (x ∷ zs) =
+        (omega (arith, last, tails.0), each_weaker
+        (λ z. (q ≤ tail_of s z) × (starts z + time_of s z + tail_of s z ≤ b))
+        (λ z. starts z + time_of s z ≤ b - q) (λ z p. omega (arith, p.0, p.1)) zs
+        (each_both (λ z. q ≤ tail_of s z) (λ z. starts z + time_of s z + tail_of s z ≤ b) zs
+        (least_of_rest (tail_of s) x zs) tails.1)) in
     let room : h + sum_by (time_of s) (x ∷ zs) ≤ b - q = span starts (time_of s) h (b - q) (x ∷ zs) (omega (arith, first, heads.0, last, tails.0)) clear late early in
     omega (arith, room, last, tails.0)
 
-machine_bound_le : (s : JobShop) → IsShop s → (starts : ℕ → ℕ) (b : ℕ) (xs : List Placed) → Reached s xs → IsSound s starts → Continues s starts xs → IsEnd s starts b → (m : ℕ) → bound_of_pending s xs (pending s xs m) ≤ b
+machine_bound_le : (s : JobShop) → IsShop s → (starts : ℕ → ℕ) (b : ℕ) (xs : List Placed) → Reached s xs →
+    IsSound s starts → Continues s starts xs → IsEnd s starts b → (m : ℕ) →
+    bound_of_pending s xs (pending s xs m) ≤ b
 machine_bound_le s shop starts b xs r sound con end m =
     let are = recursion_from_All (IsPending s xs m) (pending s xs m) (pending_are s xs m) in
     pending_le s starts b xs (pending s xs m) (pending_clear s starts xs m sound)
@@ -168,7 +198,10 @@ machine_bound_le s shop starts b xs r sound con end m =
 pub bound_le : (s : JobShop) → IsShop s → (starts : ℕ → ℕ) (b : ℕ) (xs : List Placed) → Reached s xs → IsSound s starts → Continues s starts xs → IsEnd s starts b → bound_of s xs ≤ b
 unfolding bound_of
 bound_le s shop starts b xs r sound con end =
-    omega (arith, greatest_least s.jobs (job_bound s xs) b (λ j l. job_bound_le s shop starts b xs r sound con end j l), greatest_least s.machines (λ m. bound_of_pending s xs (pending s xs m)) b (λ m l. machine_bound_le s shop starts b xs r sound con end m))
+    omega (arith, greatest_least s.jobs (job_bound s xs) b
+        (λ j l. job_bound_le s shop starts b xs r sound con end j l), greatest_least s.machines
+        (λ m. bound_of_pending s xs (pending s xs m)) b
+        (λ m l. machine_bound_le s shop starts b xs r sound con end m))
 
 -- the bound of a word is at most the makespan of every feasible list that continues it
 pub bound_is_least : (s : JobShop) → IsShop s → BoundIsLeast s

@@ -15,7 +15,8 @@ covered starts times t [] = 0
 covered starts times t (z ∷ zs) = (min t (starts z + times z) - starts z) + covered starts times t zs
 
 -- of intervals that are clear of one that lasts at an instant, none grows there
-covered_same : (starts times : ℕ → ℕ) (t x : ℕ) (zs : List ℕ) → starts x ≤ t → t < starts x + times x → AllByRecursion (IsClear starts times x) zs → covered starts times (suc t) zs ≡ covered starts times t zs
+covered_same : (starts times : ℕ → ℕ) (t x : ℕ) (zs : List ℕ) → starts x ≤ t → t < starts x + times x →
+    AllByRecursion (IsClear starts times x) zs → covered starts times (suc t) zs ≡ covered starts times t zs
 covered_same starts times t x [] since before clear = refl
 covered_same starts times t x (z ∷ zs) since before clear =
     let rest : covered starts times (suc t) zs ≡ covered starts times t zs = covered_same starts times t x zs since before clear.1 in
@@ -52,7 +53,9 @@ covered_all starts times e [] early = refl
 covered_all starts times e (z ∷ zs) early = omega (arith, early.0, covered_all starts times e zs early.1, sum_by-cons times z zs)
 
 -- clear intervals between two instants last no longer together than from the one to the other
-pub span : (starts times : ℕ → ℕ) (h e : ℕ) (zs : List ℕ) → h ≤ e → InOrder (IsClear starts times) zs → AllByRecursion (λ z. h ≤ starts z) zs → AllByRecursion (λ z. starts z + times z ≤ e) zs → h + sum_by times zs ≤ e
+pub span : (starts times : ℕ → ℕ) (h e : ℕ) (zs : List ℕ) → h ≤ e → InOrder (IsClear starts times) zs →
+    AllByRecursion (λ z. h ≤ starts z) zs → AllByRecursion (λ z. starts z + times z ≤ e) zs →
+    h + sum_by times zs ≤ e
 span starts times h e zs order clear late early =
     let all : h + (e - h) ≡ e = omega (arith, order) in
     omega (arith, order, covered_most starts times h (e - h) zs clear late, covered_all starts times e zs early, ap (λ t. covered starts times t zs) all)

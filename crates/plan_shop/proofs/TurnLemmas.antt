@@ -70,7 +70,9 @@ pushed-here s tails done ends free starts turns turn d e m f x b k p =
       kept = subst Q (sym after) (place-keeps s xs done ends free starts k.kept j d e m f x b letter.job p.on p.inside p.done p.end p.machine free_is p.step p.start);
     }
 
-pub pushed : (s : JobShop) (tails done ends free starts : List ℕ) (turns whole : List Turn) (turn : Turn) (d e m f x b : ℕ) (t : Standing) → standing s (word_of turns) ≡ t → IsKept s tails done ends free starts turns
+pub pushed : (s : JobShop) (tails done ends free starts : List ℕ) (turns whole : List Turn) (turn : Turn)
+    (d e m f x b : ℕ) (t : Standing) → standing s (word_of turns) ≡ t →
+    IsKept s tails done ends free starts turns
     → IsPush t turn d e m f x b → whole ≡ turns ++ turn ∷ []
     → IsKept s tails (set done (turn.letter - 1) d) (set ends (turn.letter - 1) e) (set free m f) (set starts x b) whole
 pushed s tails done ends free starts turns whole turn d e m f x b t is k p all =
@@ -91,7 +93,8 @@ pub record IsPop (s : JobShop) (done ends free starts : List ℕ) (turns : List 
   pub few : count_steps s ≤ 1000
   pub few_machines : s.machines ≤ 20
 
-popped-here : (s : JobShop) (tails done ends free starts : List ℕ) (turns : List Turn) (turn : Turn) → IsKept s tails done ends free starts (turns ++ turn ∷ []) → IsPop s done ends free starts turns turn
+popped-here : (s : JobShop) (tails done ends free starts : List ℕ) (turns : List Turn) (turn : Turn) →
+    IsKept s tails done ends free starts (turns ++ turn ∷ []) → IsPop s done ends free starts turns turn
 popped-here s tails done ends free starts turns turn k =
     let xs : List Placed = placed_in s (word_of turns) in
     let parts = turns-before s [] turns turn k.turns_are in
@@ -113,7 +116,9 @@ popped-here s tails done ends free starts turns turn k =
       few_machines = k.small.few_machines;
     }
 
-pub popped : (s : JobShop) (tails done ends free starts : List ℕ) (turns whole : List Turn) (turn : Turn) → whole ≡ turns ++ turn ∷ [] → IsKept s tails done ends free starts whole → IsPop s done ends free starts turns turn
+pub popped : (s : JobShop) (tails done ends free starts : List ℕ) (turns whole : List Turn) (turn : Turn) →
+    whole ≡ turns ++ turn ∷ [] → IsKept s tails done ends free starts whole →
+    IsPop s done ends free starts turns turn
 popped s tails done ends free starts turns whole turn all k =
     let R : List Turn → Type 0 = λ v. IsKept s tails done ends free starts v in
     popped-here s tails done ends free starts turns turn (subst R all k)
@@ -129,18 +134,24 @@ same_front (x ∷ xs) (y ∷ ys) a b is =
     cc
 
 -- the word without its last letter
-pub popped-word : (s : JobShop) (turns whole : List Turn) (turn : Turn) (t : Standing) → standing s (word_of whole) ≡ t → whole ≡ turns ++ turn ∷ [] → (u : List ℕ) (a : ℕ) → t.word ≡ u ++ a ∷ [] → word_of turns ≡ u
+pub popped-word : (s : JobShop) (turns whole : List Turn) (turn : Turn) (t : Standing) →
+    standing s (word_of whole) ≡ t → whole ≡ turns ++ turn ∷ [] → (u : List ℕ) (a : ℕ) →
+    t.word ≡ u ++ a ∷ [] → word_of turns ≡ u
 popped-word s turns whole turn t is all u a word =
     same_front (word_of turns) u turn.letter a (sym (word_of-more turns turn) ∙ ap (λ v. word_of v) (sym all) ∙ ap (λ (v : Standing). v.word) is ∙ word)
 
 -- the steps done, as a pop reads them
-pub pop-read : (s : JobShop) (done ends free starts : List ℕ) (turns : List Turn) (turn : Turn) → IsPop s done ends free starts turns turn → (r : ℕ) → r ≡ get_or done (turn.letter - 1) r → r ≡ suc (steps_done (placed_in s (word_of turns)) (turn.letter - 1))
+pub pop-read : (s : JobShop) (done ends free starts : List ℕ) (turns : List Turn) (turn : Turn) →
+    IsPop s done ends free starts turns turn → (r : ℕ) → r ≡ get_or done (turn.letter - 1) r →
+    r ≡ suc (steps_done (placed_in s (word_of turns)) (turn.letter - 1))
 pop-read s done ends free starts turns turn p r is =
     read done (turn.letter - 1) r (omega (arith, p.kept.done_size, p.job)) is
     ∙ p.kept.done_is (turn.letter - 1) p.job ∙ done-same s (placed_in s (word_of turns)) (turn.letter - 1)
 
 -- what a pop leaves
-pub undone : (s : JobShop) (tails done ends free starts : List ℕ) (turns : List Turn) (turn : Turn) (whole : List Turn) → IsKept s tails done ends free starts whole → IsPop s done ends free starts turns turn
+pub undone : (s : JobShop) (tails done ends free starts : List ℕ) (turns : List Turn) (turn : Turn)
+    (whole : List Turn) → IsKept s tails done ends free starts whole →
+    IsPop s done ends free starts turns turn
     → (d m : ℕ) → d ≡ steps_done (placed_in s (word_of turns)) (turn.letter - 1) → m ≡ machine_of s (next_step s (placed_in s (word_of turns)) (turn.letter - 1)) → m < s.machines
     → IsKept s tails (set done (turn.letter - 1) d) (set ends (turn.letter - 1) turn.end) (set free m turn.free) starts turns
 undone s tails done ends free starts turns turn whole k p d m d_is m_is on = record {

@@ -20,7 +20,9 @@ placed_count s [] r = total_none s.jobs (steps_done []) (λ j l. refl)
 placed_count s (p ∷ xs) r =
     let m = may_follow s xs p.job r.1 in
     let one : steps_done xs p.job + 1 ≡ steps_done (p ∷ xs) p.job = omega (arith, done_same p xs p.job refl) in
-    let more : total s.jobs (steps_done xs) + 1 ≡ total s.jobs (steps_done (p ∷ xs)) = total_changed s.jobs (steps_done xs) (steps_done (p ∷ xs)) p.job 1 m.job (λ j l other. sym (done_other p xs j (λ e. other (sym e)))) one in
+    let more : total s.jobs (steps_done xs) + 1 ≡ total s.jobs (steps_done (p ∷ xs)) =
+        total_changed s.jobs (steps_done xs) (steps_done (p ∷ xs)) p.job 1 m.job
+        (λ j l other. sym (done_other p xs j (λ e. other (sym e)))) one in
     omega (arith, more, placed_count s xs r.0)
 
 -- no more than there are
@@ -130,7 +132,9 @@ rule_follows s rule chooses xs e =
     chosen_there rule chooses xs (jobs_after s xs) f.0 f.1
 
 -- the letters that a rule chooses after what is placed, up to the number of steps
-pub rule_word_follows : (s : JobShop) (rule : List Placed → List ℕ → ℕ) → Chooses rule → (n : ℕ) (xs : List Placed) → Reached s xs → length xs + n ≡ s.jobs * s.machines → Follows s xs (rule_word s rule n xs)
+pub rule_word_follows : (s : JobShop) (rule : List Placed → List ℕ → ℕ) → Chooses rule →
+    (n : ℕ) (xs : List Placed) → Reached s xs → length xs + n ≡ s.jobs * s.machines →
+    Follows s xs (rule_word s rule n xs)
 rule_word_follows s rule chooses zero xs r e = tt
 rule_word_follows s rule chooses (suc n) xs r e =
     let j = rule xs (jobs_after s xs) in

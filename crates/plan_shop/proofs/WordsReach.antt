@@ -61,7 +61,9 @@ reach_from s shop (suc n) w starts e is c =
     let xs = placed_in s w in
     let some : is_full s xs ≡ false = short_not_full s xs (reached s w is) (omega (arith, e, length_placed s [] w)) in
     let l : Letter s w starts = letter_is_there s shop w starts is some c in
-    let h : Reaches s (makespan (problem_of s) l.other) = reach_from s shop n (w ++ l.letter ∷ []) l.other (omega (arith, e, length_last w l.letter)) (follows_last s [] w l.letter is l.follows) l.continued in
+    let h : Reaches s (makespan (problem_of s) l.other) =
+        reach_from s shop n (w ++ l.letter ∷ []) l.other (omega (arith, e, length_last w l.letter))
+        (follows_last s [] w l.letter is l.follows) l.continued in
     record { word = h.word; is_word = h.is_word; full = h.full; makespan = omega (arith, h.makespan, makespan_grows s l.other starts l.no_later) }
 
 -- every list continues the empty word
@@ -84,7 +86,10 @@ least_word_is_shortest s shop w is full least = record {
 }
 
 -- an active list isn't changed by a move to an earlier start
-not_changed : (s : JobShop) → IsShop s → (starts : List ℕ) (xs : List Placed) (j : ℕ) → IsActive (problem_of s) starts → Reached s xs → Continues s (at starts) xs → IsLeft s (at starts) (at (moved s starts xs j)) xs j → IsFeasible (problem_of s) (moved s starts xs j) → moved s starts xs j ≡ starts
+not_changed : (s : JobShop) → IsShop s → (starts : List ℕ) (xs : List Placed) (j : ℕ) →
+    IsActive (problem_of s) starts → Reached s xs → Continues s (at starts) xs →
+    IsLeft s (at starts) (at (moved s starts xs j)) xs j → IsFeasible (problem_of s) (moved s starts xs j) →
+    moved s starts xs j ≡ starts
 not_changed s shop starts xs j active r con left feasible = ext_get_or 0 other starts (length-set starts y (ready s xs j)) (λ i l. same i) where
   y : ℕ
   y = next_step s xs j
@@ -110,7 +115,8 @@ not_changed s shop starts xs j active r con left feasible = ext_get_or 0 other s
     | inr apart ↦ left.rest i apart
   ]
 
-spell_from : (s : JobShop) → IsShop s → (n : ℕ) (w starts : List ℕ) → length w + n ≡ s.jobs * s.machines → IsWord s w → IsActive (problem_of s) starts → Continues s (at starts) (placed_in s w) → IsSpelled s starts
+spell_from : (s : JobShop) → IsShop s → (n : ℕ) (w starts : List ℕ) → length w + n ≡ s.jobs * s.machines →
+    IsWord s w → IsActive (problem_of s) starts → Continues s (at starts) (placed_in s w) → IsSpelled s starts
 spell_from s shop zero w starts e is active con =
     let xs = placed_in s w in
     let full : is_full s xs ≡ true = count_full s xs (reached s w is) (omega (arith, e, length_placed s [] w)) in
@@ -129,7 +135,10 @@ spell_from s shop (suc n) w starts e is active con =
     let con' : Continues s (at (moved s starts xs j)) (place s xs j) = moved_continues s shop (at starts) (at (moved s starts xs j)) xs j r sound con left in
     let con'' : Continues s (at starts) (place s xs j) = subst (λ (ts : List ℕ). Continues s (at ts) (place s xs j)) same con' in
     let next : IsWord s (w ++ letter_of j ∷ []) = follows_last s [] w (letter_of j) is (letter_there (jobs_after s xs) j m.1.there) in
-    spell_from s shop n (w ++ letter_of j ∷ []) starts (omega (arith, e, length_last w (letter_of j))) next active (subst (λ (zs : List Placed). Continues s (at starts) zs) (sym (placed_append s [] w (letter_of j ∷ []))) con'')
+    spell_from s shop n (w ++ letter_of j ∷ []) starts
+        (omega (arith, e, length_last w (letter_of j))) next active
+        (subst (λ (zs : List Placed). Continues s (at starts) zs)
+        (sym (placed_append s [] w (letter_of j ∷ []))) con'')
 
 -- every active list is that of a full word
 pub active_is_spelled : (s : JobShop) → IsShop s → ActiveIsSpelled s

@@ -69,7 +69,9 @@ open_after s Version live = live
 open_after s NoMemory live = tt
 open_after s Store live = tt
 
-pub refuses : (s : State) (r : Result (Unit {0}) StoreFault) (fault : StoreFault) → r ≡ Err fault → s.in_transaction ≡ false → (HasCleanDisk s → IsTrue s.is_open) → (HasCleanDisk s → IsCause fault s.now) → Takes s s r
+pub refuses : (s : State) (r : Result (Unit {0}) StoreFault) (fault : StoreFault) → r ≡ Err fault →
+    s.in_transaction ≡ false → (HasCleanDisk s → IsTrue s.is_open) → (HasCleanDisk s → IsCause fault s.now) →
+    Takes s s r
 refuses s r fault is outside live why = subst (Takes s s) (sym is) (record {
   outside = outside;
   honesty = λ clean. clean;
@@ -103,11 +105,15 @@ takes_second s r is outside laid office settled = subst (Takes s s) (sym is) (re
 })
 
 -- the same of tables that are laid out
-pub refuses_laid : (layout : Layout) (s : State) (r : Result (Unit {0}) StoreFault) (fault : StoreFault) → r ≡ Err fault → s.in_transaction ≡ false → (HasCleanDisk s → IsLaid layout s) → (HasCleanDisk s → IsCause fault s.now) → Takes s s r
+pub refuses_laid : (layout : Layout) (s : State) (r : Result (Unit {0}) StoreFault) (fault : StoreFault) →
+    r ≡ Err fault → s.in_transaction ≡ false → (HasCleanDisk s → IsLaid layout s) →
+    (HasCleanDisk s → IsCause fault s.now) → Takes s s r
 refuses_laid layout s r fault is outside laid = refuses s r fault is outside (λ clean. (laid clean).in_order.is_open)
 
 -- tables that were only read, and then adopted or not
-module _ (old mid new : State) (clean_before : HasCleanDisk mid → HasCleanDisk old) (same : HasCleanDisk mid → mid.now ≡ old.now) (before : HasCleanDisk mid → (trees : Trees) → mid.may_leave trees → old.may_leave trees) where
+module _ (old mid new : State) (clean_before : HasCleanDisk mid → HasCleanDisk old)
+    (same : HasCleanDisk mid → mid.now ≡ old.now) (before : HasCleanDisk mid → (trees : Trees) →
+    mid.may_leave trees → old.may_leave trees) where
   pub takes_after : (r : Result (Unit {0}) StoreFault) → Takes mid new r → Takes old new r
   takes_after (Ok tt) it = record {
     outside = it.outside;

@@ -67,7 +67,9 @@ module _ {S : Type 0} (g : Ghosts S) (old new : Counted S) (ready : IsReady (sta
   leaves_now stands None only h = absurd (h.2 (subst IsStoreLeft (sym (only h.0 h.1)) (store_left after.now stands.store)))
 
   -- a crash may leave anything that it could leave before, or the change
-  leaves_change : (w : Option World) → ((trees : Trees) → after.may_leave trees → before.may_leave trees ⊎ (Rattle.std.proofs.Common.IsTrue before.is_open × IsStoreLeft trees × (world_of trees ≡ change (world_of before.now.trees))))
+  leaves_change : (w : Option World) → ((trees : Trees) → after.may_leave trees →
+      before.may_leave trees ⊎ (Rattle.std.proofs.Common.IsTrue before.is_open × IsStoreLeft trees
+      × (world_of trees ≡ change (world_of before.now.trees))))
       → HasCleanDisk before → may_leave after w → may_leave before w ⊎ (Stands before × (w ≡ Some (change (world_of before.now.trees))))
   leaves_change (Some w) might clean h = elim (might h.0 h.1) [
     | inl earlier ↦ inl (h.0, earlier, h.2, h.3)

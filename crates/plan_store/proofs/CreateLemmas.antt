@@ -71,7 +71,8 @@ pub record Filled (digest : Digest) (old new : State) : Type 0 where
   pub others : (t : ℕ) → t ≢ 0 → AllByRecursion (λ i. i.tree ≢ t) store_schema.indexes → new.now.trees t ≡ old.now.trees t
   pub sound : IsDatabase new.now
 
-pub fills : (digest : Digest) (old new : State) → old.now.schema ≡ store_schema → old.now.trees 0 ≡ [] → (count : ℕ) → Executes fill_meta (digest_value digest ∷ []) old new (Ok count) → Filled digest old new
+pub fills : (digest : Digest) (old new : State) → old.now.schema ≡ store_schema → old.now.trees 0 ≡ [] →
+    (count : ℕ) → Executes fill_meta (digest_value digest ∷ []) old new (Ok count) → Filled digest old new
 fills digest old new has none count h =
     let given = digest_value digest ∷ [] in
     let command = Insert 0 (Values fill_terms 4) in
@@ -151,7 +152,8 @@ abbrev pub new_statements : Digest → List Statement
 new_statements digest =
     (create_meta, []) ∷ (create_published, []) ∷ (create_desks, []) ∷ (create_plans, []) ∷ (create_binds, []) ∷ (create_lags, []) ∷ (fill_meta, digest_value digest ∷ []) ∷ []
 
-pub news : {S : Type 0} (g : Ghosts S) (digest : Digest) → is_digest digest ≡ true → (old : Held S) → (state g old).now.schema ≡ no_schema → (db : Database) → LeavesAll g (new_statements digest) old db
+pub news : {S : Type 0} (g : Ghosts S) (digest : Digest) → is_digest digest ≡ true → (old : Held S) →
+    (state g old).now.schema ≡ no_schema → (db : Database) → LeavesAll g (new_statements digest) old db
     → IsTrue (state g old).is_open × IsStore db × (world_of db.trees ≡ empty_world digest)
 news g digest good old has db leaves =
     let r1 = leaves.1 in
@@ -174,7 +176,9 @@ news g digest good old has db leaves =
     let t7 = m6.others.1.1.1.1.0 ∙ m5.empty in
     let last = fills digest (state g r6.0) (state g r7.0) m6.schema t0 r7.1 r7.3 in
     let is : db ≡ (state g r7.0).now = leaves.2 ∙ ap (λ h. (state g h).now) r7.4 in
-    let kept = λ (t : ℕ) (other : t ≢ 0) (apart : AllByRecursion (λ i. i.tree ≢ t) store_schema.indexes) (none : (state g r6.0).now.trees t ≡ []). ap (λ (d : Database). d.trees t) is ∙ last.others t other apart ∙ none in
+    let kept = λ (t : ℕ) (other : t ≢ 0) (apart : AllByRecursion (λ i. i.tree ≢ t) store_schema.indexes)
+        (none : (state g r6.0).now.trees t ≡ []). ap (λ (d : Database). d.trees t) is
+        ∙ last.others t other apart ∙ none in
     let made = new_store digest db good (ap (λ (d : Database). d.schema) is ∙ last.schema) (ap (λ (d : Database). d.trees 0) is ∙ last.meta_is) (
       kept 1 (λ e. cc) (λ e. cc, (λ e. cc, (λ e. cc, (λ e. cc, (λ e. cc, tt))))) t1,
       kept 3 (λ e. cc) (λ e. cc, (λ e. cc, (λ e. cc, (λ e. cc, (λ e. cc, tt))))) t3,
@@ -221,7 +225,8 @@ module _ {S : Type 0} (g : Ghosts S) (digest : Digest) (good : is_digest digest 
   })
 
 -- nothing was tried
-pub creates_nothing : (s : State) (digest : Digest) (r : Result (Unit {0}) StoreFault) (fault : StoreFault) → r ≡ Err fault → s.in_transaction ≡ false → (fault ≢ NotOurs) × (fault ≢ Version) → Creates s s r digest
+pub creates_nothing : (s : State) (digest : Digest) (r : Result (Unit {0}) StoreFault) (fault : StoreFault) →
+    r ≡ Err fault → s.in_transaction ≡ false → (fault ≢ NotOurs) × (fault ≢ Version) → Creates s s r digest
 creates_nothing s digest r fault is outside other = subst (λ k. Creates s s k digest) (sym is) (record {
   outside = outside;
   made = tt;

@@ -123,7 +123,8 @@ module _ {A : Type 0} (written : A → Row) where
   pub next_is : (xs : List (ℤ × A)) → next_rowid (map entry_row xs) ≡ next_key number_of xs
   next_is = next_from (pos 1)
 
-  module _ (table : Table) (casts : (a : A) → cast_all table.columns (written a) ≡ written a) (db : Trees) (xs : List (ℤ × A)) (are : db table.tree ≡ map entry_row xs) (up : IsKeyedBy number_of xs) where
+  module _ (table : Table) (casts : (a : A) → cast_all table.columns (written a) ≡ written a) (db : Trees)
+      (xs : List (ℤ × A)) (are : db table.tree ≡ map entry_row xs) (up : IsKeyedBy number_of xs) where
     cast_entry : (x : ℤ × A) → cast_row table (entry_row x) ≡ entry_row x
     cast_entry x = ap₂ ◌∷◌ (cast_int x.0) (casts x.1)
 

@@ -16,7 +16,9 @@ module _ (desk : List ℕ) (n : ℕ) where
   numbered row = record row { next = n + 1 }
 
   -- no row behind the desk's own is the desk's
-  unchanged : (row : Desk) → is_desk desk row ≡ true → (xs : List Desk) → AllByRecursion (λ y. same_text row.desk y.desk ≡ false) xs → changed (is_desk desk) numbered xs ≡ changed (is_desk desk) risen xs
+  unchanged : (row : Desk) → is_desk desk row ≡ true → (xs : List Desk) →
+      AllByRecursion (λ y. same_text row.desk y.desk ≡ false) xs →
+      changed (is_desk desk) numbered xs ≡ changed (is_desk desk) risen xs
   unchanged row own [] all = refl
   unchanged row own (x ∷ xs) all = ap₂ ◌∷◌ (other (is_desk desk x) refl) (unchanged row own xs all.1)
     where
@@ -24,12 +26,17 @@ module _ (desk : List ℕ) (n : ℕ) where
       other false e = refl
       other true e = absurd (both_ways (same_text row.desk x.desk) all.0 ((bytes_eq-Decides row.desk x.desk).1 ((bytes_eq-Decides row.desk desk).0 own ∙ sym ((bytes_eq-Decides x.desk desk).0 e))))
 
-  raised : (xs : List Desk) → AllDiffer (λ a b. same_text a.desk b.desk) xs → (row : Desk) → find (is_desk desk) xs ≡ Some row → row.next ≡ n → changed (is_desk desk) numbered xs ≡ changed (is_desk desk) risen xs
+  raised : (xs : List Desk) → AllDiffer (λ a b. same_text a.desk b.desk) xs → (row : Desk) →
+      find (is_desk desk) xs ≡ Some row → row.next ≡ n →
+      changed (is_desk desk) numbered xs ≡ changed (is_desk desk) risen xs
   unfolding numbered
   raised [] apart row found next = refl
   raised (x ∷ xs) apart row found next = go (is_desk desk x) refl found (λ is. raised xs apart.1 row is next)
     where
-      go : (b : Bool) → is_desk desk x ≡ b → cond b (Some x) (find (is_desk desk) xs) ≡ Some row → (find (is_desk desk) xs ≡ Some row → changed (is_desk desk) numbered xs ≡ changed (is_desk desk) risen xs) → cond b (numbered x) x ∷ changed (is_desk desk) numbered xs ≡ cond b (risen x) x ∷ changed (is_desk desk) risen xs
+      go : (b : Bool) → is_desk desk x ≡ b → cond b (Some x) (find (is_desk desk) xs) ≡ Some row →
+          (find (is_desk desk) xs ≡ Some row → changed (is_desk desk) numbered xs ≡ changed
+          (is_desk desk) risen xs) → cond b (numbered x) x
+          ∷ changed (is_desk desk) numbered xs ≡ cond b (risen x) x ∷ changed (is_desk desk) risen xs
       go true e is more =
           let same : x ≡ row = cc in
           let here : x.next ≡ n = ap (λ (d : Desk). d.next) same ∙ next in

@@ -68,7 +68,9 @@ read_all tree project db numbered show shows rows answer =
 abbrev pub IsFilled : Column → Type 0
 IsFilled c = c.not_null ≡ true
 
-pub width : (at : ℕ) (cs : List Column) (front row : Row) → AllByRecursion IsFilled cs → length front ≡ at + 1 → are_typed None at cs row ≡ true → are_present None at cs (front ++ row) ≡ true → length row ≡ length cs
+pub width : (at : ℕ) (cs : List Column) (front row : Row) → AllByRecursion IsFilled cs →
+    length front ≡ at + 1 → are_typed None at cs row ≡ true → are_present None at cs (front ++ row) ≡ true →
+    length row ≡ length cs
 width at [] front [] filled size typed present = refl
 width at [] front (v ∷ row) filled size typed present = cc
 width at (c ∷ cs) front [] filled size typed present =

@@ -113,7 +113,9 @@ module _ {S : Type 0} (g : Ghosts S) (first : Held S) where
       (text : List ℕ) → HasGiven g text [] first []
       → (rows : List Row) × (plans : List Plan) × HasGiven g text [] now rows × AllZip (λ row plan. TakesGood row (Some plan)) rows plans × HasReviewed plans review
 
-  zip_push : (rows : List Row) (plans : List Plan) (row : Row) (plan : Plan) → AllZip (λ r p. TakesGood r (Some p)) rows plans → TakesGood row (Some plan) → AllZip (λ r p. TakesGood r (Some p)) (rows ++ row ∷ []) (plans ++ plan ∷ [])
+  zip_push : (rows : List Row) (plans : List Plan) (row : Row) (plan : Plan) →
+      AllZip (λ r p. TakesGood r (Some p)) rows plans → TakesGood row (Some plan) →
+      AllZip (λ r p. TakesGood r (Some p)) (rows ++ row ∷ []) (plans ++ plan ∷ [])
   zip_push [] [] row plan zip takes = (takes, tt)
   zip_push [] (p ∷ plans) row plan zip takes = absurd zip
   zip_push (r ∷ rows) [] row plan zip takes = absurd zip
@@ -158,7 +160,8 @@ module _ {S : Type 0} (g : Ghosts S) (old new : Held S) (before after : Review) 
   goes_next (Some row) on End comes = λ text params given plans has reviewed. absurd (comes plans reviewed)
 
 -- after a good plan some plans were tested
-pub good_reviewed : (row : Option Row) (plans : List Plan) (review : Review) (r : Result Next BookFault) → IfOk r (ComesNext row plans review) → r ≡ Ok Good → (all : List Plan) × HasReviewed all review
+pub good_reviewed : (row : Option Row) (plans : List Plan) (review : Review) (r : Result Next BookFault) →
+    IfOk r (ComesNext row plans review) → r ≡ Ok Good → (all : List Plan) × HasReviewed all review
 good_reviewed row plans review r told is = by_row row (subst (λ k. IfOk k (ComesNext row plans review)) is told)
   where
     by_row : (o : Option Row) → ComesNext o plans review Good → (all : List Plan) × HasReviewed all review
@@ -207,13 +210,17 @@ if_all_ok (Err fault) row before after told f = tt
 
 -- ---- a query whose rows are read one at a time
 
-told_open : {X : Type 0} (s : State) (r : Result X BookFault) (P Q : X → Type 0) → (HasCleanDisk s → (x : X) → P x → Q x) → (HasCleanDisk s → IfOk r (λ x. IsTrue s.is_open × P x)) → IfOk r (λ x. HasCleanDisk s → IsTrue s.is_open × Q x)
+told_open : {X : Type 0} (s : State) (r : Result X BookFault) (P Q : X → Type 0) →
+    (HasCleanDisk s → (x : X) → P x → Q x) → (HasCleanDisk s → IfOk r (λ x. IsTrue s.is_open × P x)) →
+    IfOk r (λ x. HasCleanDisk s → IsTrue s.is_open × Q x)
 told_open s (Ok x) P Q f told = λ clean. ((told clean).0, f clean x (told clean).1)
 told_open s (Err fault) P Q f told = tt
 
 module _ {S : Type 0} (g : Ghosts S) (old mid new : Held S) (rest : IsAtRest (state g old)) (text : List ℕ) (query : HasCleanDisk (state g old) → IsQueryUnder old.schema text) where
   -- it was begun, and its rows were read
-  pub rows_queried : (HasCleanDisk (state g mid) → HasBegun g text [] old mid) → (old.in_transaction ≡ false → mid.in_transaction ≡ false) → Survives (state g old) (state g mid) (CommitsShowing text [] (state g old))
+  pub rows_queried : (HasCleanDisk (state g mid) → HasBegun g text [] old mid) →
+      (old.in_transaction ≡ false → mid.in_transaction ≡ false) →
+      Survives (state g old) (state g mid) (CommitsShowing text [] (state g old))
       → (mid.in_transaction ≡ false → new.in_transaction ≡ false) → Survives (state g mid) (state g new) (λ _. ⊥) → (HasCleanDisk (state g new) → Leaves (state g mid) (state g new))
       → (review : Review) (r : Result Bool BookFault) → (HasCleanDisk (state g new) → IfOk r (λ good. IsTrue (state g new).is_open × ReviewsRest g mid new review good))
       → Queries (state g old) (state g new) r (ReviewsRows text (state g old).now (state g new) review)
@@ -221,7 +228,9 @@ module _ {S : Type 0} (g : Ghosts S) (old mid new : Held S) (rest : IsAtRest (st
       let late = λ (clean : HasCleanDisk (state g new)). let it : HasCleanDisk (state g mid) = omega (arith, two.clean) in it in
       let early = λ (clean : HasCleanDisk (state g mid)). let it : HasCleanDisk (state g old) = omega (arith, one.clean) in it in
       let start = λ (clean : HasCleanDisk (state g mid)). begun_plain g text [] old mid (query (early clean)).plain (begun clean) in
-      queries_by (state g old) (state g new) rest (λ clean. early (late clean)) (λ clean. leaves_then (state g old) (state g mid) (state g new) (unchanged_stays (state g old) (state g mid) (start (late clean)).1) (leaves clean)) r
+      queries_by (state g old) (state g new) rest (λ clean. early (late clean))
+          (λ clean. leaves_then (state g old) (state g mid) (state g new)
+          (unchanged_stays (state g old) (state g mid) (start (late clean)).1) (leaves clean)) r
       (ReviewsRows text (state g old).now (state g new) review) (mode_on (mode rest.outside))
       (told_open (state g new) r (ReviewsRest g mid new review) (ReviewsRows text (state g old).now (state g new) review) (λ clean good h.
       let begin = start (late clean) in

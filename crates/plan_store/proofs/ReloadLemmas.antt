@@ -18,7 +18,9 @@ use Rattle.plan_store.specs.Layouts.{AreNumbered}
 use Rattle.plan_store.specs.Reload.{IsReread, IsStoreOf}
 
 -- the rows of each table that is listed rise by their numbers
-numbered_by : (v : View) (schema : Schema) → IsListed (v.trees catalog_tree) v.shape v.reals → IsOrdered v.shape v.trees → IsSound schema v.trees → AllByRecursion (λ t. AreNumbered (v.trees t.tree)) schema.tables
+numbered_by : (v : View) (schema : Schema) → IsListed (v.trees catalog_tree) v.shape v.reals →
+    IsOrdered v.shape v.trees → IsSound schema v.trees →
+    AllByRecursion (λ t. AreNumbered (v.trees t.tree)) schema.tables
 numbered_by v schema listed ordered sound =
     all_weaker (IsTableShaped v) (λ t. AreNumbered (v.trees t.tree)) (λ t h. subst (λ s. IsShaped s (v.trees t.tree)) h.0 (ordered t.tree)) schema.tables
     (shaped_of v schema listed (objects_rise v listed ordered) sound.lists).tables
@@ -59,7 +61,9 @@ module _ {S : Type 0} (g : Ghosts S) (old : Held S) (store : S) (settled : IsTru
       let clean = λ (h : HasCleanDisk (state g new)). let low : doubt (g.view store).is_clean ≡ 0 = omega arith in low in
       let same = λ (h : HasCleanDisk (state g new)). trees h ∙ same_trees (clean h) in
       let schema = λ (h : HasCleanDisk (state g new)).
-      one_schema (state g new).now.schema (state g old).now.schema (state g old).now.trees (subst (IsSound (state g new).now.schema) (same h) ((opens h).1 (opens h).0.is_open).0) (live (was_open (clean h))).0 in
+      one_schema (state g new).now.schema (state g old).now.schema (state g old).now.trees
+          (subst (IsSound (state g new).now.schema) (same h) ((opens h).1 (opens h).0.is_open).0)
+          (live (was_open (clean h))).0 in
       record {
         outside = outside;
         honesty = λ h. was_clean (clean h);
@@ -69,7 +73,9 @@ module _ {S : Type 0} (g : Ghosts S) (old : Held S) (store : S) (settled : IsTru
           outside = outside;
           settled = (opens h).0.clean;
           order = subst (λ t. AllByRecursion (λ table. AreNumbered (t table.tree)) (state g new).now.schema.tables) (sym (trees h))
-              (numbered_by (g.view store) (state g new).now.schema (listed (whole (clean h))) (ordered (whole (clean h))) (subst (IsSound (state g new).now.schema) (trees h) ((opens h).1 (opens h).0.is_open).0));
+              (numbered_by (g.view store) (state g new).now.schema (listed (whole (clean h)))
+                  (ordered (whole (clean h))) (subst (IsSound (state g new).now.schema) (trees h)
+                  ((opens h).1 (opens h).0.is_open).0));
           sound = ((opens h).1 (opens h).0.is_open).0;
         };
         same = λ h. (λ i. record { schema = schema h i; trees = same h i });

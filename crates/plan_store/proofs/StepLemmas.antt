@@ -26,7 +26,9 @@ module _ (old new : State) (held : HoldRows old.now.trees) (was_open : IsTrue ol
     was_open = was_open;
     schema = it.schema_is;
     rows = code_rows (with_row written_code read_code held.published row) held it (keeps_row written_code read_code held.published row good);
-    world = code_world (with_row written_code read_code held.published row) held it ∙ ap (λ l. record (world_of old.now.trees) { published = l }) (reads_row written_code read_code held.published row good);
+    world = code_world (with_row written_code read_code held.published row) held it
+        ∙ ap (λ l. record (world_of old.now.trees) { published = l })
+        (reads_row written_code read_code held.published row good);
     sound = sound;
   }
 
@@ -37,7 +39,9 @@ module _ (old new : State) (held : HoldRows old.now.trees) (was_open : IsTrue ol
     was_open = was_open;
     schema = it.schema_is;
     rows = code_rows (with_change written_code read_code held.published p change) held it (keeps_change written_code read_code held.published p change good);
-    world = code_world (with_change written_code read_code held.published p change) held it ∙ ap (λ l. record (world_of old.now.trees) { published = l }) (reads_change written_code read_code held.published p change good);
+    world = code_world (with_change written_code read_code held.published p change) held it
+        ∙ ap (λ l. record (world_of old.now.trees) { published = l })
+        (reads_change written_code read_code held.published p change good);
     sound = sound;
   }
 
@@ -58,7 +62,9 @@ module _ (old new : State) (held : HoldRows old.now.trees) (was_open : IsTrue ol
     was_open = was_open;
     schema = it.schema_is;
     rows = desk_rows (with_change written_desk read_desk held.desks p change) held it (keeps_change written_desk read_desk held.desks p change good);
-    world = desk_world (with_change written_desk read_desk held.desks p change) held it ∙ ap (λ l. record (world_of old.now.trees) { desks = l }) (reads_change written_desk read_desk held.desks p change good);
+    world = desk_world (with_change written_desk read_desk held.desks p change) held it
+        ∙ ap (λ l. record (world_of old.now.trees) { desks = l })
+        (reads_change written_desk read_desk held.desks p change good);
     sound = sound;
   }
 
@@ -79,7 +85,9 @@ module _ (old new : State) (held : HoldRows old.now.trees) (was_open : IsTrue ol
     was_open = was_open;
     schema = it.schema_is;
     rows = plan_rows (with_change written_plan read_plan held.plans p change) held it (keeps_change written_plan read_plan held.plans p change good);
-    world = plan_world (with_change written_plan read_plan held.plans p change) held it ∙ ap (λ l. record (world_of old.now.trees) { plans = l }) (reads_change written_plan read_plan held.plans p change good);
+    world = plan_world (with_change written_plan read_plan held.plans p change) held it
+        ∙ ap (λ l. record (world_of old.now.trees) { plans = l })
+        (reads_change written_plan read_plan held.plans p change good);
     sound = sound;
   }
 
@@ -110,7 +118,9 @@ module _ (old new : State) (held : HoldRows old.now.trees) (was_open : IsTrue ol
     was_open = was_open;
     schema = it.schema_is;
     rows = bind_rows (with_change written_bind read_bind held.binds p change) held it (keeps_change written_bind read_bind held.binds p change good);
-    world = bind_world (with_change written_bind read_bind held.binds p change) held it ∙ ap (λ l. record (world_of old.now.trees) { binds = l }) (reads_change written_bind read_bind held.binds p change good);
+    world = bind_world (with_change written_bind read_bind held.binds p change) held it
+        ∙ ap (λ l. record (world_of old.now.trees) { binds = l })
+        (reads_change written_bind read_bind held.binds p change good);
     sound = sound;
   }
 
@@ -141,7 +151,9 @@ module _ (old new : State) (held : HoldRows old.now.trees) (was_open : IsTrue ol
     was_open = was_open;
     schema = it.schema_is;
     rows = lag_rows (with_change written_lag read_lag held.lags p change) held it (keeps_change written_lag read_lag held.lags p change good);
-    world = lag_world (with_change written_lag read_lag held.lags p change) held it ∙ ap (λ l. record (world_of old.now.trees) { lags = l }) (reads_change written_lag read_lag held.lags p change good);
+    world = lag_world (with_change written_lag read_lag held.lags p change) held it
+        ∙ ap (λ l. record (world_of old.now.trees) { lags = l })
+        (reads_change written_lag read_lag held.lags p change good);
     sound = sound;
   }
 

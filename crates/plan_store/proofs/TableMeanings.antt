@@ -65,7 +65,9 @@ plans_text = codes "SELECT desk, n, kind, name, body, start, days FROM plans ORD
 abbrev pub plans_query : Query
 plans_query = of_table 5 [] (col 1 1 ∷ col 1 2 ∷ col 1 3 ∷ col 1 4 ∷ col 1 5 ∷ col 1 6 ∷ col 1 7 ∷ []) (by 0 ∷ [])
 
-pub plans_is : (layout : Layout) → meaning_under (schema_of layout) plans_text ≡ Select (alone plans_query) (codes "desk" ∷ codes "n" ∷ codes "kind" ∷ codes "name" ∷ codes "body" ∷ codes "start" ∷ codes "days" ∷ [])
+pub plans_is : (layout : Layout) → meaning_under (schema_of layout) plans_text ≡ Select (alone plans_query)
+    (codes "desk" ∷ codes "n" ∷ codes "kind" ∷ codes "name" ∷ codes "body" ∷ codes "start" ∷ codes "days"
+    ∷ [])
 unfolding understood everything
 plans_is First = refl
 plans_is Second = refl

@@ -36,7 +36,8 @@ same_plans Second trees = refl
 
 good_plans : (layout : Layout) (db : Database) (version : ℤ) → IsOfficeAt layout version db → AllByRecursion IsGoodPlan (world_of db.trees).plans
 good_plans First db version h = all_both HoldsPlan IsPlanRow IsGoodPlan (λ plan holds row. (holds, row)) (world_of db.trees).plans (plans_hold (world_in First db.trees) h.rules h.names) h.rules.plans
-good_plans Second db version h = all_both HoldsPlan IsPlanRow IsGoodPlan (λ plan holds row. (holds, row)) (world_of db.trees).plans (plans_hold (world_in Second db.trees) h.rules h.names) h.rules.plans
+good_plans Second db version h = all_both HoldsPlan IsPlanRow IsGoodPlan (λ plan holds row. (holds, row))
+    (world_of db.trees).plans (plans_hold (world_in Second db.trees) h.rules h.names) h.rules.plans
 
 -- tables of which a plan is not good hold no office
 no_office : (layout : Layout) (db : Database) → TakesTable written_plan read_plan IsGoodPlan (db.trees 5) None → (version : ℤ) → IsOfficeAt layout version db → ⊥
@@ -60,7 +61,10 @@ module _ (layout : Layout) (s : State) (laid : IsLaid layout s) (it : OtherRows)
     sound = laid.in_order.sound;
   }
 
-  pub told : (review : Review) → ((plans : List Plan) → world_beside review.beside plans ≡ world_others it plans) → (good : Bool) → ((plans : List Plan) → HasReviewed plans review → Tells good (IsWorld (world_beside review.beside plans)))
+  pub told : (review : Review) → ((plans : List Plan) →
+      world_beside review.beside plans ≡ world_others it plans) → (good : Bool) →
+      ((plans : List Plan) → HasReviewed plans review →
+      Tells good (IsWorld (world_beside review.beside plans)))
       → ReviewsPlans (s.now.trees 5) review true → IsJudged layout s.now it good
   told review beside true tells (plans, takes, reviewed) = office_at plans takes (subst IsWorld (beside plans) (tells plans reviewed))
   told review beside false tells (plans, takes, reviewed) = λ version h. tells plans reviewed (subst IsWorld (sym (beside plans ∙ same_world plans takes)) h.rules)
@@ -69,7 +73,9 @@ module _ (layout : Layout) (s : State) (laid : IsLaid layout s) (it : OtherRows)
   untold review none = no_office layout s.now none
 
 module _ (layout : Layout) (old new : State) (ready : IsReadable layout old) where
-  pub judged : (it : OtherRows) → (HasCleanDisk old → HoldsOthers layout old.now it) → {X : Type 0} (x : X) (Is : X → Type 0) (good : Bool) → (IsLaid layout old → HoldsOthers layout old.now it → Is x → IsJudged layout old.now it good)
+  pub judged : (it : OtherRows) → (HasCleanDisk old → HoldsOthers layout old.now it) →
+      {X : Type 0} (x : X) (Is : X → Type 0) (good : Bool) →
+      (IsLaid layout old → HoldsOthers layout old.now it → Is x → IsJudged layout old.now it good)
       → Looks layout old new (Ok x) Is → Looks layout old new (Ok good) (IsJudged layout old.now it)
   judged it holds x Is good f look = looks_again layout old new (Ok x) Is (Ok good) (IsJudged layout old.now it) look (λ clean.
       let said = look.answer clean in
@@ -77,5 +83,8 @@ module _ (layout : Layout) (old new : State) (ready : IsReadable layout old) whe
       (said.0, f (ready.laid (look.honesty clean) was.0) (holds (look.honesty clean)) said.1))
 
 -- nothing was asked
-pub looks_nowhere : (layout : Layout) (s : State) → IsReadable layout s → {X : Type 0} (r : Result X BookFault) (Is : X → Type 0) → IfOk r (λ x. HasCleanDisk s → IsTrue s.is_open × Is x) → Looks layout s s r Is
-looks_nowhere layout s ready r Is answer = record { ready = ready; honesty = λ clean. clean; same = λ clean live. (live, refl); answer = answer; crash = λ clean trees may. may; endures = endures_itself s }
+pub looks_nowhere : (layout : Layout) (s : State) → IsReadable layout s →
+    {X : Type 0} (r : Result X BookFault) (Is : X → Type 0) →
+    IfOk r (λ x. HasCleanDisk s → IsTrue s.is_open × Is x) → Looks layout s s r Is
+looks_nowhere layout s ready r Is answer = record { ready = ready; honesty = λ clean. clean; same =
+    λ clean live. (live, refl); answer = answer; crash = λ clean trees may. may; endures = endures_itself s }

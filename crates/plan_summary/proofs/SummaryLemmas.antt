@@ -144,7 +144,8 @@ all_unit [] = tt
 all_unit (x ∷ xs) = (tt, all_unit xs)
 
 -- the line of the plan that a book answers of a key
-pub line_there : (w : World) (key : PlanKey) (row : PlanRow) (desk : Text) → desk ≡ string_bytes key.desk → Matches (IsPlanAnswer (view desk w)) (find (has_number key.n) (view desk w).plans) (Some row)
+pub line_there : (w : World) (key : PlanKey) (row : PlanRow) (desk : Text) → desk ≡ string_bytes key.desk →
+    Matches (IsPlanAnswer (view desk w)) (find (has_number key.n) (view desk w).plans) (Some row)
     → line_at w (key_in key) ≡ plan_line (plan_of key row)
 line_there w key row desk is_its h =
     go (plan_in w (string_bytes key.desk) key.n) refl (subst (λ o. Matches (IsPlanAnswer (view (string_bytes key.desk) w)) o (Some row)) (sym (found_in_view w (string_bytes key.desk) key.n))

@@ -3,5 +3,5 @@ use Rattle.plan_calendar.specs.CalendarText.{IsMarkDigit}
 use Rattle.plan_calendar.proofs.marks.are_mark_digits.Given as goal
 
 -- the bytes so far are digits of marks
-abbrev pub invariant-all : goal.invariant-all
-invariant-all l = (k : ℕ) → k < l.k → IsMarkDigit (get_or l.bytes k 0)
+abbrev pub invariant-loop-k : goal.invariant-loop-k
+invariant-loop-k l = (k : ℕ) → k < l.k → IsMarkDigit (get_or l.bytes k 0)

@@ -3,5 +3,5 @@ use Rattle.plan_calendar.specs.Weeks.{marks_before}
 use Rattle.plan_calendar.proofs.weeks.marks_of_week.Given as goal
 
 -- the marks of the days so far are counted
-abbrev pub invariant-week : goal.invariant-week
-invariant-week l = l.count ≡ marks_before l.marks l.weekday l.days
+abbrev pub invariant-loop-days : goal.invariant-loop-days
+invariant-loop-days l = l.count ≡ marks_before l.marks l.weekday l.days

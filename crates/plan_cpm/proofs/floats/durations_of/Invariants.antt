@@ -2,5 +2,5 @@ use Rattle.std.proofs.Common.{◌≡◌, take}
 use Rattle.plan_cpm.proofs.floats.durations_of.Given as goal
 
 -- the durations so far
-abbrev pub invariant-all : goal.invariant-all
-invariant-all l = l.list.items ≡ take l.k l.network.durations
+abbrev pub invariant-loop-k : goal.invariant-loop-k
+invariant-loop-k l = l.list.items ≡ take l.k l.network.durations

@@ -4,5 +4,5 @@ use Rattle.plan_cpm.proofs.MoveLemmas.{AreMoved}
 use Rattle.plan_cpm.proofs.floats.lower_before.Given as goal
 
 -- what stands for the predecessors so far was lowered
-abbrev pub invariant-preds : goal.invariant-preds
-invariant-preds l = AreMoved (λ a b. b ≤ a) (λ j. IsArc l.network j l.k) (λ j. l.start - lag_of l.network j l.k) l.j-items l.m l.fn.nexts.items l.nexts.items
+abbrev pub invariant-loop-m : goal.invariant-loop-m
+invariant-loop-m l = AreMoved (λ a b. b ≤ a) (λ j. IsArc l.network j l.k) (λ j. l.start - lag_of l.network j l.k) l.j-items l.m l.fn.nexts.items l.nexts.items

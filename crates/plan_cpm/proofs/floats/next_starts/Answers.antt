@@ -6,16 +6,18 @@ use Rattle.plan_cpm.proofs.floats.next_starts.Goals.{After-duration}
 use Rattle.plan_cpm.proofs.floats.next_starts.Goals as goal
 
 -- the activity lasts no longer than it takes to its finish
-lasting : (c : After-duration) → c.duration.result ≤ get_or c.args.finishes.now c.all.i 0
+lasting : (c : After-duration) → c.duration.result ≤ get_or c.args.finishes.now c.loop-i.i 0
 lasting c =
-    let same : c.all.i + 1 - 1 ≡ c.all.i = omega arith in
-    let activity : IsActivity c.args.network.now (c.all.i + 1) = (omega arith, omega (arith, c.all-test.true, c.len-i-end.ensures.count)) in
-    let long = lasts c.args.network.now (c.all.i + 1) (get_or c.args.finishes.now (c.all.i + 1 - 1) 0) activity (c.requires.finishes.greatest (c.all.i + 1) activity) in
-    let long' : duration_of c.args.network.now (c.all.i + 1) ≤ get_or c.args.finishes.now c.all.i 0 = subst (λ (x : ℕ). duration_of c.args.network.now (c.all.i + 1) ≤ get_or c.args.finishes.now x 0) same long in
+    let same : c.loop-i.i + 1 - 1 ≡ c.loop-i.i = omega arith in
+    let activity : IsActivity c.args.network.now (c.loop-i.i + 1) = (omega arith, omega (arith, c.loop-i-test.true, c.len-i-end.ensures.count)) in
+    let long = lasts c.args.network.now (c.loop-i.i + 1) (get_or c.args.finishes.now (c.loop-i.i + 1 - 1) 0) activity (c.requires.finishes.greatest (c.loop-i.i + 1) activity) in
+    let long' : duration_of c.args.network.now (c.loop-i.i + 1) ≤ get_or c.args.finishes.now c.loop-i.i 0 =
+        subst (λ (x : ℕ). duration_of c.args.network.now (c.loop-i.i + 1) ≤ get_or c.args.finishes.now x 0)
+        same long in
     omega (arith, long', c.duration.ensures.value)
 
 -- and its start is what is left
-start_is : (c : After-duration) → get_or c.args.finishes.now c.all.i 0 - c.duration.result + duration_of c.args.network.now (c.all.i + 1) ≡ get_or c.args.finishes.now c.all.i 0
+start_is : (c : After-duration) → get_or c.args.finishes.now c.loop-i.i 0 - c.duration.result + duration_of c.args.network.now (c.loop-i.i + 1) ≡ get_or c.args.finishes.now c.loop-i.i 0
 start_is c = omega (arith, lasting c, c.duration.ensures.value)
 
 pub overflow_sub-start : goal.overflow_sub-start
@@ -24,17 +26,19 @@ overflow_sub-start c = lasting (goal.at.overflow_sub-start c).After-duration
 pub lower_before-requires-clause-start : goal.lower_before-requires-clause-start
 lower_before-requires-clause-start c j arc =
     let before = (goal.at.lower_before-requires-clause-start c).After-duration in
-    let same : c.all.i ≡ c.all.i + 1 - 1 = omega arith in
-    lag_at_most_start c.args.network.now c.args.finishes.now j (c.all.i + 1) (get_or c.args.finishes.now c.all.i 0 - c.duration.result) c.len.ensures.sound.limits c.requires.finishes
-    (subst (λ (x : ℕ). get_or c.args.finishes.now c.all.i 0 - c.duration.result + duration_of c.args.network.now (c.all.i + 1) ≡ get_or c.args.finishes.now x 0) same (start_is before)) arc
+    let same : c.loop-i.i ≡ c.loop-i.i + 1 - 1 = omega arith in
+    lag_at_most_start c.args.network.now c.args.finishes.now j (c.loop-i.i + 1) (get_or c.args.finishes.now c.loop-i.i 0 - c.duration.result) c.len.ensures.sound.limits c.requires.finishes
+    (subst (λ (x : ℕ). get_or c.args.finishes.now c.loop-i.i 0 - c.duration.result + duration_of c.args.network.now (c.loop-i.i + 1) ≡ get_or c.args.finishes.now x 0) same (start_is before)) arc
 
-pub all-preserved : goal.all-preserved
-all-preserved c =
-    AreNextStartsOf-more c.args.network.now c.args.finishes.now c.all.nexts.items c.lower_before.new.nexts.items c.args.duration c.all.i (get_or c.args.finishes.now c.all.i 0 - c.duration.result) c.len.ensures.sound.limits
-    (start_is (goal.at.all-preserved c).After-duration) c.lower_before.ensures c.all.invariant
+pub loop-i-preserved : goal.loop-i-preserved
+loop-i-preserved c =
+    AreNextStartsOf-more c.args.network.now c.args.finishes.now c.loop-i.nexts.items
+        c.lower_before.new.nexts.items c.args.duration c.loop-i.i
+        (get_or c.args.finishes.now c.loop-i.i 0 - c.duration.result) c.len.ensures.sound.limits
+    (start_is (goal.at.loop-i-preserved c).After-duration) c.lower_before.ensures c.loop-i.invariant
 
 pub returns : goal.returns
 returns c =
-    let all : c.all.i ≡ count_of c.args.network.now = omega (arith, c.all-test.false, c.len-i-end.ensures.count) in
-    AreNextStarts-whole c.args.network.now c.args.finishes.now c.all.nexts.items c.args.duration c.len.ensures.sound.limits
-    (subst (λ (n : ℕ). AreNextStartsOf c.args.network.now c.args.finishes.now c.args.duration n c.all.nexts.items) all c.all.invariant)
+    let all : c.loop-i.i ≡ count_of c.args.network.now = omega (arith, c.loop-i-test.false, c.len-i-end.ensures.count) in
+    AreNextStarts-whole c.args.network.now c.args.finishes.now c.loop-i.nexts.items c.args.duration c.len.ensures.sound.limits
+    (subst (λ (n : ℕ). AreNextStartsOf c.args.network.now c.args.finishes.now c.args.duration n c.loop-i.nexts.items) all c.loop-i.invariant)

@@ -4,13 +4,13 @@ use Rattle.plan_cpm.proofs.BackLemmas.{AreRests}
 use Rattle.plan_cpm.proofs.passes.tails.Given as goal
 
 -- the tails of the activities from `left` on are greatest lengths, and for the others stands what follows by them
-abbrev pub invariant-back : goal.invariant-back
-invariant-back l = record {
+abbrev pub invariant-loop-left : goal.invariant-loop-left
+invariant-loop-left l = record {
   whole : length l.tails.items ≡ count_of l.network;
   low : l.left ≤ length l.order;
   rests : AreRests l.network l.order l.tails.items l.left;
   bound : (k : ℕ) → get_or l.tails.items k 0 ≤ 20000 * (length l.order - l.left);
 }
 
-abbrev pub decreases-back : goal.decreases-back
-decreases-back l = l.left
+abbrev pub decreases-loop-left : goal.decreases-loop-left
+decreases-loop-left l = l.left

@@ -2,5 +2,5 @@ use Rattle.std.proofs.Common.{◌≡◌, length}
 use Rattle.plan_cpm.proofs.successors.empty_rows.Given as goal
 
 -- so many rows so far
-abbrev pub invariant-rows : goal.invariant-rows
-invariant-rows l = length l.rows.items ≡ l.counter
+abbrev pub invariant-loop : goal.invariant-loop
+invariant-loop l = length l.rows.items ≡ l.counter

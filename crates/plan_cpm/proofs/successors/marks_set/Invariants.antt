@@ -4,8 +4,8 @@ use Rattle.plan_net.specs.Placed.{IsPlaced}
 use Rattle.plan_cpm.proofs.successors.marks_set.Given as goal
 
 -- `count` is how many of the marks so far are set
-abbrev pub invariant-marks : goal.invariant-marks
-invariant-marks l = record {
+abbrev pub invariant-loop-mark : goal.invariant-loop-mark
+invariant-loop-mark l = record {
   counted : (members : List ℕ) × ListsRising (λ k. (1 ≤ k) × (k ≤ l.mark-index) × IsPlaced l.row k) members × (length members ≡ l.count);
   small : l.count ≤ l.mark-index;
 }

@@ -4,8 +4,8 @@ use Rattle.plan_cpm.specs.Reached.{IsReachSoFar}
 use Rattle.plan_cpm.proofs.successors.reach_of.Given as goal
 
 -- the successors so far are marked, with all to which paths lead from them
-abbrev pub invariant-succs : goal.invariant-succs
-invariant-succs l = record {
+abbrev pub invariant-loop-k : goal.invariant-loop-k
+invariant-loop-k l = record {
   far : IsReachSoFar l.network l.j l.row.items;
   met : (m : ℕ) → m < l.k-index → IsPlaced l.row.items (get_or l.k-items m 0);
 }

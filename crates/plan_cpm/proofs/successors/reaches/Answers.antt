@@ -13,19 +13,21 @@ pub reach_of-requires-clause-after : goal.reach_of-requires-clause-after
 reach_of-requires-clause-after c =
     let net = c.args.network.now in
     let order = c.order-order.result.now in
-    let inside : c.back.left - 1 < length order = omega (arith, c.back.invariant.low, c.back-test.true) in
-    subst (λ (rows : List (Vec Bool Global)). AreReachesAfter net (get_or order (c.back.left - 1) 0) rows) (sym c.deref.ensures.value)
-    (succs_done (λ k. IsReach net k (row_at c.back.rows.items (k - 1))) net order (c.back.left - 1) c.len.ensures.sound.limits c.order-order.ensures.least inside (λ p lower within. c.back.invariant.done p (omega (arith, lower)) within))
+    let inside : c.loop-left.left - 1 < length order = omega (arith, c.loop-left.invariant.low, c.loop-left-test.true) in
+    subst (λ (rows : List (Vec Bool Global)). AreReachesAfter net (get_or order (c.loop-left.left - 1) 0) rows) (sym c.deref.ensures.value)
+    (succs_done (λ k. IsReach net k (row_at c.loop-left.rows.items (k - 1))) net order
+        (c.loop-left.left - 1) c.len.ensures.sound.limits c.order-order.ensures.least inside
+        (λ p lower within. c.loop-left.invariant.done p (omega (arith, lower)) within))
 
-pub back-preserved : goal.back-preserved
-back-preserved c =
+pub loop-left-preserved : goal.loop-left-preserved
+loop-left-preserved c =
     let net = c.args.network.now in
     let order = c.order-order.result.now in
-    let rows = c.back.rows.items in
-    let m = c.back.left - 1 in
+    let rows = c.loop-left.rows.items in
+    let m = c.loop-left.left - 1 in
     let j = get_or order m 0 in
-    let inv = c.back.invariant in
-    let inside : m < length order = omega (arith, inv.low, c.back-test.true) in
+    let inv = c.loop-left.invariant in
+    let inside : m < length order = omega (arith, inv.low, c.loop-left-test.true) in
     let activity = c.order-order.ensures.activities m inside in
     let place : j - 1 < length rows = omega (arith, activity, inv.whole) in
     let same : row_at (set rows (j - 1) c.in_ok-row.row) (j - 1) ≡ c.in_ok-row.row.items = row_at-set_same rows (j - 1) c.in_ok-row.row place in
@@ -33,16 +35,21 @@ back-preserved c =
       whole = length-set rows (j - 1) c.in_ok-row.row ∙ inv.whole;
       low = omega (arith, inv.low);
       done = λ p lower within. elim (cases_eq p m) [
-        | inl equal ↦ subst (λ (x : ℕ). IsReach net (get_or order x 0) (row_at (set rows (j - 1) c.in_ok-row.row) (get_or order x 0 - 1))) (sym equal) (subst (IsReach net j) (sym same) c.in_ok-row.ensures)
-        | inr apart ↦ subst (IsReach net (get_or order p 0)) (sym (row_at-set_other rows (get_or order p 0 - 1) (j - 1) c.in_ok-row.row (order_apart net order c.order-order.ensures.least c.order-order.ensures.activities p m within inside apart))) (inv.done p (omega (arith, lower, apart)) within)
+        | inl equal ↦ subst (λ (x : ℕ). IsReach net (get_or order x 0)
+            (row_at (set rows (j - 1) c.in_ok-row.row) (get_or order x 0 - 1))) (sym equal)
+            (subst (IsReach net j) (sym same) c.in_ok-row.ensures)
+        | inr apart ↦ subst (IsReach net (get_or order p 0))
+            (sym (row_at-set_other rows (get_or order p 0 - 1) (j - 1) c.in_ok-row.row
+            (order_apart net order c.order-order.ensures.least c.order-order.ensures.activities p m within
+            inside apart))) (inv.done p (omega (arith, lower, apart)) within)
       ];
     }
 
 pub returns : goal.returns
 returns c = record {
-  whole = c.back.invariant.whole;
+  whole = c.loop-left.invariant.whole;
   each = λ j activity.
       let order = c.order-order.result.now in
       let place = place_in order j (c.order-order.ensures.least.each j activity) in
-      subst (λ (x : ℕ). IsReach c.args.network.now x (row_at c.back.rows.items (x - 1))) place.2 (c.back.invariant.done place.0 (omega (arith, c.back-test.false)) place.1);
+      subst (λ (x : ℕ). IsReach c.args.network.now x (row_at c.loop-left.rows.items (x - 1))) place.2 (c.loop-left.invariant.done place.0 (omega (arith, c.loop-left-test.false)) place.1);
 }

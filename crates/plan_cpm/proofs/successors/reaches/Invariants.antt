@@ -5,12 +5,12 @@ use Rattle.plan_cpm.specs.Reached.{IsReach}
 use Rattle.plan_cpm.proofs.successors.reaches.Given as goal
 
 -- the rows of the activities from `left` on are right
-abbrev pub invariant-back : goal.invariant-back
-invariant-back l = record {
+abbrev pub invariant-loop-left : goal.invariant-loop-left
+invariant-loop-left l = record {
   whole : length l.rows.items ≡ count_of l.network;
   low : l.left ≤ length l.order;
   done : (p : ℕ) → l.left ≤ p → p < length l.order → IsReach l.network (get_or l.order p 0) (row_at l.rows.items (get_or l.order p 0 - 1));
 }
 
-abbrev pub decreases-back : goal.decreases-back
-decreases-back l = l.left
+abbrev pub decreases-loop-left : goal.decreases-loop-left
+decreases-loop-left l = l.left

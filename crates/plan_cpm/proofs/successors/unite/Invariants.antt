@@ -2,8 +2,8 @@ use Rattle.std.proofs.Common.{ℕ, true, false, ◌≡◌, ◌<◌, ◌⊎◌, l
 use Rattle.plan_cpm.proofs.successors.unite.Given as goal
 
 -- the marks so far are those of both rows, and the others as they were
-abbrev pub invariant-marks : goal.invariant-marks
-invariant-marks l = record {
+abbrev pub invariant-loop-k : goal.invariant-loop-k
+invariant-loop-k l = record {
   whole : length l.row.items ≡ length l.initial.row.items;
   kept : (i : ℕ) → get_or l.initial.row.items i false ≡ true → get_or l.row.items i false ≡ true;
   added : (i : ℕ) → i < l.k → get_or l.other i false ≡ true → get_or l.row.items i false ≡ true;

@@ -4,5 +4,5 @@ use Rattle.plan_gantt.specs.Chart as spec
 use Rattle.plan_gantt.proofs.charts.push_cells.Given as goal
 
 -- behind the text stand the cells so far
-abbrev pub invariant-cells : goal.invariant-cells
-invariant-cells l = string_bytes l.text ≡ string_bytes l.fn.text ++ spec.cell_texts l.unit l.intervals l.cell
+abbrev pub invariant-loop-cell : goal.invariant-loop-cell
+invariant-loop-cell l = string_bytes l.text ≡ string_bytes l.fn.text ++ spec.cell_texts l.unit l.intervals l.cell

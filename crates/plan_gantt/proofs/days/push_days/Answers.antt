@@ -13,7 +13,9 @@ returns-clause-days c =
     let start = c.args.interval.start in
     let duration = c.args.interval.duration in
     let some : 0 < duration = omega arith in
-    on_ok_weaker c.push_day-2.result (both_days c.args.calendar.now start duration (start + (duration - 1)) (string_bytes c.args.text.now) (string_bytes c.push_day.new.text) (string_bytes c.push_day-2.new.text) some refl c.in_ok-push_day.ensures.day) c.push_day-2.ensures.day
+    on_ok_weaker c.push_day-2.result (both_days c.args.calendar.now start duration (start + (duration - 1))
+        (string_bytes c.args.text.now) (string_bytes c.push_day.new.text)
+        (string_bytes c.push_day-2.new.text) some refl c.in_ok-push_day.ensures.day) c.push_day-2.ensures.day
 
 pub returns-clause-beyond : goal.returns-clause-beyond
 returns-clause-beyond c is =

@@ -4,5 +4,5 @@ use Rattle.plan_gantt.specs.FaultText.{spaced_numbers}
 use Rattle.plan_gantt.proofs.faults.push_spaced.Given as goal
 
 -- the numbers read so far stand behind the text
-abbrev pub invariant-all : goal.invariant-all
-invariant-all l = string_bytes l.text ≡ string_bytes l.initial.text ++ spaced_numbers (take l.n-index l.numbers)
+abbrev pub invariant-loop-n : goal.invariant-loop-n
+invariant-loop-n l = string_bytes l.text ≡ string_bytes l.initial.text ++ spaced_numbers (take l.n-index l.numbers)

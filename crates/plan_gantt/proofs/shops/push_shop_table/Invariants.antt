@@ -5,5 +5,5 @@ use Rattle.plan_gantt.specs.ShopTable.{shop_line}
 use Rattle.plan_gantt.proofs.shops.push_shop_table.Given as goal
 
 -- behind the heading stand the lines of the steps so far
-abbrev pub invariant-all : goal.invariant-all
-invariant-all l = string_bytes l.text ≡ string_bytes l.initial.text ++ lines_from (shop_line l.shop l.starts) 0 l.x
+abbrev pub invariant-loop-x : goal.invariant-loop-x
+invariant-loop-x l = string_bytes l.text ≡ string_bytes l.initial.text ++ lines_from (shop_line l.shop l.starts) 0 l.x

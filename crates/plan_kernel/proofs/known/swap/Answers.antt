@@ -13,7 +13,10 @@ returns-after-one-len c =
     let literals = c.in-Some.literals in
     let same : IsPermutation literals.items c.if-one-len.literals.items =
     elim c.if-one-len.branch [
-      | then-one-len+then-other-len w ↦ rw w.literals-is (IsPermutation-swap literals.items w.swap.new.self.items c.args.one c.args.other (omega (arith, w.if-one-len.true, c.len-in-Some.ensures)) (omega (arith, w.if-other-len.true, w.len-then-one-len.ensures)) w.swap.ensures.items)
+      | then-one-len+then-other-len w ↦ rw w.literals-is
+          (IsPermutation-swap literals.items w.swap.new.self.items c.args.one c.args.other
+          (omega (arith, w.if-one-len.true, c.len-in-Some.ensures))
+          (omega (arith, w.if-other-len.true, w.len-then-one-len.ensures)) w.swap.ensures.items)
       | else-one-len w ↦ rw w.literals-is (IsPermutation-refl literals.items)
     ] in
     swapped_at c.args.clauses.now.items c.args.clause c.index_mut.result.now c.replace.new.dest literals c.if-one-len.literals (omega (arith, c.if-place-len.false, c.len.ensures))

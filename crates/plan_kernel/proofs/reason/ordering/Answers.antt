@@ -9,6 +9,8 @@ pub returns-then-quantity : goal.returns-then-quantity
 returns-then-quantity c = (
   c.args.order,
   omega (arith, count_is c.args.input.now, c.saturating_add-quantity.ensures, c.len.ensures, c.if-quantity.true),
-  at_read c.args.input.now.orders.items (λ (o : Order). o ≡ c.index-pair.result.now) c.args.order c.index-pair.result.now (omega (arith, c.if-place-len.true, c.len-2.ensures)) c.index-pair.ensures refl no_order,
+  at_read c.args.input.now.orders.items (λ (o : Order). o ≡ c.index-pair.result.now) c.args.order
+      c.index-pair.result.now (omega (arith, c.if-place-len.true, c.len-2.ensures)) c.index-pair.ensures refl
+      no_order,
   c.if-quantity.true,
 )

@@ -5,5 +5,5 @@ use Rattle.plan_net.specs.Limits.{IsGoodArc}
 use Rattle.plan_net.proofs.checks.first_bad_arc.Given as goal
 
 -- the arcs so far have good ends
-abbrev pub invariant-arcs : goal.invariant-arcs
-invariant-arcs l = All (IsGoodArc (unlagged l.durations l.arcs)) (take l.i-index l.arcs)
+abbrev pub invariant-loop-i : goal.invariant-loop-i
+invariant-loop-i l = All (IsGoodArc (unlagged l.durations l.arcs)) (take l.i-index l.arcs)

@@ -2,8 +2,8 @@ use Rattle.std.proofs.Common.{ℕ, ◌≤◌, ◌<◌, length, get_or}
 use Rattle.plan_net.proofs.cycle.place_of_least.Given as goal
 
 -- the least of the members so far stands at `place`
-abbrev pub invariant-members : goal.invariant-members
-invariant-members l = record {
+abbrev pub invariant-loop-k : goal.invariant-loop-k
+invariant-loop-k l = record {
   inside : l.place < length l.members;
   least : (i : ℕ) → i < l.k → get_or l.members l.place 0 ≤ get_or l.members i 0;
 }

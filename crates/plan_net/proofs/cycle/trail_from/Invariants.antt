@@ -7,13 +7,13 @@ use Rattle.plan_net.specs.Trails.{IsTrail}
 use Rattle.plan_net.proofs.cycle.trail_from.Given as goal
 
 -- one comes to `at` over the trail, and the marks are those of its members
-abbrev pub invariant-walk : goal.invariant-walk
-invariant-walk l = record {
+abbrev pub invariant-loop-met : goal.invariant-loop-met
+invariant-loop-met l = record {
   trail : IsTrail l.arcs l.trail.items l.at;
   caught : IsCaught l.arcs l.at;
   whole : length l.met.items ≡ count_of l.arcs;
   marks : (j : ℕ) → IsActivity l.arcs j → IsPlaced l.met.items j ↔ Contains l.trail.items j;
 }
 
-abbrev pub decreases-walk : goal.decreases-walk
-decreases-walk l = open_count l.met.items
+abbrev pub decreases-loop-met : goal.decreases-loop-met
+decreases-loop-met l = open_count l.met.items

@@ -6,11 +6,11 @@ use Rattle.plan_net.proofs.order.least_order.Goals.{In-Some}
 use Rattle.plan_net.proofs.order.least_order.Goals as goal
 
 -- the activity that comes next
-ready : (c : In-Some) → IsLeast (IsReady c.args.arcs.now c.turns.placed.items) c.in-Some.j
+ready : (c : In-Some) → IsLeast (IsReady c.args.arcs.now c.loop-j.placed.items) c.in-Some.j
 ready c = subst (λ (placed : List Bool). IsLeast (IsReady c.args.arcs.now placed) c.in-Some.j) c.deref.ensures.value c.in-Some.ensures.some
 
-pub turns-init : goal.turns-init
-turns-init c =
+pub loop-j-init : goal.loop-j-init
+loop-j-init c =
     let marks : c.in_ok-placed.placed.items ≡ replicate c.len.result false = c.in_ok-placed.ensures.items_if_clones_equal (λ y e. e) in
     record {
       order = subst (λ (order : List ℕ). IsPlacedOrder c.args.arcs.now order c.in_ok-placed.placed.items) (sym c.new-order.ensures.items)
@@ -21,22 +21,24 @@ turns-init c =
 
 pub next_from-first-requires-clause-below : goal.next_from-first-requires-clause-below
 next_from-first-requires-clause-below c =
-    let below : IsStuckBelow c.args.arcs.now c.turns.placed.items c.in-Some.j = subst (λ (placed : List Bool). IsStuckBelow c.args.arcs.now placed c.in-Some.j) c.deref.ensures.value c.in-Some.ensures.below in
+    let below : IsStuckBelow c.args.arcs.now c.loop-j.placed.items c.in-Some.j =
+        subst (λ (placed : List Bool). IsStuckBelow c.args.arcs.now placed c.in-Some.j) c.deref.ensures.value
+        c.in-Some.ensures.below in
     subst (λ (placed : List Bool). IsStuckBelowBut c.args.arcs.now placed c.in-Some.j) (sym c.deref-in-Some.ensures.value)
-    (IsStuckBelowBut-placed c.args.arcs.now c.turns.placed.items c.in-Some.j c.len.ensures.limits (ready (goal.at.next_from-first-requires-clause-below c).In-Some).0.0 below)
+    (IsStuckBelowBut-placed c.args.arcs.now c.loop-j.placed.items c.in-Some.j c.len.ensures.limits (ready (goal.at.next_from-first-requires-clause-below c).In-Some).0.0 below)
 
-pub turns-smaller : goal.turns-smaller
-turns-smaller c =
-    let here = ready (goal.at.turns-smaller c).In-Some in
-    let whole : length c.turns.placed.items ≡ count_of c.args.arcs.now = c.turns.invariant.order.whole in
-    let within : c.in-Some.j - 1 < length c.turns.placed.items = omega (arith, here.0.0) in
-    let falls : open_count (set c.turns.placed.items (c.in-Some.j - 1) true) + 1 ≡ open_count c.turns.placed.items = open_count-set c.turns.placed.items (c.in-Some.j - 1) within here.0.1 in
+pub loop-j-smaller : goal.loop-j-smaller
+loop-j-smaller c =
+    let here = ready (goal.at.loop-j-smaller c).In-Some in
+    let whole : length c.loop-j.placed.items ≡ count_of c.args.arcs.now = c.loop-j.invariant.order.whole in
+    let within : c.in-Some.j - 1 < length c.loop-j.placed.items = omega (arith, here.0.0) in
+    let falls : open_count (set c.loop-j.placed.items (c.in-Some.j - 1) true) + 1 ≡ open_count c.loop-j.placed.items = open_count-set c.loop-j.placed.items (c.in-Some.j - 1) within here.0.1 in
     omega (arith, falls)
 
-pub turns-preserved : goal.turns-preserved
-turns-preserved c = record {
-  order = subst (λ (order : List ℕ). IsPlacedOrder c.args.arcs.now order (set c.turns.placed.items (c.in-Some.j - 1) true)) (sym c.in_ok-push.ensures.items)
-      (IsPlacedOrder-push c.args.arcs.now c.turns.order.items c.turns.placed.items c.in-Some.j c.len.ensures.limits c.turns.invariant.order (ready (goal.at.turns-preserved c).In-Some));
+pub loop-j-preserved : goal.loop-j-preserved
+loop-j-preserved c = record {
+  order = subst (λ (order : List ℕ). IsPlacedOrder c.args.arcs.now order (set c.loop-j.placed.items (c.in-Some.j - 1) true)) (sym c.in_ok-push.ensures.items)
+      (IsPlacedOrder-push c.args.arcs.now c.loop-j.order.items c.loop-j.placed.items c.in-Some.j c.len.ensures.limits c.loop-j.invariant.order (ready (goal.at.loop-j-preserved c).In-Some));
   first = c.next_from-first.ensures.first;
   below = subst (λ (placed : List Bool). IsStuckBelow c.args.arcs.now placed c.next_from-first.result) c.deref-in-Some.ensures.value c.next_from-first.ensures.below;
 }

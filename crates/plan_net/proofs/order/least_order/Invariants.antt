@@ -3,12 +3,12 @@ use Rattle.plan_net.specs.Placed.{IsPlacedOrder, IsStuckBelow, open_count}
 use Rattle.plan_net.proofs.order.least_order.Given as goal
 
 -- the activities placed so far came as the least that could, and none below `first` can come
-abbrev pub invariant-turns : goal.invariant-turns
-invariant-turns l = record {
+abbrev pub invariant-loop-j : goal.invariant-loop-j
+invariant-loop-j l = record {
   order : IsPlacedOrder l.arcs l.order.items l.placed.items;
   first : 1 ≤ l.first;
   below : IsStuckBelow l.arcs l.placed.items l.first;
 }
 
-abbrev pub decreases-turns : goal.decreases-turns
-decreases-turns l = open_count l.placed.items
+abbrev pub decreases-loop-j : goal.decreases-loop-j
+decreases-loop-j l = open_count l.placed.items

@@ -2,5 +2,5 @@ use Rattle.plan_net.specs.Placed.{IsStuckBelow}
 use Rattle.plan_net.proofs.order.least_ready.Given as goal
 
 -- each open activity so far has an open predecessor
-abbrev pub invariant-activities : goal.invariant-activities
-invariant-activities l = IsStuckBelow l.arcs l.placed l.j
+abbrev pub invariant-loop-j : goal.invariant-loop-j
+invariant-loop-j l = IsStuckBelow l.arcs l.placed l.j

@@ -7,10 +7,12 @@ use Rattle.plan_net.proofs.order.open_pred.Goals as goal
 
 pub returns-then-not-placed-i-clause-some : goal.returns-then-not-placed-i-clause-some
 returns-then-not-placed-i-clause-some c =
-    least_of_rising (λ i. IsArc c.args.arcs.now i c.args.j) (IsOpen c.args.placed.now) c.preds-i-items.result.now c.preds.i-index c.preds-i-items.ensures.exact c.preds-test.true c.if-not-placed-i.true
-    (λ k before is_open. false≢true (sym is_open ∙ c.preds.invariant k before))
+    least_of_rising (λ i. IsArc c.args.arcs.now i c.args.j)
+        (IsOpen c.args.placed.now) c.preds-i-items.result.now c.loop-i.i-index c.preds-i-items.ensures.exact
+        c.loop-i-test.true c.if-not-placed-i.true
+    (λ k before is_open. false≢true (sym is_open ∙ c.loop-i.invariant k before))
 
 pub returns-clause-none : goal.returns-clause-none
 returns-clause-none c =
     each_of_rising (λ i. IsArc c.args.arcs.now i c.args.j) (IsPlaced c.args.placed.now) c.preds-i-items.result.now c.preds-i-items.ensures.exact
-    (λ k within. c.preds.invariant k (omega (arith, c.preds-test.false)))
+    (λ k within. c.loop-i.invariant k (omega (arith, c.loop-i-test.false)))

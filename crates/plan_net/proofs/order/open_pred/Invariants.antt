@@ -3,5 +3,5 @@ use Rattle.plan_net.specs.Placed.{IsPlaced}
 use Rattle.plan_net.proofs.order.open_pred.Given as goal
 
 -- the predecessors so far are placed
-abbrev pub invariant-preds : goal.invariant-preds
-invariant-preds l = (k : ℕ) → k < l.i-index → IsPlaced l.placed (get_or l.i-items k 0)
+abbrev pub invariant-loop-i : goal.invariant-loop-i
+invariant-loop-i l = (k : ℕ) → k < l.i-index → IsPlaced l.placed (get_or l.i-items k 0)

@@ -4,8 +4,8 @@ use Rattle.plan_net.specs.Indexed.{row_at}
 use Rattle.plan_net.proofs.tables.no_marks.Given as goal
 
 -- the rows so far are whole and have no mark
-abbrev pub invariant-rows : goal.invariant-rows
-invariant-rows l = record {
+abbrev pub invariant-loop : goal.invariant-loop
+invariant-loop l = record {
   rows : length l.marks.items ≡ l.counter;
   columns : (k : ℕ) → k < length l.marks.items → length (row_at l.marks.items k) ≡ l.count;
   empty : HasNoMark l.marks.items;

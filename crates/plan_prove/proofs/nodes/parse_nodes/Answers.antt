@@ -8,7 +8,9 @@ pub returns-then-not-begins_above_zero-clause-refused : goal.returns-then-not-be
 returns-then-not-begins_above_zero-clause-refused c = (refl, not_above c.args.text.now (λ above. false≢true (subst IsTrue c.if-not-begins_above_zero.true (c.begins_above_zero.ensures.no above))))
 
 pub returns-in-Ok-clause-ok : goal.returns-in-Ok-clause-ok
-returns-in-Ok-clause-ok c = positive c.args.text.now c.parse.result c.in-Ok.nodes c.parse.ensures.value.0 (c.begins_above_zero.ensures.yes c.if-not-begins_above_zero.false) c.in-Ok.is c.if-nodes-le-MOST_NODES.true
+returns-in-Ok-clause-ok c = positive c.args.text.now c.parse.result c.in-Ok.nodes c.parse.ensures.value.0
+    (c.begins_above_zero.ensures.yes c.if-not-begins_above_zero.false) c.in-Ok.is
+    c.if-nodes-le-MOST_NODES.true
 
 pub returns-in_default-clause-refused : goal.returns-in_default-clause-refused
 returns-in_default-clause-refused c = (refl, too_great c.args.text.now c.parse.result c.in-Ok.nodes c.parse.ensures.value.0 c.in-Ok.is c.if-nodes-le-MOST_NODES.false)

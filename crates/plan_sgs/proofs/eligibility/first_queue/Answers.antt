@@ -28,4 +28,6 @@ pub returns-clause-queue : goal.returns-clause-queue
 returns-clause-queue c = c.loop-i.invariant.queue
 
 pub returns-clause-free : goal.returns-clause-free
-returns-clause-free c = queued_all c.args.keys.now c.args.waits.now c.loop-i.i (heap_items c.loop-i.queue) c.loop-i.invariant (omega (arith, c.loop-i-test.false, c.len-i-end.ensures.count, c.requires.waits))
+returns-clause-free c = queued_all c.args.keys.now c.args.waits.now c.loop-i.i
+    (heap_items c.loop-i.queue) c.loop-i.invariant
+    (omega (arith, c.loop-i-test.false, c.len-i-end.ensures.count, c.requires.waits))

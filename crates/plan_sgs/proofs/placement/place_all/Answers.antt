@@ -13,7 +13,10 @@ pub place_next-requires-clause-activity : goal.place_next-requires-clause-activi
 place_next-requires-clause-activity c =
     let p = problem_of c.args.instance.now in
     let js = places c.args.list.now in
-    let next = run_open p js c.loop-j.j-index c.loop-j.placed.items (bounded c.args.instance.now c.requires.instance) (list_parts p js c.requires.list.1).0 c.loop-j.invariant.run (omega (arith, c.loop-j-test.true, length-places c.args.list.now)) in
+    let next = run_open p js c.loop-j.j-index c.loop-j.placed.items
+        (bounded c.args.instance.now c.requires.instance)
+        (list_parts p js c.requires.list.1).0 c.loop-j.invariant.run
+        (omega (arith, c.loop-j-test.true, length-places c.args.list.now)) in
     let first : 1 ≤ get_or c.args.list.now c.loop-j.j-index 0 = c.requires.list.0 c.loop-j.j-index 0 c.loop-j-test.true in
     (first, omega (arith, first, next.inside, entry_place c.args.list.now c.loop-j.j-index c.loop-j-test.true, count-problem c.args.instance.now))
 
@@ -21,7 +24,10 @@ pub place_next-requires-clause-open : goal.place_next-requires-clause-open
 place_next-requires-clause-open c =
     let p = problem_of c.args.instance.now in
     let js = places c.args.list.now in
-    let next = run_open p js c.loop-j.j-index c.loop-j.placed.items (bounded c.args.instance.now c.requires.instance) (list_parts p js c.requires.list.1).0 c.loop-j.invariant.run (omega (arith, c.loop-j-test.true, length-places c.args.list.now)) in
+    let next = run_open p js c.loop-j.j-index c.loop-j.placed.items
+        (bounded c.args.instance.now c.requires.instance)
+        (list_parts p js c.requires.list.1).0 c.loop-j.invariant.run
+        (omega (arith, c.loop-j-test.true, length-places c.args.list.now)) in
     subst (λ (x : ℕ). get_or c.loop-j.placed.items x None ≡ None) (entry_place c.args.list.now c.loop-j.j-index c.loop-j-test.true) next.none
 
 pub place_next-requires-clause-partial : goal.place_next-requires-clause-partial
@@ -30,7 +36,10 @@ place_next-requires-clause-partial c =
     let js = places c.args.list.now in
     record {
       size = c.loop-j.invariant.run.size;
-      ends = (run_open p js c.loop-j.j-index c.loop-j.placed.items (bounded c.args.instance.now c.requires.instance) (list_parts p js c.requires.list.1).0 c.loop-j.invariant.run (omega (arith, c.loop-j-test.true, length-places c.args.list.now))).ends;
+      ends = (run_open p js c.loop-j.j-index c.loop-j.placed.items
+          (bounded c.args.instance.now c.requires.instance)
+          (list_parts p js c.requires.list.1).0 c.loop-j.invariant.run
+          (omega (arith, c.loop-j-test.true, length-places c.args.list.now))).ends;
     }
 
 pub loop-j-init : goal.loop-j-init
@@ -44,9 +53,13 @@ loop-j-preserved c =
     let p = problem_of c.args.instance.now in
     let js = places c.args.list.now in
     let more : IsRun (problem_of c.args.instance.now) (places c.args.list.now) (c.loop-j.j-index + 1)
-    (set c.loop-j.placed.items (get_or (places c.args.list.now) c.loop-j.j-index 0) (Some (earliest (problem_of c.args.instance.now) c.loop-j.placed.items (get_or (places c.args.list.now) c.loop-j.j-index 0)))) =
+    (set c.loop-j.placed.items (get_or (places c.args.list.now) c.loop-j.j-index 0)
+        (Some (earliest (problem_of c.args.instance.now) c.loop-j.placed.items
+        (get_or (places c.args.list.now) c.loop-j.j-index 0)))) =
     run_more p js c.loop-j.j-index c.loop-j.placed.items (bounded c.args.instance.now c.requires.instance) c.loop-j.invariant.run (omega (arith, c.loop-j-test.true, length-places c.args.list.now)) in
-    let here = subst (λ (x : ℕ). IsRun (problem_of c.args.instance.now) (places c.args.list.now) (c.loop-j.j-index + 1) (set c.loop-j.placed.items x (Some (earliest (problem_of c.args.instance.now) c.loop-j.placed.items x))))
+    let here = subst (λ (x : ℕ). IsRun (problem_of c.args.instance.now) (places c.args.list.now)
+        (c.loop-j.j-index + 1) (set c.loop-j.placed.items x
+        (Some (earliest (problem_of c.args.instance.now) c.loop-j.placed.items x))))
     (entry_place c.args.list.now c.loop-j.j-index c.loop-j-test.true) more in
     record {
       run = subst (IsRun p js (c.loop-j.j-index + 1)) (sym c.in_ok-place_next.ensures.ok) here;
@@ -57,11 +70,16 @@ pub returns-clause-ok : goal.returns-clause-ok
 returns-clause-ok c =
     let p = problem_of c.args.instance.now in
     let js = places c.args.list.now in
-    let all = run_ends p js c.loop-j.j-index c.loop-j.placed.items (bounded c.args.instance.now c.requires.instance) (list_parts p js c.requires.list.1).0 c.loop-j.invariant.run (omega (arith, c.loop-j-test.false, length-places c.args.list.now)) in
+    let all = run_ends p js c.loop-j.j-index c.loop-j.placed.items
+        (bounded c.args.instance.now c.requires.instance)
+        (list_parts p js c.requires.list.1).0 c.loop-j.invariant.run
+        (omega (arith, c.loop-j-test.false, length-places c.args.list.now)) in
     all.0 ∙ ap (λ (xs : List (Option ℕ)). serial_from (problem_of c.args.instance.now) xs (places c.args.list.now)) (sym c.requires.none)
 
 pub returns-clause-ends : goal.returns-clause-ends
 returns-clause-ends c =
     let p = problem_of c.args.instance.now in
     let js = places c.args.list.now in
-    (run_ends p js c.loop-j.j-index c.loop-j.placed.items (bounded c.args.instance.now c.requires.instance) (list_parts p js c.requires.list.1).0 c.loop-j.invariant.run (omega (arith, c.loop-j-test.false, length-places c.args.list.now))).1
+    (run_ends p js c.loop-j.j-index c.loop-j.placed.items (bounded c.args.instance.now c.requires.instance)
+        (list_parts p js c.requires.list.1).0 c.loop-j.invariant.run
+        (omega (arith, c.loop-j-test.false, length-places c.args.list.now))).1

@@ -24,4 +24,6 @@ returns g c =
     let name = c.args.name.now in
     let body = c.args.body.now in
     let next = subst (IsNextNumber old desk) (sym c.in_ok-n.ensures.same) c.requires.next in
-    changes_as old new (numbered_plan desk n kind name body) (apply desk (AddPlan kind name body)) (numbered_now old c.requires.ready desk n next kind name body) c.add_numbered.result c.add_numbered.ensures
+    changes_as old new (numbered_plan desk n kind name body) (apply desk (AddPlan kind name body))
+        (numbered_now old c.requires.ready desk n next kind name body) c.add_numbered.result
+        c.add_numbered.ensures

@@ -27,7 +27,9 @@ made office codes desks plans binds lags = record {
 }
 
 -- the rows that are lent are those that were read
-lent : (it : OtherRows) (codes : List CodeRow) (desks : List DeskRecord) (binds : List BindRecord) (lags : List LagRecord) → codes ≡ it.published.items → desks ≡ it.desks.items → binds ≡ it.binds.items → lags ≡ it.lags.items
+lent : (it : OtherRows) (codes : List CodeRow) (desks : List DeskRecord) (binds : List BindRecord)
+    (lags : List LagRecord) → codes ≡ it.published.items → desks ≡ it.desks.items → binds ≡ it.binds.items →
+    lags ≡ it.lags.items
     → (plans : List Plan) → made it.office codes desks plans binds lags ≡ world_others it plans
 lent it codes desks binds lags a b d e plans = λ i. made it.office (a i) (b i) plans (d i) (e i)
 
@@ -40,7 +42,9 @@ pub returns-in_err-review : goal.returns-in_err-review
 returns-in_err-review g c = looks_nowhere c.args.layout (state g.S.Store c.args.conn.now) c.requires.ready _ _ (if_err _ _ c.from_residual.result c.from_residual.ensures.1)
 
 pub returns-in_err-review_plans : goal.returns-in_err-review_plans
-returns-in_err-review_plans g c = looks_again c.args.layout (state g.S.Store c.args.conn.now) (state g.S.Store c.review_plans.new.conn) c.review_plans.result _ _ _ c.review_plans.ensures.looks (if_err _ _ c.from_residual-in_err-review_plans.result c.from_residual-in_err-review_plans.ensures.1)
+returns-in_err-review_plans g c = looks_again c.args.layout (state g.S.Store c.args.conn.now)
+    (state g.S.Store c.review_plans.new.conn) c.review_plans.result _ _ _ c.review_plans.ensures.looks
+    (if_err _ _ c.from_residual-in_err-review_plans.result c.from_residual-in_err-review_plans.ensures.1)
 
 pub returns-then-not-branch : goal.returns-then-not-branch
 returns-then-not-branch g c =
@@ -51,7 +55,9 @@ returns-then-not-branch g c =
     (λ laid holds h. untold c.args.layout old laid c.args.others.now holds review (subst (ReviewsPlans (old.now.trees 5) review) c.if-not-branch.true h)) c.in_ok-review_plans.ensures.looks
 
 pub returns-in_err-is_world : goal.returns-in_err-is_world
-returns-in_err-is_world g c = looks_again c.args.layout (state g.S.Store c.args.conn.now) (state g.S.Store c.review_plans.new.conn) c.review_plans.result _ _ _ c.review_plans.ensures.looks (if_err _ _ c.from_residual-in_err-is_world.result c.from_residual-in_err-is_world.ensures.1)
+returns-in_err-is_world g c = looks_again c.args.layout (state g.S.Store c.args.conn.now)
+    (state g.S.Store c.review_plans.new.conn) c.review_plans.result _ _ _ c.review_plans.ensures.looks
+    (if_err _ _ c.from_residual-in_err-is_world.result c.from_residual-in_err-is_world.ensures.1)
 
 pub returns : goal.returns
 returns g c =
@@ -61,6 +67,11 @@ returns g c =
     let it = c.args.others.now in
     let from : (plans : List Plan) → world_beside review.beside plans ≡ made it.office c.as_slice.result.now c.as_slice-2.result.now plans c.as_slice-3.result.now c.as_slice-4.result.now =
     λ plans. ap (λ (b : Beside). world_beside b plans) (c.review_plans.ensures.same ∙ c.in_ok-review.ensures.beside) in
-    let whole : (plans : List Plan) → world_beside review.beside plans ≡ world_others it plans = λ plans. from plans ∙ lent it c.as_slice.result.now c.as_slice-2.result.now c.as_slice-3.result.now c.as_slice-4.result.now c.as_slice.ensures.value c.as_slice-2.ensures.value c.as_slice-3.ensures.value c.as_slice-4.ensures.value plans in
+    let whole : (plans : List Plan) → world_beside review.beside plans ≡ world_others it plans =
+        λ plans. from plans ∙ lent it c.as_slice.result.now c.as_slice-2.result.now c.as_slice-3.result.now
+        c.as_slice-4.result.now c.as_slice.ensures.value c.as_slice-2.ensures.value c.as_slice-3.ensures.value
+        c.as_slice-4.ensures.value plans in
     judged c.args.layout old new c.requires.ready it c.requires.others c.in_ok-review_plans.field-0 (ReviewsPlans (old.now.trees 5) review) _
-    (λ laid holds h. told c.args.layout old laid it holds review whole c.in_ok-is_world.field-0 c.in_ok-is_world.ensures (subst (ReviewsPlans (old.now.trees 5) review) c.if-not-branch.false h)) c.in_ok-review_plans.ensures.looks
+    (λ laid holds h. told c.args.layout old laid it holds review whole c.in_ok-is_world.field-0
+        c.in_ok-is_world.ensures (subst (ReviewsPlans (old.now.trees 5) review) c.if-not-branch.false h))
+        c.in_ok-review_plans.ensures.looks

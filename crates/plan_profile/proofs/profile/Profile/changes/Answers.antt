@@ -13,7 +13,10 @@ unfolding in_use capacities
 returns-clause-exact c =
     let rows = lists (length c.args.self.now.caps.items) c.args.self.now.changes.items c.args.self.now.rows.items in
     rw c.deref.ensures.value (λ t. (
-      λ there. change_from_there c.args.self.now.changes.items rows (length c.args.self.now.caps.items) t c.args.self.now.steps (first_wide (length c.args.self.now.caps.items) c.args.self.now.changes.items c.args.self.now.rows.items c.args.self.now.wide) c.args.self.now.true_changes there,
+      λ there. change_from_there c.args.self.now.changes.items rows
+          (length c.args.self.now.caps.items) t c.args.self.now.steps
+          (first_wide (length c.args.self.now.caps.items) c.args.self.now.changes.items
+          c.args.self.now.rows.items c.args.self.now.wide) c.args.self.now.true_changes there,
       λ change. there_from_change c.args.self.now.changes.items rows (length c.args.self.now.caps.items) t c.args.self.now.steps change,
     ))
 

@@ -34,7 +34,9 @@ returns-then-index-start c =
     let read = get_or_default c.args.self.now.changes.items (c.loop-i.i - 1) c.index.result.now 0 (omega arith) in
     let later = beyond c.args.self.now.changes.items c.args.start (c.loop-i.i - 1) c.args.self.now.steps.rising (omega arith) (omega arith) in
     let is = c.index.ensures in (
-      λ _. fits_before c.args.self.now.caps.items c.args.self.now.changes.items rows c.args.needs.now c.args.start c.args.d c.loop-i.i c.args.self.now.steps.rising c.loop-i.invariant (omega arith) (omega arith) (omega arith),
+      λ _. fits_before c.args.self.now.caps.items c.args.self.now.changes.items rows c.args.needs.now
+          c.args.start c.args.d c.loop-i.i c.args.self.now.steps.rising c.loop-i.invariant (omega arith)
+          (omega arith) (omega arith),
       λ _. refl,
     )
 

@@ -13,7 +13,9 @@ invariant-loop-line l = record {
   jobs : noted_or (option_map numbered_line l.jobs) (key_line (codes "jobs") (rows is_kept is_title l.lines)) ≡ key_line (codes "jobs") (head_of l.text);
   renewable : noted_or (option_map numbered_line l.renewable) (key_line (codes "- renewable") (rows is_kept is_title l.lines)) ≡ key_line (codes "- renewable") (head_of l.text);
   nonrenewable : noted_or (option_map numbered_line l.nonrenewable) (key_line (codes "- nonrenewable") (rows is_kept is_title l.lines)) ≡ key_line (codes "- nonrenewable") (head_of l.text);
-  doubly_constrained : noted_or (option_map numbered_line l.doubly_constrained) (key_line (codes "- doubly constrained") (rows is_kept is_title l.lines)) ≡ key_line (codes "- doubly constrained") (head_of l.text);
+  doubly_constrained : noted_or (option_map numbered_line l.doubly_constrained)
+      (key_line (codes "- doubly constrained") (rows is_kept is_title l.lines)) ≡ key_line
+      (codes "- doubly constrained") (head_of l.text);
 }
 
 abbrev pub decreases-loop-line : goal.decreases-loop-line

@@ -11,7 +11,9 @@ use Rattle.plan_psplib.proofs.sm.precedence.precedence_rows.Goals as goal
 pub returns-in_err-row-clause-exact : goal.returns-in_err-row-clause-exact
 returns-in_err-row-clause-exact c =
     let error = err_from_is_err_and c.from_residual-in_err-row.result c.from_residual-in_err-row.ensures.1 in
-    rw (error.1, error.2) (rows_fail c.args.jobs c.in_err-row.field-0.0 c.args.jobs c.loop-done.done _ (arcs_of_rows 1 (rows_in c.loop-done.rows.items)) c.loop-done.words _ c.loop-done-test.true c.in_err-row.ensures c.loop-done.invariant.reads)
+    rw (error.1, error.2) (rows_fail c.args.jobs c.in_err-row.field-0.0 c.args.jobs c.loop-done.done _
+        (arcs_of_rows 1 (rows_in c.loop-done.rows.items)) c.loop-done.words _ c.loop-done-test.true
+        c.in_err-row.ensures c.loop-done.invariant.reads)
 
 pub loop-done-preserved : goal.loop-done-preserved
 loop-done-preserved c =
@@ -25,7 +27,10 @@ loop-done-preserved c =
     record {
       reads = rw pushed (rows_behind n done lists row c.precedence_row.new.words _ _ c.loop-done.invariant.whole behind);
       whole = ap length pushed ∙ length_push lists row ∙ ap (λ (k : ℕ). k + 1) c.loop-done.invariant.whole;
-      each = subst (λ (ls : List (Vec ℕ Global)). AllByRecursion (IsRow n) (rows_in ls)) (sym pushed) (each_push n lists row c.loop-done.invariant.each (row_is_row n (done + 1) c.loop-done.words c.precedence_row.new.words row.items c.in_ok-row.ensures));
+      each = subst (λ (ls : List (Vec ℕ Global)). AllByRecursion (IsRow n) (rows_in ls)) (sym pushed)
+          (each_push n lists row c.loop-done.invariant.each
+          (row_is_row n (done + 1) c.loop-done.words c.precedence_row.new.words row.items
+          c.in_ok-row.ensures));
     }
 
 pub returns-clause-exact : goal.returns-clause-exact

@@ -5,7 +5,9 @@ use Rattle.plan_psplib.proofs.sm.requests.request_rows.Given as goal
 -- the others read behind the rows so far are the whole, and total is what those rows add up to
 abbrev pub invariant-loop-done : goal.invariant-loop-done
 invariant-loop-done l = record {
-  reads : request_rows_at l.resources (l.jobs - l.done) (l.done + 1) (record { durations = l.durations.items; needs = map (λ row. row.items) l.needs.items }) l.words ≡ request_rows_at l.resources l.jobs 1 (record { durations = []; needs = [] }) l.fn.words;
+  reads : request_rows_at l.resources (l.jobs - l.done) (l.done + 1)
+      (record { durations = l.durations.items; needs = map (λ row. row.items) l.needs.items }) l.words ≡
+      request_rows_at l.resources l.jobs 1 (record { durations = []; needs = [] }) l.fn.words;
   total : l.total ≡ sum l.durations.items;
   fits : l.total ≤ 1000000;
 }

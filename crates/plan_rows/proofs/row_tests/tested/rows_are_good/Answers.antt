@@ -10,16 +10,24 @@ use Rattle.plan_rows.proofs.ReviewLemmas.{seen_owned}
 use Rattle.plan_rows.proofs.row_tests.tested.rows_are_good.Goals as goal
 
 pub returns-then-not-all_good : goal.returns-then-not-all_good
-returns-then-not-all_good c = λ known are good. good_untold published_in (λ row. is_published_row row ≡ true) c.args.beside.now.published.now refl (c.all_good.ensures known are) c.if-not-all_good.true good.published
+returns-then-not-all_good c = λ known are good. good_untold published_in
+    (λ row. is_published_row row ≡ true) c.args.beside.now.published.now refl
+    (c.all_good.ensures known are) c.if-not-all_good.true good.published
 
 pub returns-then-not-all_good-2 : goal.returns-then-not-all_good-2
-returns-then-not-all_good-2 c = λ known are good. good_untold desk_kept (IsDeskOf (world_beside c.args.beside.now known)) c.args.beside.now.desks.now refl (c.all_good-2.ensures known are) c.if-not-all_good-2.true good.desks
+returns-then-not-all_good-2 c = λ known are good. good_untold desk_kept
+    (IsDeskOf (world_beside c.args.beside.now known)) c.args.beside.now.desks.now refl
+    (c.all_good-2.ensures known are) c.if-not-all_good-2.true good.desks
 
 pub returns-then-not-all_good-3 : goal.returns-then-not-all_good-3
-returns-then-not-all_good-3 c = λ known are good. tells_false _ c.if-not-all_good-3.true (seen_owned (world_beside c.args.beside.now known) known c.args.plans.now are _ (c.all_good-3.ensures known are)) good.plans
+returns-then-not-all_good-3 c = λ known are good. tells_false _ c.if-not-all_good-3.true
+    (seen_owned (world_beside c.args.beside.now known) known c.args.plans.now are _
+    (c.all_good-3.ensures known are)) good.plans
 
 pub returns-then-not-all_good-4 : goal.returns-then-not-all_good-4
-returns-then-not-all_good-4 c = λ known are good. good_untold bind_kept (IsBindRow (world_beside c.args.beside.now known)) c.args.beside.now.binds.now refl (c.all_good-4.ensures known are) c.if-not-all_good-4.true good.binds
+returns-then-not-all_good-4 c = λ known are good. good_untold bind_kept
+    (IsBindRow (world_beside c.args.beside.now known)) c.args.beside.now.binds.now refl
+    (c.all_good-4.ensures known are) c.if-not-all_good-4.true good.binds
 
 pub returns : goal.returns
 returns c = λ known are.

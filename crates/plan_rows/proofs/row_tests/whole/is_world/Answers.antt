@@ -26,13 +26,17 @@ made office codes desks plans binds lags = record {
 }
 
 -- the rows that are lent are those of the tables
-lent : (t : Tables) (codes : List CodeRow) (desks : List DeskRecord) (binds : List BindRecord) (lags : List LagRecord) → codes ≡ t.published.items → desks ≡ t.desks.items → binds ≡ t.binds.items → lags ≡ t.lags.items
+lent : (t : Tables) (codes : List CodeRow) (desks : List DeskRecord) (binds : List BindRecord)
+    (lags : List LagRecord) → codes ≡ t.published.items → desks ≡ t.desks.items → binds ≡ t.binds.items →
+    lags ≡ t.lags.items
     → made t.office codes desks (map plan_kept t.plans.items) binds lags ≡ world_kept t
 lent t codes desks binds lags a b d e = λ i. made t.office (a i) (b i) (map plan_kept t.plans.items) (d i) (e i)
 
 pub returns-then-not-branch : goal.returns-then-not-branch
 returns-then-not-branch c = λ world.
-    match_false (HasReviewed (map plan_kept c.as_slice-5.result.now) c.review_all.new.review) (AllByRecursion IsPlanRow (map plan_kept c.as_slice-5.result.now) → ⊥) c.if-not-branch.true c.in_ok-review_all.ensures.told
+    match_false (HasReviewed (map plan_kept c.as_slice-5.result.now) c.review_all.new.review)
+        (AllByRecursion IsPlanRow (map plan_kept c.as_slice-5.result.now) → ⊥) c.if-not-branch.true
+        c.in_ok-review_all.ensures.told
     (subst (λ l. AllByRecursion IsPlanRow (map plan_kept l)) (sym c.as_slice-5.ensures.value) world.plans)
 
 pub returns : goal.returns
@@ -40,9 +44,13 @@ returns c =
     let t = c.args.tables.now in
     let plans = map plan_kept t.plans.items in
     let reviewed = subst (λ l. HasReviewed (map plan_kept l) c.review_all.new.review) c.as_slice-5.ensures.value
-    (match_true (HasReviewed (map plan_kept c.as_slice-5.result.now) c.review_all.new.review) (AllByRecursion IsPlanRow (map plan_kept c.as_slice-5.result.now) → ⊥) c.if-not-branch.false c.in_ok-review_all.ensures.told) in
+    (match_true (HasReviewed (map plan_kept c.as_slice-5.result.now) c.review_all.new.review)
+        (AllByRecursion IsPlanRow (map plan_kept c.as_slice-5.result.now) → ⊥) c.if-not-branch.false
+        c.in_ok-review_all.ensures.told) in
     let from : world_beside c.review_all.new.review.beside plans ≡ made t.office c.as_slice.result.now c.as_slice-2.result.now plans c.as_slice-3.result.now c.as_slice-4.result.now =
     ap (λ (b : Beside). world_beside b plans) (c.in_ok-review_all.ensures.same ∙ c.in_ok-review.ensures.beside) in
     subst (λ w. IfOk c.is_world.result (λ good. Tells good (IsWorld w)))
-    (from ∙ lent t c.as_slice.result.now c.as_slice-2.result.now c.as_slice-3.result.now c.as_slice-4.result.now c.as_slice.ensures.value c.as_slice-2.ensures.value c.as_slice-3.ensures.value c.as_slice-4.ensures.value)
+    (from ∙ lent t c.as_slice.result.now c.as_slice-2.result.now c.as_slice-3.result.now
+        c.as_slice-4.result.now c.as_slice.ensures.value c.as_slice-2.ensures.value c.as_slice-3.ensures.value
+        c.as_slice-4.ensures.value)
     (c.is_world.ensures plans reviewed)

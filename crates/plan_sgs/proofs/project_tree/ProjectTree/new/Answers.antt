@@ -35,6 +35,10 @@ invariant_of-result c =
       word = subst (λ (xs : List Turn). IsWord c.args.instance.now (word_of xs)) (sym empty) tt;
       placed_are = none ∙ ap unplaced size ∙ ap (λ (xs : List Turn). placed_by c.args.instance.now (word_of xs)) (sym empty);
       waits_are = subst (λ (xs : List Turn). AreWaits c.args.instance.now (word_of xs) c.in_ok-waits.waits.items) (sym empty) (waits_first i c.in_ok-waits.waits.items degrees);
-      profiles_are = subst (λ (xs : List Turn). AreProfiles c.args.instance.now (word_of xs) c.push.new.self.items) (sym empty) (first_profile i c.in_ok-new.field-0 c.push.new.self.items held (c.in_ok-push.ensures.items ∙ ap (λ (xs : List Profile). xs ++ c.in_ok-new.field-0 ∷ []) c.new-profiles.ensures.items));
+      profiles_are = subst (λ (xs : List Turn). AreProfiles c.args.instance.now
+          (word_of xs) c.push.new.self.items) (sym empty)
+          (first_profile i c.in_ok-new.field-0 c.push.new.self.items held
+          (c.in_ok-push.ensures.items ∙ ap (λ (xs : List Profile). xs ++ c.in_ok-new.field-0 ∷ [])
+          c.new-profiles.ensures.items));
       turns_are = subst (AreTurns i []) (sym empty) tt;
     }

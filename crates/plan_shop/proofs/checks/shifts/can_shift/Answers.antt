@@ -29,7 +29,9 @@ loop-at-preserved c =
     let behind = c.in-Some.ensures.some in
     record {
       released = released_later (problem_of s) starts x c.loop-at.at c.in-Some.end c.loop-at.invariant.released (end_later s starts x c.loop-at.at c.in-Some.end behind);
-      least = λ t can. end_behind s starts x c.loop-at.at c.in-Some.end t c.requires.shop.shop (c.requires.feasible.each_started ∙ count_is s) c.requires.step behind (c.loop-at.invariant.least t can) can;
+      least = λ t can. end_behind s starts x c.loop-at.at c.in-Some.end t c.requires.shop.shop
+          (c.requires.feasible.each_started ∙ count_is s) c.requires.step behind
+          (c.loop-at.invariant.least t can) can;
     }
 
 pub returns-in-None : goal.returns-in-None

@@ -21,9 +21,14 @@ loop-job-preserved c = rw add-one (elim c.if-is_rival.branch [
   | then-is_rival+in_ok-push-2 w ↦
       let list : c.if-is_rival.list.items ≡ c.loop-job.list.items ++ suc c.loop-job.job ∷ [] =
       ap (λ (v : Vec ℕ Global). v.items) w.list-is ∙ w.in_ok-push-2.ensures.items ∙ ap (λ (n : ℕ). c.loop-job.list.items ++ n ∷ []) (add-one c.loop-job.job) in
-      rivals-yes c.args.self.now c.next_step-machine.result.machine c.in-Some-first_to_end.end c.loop-job.job c.args.list.now.items c.loop-job.list.items c.if-is_rival.list.items c.loop-job.invariant (sym w.if-is_rival.ensures) list
+      rivals-yes c.args.self.now c.next_step-machine.result.machine c.in-Some-first_to_end.end c.loop-job.job
+          c.args.list.now.items c.loop-job.list.items c.if-is_rival.list.items c.loop-job.invariant
+          (sym w.if-is_rival.ensures) list
   | else-is_rival w ↦
-      ap (λ (v : Vec ℕ Global). v.items) w.list-is ∙ rivals-no c.args.self.now c.next_step-machine.result.machine c.in-Some-first_to_end.end c.loop-job.job c.args.list.now.items c.loop-job.list.items c.loop-job.invariant (sym w.if-is_rival.ensures)
+      ap (λ (v : Vec ℕ Global). v.items) w.list-is
+          ∙ rivals-no c.args.self.now c.next_step-machine.result.machine c.in-Some-first_to_end.end
+          c.loop-job.job c.args.list.now.items c.loop-job.list.items c.loop-job.invariant
+          (sym w.if-is_rival.ensures)
 ])
 
 pub returns : goal.returns
@@ -32,4 +37,6 @@ returns c =
     let all : c.loop-job.job ≡ c.args.self.now.shop.jobs = omega (arith, jobs, c.jobs-job-end.ensures.value, c.loop-job-test.false, c.loop-job.auto.job-end) in
     c.loop-job.invariant
     ∙ ap (λ (n : ℕ). c.args.list.now.items ++ map letter_of (those_below n (is_rival c.args.self.now c.next_step-machine.result.machine c.in-Some-first_to_end.end))) all
-    ∙ ap (λ (xs : List ℕ). c.args.list.now.items ++ xs) (sym (letters-rivals c.args.self.now _ c.next_step-machine.result.machine c.in_default.ensures.none c.in-Some-first_to_end.ensures.some c.next_step-machine.ensures.machine))
+    ∙ ap (λ (xs : List ℕ). c.args.list.now.items ++ xs)
+        (sym (letters-rivals c.args.self.now _ c.next_step-machine.result.machine c.in_default.ensures.none
+        c.in-Some-first_to_end.ensures.some c.next_step-machine.ensures.machine))
