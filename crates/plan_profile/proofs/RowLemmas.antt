@@ -30,8 +30,6 @@ inside_before from to i n before = cond-false _ _ _ (and_left _ _ (lt-leb from i
 pub inside_after : (from to i n : ℕ) → to ≤ i → cond (nat_le from i && nat_lt i to) n 0 ≡ 0
 inside_after from to i n after = cond-false _ _ _ (and_right _ _ (le-ltb i to after))
 
-}
-
 -- the row that is next to be raised is still as it was
 pub raised_next : (amounts : List ℕ) (from i : ℕ) (needs amounts2 : List ℕ) (k : ℕ) → AreRaised amounts from i needs amounts2 → k < length needs
     → get_or amounts2 (i * length needs + k) 0 ≡ get_or amounts (i * length needs + k) 0
