@@ -33,12 +33,6 @@ leads_via net j h limits ([], path, some, ends) = absurd (omega arith)
 leads_via net j h limits (k ∷ [], path, some, ends) = (k, path.1.0, inl ends)
 leads_via net j h limits (k ∷ g ∷ others, path, some, ends) = (k, path.1.0, inr (g ∷ others, ((arc_ends net j k limits path.1.0).1, path.1.1), omega arith, ends))
 
-} where
-  unmarked : (m i : ℕ) → get_or (replicate m false) i false ≡ false
-  unmarked zero i = refl
-  unmarked (suc m) zero = refl
-  unmarked (suc m) (suc i) = unmarked m i
-
 -- a successor and all to which paths lead from it are marked
 pub IsReachSoFar-add : (net : Net) (j k : ℕ) (row other after : List Bool) → IsWithinLimits net →
     IsActivity net j → IsArc net j k → IsReachSoFar net j row → IsReach net k other →
