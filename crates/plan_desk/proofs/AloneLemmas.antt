@@ -12,7 +12,7 @@ use Rattle.plan_rows.proofs.OwnerLemmas.{text_from_same}
 use Rattle.plan_desk.proofs.KeepLemmas.{HasBound, HasLag}
 use Rattle.plan_rows.proofs.RuleLemmas.{all_filter, differ_filter, found_has, find_kept, length_fewer}
 
--- what holds of each row holds of the one that is found
+-- a fact about each row holds for the row that is found
 all_of_found : (P : Desk → Type 0) (d : Text) (xs : List Desk) → AllByRecursion P xs → AllByRecursion P (option_to_list (find (is_desk d) xs))
 all_of_found P d xs all = by_row (find (is_desk d) xs) refl
   where

@@ -24,7 +24,7 @@ separated_more (first ∷ second ∷ texts) text =
     ∙ sym (append_assoc front (rest ++ codes ",") text)
     ∙ ap (λ l. l ++ text) (sym (append_assoc front rest (codes ",")))
 
--- a turn of the loop that writes them
+-- one step of the loop that writes them
 pub next_text : {A : Type 0} (text_of : A → Text) (rows : List A) (k : ℕ) (row : A) (before done comma now : Text) → k < length rows → row ≡ get_or rows k row
     → done ≡ before ++ separated (map text_of (take k rows)) → comma ≡ done ++ comma_before k → now ≡ comma ++ text_of row
     → now ≡ before ++ separated (map text_of (take (k + 1) rows))

@@ -1,4 +1,4 @@
--- Best texts: what a search answers within the budget that a word spells.
+-- The texts of the best schedules that a search finds within the budget that a word spells.
 use Rattle.std.proofs.Common.{◌≡◌, ◌⊎◌, inl, inr, ℕ, Bool, List, refl, subst, arith}
 use Rattle.std.specs.Prelude.{Result, Ok, Err, MatchResult, string_bytes}
 use Rattle.plan_psplib.specs.Project.{Project}
@@ -61,7 +61,7 @@ project_answered text_of line_of (Ok x) bound word p caps kind project are best 
 project_answered text_of line_of (Err x) bound word p caps kind project are told =
     inl (kind, (p, project, subst (λ c. TellsBestProjectRefusal word (planned p c) (line_of x)) are told))
 
--- and for a shop's
+-- the answer for a shop's plan
 pub shop_answered : {T E : Type 0} (text_of : T → Text) (line_of : E → Text) (r : Result T E) (bound : BoundPlan) (word : Text) (doc : docs.Shop) (usable : List Bool)
     → bound.plan.kind ≡ kinds.Shop → Says (string_bytes bound.plan.name) bound.plan.body.items doc → usable ≡ open_in bound (shop_of doc)
     → MatchResult r (λ x. IsOpenBest word (shop_of doc) usable (text_of x)) (λ x. TellsNoShopBest word (shop_of doc) usable (line_of x))

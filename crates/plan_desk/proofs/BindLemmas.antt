@@ -1,4 +1,4 @@
--- What a bind, a calendar and a lag decide by what a book answers.
+-- The decisions on a bind, a calendar and a lag, from the answers of a book.
 use Rattle.std.proofs.Common.{◌≡◌, ℕ, Option, Some, None, inl, inr, refl, sym, ap, ◌∙◌, subst}
 use Rattle.std.specs.Prelude.{option_map}
 use Rattle.plan_psplib.specs.Project.{Project, SaysProject}
@@ -96,7 +96,7 @@ pub binds_nowhere : (v : View) (text body : Text) → plan_seen v text ≡ None 
 unfolding Binds of_plan
 binds_nowhere v text body absent = given_nothing (plan_seen v text) not_found _ absent
 
--- the kind of a code, by what was answered
+-- the kind of a code, from the answer of a book
 pub kind_answered : (code : Option Published) (row : Option (Kind × ℕ)) → Matches IsCapacityAnswer code row
     → option_map (λ (found : Published). found.kind) code ≡ option_map (λ (found : Kind × ℕ). found.0) row
 kind_answered None None h = refl
@@ -104,7 +104,7 @@ kind_answered None (Some x) h = absurd h
 kind_answered (Some code) None h = absurd h
 kind_answered (Some code) (Some x) h = ap Some (sym h.kind)
 
--- what is judged by the kinds that two functions give
+-- equal kinds have the same refusal
 pub judged_so : (published known : Option Kind) (kind taken : Kind) (o : Option Reply) → published ≡ known → kind ≡ taken
     → bind_refusal_of published kind ≡ o → bind_refusal_of known taken ≡ o
 judged_so published known kind taken o same alike e =
@@ -121,7 +121,7 @@ binds_nothing v text body found count is has none =
           (subst (λ (k : PlanKind). bind_body (is_place k count) body ≡ None) is.answer.kind none),
     )
 
--- what is refused, by the tables
+-- the refusal of a bind, from the tables
 refusal_there : (v : View) (code : Text) (kind other : PlanKind) (b : BindBody) (row : Option (Kind × ℕ)) (o : Option Reply) → kind ≡ other → code ≡ b.code
     → Matches IsCapacityAnswer (code_in v.published code) row
     → bind_refusal_of (option_map (λ (known : Kind × ℕ). known.0) row) (takes kind) ≡ o

@@ -1,4 +1,4 @@
--- Bound places: what is found among them is what the view has bound, whatever their order.
+-- A search among the bound places of a plan finds the bind of the view, whatever their order.
 use Rattle.std.proofs.Common.{◌≡◌, ℕ, zero, suc, ◌+◌, ◌<◌, Bool, true, false, ◌&&◌, List, [], ◌∷◌, ◌++◌, map, filter, Option, Some, None, refl, sym, ap, ◌∙◌, arith}
 use Rattle.std.specs.Prelude.{find, option_map, option_and_then, unwrap_or, ◌==◌}
 use Rattle.std.proofs.lemmas.Bool.{cases_Bool, eqb-true, ltb-true, ne_eqb}
@@ -17,7 +17,8 @@ find-filter : {A : Type 0} (p q : A → Bool) (xs : List A) → find p (filter q
 find-filter p q [] = refl
 find-filter p q (x ∷ xs) = grind (arith, cases_Bool (p x), cases_Bool (q x), find-filter p q xs)
 
--- a row that others pass doesn't pass them: then the first that passes is the first in any order
+-- if no row that sorts before a passing row passes, the first passing row is the same in sorted
+-- order
 module _ {A : Type 0} (before : A → A → Bool) (p : A → Bool) (apart : (x y : A) → p x ≡ true → before y x ≡ true → p y ≡ false) where
   find-put : (x : A) (ys : List A) → find p (put_in_order before x ys) ≡ find p (x ∷ ys)
   find-put x [] = refl
@@ -39,7 +40,7 @@ find_place binds n place =
         let below : y.place < x.place = ltb-true y.place x.place less in
         ne_eqb y.place place (λ e. omega (arith, at, below, e))
 
--- the capacity of a bound place, by pairs
+-- the capacity of a bound place, from a list of pairs
 abbrev pair_capacity : List (ℕ × Option ℕ) → ℕ → Option ℕ
 pair_capacity pairs place = option_and_then (λ (b : ℕ × Option ℕ). b.1) (find (λ (b : ℕ × Option ℕ). b.0 == place) pairs)
 
@@ -83,7 +84,7 @@ module _ (v : View) (n : ℕ) (places : List BoundPlace) (seen : map bound_in pl
   open_is None = refl
   open_is (Some row) = refl
 
-  -- and so are the machines that are open
+  -- the open machines are those of the view
   pub machines_are : (m : ℕ) → machines_in places m ≡ open_machines v n m
   machines_are zero = refl
   machines_are (suc m) =

@@ -1,4 +1,4 @@
--- What is found in a book, step by step, and what is decided by it.
+-- The facts that are found in a book, step by step, and the decisions that follow from them.
 use Rattle.std.proofs.Common.{◌≡◌, ◌⊎◌, inl, inr, ℕ, suc, ◌+◌, ◌<◌, ◌≤◌, ◌++◌, take, length, get_or, List, [], ◌∷◌, Option, Some, None, Result, Ok, Err, refl, sym, ap, ◌∙◌, subst, arith}
 use Rattle.std.specs.Prelude.{find, option_and_then, map, IfOk, IfErr, OnOk, IsErr, IsErrAnd}
 use Rattle.std.specs.List.{AllByRecursion}
@@ -23,7 +23,7 @@ use Rattle.plan_desk.specs.BookSteps.{Quiet, Finds, Knows}
 use Rattle.plan_rows.proofs.RuleLemmas.{found_has}
 
 module _ {B : Type 0} (shelf : Shelf B) where
-  -- only a counted fault shuts the tables
+  -- only a counted fault closes the tables
   abbrev pub Closes : B → B → Type 0
   Closes a b = shelf.stands a → shelf.stands b ⊎ MoreFaults (shelf.faults a) (shelf.faults b)
 
@@ -69,7 +69,7 @@ module _ {B : Type 0} (shelf : Shelf B) where
     closes = r.closes;
   }
 
-  -- what was found, by what was read
+  -- a fact that follows from the rows that were read
   pub found_by : {X Y : Type 0} (Is : World → Y → Type 0) (P : X → Type 0) (a b : B) (x : X) (y : Y) → Reads shelf a b (Ok x) P → (P x → Is (shelf.world a) y)
       → Finds shelf a b Is (Ok y)
   found_by Is P a b x y r then = record {
@@ -85,15 +85,15 @@ module _ {B : Type 0} (shelf : Shelf B) where
   pub found_at_once : {Y : Type 0} (Is : World → Y → Type 0) (a : B) (y : Y) → ((w : World) → Is w y) → Finds shelf a a Is (Ok y)
   found_at_once Is a y is = record { quiet = quiet_self a; found = λ h s. (s, is (shelf.world a)); blamed = tt; told = refl; wanted = tt; denied = tt }
 
-  -- what is known without a read
+  -- a fact that is known without a read
   pub found_known : {Y : Type 0} (Is : World → Y → Type 0) (a : B) (y : Y) → Knows shelf a (λ w. Is w y) → Finds shelf a a Is (Ok y)
   found_known Is a y is = record { quiet = quiet_self a; found = λ h s. (s, is h s); blamed = tt; told = refl; wanted = tt; denied = tt }
 
-  -- what was found is known
+  -- a fact that was found is known
   pub known_then : {Y : Type 0} (Is : World → Y → Type 0) (a b : B) (y : Y) → Finds shelf a b Is (Ok y) → Knows shelf b (λ w. Is w y)
   known_then Is a b y f h s = subst (λ w. Is w y) (sym (f.quiet.same h s)) (f.found h (f.quiet.stood h s)).1
 
-  -- want of memory between two calls
+  -- memory runs out between two calls
   pub failed_here : {Y : Type 0} (Is : World → Y → Type 0) (a b : B) → Quiet shelf a b → shelf.denials b ≡ shelf.denials a → Finds shelf a b Is (Err NoMemory)
   failed_here Is a b q told = record {
     quiet = q;
@@ -116,7 +116,7 @@ module _ {B : Type 0} (shelf : Shelf B) where
   short_of_memory Is a b (Ok y) q told h = absurd h.1
   short_of_memory Is a b (Err handed) q told h = subst (λ f. Finds shelf a b Is (Err f)) (sym h.1) (failed_here Is a b q told)
 
-  -- what is found, and then what is found by it
+  -- a fact is found, and then a call finds another or fails
   pub found_then : {X Y : Type 0} (Is : World → X → Type 0) (And : World → Y → Type 0) (Both : World → Y → Type 0) (a b c : B) (x : X) (result : Result Y BookFault)
       → Finds shelf a b Is (Ok x) → Finds shelf b c And result → ((w : World) (y : Y) → Is w x → And w y → Both w y) → Finds shelf a c Both result
   found_then {Y = Y} Is And Both a b c x result f g both = record {
@@ -154,7 +154,7 @@ module _ {B : Type 0} (shelf : Shelf B) where
       by_denial (Ok y) q denied = tt
       by_denial (Err fault) q denied = λ is h s. denied is h (f.found (q.honesty h) s).0 ∙ ap (λ n. n + 1) f.told
 
-  -- what is found, and then one more thing
+  -- a fact is found, and then one more
   pub found_more : {X Z Y : Type 0} (Is : World → X → Type 0) (And : World → Z → Type 0) (Both : World → Y → Type 0) (a b c : B) (x : X) (z : Z) (y : Y)
       → Finds shelf a b Is (Ok x) → Finds shelf b c And (Ok z) → ((w : World) → Is w x → And w z → Both w y) → Finds shelf a c Both (Ok y)
   found_more {Y = Y} Is And Both a b c x z y f g both =
@@ -165,7 +165,7 @@ module _ {B : Type 0} (shelf : Shelf B) where
       Then : World → Y → Type 0
       Then w other = (other ≡ y) × And w z
 
-  -- what is found is another thing
+  -- a fact that follows from the one that was found
   pub found_other : {X Y : Type 0} (Is : World → X → Type 0) (And : World → Y → Type 0) (a b : B) (x : X) (y : Y)
       → Finds shelf a b Is (Ok x) → ((w : World) → Is w x → And w y) → Finds shelf a b And (Ok y)
   found_other Is And a b x y f then = record {
@@ -177,7 +177,7 @@ module _ {B : Type 0} (shelf : Shelf B) where
     denied = tt;
   }
 
-  -- what isn't found
+  -- a call fails with the error of its lookup
   pub lost : {X Y : Type 0} (Is : World → X → Type 0) (And : World → Y → Type 0) (a b : B) (fault : BookFault) (result : Result Y BookFault)
       → Finds shelf a b Is (Err fault) → IsErr result × IsErrAnd result (λ handed. handed ≡ fault) → Finds shelf a b And result
   lost Is And a b fault (Ok y) f h = absurd h.1
@@ -190,7 +190,7 @@ module _ {B : Type 0} (shelf : Shelf B) where
     denied = λ is honest stands. f.denied (sym h.1 ∙ is) honest stands;
   }
 
-  -- what isn't found after something was
+  -- a fact is found, and then a call fails with the error of the next lookup
   pub lost_then : {X Z Y : Type 0} (Is : World → X → Type 0) (And : World → Z → Type 0) (Both : World → Y → Type 0) (a b c : B) (x : X) (fault : BookFault) (result : Result Y BookFault)
       → Finds shelf a b Is (Ok x) → Finds shelf b c And (Err fault) → IsErr result × IsErrAnd result (λ handed. handed ≡ fault) → Finds shelf a c Both result
   lost_then {Y = Y} Is And Both a b c x fault (Ok y) f g h = absurd h.1
@@ -228,7 +228,7 @@ plan_there v text n plan spelled there = by_row (find (has_number n) v.plans) re
       answer = is;
     }
 
--- no plan of a number that a text spells
+-- no plan has the number that a text spells
 pub plan_missing : (v : View) (text : Text) (n : ℕ) → Some n ≡ plan_number text → Matches (IsPlanAnswer v) (find (has_number n) v.plans) None → plan_seen v text ≡ None
 plan_missing v text n spelled missing =
     subst (λ o. option_and_then (λ m. find (has_number m) v.plans) o ≡ None) spelled (by_row (find (has_number n) v.plans) missing)

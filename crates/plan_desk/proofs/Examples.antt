@@ -47,7 +47,7 @@ use Rattle.plan_desk.specs.Decisions.{Answers, IsDecision}
 name_with_a_digit : is_name (codes "north-2") ≡ true
 name_with_a_digit = refl
 
--- and 32 bytes at most
+-- a name has at most 32 bytes
 name_of_32 : is_name (codes "abcdefghijklmnopqrstuvwxyz012345") ≡ true
 name_of_32 = refl
 
@@ -58,11 +58,11 @@ name_of_33 = refl
 name_after_a_dash : is_name (codes "-a") ≡ false
 name_after_a_dash = refl
 
--- an empty text is no name
+-- an empty text isn't a name
 name_of_none : is_name (codes "") ≡ false
 name_of_none = refl
 
--- nor is one with a capital letter
+-- a text with a capital letter isn't a name
 name_with_a_capital : is_name (codes "North") ≡ false
 name_with_a_capital = refl
 
@@ -79,7 +79,7 @@ key_of_64 = refl
 key_of_65 : is_key (codes "0123456789abcdef0123456789abcdef0123456789abcdef0123456789abcdef0") ≡ false
 key_of_65 = refl
 
--- and no blank
+-- a key has no blank
 key_with_a_blank : is_key (codes "Secret 12") ≡ false
 key_with_a_blank = refl
 
@@ -93,14 +93,14 @@ plan_1000000 = refl
 plan_of_eight_digits : plan_number (codes "10000000") ≡ None
 plan_of_eight_digits = refl
 
--- a zero in front is none of them
+-- the number of a plan has no leading zero
 plan_007 : plan_number (codes "007") ≡ None
 plan_007 = refl
 
 plan_0 : plan_number (codes "0") ≡ None
 plan_0 = refl
 
--- and other words are no numbers
+-- other words aren't numbers
 plan_x : plan_number (codes "x") ≡ None
 plan_x = refl
 
@@ -128,8 +128,8 @@ north2 = codes "north-2"
 abbrev pub crew_a : Text
 crew_a = codes "crew-a"
 
--- A code, and two desks: the name of one begins with that of the other. Plan 1 of both has binds and
--- lags, and the rows stand in no order.
+-- A code, and two desks: the name of one begins with that of the other. Plan 1 of both has binds
+-- and lags, and the rows are in no order.
 abbrev pub office : World
 office = record {
   office = [];
@@ -151,7 +151,7 @@ north_sees : view north office ≡ record {
 }
 north_sees = refl
 
--- a part of a desk's name is another desk, which has no row
+-- the front of a desk's name names another desk, which doesn't exist
 nor_sees : (view (codes "nor") office).plans ≡ []
 nor_sees = refl
 
@@ -182,7 +182,7 @@ added : apply north (AddPlan Shop (codes "tiny") (codes "x")) office ≡ record 
 }
 added = refl
 
--- a plan takes its binds and lags along, and plan 1 of the other desk stays
+-- removing a plan removes its binds and lags; plan 1 of the other desk remains
 removed : apply north (RemovePlan 1) office ≡ record office {
   plans = plan north 4 Project ∷ plan north2 1 Shop ∷ plan north 2 Project ∷ [];
   binds = bound north2 1 0 (codes "m-1") ∷ bound north 2 1 crew_a ∷ [];
@@ -228,13 +228,13 @@ publishing_read : publish_body publishing ≡ Some (record { code = crew_a; kind
 unfolding publish_body is_utf8 chars serde_json_on_literals
 publishing_read = refl
 
--- of two members of one name the last counts
+-- if two members have one name, the last one counts
 last_counts : publish_body (codes "{\"code\":\"crew-a\",\"kind\":\"crew\",\"capacity\":2,\"capacity\":3}")
     ≡ Some (record { code = crew_a; kind = Crew; capacity = 3 })
 unfolding publish_body is_utf8 chars serde_json_on_literals
 last_counts = refl
 
--- other members don't matter, nor does their order
+-- other members and the order of members are ignored
 others_are_read : publish_body (codes "{\"capacity\":10000,\"note\":[1.5,null],\"kind\":\"machine\",\"code\":\"m-1\"}")
     ≡ Some (record { code = codes "m-1"; kind = Machine; capacity = 10000 })
 unfolding publish_body is_utf8 chars serde_json_on_literals
@@ -250,7 +250,7 @@ kind_unknown : publish_body (codes "{\"code\":\"crew-a\",\"kind\":\"Crew\",\"cap
 unfolding publish_body is_utf8 chars serde_json_on_literals
 kind_unknown = refl
 
--- an empty body is no JSON
+-- an empty body isn't JSON
 empty_body : publish_body [] ≡ None
 unfolding publish_body is_utf8 chars serde_json_on_literals
 empty_body = refl
@@ -261,7 +261,7 @@ desk_read : desk_body (codes "{\"desk\":\"north\",\"key\":\"Secret12\"}")
 unfolding desk_body is_utf8 chars serde_json_on_literals
 desk_read = refl
 
--- a key that is too short makes no such body, which still names its desk
+-- a body with a key that is too short is refused, but still names its desk
 desk_of_short_key : desk_body (codes "{\"desk\":\"north\",\"key\":\"Secret1\"}") ≡ None
 unfolding desk_body is_utf8 chars serde_json_on_literals
 desk_of_short_key = refl
@@ -276,7 +276,7 @@ bind_read : bind_body (is_place Project 2) (codes "{\"code\":\"crew-a\",\"place\
 unfolding bind_body is_utf8 chars serde_json_on_literals
 bind_read = refl
 
--- 1.0 is no whole number
+-- 1.0 isn't a whole number
 place_with_a_point : bind_body (is_place Project 2) (codes "{\"code\":\"crew-a\",\"place\":1.0}") ≡ None
 unfolding bind_body is_utf8 chars serde_json_on_literals
 place_with_a_point = refl
@@ -295,7 +295,7 @@ place_2_of_shop : bind_body (is_place Shop 2) (codes "{\"code\":\"m-1\",\"place\
 unfolding bind_body is_utf8 chars serde_json_on_literals
 place_2_of_shop = refl
 
--- what the texts of a calendar say is judged later
+-- the texts of a calendar are checked later
 calendar_read : calendar_body (codes "{\"start\":\"never\",\"days\":\"\"}")
     ≡ Some (record { start = codes "never"; days = [] })
 unfolding calendar_body is_utf8 chars serde_json_on_literals
@@ -306,7 +306,7 @@ lag_read : lag_body (codes "{\"from\":2,\"to\":3,\"lag\":4}") ≡ Some (record {
 unfolding lag_body is_utf8 chars serde_json_on_literals
 lag_read = refl
 
--- and none below 0
+-- a lag isn't below 0
 lag_below_0 : lag_body (codes "{\"from\":2,\"to\":3,\"lag\":-1}") ≡ None
 unfolding lag_body is_utf8 chars serde_json_on_literals
 lag_below_0 = refl
@@ -320,7 +320,7 @@ said status kind body = record { status = status; kind = kind; body = body }
 abbrev key_refused : Reply
 key_refused = said 403 Plain (codes "E01 key\n")
 
--- what an admitted call is answered is its decision
+-- the answer to an admitted call is its decision
 pub admitted : (v : View) (key : Option Text) (c : Call) (reply : Reply) (change : Change)
     → admits v (asks key c) ≡ true → Answers v c reply change → IsDecision v (asks key c) reply change
 unfolding IsDecision
@@ -335,24 +335,24 @@ publishing_without_key : IsDecision (view [] office) (asks None (call.publish pu
 unfolding IsDecision
 publishing_without_key = (refl, refl)
 
--- a text that is no key
+-- a text that isn't a key
 short_key : IsDecision (view north office) (asks (Some (codes "Secret1")) (call.plans north)) key_refused Keep
 unfolding IsDecision
 short_key = (refl, refl)
 
--- any key, on a desk that isn't there
+-- any key, for a desk that doesn't exist
 unknown_desk : (key : Option Text) → IsDecision (view (codes "nor") office) (asks key (call.plans (codes "nor"))) key_refused Keep
 unfolding IsDecision
 unknown_desk key = (refl, refl)
 
--- the plans of a desk rise by number, in whatever order the rows stand
+-- the plans of a desk are listed by number, whatever the order of the rows
 plans_listed : (key : Option Text) → admits (view north office) (asks key (call.plans north)) ≡ true
     → IsDecision (view north office) (asks key (call.plans north))
     (said 200 Json (codes "{\"plans\":[{\"kind\":\"project\",\"n\":1},{\"kind\":\"project\",\"n\":2},{\"kind\":\"project\",\"n\":4}]}\n")) Keep
 unfolding tells digits
 plans_listed key open_ = admitted _ key _ _ _ open_ (refl, refl)
 
--- and of the other desk there is its one plan
+-- the other desk has one plan
 other_plans_listed : (key : Option Text) → admits (view north2 office) (asks key (call.plans north2)) ≡ true
     → IsDecision (view north2 office) (asks key (call.plans north2))
     (said 200 Json (codes "{\"plans\":[{\"kind\":\"shop\",\"n\":1}]}\n")) Keep
@@ -375,13 +375,13 @@ body_refused = said 400 Plain (codes "E03 body\n")
 abbrev pub kind_refused : Reply
 kind_refused = said 409 Plain (codes "E07 other kind of plan\n")
 
--- a plan goes
+-- a plan is removed
 plan_removed : (key : Option Text) → admits (view north office) (asks key (call.remove north (codes "2"))) ≡ true
     → IsDecision (view north office) (asks key (call.remove north (codes "2"))) (said 200 Json (codes "{\"n\":2}\n")) (RemovePlan 2)
 unfolding Removes of_plan given makes digits
 plan_removed key open_ = admitted _ key _ _ _ open_ (refl, refl)
 
--- 007 is no number of a plan
+-- 007 isn't the number of a plan
 no_plan_007 : (key : Option Text) → admits (view north office) (asks key (call.remove north (codes "007"))) ≡ true
     → IsDecision (view north office) (asks key (call.remove north (codes "007"))) not_there Keep
 unfolding Removes of_plan given refuses
@@ -405,7 +405,7 @@ desk_alone row rows =
 abbrev full : View
 full = desk_alone (desk_row north 101) (plans_to 100)
 
--- a desk with 100 plans takes no other, whatever the file is: an empty one, or one with a fault
+-- a desk with 100 plans accepts no other, whatever the file contains
 full_desk : (key : Option Text) (body : Text) → admits full (asks key (call.import_project north body)) ≡ true
     → IsDecision full (asks key (call.import_project north body)) (said 409 Plain (codes "E08 100 plans\n")) Keep
 unfolding ImportsProject Imports given unless refuses plans_to
@@ -419,7 +419,7 @@ full_desk_for_shops key name body open_ = admitted _ key _ _ _ open_ (refl, refl
 abbrev spent : View
 spent = desk_alone (desk_row north 1000001) []
 
--- a desk that has given number 1,000,000 has no other, though it has no plan left
+-- a desk that has used number 1,000,000 accepts no plan, even if it has none left
 spent_desk : (key : Option Text) (body : Text) → admits spent (asks key (call.import_project north body)) ≡ true
     → IsDecision spent (asks key (call.import_project north body)) (said 409 Plain (codes "E09 numbers spent\n")) Keep
 unfolding ImportsProject Imports given unless refuses
@@ -431,7 +431,7 @@ dates_of_shop : (key : Option Text) → admits (view north2 office) (asks key (c
 unfolding Dates of_plan given by_kind refuses
 dates_of_shop key open_ = admitted _ key _ _ _ open_ (refl, refl)
 
--- nor lags
+-- a shop has no lags
 abbrev lag_call : Text → Text → Call
 lag_call n body = call.set_lag north2 n body
 
@@ -440,36 +440,36 @@ lag_of_shop : (key : Option Text) → admits (view north2 office) (asks key (lag
 unfolding SetsLag of_plan given by_kind refuses lag_body is_utf8 chars serde_json_on_literals
 lag_of_shop key open_ = admitted _ key _ _ _ open_ (refl, refl)
 
--- the body is looked at before the kind of the plan
+-- the body is checked before the kind of the plan
 bad_lag_of_shop : (key : Option Text) → admits (view north2 office) (asks key (lag_call (codes "1") (codes "{}"))) ≡ true
     → IsDecision (view north2 office) (asks key (lag_call (codes "1") (codes "{}"))) body_refused Keep
 unfolding SetsLag of_plan given refuses lag_body is_utf8 chars serde_json_on_literals
 bad_lag_of_shop key open_ = admitted _ key _ _ _ open_ (refl, refl)
 
--- and the number of the plan before the body
+-- the number of the plan is checked before the body
 bad_lag_of_none : (key : Option Text) (body : Text) → admits (view north2 office) (asks key (lag_call (codes "2") body)) ≡ true
     → IsDecision (view north2 office) (asks key (lag_call (codes "2") body)) not_there Keep
 unfolding SetsLag of_plan given refuses
 bad_lag_of_none key body open_ = admitted _ key _ _ _ open_ (refl, refl)
 
--- a body without days is no calendar
+-- a body without days isn't a calendar
 calendar_without_days : (key : Option Text) → admits (view north office) (asks key (call.set_calendar north (codes "1") (codes "{\"start\":\"2026-11-23\"}"))) ≡ true
     → IsDecision (view north office) (asks key (call.set_calendar north (codes "1") (codes "{\"start\":\"2026-11-23\"}"))) body_refused Keep
 unfolding Calendars of_plan given refuses calendar_body is_utf8 chars serde_json_on_literals
 calendar_without_days key open_ = admitted _ key _ _ _ open_ (refl, refl)
 
--- the key of the office was sent
+-- the call that publishes a code
 abbrev publish_call : Text → Call
 publish_call body = call.publish body
 
--- a known code is published anew
+-- a published code is published again
 crew_published : (key : Option Text) → admits (view [] office) (asks key (publish_call publishing)) ≡ true
     → IsDecision (view [] office) (asks key (publish_call publishing))
     (said 200 Json (codes "{\"capacity\":2,\"code\":\"crew-a\",\"kind\":\"crew\"}\n")) (Publish crew_a Crew 2)
 unfolding Publishes given unless makes digits publish_body is_utf8 chars serde_json_on_literals
 crew_published key open_ = admitted _ key _ _ _ open_ (refl, refl)
 
--- but not with another kind
+-- a published code keeps its kind
 kind_kept : (key : Option Text) → admits (view [] office) (asks key (publish_call (codes "{\"code\":\"crew-a\",\"kind\":\"machine\",\"capacity\":2}"))) ≡ true
     → IsDecision (view [] office) (asks key (publish_call (codes "{\"code\":\"crew-a\",\"kind\":\"machine\",\"capacity\":2}")))
     (said 409 Plain (codes "E06 kind differs\n")) Keep
@@ -487,13 +487,13 @@ desk_opened : (key : Option Text) → admits (view (codes "nor") office) (asks k
 unfolding Opens given unless makes desk_body is_utf8 chars serde_json_on_literals
 desk_opened key open_ = admitted _ key _ _ _ open_ (refl, refl)
 
--- but not twice
+-- a desk is opened only once
 desk_kept : (key : Option Text) → admits (view north office) (asks key (call.open_desk (opening north))) ≡ true
     → IsDecision (view north office) (asks key (call.open_desk (opening north))) (said 409 Plain (codes "E04 desk exists\n")) Keep
 unfolding Opens given unless refuses desk_body is_utf8 chars serde_json_on_literals
 desk_kept key open_ = admitted _ key _ _ _ open_ (refl, refl)
 
--- a desk that isn't there gets no key, whatever the body is
+-- a desk that doesn't exist gets no key, whatever the body
 key_of_none : (key : Option Text) (body : Text) → admits (view (codes "nor") office) (asks key (call.set_key (codes "nor") body)) ≡ true
     → IsDecision (view (codes "nor") office) (asks key (call.set_key (codes "nor") body)) not_there Keep
 unfolding SetsKey unless refuses
@@ -505,7 +505,7 @@ short_key_unset : (key : Option Text) → admits (view north office) (asks key (
 unfolding SetsKey unless given refuses key_body is_utf8 chars serde_json_on_literals
 short_key_unset key open_ = admitted _ key _ _ _ open_ (refl, refl)
 
--- a shop of one job with one step, which takes machine 0 for 2 units
+-- a shop of one job with one step, which uses machine 0 for 2 time units
 abbrev tiny : Text
 tiny = codes "1 1\n0 2\n"
 
@@ -566,7 +566,7 @@ code_unknown : (key : Option Text) → admits tiny_desk (asks key (bind_call (co
 unfolding Binds of_plan given some unless refuses bind_body is_utf8 chars serde_json_on_literals
 code_unknown key open_ = admitted _ key _ _ _ open_ (1, (tiny_shop, tiny_says, refl), (refl, refl))
 
--- a crew is no machine
+-- a crew isn't a machine
 crew_on_machine : (key : Option Text) → admits tiny_desk (asks key (bind_call (codes "{\"code\":\"crew-a\",\"place\":0}"))) ≡ true
     → IsDecision tiny_desk (asks key (bind_call (codes "{\"code\":\"crew-a\",\"place\":0}")))
     (said 409 Plain (codes "E06 kind differs\n")) Keep
@@ -580,7 +580,7 @@ tiny_is_closed = (
   (λ h less closed. omega (arith, less)),
 )
 
--- so there is no schedule
+-- a shop with a closed machine in use has no schedule
 closed_schedule : (key : Option Text) → admits tiny_desk (asks key (call.schedule north (codes "1") (codes "spt"))) ≡ true
     → IsDecision tiny_desk (asks key (call.schedule north (codes "1") (codes "spt")))
     (said 422 Plain (codes "E11 S4 machine 0 closed\n")) Keep
@@ -597,7 +597,7 @@ no_such_rule rule.ShortestTime e = grind (arith, e)
 no_such_rule rule.MostWorkRemaining e = grind (arith, e)
 no_such_rule rule.FirstCome e = grind (arith, e)
 
--- which is told before a closed machine is
+-- an unknown rule is reported before a closed machine
 unknown_rule : (key : Option Text) → admits tiny_desk (asks key (call.chart north (codes "1") (codes "lpt"))) ≡ true
     → IsDecision tiny_desk (asks key (call.chart north (codes "1") (codes "lpt")))
     (said 422 Plain (codes "E11 S3 unknown rule\n")) Keep
@@ -627,7 +627,7 @@ tiny_is_shop = record {
   on_machines = tiny_on_machines;
 }
 
--- the schedule by the least time
+-- the schedule by the rule `spt`
 tiny_schedule : IsShopScheduleBy (shop_of tiny_shop) (open_machines open_desk 1 1) (codes "spt") (rule_starts rule.ShortestTime (shop_of tiny_shop))
 unfolding RuleIsActive
 tiny_schedule = record {

@@ -18,7 +18,7 @@ use Rattle.plan_rows.specs.Plans.{lagged_by}
 use Rattle.plan_rows.specs.Books.{lag_in}
 use Rattle.plan_desk.specs.PlanValues.{TakesLags}
 
--- a text that says a project is refused for want of memory alone
+-- a text that spells a project is refused only for lack of memory
 pub refused_for_memory : (text : List ℕ) (p : Project) (first : FileFault) → SaysProject text p
     → IsWantOfMemory first ⊎ IsFirstFailing text first → IsWantOfMemory first
 refused_for_memory text p first says (inl memory) = memory
@@ -41,7 +41,7 @@ lag_taken net i j w (BadArc h k) arc few refused = refused
 lag_taken net i j w (DoubleArc h k) arc few refused = refused
 lag_taken net i j w (Cycle members) arc few refused = refused
 
--- the lag in turn isn't refused by a project with the same arcs
+-- the next lag isn't refused by a project with the same arcs
 pub lags_taken : (lags : List LagEntry) (i : ℕ) (d : LagEntry) (old p : Project) (first : NetFault) → i < length lags
     → p.network.arcs ≡ old.network.arcs → TakesLags old (map lag_in lags)
     → IsLagFault p.network (get_or lags i d).from (get_or lags i d).to (get_or lags i d).lag first → ⊥

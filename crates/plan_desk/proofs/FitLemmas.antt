@@ -1,4 +1,4 @@
--- What a request makes fits: each answer's change keeps the rules of rows.
+-- The change of each decision fits: it keeps the rules of rows.
 use Rattle.std.proofs.Common.{◌≡◌, ℕ, zero, suc, ◌/◌, ◌^◌, ◌≤◌, ◌<◌, ◌⊎◌, inl, inr, Bool, true, false, not, List, [], ◌∷◌, filter, length, Option, Some, None, refl, sym, ap, ◌∙◌, subst, arith}
 use Rattle.std.specs.Prelude.{find, option_map, option_and_then, unwrap_or, is_some, ◌==◌, nat_le, nat_lt, codes, slice_index, IsSome, IfSome}
 use Rattle.std.specs.Int.{w32, to_be_bytes, bytes_high_first, byte_at}
@@ -37,7 +37,7 @@ use Rattle.plan_rows.proofs.RuleLemmas.{found_has}
 use Rattle.plan_desk.proofs.StoryLemmas.{decided_rest, decided_keeps}
 use Rattle.plan_desk.proofs.KeepLemmas.{Fits, fits_keeps}
 
--- ---- a digest is one
+-- ---- digests
 
 low_byte : (k n : ℕ) → byte_at k n < 256
 low_byte zero n = mod_below n 256 (omega arith)
@@ -61,9 +61,9 @@ sha256_is_digest text =
     and_from (length (sha256 text) == 32) (list_all (λ b. nat_lt b 256) (sha256 text))
     (eq-eqb (length (sha256 text)) 32 (length-sha256 text)) (digest_low (final_hash initial_hash_256 text) 8)
 
--- ---- what bodies say
+-- ---- the contents of bodies
 
--- a step that gave something was given something
+-- if a chain of two steps returns a value, the first step returned one
 and_then_some : {A B : Type 0} (f : A → Option B) (o : Option A) (y : B) → option_and_then f o ≡ Some y → (x : A) × (o ≡ Some x) × (f x ≡ Some y)
 and_then_some f None y e = absurd (grind (arith, e))
 and_then_some f (Some x) y e = (x, refl, e)
@@ -87,7 +87,7 @@ text_passes p name value text e = let found = and_then_some (passing p) _ text e
 number_passes : (p : ℕ → Bool) (name : Text) (value : Data) (n : ℕ) → number_in p name value ≡ Some n → p n ≡ true
 number_passes p name value n e = let found = and_then_some (passing p) _ n e in passes p found.0 n found.2
 
--- a text that passes is a text
+-- a member that passes a test is a text
 any_named : (p : Text → Bool) (name : Text) (value : Data) (text : Text) → text_in p name value ≡ Some text → text_in any_text name value ≡ Some text
 any_named p name value text e =
     let found = and_then_some (passing p) _ text e in
@@ -126,7 +126,7 @@ desk_says body b e =
       ap (option_and_then (text_in any_text (codes "desk"))) value.1 ∙ any_named is_name (codes "desk") value.0 desk.0 desk.1 ∙ ap (λ r. Some r.desk) key.2,
     )
 
--- the key of an opened desk is one
+-- the key of an opened desk is valid
 pub desk_key_says : (body : Text) (b : DeskBody) → desk_body body ≡ Some b → is_key b.key ≡ true
 unfolding desk_body
 desk_key_says body b e =
@@ -182,7 +182,7 @@ kind_is codes_of.Machine codes_of.Machine e = refl
 kind_is codes_of.Crew codes_of.Machine e = absurd (both_ways true e refl)
 kind_is codes_of.Machine codes_of.Crew e = absurd (both_ways true e refl)
 
--- a code that is published is of the kind
+-- a published code without another kind has this kind
 kind_there : (kind : Kind) (o : Option Published) → is_other_kind kind o ≡ false → IfSome o (λ row. row.kind ≡ kind)
 kind_there kind None e = tt
 kind_there kind (Some row) e = kind_is row.kind kind e
@@ -232,13 +232,13 @@ unfolding by_kind
 fit_by_kind s w kinds.Project One Other one other = one refl
 fit_by_kind s w kinds.Shop One Other one other = other refl
 
--- ---- what is seen is there
+-- ---- rows that a desk sees exist
 
 find_seen : (s : Text) (m : ℕ) (xs : List Plan) → find (has_number m) (filter (is_plan_of s) xs) ≡ find (is_plan s m) xs
 find_seen s m [] = refl
 find_seen s m (x ∷ xs) = grind (arith, cases_Bool (is_plan_of s x), cases_Bool (x.n == m), find_seen s m xs)
 
--- the plan of a desk that a text names is in the tables by its number
+-- a plan that a desk sees is found in the tables by its number
 pub seen_there : (s : Text) (w : World) (text : Text) (plan : Plan) → plan_seen (view s w) text ≡ Some plan → plan_in w s plan.n ≡ Some plan
 seen_there s w text plan e =
     let found = and_then_some (λ m. find (has_number m) (view s w).plans) (plan_number text) plan e in
@@ -301,7 +301,7 @@ unfolding Removes
 fit_removes s w n =
     fit_of_plan s w _ _ _ (λ plan seen. fit_makes s w _ _ _ (tt, some_there (plan_in w s plan.n) plan (seen_there s w n plan seen)))
 
--- the code is there, of the kind that is taken
+-- the code is published with the required kind
 right_kind : (kind : Kind) (o : Option Published) → not (is_some o) ≡ false → is_other_kind kind o ≡ false → IsThereAnd o (λ code. same_kind code.kind kind ≡ true)
 right_kind kind None absent other = absurd (both_ways true absent refl)
 right_kind kind (Some row) absent other = not-false (same_kind row.kind kind) other
@@ -371,7 +371,7 @@ fit_best s w n word =
     (λ kind. fit_some s w _ _ (λ p is. fit_why_or s w _ _ _ _ (λ text by. fit_shows s w _)))
     (λ kind. fit_some s w _ _ (λ shop is. fit_why_or s w _ _ _ _ (λ text by. fit_shows s w _))))
 
--- what an admitted request makes fits
+-- the change of an admitted request fits
 answers_fit : (w : World) (r : Request) → IsFit (subject r) w (Answers (view (subject r) w) r.call)
 answers_fit w r = by_call r.key r.call
   where
@@ -393,7 +393,7 @@ answers_fit w r = by_call r.key r.call
     by_call key (days desk n rule) = fit_days desk w n rule
     by_call key (best desk n budget) = fit_best desk w n budget
 
--- what is decided of a request fits
+-- the change of each decision fits
 pub decided_fits : (w : World) (r : Request) (reply : Reply) (c : Change) → decided (admits (view (subject r) w) r) (Answers (view (subject r) w) r.call) reply c → FitsIn (subject r) w c
 decided_fits w r reply c h = by_key (cases_Bool (admits (view (subject r) w) r))
   where

@@ -19,13 +19,13 @@ use Rattle.plan_desk.specs.BookSteps.{Finds}
 use Rattle.plan_desk.proofs.FitLemmas.{seen_there}
 use Rattle.plan_rows.proofs.RuleLemmas.{found_has}
 
--- a fault that is handed on is blamed as it was
+-- a fault that is returned unchanged has the same blame
 pub blamed_on : {X : Type 0} (result : Result X BookFault) (fault : BookFault) (Blamed : Type 0) → IsErr result × IsErrAnd result (λ handed. handed ≡ fault)
     → (fault ≡ Store → Blamed) → IfErr result (λ handed. handed ≡ Store → Blamed)
 blamed_on (Ok x) fault Blamed h blamed = tt
 blamed_on (Err handed) fault Blamed h blamed = λ is. blamed (sym h.1 ∙ is)
 
--- a project's places are those of what its file says
+-- a project's row has no number of places if its file spells no project
 pub unread_project : (row : PlanRow) (body : Text) → row.kind ≡ kinds.Project → body ≡ row.body.items → ((p : Project) → SaysProject body p → ⊥) → (count : ℕ)
     → RowHasPlaces row count → ⊥
 unread_project row body kind same unsaid count has =

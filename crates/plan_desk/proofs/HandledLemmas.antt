@@ -43,12 +43,12 @@ want_is : (fault : BookFault) → IsWant (want_of fault)
 want_is NoMemory = inl refl
 want_is Store = inr refl
 
--- the store's refusal is of the store
+-- a reply that is the store's refusal comes from a fault of the store
 store_is : (fault : BookFault) → want_of fault ≡ want_of Store → fault ≡ Store
 store_is NoMemory e = absurd (both_ways true (ap (λ (x : Reply). nat_lt x.status 505) e) refl)
 store_is Store e = refl
 
--- a refusal that isn't of the store is for want of memory
+-- any other refusal is for lack of memory
 memory_is : (fault : BookFault) → (want_of fault ≡ want_of Store → ⊥) → fault ≡ NoMemory
 memory_is NoMemory other = refl
 memory_is Store other = absurd (other refl)
@@ -67,7 +67,7 @@ module _ {B : Type 0} (shelf : Shelf B) (r : Request) where
       by_step (inl (stands, is)) = unseen desk (shelf.world a) r reply (shelf.world c) apart (step_is_real _ r reply _ is)
       by_step (inr (want, same)) = unseen desk (shelf.world a) r reply (shelf.world c) apart (want_is_real _ r reply _ want (same s))
 
-  -- nothing was written, and the request was refused for want
+  -- nothing was written, and the request was refused for lack of memory or by the store
   pub wanted_quietly : (a c : B) (fault : BookFault) → Quiet shelf a c → (fault ≡ Store → shelf.honest c → shelf.stands a → shelf.can_refuse)
       → (fault ≡ NoMemory → shelf.denials c ≡ shelf.denials a) → (fault ≡ Store → shelf.honest c → shelf.stands a → shelf.denials c ≡ shelf.denials a + 1)
       → Handled shelf a c r (want_of fault)
@@ -91,7 +91,7 @@ module _ {B : Type 0} (shelf : Shelf B) (r : Request) where
       step : shelf.honest c → Step a c (want_of fault)
       step h = inr (want_is fault, λ s. q.same h s)
 
-  -- a fault that is handed on
+  -- a fault that is returned unchanged
   pub wanted_at_once : {X Y : Type 0} (Is : World → X → Type 0) (P : Y → Type 0) (a c : B) (fault : BookFault) (result : Result Y BookFault) → Finds shelf a c Is (Err fault)
       → IsErr result × IsErrAnd result (λ handed. handed ≡ fault) → MatchResult result P (λ handed. Handled shelf a c r (want_of handed))
   wanted_at_once Is P a c fault (Ok y) f h = absurd h.1
@@ -155,7 +155,7 @@ module _ {B : Type 0} (shelf : Shelf B) (r : Request) where
   something : (c : Change) → is_keep c ≡ false → IsMade c
   something c is keeps = both_ways _ is (ap is_keep keeps)
 
-  -- nothing was to be changed, and nothing was
+  -- nothing had to change, and nothing changed
   abbrev Kept : B → B → Change → Type 0
   Kept b c change = (change ≡ Keep) × Quiet shelf b c × (shelf.stands b → shelf.stands c) × (shelf.denials c ≡ shelf.denials b)
 
@@ -182,7 +182,7 @@ module _ {B : Type 0} (shelf : Shelf B) (r : Request) where
   dropped X b c s (SetCalendar n start days) fault h = refused_write X b c s _ fault (something _ refl) h
   dropped X b c s (SetLag n source target lag) fault h = refused_write X b c s _ fault (something _ refl) h
 
-  -- what was judged of a request
+  -- the decision on a request
   pub record Judged (a b : B) (reply : Reply) (c : Change) : Type 0 where
     pub quiet : Quiet shelf a b
     pub stands : shelf.honest b → shelf.stands b
@@ -192,7 +192,7 @@ module _ {B : Type 0} (shelf : Shelf B) (r : Request) where
   fine_is_no_want : (reply : Reply) → nat_lt reply.status 500 ≡ true → reply ≡ want_of Store → ⊥
   fine_is_no_want reply fine is = both_ways _ (ap (λ (x : Reply). nat_lt x.status 500) is) fine
 
-  -- nothing was to be changed
+  -- a decision without a change
   handled_quietly : (a b c : B) (reply : Reply) → Judged a b reply Keep → Quiet shelf b c → (shelf.stands b → shelf.stands c)
       → shelf.denials c ≡ shelf.denials b → Handled shelf a c r reply
   handled_quietly a b c reply j q still told = record {
@@ -270,7 +270,7 @@ module _ {B : Type 0} (shelf : Shelf B) (r : Request) where
                 (now.1 ∙ ap (λ t. apply t change (shelf.world b)) (own b_honest) ∙ ap (apply (subject r) change) (j.quiet.same b_honest (j.stands b_honest))),
           )
 
-  -- a change was refused for want
+  -- a change was refused for lack of memory or by the store
   handled_refused : (a b c : B) (reply : Reply) (s : Text) (change : Change) (fault : BookFault) → Judged a b reply change → Refused b c s change fault
       → (shelf.honest b → s ≡ subject r) → (shelf.honest c → writes r.call ≡ true) → Handled shelf a c r (want_of fault)
   handled_refused a b c reply s change fault j w own command = record {
@@ -317,7 +317,7 @@ module _ {B : Type 0} (shelf : Shelf B) (r : Request) where
             ),
           )
 
-  -- a change is of a command
+  -- only a command makes a change
   is_command : (v : View) (reply : Reply) (change : Change) → IsDecision v r reply change → IsMade change → writes r.call ≡ true
   is_command v reply change h made = by_sort (sorted_decision v r reply change h).0
     where
@@ -325,7 +325,7 @@ module _ {B : Type 0} (shelf : Shelf B) (r : Request) where
       by_sort (inl keeps) = absurd (made keeps.kept)
       by_sort (inr makes) = makes.is_command
 
-  -- whose change it is, where it is one
+  -- a change is made for the desk of the request
   owner_is : (s : Text) (change : Change) → IsMade change → (change ≡ Keep) ⊎ (s ≡ subject r) → s ≡ subject r
   owner_is s change made (inl keeps) = absurd (made keeps)
   owner_is s change made (inr is) = is
@@ -343,7 +343,7 @@ module _ {B : Type 0} (shelf : Shelf B) (r : Request) where
       → (shelf.honest b → shelf.stands b) → shelf.honest b → (change_in d.change ≡ Keep) ⊎ (owner_of path d.change ≡ subject r)
   owned_by path a b d f stands h = (f.found h (f.quiet.stood h (stands h))).1.owner
 
-  -- what was judged and carried out
+  -- a request whose decision was carried out is handled
   pub handled_fully : {X : Type 0} (path : Text) (a b c : B) (d : Decision) (x : X) → Finds shelf a b (λ w. IsDecided path (subject r) (λ v. IsDecision v r) (view (subject r) w)) (Ok d)
       → (shelf.honest b → shelf.stands b) → CarriesOut shelf b c (owner_of path d.change) (change_in d.change) (Ok x) → Handled shelf a c r (reply_of d.reply)
   handled_fully path a b c d x f stands h = by_case (carried b c (owner_of path d.change) (change_in d.change) x h)
@@ -357,7 +357,7 @@ module _ {B : Type 0} (shelf : Shelf B) (r : Request) where
       by_case (inr w) = handled_made a b c (reply_of d.reply) (owner_of path d.change) (change_in d.change) judged w
           (λ honest. owner_is _ (change_in d.change) w.made (owned_by path a b d f stands honest))
 
-  -- what was judged, and refused for want
+  -- a request whose change was refused is handled
   pub handled_in_want : (X : Type 0) (path : Text) (a b c : B) (d : Decision) (fault : BookFault) → Finds shelf a b (λ w. IsDecided path (subject r) (λ v. IsDecision v r) (view (subject r) w)) (Ok d)
       → (shelf.honest b → shelf.stands b) → CarriesOut shelf b c {X = X} (owner_of path d.change) (change_in d.change) (Err fault) → Handled shelf a c r (want_of fault)
   handled_in_want X path a b c d fault f stands h = by_case (dropped X b c (owner_of path d.change) (change_in d.change) fault h)
@@ -371,14 +371,14 @@ module _ {B : Type 0} (shelf : Shelf B) (r : Request) where
           (λ honest. owner_is _ (change_in d.change) w.made (owned_by path a b d f stands honest))
           (λ honest. is_command _ (reply_of d.reply) (change_in d.change) (judged.decided (w.honesty honest)) w.made)
 
-  -- the same of a path by another name
+  -- the same for an equal path
   pub wanted_on : (X : Type 0) (path on : Text) (a b c : B) (d : Decision) (fault : BookFault) → on ≡ path
       → Finds shelf a b (λ w. IsDecided path (subject r) (λ v. IsDecision v r) (view (subject r) w)) (Ok d) → (shelf.honest b → shelf.stands b)
       → CarriesOut shelf b c {X = X} (owner_of on d.change) (change_in d.change) (Err fault) → Handled shelf a c r (want_of fault)
   wanted_on X path on a b c d fault is f stands h =
       handled_in_want X path a b c d fault f stands (subst (λ p. CarriesOut shelf b c {X = X} (owner_of p d.change) (change_in d.change) (Err fault)) is h)
 
-  -- the change that was judged may be carried out
+  -- the rows that the decided change needs exist, and the tables keep their rules after it
   pub judged_allows : (path : Text) (a b : B) (d : Decision) → Finds shelf a b (λ w. IsDecided path (subject r) (λ v. IsDecision v r) (view (subject r) w)) (Ok d)
       → (shelf.stands b → IsWorld (shelf.world b)) → shelf.honest b → shelf.stands b → Allows (owner_of path d.change) (shelf.world b) (change_in d.change)
   judged_allows path a b d f whole h stands = by_owner found.1.owner

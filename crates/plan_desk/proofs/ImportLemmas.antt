@@ -1,4 +1,4 @@
--- What an import decides by what a book answers.
+-- The decision on an import, from the answers of a book.
 use Rattle.std.proofs.Common.{◌≡◌, ◌+◌, inl, inr, ℕ, Option, Some, None, List, [], ◌∷◌, length, refl, sym, ap, ◌∙◌, subst, arith}
 use Rattle.std.proofs.lemmas.Bool.{cases_Bool}
 use Rattle.std.proofs.lemmas.List.{length-map}
@@ -36,7 +36,7 @@ pub held_are : (rows : List Plan) (answer : List PlanEntry) → ListsPlans rows 
 held_are rows answer is =
     sym (length-map answer entry_in) ∙ ap (λ l. length l) is ∙ length-map (in_order plan_before rows) entry_of ∙ as_long rows
 
--- the row of a desk, by what was answered
+-- the row of a desk, from the answer of a book
 pub record HasDesk (v : View) (row : DeskRow) : Type 0 where
   pub desk : Desk
   pub there : v.desk ≡ Some desk
@@ -66,7 +66,7 @@ pub file_nowhere : (kind : PlanKind) (v : View) (name body : Text) → v.desk �
 file_nowhere kinds.Project v name body absent = imports_nowhere v kinds.Project name body _ _ absent
 file_nowhere kinds.Shop v name body absent = imports_nowhere v kinds.Shop name body _ _ absent
 
--- what is refused of a file
+-- the refusal of a file is the reply to the desk
 pub file_not_kept : (kind : PlanKind) (v : View) (name body : Text) (row : DeskRow) (held : ℕ) (reply : Reply) → HasDesk v row → held ≡ length v.plans
     → IsImportRefusal held row.next kind name body (Some reply) → ImportsFile kind v name body reply Keep
 file_not_kept kind v name body row held reply has many refused =
@@ -78,7 +78,7 @@ file_not_kept kind v name body row held reply has many refused =
     by_kind kinds.Project h = imports_refused v has.desk kinds.Project name body (SaysProject body) reply has.there h
     by_kind kinds.Shop h = imports_refused v has.desk kinds.Shop name body (Says name body) reply has.there h
 
--- nothing is refused of a file that is read
+-- a file that isn't refused is read
 read_of : (held next : ℕ) (kind : PlanKind) (name body : Text) → IsImportRefusal held next kind name body None → IsRead kind name body
 read_of held next kind name body (inl (full, e)) = absurd (not_none _ (sym e))
 read_of held next kind name body (inr (inl (free, spent, e))) = absurd (not_none _ (sym e))

@@ -1,4 +1,4 @@
--- A request with its key is decided as its call is, and one without is refused.
+-- A request with the key gets the decision on its call, and any other request is refused.
 use Rattle.std.proofs.Common.{◌≡◌, Bool, true, false, refl, sym, ◌∙◌, subst}
 use Rattle.plan_desk.specs.declared.change.Decision.{Decision}
 use Rattle.plan_desk.specs.declared.reply.Reply as whole

@@ -22,12 +22,12 @@ use Rattle.plan_rows.proofs.RowLemmas.{filter_none, change_of, filter-changed, f
 use Rattle.plan_rows.proofs.OwnerLemmas.{text_from_same}
 use Rattle.plan_rows.proofs.RuleLemmas.{all_append, all_filter, all_changed, all_put, differ_changed, differ_append, differ_filter, differ_put, found_has, there_append, there_changed, there_put, there_map, find_kept, find_none, all_found, all_both, length_fewer}
 
--- the plan of a lag is a project, there and with the arc
+-- the plan of a lag exists, is a project and has the arc
 abbrev pub HasLagArc : World → Text → ℕ → ℕ → ℕ → Type 0
 HasLagArc w desk n source target = IsThereAnd (plan_in w desk n) (λ plan.
     (plan.kind ≡ kinds.Project) × ((p : Project) × SaysProject plan.body p × (has_arc p.network source target ≡ true)))
 
--- what the rules ask of the plan of a bind, and of that of a lag
+-- the rules for the plan of a bind, and for that of a lag
 abbrev pub HasBound : World → Bind → Plan → Type 0
 HasBound w row plan =
     ((count : ℕ) × HasPlaces plan.kind plan.name plan.body count × (is_place plan.kind count row.place ≡ true))
@@ -38,7 +38,7 @@ HasLag row plan =
     (plan.kind ≡ kinds.Project) × ((p : Project) × SaysProject plan.body p × (has_arc p.network row.source row.target ≡ true))
     × (is_from_to 1 10000 row.lag ≡ true)
 
--- what a change needs to keep the rules, where it is made for a desk
+-- the conditions under which a change for a desk keeps the rules
 abbrev pub Fits : Text → World → Change → Type 0
 Fits s w Keep = Unit {0}
 Fits s w (Publish code kind capacity) =
@@ -173,9 +173,9 @@ keep_key s w digest k fits = record {
         by_desk (inl in_) = subst (λ row. n < row.next) (sym (cond-true (is_desk s x) (with_digest digest x) x in_)) h
         by_desk (inr out_) = subst (λ row. n < row.next) (sym (cond-false (is_desk s x) (with_digest digest x) x out_)) h
 
--- ---- a plan more
+-- ---- one plan more
 
--- one plan more of a desk that has less than 100
+-- a desk with fewer than 100 plans has at most 100 after one more
 few_still : (s : Text) (w : World) (new : Plan) → new.desk ≡ s → length (filter (is_plan_of s) w.plans) < 100 → (d : Text)
     → length (filter (is_plan_of d) w.plans) ≤ 100 → length (filter (is_plan_of d) (w.plans ++ new ∷ [])) ≤ 100
 few_still s w new own room d h = by_desk (cases_Bool (is_plan_of d new))
@@ -280,7 +280,7 @@ keep_add s w kind name body k (row, found, room, spent, named, reads) = record {
         (subst (λ o. IsThereAnd (option_map (change_of (is_desk s) risen) o) (λ desk. next_of (desk_in w s) < desk.next)) (sym found)
         (subst (λ z. next_of (desk_in w s) < z.next) (sym (cond-true (is_desk s row) (risen row) row its_row.1)) (omega (arith, numbered))))
 
--- ---- a plan less
+-- ---- one plan less
 
 keep_remove : (s : Text) (w : World) (n : ℕ) → IsWorld w → IsWorld (apply s (RemovePlan n) w)
 keep_remove s w n k = record {
@@ -380,7 +380,7 @@ keep_calendar s w n start days k fits = record {
     f : Plan → Plan
     f = with_calendar start days
 
-    -- what holds of a plan with its calendar and without holds of it as it is changed
+    -- a fact about a row and about its changed form holds after the change
     still : (P : Plan → Type 0) (x : Plan) → P (f x) → P x → P (change_of q f x)
     still P x new old = by_test (cases_Bool (q x))
       where

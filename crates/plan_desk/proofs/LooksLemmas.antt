@@ -1,4 +1,4 @@
--- What decisions look at is the same in two views that have the same rows.
+-- Decisions depend on values that are the same in two views that have the same rows.
 use Rattle.std.proofs.Common.{◌≡◌, ℕ, zero, suc, ◌<◌, ◌≤◌, ◌⊎◌, inl, inr, Bool, true, false, ◌&&◌, List, [], ◌∷◌, ◌++◌, map, filter, length, Option, Some, None, refl, sym, ap, ◌∙◌, subst, arith}
 use Rattle.std.specs.Prelude.{find, option_and_then, option_to_list, ◌==◌, nat_lt, IsPermutation, Contains, codes}
 use Rattle.std.specs.List.{AllByRecursion}
@@ -84,7 +84,7 @@ found_desk v k t n P h = by_plan (plan_in (alone v) t n) refl h
         let own = plan_desk v k x found.0 in
         (own.0, own.1, sym (text_from_same x.desk t (and_parts (same_text x.desk t) (x.n == n) found.1).0) ∙ own.2)
 
--- rows that differ by one test differ by another that says no less of them
+-- rows that differ by one test differ by another one that this difference implies
 module _ {A : Type 0} where
   differ_weaker : (alike other : A → A → Bool) (xs : List A) → ((x y : A) → Has xs x → Has xs y → alike x y ≡ false → other x y ≡ false)
       → AllDiffer alike xs → AllDiffer other xs
@@ -105,7 +105,7 @@ same_place a b = (b.n == a.n) && (b.place == a.place)
 abbrev same_arc : Lag → Lag → Bool
 same_arc a b = (b.source == a.source) && (b.target == a.target)
 
--- the rows of a view differ by less than their whole keys
+-- the plans of a view differ by their numbers
 pub numbers_differ : (v : View) → IsWorld (alone v) → AllDiffer same_number v.plans
 numbers_differ v k = differ_weaker (λ a b. is_plan a.desk a.n b) same_number v.plans weaker k.plans_differ
   where
@@ -167,7 +167,7 @@ number_orders = record {
     longer : (x y z : Plan) → x.n < y.n → y.n < z.n → x.n < z.n
     longer x y z e f = omega (arith, e, f)
 
--- by its first activity, then by its second one
+-- lags are ordered by the first activity of the arc, then by the second one
 is_lag_before : (x y : Lag) → lag_before x y ≡ true → (x.source < y.source) ⊎ ((x.source ≡ y.source) × (x.target < y.target))
 is_lag_before x y e = by_first (or_cases (nat_lt x.source y.source) ((x.source == y.source) && nat_lt x.target y.target) e)
   where
@@ -238,7 +238,7 @@ code_orders = record {
     by_order x y e Equal is = absurd (both_ways (same_code x y) e (sym (is_eq-slice_cmp x.code y.code) ∙ ap is_eq is))
     by_order x y e Greater is = inr (ap is_lt (nat_list_cmp_total.antisymm y.code x.code ∙ ap ordering_reverse is))
 
--- ---- what decisions look at
+-- ---- the values that decisions depend on
 
 pub record LooksAlike (v u : View) : Type 0 where
   pub office : v.office ≡ u.office

@@ -1,4 +1,4 @@
--- Schedules that are made: what pages show of them is within the limits of texts.
+-- The schedules that pages show are within the limits of texts.
 use Rattle.std.proofs.Common.{◌≡◌, ◌⊎◌, inl, inr, ℕ, ◌+◌, ◌≤◌, ◌<◌, Bool, List, get_or, refl, sym, ◌∙◌, subst, arith}
 use Rattle.std.specs.Prelude.{All, Result, Ok, Err, IfOk, string_bytes}
 use Rattle.plan_sgs.specs.Problem.{IsActive, count, duration, makespan}
@@ -31,7 +31,7 @@ use Rattle.plan_desk.specs.PageRoutes.{TellsShopRefusal}
 use Rattle.plan_desk.specs.PlanValues.{open_in}
 use Rattle.plan_desk.specs.Scheduled.{IsMade, IsMadeOfShop, TellsUnscheduled}
 
--- the schedule of a rule
+-- a schedule by a rule
 made_by : (i : Planned) (name : Text) (rule : Rule) (s : Schedule) → name ≡ rule_text rule → IsRuleSchedule i rule s.starts.items → IsActive (problem_of i) s.starts.items
     → s.makespan ≡ makespan (problem_of i) s.starts.items → AllEndBy (problem_of i) s.starts.items placing.latest_end → s.makespan ≤ placing.latest_end → IsMade i name s
 made_by i name rule s named by active is ends few = record {
@@ -47,7 +47,7 @@ made_by i name rule s named by active is ends few = record {
   };
 }
 
--- what the call of a rule answers
+-- the result of scheduling by a rule
 pub made_result : (i : Planned) (name : Text) (rule : Rule) (r : Result Schedule SgsFault) → name ≡ rule_text rule
     → IfOk r (λ s. IsRuleSchedule i rule s.starts.items) → IfOk r (λ s. IsActive (problem_of i) s.starts.items) → IfOk r (λ s. s.makespan ≡ makespan (problem_of i) s.starts.items)
     → IfOk r (λ s. AllEndBy (problem_of i) s.starts.items placing.latest_end) → IfOk r (λ s. s.makespan ≤ placing.latest_end) → IfOk r (IsMade i name)
@@ -84,7 +84,7 @@ made_of_shop s usable name rule m small named opened are active is within = reco
   };
 }
 
--- the line of what a plan's shop is refused for
+-- the line that refuses the schedule of a plan's shop
 pub shop_told : (bound : BoundPlan) (name : Text) (doc : docs.Shop) (usable : List Bool) (first : ShopFault) (line : Text) → bound.plan.kind ≡ kinds.Shop
     → Says (string_bytes bound.plan.name) bound.plan.body.items doc → usable ≡ open_in bound (shop_of doc) → (first ≡ NoMemory → ⊥)
     → (first ≡ NoMemory) ⊎ TellsShopRefusal name (shop_of doc) usable (shop_fault_text_of first) → line ≡ shop_fault_text_of first

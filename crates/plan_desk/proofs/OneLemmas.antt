@@ -34,7 +34,7 @@ use Rattle.plan_desk.specs.BestRoutes.{OfProjectBest, TellsNoShopBest, OfShopBes
 use Rattle.plan_desk.specs.Decisions.{Answers}
 use Rattle.plan_desk.proofs.OutcomeLemmas.{IsOne, IsUnique, one_refuses, one_tells, one_shows, one_makes, one_unless, one_given, one_some, one_unique, one_why_or, one_known}
 
--- ---- what a plan is worked out from
+-- ---- the data of a plan
 
 project_of_once : (v : View) (plan : Plan) → IsUnique (IsProjectOf v plan)
 project_of_once v plan p q (said, says, e) (other, says2, f) =
@@ -154,7 +154,7 @@ closed_told_once : (s : JobShop) (usable : List Bool) → IsUnique (TellsClosed 
 closed_told_once s usable x y (m, first, e) (n, second, f) =
     e ∙ ap (λ k. shop_fault_text_of (shop_fault.MachineClosed k)) (shops.closed_once s.steps usable m n first second) ∙ sym f
 
--- a name is no rule's, or some rule's
+-- a refused name isn't the name of a rule
 no_rule_not_named : (name line : Text) (rule : ShopRule) → TellsNoRule name line → name ≡ shop_names.rule_text rule → ⊥
 no_rule_not_named name line rule (first, refused, e) named = refused.1 rule named
 
@@ -199,7 +199,7 @@ one_charts v n rule =
 beyond_told_once : (IsBeyond : Workdays → Type 0) (start marks : Text) → IsUnique (TellsBeyond IsBeyond start marks)
 beyond_told_once IsBeyond start marks x y (c, is, beyond, e) (d, is2, beyond2, f) = e ∙ sym f
 
--- calendars that go alike have one table of this kind, and none where a day of one is beyond
+-- calendars that agree have one table of this kind, and none if a day is beyond one of them
 pub record TellsDaysOnce (IsTable : Workdays → Text → Type 0) (IsBeyond : Workdays → Type 0) : Type 0 where
   pub one_table : (c d : Workdays) (x y : Text) → calendars.GoAlike c d → IsTable c x → IsTable d y → x ≡ y
   pub apart : (c d : Workdays) (x : Text) → calendars.GoAlike c d → IsTable c x → IsBeyond d → ⊥

@@ -207,7 +207,7 @@ meet d v u r reply after more others xs k l same step e behind (o ∷ requests) 
     (subst (λ m. story.IsStoryOf Answers d (view d after2) requests replies m others2) (sym (tail_of_cons r o more more2 f)) rest) in
     e ∙ ap (λ a. a ∷ others) alike.reply_is ∙ ap (λ m. given ∷ m) tails ∙ sym g
 
--- one story of views of the same rows is told one thing
+-- a story receives the same replies in views of the same rows
 told_same : (d : Text) (v u : View) (requests : List Request) (replies : List Reply) (tale : List Request) (xs : List Reply)
     → IsWorld (alone v) → IsWorld (alone u) → SameView v u → story.IsStoryOf Answers d v requests replies tale xs
     → (others : List Request) (answers ys : List Reply) → story.IsStoryOf Answers d u others answers tale ys → xs ≡ ys

@@ -1,4 +1,4 @@
--- Outcomes that publish nothing, and outcomes of which there is only one.
+-- Outcomes that publish nothing, and outcomes with at most one reply and change.
 use Rattle.std.proofs.Common.{◌≡◌, ℕ, inl, inr, Bool, true, false, Option, Some, None, sym, ap, ◌∙◌, subst}
 use Rattle.plan_rows.specs.World.{Text}
 use Rattle.plan_rows.specs.Changes.{Change, is_publishing}
@@ -53,7 +53,7 @@ AreOne O Q = (reply other : Reply) (c b : Change) → O reply c → Q other b �
 abbrev pub IsOne : Outcome → Type 0
 IsOne O = AreOne O O
 
--- of a fact there is one value at most
+-- at most one value has the property
 abbrev pub IsUnique : {A : Type 0} → (A → Type 0) → Type 0
 IsUnique {A} P = (x y : A) → P x → P y → x ≡ y
 
@@ -87,7 +87,7 @@ pub one_some : {A : Type 0} (P : A → Type 0) (Rest : A → Outcome) → ((x y 
 unfolding some
 one_some P Rest rest reply other c b (x, p, h) (y, q, k) = rest x y p q reply other c b h k
 
--- where there is one value, the rest need be one for each value alone
+-- if at most one value has the property, it is enough that the rest is one for each value
 pub one_unique : {A : Type 0} (P : A → Type 0) (Rest : A → Outcome) → IsUnique P → ((x : A) → P x → IsOne (Rest x)) → IsOne (some P Rest)
 one_unique {A} P Rest one rest =
     one_some P Rest (λ x y p q. subst (λ z. AreOne (Rest x) (Rest z)) (one x y p q) (rest x p))

@@ -1,4 +1,4 @@
--- Pages: what is worked out from a plan as a book answers it is what the routes say of its row.
+-- A page that is built from a book's answer is the page of the plan's row.
 use Rattle.std.proofs.Common.{◌≡◌, ℕ, inl, inr, List, Some, refl, sym, ap, ◌∙◌, subst}
 use Rattle.std.specs.Prelude.{length, Result, Ok, Err, IfOk, IfErr, string_bytes}
 use Rattle.std.specs.Result.{IsErrAnd}
@@ -45,7 +45,7 @@ use Rattle.plan_desk.proofs.RefusedLemmas.{given_there, of_kind}
 use Rattle.plan_desk.proofs.SeenPlanLemmas.{sound_plan}
 use Rattle.plan_desk.proofs.BoundLemmas.{capacities_are, machines_are}
 
--- the rest of a plan that is seen
+-- the rest of a route for a plan that is seen
 plan_there : (v : View) (n : Text) (row : Plan) (Rest : Plan → Outcome) (reply : Reply) → plan_seen v n ≡ Some row → Rest row reply Keep → of_plan v n Rest reply Keep
 unfolding of_plan
 plan_there v n row Rest reply seen rest = given_there (plan_seen v n) row not_found Rest reply Keep seen rest
@@ -84,24 +84,24 @@ dates_shown plan p text reply is project table e v n found =
     plan_there v n found.row _ reply found.seen
     (of_project found.row plan _ _ reply found.answer.kind is (p, project_is v found.row plan p found.answer project, (text, table, e, refl)))
 
--- a shop has none
+-- a shop has no dates
 pub dates_refused : (plan : PlanRow) (reply : Reply) → plan.kind ≡ kinds.Shop → reply ≡ other_kind → (v : View) (n : Text) → IsFound v n plan → Dates v n reply Keep
 unfolding Dates refuses
 dates_refused plan reply is e v n found =
     plan_there v n found.row _ reply found.seen (of_shop found.row plan _ _ reply found.answer.kind is (e, refl))
 
--- what is bound is what the view has bound
+-- the bound capacities are those of the view
 planned_is : (v : View) (n : Text) (bound : BoundPlan) (is : IsBound v n bound) (p : Project) → planned_in bound p ≡ bound_project v is.row p
 planned_is v n bound is p = ap (planned p) (capacities_are v is.row.n bound.places.items is.places 1 p.available)
 
 open_are : (v : View) (n : Text) (bound : BoundPlan) (is : IsBound v n bound) (s : JobShop) → open_in bound s ≡ open_machines v is.row.n s.machines
 open_are v n bound is s = machines_are v is.row.n bound.places.items is.places s.machines
 
--- a page of a schedule, whatever it shows of it
+-- a page of a schedule, for any text of the schedule
 abbrev pub OfEither : View → Text → Text → (Plan → Planned → List ℕ → Outcome) → (Plan → JobShop → List ℕ → Outcome) → Outcome
 OfEither v n rule Rest RestOfShop = of_plan v n (λ plan. by_kind plan.kind (OfSchedule v plan rule (Rest plan)) (OfShopSchedule v plan rule (RestOfShop plan)))
 
--- what it shows of a schedule that is made
+-- the outcome of the page for a schedule
 abbrev pub RestOf : (Planned → List ℕ → Outcome) → (JobShop → List ℕ → Outcome) → BoundPlan → Scheduled → Reply → Type 0
 RestOf Rest RestOfShop bound (made.Project p schedule) reply = Rest (planned_in bound p) schedule.starts.items reply Keep
 RestOf Rest RestOfShop bound (made.Shop s schedule) reply = RestOfShop s schedule.starts.items reply Keep
@@ -127,7 +127,7 @@ schedule_shown bound rule (made.Shop s schedule) reply Rest RestOfShop (kind, sh
           (inr (schedule.starts.items, done.by, rest)),
     ))
 
--- why there is none
+-- the refusal of a schedule
 schedule_refused : (bound : BoundPlan) (rule line : Text) (reply : Reply) (Rest : Plan → Planned → List ℕ → Outcome) (RestOfShop : Plan → JobShop → List ℕ → Outcome)
     → TellsUnscheduled bound rule line → reply ≡ bad_schedule line → (v : View) (n : Text) (is : IsBound v n bound) → OfEither v n rule Rest RestOfShop reply Keep
 unfolding OfSchedule OfShopSchedule some why_or refuses
@@ -148,7 +148,7 @@ schedule_refused bound rule line reply Rest RestOfShop (inr (kind, (s, shop, tol
           (inl (line, told, (e, refl))),
     ))
 
--- no page is made, and the store is blamed for no plan of a sound office
+-- if no page is made, the store isn't blamed for a plan of a sound office
 pub no_page : (IsSeen : View → Text → Type 0) (Route : View → Text → Outcome) (r : Result rows.Reply BookFault) (fault : BookFault) → IsErrAnd r (λ e. e ≡ fault)
     → (fault ≡ Store → (v : View) (n : Text) → IsSeen v n → IsWorld (alone v) → ⊥) → MakesPage IsSeen Route r
 no_page IsSeen Route r fault same never = let p = err_from_is_err_and r same in rw (p.1, p.2) (record { shown = tt; blamed = never })
@@ -185,7 +185,7 @@ pub chart_refused : (bound : BoundPlan) (rule line : Text) (reply : Reply) → T
 unfolding Charts
 chart_refused bound rule line reply told e v n seen = schedule_refused bound rule line reply _ _ told e v n seen
 
--- a calendar is that of any row with its texts
+-- rows with the same texts have the same calendar
 same_calendar : (a b : Plan) (IsTable : Workdays → Text → Type 0) (IsBeyond : Workdays → Type 0) (reply : Reply) → a.start ≡ b.start → a.days ≡ b.days
     → OfCalendar a IsTable IsBeyond reply Keep → OfCalendar b IsTable IsBeyond reply Keep
 unfolding OfCalendar
@@ -204,7 +204,7 @@ days_answered bound rule (made.Shop s schedule) reply done days v n seen =
     schedule_shown bound rule (made.Shop s schedule) reply _ _ done v n seen
     (same_calendar (row_in bound.plan) seen.row _ _ reply seen.answer.start seen.answer.days days)
 
--- what is made of a schedule by the plan's calendar
+-- the page of a schedule's working days
 pub days_made : (bound : BoundPlan) (rule : Text) (it : Scheduled) (r : Result rows.Reply BookFault) → IsScheduled bound rule it
     → IfOk r (λ reply. OfCalendar (row_in bound.plan) (IsDaysTableOf it) (HasDayBeyondOf it) (reply_of reply) Keep)
     → IfErr r (λ fault. fault ≡ Store → HasCalendar (string_bytes bound.plan.start) (string_bytes bound.plan.days) → ⊥)

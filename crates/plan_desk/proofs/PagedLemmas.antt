@@ -33,7 +33,7 @@ rules_alone : (desk : Text) (w : World) → IsWorld w → IsWorld (alone (view d
 unfolding AloneKeepsRules
 rules_alone = alone_keeps_rules
 
--- what a page is made of
+-- a plan that is found with its number is found
 pub found_is : (v : View) (text : Text) (found : FoundPlan) → IsNumbered v text found → IsFound v text found.plan
 found_is v text found is = record { row = is.row; seen = is.seen; answer = is.answer }
 
@@ -46,7 +46,7 @@ module _ {B : Type 0} (shelf : Shelf B) (desk text : Text) (IsSeen : View → Te
       found_other shelf Is _ a b x d f
       (λ w is. decides_kept desk desk (λ v. Route v text) (view desk w) d reply (reply_of reply) told keeps refl (page.shown (view desk w) text (seen w is)))
 
-  -- a page that was not made is not for the store to answer for
+  -- the store isn't blamed for a page that isn't made
   pub page_lost : {X Y : Type 0} (Is : World → X → Type 0) (And : World → Y → Type 0) (a b : B) (x : X) (fault : BookFault) (result : Result Y BookFault)
       → (shelf.stands b → IsWorld (shelf.world b)) → Finds shelf a b Is (Ok x) → ((w : World) → Is w x → IsSeen (view desk w) text)
       → MakesPage IsSeen Route (Err fault) → IsErr result × IsErrAnd result (λ handed. handed ≡ fault) → Finds shelf a b And result
@@ -66,7 +66,7 @@ module _ {B : Type 0} (shelf : Shelf B) (desk text : Text) (IsSeen : View → Te
         (rules_alone desk (shelf.world a) (subst IsWorld (f.quiet.same honest first.0) (whole first.0))));
   }
 
--- ---- no plan of the number
+-- ---- no plan has the number
 
 pub no_dates : (v : View) (text : Text) → plan_seen v text ≡ None → Dates v text not_found Keep
 unfolding Dates of_plan

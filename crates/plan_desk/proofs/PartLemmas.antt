@@ -1,4 +1,4 @@
--- Views that look alike are answered alike.
+-- Views that look alike get the same answers.
 use Rattle.std.proofs.Common.{◌≡◌, ℕ, zero, suc, ◌+◌, Bool, true, false, not, List, [], ◌∷◌, ◌++◌, Option, Some, None, refl, ap, ◌∙◌, subst}
 use Rattle.std.specs.Prelude.{option_map, unwrap_or, is_some, nat_le}
 use Rattle.plan_psplib.specs.Project.{Project}
@@ -24,7 +24,7 @@ use Rattle.plan_desk.specs.BestRoutes.{OfProjectBest, TellsNoShopBest, OfShopBes
 use Rattle.plan_desk.specs.Decisions.{Answers}
 use Rattle.plan_desk.proofs.LooksLemmas.{LooksAlike}
 
--- what may come by one outcome may come by the other
+-- each result of one outcome is a result of the other
 abbrev pub IsPart : Outcome → Outcome → Type 0
 IsPart O Q = (reply : Reply) (c : Change) → O reply c → Q reply c
 
@@ -60,7 +60,7 @@ unfolding by_kind
 part_by_kind kinds.Project One Uno Other Altro one other = one
 part_by_kind kinds.Shop One Uno Other Altro one other = other
 
--- ---- what a plan is worked out from
+-- ---- the data of a plan
 
 project_alike : (v u : View) (plan : Plan) (p : Project) → LooksAlike v u → IsProjectOf v plan p → IsProjectOf u plan p
 project_alike v u plan p alike (said, says, e) = (said, says, e ∙ ap (λ arcs. lagged_by arcs said) (alike.lags plan.n))
@@ -173,7 +173,7 @@ part_best v u n word alike =
     subst (λ usable. why_or (TellsNoShopBest word s usable) bad_schedule (λ text. NoneIsClosed s.steps usable × IsBestTextOf word s text) (λ text. shows (λ shown. shown ≡ text)) reply c)
     (open_alike v u plan.n s.machines alike) h)))
 
--- views that look alike are answered alike
+-- views that look alike get the same answers
 pub answers_alike : (v u : View) (call : Call) → LooksAlike v u → IsPart (Answers v call) (Answers u call)
 answers_alike v u (publish body) alike = part_publishes v u body alike
 answers_alike v u (open_desk body) alike = part_opens v u body alike

@@ -1,11 +1,11 @@
--- The places of plans: what is found at one, and from one on.
+-- The capacities at the places of a plan.
 use Rattle.std.proofs.Common.{◌≡◌, ℕ, zero, suc, arith, length-append, ◌+◌, ◌<◌, List, ◌∷◌, [], ◌++◌, length, get_or, drop, Option, Some, refl, sym, ap, ◌∙◌, add-one, drop-cons, append_assoc}
 use Rattle.std.specs.Prelude.{find, ◌==◌, unwrap_or, option_and_then}
 use Rattle.std.proofs.lemmas.Bool.{cond-true, cond-false, eq-eqb, ne_eqb}
 use Rattle.plan_desk.specs.declared.bound.BoundPlace.{BoundPlace}
 use Rattle.plan_desk.specs.PlanValues.{capacity_at, capacities_in, is_open_at, machines_in}
 
--- the capacity of a place, where it is there
+-- the capacity of a place, if it is bound
 abbrev capacity_in : Option BoundPlace → Option ℕ
 capacity_in o = option_and_then (λ (b : BoundPlace). b.capacity) o
 
@@ -22,7 +22,7 @@ pub capacity_at-here : (places : List BoundPlace) (i : ℕ) (d : BoundPlace) (pl
     → capacity_at (drop i places) place ≡ (get_or places i d).capacity
 capacity_at-here places i d place inside here = rw (drop-cons places i d) (found_first (get_or places i d) _ place here)
 
--- it isn't
+-- the first of the places that are left is another one
 pub capacity_at-past : (places : List BoundPlace) (i : ℕ) (d : BoundPlace) (place : ℕ) → i < length places → ((get_or places i d).place ≡ place → ⊥)
     → capacity_at (drop (i + 1) places) place ≡ capacity_at (drop i places) place
 capacity_at-past places i d place inside other =
@@ -44,7 +44,7 @@ pub length-capacities_in : (places : List BoundPlace) (k : ℕ) (available : Lis
 length-capacities_in places k [] = refl
 length-capacities_in places k (x ∷ xs) = ap suc (length-capacities_in places (k + 1) xs)
 
--- each machine is looked at
+-- each machine is tested
 pub length-machines_in : (places : List BoundPlace) (n : ℕ) → length (machines_in places n) ≡ n
 length-machines_in places zero = refl
 length-machines_in places (suc n) =

@@ -54,7 +54,7 @@ use Rattle.plan_desk.specs.PageRoutes.{Dates, OfSchedule, Schedules}
 use Rattle.plan_desk.specs.Decisions.{IsDecision, IsRun}
 use Rattle.plan_desk.proofs.Examples.{desk_row, bound, lagged, north, crew_a, office, asks, said, admitted, body_refused, published}
 
--- two activities, one before the other, and a resource of which there are 2
+-- two activities, one before the other, and a resource of capacity 2
 abbrev pair : List ℕ
 pair = codes "projects: 1\njobs: 2\n- renewable: 1\n- nonrenewable: 0\n- doubly constrained: 0\nPRECEDENCE RELATIONS:\njobnr. #modes #successors successors\n1 1 1 2\n2 1 0\nREQUESTS/DURATIONS:\njobnr. mode duration R\n1 1 3 1\n2 1 4 2\nRESOURCEAVAILABILITIES:\nR\n2\n"
 
@@ -168,7 +168,7 @@ nothing_told fault code line cycle = (
       (subst (λ n. fault_text_by file_code.MissingHead n fault.cycle.items ≡ codes "F3 line 0") (sym line) refl))),
 )
 
--- so it isn't imported
+-- an empty file isn't imported
 nothing_refused : (fault : FileFault) → fault.code ≡ file_code.MissingHead → fault.line ≡ 0 → fault.cycle.items ≡ []
     → (key : Option Text) → admits desk_of_pair (asks key (call.import_project north [])) ≡ true
     → IsDecision desk_of_pair (asks key (call.import_project north [])) (said 422 Plain (codes "E10 F3 line 0\n")) Keep
@@ -186,7 +186,7 @@ crew_bound : (key : Option Text) → admits desk_of_pair (asks key (pair_bind (c
 unfolding Binds of_plan given some unless makes digits bind_body is_utf8 chars serde_json_on_literals
 crew_bound key open_ = admitted _ key _ _ _ open_ (1, (pair_project, pair_is_said, refl), (refl, refl))
 
--- it has no other resource, which is told before a code that isn't published
+-- the project has no resource 2, which is reported before an unpublished code
 no_place_2 : (key : Option Text) → admits desk_of_pair (asks key (pair_bind (codes "{\"code\":\"crew-x\",\"place\":2}"))) ≡ true
     → IsDecision desk_of_pair (asks key (pair_bind (codes "{\"code\":\"crew-x\",\"place\":2}"))) body_refused Keep
 unfolding Binds of_plan given some refuses bind_body is_utf8 chars serde_json_on_literals
@@ -199,7 +199,7 @@ crew_unknown : (key : Option Text) → admits desk_of_pair (asks key (pair_bind 
 unfolding Binds of_plan given some unless refuses bind_body is_utf8 chars serde_json_on_literals
 crew_unknown key open_ = admitted _ key _ _ _ open_ (1, (pair_project, pair_is_said, refl), (refl, refl))
 
--- a machine is no crew
+-- a machine isn't a crew
 machine_on_project : (key : Option Text) → admits desk_of_pair (asks key (pair_bind (codes "{\"code\":\"m-1\",\"place\":1}"))) ≡ true
     → IsDecision desk_of_pair (asks key (pair_bind (codes "{\"code\":\"m-1\",\"place\":1}")))
     (said 409 Plain (codes "E06 kind differs\n")) Keep
@@ -222,7 +222,7 @@ lag_of_no_arc : (key : Option Text) → admits desk_of_pair (asks key (pair_lag 
 unfolding SetsLag of_plan given by_kind some unless refuses lag_body is_utf8 chars serde_json_on_literals
 lag_of_no_arc key open_ = admitted _ key _ _ _ open_ (pair_project, pair_is_said, (refl, refl))
 
--- a desk that is there gets another key
+-- an existing desk gets another key
 key_given : (key : Option Text) → admits desk_of_pair (asks key (call.set_key north (codes "{\"key\":\"password\"}"))) ≡ true
     → IsDecision desk_of_pair (asks key (call.set_key north (codes "{\"key\":\"password\"}")))
     (said 200 Json (codes "{\"desk\":\"north\"}\n")) (SetKey (sha256 (codes "password")))
@@ -269,7 +269,7 @@ no_such_day date is =
     let last : date.day ≤ days_in_month date.year date.month = date.day_in.1 in
     absurd (omega (arith, last, days, parts.2))
 
--- the date is told before the marks, which are none either
+-- an invalid date is reported before invalid marks
 date_refused : (key : Option Text) → admits desk_of_pair (asks key (calendar_call (codes "{\"start\":\"2023-02-29\",\"days\":\"0000000\"}"))) ≡ true
     → IsDecision desk_of_pair (asks key (calendar_call (codes "{\"start\":\"2023-02-29\",\"days\":\"0000000\"}")))
     (said 422 Plain (codes "E12 G1 date\n")) Keep
@@ -295,7 +295,7 @@ marks_refused key open_ = admitted _ key _ _ _ open_ (inl (
 abbrev lagged_pair : ℕ → Net
 lagged_pair w = record { durations = 3 ∷ 4 ∷ []; arcs = (1, 2) ∷ []; lags = w ∷ [] }
 
--- what holds of 1, of 2, and of 1 and 2 holds of each path
+-- a fact that holds for the paths 1, 2, and 1 then 2 holds for each path
 by_path : (w : ℕ) (P : ℕ → List ℕ → Type 0) → P 1 [] → P 2 [] → P 1 (2 ∷ [])
     → (i : ℕ) (others : List ℕ) → IsPath (lagged_pair w) i others → P i others
 by_path w P one two both zero [] (is, walk) = absurd (omega (arith, is.0))
@@ -310,7 +310,7 @@ by_path w P one two both i (j ∷ k ∷ others) (is, walk) =
     let second : (j ≡ 1) × (k ≡ 2) = pair_arc j k walk.1.0 in
     absurd (omega (arith, first.1, second.0))
 
--- the dates: the lag moves activity 2, and the end
+-- the dates: the lag delays activity 2 and the end
 abbrev pair_dates : ℕ → DateTable
 pair_dates w = record {
   duration = 7 + w;
@@ -467,7 +467,7 @@ lagged_dates key open_ = admitted _ key _ _ _ open_ (
       (pair_dates 2, are_dates 2, refl), refl, refl),
 )
 
--- at capacity 0 activity 1 needs too much
+-- at capacity 0 the need of activity 1 exceeds the capacity
 abbrev nothing_there : Planned
 nothing_there = bound_project lagged_desk pair_plan lagged_project
 
@@ -479,7 +479,7 @@ first_need = (0, 0, refl, refl, (omega arith, omega arith, omega arith, omega ar
     least zero q is = inr (refl, omega arith)
     least (suc h) q is = inl (omega arith)
 
--- so there is no schedule, which is told before the rule that isn't known
+-- so there is no schedule, which is reported before an unknown rule
 need_told : (key : Option Text) → admits lagged_desk (asks key (call.schedule north (codes "1") (codes "zzz"))) ≡ true
     → IsDecision lagged_desk (asks key (call.schedule north (codes "1") (codes "zzz")))
     (said 422 Plain (codes "E11 S1 activity 1 resource 1\n")) Keep
@@ -490,7 +490,7 @@ need_told key open_ = admitted _ key _ _ _ open_ (
   inl (codes "S1 activity 1 resource 1", (sgs_fault.NeedsTooMuch 1 1, inl first_need, refl), (refl, refl)),
 )
 
--- a run: a plan goes, and the rest is listed
+-- a run: a plan is removed, and the others are listed
 abbrev removal : Option Text → Request
 removal key = asks key (call.remove north (codes "2"))
 
@@ -507,7 +507,7 @@ plans_go key open_ = (
   (inl (Keep, admitted (view north (apply north (RemovePlan 2) office)) key (call.plans north) _ _ open_ (refl, refl), refl), tt),
 )
 
--- two desks, the name of one of which begins with that of the other
+-- two desks: the name of one begins with that of the other
 abbrev two_desks : World
 two_desks = record {
   office = [];
@@ -533,7 +533,7 @@ after_both = apply (codes "north-2") (AddPlan Project [] pair) after_north
 abbrev after_again : World
 after_again = apply north (AddPlan Project [] pair) after_both
 
--- each desk's plans are numbered by themselves
+-- each desk numbers its own plans
 desks_in_turn : (key other : Option Text) → admits (view north two_desks) (importing north key) ≡ true
     → admits (view (codes "north-2") two_desks) (importing (codes "north-2") other) ≡ true
     → IsRun two_desks (importing north key ∷ importing (codes "north-2") other ∷ importing north key ∷ [])

@@ -30,17 +30,17 @@ use Rattle.plan_desk.specs.BestRoutes.{Best, OfProjectBest, OfShopBest, TellsNoS
 use Rattle.plan_desk.specs.Decisions.{Answers, IsDecision}
 use Rattle.plan_desk.specs.Promises.{ShowsDates, ShowsSchedule, ShowsShopSchedule, ShowsBest, ShowsShopBest, IsTable, IsShopTable, IsChart, IsShopChart, AreDays, AreShopDays, IsPromised, PagesArePromised}
 
--- a refusal is no page
+-- a refusal isn't a page
 refused_not : (refused reply : Reply) (change : Change) → refuses refused reply change → reply.status ≡ 200 → (refused.status ≡ 200 → ⊥) → ⊥
 unfolding refuses
 refused_not refused reply change h good bad = bad (sym (ap (λ (r : Reply). r.status) h.0) ∙ good)
 
--- what is shown is what the reply has
+-- the shown text is the body of the reply
 shown_as : (IsText : Text → Type 0) (reply : Reply) (change : Change) → shows IsText reply change → IsText reply.body
 unfolding shows
 shown_as IsText reply change h = subst IsText (sym (ap (λ (r : Reply). r.body) h.2)) h.1
 
--- what is told of a plan that is there
+-- an outcome for an existing plan
 record AtPlan (v : View) (n : Text) (Rest : Plan → Outcome) (reply : Reply) (change : Change) : Type 0 where
   plan : Plan
   seen : plan_seen v n ≡ Some plan
@@ -61,7 +61,7 @@ unfolding by_kind
 kinds_apart Project P Q reply change h = inl h
 kinds_apart Shop P Q reply change h = inr h
 
--- what is shown where there is no reason against it
+-- an outcome for a value, if nothing is refused
 record Made {A : Type 0} (P : A → Type 0) (Rest : A → Outcome) (reply : Reply) (change : Change) : Type 0 where
   value : A
   holds : P value
@@ -98,7 +98,7 @@ dates_promised v n reply change h good =
     dates_of v n at.plan reply change at.seen good
     (kinds_apart at.plan.kind (some (IsProjectOf v at.plan) (λ p. shows (IsDateText p.network))) (refuses other_kind) reply change at.rest)
 
--- what is made of a project's schedule
+-- a page of a project's schedule
 project_schedule : (v : View) (n : Text) (plan : Plan) (rule : Text) (Rest : Planned → List ℕ → Outcome) (IsText : Plan → Planned → List ℕ → Text → Type 0)
     (reply : Reply) (change : Change) → plan_seen v n ≡ Some plan → reply.status ≡ 200
     → ((i : Planned) (starts : List ℕ) → Rest i starts reply change → IsText plan i starts reply.body)
@@ -120,7 +120,7 @@ project_schedule v n plan rule Rest IsText reply change seen good shows_so h =
       shown = shows_so i scheduled.value scheduled.rest;
     }
 
--- and of a shop's
+-- a page of a shop's schedule
 shop_schedule : (v : View) (n : Text) (plan : Plan) (rule : Text) (Rest : JobShop → List ℕ → Outcome) (IsText : Plan → JobShop → List ℕ → Text → Type 0)
     (reply : Reply) (change : Change) → plan_seen v n ≡ Some plan → reply.status ≡ 200
     → ((s : JobShop) (starts : List ℕ) → Rest s starts reply change → IsText plan s starts reply.body)
@@ -145,7 +145,7 @@ shop_schedule v n plan rule Rest IsText reply change seen good shows_so h =
       shown = shows_so s scheduled.value scheduled.rest;
     }
 
--- what is made of a plan's schedule, of a project or a shop
+-- a page of a plan's schedule, for a project or a shop
 schedule_of : (v : View) (n rule : Text) (Rest : Plan → Planned → List ℕ → Outcome) (OfShop : Plan → JobShop → List ℕ → Outcome)
     (IsText : Plan → Planned → List ℕ → Text → Type 0) (IsShopText : Plan → JobShop → List ℕ → Text → Type 0) (reply : Reply) (change : Change) → reply.status ≡ 200
     → ((plan : Plan) (i : Planned) (starts : List ℕ) → Rest plan i starts reply change → IsText plan i starts reply.body)
@@ -177,7 +177,7 @@ charts_promised v n rule reply change h good =
     (λ plan s starts told. shown_as (IsShopChart plan s starts) reply change told)
     h
 
--- a refusal where a test holds is none of a page
+-- if a page is shown, the test of a refusal failed
 unless_so : (b : Bool) (refused reply : Reply) (Rest : Outcome) (change : Change) → unless b refused Rest reply change → reply.status ≡ 200 → (refused.status ≡ 200 → ⊥) → Rest reply change
 unfolding unless
 unless_so true refused reply Rest change h good bad = absurd (refused_not refused reply change h good bad)
@@ -234,7 +234,7 @@ best_of_project v n plan word reply change seen good h =
       shown = same ∙ best.shown;
     }
 
--- and of a shop
+-- the best schedule of a shop
 best_of_shop : (v : View) (n : Text) (plan : Plan) (word : Text) (reply : Reply) (change : Change) → plan_seen v n ≡ Some plan → reply.status ≡ 200
     → OfShopBest v plan word reply change → ShowsShopBest v n reply.body
 unfolding OfShopBest
@@ -272,7 +272,7 @@ best_promised v n word reply change h good =
       | inr shop ↦ inr (best_of_shop v n at.plan word reply change at.seen good shop)
     ]
 
--- what an admitted call shows
+-- the page of an admitted call
 answers_promised : (v : View) (c : Call) (reply : Reply) (change : Change) → Answers v c reply change → reply.status ≡ 200 → IsPromised v c reply.body
 answers_promised v (call.dates desk n) reply change h good = dates_promised v n reply change h good
 answers_promised v (call.schedule desk n rule) reply change h good = schedules_promised v n rule reply change h good

@@ -1,5 +1,5 @@
--- No call but that of the publishing route publishes, publishing looks at the codes alone, and a
--- body that names no desk opens none.
+-- Only the publishing route publishes, publishing depends only on the codes, and a body that names
+-- no desk opens none.
 use Rattle.std.proofs.Common.{◌≡◌, ℕ, Bool, true, false, List, Option, Some, None, refl, subst, arith}
 use Rattle.std.proofs.lemmas.Bool.{both_ways}
 use Rattle.std.specs.Prelude.{option_and_then, codes}
@@ -118,7 +118,7 @@ quiet_best v n word =
     quiet_of_plan _ _ _ (λ plan. quiet_by_kind _ _ _
     (quiet_some _ _ (λ p. quiet_why_or _ _ _ _ (λ text. quiet_shows _))) (quiet_some _ _ (λ s. quiet_why_or _ _ _ _ (λ text. quiet_shows _))))
 
--- no call but that of the publishing route publishes
+-- only the publishing route publishes
 pub quiet : (v : View) (call : Call) (reply : Reply) (c : Change) → is_publish call ≡ false → Answers v call reply c → is_publishing c ≡ false
 quiet v (publish body) reply c e h = absurd (both_ways true e refl)
 quiet v (open_desk body) reply c e h = quiet_opens v body reply c h
@@ -137,14 +137,14 @@ quiet v (chart desk n rule) reply c e h = quiet_charts v n rule reply c h
 quiet v (days desk n rule) reply c e h = quiet_days v n rule reply c h
 quiet v (best desk n budget) reply c e h = quiet_best v n budget reply c h
 
--- publishing looks at the codes alone
+-- publishing depends only on the codes
 pub frugal : (v u : View) (body : Text) (reply : Reply) (c : Change) → v.published ≡ u.published
     → Answers v (publish body) reply c → Answers u (publish body) reply c
 frugal v u body reply c e h = subst (λ rows. Publishes rows body reply c) e h
 
 -- ---- a body that names no desk opens none
 
--- a text that passes is a text
+-- a member that isn't a text passes no test
 no_text : (passes : Text → Bool) (name : Text) (value : Data) → text_in any_text name value ≡ None → text_in passes name value ≡ None
 no_text passes name value e = grind (arith, e)
 
@@ -152,7 +152,7 @@ nothing_opened : (value : Option Data) → option_and_then (text_in any_text (co
 nothing_opened None e = refl
 nothing_opened (Some value) e = grind (arith, no_text is_name (codes "desk") value e)
 
--- nothing given is refused, and changes nothing
+-- a missing value is refused, and nothing changes
 none_keeps : {A : Type 0} (o : Option A) (r : Reply) (Rest : A → Outcome) (reply : Reply) (c : Change) → o ≡ None → given o r Rest reply c → c ≡ Keep
 unfolding given refuses
 none_keeps None r Rest reply c e h = h.1

@@ -1,4 +1,4 @@
--- What the functions of values refuse is what the routes answer.
+-- The refusals that functions of values return are the replies of the routes.
 use Rattle.std.proofs.Common.{◌≡◌, inl, inr, ℕ, Bool, true, false, Option, Some, None, length, refl, sym, ap, subst}
 use Rattle.std.specs.Prelude.{option_map, unwrap_or, is_some, not, if◌then◌else◌, nat_le}
 use Rattle.std.proofs.lemmas.Bool.{both_ways, lt-leb, le-leb}
@@ -69,7 +69,7 @@ file_kept : {A : Type 0} (kind : PlanKind) (name body : Text) (Reads : A → Typ
 unfolding why_or some
 file_kept kind name body Reads Rest x reply c reads rest = inr (x, reads, rest)
 
--- an import of which nothing is refused is kept
+-- an import that isn't refused is stored
 pub imports_kept : {A : Type 0} (v : View) (row : Desk) (kind : PlanKind) (name body : Text) (Reads : A → Type 0) (x : A) → v.desk ≡ Some row
     → Reads x → IsImportRefusal (length v.plans) row.next kind name body None
     → Imports v kind name body (TellsFileFault kind name body) Reads (answer 201 (plan_text row.next kind)) (AddPlan kind name body)
@@ -78,7 +78,7 @@ imports_kept v row kind name body Reads x there reads kept =
     given_there v.desk row not_found _ _ _ there
     (limits_passed (length v.plans) row.next kind name body _ _ _ (file_kept kind name body Reads _ x _ _ reads (refl, refl)) kept)
 
--- what is refused of an import is what the desk is answered
+-- the refusal of an import is the reply to the desk
 pub imports_refused : {A : Type 0} (v : View) (row : Desk) (kind : PlanKind) (name body : Text) (Reads : A → Type 0) (reply : Reply) → v.desk ≡ Some row
     → IsImportRefusal (length v.plans) row.next kind name body (Some reply) → Imports v kind name body (TellsFileFault kind name body) Reads reply Keep
 unfolding Imports
@@ -151,7 +151,7 @@ unfolding unless
 code_passed None kind Rest reply c e rest = absurd (not_none _ e)
 code_passed (Some row) kind Rest reply c e rest = test_passed (same_kind row.kind kind) kind_differs Rest reply c e rest
 
--- a bind of which nothing is refused is made
+-- a bind that isn't refused is made
 pub binds_made : (v : View) (plan : Plan) (n body : Text) (count : ℕ) (b : BindBody) → plan_seen v n ≡ Some plan
     → HasPlaces plan.kind plan.name plan.body count → bind_body (is_place plan.kind count) body ≡ Some b
     → bind_refusal_of (option_map (λ (row : Published). row.kind) (code_in v.published b.code)) (takes plan.kind) ≡ None
@@ -165,7 +165,7 @@ binds_made v plan n body count b there has says e =
           (code_passed (code_in v.published b.code) (takes plan.kind) _ _ _ e (refl, refl)),
     )
 
--- a lag of which nothing is refused is set
+-- a lag that isn't refused is set
 pub sets_lag_made : (v : View) (plan : Plan) (p : Project) (n body : Text) (b : LagBody) → plan_seen v n ≡ Some plan → IsProjectIn plan (Some p)
     → lag_body body ≡ Some b → lag_refusal_of b (Some p) ≡ None
     → SetsLag v n body (answer 200 (lag_text b.from b.to b.lag)) (SetLag plan.n b.from b.to b.lag)

@@ -1,4 +1,4 @@
--- What each path through a route decides.
+-- The decision of each path through a route.
 use Rattle.std.proofs.Common.{◌≡◌, inl, inr, ℕ, true, false, Option, Some, None, [], List, refl, sym, ap, ◌∙◌, subst}
 use Rattle.std.specs.Prelude.{unwrap_or, is_some, not, string_bytes}
 use Rattle.std.proofs.lemmas.Bool.{both_ways, cond-true}
@@ -29,7 +29,7 @@ use Rattle.plan_rows.specs.Books.{Matches, IsDeskAnswer}
 use Rattle.plan_desk.proofs.FitLemmas.{desk_says}
 use Rattle.plan_desk.proofs.RefusedLemmas.{refused_by, passed_by, given_there}
 
--- a reply by which nothing changes
+-- a reply without a change
 pub decides_kept : (path s : Text) (Route : View → Outcome) (v : View) (d : Decision) (r : whole.Reply) (reply : Reply) → d.reply ≡ r → d.change ≡ made.Keep
     → reply_of r ≡ reply → Route v reply Keep → IsDecided path s Route v d
 decides_kept path s Route v d r reply same keeps is route = record {
@@ -49,7 +49,7 @@ pub given_nothing : {A : Type 0} (o : Option A) (r : Reply) (Rest : A → Outcom
 unfolding given refuses
 given_nothing o r Rest is = subst (λ (found : Option _). given found r Rest r Keep) (sym is) (refl, refl)
 
--- a list is told
+-- the reply with a list
 pub tells_so : (text : Text) (reply : Reply) → reply ≡ answer 200 text → tells text reply Keep
 unfolding tells
 tells_so text reply is = (is, refl)
@@ -86,7 +86,7 @@ pub opens_nothing : (v : View) (body : Text) → desk_body body ≡ None → Ope
 unfolding Opens
 opens_nothing v body is = given_nothing (desk_body body) bad_body _ is
 
--- an answer is there where the row is
+-- a book answers with a row exactly if the row exists
 pub as_there : {A X : Type 0} (Is : A → X → Type 0) (o : Option A) (row : Option X) → Matches Is o row → is_some o ≡ is_some row
 as_there Is None None h = refl
 as_there Is None (Some x) h = absurd h
@@ -149,7 +149,7 @@ sets_key_by v desk body key digest there is own =
     (sym (ap (λ o. unwrap_or o []) own))
     (passed_by _ _ _ _ _ there (given_there (key_body body) key bad_body _ _ _ is (refl, refl)))
 
--- the desk of a path by what was answered
+-- the desk of a path, from the answer of a book
 pub desk_absent : (w : World) (desk : Text) (row : Option DeskRow) → Matches IsDeskAnswer (desk_in w desk) row → is_some row ≡ false → not (is_some (desk_in w desk)) ≡ true
 desk_absent w desk row answer absent = ap not (as_there IsDeskAnswer (desk_in w desk) row answer ∙ absent)
 

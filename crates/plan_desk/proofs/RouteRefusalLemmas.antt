@@ -1,4 +1,4 @@
--- The line of a file's fault tells the first check that the file fails.
+-- The line of a file's fault gives the first check that the file fails.
 use Rattle.std.proofs.Common.{◌≡◌, ◌⊎◌, inl, inr, List, ℕ, refl, sym, subst}
 use Rattle.plan_psplib.specs.declared.text.fault.FileFault.{FileFault}
 use Rattle.plan_psplib.specs.Faults.{IsWantOfMemory}
@@ -9,7 +9,7 @@ use Rattle.plan_rows.specs.declared.kinds.PlanKind.{PlanKind}
 use Rattle.plan_rows.specs.declared.kinds.PlanKind.TheVariants as kinds
 use Rattle.plan_desk.specs.RouteRefusals.{TellsFileFault}
 
--- memory ran out, or the line of the fault tells what the file fails
+-- memory ran out, or the line of the fault gives the first check that the file fails
 abbrev pub IsTold : PlanKind → List ℕ → List ℕ → FileFault → Type 0
 IsTold kind name body first = IsWantOfMemory first ⊎ TellsFileFault kind name body (file_fault_text_of first)
 

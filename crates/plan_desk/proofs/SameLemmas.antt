@@ -1,4 +1,5 @@
--- Lists of the same rows, in whatever order: what is found, sorted and counted in them is the same where keys are there once.
+-- Lists of the same rows in any order: if keys are unique, search, sorting and counting give the
+-- same results.
 use Rattle.std.proofs.Common.{◌≡◌, ◌⊎◌, inl, inr, Bool, true, false, List, [], ◌∷◌, ◌++◌, map, filter, Option, Some, None, refl, sym, ap, ◌∙◌, subst, arith}
 use Rattle.std.specs.Prelude.{find}
 use Rattle.std.specs.List.{list_any, AllByRecursion}
@@ -25,7 +26,7 @@ module _ {A : Type 0} where
   pub same_swap : (xs ys : List A) → AreSame xs ys → AreSame ys xs
   same_swap xs ys same = record { there = same.back; back = same.there }
 
-  -- what holds of each row holds of one that is there
+  -- a fact about each row holds for any row of the list
   pub all_has : (P : A → Type 0) (xs : List A) (x : A) → AllByRecursion P xs → Has xs x → P x
   all_has P [] x all h = absurd h
   all_has P (y ∷ ys) x all (inl e) = subst P e all.0
@@ -49,7 +50,7 @@ module _ {A : Type 0} where
       later (inl a) = inl (inr a)
       later (inr b) = inr b
 
-  -- ---- what changes keep
+  -- ---- facts that changes preserve
 
   has_filter : (p : A → Bool) (xs : List A) (x : A) → Has xs x → p x ≡ true → Has (filter p xs) x
   has_filter p [] x h e = absurd h
@@ -139,7 +140,7 @@ module _ {A : Type 0} where
           rw (cond-false (list_any q xs) (changed q f xs) (xs ++ new ∷ []) e)
           (rw (cond-false (list_any q ys) (changed q f ys) (ys ++ new ∷ []) (sym (same_any q xs ys same) ∙ e)) (same_added new xs ys same))
 
-  -- ---- what is found
+  -- ---- search
 
   pub found_there : (p : A → Bool) (xs : List A) (x : A) → find p xs ≡ Some x → Has xs x × (p x ≡ true)
   found_there p [] x e = absurd (grind (arith, e))
@@ -160,7 +161,7 @@ module _ {A : Type 0} where
       by_test (inl in_) unlike rest = absurd (both_ways (alike y x) unlike (pass y x in_ e))
       by_test (inr out_) unlike rest = cond-false (p y) (Some y) (find p ys) out_ ∙ rest
 
-  -- what is found by a key is the same in both lists
+  -- a search by a key finds the same row in both lists
   pub find_same : (alike : A → A → Bool) (p : A → Bool) → ((x y : A) → p x ≡ true → p y ≡ true → alike x y ≡ true) → (xs ys : List A)
       → AreSame xs ys → AllDiffer alike xs → AllDiffer alike ys → find p xs ≡ find p ys
   find_same alike p pass xs ys same apart also = by_found (find p xs) refl

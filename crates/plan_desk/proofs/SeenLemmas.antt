@@ -1,6 +1,5 @@
--- What a desk sees of a change: the same, whether it is made in the whole office or in one that has
--- the rows of the desk alone; and nothing, where it is made for another desk and no code is
--- published.
+-- The view of a desk after a change. It is the same if the change is made in an office that has the
+-- rows of the desk alone. A change for another desk leaves it unchanged if no code is published.
 use Rattle.std.proofs.Common.{◌≡◌, ℕ, ◌⊎◌, inl, inr, Bool, true, false, ◌&&◌, List, [], ◌∷◌, ◌++◌, filter, refl, sym, ap, ◌∙◌, subst}
 use Rattle.std.specs.Prelude.{find, option_map, option_to_list, ◌==◌}
 use Rattle.std.proofs.lemmas.Bool.{cases_Bool, cond-true, cond-false, both_ways, and_parts}
@@ -33,7 +32,7 @@ same_view v u office published desk plans binds lags = λ i. record {
   lags = lags i;
 }
 
--- an office that has the rows of a view alone is seen so
+-- an office that has the rows of a view alone has that view
 pub view_alone : (d : Text) (w : World) → view d (alone (view d w)) ≡ view d w
 view_alone d w = same_view (view d (alone (view d w))) (view d w) refl refl
     (find_again (is_desk d) w.desks) (filter_again (is_plan_of d) w.plans)

@@ -22,7 +22,7 @@ use Rattle.plan_desk.proofs.KeepLemmas.{HasLag}
 use Rattle.plan_desk.proofs.SameLemmas.{Has, all_has, found_there, found_one, filter_has, any_has}
 use Rattle.plan_desk.proofs.LooksLemmas.{same_number, numbers_differ, at_has}
 
--- what holds of each row holds of each in order
+-- a fact about each row holds for each row of the sorted list
 module _ {A : Type 0} (before : A → A → Bool) where
   put_has : (x : A) (l : List A) (z : A) → Has (put_in_order before x l) z → (x ≡ z) ⊎ Has l z
   put_has x [] z h = h
@@ -48,7 +48,7 @@ module _ {A : Type 0} (before : A → A → Bool) where
       by_put (inl e) later = inl e
       by_put (inr rest) later = inr (later rest)
 
--- a row at a place of a list is there
+-- a row at a place of a list is in the list
 has_index : {A : Type 0} (xs : List A) (k : ℕ) (d : A) → k < length xs → Has xs (get_or xs k d)
 has_index [] k d inside = absurd (omega (arith, inside))
 has_index (x ∷ xs) zero d inside = inl refl
@@ -65,13 +65,13 @@ is_arc net i j e =
 no_lag : Lag
 no_lag = record { desk = []; n = 0; source = 0; target = 0; lag = 0 }
 
--- the file of a project's row says a project
+-- the file of a project's row spells a project
 project_said : (kind : PlanKind) (name body file : Text) → (count : ℕ) × HasPlaces kind name body count → kind ≡ kinds.Project → file ≡ body
     → (p : Project) × SaysProject file p
 project_said kinds.Project name body file (count, (p, says, e)) is same = (p, subst (λ text. SaysProject text p) (sym same) says)
 project_said kinds.Shop name body file reads is same = absurd (cc)
 
--- the file of a shop's row says a shop
+-- the file of a shop's row spells a shop
 shop_said : (kind : PlanKind) (name body called file : Text) → (count : ℕ) × HasPlaces kind name body count → kind ≡ kinds.Shop → called ≡ name → file ≡ body
     → (doc : docs.Shop) × Says called file doc
 shop_said kinds.Shop name body called file (count, (doc, says, e)) is also same =
@@ -86,14 +86,14 @@ seen_there v n row seen = by_number (plan_number n) seen
     by_number None e = absurd (cc)
     by_number (Some k) e = (k, e)
 
--- and it is the one of its number
+-- the plan is found by its own number
 seen_number : (v : View) (n : Text) (row : Plan) → plan_seen v n ≡ Some row → find (has_number row.n) v.plans ≡ Some row
 seen_number v n row seen =
     let found = seen_there v n row seen in
     let there = found_there (has_number found.0) v.plans row found.1 in
     subst (λ k. find (has_number k) v.plans ≡ Some row) (sym (eqb-true row.n found.0 there.1)) found.1
 
--- and it is among them
+-- the plan is one of the desk's
 pub seen_has : (v : View) (n : Text) (row : Plan) → plan_seen v n ≡ Some row → Has v.plans row
 seen_has v n row seen = (found_there (has_number row.n) v.plans row (seen_number v n row seen)).0
 
@@ -104,7 +104,7 @@ same_plan v n row other k seen there same =
     v.plans other (numbers_differ v k) there (eq-eqb other.n row.n same) in
     cc (found, seen_number v n row seen)
 
--- what holds of the plan of a row's number holds of the plan
+-- a fact about the plan that a row belongs to holds for the plan
 module _ (v : View) (n : Text) (row : Plan) (k : IsWorld (alone v)) (seen : plan_seen v n ≡ Some row) where
   of_its_plan : (t : Text) (m : ℕ) (P : Plan → Type 0) → m ≡ row.n → IsThereAnd (plan_in (alone v) t m) P → P row
   of_its_plan t m P same h = by_plan (plan_in (alone v) t m) refl h
@@ -116,7 +116,7 @@ module _ (v : View) (n : Text) (row : Plan) (k : IsWorld (alone v)) (seen : plan
           let number = eqb-true x.n m (and_parts (is_plan_of t x) (x.n == m) found.1).1 in
           subst P (same_plan v n row x k seen found.0 (number ∙ same)) there
 
-  -- the lags of the plan are on arcs of any project that its file says
+  -- the lags of the plan are on arcs of any project that its file spells
   its_lag : (p : Project) → SaysProject row.body p → (x : Lag) → Has v.lags x → x.n ≡ row.n → IsArc p.network x.source x.target × (x.lag ≤ 10000)
   its_lag p says x there same = on_arc (of_its_plan x.desk x.n (HasLag x) same (all_has (IsLagRow (alone v)) v.lags x k.lagged there))
     where
@@ -134,7 +134,7 @@ module _ (v : View) (n : Text) (row : Plan) (k : IsWorld (alone v)) (seen : plan
       subst (λ arc. IsArc p.network arc.0 arc.1 × (arc.2 ≤ 10000)) (sym (get_or-map arc_of rows i no_lag d few))
       (its_lag p says x there.0 (eqb-true x.n row.n there.1))
 
--- the rules of rows hold of a plan as a book answers it
+-- a plan that a book returns keeps the rules of rows
 pub sound_plan : (v : View) (n : Text) (row : Plan) (plan : PlanRow) → IsWorld (alone v) → plan_seen v n ≡ Some row → IsPlanAnswer v row plan → IsSoundPlan plan
 sound_plan v n row plan k seen answer = record {
   project = λ kind. record {

@@ -1,4 +1,4 @@
--- A shop has a best schedule within the budget that a word spells, or a line tells why not.
+-- A shop has a best schedule within the budget that a word spells, or a line refuses it.
 use Rattle.std.proofs.Common.{◌≡◌, ℕ, zero, suc, ◌+◌, ◌*◌, ◌≤◌, ◌<◌, inl, inr, ◌⊎◌, Bool, true, false, List, [], ◌∷◌, length, refl, sym, ap, subst, arith}
 use Rattle.std.specs.Prelude.{◌&&◌, All}
 use Rattle.std.specs.Fmt.{decimal}
@@ -51,7 +51,7 @@ is_of_budget : (word : Text) (n : ℕ) → IsBudgetText word n → is_budget_tex
 is_of_budget word n (range, spelled) =
     and_from _ _ (and_from _ _ (le-leb 1 n range.0) (le-leb n 200000 range.1)) (subst (λ t. same_text word t ≡ true) spelled (same_text_refl word))
 
--- a word spells a budget below a limit that all budgets are below, or none
+-- a word spells a budget or no budget, because all budgets are below a limit
 pub budget_below : (word : Text) (limit : ℕ) → 200000 < limit → ((n : ℕ) × IsBudgetText word n) ⊎ ((n : ℕ) → IsBudgetText word n → ⊥)
 budget_below word limit all = by_search (first_below (is_budget_text word) limit)
   where
@@ -62,7 +62,7 @@ budget_below word limit all = by_search (first_below (is_budget_text word) limit
 
 -- ---- the starts of a word
 
--- what is placed ends by b
+-- the placed steps end by time b
 record EndsBy (s : JobShop) (xs : List Placed) (b : ℕ) : Type 0 where
   jobs : (j : ℕ) → job_end s xs j ≤ b
   machines : (m : ℕ) → machine_free s xs m ≤ b

@@ -44,7 +44,7 @@ decide_test : (b : Bool) (P : Type 0) → (b ≡ true → P) → (P → b ≡ tr
 decide_test true P holds test = inl (holds refl)
 decide_test false P holds test = inr (λ p. both_ways false refl (test p))
 
--- how far a day is behind another
+-- the number of days between two days
 abbrev days_to : ℤ → ℤ → ℕ
 days_to start day = unsigned_abs (day -ℤ start)
 
@@ -58,7 +58,7 @@ no_gap : (start day : ℤ) (n : ℕ) → day ≡ start +ℤ pos n → unsigned_a
 no_gap start day n e =
     omega (arith, signed_arith, one_part (day -ℤ (start +ℤ pos (days_to start day))), far start day n e, e)
 
--- a day has exactly t working days before it from the start on, and is one
+-- a working day with exactly t working days before it, from the start of the calendar
 record IsOn (c : Workdays) (t : ℕ) (day : ℤ) : Type 0 where
   days : ℕ
   after : day ≡ epoch_day c.start +ℤ pos days
@@ -100,7 +100,7 @@ year_from (negsuc k) is = (9999 - suc k, omega arith, omega (arith, signed_arith
 is_year : (n : ℕ) → n ≤ 19998 → IsYear (year_at n)
 is_year n few = (omega (arith, signed_arith), omega (arith, signed_arith, few))
 
--- the calendar has the date, and its day is the one with exactly t before it
+-- a date in the range of calendars that is such a working day
 record IsDated (c : Workdays) (t n month day : ℕ) : Type 0 where
   year_in : n ≤ 19998
   month_in : (1 ≤ month) × (month ≤ 12)
@@ -152,7 +152,7 @@ dated_of c t date is =
       },
     )
 
--- of some month
+-- such a date in this month
 abbrev IsInMonth : Workdays → ℕ → ℕ → ℕ → Type 0
 IsInMonth c t n month = (day : ℕ) × IsDated c t n month day
 
@@ -164,7 +164,7 @@ decide_month c t n month = by_search (search (IsDated c t n month) (decide_dated
     by_search (inl found) = inl found
     by_search (inr none) = inr (λ found. none found.0 (omega (arith, found.1.day_in.1)) found.1)
 
--- of some year
+-- such a date in this year
 abbrev IsInYear : Workdays → ℕ → ℕ → Type 0
 IsInYear c t n = (month : ℕ) × IsInMonth c t n month
 

@@ -1,4 +1,4 @@
--- Texts of a calendar and files are either read or refused for something.
+-- Texts of a calendar and files are either read or refused.
 use Rattle.std.proofs.Common.{◌≡◌, ℕ, ◌+◌, ◌-◌, ◌*◌, ◌/◌, ◌%◌, ◌≤◌, inl, inr, ◌⊎◌, Bool, true, false, List, [], ◌∷◌, ◌++◌, get_or, length, map, Result, Ok, Err, refl, sym, ◌∙◌, ap, subst, arith, pos}
 use Rattle.std.specs.Prelude.{◌&&◌, ◌==◌, ℤ}
 use denote.RawPtr.{null_ptr}
@@ -153,7 +153,7 @@ some_marks text = by_test (cases_Bool (are_marks text (marks_in text)))
     by_test (inl are) = inl (marks_in text, marks_are text _ are)
     by_test (inr not_) = inr (λ marks is. both_ways _ not_ (are_of_marks text marks is))
 
--- two texts are those of a calendar, or a line tells why not
+-- two texts are those of a calendar, or a line refuses them
 pub some_texts : (start marks : Text) → ((line : Text) × TellsTexts start marks line) ⊎ ((c : Workdays) × IsCalendar start marks c)
 some_texts start marks = by_parts (some_start start) (some_marks marks)
   where
@@ -165,7 +165,7 @@ some_texts start marks = by_parts (some_start start) (some_marks marks)
 
 -- ---- files of shops
 
--- what is read is what the file says
+-- a shop that is read from a file is the one that the file spells
 shop_said : (name text : Text) (d : Shop) → shop name text ≡ Ok d → SaysShop name text d
 unfolding shop
 shop_said name text d e =
@@ -189,13 +189,13 @@ vec_of xs few = (
   refl,
 )
 
--- a fault of a file that is no cycle
+-- a fault of a file that isn't a cycle
 of_fault : (f : Fault) → (told : FileFault) × (f ≡ record { code = told.code; line = told.line }) × (told.cycle.items ≡ [])
 of_fault f =
     let none = vec_of [] (omega arith) in
     (record { code = f.code; line = f.line; cycle = none.0 }, refl, none.1)
 
--- a file says a shop of a name, or a line tells why not
+-- a file spells a shop by a name, or a line refuses the file
 pub some_shop : (name text : Text) → ((line : Text) × TellsFirstShopFault name text line) ⊎ ((d : Shop) × SaysShop name text d)
 some_shop name text = by_read (shop name text) refl
   where
@@ -207,7 +207,7 @@ some_shop name text = by_read (shop name text) refl
 
 -- ---- files of projects
 
--- a line tells the cycle of a document
+-- a line gives the cycle of a document
 some_cycle : (text : Text) (d : Document) → document text ≡ Ok d → Says text d → SomeCycle (network_of d) → (line : Text) × TellsFirstFailing text line
 some_cycle text d e says (members, named, short) =
     let kept = vec_of members (omega (arith, short, says.jobs_fit)) in
@@ -215,7 +215,7 @@ some_cycle text d e says (members, named, short) =
     let named' : IsNamedCycle (network_of d) kept.0.items = subst (IsNamedCycle (network_of d)) (sym kept.1) named in
     (file_fault_text_of told, (told, inr (d, e, (refl, refl, named')), refl))
 
--- a file says a project, or a line tells why not
+-- a file spells a project, or a line refuses the file
 pub some_project : (text : Text) → ((line : Text) × TellsFirstFailing text line) ⊎ ((p : Project) × SaysProject text p)
 some_project text = by_read (document text) refl
   where

@@ -160,7 +160,7 @@ unfolding by_kind
 some_by kinds.Project One Other one other = one refl
 some_by kinds.Shop One Other one other = other refl
 
--- of a plan that there may be, by its kind
+-- the outcome for a plan, if it exists, by its kind
 some_of_kind : (v : View) (n : Text) (One Other : Plan → Outcome) → IsWorld (alone v)
     → ((plan : Plan) → IsPlanRow plan → plan.kind ≡ kinds.Project → IsAnswered (One plan))
     → ((plan : Plan) → IsPlanRow plan → plan.kind ≡ kinds.Shop → IsAnswered (Other plan)) → IsAnswered (of_plan v n (λ plan. by_kind plan.kind (One plan) (Other plan)))
@@ -208,7 +208,7 @@ some_charts v n rule k =
     (λ plan keeps kind. some_of_schedule _ _ _ _ k keeps kind (λ i starts. some_shows _ _ refl))
     (λ plan keeps kind. some_of_shop_schedule _ _ _ _ keeps kind (λ s starts. some_shows _ _ refl))
 
--- a table by the plan's calendar, where each calendar has one or a day beyond
+-- the outcome for the plan's calendar, if each calendar has a table or a day beyond it
 some_of_calendar : (plan : Plan) (IsTable : Workdays → Text → Type 0) (IsBeyond : Workdays → Type 0) → HasCalendar plan.start plan.days
     → ((c : Workdays) → ((text : Text) × IsTable c text) ⊎ IsBeyond c) → IsAnswered (OfCalendar plan IsTable IsBeyond)
 unfolding OfCalendar

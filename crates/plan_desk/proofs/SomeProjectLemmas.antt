@@ -1,4 +1,5 @@
--- The project of a plan keeps its rules with its lags, and has a schedule by the rule of a name and a best one, or a line tells why not.
+-- The project of a plan keeps the rules of projects with its lags. It has a schedule by a rule and
+-- a best schedule, or a line refuses them.
 use Rattle.std.proofs.Common.{◌≡◌, ℕ, suc, ◌+◌, ◌≤◌, ◌<◌, inl, inr, ◌⊎◌, Bool, true, false, List, [], ◌∷◌, length, map, filter, Option, Some, None, refl, sym, ◌∙◌, ap, subst, arith}
 use Rattle.std.specs.Prelude.{if◌then◌else◌, ◌==◌}
 use Rattle.std.specs.List.{AllByRecursion}
@@ -42,7 +43,7 @@ use Rattle.plan_desk.proofs.SomeFileLemmas.{from_to, vec_of}
 
 -- ---- lags
 
--- what holds of a value that is there holds of some value
+-- a fact about an existing value holds for some value
 there_value : {A : Type 0} (o : Option A) (P : A → Type 0) → IsThereAnd o P → (x : A) × P x
 there_value None P h = absurd h
 there_value (Some x) P h = (x, h)
@@ -61,7 +62,7 @@ lags_are_short : (w : World) (rows : List Lag) → AllByRecursion (IsLagRow w) r
 lags_are_short w [] keep = tt
 lags_are_short w (row ∷ rows) keep = (lag_is_short w row keep.0, lags_are_short w rows keep.1)
 
--- rows in another order keep what all have
+-- a fact about all rows holds in another order
 all_put : {A : Type 0} (P : A → Type 0) (before : A → A → Bool) (x : A) (ys : List A) → P x → AllByRecursion P ys → AllByRecursion P (put_in_order before x ys)
 all_put P before x [] here all = (here, tt)
 all_put {A = A} P before x (y ∷ ys) here all = by_test (before y x) (all_put P before x ys here all.1)
@@ -94,7 +95,7 @@ lagged_is_project (arc ∷ arcs) p all is = lagged_is_project arcs (with_project
 
 -- ---- the project of a plan
 
--- a project's plan has a project, which keeps the rules of one
+-- the project of a plan, which keeps the rules of projects
 pub record SomeProject (v : View) (plan : Plan) : Type 0 where
   pub project : Project
   pub said : IsProjectOf v plan project
@@ -118,7 +119,7 @@ some_project_of v plan k keeps kind = of_reads (subst (λ of. (count : ℕ) × H
       is = lagged_is_project (lags_of v plan.n) said short says.3;
     }
 
--- as many capacities as there are resources
+-- each resource has one capacity
 length-capacities : (v : View) (n place : ℕ) (available : List ℕ) → length (capacities_from v n place available) ≡ length available
 length-capacities v n place [] = refl
 length-capacities v n place (x ∷ xs) = ap suc (length-capacities v n (place + 1) xs)
@@ -158,7 +159,7 @@ some_rule name = by_tests (test rule.LatestFinish) (test rule.Slack) (test rule.
         none rule.MostSuccessors = d
         none rule.Number = e
 
--- an instance has a schedule by the rule of a name, or a line tells why not
+-- an instance has a schedule by the rule with this name, or a line refuses it
 pub some_project_schedule : (v : View) (plan : Plan) (p : Project) (name : Text) → IsProject p
     → ((line : Text) × TellsRefusal name (bound_project v plan p) line) ⊎ ((starts : List ℕ) × IsScheduleBy (bound_project v plan p) name starts)
 some_project_schedule v plan p name is = by_parts (refused_or_fit i) (some_rule name)
@@ -200,7 +201,7 @@ some_project_solution i budget instance few allowed =
       },
     )
 
--- an instance has a best schedule within the budget that a word spells, or a line tells why not
+-- an instance has a best schedule within the budget that a word spells, or a line refuses it
 pub some_project_best : (v : View) (plan : Plan) (p : Project) (word : Text) → IsProject p
     → ((line : Text) × TellsBestProjectRefusal word (bound_project v plan p) line) ⊎ ((text : Text) × IsBestProjectTextOf word (bound_project v plan p) text)
 some_project_best v plan p word is = by_parts (refused_or_fit i) (cases_lt 40 (count_of p.network)) (budget_below word 200001 (omega arith))

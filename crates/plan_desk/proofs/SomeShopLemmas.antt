@@ -1,4 +1,4 @@
--- A shop has a schedule by the rule of a name, or a line tells why not.
+-- A shop has a schedule by the rule with this name, or a line refuses it.
 use Rattle.std.proofs.Common.{◌≡◌, ℕ, zero, suc, ◌*◌, ◌≤◌, ◌<◌, inl, inr, ◌⊎◌, Bool, true, false, List, [], ◌∷◌, ◌++◌, length, refl, sym, subst, arith}
 use Rattle.std.specs.Prelude.{◌&&◌, ◌==◌, not, nat_lt, slice_index_or, All}
 use Rattle.std.specs.List.{list_any}
@@ -30,7 +30,7 @@ use Rattle.plan_desk.specs.PageRoutes.{TellsShopRefusal, IsShopScheduleBy}
 
 -- ---- closed machines
 
--- the least number below one that passes, or none does
+-- the least number below n that passes the test, or none below n passes
 pub first_below : (p : ℕ → Bool) (n : ℕ)
     → ((m : ℕ) × (p m ≡ true) × ((h : ℕ) → h < m → p h ≡ false)) ⊎ ((h : ℕ) → h < n → p h ≡ false)
 first_below p zero = inr (λ h less. absurd (omega (arith, less)))
@@ -145,12 +145,12 @@ some_schedule s usable name is = by_parts (some_rule name) (some_closed s.steps 
       },
     )
 
--- what holds of the elements of both lists holds of all
+-- a fact about the elements of two lists holds for both lists together
 pub both : {A : Type 0} (P : A → Type 0) (xs ys : List A) → AllByRecursion P xs → AllByRecursion P ys → AllByRecursion P (xs ++ ys)
 both P [] ys p q = q
 both P (x ∷ xs) ys p q = (p.0, both P xs ys p.1 q)
 
--- what holds of the steps of each job holds of all, and each job has as many as there are machines
+-- the steps of all jobs in one list: one for each job and machine
 flat : (m : ℕ) (jobs : List (List Step)) → AllByRecursion (docs.IsJob m) jobs
     → (length (flat_steps jobs) ≡ length jobs * m) × AllByRecursion (docs.IsStep m) (flat_steps jobs)
 flat m [] p = (omega arith, tt)
@@ -158,7 +158,7 @@ flat m (row ∷ jobs) p =
     let rest = flat m jobs p.1 in
     (omega (arith, length-append row (flat_steps jobs), rest.0, p.0.0), both (docs.IsStep m) row (flat_steps jobs) (recursion_from_All (docs.IsStep m) row p.0.1) rest.1)
 
--- the shop of a file is one, and no step of it lasts longer than 10,000
+-- the shop of a file keeps the rules of shops, and each step takes at most 10,000 time units
 is_shop_of : (doc : docs.Shop) → docs.IsShop doc → IsShop (shop_of doc) × All (λ step. step.time ≤ 10000) (flat_steps doc.jobs)
 is_shop_of doc is =
     let steps = flat doc.machines doc.jobs (recursion_from_All (docs.IsJob doc.machines) doc.jobs is.steps) in

@@ -6,8 +6,8 @@ use Rattle.plan_rows.specs.Plans.{put_in_order, in_order}
 use Rattle.plan_rows.specs.Rules.{AllDiffer}
 use Rattle.plan_desk.proofs.SameLemmas.{Has, AreSame, all_has}
 
--- rows of different keys come one before the other, not both ways, and so on along a chain; a row is
--- like itself
+-- a strict order of rows with different keys: total, asymmetric and transitive; a row is like
+-- itself
 pub record Orders {A : Type 0} (alike before : A → A → Bool) : Type 0 where
   pub itself : (x : A) → alike x x ≡ true
   pub either : (x y : A) → alike x y ≡ false → (before x y ≡ true) ⊎ (before y x ≡ true)
@@ -35,7 +35,7 @@ module _ {A : Type 0} {alike before : A → A → Bool} (orders : Orders alike b
   sort_middle (y ∷ front) x back apart =
       ap (put_in_order before y) (sort_middle front x back apart.1) ∙ put_apart y x (in_order before (front ++ back)) apart.0
 
-  -- what stands before and behind a row
+  -- the rows before and after a row
   record IsSplit (ys : List A) (x : A) : Type 0 where
     front : List A
     back : List A
@@ -125,6 +125,6 @@ module _ {A : Type 0} {alike before : A → A → Bool} (orders : Orders alike b
   length-in_order [] = refl
   length-in_order (x ∷ xs) = let more = length-put x (in_order before xs) in let rest = length-in_order xs in omega (arith, more, rest)
 
-  -- and are equally long
+  -- lists of the same rows, each once, are equally long
   pub length_same : (xs ys : List A) → AreSame xs ys → AllDiffer alike xs → AllDiffer alike ys → length xs ≡ length ys
   length_same xs ys same apart also = sym (length-in_order xs) ∙ ap length (in_order_same xs ys same apart also) ∙ length-in_order ys

@@ -1,4 +1,4 @@
--- A command that is accepted changes something, and nothing else does: each answer is one or the other.
+-- An accepted command changes something, and no other request does.
 use Rattle.std.proofs.Common.{◌≡◌, ℕ, ◌⊎◌, inl, inr, Bool, true, false, ◌&&◌, Option, Some, None, refl, sym, ap, ◌∙◌}
 use Rattle.std.proofs.lemmas.Bool.{both_ways}
 use Rattle.std.specs.Prelude.{nat_lt}
@@ -23,7 +23,7 @@ use Rattle.plan_desk.specs.BookSteps.{want_of}
 abbrev pub IsMade : Change → Type 0
 IsMade c = c ≡ Keep → ⊥
 
--- of a command or a question: nothing changes and it isn't accepted, or it is and something does
+-- the request isn't an accepted command, and nothing changes
 pub record Keeps (command : Bool) (reply : Reply) (c : Change) : Type 0 where
   pub kept : c ≡ Keep
   pub unaccepted : (command && nat_lt reply.status 300) ≡ false
@@ -104,7 +104,7 @@ sorted_by_kind command kinds.Shop One Other one other = other
 
 -- ---- routes
 
--- what is unlike keeping
+-- whether a change is `Keep`
 abbrev pub is_keep : Change → Bool
 is_keep Keep = true
 is_keep _ = false
@@ -218,7 +218,8 @@ sorted_answers v (chart desk n rule) = sorted_charts v n rule
 sorted_answers v (days desk n rule) = sorted_days v n rule
 sorted_answers v (best desk n budget) = sorted_best v n budget
 
--- each decision is one or the other, and none is a refusal for want
+-- each decision changes something exactly if it accepts a command; none is a refusal for lack of
+-- memory or by the store
 pub sorted_decision : (v : View) (r : Request) → IsSorted (writes r.call) (IsDecision v r)
 unfolding IsDecision
 sorted_decision v r reply c h = by_key (admits v r) (Answers v r.call) (sorted_answers v r.call) h
@@ -231,7 +232,7 @@ sorted_decision v r reply c h = by_key (admits v r) (Answers v r.call) (sorted_a
       ap (λ (x : Reply). nat_lt x.status 500) k.0,
     )
 
--- a refusal for want is no accepted command
+-- a refusal for lack of memory or by the store accepts no command
 pub want_unaccepted : (r : Request) (fault : BookFault) → is_accepted r (want_of fault) ≡ false
 want_unaccepted r NoMemory = never (writes r.call)
 want_unaccepted r Store = never (writes r.call)

@@ -1,4 +1,4 @@
--- No desk sees another: from one step to runs, for all ways of answering that keep four facts.
+-- No desk sees another: from one step to runs, for each relation of answers with four properties.
 use Rattle.std.proofs.Common.{◌≡◌, ◌⊎◌, inl, inr, Bool, true, false, List, [], ◌∷◌, Option, Some, None, refl, sym, ap, ◌∙◌, subst, arith}
 use Rattle.std.specs.Prelude.{unwrap_or}
 use Rattle.std.proofs.lemmas.Bool.{cases_Bool, both_ways, and_parts, or_cases, or_parts}
@@ -12,8 +12,8 @@ use Rattle.plan_desk.specs.Stories.{names, concerns, belongs, decided, IsDecided
 use Rattle.plan_rows.proofs.OwnerLemmas.{text_from_same}
 use Rattle.plan_desk.proofs.SeenLemmas.{view_alone, seen, hidden}
 
--- what every way of answering keeps: publishing looks at the codes alone, no other call publishes, a
--- body that names no desk opens none, and there is one answer
+-- The four properties. Publishing depends only on the codes, and no other call publishes. A body
+-- that names no desk opens none. Each call has one answer in a view.
 pub record KeepsApart (Answers : View → Call → Reply → Change → Type 0) : Type 0 where
   pub frugal : (v u : View) (body : Text) (reply : Reply) (c : Change) → v.published ≡ u.published
       → Answers v (publish body) reply c → Answers u (publish body) reply c
@@ -43,7 +43,7 @@ pub decided_once : (b : Bool) (R : Reply → Change → Type 0) → ((reply othe
 decided_once true R one reply other c d h k = one reply other c d h k
 decided_once false R one reply other c d h k = (h.0 ∙ sym k.0, h.1 ∙ sym k.1)
 
--- a call that publishes has no desk, and takes the office's key
+-- a call that publishes is `publish`
 publish_only : (call : Call) → is_publish call ≡ true → (body : Text) × (call ≡ publish body)
 publish_only (publish body) e = (body, refl)
 publish_only (open_desk body) e = absurd (both_ways false refl e)
@@ -87,7 +87,7 @@ named_desk d None e = absurd (both_ways false refl e)
 named_desk d (Some t) e = text_from_same t d e
 
 module _ {Answers : View → Call → Reply → Change → Type 0} (keeps : KeepsApart Answers) where
-  -- publishing is decided alike by all views of one office
+  -- publishing gets the same decision in all views of one office
   publishes_alike : (v u : View) (key : Option Text) (body : Text) → v.office ≡ u.office → v.published ≡ u.published
       → (reply : Reply) (c : Change) → IsDecided Answers v (record { key = key; call = publish body }) reply c
       → IsDecided Answers u (record { key = key; call = publish body }) reply c
@@ -141,7 +141,7 @@ module _ {Answers : View → Call → Reply → Change → Type 0} (keeps : Keep
           (sym p.1) (alike_publish d w r.key p.0 reply after) step
       by_concern (inr named) = alike_named d w r reply after (named_desk d (desk_of r.call) named) step
 
-  -- a request that a desk isn't concerned with isn't seen by it
+  -- a request that doesn't concern a desk doesn't change its view
   unconcerned : (d : Text) (w : World) (r : Request) (reply : Reply) (c : Change) → concerns d r.call ≡ false
       → Answers (view (subject r) w) r.call reply c → view d (apply (subject r) c w) ≡ view d w
   unconcerned d w r reply c apart h = by_desk (desk_of r.call) refl
@@ -162,7 +162,7 @@ module _ {Answers : View → Call → Reply → Change → Type 0} (keeps : Keep
           subst (λ s. view d (apply s c w) ≡ view d w) (sym (ap (λ o. unwrap_or o []) e))
           (hidden d t c w (sym (ap (names d) e) ∙ parts.1) (keeps.quiet (view (subject r) w) r.call reply c parts.0 h))
 
-  -- what the key of an admitted request opens, it opens in the view of each desk that it concerns
+  -- the view of each desk that a request concerns admits it exactly if the view of its subject does
   admitted_alike : (d : Text) (w : World) (r : Request) → concerns d r.call ≡ true → admits (view (subject r) w) r ≡ admits (view d w) r
   admitted_alike d w r concerned = by_concern (or_cases (is_publish r.call) (names d (desk_of r.call)) concerned)
     where
@@ -172,7 +172,7 @@ module _ {Answers : View → Call → Reply → Change → Type 0} (keeps : Keep
           (sym (publish_only r.call published).1) refl
       by_concern (inr named) = ap (λ t. admits (view t w) r) (named_desk d (desk_of r.call) named)
 
-  -- a request that doesn't belong to a desk leaves what it sees
+  -- a request that doesn't belong to a desk doesn't change its view
   pub step_hidden : (d : Text) (w : World) (r : Request) (reply : Reply) (after : World) → belongs d (view d w) r ≡ false
       → IsRealStep Answers w r reply after → view d after ≡ view d w
   step_hidden d w r reply after outside (inr (want, e)) = ap (view d) e
@@ -199,8 +199,8 @@ module _ {Answers : View → Call → Reply → Change → Type 0} (keeps : Keep
       decided_once (admits (view (subject r) w) r) (Answers (view (subject r) w) r.call) (keeps.one (view (subject r) w) r.call) reply other c b h k in
       (same.0, e ∙ ap (λ x. apply (subject r) x w) same.1 ∙ sym f)
 
-  -- in every run of real steps a desk is told what its story is told in an office with the rows of
-  -- its view alone
+  -- in each run of real steps, a desk receives the replies that its story receives in an office
+  -- with its rows alone
   pub told : (d : Text) (w : World) (requests : List Request) (replies : List Reply) (worlds : List World)
       → IsRun Answers w requests replies worlds → AreTold Answers d (view d w) requests replies
   told d w [] [] [] run = tt
@@ -220,7 +220,8 @@ module _ {Answers : View → Call → Reply → Change → Type 0} (keeps : Keep
           let a : IsAlike d w r reply after = step_alone d w r reply after (and_parts (concerns d r.call) (admits (view d w) r) inside).0 step in
           inr (inside, inr (a.other, a.step, subst (λ v. AreTold Answers d v requests replies) a.alike rest))
 
-  -- what is told has a story, unless it ends for want
+  -- the replies to a desk belong to a story, unless one is a refusal for lack of memory or by the
+  -- store
   pub story_or_want : (d : Text) (v : View) (requests : List Request) (replies : List Reply) → AreTold Answers d v requests replies
       → ((story : List Request) × (given : List Reply) × IsStoryOf Answers d v requests replies story given) ⊎ IsWanting Answers d v requests replies
   story_or_want d v [] [] h = inl ([], [], (refl, refl))
@@ -242,7 +243,7 @@ module _ {Answers : View → Call → Reply → Change → Type 0} (keeps : Keep
       passed (inl (story, given, is)) = inl (r ∷ story, reply ∷ given, inr (inside, (story, given, refl, refl, (after, step, is))))
       passed (inr want) = inr (inr (inside, inr (after, step, want)))
 
-  -- an empty story is told nothing
+  -- an empty story receives no reply
   pub nothing_told : (d : Text) (v : View) (requests : List Request) (replies given : List Reply)
       → IsStoryOf Answers d v requests replies [] given → given ≡ []
   nothing_told d v [] [] given h = h.1
@@ -251,7 +252,7 @@ module _ {Answers : View → Call → Reply → Change → Type 0} (keeps : Keep
   nothing_told d v (r ∷ requests) (reply ∷ replies) given (inl (outside, h)) = nothing_told d v requests replies given h
   nothing_told d v (r ∷ requests) (reply ∷ replies) given (inr (inside, (more, others, e, f, rest))) = absurd (cons_is_not_nil r more e)
 
-  -- one more request of a story, in two lists of requests: what comes after it is told alike
+  -- one more request of a story in two lists of requests: the later ones receive equal replies
   meet : (d : Text) (v : View) (r : Request) (reply : Reply) (after : World) (more : List Request) (others xs : List Reply)
       → IsStep Answers (alone v) r reply after → xs ≡ reply ∷ others
       → ((requests : List Request) (replies given : List Reply) → IsStoryOf Answers d (view d after) requests replies more given → others ≡ given)
@@ -271,7 +272,7 @@ module _ {Answers : View → Call → Reply → Change → Type 0} (keeps : Keep
       (subst (λ w. IsStoryOf Answers d (view d w) requests replies more2 others2) (sym once.1) rest)) in
       e ∙ ap (λ a. a ∷ others) once.0 ∙ ap (λ l. given ∷ l) tails ∙ sym g
 
-  -- the story of a view is told one thing
+  -- a story in a view receives the same replies in each list of requests
   pub told_alike : (d : Text) (v : View) (requests : List Request) (replies : List Reply) (story : List Request) (xs : List Reply)
       → IsStoryOf Answers d v requests replies story xs
       → (others : List Request) (answers ys : List Reply) → IsStoryOf Answers d v others answers story ys → xs ≡ ys

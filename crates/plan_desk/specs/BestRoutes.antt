@@ -22,7 +22,7 @@ OfProjectBest v plan word = some (IsProjectOf v plan) (λ p.
     (λ text. shows (λ shown. shown ≡ text)))
 
 -- a line refuses the search of a shop: a machine in use is closed, else the shop is too large, else
--- the text is no budget
+-- the budget is invalid
 abbrev pub TellsNoShopBest : Text → JobShop → List Bool → Text → Type 0
 TellsNoShopBest word s usable line =
     TellsClosed s usable line ⊎ (NoneIsClosed s.steps usable × TellsBestRefusal word s line)

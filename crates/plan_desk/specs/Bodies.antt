@@ -1,6 +1,6 @@
 -- The content of a JSON body, or None if the body is refused (docs/definitions.md, "Desks"; RFC
--- 8259). serde_json reads a body: for equal names the last member counts, a whole number is one
--- that `as_u64` returns, and at most 127 arrays and objects nest.
+-- 8259). serde_json reads the body. If two members have equal names, the last one counts. A whole
+-- number is one that `as_u64` returns. At most 127 arrays and objects nest.
 use Rattle.std.specs.Prelude.{ℕ, Bool, true, nat_le, if◌then◌else◌, Option, Some, None, option_map, option_and_then, codes}
 use Rattle.std.specs.Str.{is_utf8}
 use Rattle.serde_json.specs.Data.{Data}
@@ -81,7 +81,8 @@ desk_named body = option_and_then (text_in any_text (codes "desk")) (json body)
 unfoldable pub key_body : Text → Option Text
 key_body body = option_and_then (text_in is_key (codes "key")) (json body)
 
--- a published code, and the place that the code is bound to
+-- a published code, and the place that the code is bound to: a resource from 1 on, or a machine
+-- from 0 on
 pub record BindBody : Type 0 where
   pub code : Text
   pub place : ℕ
@@ -97,7 +98,7 @@ bind_members is_place value =
 unfoldable pub bind_body : (ℕ → Bool) → Text → Option BindBody
 bind_body is_place body = option_and_then (bind_members is_place) (json body)
 
--- a start date and seven marks, as texts: they are checked later
+-- a start date and seven marks, Monday first, as texts: they are checked later
 pub record CalendarBody : Type 0 where
   pub start : Text
   pub days : Text
@@ -112,7 +113,7 @@ calendar_members value =
 unfoldable pub calendar_body : Text → Option CalendarBody
 calendar_body body = option_and_then calendar_members (json body)
 
--- the ends of an arc, and its lag
+-- the two activities of an arc, numbered from 1, and its lag in time units
 pub record LagBody : Type 0 where
   pub from : ℕ
   pub to : ℕ

@@ -58,7 +58,7 @@ HasRows s w (BindPlace n place code) = IsSome (plan_in w s n) × IsSome (code_in
 HasRows s w (SetCalendar n start days) = IsSome (plan_in w s n)
 HasRows s w (SetLag n from to lag) = IsSome (plan_in w s n)
 
--- and the tables keep their rules after it
+-- the rows that a change needs exist, and the tables keep their rules after it
 abbrev pub Allows : Text → World → Change → Type 0
 Allows s w c = HasRows s w c × IsWorld (apply s c w)
 
@@ -91,7 +91,8 @@ pub record IsAdmission (r : Request) (w : World) (admission : Admission) : Type 
   pub admits : admission.is_admitted ≡ admits (view (subject r) w) r
   pub row : IsRowFor r.call admission.row w
 
--- this holds for the tables of a book, if they stand and the disk returned what was written
+-- the fact holds for the tables of a book, if they are readable and the disk returned what was
+-- written
 abbrev pub Knows : {B : Type 0} → Shelf B → B → (World → Type 0) → Type 0
 Knows shelf book Is = shelf.honest book → shelf.stands book → Is (shelf.world book)
 
@@ -179,7 +180,8 @@ module _ {B : Type 0} (shelf : Shelf B) (old new : B) where
         × IsStep (shelf.world old) r other after × (left ≡ Some after)))
     -- the store is blamed only if it can refuse
     pub store : reply ≡ want_of Store → shelf.honest new → shelf.stands old → shelf.can_refuse
-    -- and only if it refused one call of the book; no other reply hides such a refusal
+    -- the reply blames the store only if the store refused one call of the book; no other reply
+    -- hides such a refusal
     pub denied : reply ≡ want_of Store → shelf.honest new → shelf.stands old
         → shelf.denials new ≡ shelf.denials old + 1
     pub told : (reply ≡ want_of Store → ⊥) → shelf.denials new ≡ shelf.denials old

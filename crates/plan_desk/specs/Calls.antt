@@ -76,7 +76,7 @@ desk_of (chart desk n rule) = Some desk
 desk_of (days desk n rule) = Some desk
 desk_of (best desk n budget) = Some desk
 
--- the desk whose view decides; the empty name, which no desk has, stands for none
+-- the desk whose view decides, or the empty name if there is none: no desk has that name
 abbrev pub subject : Request → Text
 subject r = unwrap_or (desk_of r.call) []
 

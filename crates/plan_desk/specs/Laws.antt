@@ -18,7 +18,7 @@ unfoldable pub StepsKeepRules : Type 0
 StepsKeepRules = (w : World) (r : Request) (reply : Reply) (after : World)
     → IsWorld w → IsStep w r reply after → IsWorld after
 
--- so does an office that has the rows of one desk alone
+-- the rows of one desk alone keep the rules of rows
 unfoldable pub AloneKeepsRules : Type 0
 AloneKeepsRules = (desk : Text) (w : World) → IsWorld w → IsWorld (alone (view desk w))
 
@@ -56,7 +56,7 @@ OrderIsUnseen = (v u : View) (r : Request) (reply : Reply) (c : Change)
     → IsWorld (alone v) → IsWorld (alone u) → Agree v u
     → IsDecision v r reply c → IsDecision u r reply c
 
--- nor to a story: equal stories in views that agree receive equal replies
+-- equal stories in views that agree receive equal replies
 unfoldable pub AgreeingViewsAreToldAlike : Type 0
 AgreeingViewsAreToldAlike = (desk : Text) (v u : View) (requests : List Request) (replies : List Reply)
     (others : List Request) (answers : List Reply) (story : List Request) (told given : List Reply)

@@ -11,8 +11,8 @@ use Rattle.plan_desk.specs.Whole.{whole_of}
 abbrev pub memory_world : MemBook → World
 memory_world book = world_kept book.tables
 
--- it always stands, fails only if memory runs out, has no disk that could fail, and a crash leaves
--- its rows
+-- The tables are always readable, a call fails only if memory runs out, no disk can fail, and a
+-- crash leaves the rows.
 abbrev pub memory_shelf : Shelf MemBook
 memory_shelf = record {
   world = memory_world;

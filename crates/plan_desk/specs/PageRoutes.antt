@@ -1,7 +1,7 @@
 -- The routes of a desk's queries about a plan: dates, schedules, charts and working days
--- (docs/definitions.md, "Desks"). Each is for a request with the desk's key. A project is scheduled
--- with the lags of the desk and the published capacities that are bound to its resources; a shop
--- with the machines that are open.
+-- (docs/definitions.md, "Desks"). Each requires the desk's key. A project is scheduled with the
+-- lags of the desk and the published capacities that are bound to its resources. A shop has a
+-- schedule only if all machines in use are open.
 use Rattle.std.specs.Prelude.{◌≡◌, ◌⊎◌, ℕ, Bool, List, length, nat_eq}
 use Rattle.plan_sgs.specs.Problem.{makespan}
 use Rattle.plan_sgs.specs.Instances.{Planned, problem_of}
@@ -35,20 +35,20 @@ use Rattle.plan_calendar.specs.CalendarText.{IsCalendar}
 use Rattle.plan_desk.specs.PlanRoutes.{of_plan, by_kind}
 use Rattle.plan_desk.specs.Refusals.{other_kind, bad_schedule, bad_calendar}
 
--- the dates of a project without regard to its resources
+-- the dates of a project, which ignore its resources
 unfoldable pub Dates : View → Text → Outcome
 Dates v n = of_plan v n (λ plan. by_kind plan.kind
     (some (IsProjectOf v plan) (λ p. shows (IsDateText p.network)))
     (refuses other_kind))
 
--- the starts are those of the active schedule of an instance by the rule of a name
+-- the starts are those of the active schedule of an instance by the rule with this name
 pub record IsScheduleBy (i : Planned) (name : Text) (starts : List ℕ) : Type 0 where
   pub rule : Rule
   pub named : name ≡ rule_text rule
   pub schedule : IsSchedule i rule starts
 
--- the schedule of a project by the rule of this name, or its refusal: a need exceeds its capacity,
--- else the name is no rule's
+-- the schedule of a project by the rule with this name, or its refusal: a need exceeds its
+-- capacity, else no rule has this name
 unfoldable pub OfSchedule : View → Plan → Text → (Planned → List ℕ → Outcome) → Outcome
 OfSchedule v plan rule Rest = some (IsProjectOf v plan) (λ p.
     why_or (TellsRefusal rule (bound_project v plan p)) bad_schedule
@@ -61,15 +61,15 @@ TellsClosed s usable line =
     (m : ℕ) × IsFirstClosed s.steps usable m
     × (line ≡ shop_fault_text_of (shop_fault.MachineClosed m))
 
--- a line refuses the schedule of a shop by the rule of this name: the name is no rule's, else a
--- machine in use is closed
+-- a line refuses the schedule of a shop by a rule: no rule has this name, else a machine in use is
+-- closed
 abbrev pub TellsShopRefusal : Text → JobShop → List Bool → Text → Type 0
 TellsShopRefusal name s usable line =
     TellsNoRule name line
     ⊎ (((rule : ShopRule) × (name ≡ shop_names.rule_text rule)) × TellsClosed s usable line)
 
--- the starts are those of the active schedule of a shop by the rule of a name, all machines in use
--- open
+-- the starts are those of the active schedule of a shop by the rule with this name, and all
+-- machines in use are open
 pub record IsShopScheduleBy (s : JobShop) (usable : List Bool) (name : Text) (starts : List ℕ)
     : Type 0 where
   pub rule : ShopRule
@@ -78,7 +78,7 @@ pub record IsShopScheduleBy (s : JobShop) (usable : List Bool) (name : Text) (st
   pub starts_are : starts ≡ rule_starts rule s
   pub active : IsActive (shops.problem_of s) starts
 
--- the schedule of a shop by the rule of this name, or its refusal
+-- the schedule of a shop by the rule with this name, or its refusal
 unfoldable pub OfShopSchedule : View → Plan → Text → (JobShop → List ℕ → Outcome) → Outcome
 OfShopSchedule v plan rule Rest = some (IsShopOf plan) (λ s.
     why_or (TellsShopRefusal rule s (open_machines v plan.n s.machines)) bad_schedule
@@ -92,7 +92,8 @@ Schedules v n rule = of_plan v n (λ plan. by_kind plan.kind
     (OfShopSchedule v plan rule (λ s starts. shows (λ text.
     text ≡ shop_table_text s starts (makespan (shops.problem_of s) starts)))))
 
--- the chart of a schedule: a line for each activity from 1 on, or for each machine from 0 on
+-- the chart of a schedule: one line for each activity, numbered from 1, or for each machine,
+-- numbered from 0
 unfoldable pub Charts : View → Text → Text → Outcome
 Charts v n rule = of_plan v n (λ plan. by_kind plan.kind
     (OfSchedule v plan rule (λ i starts. shows (λ text.
@@ -102,18 +103,18 @@ Charts v n rule = of_plan v n (λ plan. by_kind plan.kind
     text ≡ chart_text (makespan (shops.problem_of s) starts)
     (machine_intervals s starts) 0 s.machines))))
 
--- a day of the table is beyond the calendar, and a line says so
+-- a line refuses a table because one of its days is beyond the calendar
 abbrev pub TellsBeyond : (Workdays → Type 0) → Text → Text → Text → Type 0
 TellsBeyond IsBeyond start days line =
     (c : Workdays) × IsCalendar start days c × IsBeyond c
     × (line ≡ calendar_fault_text_of calendar_fault.BeyondCalendar)
 
--- a text shows the days of a calendar that texts spell
+-- a text shows days of the calendar that two texts spell
 abbrev pub ShowsDays : (Workdays → Text → Type 0) → Text → Text → Text → Type 0
 ShowsDays IsTable start days text = (c : Workdays) × IsCalendar start days c × IsTable c text
 
 -- the table of working days in the plan's calendar, or its refusal: no calendar is set, else a day
--- of the table is beyond the calendar
+-- is beyond the calendar
 unfoldable pub OfCalendar : Plan → (Workdays → Text → Type 0) → (Workdays → Type 0) → Outcome
 OfCalendar plan IsTable IsBeyond =
     unless (nat_eq (length plan.start) 0) (bad_calendar missing_calendar_text)

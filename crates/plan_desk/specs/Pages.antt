@@ -20,7 +20,7 @@ use Rattle.plan_desk.specs.Replies.{reply_of}
 abbrev pub capacity_of : List Published → Text → Option ℕ
 capacity_of rows code = option_map (λ row. row.capacity) (code_in rows code)
 
--- the bound places of a plan, rising, with the capacities of their codes
+-- the bound places of a plan, in ascending order, with the capacities of their codes
 abbrev pub capacities_at : View → ℕ → List (ℕ × Option ℕ)
 capacities_at v n = map (λ bound. (bound.0, capacity_of v.published bound.1)) (places_of v n)
 
@@ -33,7 +33,7 @@ pub record IsFound (v : View) (n : Text) (plan : PlanRow) : Type 0 where
   pub seen : plan_seen v n ≡ Some row
   pub answer : IsPlanAnswer v row plan
 
--- and with it the capacities of its bound places
+-- a desk sees a plan under the number that a text spells, with the capacities of its bound places
 pub record IsBound (v : View) (n : Text) (bound : BoundPlan) : Type 0 where
   pub row : Plan
   pub seen : plan_seen v n ≡ Some row

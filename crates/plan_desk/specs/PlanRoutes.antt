@@ -25,7 +25,7 @@ use Rattle.plan_desk.specs.JsonTexts.{plan_text, number_text, bind_text, calenda
 unfoldable pub of_plan : View → Text → (Plan → Outcome) → Outcome
 of_plan v n Rest = given (plan_seen v n) not_found Rest
 
--- by the kind of a plan
+-- the outcome for the kind of a plan
 unfoldable pub by_kind : PlanKind → Outcome → Outcome → Outcome
 by_kind kinds.Project OfProject OfShop = OfProject
 by_kind kinds.Shop OfProject OfShop = OfShop

@@ -16,7 +16,7 @@ use Rattle.plan_rows.specs.Plans.{lagged_by}
 use Rattle.plan_rows.specs.Books.{lag_in}
 use Rattle.plan_rows.specs.Rules.{HasCalendar}
 
--- the arcs that have lags
+-- the lags of a plan, each with the two activities of its arc
 abbrev pub lags_in : PlanRow → List (ℕ × ℕ × ℕ)
 lags_in plan = map lag_in plan.lags.items
 
@@ -25,7 +25,7 @@ abbrev pub IsProjectIn : PlanRow → Project → Type 0
 IsProjectIn plan p =
     (said : Project) × SaysProject plan.body.items said × (p ≡ lagged_by (lags_in plan) said)
 
--- each lag is on an arc of the project, and at most the longest
+-- each lag is on an arc of the project, and is at most the longest allowed lag
 abbrev pub TakesLags : Project → List (ℕ × ℕ × ℕ) → Type 0
 TakesLags p arcs = All (λ arc. IsArc p.network arc.0 arc.1 × (arc.2 ≤ longest_lag)) arcs
 
@@ -34,7 +34,7 @@ pub record HasProject (plan : PlanRow) : Type 0 where
   pub says : (p : Project) × SaysProject plan.body.items p
   pub takes : (p : Project) → SaysProject plan.body.items p → TakesLags p (lags_in plan)
 
--- a plan's row, but for its desk and its number
+-- the row of a plan, with an empty desk and the number 0
 abbrev pub row_in : PlanRow → Plan
 row_in plan = record {
   desk = [];
@@ -77,7 +77,7 @@ machines_in places zero = []
 machines_in places (suc machines) =
     machines_in places machines ++ is_open_at (capacity_at places machines) ∷ []
 
--- the project, against the capacities that are bound to its resources
+-- the instance of a project with the capacities that are bound to its resources
 abbrev pub planned_in : BoundPlan → Project → Planned
 planned_in bound p = planned p (capacities_in bound.places.items 1 p.available)
 

@@ -1,7 +1,7 @@
--- The content of the pages of a plan, in the words of the field (docs/definitions.md, "Desks"):
--- dates that are greatest lengths of paths, feasible and active schedules, and for a schedule that
--- is called optimal the least makespan among all feasible ones. They use the plan's file, the lags
--- of the desk, and the capacities that are bound and published at that moment.
+-- The content of the pages of a plan (docs/definitions.md, "Desks"). Dates are greatest lengths of
+-- paths, and schedules are feasible and active. A schedule that is called optimal has the least
+-- makespan of all feasible ones. Pages use the plan's file, the lags of the desk, and the
+-- capacities that are bound and published at that moment.
 use Rattle.std.specs.Prelude.{◌≡◌, ◌⊎◌, ℕ, List, Some, length}
 use Rattle.plan_psplib.specs.Project.{Project}
 use Rattle.plan_cpm.specs.Dates.{DateTable, AreDates}

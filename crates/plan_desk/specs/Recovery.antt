@@ -1,5 +1,5 @@
--- Evidence recovered from facts that are only known to hold: for a rule with at most one proof, and
--- for a rule that reading the file decides.
+-- Evidence for facts that are only known to hold. It is recovered if a fact has at most one proof,
+-- or if reading the file decides the fact.
 use Rattle.std.specs.Prelude.{◌≡◌, ℕ, Bool, false, List, [], ◌∷◌, length, Option, Some, None, Result, Ok, Err}
 use Rattle.std.specs.List.{AllByRecursion}
 use Rattle.std.proofs.Common.{refl, sym, ap, ◌∙◌, subst, inl, inr, arith, length-append}
@@ -34,35 +34,35 @@ use Rattle.plan_rows.specs.World.{Text}
 use Rattle.plan_rows.specs.Plans.{HasPlaces}
 use Rattle.plan_rows.specs.Rules.{HasCalendar, AllDiffer, IsThereAnd}
 
--- what is known to hold has its evidence
+-- a fact that is known to hold has evidence
 abbrev pub Recovers : Type 0 → Type 0
 Recovers A = ∥ A ∥₁ → A
 
--- where there is one proof at most
+-- a fact with at most one proof
 pub single : {A : Type 0} → IsProp A → Recovers A
 single one t = ∥∥₁_elim t one (λ x. x)
 
--- of truth values
+-- two truth values are equal
 pub equal : (a b : Bool) → Recovers (a ≡ b)
 equal a b = single (Bool-set a b)
 
--- of both
+-- two facts
 pub pair : {A B : Type 0} → Recovers A → Recovers B → Recovers (A × B)
 pair a b t = (a (∥∥₁_map t (λ x. x.0)), b (∥∥₁_map t (λ x. x.1)))
 
--- of each
+-- a fact about each element of a list
 pub each : {A : Type 0} {P : A → Type 0} → ((x : A) → Recovers (P x)) → (xs : List A)
     → Recovers (AllByRecursion P xs)
 each one [] t = tt
 each one (x ∷ xs) t = (one x (∥∥₁_map t (λ all. all.0)), each one xs (∥∥₁_map t (λ all. all.1)))
 
--- of a row that is there
+-- a row exists, with a fact about it
 pub there : {A : Type 0} {P : A → Type 0} → ((x : A) → Recovers (P x)) → (o : Option A)
     → Recovers (IsThereAnd o P)
 there one None t = absurd (∥∥₁_elim t (λ x y. absurd x) (λ x. x))
 there one (Some x) t = one x t
 
--- of rows that differ
+-- the elements of a list differ
 pub differ : {A : Type 0} (alike : A → A → Bool) (xs : List A) → Recovers (AllDiffer alike xs)
 differ alike [] t = tt
 differ alike (x ∷ xs) t = (
@@ -76,7 +76,7 @@ differ alike (x ∷ xs) t = (
 IsProject-prop : (p : Project) → IsProp (IsProject p)
 IsProject-prop p = hlevel props
 
--- of the project that a file says, with what holds of it
+-- the project that a file spells, with a fact about it
 pub project : (body : Text) (Q : Project → Type 0) → ((p : Project) → Recovers (Q p))
     → Recovers ((p : Project) × SaysProject body p × Q p)
 project body Q one t = at_read (document body) refl
@@ -95,7 +95,7 @@ project body Q one t = at_read (document body) refl
         subst Q (is ∙ ap project_of (document_once body other d says said)) q)) in
         (project_of d, (d, said, refl, sound), more)
 
--- what is read of a shop is what the text says
+-- a shop that is read from a text is the one that the text spells
 shop_said : (name text : List ℕ) (d : docs.Shop) → shop name text ≡ Ok d → Says name text d
 unfolding shop
 shop_said name text d e =
@@ -119,7 +119,7 @@ shop_doc name body Q one t = at_read (shop name body) refl
           (λ (other, said, q). subst Q (same_ok other d (sym (said_shop name body other said) ∙ e)) q)),
     )
 
--- the places of a plan, with what holds of their count
+-- the number of places of a plan, with a fact about it
 pub places : (kind : PlanKind) (name body : Text) (Q : ℕ → Type 0) → ((n : ℕ) → Recovers (Q n))
     → Recovers ((count : ℕ) × HasPlaces kind name body count × Q count)
 places kinds.Project name body Q one t =
@@ -136,7 +136,7 @@ places kinds.Shop name body Q one t =
 IsCalendar-prop : (start days : Text) (c : Workdays) → IsProp (IsCalendar start days c)
 IsCalendar-prop start days c = hlevel props
 
--- dates with the same parts are one
+-- two dates with the same year, month and day are equal
 one_date : (a b : Date) → (a.year ≡ b.year) × (a.month ≡ b.month) × (a.day ≡ b.day) → a ≡ b
 one_date a b same = λ i. record {
   year = same.0 i;
@@ -156,16 +156,16 @@ one_calendar start days c d first second =
     let marks = marks_once days c.marks d.marks first.marks_text second.marks_text in
     λ i. record { start = dates i; marks = marks i }
 
--- of a calendar
+-- the calendar that two texts spell
 pub calendar : (start days : Text) → Recovers ((c : Workdays) × IsCalendar start days c)
 calendar start days =
     single (λ x y. Σ_prop_path (IsCalendar-prop start days) (one_calendar start days x.0 y.0 x.1 y.1))
 
--- two empty texts are no calendar
+-- no calendar has an empty first date
 no_calendar : (days : Text) (c : Workdays) → IsCalendar [] days c → ⊥
 no_calendar days c is = omega (arith, simp length-append at (ap length is.start_text.spelled))
 
--- of two empty texts or a calendar
+-- two empty texts, or a calendar that two texts spell
 pub has_calendar : (start days : Text) → Recovers (HasCalendar start days)
 has_calendar [] days t = inl (
   refl,

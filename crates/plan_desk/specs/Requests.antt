@@ -49,6 +49,6 @@ path_of (chart desk n rule) = desk
 path_of (days desk n rule) = desk
 path_of (best desk n budget) = desk
 
--- the desk whose view decides; the empty name, which no desk has, stands for none
+-- the desk whose view decides, or the empty name if there is none: no desk has that name
 abbrev pub subject_of : Call → Text
 subject_of call = unwrap_or (desk_of call) []

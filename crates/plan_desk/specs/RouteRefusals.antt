@@ -15,24 +15,24 @@ use Rattle.plan_rows.specs.Plans.{has_arc}
 use Rattle.plan_rows.specs.Rules.{greatest_number, most_plans}
 use Rattle.plan_desk.specs.Refusals.{bad_body, unpublished, kind_differs, other_kind, many_plans, numbers_spent, bad_file}
 
--- a file says a project, or a shop by the name of an instance
+-- a file spells a project, or a shop by the name of an instance
 abbrev pub IsRead : PlanKind → Text → Text → Type 0
 IsRead kinds.Project name body = (p : Project) × SaysProject body p
 IsRead kinds.Shop name body = (shop : docs.Shop) × Says name body shop
 
--- a line tells the first check that a file fails
+-- a line gives the first check that a file fails
 abbrev pub TellsFileFault : PlanKind → Text → Text → Text → Type 0
 TellsFileFault kinds.Project name body = TellsFirstFailing body
 TellsFileFault kinds.Shop name body = TellsFirstShopFault name body
 
--- a file is read, or the first check that it fails is told
+-- a file is read, or refused with the first check that it fails
 abbrev pub IsFileRefusal : PlanKind → Text → Text → Option Reply → Type 0
 IsFileRefusal kind name body None = IsRead kind name body
 IsFileRefusal kind name body (Some reply) =
     (line : Text) × TellsFileFault kind name body line × (reply ≡ bad_file line)
 
--- an import by a desk that holds so many plans and gives its next one this number: the desk is
--- full, else its numbers are spent, else the file is judged
+-- The refusal of an import, if there is one, by the number of plans of the desk and its next
+-- number. The desk is full, else its numbers are spent, else the file fails a check.
 abbrev pub IsImportRefusal : ℕ → ℕ → PlanKind → Text → Text → Option Reply → Type 0
 IsImportRefusal held next kind name body refusal =
     ((most_plans ≤ held) × (refusal ≡ Some many_plans))

@@ -33,20 +33,20 @@ pub record CanBeShown (count : ℕ) (schedule : Schedule) : Type 0 where
       slice_index schedule.starts.items k ≤ latest_start)
   pub ends : schedule.makespan ≤ latest_end
 
--- the schedule of an instance by the rule of a name
+-- the schedule of an instance by the rule with this name
 pub record IsMade (i : Planned) (name : Text) (schedule : Schedule) : Type 0 where
   pub by : IsScheduleBy i name schedule.starts.items
   pub makespan : schedule.makespan ≡ makespan (problem_of i) schedule.starts.items
   pub fits : CanBeShown (count_of i.project.network) schedule
 
--- the schedule of a shop by the rule of a name
+-- the schedule of a shop by the rule with this name
 pub record IsMadeOfShop (s : JobShop) (usable : List Bool) (name : Text) (schedule : Schedule)
     : Type 0 where
   pub by : IsShopScheduleBy s usable name schedule.starts.items
   pub makespan : schedule.makespan ≡ makespan (shops.problem_of s) schedule.starts.items
   pub fits : CanBeShown (count_steps s) schedule
 
--- the schedule of a plan by the rule of a name
+-- the schedule of a plan by the rule with this name
 abbrev pub IsScheduled : BoundPlan → Text → Scheduled → Type 0
 IsScheduled bound name (made.Project p schedule) =
     (bound.plan.kind ≡ kinds.Project) × IsProjectIn bound.plan p

@@ -1,6 +1,6 @@
 -- Steps of the office, runs of steps, and the part of a run that belongs to one desk
--- (docs/definitions.md, "Desks"). The reply to an admitted call and its change follow from the view
--- of the call's desk: they are a parameter here, and all routes are in Decisions.
+-- (docs/definitions.md, "Desks"). The view of a call's desk determines the reply to an admitted
+-- call and its change. This relation is a parameter here; all routes are in Decisions.
 use Rattle.std.specs.Prelude.{◌≡◌, ◌⊎◌, Bool, true, false, ◌&&◌, ◌||◌, List, [], ◌∷◌, Option, Some, None, codes}
 use Rattle.plan_rows.specs.World.{Text, World, same_text}
 use Rattle.plan_rows.specs.Changes.{Change, Keep, apply}
@@ -52,9 +52,9 @@ module _ (Answers : View → Call → Reply → Change → Type 0) where
       IsRealStep w r reply after × IsRun after requests replies worlds
   IsRun w requests replies worlds = ⊥
 
-  -- A request that doesn't belong to the desk is skipped. A request that does gets the reply of an
-  -- office that has the rows of the view and no others; or it is refused for lack of memory or by
-  -- the store, and then nothing more is claimed.
+  -- A request that doesn't belong to the desk is skipped. Any other gets the reply of an office
+  -- that has the rows of the view and no others. Or it is refused for lack of memory or by the
+  -- store, and nothing more is claimed.
   abbrev pub AreTold : Text → View → List Request → List Reply → Type 0
   AreTold desk v [] [] = Unit {0}
   AreTold desk v (r ∷ requests) (reply ∷ replies) =
@@ -63,8 +63,9 @@ module _ (Answers : View → Call → Reply → Change → Type 0) where
       × IsStep (alone v) r reply after × AreTold desk (view desk after) requests replies)))
   AreTold desk v requests replies = ⊥
 
-  -- the requests of a list that belong to a desk, each in the view after the earlier requests of
-  -- the story, and their replies: none is a refusal for lack of memory or by the store
+  -- The requests of a list that belong to a desk, and their replies. Each request is in the view
+  -- after the earlier requests of the story. No reply is a refusal for lack of memory or by the
+  -- store.
   abbrev pub IsStoryOf : Text → View → List Request → List Reply → List Request → List Reply → Type 0
   IsStoryOf desk v [] [] story told = (story ≡ []) × (told ≡ [])
   IsStoryOf desk v (r ∷ requests) (reply ∷ replies) story told =

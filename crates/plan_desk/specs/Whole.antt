@@ -61,7 +61,7 @@ owned w row = there (λ desk. single (less row.n desk.next)) (desk_in w row.desk
 at_most : (a b : ℕ) → IsProp (a ≤ b)
 at_most a b = hlevel props
 
--- the rules of rows, where they are known to be kept
+-- the evidence for the rules of rows, if they are known to hold
 pub whole_of : (w : World) → Recovers (IsWorld w)
 whole_of w t = record {
   office = equal (is_digest w.office) true (∥∥₁_map t (λ k. k.office));

@@ -38,8 +38,9 @@ struct Lock {
     digest: [u8; 32],
 }
 
-// Reads the row of a desk. A desk that doesn't exist is looked up twice, so that the time of a
-// refusal doesn't reveal whether it exists: reading a row takes about as long as a second lookup.
+// Reads the row of a desk. A desk that doesn't exist is looked up twice, because a second lookup
+// takes about as long as reading a row. So the time of a refusal doesn't reveal whether the desk
+// exists.
 fn lock_of<B: Book>(book: &mut B, desk: &str) -> Result<Lock, BookFault>
     ensures found { Finds B.shelf book.old book.new
         (λ w lock. IsLock (desk_in w desk.now) lock) result }

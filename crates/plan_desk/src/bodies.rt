@@ -29,21 +29,22 @@ pub(crate) struct DeskBody {
     pub key: String,
 }
 
-// A published code, and the place that the code is bound to.
+// A published code, and the place that the code is bound to: a resource from 1 on, or a machine
+// from 0 on.
 #[derive(Drop)]
 pub(crate) struct BindBody {
     pub code: String,
     pub place: u64,
 }
 
-// A start date and the marks of seven days, as texts.
+// A start date and the marks of seven days, Monday first, as texts. They are checked later.
 #[derive(Drop)]
 pub(crate) struct CalendarBody {
     pub start: String,
     pub days: String,
 }
 
-// The ends of an arc, and its lag.
+// The two activities of an arc, numbered from 1, and its lag in time units.
 #[derive(Clone, Copy, Drop)]
 pub(crate) struct LagBody {
     pub from: u32,
@@ -51,7 +52,7 @@ pub(crate) struct LagBody {
     pub lag: u64,
 }
 
-// The value that a body spells, or None if the body is no JSON.
+// Returns the value of a JSON body, or None if the body isn't JSON.
 fn json(alloc: Global, body: &[u8]) -> Result<Option<Value>, AllocError>
     ensures { IfOk result (λ value. option_map view value ≡ spec.json body.now) }
 {

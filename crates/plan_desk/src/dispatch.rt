@@ -1,5 +1,4 @@
-//! The dispatch of requests: each admitted call goes to its route, which decides it. Nothing is
-//! written here.
+//! The dispatch of requests: each admitted call is decided by its route. Nothing is written here.
 
 ghost use Rattle.std.specs.Prelude.{IfOk};
 ghost use Rattle.plan_desk.specs.Decisions.{Answers, IsDecision};

@@ -21,9 +21,10 @@ pub fn outside_is_unseen()
     ensures { OutsideIsUnseen }
 {}
 
-/// No desk sees another. Whatever other desks send before or between, a desk receives the replies
-/// that its own requests receive in an office that has its rows and no others. Equal stories
-/// receive equal replies.
+/// No desk sees another. A desk receives the replies that its own requests receive in an office
+/// that has its rows and no others. Requests of other desks before or between make no difference.
+/// Equal stories in one view receive equal replies. After one of the desk's requests is refused for
+/// lack of memory or by the store, nothing more is claimed.
 pub fn desks_are_apart()
     ensures apart { DesksAreApart }
     ensures story { ToldIsStory }
@@ -44,10 +45,10 @@ pub fn order_is_unseen()
     ensures stories { AgreeingViewsAreToldAlike }
 {}
 
-/// Each page shows what it promises: dates that are greatest lengths of paths, schedules that are
-/// feasible and active, and for a schedule that is called optimal the least makespan among all
-/// feasible ones. They use the plan's file, the lags of the desk, and the capacities that are bound
-/// and published at that moment.
+/// Each page shows what it promises. Dates are greatest lengths of paths, and schedules are
+/// feasible and active. A schedule that is called optimal has the least makespan of all feasible
+/// ones. Pages use the plan's file, the lags of the desk, and the capacities that are bound and
+/// published at that moment.
 pub fn pages_are_promised()
     ensures { PagesArePromised }
 {}

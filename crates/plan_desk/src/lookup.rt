@@ -1,4 +1,4 @@
-//! The lookups: what a route reads from the book before it decides a request.
+//! The rows that a route reads from the book before it decides a request.
 
 ghost use Rattle.std.specs.Prelude.{◌≡◌, option_map};
 ghost use Rattle.plan_rows.specs.Views.{view};

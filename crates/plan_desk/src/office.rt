@@ -15,7 +15,7 @@ use std::alloc::Global;
 use std::marker::Model;
 
 /// An office over a book: it answers the requests of all desks. Contracts see its book. It caches
-/// best schedules, for all desks together, by the question; no reply depends on the cache.
+/// best schedules for all desks together. No reply depends on the cache.
 #[derive(Drop)]
 pub struct Office<B: Book> {
     alloc: Global,
@@ -67,7 +67,8 @@ impl<B: Book> Office<B> {
 
     /// Handles a request. The reply is complete before anything is written. An accepted command
     /// makes one writing call. A request that fails for lack of memory (`E90 memory`) or by the
-    /// store (`E91 store`) leaves the tables as they were.
+    /// store (`E91 store`) leaves the tables as they were. If its writing call was refused, a crash
+    /// may still leave the rows that the call would have made.
     pub fn handle(&mut self, request: &Request) -> Reply
         ensures { Handled B.shelf self.old self.new (request_in request.now) (reply_of result) }
     {

@@ -15,8 +15,8 @@ use plan_psplib::{FileCode, FileFault, ProjectDoc, read_sm};
 use plan_rows::{BookFault, LagEntry, PlanRow};
 use std::alloc::Global;
 
-// The fault of a book whose plan has a body that fails a check: memory ran out, or no sound store
-// has this body.
+// Returns the fault of a book for a stored body that fails a check. If memory didn't run out, it is
+// the store's: no sound store has this body.
 fn book_fault(fault: FileFault) -> BookFault
     ensures blamed { result ≡ Store → IsWantOfMemory fault → ⊥ }
     ensures wanted { result ≡ NoMemory → fault.code ≡ FileCode.Memory }

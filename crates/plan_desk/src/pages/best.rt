@@ -28,8 +28,8 @@ use plan_sgs::Instance;
 use plan_shop::Shop;
 use std::alloc::{AllocError, Global};
 
-// The budget that a text spells, or 0 if it spells none. The search checks the size first, and then
-// refuses both alike.
+// Returns the budget that a text spells, or 0 if it spells no budget. The search rejects 0 as an
+// invalid budget, after it has checked the size.
 fn budget_of(text: &str) -> u64
     ensures { IsBudgetText text.now result
         ⊎ ((result ≡ 0) × ((budget : ℕ) → IsBudgetText text.now budget → ⊥)) }

@@ -6,7 +6,7 @@ use Rattle.serde_json.specs.Read.{read}
 use Rattle.plan_desk.specs.Bodies.{json}
 use Rattle.plan_desk.proofs.bodies.json.Goals as goal
 
--- text that is no UTF-8 is no JSON
+-- bytes that aren't UTF-8 aren't JSON
 unread : (body : List ℕ) → (IsUtf8 body → read body ≡ None) → None ≡ json body
 unread body none = by_text (cases_Bool (is_utf8 body))
   where

@@ -9,7 +9,7 @@ use Rattle.plan_rows.proofs.OwnerLemmas.{text_from_same}
 use Rattle.plan_desk.specs.Bodies.{kind_named}
 use Rattle.plan_desk.proofs.bodies.kind_named.Goals as goal
 
--- a word of no kind names none
+-- a word that isn't that of a kind names none
 unnamed : (text : Text) → ((kind : Kind) → text ≢ kind_text kind) → None ≡ kind_named text
 unnamed text none =
     by_words (cases_Bool (same_text text (kind_text Crew))) (cases_Bool (same_text text (kind_text Machine)))
