@@ -20,7 +20,7 @@ use Rattle.plan_store.specs.Reload.{IsStoreOf}
 use Rattle.plan_store.specs.TableTests.{IsLaid}
 use Rattle.plan_store.specs.Adoption.{version_of, other_version, IsTaken, IsMigrated, IsCause, IsOpenAfter, Takes, IsWhole, IsRefused}
 
--- ---- tables have one layout and say one version
+-- ---- tables have one layout and one version
 
 one_layout : (a b : Layout) → schema_of a ≡ schema_of b → a ≡ b
 one_layout First First e = refl
@@ -104,7 +104,7 @@ takes_second s r is outside laid office settled = subst (Takes s s) (sym is) (re
   is_open = tt;
 })
 
--- the same of tables that are laid out
+-- the same for tables of a layout
 pub refuses_laid : (layout : Layout) (s : State) (r : Result (Unit {0}) StoreFault) (fault : StoreFault) →
     r ≡ Err fault → s.in_transaction ≡ false → (HasCleanDisk s → IsLaid layout s) →
     (HasCleanDisk s → IsCause fault s.now) → Takes s s r

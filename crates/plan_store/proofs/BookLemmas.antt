@@ -16,7 +16,7 @@ use Rattle.plan_store.specs.SqlBooks.{Counted, sql_shelf}
 use Rattle.plan_store.proofs.BookCallLemmas.{store_left}
 use Rattle.plan_store.proofs.QueryEffectLemmas.{if_ok}
 
--- a store that is ready stands until an error is counted
+-- a ready store stays readable until an error is counted
 closed : (before after : State) → IsReady after → Endures before after → HasCleanDisk after → Stands before → Stands after ⊎ MoreFaults before.faults after.faults
 closed before after ready endures clean stands = elim (endures.closes clean stands.is_open) [ inl live ↦ inl (ready.stands clean live) | inr fault ↦ inr fault ]
 
@@ -61,7 +61,7 @@ module _ {S : Type 0} (g : Ghosts S) (old new : Counted S) (ready : IsReady (sta
   abbrev after : State
   after = state g new.conn
 
-  -- tables equal to those of a store that stands hold its office
+  -- if a crash leaves only the current tables, it leaves their office
   leaves_now : Stands after → (w : Option World) → ((trees : Trees) → after.may_leave trees → trees ≡ after.now.trees) → may_leave after w → w ≡ Some (world_of after.now.trees)
   leaves_now stands (Some w) only h = ap Some (h.3 ∙ ap world_of (only h.0 h.1))
   leaves_now stands None only h = absurd (h.2 (subst IsStoreLeft (sym (only h.0 h.1)) (store_left after.now stands.store)))

@@ -34,7 +34,7 @@ use Rattle.plan_store.specs.Tables.{keyed_table}
 use Rattle.plan_store.proofs.QueryForms.{of_table, alone}
 use Rattle.plan_store.proofs.EditLemmas.{number_of, at_number, changed_row, row_inserted, rows_updated, rows_deleted}
 
--- a part that gave a value did not stop on the way
+-- a step that returned a value didn't stop
 pub went : {B E R : Type 0} {b : B} {Stops : E → Type 0} → ((stop : E) × Stops stop × (Ok b ≡ Err stop)) ⊎ R → R
 went (inl stopped) = absurd (let e = stopped.2 in cc)
 went (inr on) = on
@@ -42,7 +42,7 @@ went (inr on) = on
 pub same_value : {B E : Type 0} {a b : B} → ◌≡◌ {A = Result B E} (Ok a) (Ok b) → a ≡ b
 same_value e = cc
 
--- one tree has these rows, and those that are no index's are as they were
+-- one tree has these rows, and each other tree that isn't an index's is unchanged
 pub record Sets (schema : Schema) (tree : ℕ) (rows : List Row) (old : Trees) (after : Database) : Type 0 where
   pub schema_is : after.schema ≡ schema
   pub rows_are : after.trees tree ≡ rows

@@ -115,7 +115,7 @@ module _ (w : World) (rules : IsWorld w) (names : AllByRecursion (λ (row : Plan
       let same = (bytes_eq-Decides it.0.code code).0 found.1 in
       subst IsUtf8 same (name_text it.0.code (and_parts (is_name it.0.code) _ found.0).0)
 
-  -- the owner of a plan that is there
+  -- the owner of an existing plan
   owner_text : (desk : List ℕ) (n : ℕ) (plan : Plan) → plan_in w desk n ≡ Some plan → IsUtf8 desk
   owner_text desk n plan is =
       let found = found_has (IsOwned w) (is_plan desk n) w.plans plan is rules.owned in

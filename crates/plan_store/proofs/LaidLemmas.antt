@@ -158,7 +158,7 @@ module _ (layout : Layout) (s : State) (laid : IsLaid layout s) where
   plans_good plans rows reads zip =
       subst (λ l. TakesTable written_plan read_plan IsGoodPlan (s.now.trees 5) (Some l)) (map-id plans) (plans_listed (Some plans) rows reads zip)
 
-  -- a row that is no good plan
+  -- a row that isn't a good plan
   pub plan_bad : (rows : List Row) (row : Row) → Reads (meaning_under (schema_of layout) means.plans_text) s.now [] rows → Contains rows row → TakesGood row None
       → TakesTable written_plan read_plan IsGoodPlan (s.now.trees 5) None
   plan_bad rows row reads among none = plans_listed None rows reads (row, among, none)
@@ -214,7 +214,7 @@ meta_shape n (Blob b ∷ r) h = absurd (let e = h.0 in cc)
 abbrev show_meta : ℤ × Row → Row
 show_meta e = Int e.0 ∷ column e.1 1 ∷ column e.1 2 ∷ []
 
--- the row that is shown, and the row that is there
+-- the row that is shown, and the row of the table
 meta_back : (row : Row) → IsTrue (is_int (rowid row)) → IsRowOf tables.meta row → (meta : Meta) → show_meta (entry_of row) ≡ shown_meta meta → row ≡ meta_at meta.0 meta.1
 meta_back row whole full meta is =
     let e = entry_of row in

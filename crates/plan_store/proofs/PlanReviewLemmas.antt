@@ -41,11 +41,11 @@ use Rattle.plan_store.proofs.LaidLemmas.{plans_good, plan_bad}
 
 -- ---- a row
 
--- two plans that are written alike are one
+-- two plans with the same written row are equal
 one_written : (a b : Plan) (row : Row) → row ≡ written_plan a → row ≡ written_plan b → a ≡ b
 one_written a b row p q = sym (plan_back a (pos 0)) ∙ ap (λ (r : Row). read_plan (Int (pos 0) ∷ r)) (sym p ∙ q) ∙ plan_back b (pos 0)
 
--- a row that is no plan that code can hold
+-- a row that isn't a plan that code can hold
 pub none_told : (row : Row) → TakesRow written_plan HoldsPlan row None → TakesGood row None
 none_told row none = λ a good is. none a good.0 is
 
@@ -132,7 +132,7 @@ module _ {S : Type 0} (g : Ghosts S) (first : Held S) where
         let next = told text [] it.0 it.1 it.2 it.4 in
         (it.0 ++ next.0 ∷ [], it.1 ++ next.1 ∷ [], next.2, zip_push it.0 it.1 next.0 next.1 it.3 next.3, next.4)
 
-    -- a row that is no good plan
+    -- a row that isn't a good plan
     pub gone_bad : Reviews g old new before after Bad → ReviewsRest g first new after false
     gone_bad told = λ text query given.
         let it = gone text given in

@@ -76,7 +76,7 @@ queries_then a b c r Is q Other out Last one two answer = record {
   endures = endures_then a b c two.honesty one.endures two.endures;
 }
 
--- a store that stands is at rest
+-- a ready store is at rest
 pub rest_of : (s : State) → IsReady s → IsAtRest s
 rest_of s ready = record { outside = ready.outside; settled = λ clean live. (ready.stands clean live).settled }
 

@@ -31,6 +31,6 @@ alone q = record { lets = []; body = q }
 abbrev pub is_given : ℕ → ℕ → Term
 is_given column given = op2 (Compare Eq Binary) (col 1 column) (col 0 given)
 
--- rising by a column
+-- ascending order by a column
 abbrev pub by : ℕ → Term × Key
 by column = (col 1 column, ascending Binary)

@@ -36,7 +36,7 @@ module _ {A : Type 0} (written : A → Row) (tree : ℕ) (test project : List Te
       ∙ answer_sorted (of_table tree test project order) db params (last_table db tree (row_at written) number_of xs are up (at_end db)) p tests (λ r. r) show shows refl refl
       cmp untied is rows answer
 
--- ---- the one order of rows that stand in the order of their numbers
+-- ---- the one order of rows that are in the order of their numbers
 
 module _ {A : Type 0} (cmp : ℤ × A → ℤ × A → Ordering) (before : A → A → Bool) (agree : (x y : ℤ × A) → x.0 <ℤ y.0 → is_gt (cmp x y) ≡ before y.1 x.1) where
   abbrev content : ℤ × A → A

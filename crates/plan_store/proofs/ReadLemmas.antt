@@ -54,7 +54,7 @@ pub read_query : (text : List ℕ) (q : Query) (names : List (List ℕ)) → mea
     → Reads (meaning_of text) db params rows → IsAnswer q (overlay db.trees []) params rows
 read_query text q names is db params rows h = (subst (λ k. Reads k db params rows) is h).answer Null
 
--- ---- kinds are told by their texts
+-- ---- kinds are determined by their texts
 
 pub same_texts : (a b : List ℕ) → Text a ≡ Text b → a ≡ b
 same_texts a b e = ap text_in e

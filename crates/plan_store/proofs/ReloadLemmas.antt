@@ -1,4 +1,4 @@
--- Tables that are read again are those of before, and their rows stand in order.
+-- Tables that are read again are the same as before, and their rows are in order.
 use Rattle.std.proofs.Common.{◌≡◌, ◌≤◌, Bool, true, false, IsTrue, refl, sym, ap, subst, ◌∙◌, arith}
 use Rattle.std.specs.List.{AllByRecursion}
 use Rattle.sqlite_trees.specs.Tree.{Trees}

@@ -57,7 +57,7 @@ module _ (layout : Layout) where
       let live = (it.same clean (h clean).0).0 in
       ((h clean).0, f x (ready.laid (it.honesty clean) live) (h clean).1)) it.answer)
 
-  -- two calls that look, one after another
+  -- two calls that read, one after another
   pub looks_then : (a b c : State) {X Y Z : Type 0} (r : Result X BookFault) (Is : X → Type 0) (q : Result Y BookFault) (Other : Y → Type 0) (out : Result Z BookFault) (Last : Z → Type 0)
       → Looks layout a b r Is → Looks layout b c q Other → IfOk out (λ z. HasCleanDisk c → IsTrue c.is_open × Last z) → Looks layout a c out Last
   looks_then a b c r Is q Other out Last one two answer = record {
@@ -72,7 +72,7 @@ module _ (layout : Layout) where
     endures = endures_then a b c two.honesty one.endures two.endures;
   }
 
-  -- what two calls answer, one after another, of the same tables
+  -- the results of two calls on the same tables, one after another
   pub looks_both : (a b c : State) {X Y : Type 0} (r : X) (Is : X → Type 0) (q : Y) (Other : Trees → Y → Type 0) → Looks layout a b (Ok r) Is → Looks layout b c (Ok q) (Other b.now.trees)
       → Looks layout a c {X = X × Y} (Ok (r, q)) (λ both. Is both.0 × Other a.now.trees both.1)
   looks_both a b c {X} {Y} r Is q Other one two = looks_then a b c {Z = X × Y} (Ok r) Is (Ok q) (Other b.now.trees) (Ok (r, q)) _ one two (λ clean.

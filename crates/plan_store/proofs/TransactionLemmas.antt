@@ -1,4 +1,4 @@
--- What statements in one transaction do to a connection.
+-- The effect of the statements of one transaction on a connection.
 use Rattle.std.proofs.Common.{◌≡◌, ◌⊎◌, inl, inr, ◌≤◌, ◌<◌, ◌+◌, ℕ, true, false, List, map, drop, get_or, length, Ok, Err, Result, OnOk, IsTrue, refl, sym, subst, ◌∙◌, arith}
 use Rattle.std.specs.Prelude.{MatchResult, IsErrAnd, OnErr}
 use Rattle.std.proofs.lemmas.List.{drop_more, drop_all}
@@ -61,13 +61,13 @@ module _ (old new : State) where
   kept_where_failed (inr h) = unchanged_keeps old new (inl h.2)
 
 module _ {S : Type 0} (g : Ghosts S) (statements : List Statement) (start tx last end : Held S) (begun : tx ≡ record start { in_transaction = true }) where
-  -- a transaction that is committed leaves what its statements made
+  -- a committed transaction leaves the tables after its statements
   pub committed_all : RanAll g statements tx last → Shows (state g last) (state g end) (state g last).now (state g last).now false
       → IsTrue (state g end).is_open × ((state g end).now ≡ (state g end).committed) × LeavesAll g statements start (state g end).now
   committed_all ran shown =
       (shown.is_open, shown.now_is ∙ sym shown.committed_is, (last, subst (λ h. RanAll g statements h last) begun ran, shown.now_is))
 
-  -- and a crash leaves that, or what it might have left before
+  -- a crash leaves these, or trees that it could leave before
   pub survives_all : Survives (state g tx) (state g last) (λ _. ⊥) → (HasCleanDisk (state g last) → RanAll g statements tx last)
       → Survives (state g last) (state g end) (λ db. db ≡ (state g last).now.trees) → Survives (state g start) (state g end) (MayMake g statements start)
   survives_all inside ran ending =

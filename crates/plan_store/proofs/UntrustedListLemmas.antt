@@ -1,4 +1,4 @@
--- From the rows that a query of a whole table shows to what the table keeps.
+-- From the rows that a query of a whole table shows to the rows that the table keeps.
 use Rattle.std.proofs.Common.{◌≡◌, ◌⊎◌, inl, inr, ◌<ℤ◌, ℕ, ℤ, true, List, [], ◌∷◌, length, map, drop, Option, Some, None, option_map, refl, sym, ap, ap₂, subst, ◌∙◌, arith, Contains, slice_index_or}
 use Rattle.std.specs.List.{AllByRecursion, AllZip}
 use Rattle.std.proofs.lemmas.List.Elements.{All-from_recursion}
@@ -79,7 +79,7 @@ module _ {A X : Type 0} (written : A → Row) (read : Row → A) (Holds : A → 
     unfolding keeps
     reads xs zip = reads_entries written read (keeps xs zip) ∙ contents rows xs zip
 
-    -- of a table of an office each row shows a row
+    -- each row of an office's table shows a row of the office
     shown_by : (it : Keeps written read rows) → AllByRecursion Holds (map read rows) → AllByRecursion (λ row. (a : A) × Holds a × (row ≡ written a)) (map (drop 1) rows)
     shown_by it all =
         let held : AllByRecursion Holds (map (λ (e : ℤ × A). e.1) it.entries) = subst (AllByRecursion Holds) (reads_entries written read it) all in

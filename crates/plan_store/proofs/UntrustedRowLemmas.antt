@@ -9,7 +9,7 @@ use Rattle.plan_rows.specs.Names.{is_digest}
 use Rattle.plan_store.proofs.CodecLemmas.{digest_decoded}
 use Rattle.plan_store.proofs.NumberedRowLemmas.{cells, cells_all}
 
--- what is known of a value that was found
+-- a fact about a value that was found
 pub found_is : {X : Type 0} (P : Type 0) (Q : X → Type 0) (o : Option X) (x : X) → o ≡ Some x → MatchOption o P Q → Q x
 found_is P Q o x is h = subst (λ k. MatchOption k P Q) is h
 

@@ -1,4 +1,4 @@
--- From what is read of each table to the rows of all of them, or to no office.
+-- From the rows that are read from each table to the rows of all tables, or to no office.
 use Rattle.std.proofs.Common.{◌≡◌, inl, inr, ℤ, [], map, Some, None, Vec, Global, sym, ap, ◌∙◌}
 use Rattle.sqlite.specs.Effect.{Database}
 use Rattle.plan_rows.specs.declared.rows.CodeRow.{CodeRow}

@@ -1,4 +1,4 @@
--- From the rows that were read to what the tables are.
+-- From the rows that were read to the version of the tables, or to no office.
 use Rattle.std.proofs.Common.{◌≡◌, ℤ, Bool, true, false, List, [], ◌∷◌, Some, None, Ok, Result, IsTrue, IfOk, IsUtf8, refl, sym, ap, subst, ◌∙◌}
 use Rattle.std.specs.List.{AllByRecursion}
 use Rattle.sqlite_keyed.proofs.ListLemmas.{all_weaker, all_both}
@@ -39,7 +39,7 @@ good_plans First db version h = all_both HoldsPlan IsPlanRow IsGoodPlan (λ plan
 good_plans Second db version h = all_both HoldsPlan IsPlanRow IsGoodPlan (λ plan holds row. (holds, row))
     (world_of db.trees).plans (plans_hold (world_in Second db.trees) h.rules h.names) h.rules.plans
 
--- tables of which a plan is not good hold no office
+-- tables with a plan that isn't good hold no office
 no_office : (layout : Layout) (db : Database) → TakesTable written_plan read_plan IsGoodPlan (db.trees 5) None → (version : ℤ) → IsOfficeAt layout version db → ⊥
 no_office layout db none version h = none h.plans (good_plans layout db version h)
 
@@ -82,7 +82,7 @@ module _ (layout : Layout) (old new : State) (ready : IsReadable layout old) whe
       let was = look.same clean said.0 in
       (said.0, f (ready.laid (look.honesty clean) was.0) (holds (look.honesty clean)) said.1))
 
--- nothing was asked
+-- no query was run
 pub looks_nowhere : (layout : Layout) (s : State) → IsReadable layout s →
     {X : Type 0} (r : Result X BookFault) (Is : X → Type 0) →
     IfOk r (λ x. HasCleanDisk s → IsTrue s.is_open × Is x) → Looks layout s s r Is

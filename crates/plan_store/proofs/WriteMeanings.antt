@@ -1,4 +1,4 @@
--- What each statement that writes means under the schema of a store.
+-- The meaning of each statement that writes, under the schema of a store.
 use Rattle.std.proofs.Common.{◌≡◌, ℕ, pos, List, [], ◌∷◌, codes, refl}
 use Rattle.sqlite_value.specs.declared.value.Value.TheVariants.{Null, Int, Text}
 use Rattle.sqlite_sql.specs.Term.{Term, lit, col}

@@ -22,7 +22,7 @@ pub record Stands (s : State) : Type 0 where
   pub settled : s.now ≡ s.committed
   pub store : IsStore s.now
 
--- It is outside a transaction, even after an error, and it stands as long as it is open.
+-- It is outside a transaction, even after an error. As long as it is open, it satisfies `Stands`.
 pub record IsReady (s : State) : Type 0 where
   pub outside : s.in_transaction ≡ false
   pub stands : HasCleanDisk s → IsTrue s.is_open → Stands s
@@ -31,7 +31,7 @@ pub record IsReady (s : State) : Type 0 where
 abbrev pub IsStoreLeft : Trees → Type 0
 IsStoreLeft trees = IsStore (record { schema = store_schema; trees = trees })
 
--- a crash may leave this office, or tables that are no store
+-- a crash may leave this office, or tables that aren't a store
 abbrev pub may_leave : State → Option World → Type 0
 may_leave s (Some w) = (trees : Trees) × s.may_leave trees × IsStoreLeft trees × (w ≡ world_of trees)
 may_leave s None = (trees : Trees) × s.may_leave trees × ¬ IsStoreLeft trees

@@ -45,7 +45,7 @@ abbrev pub Stays : State → State → Type 0
 Stays old new =
     IsTrue new.is_open → IsTrue old.is_open × (new.now ≡ old.now) × (new.committed ≡ old.committed)
 
--- or as they were committed
+-- as long as it is open, the tables are as they were, or as they were committed
 abbrev pub Leaves : State → State → Type 0
 Leaves old new =
     IsTrue new.is_open
@@ -68,8 +68,8 @@ module _ {S : Type 0} (g : Ghosts S) where
       → HasGiven g text params old given → HasReviewed plans before
       → Goes text params old new given plans after next
 
--- All rows of a query are plans that were tested and are good. Or the rows of the query begin with
--- some rows, the last of which is no good plan.
+-- All rows of a query are plans that were tested and are good. Or the query begins with some rows,
+-- and the last of them isn't a good plan.
 abbrev pub ReviewsRows : List ℕ → Database → State → Review → Bool → Type 0
 ReviewsRows text db new review good =
     MatchBool good

@@ -32,7 +32,7 @@ pub record IsServing (s : State) (kept : Option NextPlan) : Type 0 where
   pub ready : IsReady s
   pub next : IfSome kept (λ next. IsNextNumber s (string_bytes next.desk) next.n)
 
--- Its calls can fail, and it stands as long as its store is open.
+-- The calls can fail, and the tables are readable as long as the store is open.
 abbrev pub sql_shelf : {S : Type 0} → Ghosts S → Shelf (Counted S)
 sql_shelf {S} g = record {
   world = λ book. world_of (state g book.conn).now.trees;

@@ -49,7 +49,7 @@ world_others it plans = record {
 }
 
 -- The rows of the tables except the plans are those of an office, which may break the rules of
--- rows, and these are its version and its rows.
+-- rows. These are its version and its rows.
 pub record HoldsOthers (layout : Layout) (db : Database) (it : OtherRows) : Type 0 where
   pub meta : db.trees 0 ≡ meta_at it.version it.office ∷ []
   pub published : Keeps written_code read_code (db.trees 1)

@@ -13,8 +13,8 @@ use crate::transaction::run_all;
 use sqlite::types::ValueRef;
 use sqlite::{Alter, Connection};
 
-/// Adds an empty table of lags and sets the version, in one transaction. A crash leaves the tables
-/// of the first version or those of the second.
+/// Adds an empty table of lags and sets the version, in one transaction. A crash leaves tables that
+/// it could leave before, or those of the second version.
 pub fn migrate<S: Alter>(conn: &mut Connection<S>) -> Result<(), StoreFault>
     requires outside { (state S.Store conn.old).in_transaction ≡ false }
     requires first { HasCleanDisk (state S.Store conn.old)

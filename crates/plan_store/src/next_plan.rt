@@ -12,8 +12,8 @@ pub struct NextPlan {
     pub n: u64,
 }
 
-/// Returns the next number of a desk that was read. It returns none if there is no such desk or no
-/// memory for its name.
+/// Returns the next number of a desk that was read, or None if the desk doesn't exist or memory for
+/// its name runs out.
 pub fn next_plan_of(
     alloc: Global,
     desk: &str,

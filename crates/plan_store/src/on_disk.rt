@@ -86,8 +86,8 @@ fn open_at<F: Start>(
 
 impl<F: Start> SqlBook<FileStore<FileFrom<F>>> {
     /// Opens the book in the database file at a path and the log beside it. A missing or empty file
-    /// has no tables, so the error is `NotOurs`. If the file is no database or can't be opened, it
-    /// is `Store`. No clause relates the files to the path: review `files_at` and
+    /// has no tables, so the error is `NotOurs`. If the file isn't a database or can't be opened,
+    /// it is `Store`. No clause relates the files to the path: review `files_at` and
     /// `sqlite_std_file::open`.
     pub fn open_from(
         rt: &HostRuntime,

@@ -12,7 +12,7 @@ use plan_rows::BookFault;
 use sqlite::types::ValueRef;
 use sqlite::{Alter, Connection, Error, Transaction};
 
-// Runs the statements in turn, until one fails.
+// Runs the statements one after another, until one fails.
 fn run_in_turn<S: Alter>(
     tx: &mut Transaction<'_, S>,
     statements: &[(&str, &[ValueRef<'_>])],
@@ -34,8 +34,8 @@ fn run_in_turn<S: Alter>(
     Ok(())
 }
 
-/// Runs all statements in one transaction, or none. After a crash the tables are as before, or as
-/// after all statements.
+/// Runs all statements in one transaction, or none. A crash leaves tables that it could leave
+/// before, or those after all statements.
 pub fn run_all<S: Alter>(
     conn: &mut Connection<S>,
     statements: &[(&str, &[ValueRef<'_>])],

@@ -4,7 +4,7 @@ use Rattle.sqlite.specs.Held.{Held, state}
 use Rattle.plan_store.specs.Transactions.{said, RanAll}
 use Rattle.plan_store.proofs.transaction.run_in_turn.Given as goal
 
--- whatever runs what is left has run them all
+-- running the statements that are left runs all of them
 abbrev pub invariant-loop-text : goal.invariant-loop-text
 invariant-loop-text g l = record {
   same : l.tx.conn.ghost_name ≡ l.fn.tx.conn.ghost_name;

@@ -33,7 +33,7 @@ lent : (it : OtherRows) (codes : List CodeRow) (desks : List DeskRecord) (binds 
     → (plans : List Plan) → made it.office codes desks plans binds lags ≡ world_others it plans
 lent it codes desks binds lags a b d e plans = λ i. made it.office (a i) (b i) plans (d i) (e i)
 
--- nothing is asked of an answer that is an error
+-- an error makes no claim
 if_err : {X E : Type 0} (Q : E → Type 0) (P : X → Type 0) (r : Result X E) → IsErrAnd r Q → IfOk r P
 if_err Q P (Ok x) none = absurd none
 if_err Q P (Err e) some = tt
