@@ -101,7 +101,7 @@ replies_in desk v w (bytes ∷ conns) (response ∷ responses) story told same (
     subst (λ (list : List Text). AreReplies w list told) (sym is_story) (subst (λ (list : List Text). AreReplies w (bytes ∷ more) list) (sym is_told)
     (r, answer.reply, next.other, is.spelled, next.step, answer.told, replies_in desk (view desk after) next.other conns responses more others next.alike rest))
 
--- what a desk is told in a run it is told alone
+-- a desk receives the same responses in a run and alone
 pub told_alone : (desk : Text) (w : World) (conns responses : List Text) → AreTold desk (view desk w) conns responses
     → IsToldAlone desk (view desk w) conns responses
 told_alone desk w conns responses told = elim (story_or_want desk (view desk w) conns responses told) [
@@ -111,7 +111,7 @@ told_alone desk w conns responses told = elim (story_or_want desk (view desk w) 
 
 -- ---- connections that don't belong to the desk
 
--- a request on bytes that spell nothing of the desk isn't one of it
+-- a request whose bytes are outside the desk's story doesn't belong to the desk
 pub outside_request : (desk : Text) (v : View) (bytes : Text) (r : Request) → IsOutside desk v bytes → Judges bytes (asks r) → belongs desk v r ≡ false
 unfolding OneVerdict
 outside_request desk v bytes r outside spelled =

@@ -19,7 +19,7 @@ ended bytes body left filled came s zero end short =
     let all : length bytes ≡ filled + came = ap length is ∙ len in
     omega arith
 
--- a full body is the front of all bytes, and what follows it is left
+-- a full body is the front of all bytes, and the bytes after it are left
 pub full : (bytes body : List ℕ) (left : Option (List ℕ)) (count : ℕ) → IsSplit bytes body left → length body ≡ count
     → (count ≤ length bytes) × (body ≡ take count bytes) × (left ≡ Some (drop count bytes))
 full bytes body left count s len =
@@ -29,13 +29,13 @@ full bytes body left count s len =
       s.left_is ∙ ap Some (subst (λ n. s.more ≡ drop n bytes) len (sym (ap (drop (length body)) s.whole ∙ drop-append_seam body s.more))),
     )
 
--- what was written over a whole list is all of it
+-- a list that is overwritten as a whole is the new one
 pub written_over : (body old : List ℕ) (len : ℕ) → length body ≡ length old → len ≡ length old → take len (body ++ drop (length body) old) ≡ body
 written_over body old len same is =
     let n : len ≡ length body = is ∙ sym same in
     rw n (take-append_seam body (drop (length body) old))
 
--- a body that had come whole is the front of all bytes
+-- a body that was read with the head is the front of all bytes
 pub came_whole : (after got : List ℕ) (left : Option (List ℕ)) (count : ℕ) → IsSplit after got left → count < length got
     → (count ≤ length after) × (take count got ≡ take count after) × (length got ≤ count → left ≡ Some (drop count after))
 came_whole after got left count s short =
@@ -58,17 +58,17 @@ skipped old new had left (Ok came) within fills = λ total before h.
     )
 skipped old new had left (Err e) within fills = tt
 
--- what came with the head, and what is left
+-- the bytes that were read with the head, and those that are left
 pub left_behind : (after got : List ℕ) (left : Option (List ℕ)) → IsSplit after got left → HasLeft (length after) (length got) left
 left_behind after got left s = record { rest = s.more; left_is = s.left_is; sum = ap length s.whole ∙ length-append got s.more }
 
--- what was skipped is no more than there is
+-- the total is at least the number of skipped bytes
 pub at_least : (total before count : ℕ) (left : Option (List ℕ)) → HasLeft total before left → count ≤ before → count ≤ total
 at_least total before count left h within =
     let sum : total ≡ before + length h.rest = h.sum in
     omega (arith, sum, within)
 
--- and all of it where nothing is left
+-- if nothing is left and too few bytes were skipped, the total is too small
 pub too_few : (total before came count : ℕ) (left : Option (List ℕ)) → HasLeft total (before + came) left → came ≡ 0 → left ≡ Some [] → before < count → total < count
 too_few total before came count left h zero end short =
     let same : Some h.rest ≡ Some [] = sym h.left_is ∙ end in

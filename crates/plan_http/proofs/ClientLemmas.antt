@@ -1,4 +1,4 @@
--- What was read of a client, one read behind another.
+-- The bytes that were read from a client, one read after another.
 use Rattle.std.proofs.Common.{◌≡◌, ℕ, ◌<◌, ◌≤◌, Bool, true, false, List, [], ◌++◌, length, take, Option, Some, Result, Ok, Err, IfOk, refl, sym, ap, ◌∙◌, subst, append_assoc, append-nil}
 use Rattle.std.proofs.KnownBytes.{Consumes-nil, Consumes-trans}
 use Rattle.std.specs.Io.KnownBytes.{Consumes}
@@ -70,14 +70,14 @@ reads_fill {E = E} a b old new filled k (Ok n) fits some bound h = record {
 pub still_open : (ended : Bool) → ended ≡ false → ended ≡ true → ⊥
 still_open ended is was = let no : true ≡ false = sym was ∙ is in absurd cc
 
--- what is left behind bytes that are known
+-- the bytes that are left after some known bytes
 pub rest_known : {old new : Known} {came : List ℕ} (bytes : List ℕ) → Comes old new came → old.left ≡ Some bytes → (old.ended ≡ true → ⊥)
     → (rest : List ℕ) × (bytes ≡ came ++ rest) × (new.ended ≡ true → rest ≡ [])
 rest_known {old = old} {new = new} {came = came} bytes c known open_still =
     let left = consumed bytes came new.left (subst (λ left. Consumes left new.left came) known c.consumed) in
     (left.0, left.2, λ ended. some_same left.0 [] (sym left.1 ∙ c.at_end bytes known (λ was. absurd (open_still was)) ended))
 
--- of bytes that are known, it holds
+-- the fact holds for known bytes
 pub of_known : {P : List ℕ → Type 0} {old new : Known} (bytes : List ℕ) → OfBytes old new P → old.left ≡ Some bytes → (old.ended ≡ true → ⊥) → P bytes
 of_known {P = P} bytes o known open_still =
     let r = rest_known bytes o.comes known open_still in subst P (sym r.1) (o.holds r.0 r.2)
@@ -87,7 +87,7 @@ pub reads_known : {P : Option (List ℕ) → Option (List ℕ) → Type 0} {old 
 reads_known {P = P} bytes o known open_still =
     let r = rest_known bytes o.comes known open_still in (Some r.0, subst (λ all. P (Some all) (Some r.0)) (sym r.1) (o.holds r.0 r.2))
 
--- of a client that is fresh, it holds of what was heard and whatever may follow
+-- for a fresh client the fact holds for the bytes that were read, with any that may follow
 pub of_heard : {P : List ℕ → Type 0} {old new : Known} → OfBytes old new P → old.heard ≡ [] → (more : List ℕ) → (new.ended ≡ true → more ≡ []) → P (new.heard ++ more)
 of_heard {P = P} o none more ends =
     let all = o.comes.grown ∙ ap (λ heard. heard ++ o.came) none in subst (λ heard. P (heard ++ more)) (sym all) (o.holds more ends)

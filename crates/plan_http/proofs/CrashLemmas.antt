@@ -1,4 +1,4 @@
--- What a crash may leave after connections that were served.
+-- The rows that a crash may leave after connections were served.
 use Rattle.std.proofs.Common.{◌≡◌, ◌⊎◌, ℕ, zero, suc, ◌+◌, ◌<◌, ◌≤◌, true, false, ◌&&◌, ◌||◌, List, [], ◌∷◌, length, take, drop, filter, Option, Some, inl, inr, refl, sym, ap, ◌∙◌, subst, arith}
 use Rattle.std.proofs.lemmas.Bool.{cases_Bool, both_ways}
 use Rattle.std.specs.Prelude.{if◌then◌else◌, nat_lt}
@@ -30,13 +30,13 @@ unaccepted_keeps w r reply after refused (change, decided, is) = by_sort (sorted
     by_sort (inl keeps) = is ∙ ap (λ c. apply (subject r) c w) keeps.kept
     by_sort (inr makes) = absurd (both_ways _ refused (ap (λ b. b && nat_lt reply.status 300) makes.is_command ∙ makes.accepted))
 
--- where a command was accepted, some was
+-- a run with an accepted command at a place accepted some command
 some_accepted : (decisions : List Decision) (place : ℕ) → IsAcceptedAt decisions place → list_any accepts decisions ≡ true
 some_accepted [] place h = cc
 some_accepted (d ∷ decisions) zero h = grind (arith, h)
 some_accepted (d ∷ decisions) (suc place) h = grind (arith, some_accepted decisions place h)
 
--- and it stands in front of a place from which on none was
+-- an accepted command comes before a place after which none is accepted
 in_front : (kept : ℕ) (decisions : List Decision) (place : ℕ) → list_any accepts (drop kept decisions) ≡ false → IsAcceptedAt decisions place → place < kept
 in_front zero decisions place none h = absurd (both_ways _ none (some_accepted decisions place h))
 in_front (suc kept) [] place none h = absurd (both_ways _ refl (some_accepted [] place h))
@@ -44,7 +44,7 @@ in_front (suc kept) (d ∷ decisions) zero none h = omega arith
 in_front (suc kept) (d ∷ decisions) (suc place) none h = let below : place < kept = in_front kept decisions place none h in omega (arith, below)
 
 module _ {B : Type 0} (shelf : Shelf B) where
-  -- tables that can be seen could be seen before
+  -- readable tables were readable before
   moved_stood : (old new : B) (d : Decision) → Moves shelf old new d → shelf.honest new → shelf.stands new → shelf.stands old
   moved_stood old new (answered r reply) h honest stands = h.stood honest stands
   moved_stood old new (failed check allow is_head) h honest stands = subst shelf.stands h stands
@@ -57,7 +57,7 @@ module _ {B : Type 0} (shelf : Shelf B) where
   served_stood old new (bytes ∷ conns) (d ∷ decisions) (middle, is_on, moves, rest) honest stands =
       moved_stood old middle d moves (served_honest shelf middle new conns decisions rest honest) (served_stood middle new conns decisions rest honest stands)
 
-  -- and only a counted fault shuts them
+  -- only a counted fault closes the tables
   moved_counts : (old new : B) (d : Decision) → Moves shelf old new d → shelf.faults old ≤ shelf.faults new
   moved_counts old new (answered r reply) h = h.counts
   moved_counts old new (failed check allow is_head) h = let same : shelf.faults new ≡ shelf.faults old = ap shelf.faults h in omega (arith, same)
@@ -85,7 +85,7 @@ module _ {B : Type 0} (shelf : Shelf B) where
       closes_then shelf old middle new (moved_counts old middle d moves) (run_counts middle new conns decisions rest)
       (moved_closes old middle d moves (served_honest shelf middle new conns decisions rest honest)) (run_closes middle new conns decisions rest honest)
 
-  -- no decision but one that accepts a command changes the rows
+  -- only a decision that accepts a command changes the rows
   moved_same : (old new : B) (d : Decision) → Moves shelf old new d → accepts d ≡ false → shelf.honest new → shelf.stands new → shelf.world new ≡ shelf.world old
   moved_same old new (answered r reply) h unaccepted honest stands = elim (h.step honest) [
     | inl made ↦ unaccepted_keeps (shelf.world old) r reply (shelf.world new) unaccepted made.1
@@ -112,7 +112,7 @@ module _ {B : Type 0} (shelf : Shelf B) where
   moved_unmade old new (failed check allow is_head) h unaccepted honest = ap shelf.made h
   moved_unmade old new starved h unaccepted honest = ap shelf.made h
 
-  -- what was refused, in the request's words
+  -- the refused change, as a step on the request
   record Refused (old new : B) (d : Decision) (left : Option World) : Type 0 where
     request : Request
     reply : Reply
@@ -141,7 +141,7 @@ module _ {B : Type 0} (shelf : Shelf B) where
   moved_crash old new (failed check allow is_head) h unaccepted honest left may = inl (subst (λ (b : B). shelf.may_leave b left) h may)
   moved_crash old new starved h unaccepted honest left may = inl (subst (λ (b : B). shelf.may_leave b left) h may)
 
-  -- the bytes of what was refused
+  -- the bytes of the refused request
   refused_on : (before after : Known) (old new : B) (d : Decision) (left : Option World) (r : Refused old new d left)
       → OfBytes before after (λ bytes. IsOn bytes d) → OfBytes before after (λ bytes. Judges bytes (asks r.request))
   refused_on before after old new d left r on = of_bytes_map on (λ bytes is. subst (λ (e : Decision). IsOn bytes e) r.is is)
@@ -303,7 +303,7 @@ module _ {B : Type 0} (shelf : Shelf B) where
           (moved_durable old middle d moves took (served_honest shelf middle new conns decisions rest honest) left) behind
       by_answer (inr unaccepted) = unaccepted_first old middle new bytes conns d decisions left is_on moves rest unaccepted honest behind
 
-  -- what a crash may leave after a run
+  -- the rows that a crash may leave after a run
   pub run_left : (old new : B) (conns : List Text) (decisions : List Decision) → Serving shelf old conns decisions new → shelf.honest new
       → (left : Option World) → shelf.may_leave new left → LeavesRun shelf old new conns decisions left
   run_left old new [] [] h honest left may = inl (refl, inl (subst (λ (b : B). shelf.may_leave b left) h may))

@@ -43,7 +43,8 @@ pub after_append : (m : ℕ) (a b : List ℕ) → digits_value_after 10 m (a ++ 
 after_append m [] b = refl
 after_append m (c ∷ cs) b = after_append (m * 10 + digit_value c) cs b
 
--- as many digits behind two numbers give the same only where both numbers and all digits are the same
+-- equally many digits after two numbers give the same value only if both numbers and all digits are
+-- equal
 pub same_after : (m n : ℕ) (a b : List ℕ) → list_all is_ascii_digit a ≡ true → list_all is_ascii_digit b ≡ true → length a ≡ length b
     → digits_value_after 10 m a ≡ digits_value_after 10 n b → (m ≡ n) × (a ≡ b)
 same_after m n [] [] da db len same = (same, refl)
@@ -66,12 +67,12 @@ same_after m n (c ∷ a) (d ∷ b) da db len same =
     let tail : a ≡ b = rest.1 in
     (m_is, cc)
 
--- digits behind a number give no less than it
+-- a number that is followed by digits doesn't get smaller
 pub after_least : (m : ℕ) (a : List ℕ) → m ≤ digits_value_after 10 m a
 after_least m [] = omega arith
 after_least m (c ∷ cs) = let more = after_least (m * 10 + digit_value c) cs in omega arith
 
--- digits give 0 only where all of them are zeros
+-- digits have the value 0 only if all of them are zeros
 pub zeros_decide : (a : List ℕ) → list_all is_ascii_digit a ≡ true → Decides (list_all is_zero a) (digits_value_after 10 0 a ≡ 0)
 zeros_decide [] da = (λ _. refl, λ _. refl)
 zeros_decide (c ∷ cs) da =
@@ -91,7 +92,8 @@ zeros_decide (c ∷ cs) da =
           both_true (is_zero c) (list_all is_zero cs) (eq-eqb c 48 is) (others.1 (subst (λ m. digits_value_after 10 m cs ≡ 0) none sum))),
     )
 
--- a longer number is a shorter one where its front is zeros and its end the shorter
+-- a longer number equals a shorter one if its front is zeros and its end is the shorter one, and
+-- only then
 pub longer_is : (front rest short : List ℕ) → list_all is_ascii_digit front ≡ true → list_all is_ascii_digit rest ≡ true
     → list_all is_ascii_digit short ≡ true → length rest ≡ length short
     → nat_eq (digits_value 10 (front ++ rest)) (digits_value 10 short) ≡ (list_all is_zero front && bytes_eq rest short)
@@ -105,7 +107,7 @@ longer_is front rest short df dr ds len =
     (Decides-eqb (digits_value 10 (front ++ rest)) (digits_value 10 short))
     (Decides-like (list_all is_zero front && bytes_eq rest short) forth back parts)
 
--- the same of a text that is cut so that its end is as long as the other
+-- the same for a text whose end is as long as the other one
 pub shorter_is : (long short : List ℕ) (k : ℕ) → k + length short ≡ length long → list_all is_ascii_digit long ≡ true → list_all is_ascii_digit short ≡ true
     → nat_eq (digits_value 10 long) (digits_value 10 short) ≡ (list_all is_zero (take k long) && bytes_eq (drop k long) short)
 shorter_is long short k sum dl ds =

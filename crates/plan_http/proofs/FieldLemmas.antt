@@ -1,4 +1,4 @@
--- The values of the fields of a name, one field after another.
+-- The values of the fields with a name, one field after another.
 use Rattle.std.proofs.Common.{◌≡◌, ℕ, suc, ◌+◌, ◌<◌, ◌≤◌, Bool, true, false, List, [], ◌∷◌, length, map, drop, get_or, refl, add-one}
 use Rattle.std.proofs.Math.Seq.{drop-cons}
 use Rattle.std.proofs.Math.ListN.{drop_of_length-le}
@@ -24,7 +24,7 @@ unfolding values_of
 values_none name = refl
 
 module _ (front name : List ℕ) (headers : List HeaderSpan) (i : ℕ) (d : HeaderSpan) where
-  -- the same of the headers that are left
+  -- the same for the headers that are left
   pub here_at : i < length headers → has_name name (header_bytes front (get_or headers i d)) ≡ true
       → values_of name (map (header_bytes front) (drop i headers)) ≡ (header_bytes front (get_or headers i d)).1 ∷ values_of name (map (header_bytes front) (drop (i + 1) headers))
   here_at below has =
@@ -35,7 +35,7 @@ module _ (front name : List ℕ) (headers : List HeaderSpan) (i : ℕ) (d : Head
   past_at below has =
       rw (drop-cons headers i d below, add-one) (values_past name (header_bytes front (get_or headers i d)) (map (header_bytes front) (drop (suc i) headers)) has)
 
--- where no header is left
+-- no header is left
 pub none_at : (front name : List ℕ) (headers : List HeaderSpan) (i : ℕ) → length headers ≤ i
     → values_of name (map (header_bytes front) (drop i headers)) ≡ []
 none_at front name headers i past = rw (drop_of_length-le headers past) (values_none name)

@@ -1,4 +1,4 @@
--- From two runs of an office to what a desk is told in them.
+-- From two runs of an office to the responses that a desk receives in them.
 use Rattle.std.proofs.Common.{◌≡◌, ◌⊎◌, ℕ, zero, suc, ◌≤◌, List, [], ◌∷◌, ◌++◌, map, length, take, Result, Ok, Err, OnOk, OnErr, inl, inr, refl, sym, ap, ◌∙◌, subst, arith}
 use Rattle.std.proofs.lemmas.List.{length-map}
 use Rattle.plan_rows.specs.World.{Text, World}
@@ -36,7 +36,7 @@ module _ {B : Type 0} (shelf : Shelf B) where
   served_honest old new (bytes ∷ conns) (d ∷ decisions) (middle, is_on, moves, rest) honest =
       moved_honest old middle d moves (served_honest middle new conns decisions rest honest)
 
-  -- rows that a book has where it can be seen
+  -- the book has these rows, if its tables are readable
   abbrev Follows : B → World → Type 0
   Follows book w = shelf.stands book → shelf.world book ≡ w
 
@@ -87,7 +87,7 @@ module _ {B : Type 0} (shelf : Shelf B) where
       let behind = served_from middle new next.after conns decisions next.follows rest honest in
       (behind.0, (next.after, is_on, next.move, behind.1))
 
-  -- what is known of a run when it ends, whole or not
+  -- the facts about a run at its end, complete or not
   pub record Ran (old new : B) (conns responses : List Text) : Type 0 where
     pub count : ℕ
     pub within : count ≤ length conns
@@ -97,7 +97,7 @@ module _ {B : Type 0} (shelf : Shelf B) where
     pub honesty : shelf.honest new → shelf.honest last
     pub responses_are : responses ≡ map response_of decisions
 
--- a list taken as far as it goes
+-- the front of a list with its whole length is the list
 pub take_all : {A : Type 0} (xs : List A) → take (length xs) xs ≡ xs
 take_all [] = refl
 take_all (x ∷ xs) = ap (λ list. x ∷ list) (take_all xs)
@@ -135,7 +135,7 @@ stopped_honest shelf old new conns decisions s honest = elim s.last [
   | inr more ↦ moved_honest shelf s.middle new more.1.0 more.1.2 honest
 ]
 
--- a run that memory stopped
+-- a run that stopped because memory ran out
 pub ran_short : {B : Type 0} (shelf : Shelf B) (old new : B) (conns responses : List Text)
     → ((decisions : List Decision) × Stops shelf old new conns decisions × (responses ≡ [] ++ map response_of decisions)) → Ran shelf old new conns responses
 ran_short shelf old new conns responses (decisions, stops, are) = record {
@@ -148,7 +148,7 @@ ran_short shelf old new conns responses (decisions, stops, are) = record {
   responses_are = are;
 }
 
--- what a desk is told in a run
+-- the responses to a desk in a run
 pub told_in_run : {B : Type 0} (shelf : Shelf B) (old new : B) (conns responses : List Text) (desk : Text) → Ran shelf old new conns responses → shelf.honest new
     → AreTold desk (view desk (shelf.world old)) (answered_of conns responses) responses
 told_in_run shelf old new conns responses desk ran honest =
@@ -160,7 +160,7 @@ told_in_run shelf old new conns responses desk ran honest =
     subst (λ (n : ℕ). AreTold desk (view desk (shelf.world old)) (take n conns) responses) (sym long)
     (subst (λ (list : List Text). AreTold desk (view desk (shelf.world old)) (take ran.count conns) list) (sym ran.responses_are) told)
 
--- each reply of a story is what it promises
+-- each reply of a story shows what it promises
 promised_step : (v : View) (r : Request) (reply : Reply) (after : World) → IsStep (alone v) r reply after → reply.status ≡ 200
     → IsPromised (view (subject r) (alone v)) r.call reply.body
 unfolding IsStep IsDecision PagesArePromised
@@ -181,12 +181,12 @@ all_promised desk v (bytes ∷ conns) (response ∷ responses) story told (inr (
     subst (λ (list : List Text). ArePromised desk v list told) (sym is_story) (subst (λ (list : List Text). ArePromised desk v (bytes ∷ more) list) (sym is_told)
     (promised_first desk v bytes response more others r after is answer (all_promised desk (view desk after) conns responses more others rest)))
 
--- the view of a desk in an office whose rows keep their rules keeps them
+-- the rows of one desk alone keep the rules of rows
 pub alone_good : (desk : Text) (w : World) → IsWorld w → IsWorld (alone (view desk w))
 unfolding AloneKeepsRules
 alone_good desk w good = alone_keeps_rules desk w good
 
--- a desk that is told what it would be told alone is told what it is promised
+-- the responses of an office with a desk's rows alone show what they promise
 promised_or_wanting : (desk : Text) (v : View) (conns responses : List Text) → IsToldAlone desk v conns responses → IsToldOrWanting desk v conns responses
 promised_or_wanting desk v conns responses (inl (story, told, is, replies)) =
     inl (story, told, record { told_so = is; promised = all_promised desk v conns responses story told is })
@@ -203,7 +203,7 @@ apart_runs_are_alike first second = λ a left b right conns responses others ans
       story told given (alone_good desk (first.world a) good) (alone_good desk (second.world b) fine) agree h k;
 }
 
--- what a run into an empty list came to
+-- the result of a run into an empty list
 pub run_of : {B : Type 0} (shelf : Shelf B) (old new : B) (conns out responses : List Text) (r : Result (Unit {0}) RunFault) → out ≡ []
     → OnOk r ((decisions : List Decision) × Serving shelf old conns decisions new × (responses ≡ out ++ map response_of decisions))
     → OnErr r ((decisions : List Decision) × Stops shelf old new conns decisions × (responses ≡ out ++ map response_of decisions))
@@ -213,13 +213,13 @@ run_of shelf old new conns out responses (Ok x) none ok err =
 run_of shelf old new conns out responses (Err e) none ok err =
     subst (λ (list : List Text). (decisions : List Decision) × Stops shelf old new conns decisions × (responses ≡ list ++ map response_of decisions)) none err
 
--- a run that ended well has as many responses as connections
+-- a run without a fault has as many responses as connections
 pub as_many : {B : Type 0} (shelf : Shelf B) (old new : B) (conns responses : List Text) (r : Result (Unit {0}) RunFault) → IsRunOf shelf old new conns responses r
     → OnOk r (length responses ≡ length conns)
 as_many shelf old new conns responses (Ok x) (decisions, serving, are) = ap (λ (list : List Text). length list) are ∙ one_each shelf old new conns decisions serving
 as_many shelf old new conns responses (Err e) run = tt
 
--- lists are as long as what each of their elements is seen as
+-- lists are as long as their mapped lists
 pub unmapped : {A B E : Type 0} (f : A → B) (xs ys : List A) (r : Result (Unit {0}) E) → OnOk r (length (map f xs) ≡ length (map f ys)) → OnOk r (length xs ≡ length ys)
 unmapped f xs ys (Ok x) same = sym (length-map xs f) ∙ same ∙ length-map ys f
 unmapped f xs ys (Err e) same = tt

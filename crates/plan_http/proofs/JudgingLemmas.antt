@@ -1,4 +1,4 @@
--- From the parts that were read to what the bytes of a connection spell.
+-- From the parts that were read to the verdict on the bytes of a connection.
 use Rattle.std.proofs.Common.{◌≡◌, ℕ, ◌-◌, ◌<◌, ◌≤◌, Bool, true, false, not, List, ◌++◌, length, take, drop, map, Option, None, Some, option_map, bytes_eq, refl, ap, sym, ◌∙◌, subst, inl, inr, arith, nat_lt}
 use Rattle.std.proofs.lemmas.List.{drop-append-le, take_rest}
 use Rattle.std.proofs.lemmas.Bool.Decides.{nat_tests}
@@ -56,7 +56,7 @@ module _ (bytes : List ℕ) (h : RequestHead) (begins : BeginsWithHead bytes h) 
       let test : nat_lt (length (after_head bytes h)) (length_of h) ≡ true = grind (arith, nat_tests) in
       inl (h, begins, rw (none, test) refl)
 
-  -- the same, as what was answered
+  -- the same for the result of reading
   pub head_told : (is_head : Bool) (result : Asked) (check : Check) → is_head ≡ is_head_method h → first_failing (head_checks h.minor (fields_of h)) ≡ Some check
       → result ≡ made.Fails check None is_head → IsAsked bytes result
   head_told is_head result check head failing is = rw (is, head) (fails_head check failing)
@@ -93,7 +93,7 @@ module _ (bytes : List ℕ) (h : RequestHead) (begins : BeginsWithHead bytes h) 
       → verdict_at h body (route_of h.target) ≡ fails checks.Method (option_map method_of (Some route)) (is_head_method h)
   other_method route found other body = rw (found, other) refl
 
-  -- memory may be wanted on a route
+  -- a request on a route may need memory
   pub may_want : (count : ℕ) (route : Route) (target : List ℕ) → IsOnRoute h count route target → MayWant bytes
   may_want count route target on = record {
     head = h;
@@ -121,7 +121,7 @@ module _ (bytes : List ℕ) (h : RequestHead) (begins : BeginsWithHead bytes h) 
   request_told count route target body made.NoMemory on long is request_is = may_want count route target on
   request_told count route target body made.ReadFailed on long is request_is = absurd request_is
 
--- what a test of inequality says
+-- the meaning of a test of inequality
 pub not_same : (b : Bool) → not b ≡ true → b ≡ false
 not_same true is = sym is
 not_same false is = refl

@@ -1,4 +1,4 @@
--- Bytes spell one thing.
+-- Bytes have one verdict.
 use Rattle.std.proofs.Common.{◌≡◌, ℕ, List, Option, None, false, take, refl, sym, ◌∙◌, ap, inl, inr}
 use Rattle.httparse.specs.Grammar.{RequestHead}
 use Rattle.httparse.specs.declared.spans.HeaderSpan.{HeaderSpan}
@@ -25,7 +25,7 @@ pub one_verdict : OneVerdict
 unfolding OneVerdict
 one_verdict = judges_once
 
--- a head that was found, or is missing, decides what is spelled
+-- a head that was found or is missing determines the verdict
 pub spelled : (bytes : List ℕ) (left : Option (List ℕ)) (buf : List ℕ) (headers : List HeaderSpan) (end : HeadEnd) → HeadOutcome bytes left buf headers end → HeadFaults 0 0 end → SpellsSomething bytes
 spelled bytes left buf headers (Found spans filled) outcome faults = (verdict_of outcome.0.head (after_head bytes outcome.0.head), inl (outcome.0.head, outcome.0.begins, refl))
 spelled bytes left buf headers Missing outcome faults = (fails Message None false, inr (outcome, refl))

@@ -1,4 +1,4 @@
--- What the values of Content-Length say together.
+-- The length that the values of Content-Length give together.
 use Rattle.std.proofs.Common.{◌≡◌, ℕ, Bool, true, false, not, ◌&&◌, ◌||◌, List, [], ◌∷◌, refl, nat_eq}
 use Rattle.std.specs.List.{list_all, list_any}
 use Rattle.std.specs.Str.Parse.{digits_value}
@@ -16,7 +16,7 @@ pub two_tests : (p q : List ℕ → Bool) (vs : List (List ℕ)) → (not (list_
 two_tests p q [] = refl
 two_tests p q (v ∷ vs) = one_step (p v) (q v) (list_all p vs) (list_any (λ w. not (q w)) vs) (list_all (λ w. p w && q w) vs) (two_tests p q vs)
 
--- values are wrong where one isn't the number of the first
+-- values are wrong if one of them isn't the number of the first
 pub wrong_at : (vs others : List (List ℕ)) (v : List ℕ) → vs ≡ v ∷ others → is_length_wrong vs ≡ not (list_all (spells (digits_value 10 v)) vs)
 wrong_at vs others v is = rw is (two_tests is_length_text (λ w. nat_eq (digits_value 10 w) (digits_value 10 v)) (v ∷ others))
 

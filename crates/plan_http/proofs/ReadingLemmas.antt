@@ -1,4 +1,4 @@
--- What the pieces that came say of all bytes of a connection.
+-- Facts about all bytes of a connection, from the pieces that were read.
 use Rattle.std.proofs.Common.{◌≡◌, ℕ, ◌+◌, ◌-◌, ◌<◌, ◌≤◌, ◌⊎◌, List, [], ◌++◌, length, take, drop, Option, None, Some, refl, ap, sym, ◌∙◌, subst, inl, inr, arith, Result, Ok, Err, IfOk, Bool, true, false, nat_eq, append_assoc}
 use Rattle.std.proofs.Math.Seq.{take-append-add, take-nil}
 use Rattle.std.proofs.lemmas.List.{take-append-le, length-take, length-take-le, length-map, append-nil}
@@ -13,13 +13,13 @@ use Rattle.plan_http.specs.Head.{BeginsWithHead, HasNoHead}
 use Rattle.plan_http.specs.Pieces.{IsSplit, HasHeadAt, Fills}
 use borrow.Rule.Slice.PartMut.{put_mid}
 
--- a known stream stays known, and loses what came
+-- a known stream stays known, and loses the bytes that were read
 pub consumed : (more came : List ℕ) (left : Option (List ℕ)) → Consumes (Some more) left came
     → (rest : List ℕ) × (left ≡ Some rest) × (more ≡ came ++ rest)
 consumed more came None h = absurd h
 consumed more came (Some rest) h = (rest, refl, h)
 
--- what a buffer begins with after a read behind its first bytes
+-- the front of a buffer after a read behind its first bytes
 pub take_put : (filled k n : ℕ) (buf new : List ℕ) → filled ≤ length buf → n ≤ length new
     → take (filled + n) (put_mid filled k buf new) ≡ take filled buf ++ take n new
 take_put filled k n buf new fits room =
@@ -41,7 +41,7 @@ moved bytes more left filled k n buf new fits room whole took =
           ∙ ap (λ xs. xs ++ x.0) (sym (take_put filled k n buf new fits room)),
     )
 
--- the first 8,192 bytes begin with what came, while that isn't more
+-- the first 8,192 bytes begin with the bytes that were read, if these aren't more
 pub front_of : (bytes front more : List ℕ) → bytes ≡ front ++ more → length front ≤ 8192
     → take 8192 bytes ≡ front ++ take (8192 - length front) more
 front_of bytes front more whole short =
@@ -59,7 +59,7 @@ missing_by_error bytes front more whole short over h b =
     let few : length h.fields ≤ 64 = b.fields in
     absurd (omega arith)
 
--- what is unfinished stays so where nothing can follow
+-- a front without a head has none in all bytes, if nothing can follow
 pub missing_by_end : (bytes front more : List ℕ) → bytes ≡ front ++ more → length front ≤ 8192
     → (more ≡ []) ⊎ (length front ≡ 8192) → HasNoRequest front → HasNoHead bytes
 missing_by_end bytes front more whole short end none h b =
@@ -70,7 +70,7 @@ missing_by_end bytes front more whole short end none h b =
     let is : take 8192 bytes ≡ front = front_of bytes front more whole short ∙ ap (λ xs. front ++ xs) all ∙ append-nil front in
     none h b.rest (subst (λ xs. ReadsRequest xs h b.rest) is b.reads)
 
--- a head in front is one of all bytes
+-- a head of the front is a head of all bytes
 pub found_head : (bytes front more : List ℕ) (headers : List HeaderSpan) (spans : RequestSpans) (h : RequestHead)
     → bytes ≡ front ++ more → length front ≤ 8192 → length headers ≤ 64
     → IsRequestAt front headers spans h → BeginsWithHead bytes h
@@ -108,7 +108,7 @@ nothing_left bytes front left s end =
     let none : s.more ≡ [] = subst (λ o. IsAtEnd o) s.left_is end in
     s.left_is ∙ ap Some none
 
--- what one read says
+-- the facts about one read
 pub fills : {E : Type 0} (old new : List ℕ) (filled k : ℕ) (had left : Option (List ℕ)) (r : Result ℕ E)
     → filled ≤ length old → 0 < length new → IfOk r (λ n. n ≤ length new) → ReadConsumes had left r new
     → Fills old filled had (put_mid filled k old new) left r
@@ -117,7 +117,7 @@ fills old new filled k had left (Ok n) fits some bound took = λ bytes s.
     let after = split_on bytes had left filled k n old new fits bound s took.0 in
     (after, λ zero. nothing_left bytes (take (filled + n) (put_mid filled k old new)) left after (took.1 zero some))
 
--- where a read gave nothing, the front is all
+-- if a read returned nothing, the front is all bytes
 pub nothing_more : (bytes front : List ℕ) (left : Option (List ℕ)) (s : IsSplit bytes front left) (is_end : Bool) (came : ℕ)
     → is_end ≡ nat_eq came 0 → (came ≡ 0 → left ≡ Some []) → is_end ≡ true → s.more ≡ []
 nothing_more bytes front left s is_end came e end holds =
@@ -126,6 +126,6 @@ nothing_more bytes front left s is_end came e end holds =
     let same : Some s.more ≡ Some [] = sym s.left_is ∙ none in
     cc
 
--- what isn't the end brought a byte
+-- a read that isn't the end returned a byte
 pub came_some : (came : ℕ) → nat_eq came 0 ≡ false → 0 < came
 came_some came is = grind (arith, nat_tests)

@@ -11,7 +11,7 @@ front_of n rest all is fits =
     let whole : rest ++ drop (length rest) all ≡ all = ap (λ xs. xs ++ drop (length rest) all) is ∙ take-append-drop (length rest) all in
     sym (take-append-le n rest (drop (length rest) all) fits) ∙ ap (take n) whole
 
--- behind the first bytes of a text the next ones are taken, of which a front was offered
+-- after the first bytes of a text, a front of the rest is taken
 pub sent_next : (before between after : Option (List ℕ)) (text rest : List ℕ) (sent n : ℕ) → rest ≡ take (length rest) (drop sent text) → n ≤ length rest
     → Appends before between (take sent text) → Appends between after (take n rest) → Appends before after (take (sent + n) text)
 sent_next before between after text rest sent n is fits front next =

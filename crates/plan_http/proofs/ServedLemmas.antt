@@ -13,7 +13,7 @@ use Rattle.plan_http.specs.Answers.{Decision, answered, failed, starved, request
 use Rattle.plan_http.specs.Connections.{Serving}
 use Rattle.plan_http.specs.Laws.{ServingIsRun, ServedDesksAreApart}
 
--- a step, or a refusal for want with the rows as they were, is a real step
+-- a step, or a refusal for lack of memory or by the store with unchanged rows, is a real step
 real_step : (w : World) (r : Request) (reply : Reply) (after : World) → IsStep w r reply after ⊎ (IsWant reply × (after ≡ w)) → IsRealStep w r reply after
 unfolding IsStep IsRealStep
 real_step w r reply after real = real
@@ -33,7 +33,7 @@ unfolding DesksAreApart
 told_of apart desk w requests replies worlds run = apart desk w requests replies worlds run
 
 module _ {B : Type 0} (shelf : Shelf B) where
-  -- what is known of an office before connections that were served
+  -- the facts about an office before connections were served
   record IsRunFrom (old : B) (decisions : List Decision) : Type 0 where
     honest : shelf.honest old
     stands : shelf.stands old

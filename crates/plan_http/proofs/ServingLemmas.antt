@@ -1,4 +1,4 @@
--- How a connection that was answered has ended.
+-- The end of a connection that was answered.
 use Rattle.std.proofs.Common.{◌≡◌, [], Option, Some, true, subst}
 use Rattle.std.specs.Io.KnownBytes.{Appends}
 use Rattle.plan_rows.specs.World.{Text}
@@ -34,7 +34,7 @@ pub decided : {B : Type 0} {shelf : Shelf B} {old new : B} {before after : Known
     → (d : Decision) × IsOn bytes d × Moves shelf old new d
 decided bytes s known open_still = (s.decision, of_known bytes s.on known open_still, s.moves)
 
--- and its response is all that was written
+-- its response is all that was written
 pub replied : {B : Type 0} {shelf : Shelf B} {old new : B} {before after : Known} {taken sent : Option Text} {end : ConnEnd} (bytes response : Text)
     → (s : Serves shelf old new before after taken sent end) → Appends taken sent (response_of s.decision) → before.left ≡ Some bytes → (before.ended ≡ true → ⊥)
     → taken ≡ Some [] → sent ≡ Some response → (d : Decision) × IsOn bytes d × Moves shelf old new d × (response ≡ response_of d)

@@ -40,7 +40,7 @@ published_for_all (chart s n rule) e = absurd (both_ways false refl e)
 published_for_all (days s n rule) e = absurd (both_ways false refl e)
 published_for_all (best s n budget) e = absurd (both_ways false refl e)
 
--- what belongs to a desk comes to its server
+-- a connection that belongs to a desk is for its server
 is_for : (server_of : Text → ℕ) (desk : Text) (v : View) (bytes : Text) (r : Request) → IsInside desk v bytes r → IsFor server_of (server_of desk) bytes
 is_for server_of desk v bytes r is = record {
   request = r;
@@ -79,7 +79,7 @@ both_answered desk v u bytes response answer r q after behind good fine same is 
 
 -- ---- the two stories
 
--- one story and what was told in it, beside another
+-- a story with its responses, and another one
 Same : List Text → List Text → List Text → List Text → Type 0
 Same story told mine given = (mine ≡ story) × (given ≡ told)
 
@@ -92,7 +92,7 @@ cons_same bytes response answer story told mine given more others less fewer a b
   d ∙ ap (λ (x : Text). x ∷ fewer) e ∙ ap (λ (list : List Text). response ∷ list) g ∙ sym b,
 )
 
--- of connections that both get, by what holds of the stories behind them
+-- the facts about the stories after connections that both get
 Behind : Text → List Text → List Text → List Text → List Text → Type 0
 Behind desk conns responses share answers =
     (v u : View) (story told mine given : List Text) → IsWorld (alone v) → IsWorld (alone u) → SameView v u
@@ -115,7 +115,7 @@ both_get desk v u bytes response answer conns responses share answers story told
     cons_same bytes response answer story told mine given more others less fewer a b c d here.3
     (behind (view desk after) (view desk next) more others less fewer here.0 here.1 here.2 rest last)
 
--- the same, whatever was answered to the share
+-- the same for any responses to the share
 got_by_both : (desk : Text) (v u : View) (bytes response : Text) (conns responses share answers story told mine given : List Text)
     → IsWorld (alone v) → IsWorld (alone u) → SameView v u → ((rest : List Text) → Behind desk conns responses share rest)
     → IsStoryOf desk v (bytes ∷ conns) (response ∷ responses) story told → IsStoryOf desk u (bytes ∷ share) answers mine given

@@ -20,7 +20,8 @@ use Rattle.plan_http.specs.Served.{IsMove, AreServed}
 use Rattle.plan_http.specs.Stories.{IsWantText, IsInside, IsAnswered, AreTold, IsStoryOf, IsWanting}
 use Rattle.plan_http.proofs.LawLemmas.{one_verdict}
 
--- a response is that of a reply to a request, or both are for want
+-- a response is that of a reply to a request, or both are refusals for lack of memory or by the
+-- store
 abbrev IsToldAs : Text → Request → Reply → Type 0
 IsToldAs response r reply = (response ≡ response_of (answered r reply)) ⊎ (IsWant reply × IsWantText response)
 
@@ -76,7 +77,7 @@ with_starved w mid bytes conns responses (asks r) spells same rest =
 with_starved w mid bytes conns responses (fails check allow head) spells same rest =
     with_failure w mid bytes (response_of starved) conns responses check allow head spells same rest
 
--- a connection on which memory may be wanted spells something
+-- a connection that may need memory has a verdict
 spells_some : (bytes : Text) → MayWant bytes → (verdict : Verdict) × Judges bytes verdict
 spells_some bytes want = (verdict_of want.head (after_head bytes want.head), inl (want.head, want.begins, refl))
 
@@ -98,12 +99,12 @@ has_run w (bytes ∷ conns) [] after h = absurd h
 has_run w (bytes ∷ conns) (d ∷ decisions) after (mid, is_on, move, rest) =
     one_more w mid bytes conns (map response_of decisions) d is_on move (has_run mid conns decisions after rest)
 
--- a reply for want has the response for want
+-- a reply that refuses for lack of memory or by the store has such a response
 want_text : (r : Request) (reply : Reply) (response : Text) → IsWant reply → IsToldAs response r reply → IsWantText response
 want_text r reply response want (inl told) = inr (r, reply, want, told)
 want_text r reply response want (inr (same, text)) = text
 
--- what is told where a request is inside, by what is told behind it
+-- the responses from a request that belongs to the desk on, from those after it
 told_inside : (desk : Text) (v : View) (bytes response : Text) (conns responses : List Text) (r : Request) (reply : Reply) (after : World)
     → Judges bytes (asks r) → belongs desk v r ≡ true → IsStep (alone v) r reply after → AreTold desk (view desk after) conns responses
     → IsToldAs response r reply → AreTold desk v (bytes ∷ conns) (response ∷ responses)
@@ -112,7 +113,7 @@ told_inside desk v bytes response conns responses r reply after spells inside st
 told_inside desk v bytes response conns responses r reply after spells inside step next (inr (want, text)) =
     inr (r, record { spelled = spells; inside = inside }, inl text)
 
--- one connection that spells a request, by what is told behind it
+-- the responses from a connection with a request on, from those after it
 told_first : (desk : Text) (v : View) (bytes response : Text) (conns responses : List Text) (r : Request) (reply : Reply) (more : List Request) (others : List Reply)
     → Judges bytes (asks r) → IsToldAs response r reply
     → ((u : View) → desks.AreTold desk u more others → AreTold desk u conns responses)
@@ -125,7 +126,7 @@ told_first desk v bytes response conns responses r reply more others spells alik
 told_first desk v bytes response conns responses r reply more others spells alike behind (inr (inside, inr (after, step, next))) =
     told_inside desk v bytes response conns responses r reply after spells inside step (behind (view desk after) next) alike
 
--- what requests are told, the connections that spell them are told
+-- connections receive the responses of the replies to the requests that they spell
 lifted : (desk : Text) (conns responses : List Text) (requests : List Request) (replies : List Reply) → Spelled conns responses requests replies
     → (v : View) → desks.AreTold desk v requests replies → AreTold desk v conns responses
 unfolding Spelled
@@ -138,7 +139,8 @@ lifted desk (bytes ∷ conns) (response ∷ responses) requests replies (inr (r,
     told_first desk v bytes response conns responses r reply more others spells alike (λ u next. lifted desk conns responses more others rest u next)
     (subst (λ (list : List Reply). desks.AreTold desk v (r ∷ more) list) is_reply (subst (λ (list : List Request). desks.AreTold desk v list replies) is_r told))
 
--- in every run of connections each desk is told what its story is told in an office of its own
+-- in each run of connections a desk receives the responses that its story receives in an office
+-- with its rows alone
 pub connections_are_apart : (desk : Text) (w : World) (conns : List Text) (decisions : List Decision) (after : World)
     → AreServed w conns decisions after → AreTold desk (view desk w) conns (map response_of decisions)
 unfolding DesksAreApart
@@ -160,7 +162,7 @@ texts_of : List Request → List Reply → List Text
 texts_of (r ∷ requests) (reply ∷ replies) = response_of (answered r reply) ∷ texts_of requests replies
 texts_of requests replies = []
 
--- the requests of a story, and the replies that it was told
+-- the requests of a story, and the replies to them
 record HasRequests (desk : Text) (v : View) (story told : List Text) : Type 0 where
   requests : List Request
   replies : List Reply
@@ -194,7 +196,7 @@ has_requests desk v (bytes ∷ conns) (response ∷ responses) story told (inr (
     subst (λ (list : List Text). HasRequests desk v list told) (sym is_story) (subst (λ (list : List Text). HasRequests desk v (bytes ∷ more) list) (sym is_told)
     (inside_first desk v bytes response more others r after is answer (has_requests desk (view desk after) conns responses more others rest)))
 
--- the request that a verdict is
+-- the request of a verdict
 asked_or : Request → Verdict → Request
 asked_or other (asks r) = r
 asked_or other (fails check allow is_head) = other
@@ -204,7 +206,7 @@ pub one_request : (bytes : Text) (r q : Request) → Judges bytes (asks r) → J
 unfolding OneVerdict asked_or
 one_request bytes r q h k = ap (asked_or r) (one_verdict bytes (asks r) (asks q) h k)
 
--- and so do the connections of a story
+-- the connections of a story spell one list of requests
 spelled_once : (story : List Text) (requests others : List Request) → Spells story requests → Spells story others → requests ≡ others
 unfolding Spells
 spelled_once [] [] [] h k = refl
@@ -215,7 +217,8 @@ spelled_once (bytes ∷ story) (r ∷ requests) [] h k = absurd k
 spelled_once (bytes ∷ story) (r ∷ requests) (q ∷ others) h k =
     ap (λ (x : Request). x ∷ requests) (one_request bytes r q h.0 k.0) ∙ ap (λ (list : List Request). q ∷ list) (spelled_once story requests others h.1 k.1)
 
--- one story is told one thing in views that agree, whatever other connections come before or between
+-- a story receives the same responses in views that agree, whatever other connections come before
+-- or between
 pub connections_are_told_alike : (desk : Text) (v u : View) (conns responses others answers story told given : List Text)
     → IsWorld (alone v) → IsWorld (alone u) → Agree v u
     → IsStoryOf desk v conns responses story told → IsStoryOf desk u others answers story given → told ≡ given
@@ -228,7 +231,8 @@ connections_are_told_alike desk v u conns responses others answers story told gi
     let alike : a.replies ≡ b.replies = agreeing_views_are_told_alike desk v u a.requests a.replies b.requests b.replies b.requests a.replies b.replies good fine agree first b.told_so in
     a.texts ∙ ap (λ (list : List Request). texts_of list a.replies) same ∙ ap (λ (list : List Reply). texts_of b.requests list) alike ∙ sym b.texts
 
--- what a desk is told has a story, unless a connection of the story was answered for want
+-- the responses to a desk belong to a story, unless one of its connections was refused for lack of
+-- memory or by the store
 pub story_or_want : (desk : Text) (v : View) (conns responses : List Text) → AreTold desk v conns responses
     → ((story : List Text) × (told : List Text) × IsStoryOf desk v conns responses story told) ⊎ IsWanting desk v conns responses
 story_or_want desk v [] [] h = inl ([], [], (refl, refl))

@@ -1,4 +1,4 @@
--- A run of connections, whole or not.
+-- A run of connections, complete or not.
 use Rattle.std.proofs.Common.{◌≡◌, ℕ, ◌+◌, ◌<◌, ◌≤◌, List, [], ◌∷◌, ◌++◌, map, length, take, drop, get_or, Result, Ok, Err, OnOk, OnErr, inl, inr, sym, ap, ◌∙◌, subst, arith}
 use Rattle.std.proofs.lemmas.List.{take_more, length-map, take_at, drop_at, length_push}
 use Rattle.plan_rows.specs.World.{Text}
@@ -16,7 +16,7 @@ use Rattle.plan_http.proofs.ApartLemmas.{told_alone, serving_unseen}
 use Rattle.plan_http.proofs.HeadlineLemmas.{take_all, one_each, taken_length, ran_whole, ran_short, told_in_run}
 
 module _ {B : Type 0} (shelf : Shelf B) where
-  -- all that was decided in a run: where memory ran out, perhaps one connection more than was answered
+  -- all decisions of a run: if memory ran out, one connection more than was answered may be decided
   record Decided (old new : B) (conns responses : List Text) : Type 0 where
     decisions : List Decision
     served : Serving shelf old (take (length decisions) conns) decisions new
@@ -75,7 +75,7 @@ module _ {B : Type 0} (shelf : Shelf B) where
     | inr more ↦ decided_more old s.middle new conns responses s.count decisions more.1.0 more.0 s.served more.1.1 more.1.2 are
   ]
 
-  -- from the clauses of a run to what it added
+  -- from the clauses of a run to the responses that it added
   grown : (out after responses : List Text) (count : ℕ) → count ≡ length out → after ≡ out ++ responses → drop count after ≡ responses
   grown out after responses count long are = ap (drop count) are ∙ drop_at out responses count (sym long)
 
@@ -90,7 +90,7 @@ module _ {B : Type 0} (shelf : Shelf B) where
   decided old new conns out after count (Err e) long ok err =
       decided_short old new conns (drop count after) err.0 err.1 (grown out after (map response_of err.0) count long err.2)
 
-  -- what a crash may leave after a run
+  -- the rows that a crash may leave after a run
   pub outlasts : (old new : B) (conns out after : List Text) (count : ℕ) (r : Result (Unit {0}) RunFault) → count ≡ length out
       → OnOk r ((decisions : List Decision) × Serving shelf old conns decisions new × (after ≡ out ++ map response_of decisions))
       → OnErr r ((decisions : List Decision) × Stops shelf old new conns decisions × (after ≡ out ++ map response_of decisions))
@@ -111,7 +111,7 @@ module _ {B : Type 0} (shelf : Shelf B) where
         closes = run_closes shelf old new served d.decisions d.served;
       }
 
-  -- what a desk is told in a run
+  -- the responses to a desk in a run
   told_in_all : (old new : B) (conns out after : List Text) (count : ℕ) (r : Result (Unit {0}) RunFault) → count ≡ length out
       → OnOk r ((decisions : List Decision) × Serving shelf old conns decisions new × (after ≡ out ++ map response_of decisions))
       → OnErr r ((decisions : List Decision) × Stops shelf old new conns decisions × (after ≡ out ++ map response_of decisions))

@@ -30,8 +30,8 @@ pub record Answer : Type 0 where
 unfoldable pub text_of : Answer → Text
 text_of a = response_text a.reply a.allow a.is_head
 
--- The decision on a connection: a request was handled and answered, a check failed, or memory ran
--- out before the decision on a request that passes the checks of its head and its route.
+-- The decision on a connection. A request was handled and answered, or a check failed. Or memory
+-- ran out before the decision on a request that passes the checks of its head and its route.
 pub data Decision : Type 0 where
   answered : Request → Reply → Decision
   failed : Check → Option Text → Bool → Decision

@@ -10,9 +10,9 @@ abbrev pub RestOutcome : List ℕ → List ℕ → Option (List ℕ) → Bool �
 RestOutcome bytes body left true = IsSplit bytes body left
 RestOutcome bytes body left false = (length bytes < length body) × (left ≡ Some [])
 
--- A body of `count` bytes, whose first bytes were read with the head: it is the first bytes behind
--- the head, and exactly the bytes after it are left if not all of it was read with the head; or
--- there are too few bytes.
+-- A body of `count` bytes, whose first bytes were read with the head. It is the first bytes behind
+-- the head, or there are too few bytes. If not all of it was read with the head, exactly the bytes
+-- after it are left.
 abbrev pub BodyOutcome : List ℕ → List ℕ → ℕ → Option (List ℕ) → BodyEnd → Type 0
 BodyOutcome after got count left (Read body) =
     (count ≤ length after) × (body.items ≡ take count after)

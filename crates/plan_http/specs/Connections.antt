@@ -67,8 +67,8 @@ module _ {B : Type 0} (shelf : Shelf B) where
       (middle : B) × IsOn bytes d × Moves old middle d × Serving middle conns decisions new
   Serving old conns decisions new = ⊥
 
-  -- a run that stopped because memory ran out: the first connections were served, and the office is
-  -- in the state after these or after one connection more
+  -- A run that stopped because memory ran out. The first connections were served, and the office is
+  -- in the state after these or after one connection more.
   pub record Stops (old new : B) (conns : List Text) (decisions : List Decision) : Type 0 where
     pub count : ℕ
     pub within : count ≤ length conns

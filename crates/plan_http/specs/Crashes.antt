@@ -31,8 +31,8 @@ WouldMake w request left =
 
 module _ {B : Type 0} (shelf : Shelf B) where
   -- One connection: a command was accepted, and a crash leaves the rows after it. Or no command was
-  -- accepted, and a crash leaves rows that it could leave before, or the rows that a refused
-  -- writing call would have made.
+  -- accepted, and a crash leaves rows that it could leave before, or those that a refused writing
+  -- call would have made.
   abbrev pub LeavesOne : B → B → Known → Known → Option World → Type 0
   LeavesOne old new before after left =
       ((shelf.made new ≡ shelf.made old + 1) × (left ≡ Some (shelf.world new)))
@@ -41,7 +41,7 @@ module _ {B : Type 0} (shelf : Shelf B) where
       × OfBytes before after (λ bytes. Judges bytes (asks request))
       × WouldMake (shelf.world old) request left)))
 
-  -- In a run, a writing call was refused for lack of memory or by the store: a crash leaves the
+  -- In a run, a writing call was refused for lack of memory or by the store. A crash leaves the
   -- rows that the call would have made from the rows at the start.
   pub record LeavesRefused (old new : B) (conns : List Text) (decisions : List Decision)
       (left : Option World) : Type 0 where
@@ -70,7 +70,7 @@ module _ {B : Type 0} (shelf : Shelf B) where
 
   -- A run: if it accepted a command, a crash leaves the rows after the last accepted command, or
   -- those rows with one refused writing call. If it accepted none, a crash leaves rows that it
-  -- could leave at the start, or the rows at the start with one refused writing call.
+  -- could leave at the start, or the first rows with one refused writing call.
   abbrev pub LeavesRun : B → B → List Text → List Decision → Option World → Type 0
   LeavesRun old new conns decisions left =
       ((list_any accepts decisions ≡ false)
@@ -80,7 +80,7 @@ module _ {B : Type 0} (shelf : Shelf B) where
       ⊎ LeavesRefused settled new (drop (suc last.place) conns) (drop (suc last.place) decisions)
       left))
 
-  -- The rows that are left come after the command at this place: they are the rows after some
+  -- The rows that are left come after the command at this place. They are the rows after some
   -- connections that include this one, or those rows with one refused writing call.
   pub record ComesAfter (old new : B) (conns : List Text) (decisions : List Decision) (place : ℕ)
       (left : Option World) : Type 0 where

@@ -24,7 +24,7 @@ has_name name field = str_eq_ignore_ascii_case name field.0
 unfoldable pub values_of : List ℕ → List NamedValue → List (List ℕ)
 values_of name fields = map (λ field. field.1) (filter (has_name name) fields)
 
--- a request of HTTP/1.1 has no Host field, or any request has two
+-- a request of HTTP/1.1 has no Host field, or any request has several (RFC 9112, section 3.2)
 abbrev pub is_host_wrong : ℕ → List (List ℕ) → Bool
 is_host_wrong minor hosts = (nat_lt 0 minor && (length hosts == 0)) || nat_lt 1 (length hosts)
 

@@ -21,8 +21,8 @@ use Rattle.plan_http.specs.Isolated.{IsApart}
 abbrev pub answered_of : List Text → List Text → List Text
 answered_of conns responses = take (length responses) conns
 
--- For each connection of a story: its request, and the reply of an office with the rows of the desk
--- alone, which shows what it promises. Then the rest, in the view after it.
+-- For each connection of a story: its request, and the promised reply of an office with the rows of
+-- the desk alone. Then the rest, in the view after it.
 abbrev pub ArePromised : Text → View → List Text → List Text → Type 0
 ArePromised desk v [] [] = Unit {0}
 ArePromised desk v (bytes ∷ story) (response ∷ told) =
@@ -53,7 +53,7 @@ pub record Alike {A B : Type 0} (first : Shelf A) (second : Shelf B) (a : A) (b 
       (answered_of conns responses) responses
   pub second_told : IsToldOrWanting desk (view desk (second.world b))
       (answered_of others answers) answers
-  -- and equal stories received equal responses, byte for byte
+  -- equal stories received equal responses, byte for byte
   pub equal : (story told given : List Text)
       → IsStoryOf desk (view desk (first.world a)) (answered_of conns responses) responses
       story told

@@ -20,7 +20,7 @@ AreReplies w (bytes ∷ conns) (response ∷ responses) =
 AreReplies w conns responses = ⊥
 
 -- The story of a desk in a run receives the responses of an office with the rows of the view and no
--- others; or a connection of it was refused for lack of memory or by the store.
+-- others. Or a connection of it was refused for lack of memory or by the store.
 abbrev pub IsToldAlone : Text → View → List Text → List Text → Type 0
 IsToldAlone desk v conns responses =
     ((story : List Text) × (told : List Text) × IsStoryOf desk v conns responses story told

@@ -14,8 +14,8 @@ use Rattle.plan_http.specs.Checks.{first_failing, lengths_in, head_checks}
 use Rattle.plan_http.specs.Routes.{route_of, method_of}
 use Rattle.plan_http.specs.Targets.{call_at}
 
--- A verdict: a request; or the first check that fails, with the route's method if it is the check
--- of the method, and whether the response ends after its head.
+-- A verdict: a request, or the first check that fails. A failure has the route's method if it is
+-- the check of the method, and whether the response ends after its head.
 pub data Verdict : Type 0 where
   asks : Request → Verdict
   fails : Check → Option Text → Bool → Verdict
@@ -44,8 +44,8 @@ verdict_at h body (Some route) =
     then asks (record { key = key_of h; call = call_at route h.target body })
     else fails Method (Some (method_of route)) (is_head_method h)
 
--- the verdict for the bytes behind a head that passes: the check of the body, then the checks of
--- the route; the bytes behind the body are ignored
+-- The verdict for the bytes behind a head that passes: the check of the body, then the checks of
+-- the route. The bytes behind the body are ignored.
 unfoldable pub verdict_behind : RequestHead → Text → Verdict
 verdict_behind h after =
     if nat_lt (length after) (length_of h) then fails Message None (is_head_method h)

@@ -17,7 +17,8 @@ abbrev pub SpellsSomething : Text → Type 0
 SpellsSomething bytes = (verdict : Verdict) × Judges bytes verdict
 
 module _ {B : Type 0} (shelf : Shelf B) where
-  -- the requests that were handled on connections are a run of the office, if its tables stand
+  -- the requests that were handled on connections are a run of the office, if its tables are
+  -- readable
   unfoldable pub ServingIsRun : Type 0
   ServingIsRun = (old new : B) (conns : List Text) (decisions : List Decision)
       → Serving shelf old conns decisions new
@@ -25,7 +26,8 @@ module _ {B : Type 0} (shelf : Shelf B) where
       → (worlds : List World)
       × IsRun (shelf.world old) (requests_of decisions) (replies_of decisions) worlds
 
-  -- so each desk receives on them the replies of an office that has its rows and no others
+  -- each desk receives on these connections the replies of an office that has its rows and no
+  -- others
   unfoldable pub ServedDesksAreApart : Type 0
   ServedDesksAreApart = (old new : B) (conns : List Text) (decisions : List Decision)
       → Serving shelf old conns decisions new

@@ -38,8 +38,8 @@ JudgedOf bytes front headers (Whole spans) = HasHeadAt bytes front headers spans
 JudgedOf bytes front headers Hopeless = HasNoHead bytes
 JudgedOf bytes front headers Unfinished = ⊤
 
--- the spans lie in the front; a front is unfinished only if there is room behind it, more bytes may
--- come, and they can complete a head
+-- The spans lie in the front. A front is unfinished only if there is room behind it, more bytes may
+-- come, and they can complete a head.
 abbrev pub JudgedWithin : List ℕ → Bool → List HeaderSpan → Judged → Type 0
 JudgedWithin front is_end headers (Whole spans) = IsRequestWithin front headers spans
 JudgedWithin front is_end headers Hopeless = ⊤

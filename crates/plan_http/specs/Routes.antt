@@ -57,7 +57,7 @@ with_routes (route ∷ more) table = with_routes more (with_route route table)
 unfoldable pub route_table : Table
 route_table = with_routes all_routes []
 
--- a query, an escape, a fragment
+-- the mark of a query, of an escape or of a fragment
 abbrev pub is_mark : ℕ → Bool
 is_mark byte = (byte == 63) || (byte == 37) || (byte == 35)
 

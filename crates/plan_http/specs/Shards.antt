@@ -11,7 +11,7 @@ use Rattle.plan_http.specs.Stories.{IsStoryOf}
 use Rattle.plan_http.specs.Isolated.{IsApart}
 use Rattle.plan_http.specs.Headline.{Alike}
 
--- the bytes spell no request, so they are nobody's
+-- the bytes spell no request, so any server may get them
 pub record IsNobodys (bytes : Text) : Type 0 where
   pub check : Check
   pub allow : Option Text
@@ -20,13 +20,14 @@ pub record IsNobodys (bytes : Text) : Type 0 where
 
 module _ (server_of : Text → ℕ) (server : ℕ) where
   -- The bytes spell a request for this server: a request of the office, which every server gets, or
-  -- a request on the path of a desk of this server.
+  -- of a desk of this server.
   pub record IsFor (bytes : Text) : Type 0 where
     pub request : Request
     pub spelled : Judges bytes (asks request)
     pub sent : (is_of_office request.call ≡ true) ⊎ (server_of (subject request) ≡ server)
 
-  -- The connections that a server gets, in their order: each that is for it, and any of nobody's.
+  -- The connections that a server gets, in their order: each that is for it, and any that spell no
+  -- request.
   abbrev pub IsShare : List Text → List Text → Type 0
   IsShare [] share = share ≡ []
   IsShare (bytes ∷ conns) share =
@@ -39,16 +40,16 @@ pub record AreOneOffice {A B : Type 0} (one : Shelf A) (other : Shelf B) (a : A)
     (conns responses share answers : List Text) (desk : Text) : Type 0 where
   -- they are alike as any two runs
   pub alike : Alike one other a b conns responses share answers desk
-  -- and the desk's story on its server is its story in the one office, with the same responses,
-  -- byte for byte
+  -- the desk's story on its server is its story in the one office, with the same responses, byte
+  -- for byte
   pub same : (story told mine given : List Text)
       → IsStoryOf desk (view desk (one.world a)) conns responses story told
       → IsStoryOf desk (view desk (other.world b)) share answers mine given
       → (mine ≡ story) × (given ≡ told)
 
 module _ {A B : Type 0} (one : Shelf A) (other : Shelf B) where
-  -- For any assignment of desks to servers: a desk receives from its server, which gets only its
-  -- share, the responses of one office that serves all connections.
+  -- For any assignment of desks to servers: a desk receives from its server the responses of one
+  -- office that serves all connections. The server gets only its share.
   unfoldable pub ShardsAreOneOffice : Type 0
   ShardsAreOneOffice = (server_of : Text → ℕ) (a left : A) (b right : B)
       (conns responses share answers : List Text) (desk : Text)

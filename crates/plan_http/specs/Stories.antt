@@ -36,9 +36,9 @@ pub record IsAnswered (v : View) (r : Request) (response : Text) (after : World)
   pub step : IsStep (alone v) r reply after
   pub told : response ≡ response_of (answered r reply)
 
--- A connection that doesn't belong to the desk is skipped. A connection that does gets the response
--- of an office that has the rows of the view and no others; or it is refused for lack of memory or
--- by the store, and then nothing more is claimed.
+-- A connection that doesn't belong to the desk is skipped. Any other gets the response of an office
+-- that has the rows of the view and no others. Or it is refused for lack of memory or by the store,
+-- and nothing more is claimed.
 abbrev pub AreTold : Text → View → List Text → List Text → Type 0
 AreTold desk v [] [] = Unit {0}
 AreTold desk v (bytes ∷ conns) (response ∷ responses) =
@@ -48,8 +48,9 @@ AreTold desk v (bytes ∷ conns) (response ∷ responses) =
     × AreTold desk (view desk after) conns responses)))
 AreTold desk v conns responses = ⊥
 
--- the connections that belong to a desk, each in the view after the earlier connections of the
--- story, and their responses: none is a refusal for lack of memory or by the store
+-- The connections that belong to a desk, and their responses. Each connection is in the view after
+-- the earlier connections of the story. No response is a refusal for lack of memory or by the
+-- store.
 abbrev pub IsStoryOf : Text → View → List Text → List Text → List Text → List Text → Type 0
 IsStoryOf desk v [] [] story told = (story ≡ []) × (told ≡ [])
 IsStoryOf desk v (bytes ∷ conns) (response ∷ responses) story told =

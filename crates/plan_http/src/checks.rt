@@ -25,7 +25,7 @@ pub enum Check {
     Method,
 }
 
-// Whether a request of HTTP/1.1 has no Host, or any request has several.
+// Whether a request of HTTP/1.1 has no Host, or any request has several (RFC 9112, section 3.2).
 fn is_host_wrong(front: &[u8], headers: &[HeaderSpan], minor: u8) -> bool
     requires { All (IsHeaderWithin (length front.now)) headers.now }
     ensures { result

@@ -8,7 +8,7 @@ use crate::trace::Trace;
 use plan_io::{DeviceFault, Source};
 
 /// The source of the bytes of a request. Contracts know the bytes that its reads returned, even if
-/// nobody can know the bytes that follow.
+/// the bytes that follow are unknown.
 pub trait Client {
     /// The number of its reads.
     ghost calls: { Self → ℕ };
@@ -44,7 +44,7 @@ pub struct Listening<R: Source + Drop> {
 }
 
 impl<R: Source + Drop> Listening<R> {
-    /// Returns a client of which nothing was read yet.
+    /// Returns a client before its first read.
     pub fn new(source: R) -> Listening<R>
         ensures calls { ⟦<Listening<R> as Client>⟧.calls result ≡ R.calls source }
         ensures faults { ⟦<Listening<R> as Client>⟧.faults result ≡ R.faults source }

@@ -26,7 +26,7 @@ pub enum ConnEnd {
     Replied(u16),
     /// The reader failed: nothing was decided or written.
     ReadFailed,
-    /// The writer failed: the decision stands, and the first bytes of the response were written.
+    /// The writer failed after the decision. Only the first bytes of the response were written.
     WriteFailed {
         /// The number of bytes that were written.
         sent: usize,

@@ -41,8 +41,8 @@ fn make_run<B: Book>(alloc: Global, office: &mut Office<B>, conns: &[Vec<u8>]) -
     Run { responses, end }
 }
 
-/// Two runs are alike for each desk whose views agree at the start, if the desk receives in each
-/// run the replies of an office that has its rows and no others. A law that follows from the
+/// Two runs are alike for each desk whose views agree at the start. In each run the desk must
+/// receive the replies of an office that has its rows and no others. This law follows from the
 /// contract of `serve_run`.
 pub fn apart_runs_are_alike<A: Book, B: Book>()
     ensures { ApartRunsAreAlike A.shelf B.shelf }
@@ -50,10 +50,10 @@ pub fn apart_runs_are_alike<A: Book, B: Book>()
 
 /// One office on many servers. Desks are assigned to servers in any way. Each server gets the
 /// connections of its desks and all connections of the office, in their order, and the desk's views
-/// agree at the start. Then a desk receives from its server, byte for byte, the responses of one
-/// office that serves all connections, unless a request of its story is refused for lack of memory
-/// or by the store. Connections without a request may go to any server. A law that follows from the
-/// contract of `serve_run`.
+/// agree at the start. Then a desk receives from its server the responses of one office that serves
+/// all connections, byte for byte. This holds unless a request of its story is refused for lack of
+/// memory or by the store. Connections without a request may go to any server. This law follows
+/// from the contract of `serve_run`.
 pub fn shards_are_one_office<A: Book, B: Book>()
     ensures { ShardsAreOneOffice A.shelf B.shelf }
 {}
@@ -66,9 +66,9 @@ pub fn shards_are_one_office<A: Book, B: Book>()
 /// longest-path date, each generated schedule feasible and active, each schedule reported optimal
 /// of least makespan among all feasible ones.
 ///
-/// This holds for tables that stand at the start, for disks that returned what was written, and for
-/// stories without a refusal for lack of memory or by the store. Two keys with one digest count as
-/// one key. A run without a fault has answered each connection, once and in order.
+/// This requires tables that are readable at the start, and disks that returned what was written.
+/// No request of the desk's story is refused for lack of memory or by the store. Two keys with one
+/// digest count as one key. A run without a fault has answered each connection, once and in order.
 pub fn serve_two_worlds<A: Book, B: Book>(
     alloc: Global,
     first: &mut Office<A>,

@@ -24,8 +24,10 @@ pub fn some_verdict(bytes: &[u8])
     read_head(&mut client, &mut buf, &mut headers);
 }
 
-/// The requests that an office handles on any connections are a run of the office. So each desk
-/// receives the replies of an office that has its rows and no others.
+/// The requests that an office handles on any connections are a run of the office. This holds if
+/// the tables are readable at the end and the disk returned what was written. So each desk receives
+/// the replies of an office that has its rows and no others. This ends with the first refusal of
+/// its story for lack of memory or by the store.
 pub fn served_desks_are_apart<B: Book>()
     ensures run { ServingIsRun B.shelf }
     ensures apart { ServedDesksAreApart B.shelf }

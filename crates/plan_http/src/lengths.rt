@@ -96,7 +96,7 @@ fn all_agree(front: &[u8], headers: &[HeaderSpan], name: &str, number: &[u8]) ->
 }
 
 /// Returns the length that the fields of this name give, capped at one more than the longest body.
-/// Returns None if a value is no number or two values differ.
+/// Returns None if a value isn't a number or two values differ.
 pub(crate) fn length_in(front: &[u8], headers: &[HeaderSpan], name: &str) -> Option<u32>
     requires { All (IsHeaderWithin (length front.now)) headers.now }
     ensures { MatchOption result

@@ -247,7 +247,7 @@ fn behind_head<R: Client>(
 }
 
 /// Reads the request of a connection, or returns its first failing check. It parses after each
-/// read, and reads on only while the head is incomplete, or if the head passes its checks and the
+/// read. It reads on only while the head is incomplete, or if the head passes its checks and the
 /// body is incomplete. The body of a request without a route is read without memory.
 pub fn read_request<R: Client>(alloc: Global, routes: &Routes, reader: &mut R) -> Asked
     ensures asked { OfBytes (R.known reader.old) (R.known reader.new)

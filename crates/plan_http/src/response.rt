@@ -102,8 +102,8 @@ fn sent_body(is_head: bool, body: &[u8]) -> &[u8]
     if is_head { &[] } else { body }
 }
 
-/// Writes the response of a reply: with the method of the route if the request had another one, and
-/// without the body if the request's method is HEAD. It needs no memory.
+/// Writes the response of a reply. Its head has the method of `route`, if one is given. Its body is
+/// omitted if `is_head` is set. It needs no memory.
 pub fn respond<W: Sink>(
     writer: &mut W,
     reply: &Reply,
@@ -138,8 +138,8 @@ fn push_allow(bytes: &mut Vec<u8>, allow: Option<&str>) -> Result<(), AllocError
     bytes.extend_from_slice(LINE_END.as_bytes())
 }
 
-/// Returns the bytes of the response of a reply: with the method of the route if the request had
-/// another one, and without the body if the request's method is HEAD.
+/// Returns the bytes of the response of a reply. Its head has the method `allow`, if one is given.
+/// Its body is omitted if `is_head` is set.
 pub fn response_bytes(
     alloc: Global,
     reply: &Reply,

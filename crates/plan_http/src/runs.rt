@@ -95,12 +95,13 @@ fn serve_each<B: Book>(
 }
 
 /// Serves connections one after another, and adds the response of each. If memory runs out, `out`
-/// has the responses of the first connections, and the office is in the state after these or after
-/// one connection more.
+/// has the responses of the first connections. The office is then in the state after these, or
+/// after one connection more.
 ///
 /// No accepted command is lost by a crash: it leaves the rows after the last accepted command, or
 /// these rows with one refused writing call. Each desk receives the replies of an office that has
-/// its rows and no others.
+/// its rows and no others. This holds unless a request of its story is refused for lack of memory
+/// or by the store. Facts about rows require a disk that returned what was written.
 pub fn serve_run<B: Book>(
     alloc: Global,
     office: &mut Office<B>,

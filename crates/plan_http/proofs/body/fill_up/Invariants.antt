@@ -2,7 +2,7 @@ use Rattle.std.proofs.Common.{◌≡◌, ℕ, ◌+◌, ◌≤◌, List, length, 
 use Rattle.plan_http.specs.Pieces.{Reads, IsSplit}
 use Rattle.plan_http.proofs.body.fill_up.Given as goal
 
--- each read so far gave a byte, and the front of the body is what the client lost
+-- each read so far returned a byte, and the client lost the front of the body
 abbrev pub invariant-loop : goal.invariant-loop
 invariant-loop g l = record {
   within : l.filled ≤ length l.body;

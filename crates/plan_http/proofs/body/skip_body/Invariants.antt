@@ -3,7 +3,7 @@ use Rattle.plan_http.specs.Pieces.{Reads}
 use Rattle.plan_http.specs.BodyPieces.{HasLeft}
 use Rattle.plan_http.proofs.body.skip_body.Given as goal
 
--- each read so far gave a byte, and what was skipped is what the client lost
+-- each read so far returned a byte, and the client lost the skipped bytes
 abbrev pub invariant-loop : goal.invariant-loop
 invariant-loop g l = record {
   each : l.counter ≤ l.filled;

@@ -3,7 +3,7 @@ use Rattle.httparse.specs.Spans.{header_bytes}
 use Rattle.plan_http.specs.Fields.{values_of}
 use Rattle.plan_http.proofs.fields.count_of.Given as goal
 
--- those that were counted and those that are left are all
+-- the counted fields and those that are left are all fields of the name
 abbrev pub invariant-loop-header : goal.invariant-loop-header
 invariant-loop-header l = record {
   within : l.count ≤ l.header-index;

@@ -2,7 +2,7 @@ use Rattle.std.proofs.Common.{◌≡◌, ℕ, ◌+◌, ◌<◌, ◌≤◌, List,
 use Rattle.plan_http.specs.Pieces.{Reads, IsSplit}
 use Rattle.plan_http.proofs.head.read_head.Given as goal
 
--- each read so far gave a byte, and the front of the buffer is what the client lost
+-- each read so far returned a byte, and the client lost the front of the buffer
 abbrev pub invariant-loop : goal.invariant-loop
 invariant-loop g l = record {
   short : l.filled < 8192;

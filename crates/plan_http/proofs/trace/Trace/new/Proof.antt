@@ -1,4 +1,4 @@
--- No byte went by yet.
+-- A trace without bytes.
 use Rattle.std.proofs.Common.{[], ◌∷◌, refl}
 use Rattle.std.proofs.raw_atomic.Walks.{proved_at}
 use types.Kit.{raw, ◌⊛◌, ‵, ◌$◌, ◌∵◌, !, qed, done, move, keep, drop, split, fjoin, suffices}

@@ -1,4 +1,4 @@
--- More bytes went by.
+-- A trace with more bytes.
 use Rattle.std.proofs.Common.{List, [], ◌∷◌, ◌++◌, length, refl}
 use Rattle.std.proofs.raw_atomic.Walks.{proved_at}
 use mir.Val.{Val, vptr}
@@ -37,7 +37,7 @@ with_spec 𝓤 𝓛 𝓜 𝓡 wired =
     let part : Val = slice_val (more.ref_ptr.0, more.ref_ptr.1) (length more.now) in
     let longer : (Trace.the_row).Denot = record { bytes = self.now.bytes ++ more.now } in
     qed 𝓛 ((raw (alive 𝓛 f.ended.signature y.0.0 y.0.1) ⊛ ‵ (owns (types_at f.ended.signature.params y.0.0) y.0.3 y.0.4)) ∷ raw ((c y.0.0 y.0.3).requires y.1) ∷ []) ∵
-    -- of what the references own only their addresses and the count are wanted
+    -- the references own more, but only their addresses and the count are needed
     keep ! (0 ∷ []) $ split ! $ move ! (1 ∷ []) $ fsplit ! $ fsplit ! $ feq_l ! (λ is. drop ! $
     fsplit ! $ fsplit ! $ fsplit ! $ feq_l ! (λ at. fsplit ! $ flt_l ! (λ count. flt_l ! (λ size. drop ! $ drop ! $
     regoal ! (λ (values : List Val). prop (WpFn 𝓤 𝓛.H 𝓣.C 𝓣.Λ code.function (values ++ (y.0.4.1.0 ++ [])) (W.post y))) is refl $
