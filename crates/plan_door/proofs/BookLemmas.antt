@@ -1,4 +1,4 @@
--- Connections of an office over a book: what was answered, and why nothing listens.
+-- Connections of an office over a book: the responses, and the faults of a port.
 use Rattle.std.proofs.Common.{◌≡◌, ◌⊎◌, List, Option, Result, Ok, Err, inl, inr, refl}
 use Rattle.std.specs.Prelude.{OnOk, IfErr}
 use Rattle.std_io.specs.declared.io.kind.ErrorKind.{ErrorKind}
@@ -9,13 +9,13 @@ use Rattle.plan_door.specs.declared.fault.ServeFault.TheVariants as fault
 use Rattle.plan_door.specs.Ports.{IsPortCause, IsPortFault}
 use Rattle.plan_door.specs.ReplayRun.{Replays, ReplaysFrom}
 
--- what was written whole are the responses of an office over the book
+-- a complete output has the responses of an office over the book
 pub replays : {B : Type 0} (shelf : Shelf B) (old new : B) (conns : List Text) (taken after : Option Text) (r : Result (Unit {0}) ServeFault)
     → Replays shelf old new conns taken after r → OnOk r (ReplaysFrom shelf old conns taken after)
 replays shelf old new conns taken after (Ok done) served = (new, served)
 replays shelf old new conns taken after (Err e) served = tt
 
--- where not all was written, memory ran out or the output failed
+-- if the output isn't complete, memory ran out or the output failed
 pub replays_not : {B : Type 0} (shelf : Shelf B) (old new : B) (conns : List Text) (taken after : Option Text) (r : Result (Unit {0}) ServeFault)
     → Replays shelf old new conns taken after r → IfErr r (λ e. (e ≡ fault.Memory) ⊎ (e ≡ fault.Output))
 replays_not shelf old new conns taken after (Ok done) served = tt
@@ -34,7 +34,7 @@ replays_not shelf old new conns taken after (Err fault.Taken) served = absurd se
 replays_not shelf old new conns taken after (Err fault.PortTaken) served = absurd served
 replays_not shelf old new conns taken after (Err fault.PortDenied) served = absurd served
 
--- why nothing listens is why an office isn't served
+-- a fault of binding a port is a fault of serving an office
 pub port_faults : (k : ErrorKind) (f : ServeFault) → IsPortCause k f → IsPortFault f
 port_faults k fault.Memory is = tt
 port_faults k fault.Store is = absurd is

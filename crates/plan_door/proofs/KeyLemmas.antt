@@ -41,7 +41,7 @@ by_feed b line more false e same =
     let short = position_or_len is_line_feed (line ++ 10 ∷ []) in
     rw e (take_next long b ((line ++ 10 ∷ []) ++ more) ∙ ap (λ bs. b ∷ bs) same ∙ sym (take_next short b (line ++ 10 ∷ [])))
 
--- what follows a line feed is no part of the first line
+-- the bytes after a line feed aren't part of the first line
 before_feed : (line more : List ℕ) → before_first is_line_feed ((line ++ 10 ∷ []) ++ more) ≡ before_first is_line_feed (line ++ 10 ∷ [])
 before_feed [] more = refl
 before_feed (b ∷ line) more = by_feed b line more (is_line_feed b) refl (before_feed line more)
@@ -108,7 +108,7 @@ as_long old new line long read = record {
   first = front_read old new line long read;
 }
 
--- what holds of no byte, and of a byte
+-- the two cases of an optional byte
 pub of_none : (P : Type 0) (Q : ℕ → Type 0) (next : Option ℕ) → MatchOption next P Q → next ≡ None → P
 of_none P Q None m is = m
 of_none P Q (Some byte) m is = absurd cc

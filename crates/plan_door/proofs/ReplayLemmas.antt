@@ -1,4 +1,4 @@
--- Responses, one behind another.
+-- Responses, one after another.
 use Rattle.std.proofs.Common.{◌≡◌, suc, List, [], ◌∷◌, ◌++◌, length, map, refl, sym, ap, ◌∙◌, inl, subst, arith, Result, Ok, Err, IfOk}
 use Rattle.std.specs.Prelude.{OnErr}
 use Rattle.std.proofs.lemmas.List.{take_all}
@@ -13,7 +13,7 @@ flat : {A : Type 0} (f : A → Text) (xs : List A) → flat_map f xs ≡ flat_ma
 flat f [] = refl
 flat f (x ∷ xs) = ap (λ more. f x ++ more) (flat f xs)
 
--- texts that are the responses of decisions are so one behind another
+-- texts that are the responses of decisions, one after another
 pub joined_responses : {A : Type 0} (f : A → Text) (xs : List A) (decisions : List Decision) → map f xs ≡ map response_of decisions → flat_map f xs ≡ responses decisions
 joined_responses f xs decisions same =
     flat f xs ∙ ap (flat_map (λ text. text)) same ∙ sym (flat response_of decisions)
@@ -28,14 +28,14 @@ all_served shelf old new conns decisions served = record {
   last = inl refl;
 }
 
--- the responses to all connections, one behind another, if there was memory for them
+-- the responses to all connections, one after another, if memory suffices
 pub joined_all : {B X Y E : Type 0} (shelf : Shelf B) (old new : B) (conns : List Text) (f : X → Text) (g : Y → Text) (out : List X) (decisions : List Decision) (r : Result Y E)
     → Serving shelf old conns decisions new → map f out ≡ map response_of decisions → IfOk r (λ all. g all ≡ flat_map f out)
     → IfOk r (λ all. (decisions : List Decision) × Serving shelf old conns decisions new × (g all ≡ responses decisions))
 joined_all shelf old new conns f g out decisions (Ok all) served same is = (decisions, served, is ∙ joined_responses f out decisions same)
 joined_all shelf old new conns f g out decisions (Err e) served same is = tt
 
--- the same where there wasn't
+-- the same if memory runs out
 pub joined_none : {B Y E : Type 0} (shelf : Shelf B) (old new : B) (conns : List Text) (decisions : List Decision) (r : Result Y E)
     → Serving shelf old conns decisions new → OnErr r ((decisions : List Decision) × Stops shelf old new conns decisions)
 joined_none shelf old new conns decisions (Ok all) served = tt

@@ -15,14 +15,14 @@ use Rattle.plan_http.proofs.WholeRunLemmas.{outlasts, is_apart}
 use Rattle.plan_door.specs.Serve.{MovedBy}
 use Rattle.plan_door.specs.Turns.{Visit, MayBe, IsSent, Turn, missed, visited, decision_in, decisions_of, IsConn, AreConns, read_in, read_of, IsServedBy, IsServed, IsTurn, AreTurns, IsRun, Runs, IsVisited, AreVisited, Visiting}
 
--- what holds of an answer holds of it once it is counted
+-- a fact about a result holds after the call is counted
 pub counted_ok : {A E F : Type 0} (P : A → Type 0) (answer : Result A E) (result : Result A F) → IfOk answer P
     → MatchResult answer (λ value. result ≡ Ok value) (λ e. IsErr result) → IfOk result P
 counted_ok P (Ok value) result h is = subst (λ r. IfOk r P) (sym is) h
 counted_ok P (Err e) (Err f) h is = tt
 counted_ok P (Err e) (Ok value) h is = absurd cc
 
--- sides of which nothing was heard and that were sent nothing
+-- sides that have read nothing and sent nothing
 pub fresh_sides : {A E : Type 0} (heard : A → Text) (ended : A → Bool) (told : A → Text) (result : Result A E)
     → IfOk result (λ sides. (heard sides ≡ []) × (ended sides ≡ false) × (told sides ≡ []))
     → IfOk result (λ sides. IsFresh (record { heard = heard sides; ended = ended sides; left = None }) × (Some (told sides) ≡ Some []))
@@ -67,7 +67,7 @@ module _ {B : Type 0} (shelf : Shelf B) where
     told = told;
   }
 
-  -- one serving of a connection is by one decision, or by none
+  -- a served connection has one decision or none
   pub served_by : (old new : B) (before after : Known) (taken sent : Option Text) (e : ConnEnd) → IsFresh before → taken ≡ Some []
       → Ends shelf old new before after taken sent e
       → (bytes : Text) × (sent ≡ Some bytes) × ((decided : Option Decision) × IsServed shelf old new (visit_of after bytes e decided) decided)
@@ -99,7 +99,7 @@ module _ {B : Type 0} (shelf : Shelf B) where
           (decisions, omega (arith, few), subst (λ (o : B). MovedBy shelf o decisions new) same moved)
       by_decision (Some d) s = (d ∷ decisions, omega (arith, few), (middle, s.moves, moved))
 
-  -- turns move it by as many decisions at most
+  -- turns move the office by at most as many decisions
   pub turns_move : (old new : B) (turns : List Turn) → AreTurns shelf old turns new
       → (decisions : List Decision) × (length decisions ≤ length turns) × MovedBy shelf old decisions new
   turns_move old new [] a = ([], omega arith, a)
@@ -171,7 +171,7 @@ module _ {V R W : Type 0} (known : R → Known) (taken : W → Option Text)
         visits = visits_more came between went v.turns turn v.visits visits;
       }
 
-  -- how the office moved
+  -- the decisions by which the office changed
   pub visiting_moves : {B : Type 0} (shelf : Shelf B) (old new : B) (came went : V) (count : ℕ)
       → Visiting known taken Admits Dismisses shelf old new came went count
       → (decisions : List Decision) × (length decisions ≤ count) × MovedBy shelf old decisions new

@@ -25,13 +25,13 @@ first_line text = without_return (before_first is_line_feed text)
 abbrev pub IsDigestOfKey : Digest → Type 0
 IsDigestOfKey digest = (key : Text) × (key_digest_of key ≡ Some digest)
 
--- the digest of the key in the first line of a text, or the fault if it is no key
+-- the digest of the key in the first line of a text, or the fault if the line isn't a key
 abbrev pub SaysKey : Text → Result Digest ServeFault → Type 0
 SaysKey text (Ok digest) = key_digest_of (first_line text) ≡ Some digest
 SaysKey text (Err fault.Key) = key_digest_of (first_line text) ≡ None
 SaysKey text (Err e) = ⊥
 
--- The front of a text was read, at most the longest line: its first line is the first line of the
+-- A front of a text was read, at most the longest line. Its first line is the first line of the
 -- first `longest_line` bytes of the text.
 pub record IsFront (remaining rest : Option Text) (front : Text) : Type 0 where
   pub short : length front ≤ longest_line

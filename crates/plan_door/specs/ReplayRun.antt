@@ -18,8 +18,9 @@ longest_request = 1056768
 abbrev pub responses : List Decision → Text
 responses decisions = flat_map response_of decisions
 
--- Connections were served, and all their responses were written, in order; or the first part of
--- them, if the output failed; or memory ran out during or after the run, and nothing was written.
+-- Connections were served, and all their responses were written in order. If the output failed,
+-- only the first bytes of the responses were written. If memory ran out during or after the run,
+-- nothing was written.
 abbrev pub Replays : {B : Type 0} → Shelf B → B → B → List Text → Option Text → Option Text
     → Result (Unit {0}) ServeFault → Type 0
 Replays shelf old new conns taken after (Ok _) =

@@ -11,8 +11,8 @@ use Rattle.plan_http.specs.Connections.{Moves, Serving, response_of}
 use Rattle.plan_http.specs.Crashes.{Outlasts}
 use Rattle.plan_http.specs.Isolated.{IsApart}
 
--- A served connection: the bytes that its reads returned, and whether their end was seen; the bytes
--- that its writes accepted; its end, and the decision, if there was one.
+-- A served connection. It has the bytes that its reads returned, and whether their end was seen. It
+-- has the bytes that its writes accepted, its end, and its decision, if there was one.
 pub record Visit : Type 0 where
   pub read : Text
   pub ended : Bool

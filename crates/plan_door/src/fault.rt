@@ -17,7 +17,7 @@ pub enum ServeFault {
     /// The tables have an unknown version.
     #[error("K2 version")]
     Version,
-    /// The text is no key.
+    /// The text isn't a key.
     #[error("K3 key")]
     Key,
     /// A file or standard input can't be read.

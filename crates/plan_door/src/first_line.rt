@@ -1,6 +1,6 @@
 //! The first line of a request, for the log.
 
-/// The first line that is not empty. A line over 256 bytes, which no route needs, is cut.
+/// The first line that isn't empty. A line over 256 bytes has no text, because no route needs one.
 #[derive(Drop)]
 pub(crate) struct FirstLine {
     bytes: [u8; 256],

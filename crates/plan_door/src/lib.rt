@@ -1,5 +1,6 @@
-//! Connections served one after another, from a socket (with a queue, deadlines and a log) or from
-//! files, and the key of an office in a text. Any office serves them, over any book.
+//! Connections served one after another, from a socket or from files, by any office over any book.
+//! A socket has a queue, deadlines and a log. The crate also reads the key of an office from a
+//! text.
 #![tactic(auto)]
 
 mod fault;

@@ -11,8 +11,8 @@ use std::io::{self, ErrorKind, Read, Write};
 use std::net::{Shutdown, TcpStream};
 use std::time::{Duration, Instant};
 
-// After a response the connection is drained: how long the client may send nothing and how long it
-// may send, in seconds, and the greatest number of reads.
+// The limits of draining a connection after its response: the silence of the client and the whole
+// time, in seconds, and the number of reads.
 const DRAIN_SILENCE: u64 = 1;
 
 const DRAIN_LIMIT: u64 = 5;
@@ -94,7 +94,7 @@ impl<'a> Client for Side<'a> {
 
     ghost faults = { λ side. side.tally.faults };
 
-    // Nobody knows the bytes that are left.
+    // The bytes that are left are unknown.
     ghost known = { λ side. record {
       heard = side.received.bytes;
       ended = side.is_ended;
@@ -204,7 +204,7 @@ impl<'a> Side<'a> {
         }
     }
 
-    // Ends the response, and reads and discards for a while the bytes that the client still sends:
+    // Ends the response. Then it reads and discards bytes of the client for a while, because
     // closing a connection with unread bytes could destroy the response.
     pub(crate) fn drain(&self) -> io::Result<()> {
         self.stream.shutdown(Shutdown::Write)?;

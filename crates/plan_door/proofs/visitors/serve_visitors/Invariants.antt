@@ -2,7 +2,7 @@ use Rattle.std.proofs.Common.{◌≡◌, ◌+◌}
 use Rattle.plan_door.specs.Turns.{Visiting}
 use Rattle.plan_door.proofs.visitors.serve_visitors.Given as goal
 
--- so many connections were awaited, each in a turn of its own
+-- each turn so far awaited one connection
 abbrev pub invariant-loop : goal.invariant-loop
 invariant-loop g l = record {
   awaited : g.V.Visitors.awaited l.visitors ≡ g.V.Visitors.awaited l.fn.visitors + l.counter;
