@@ -1,4 +1,4 @@
--- What a hasher was given of the rows of an office, step by step.
+-- The text of an office's rows that a hasher received, step by step.
 use Rattle.std.proofs.Common.{◌≡◌, ◌⊎◌, inl, inr, ℕ, suc, ◌+◌, ◌<◌, take, get_or, Bool, true, false, ◌==◌, List, [], ◌∷◌, ◌++◌, length, map, find, Option, Some, None, Ok, refl, sym, ap, ap₂, subst, ◌∙◌, arith, cond, string_bytes}
 use Rattle.std.specs.List.{flat_map, AllByRecursion}
 use Rattle.std.proofs.lemmas.Bool.{and_parts, both_ways, cases_Bool, cond-true, cond-false}
@@ -40,7 +40,7 @@ module _ {B : Type 0} (shelf : Shelf B) where
   pub looks_here : {X : Type 0} (Is : World → X → Type 0) (a : B) (x : X) → ((w : World) → Is w x) → Looks shelf a a Is (Ok x)
   looks_here Is a x is = record { quiet = quiet_self shelf a; found = λ h s. (s, is (shelf.world a)) }
 
-  -- what was found, and then what is found
+  -- a result is found, and then another one
   pub looks_then : {X Y Z : Type 0} (Is : World → X → Type 0) (And : World → Y → Type 0) (Both : World → Z → Type 0) (a b c : B) (x : X) (y : Y) (z : Z)
       → Looks shelf a b Is (Ok x) → Looks shelf b c And (Ok y) → ((w : World) → Is w x → And w y → Both w z) → Looks shelf a c Both (Ok z)
   looks_then Is And Both a b c x y z one two both = record {
@@ -51,7 +51,7 @@ module _ {B : Type 0} (shelf : Shelf B) where
         (rest.0, both (shelf.world a) first.1 (subst (λ w. And w y) (one.quiet.same (two.quiet.honesty h) first.0) rest.1));
   }
 
-  -- what was found, said otherwise
+  -- a fact that follows from the one that was found
   pub looks_as : {X Y : Type 0} (Is : World → X → Type 0) (Other : World → Y → Type 0) (a b : B) (x : X) (y : Y)
       → Looks shelf a b Is (Ok x) → ((w : World) → Is w x → Other w y) → Looks shelf a b Other (Ok y)
   looks_as Is Other a b x y one other = record {
@@ -74,7 +74,7 @@ flat : {A C : Type 0} (f : C → Text) (g : A → C) (xs : List A) → flat_map 
 flat f g [] = refl
 flat f g (x ∷ xs) = ap (λ more. f (g x) ++ more) (flat f g xs)
 
--- each plan stands at its key
+-- each plan is found by its key
 AtTheirKeys : World → List Plan → Type 0
 AtTheirKeys w plans = AllByRecursion (λ plan. plan_in w plan.desk plan.n ≡ Some plan) plans
 
@@ -143,7 +143,7 @@ all_unit : (xs : List Plan) → AllByRecursion (λ _. Unit {0}) xs
 all_unit [] = tt
 all_unit (x ∷ xs) = (tt, all_unit xs)
 
--- the line of the plan that a book answers of a key
+-- the line of the plan that a book returns for a key
 pub line_there : (w : World) (key : PlanKey) (row : PlanRow) (desk : Text) → desk ≡ string_bytes key.desk →
     Matches (IsPlanAnswer (view desk w)) (find (has_number key.n) (view desk w).plans) (Some row)
     → line_at w (key_in key) ≡ plan_line (plan_of key row)
