@@ -1,4 +1,4 @@
--- What a fault of the system is told as is a fault of each command that meets it.
+-- The fault that is reported for a fault of the system is a fault of each command that meets it.
 use Rattle.std.proofs.Common.{◌≢◌, ◌≡◌, ◌⊎◌, Option, Result, Some, None, Ok, Err, inl, inr, refl, sym, subst, ◌∙◌}
 use Rattle.std.specs.Prelude.{IfErr, IsErrOf, OnOk, MatchResult}
 use Rattle.std.specs.IoError.{error_kind}
@@ -21,9 +21,9 @@ use Rattle.plan_serve.specs.Causes.{IsFileCause, IsOpenCause, IsToldAnew, IsFile
 use Rattle.plan_serve.specs.InitRun.{IsInitFault, IsOfTablesThere}
 use Rattle.plan_serve.specs.Reports.{IsWriteFault, IsReportFault, IsReplayFault}
 
--- ---- what holds of each fault of a kind
+-- ---- facts about each fault of a kind
 
--- of each for which files can't be opened
+-- a fact about each fault of opening files
 pub of_files : (P : ServeFault → Type 0) → P fault.Memory → P fault.Store → P fault.Locked → P fault.Missing → P fault.Denied
     → (e : ServeFault) → IsFileFault e → P e
 of_files P memory store locked missing denied fault.Memory is = memory
@@ -41,7 +41,7 @@ of_files P memory store locked missing denied fault.Taken is = absurd is
 of_files P memory store locked missing denied fault.PortTaken is = absurd is
 of_files P memory store locked missing denied fault.PortDenied is = absurd is
 
--- of each for which a report isn't written
+-- a fact about each fault of writing a report
 pub of_write : (P : ServeFault → Type 0) → P fault.Memory → P fault.Store → P fault.Output
     → (e : ServeFault) → IsWriteFault e → P e
 of_write P memory store output fault.Memory is = memory
@@ -59,7 +59,7 @@ of_write P memory store output fault.Taken is = absurd is
 of_write P memory store output fault.PortTaken is = absurd is
 of_write P memory store output fault.PortDenied is = absurd is
 
--- of each for which an office isn't served on a port
+-- a fact about each fault of serving on a port
 pub of_port : (P : ServeFault → Type 0) → P fault.Memory → P fault.Socket → P fault.PortTaken → P fault.PortDenied
     → (e : ServeFault) → IsPortFault e → P e
 of_port P memory socket taken denied fault.Memory is = memory
@@ -77,7 +77,7 @@ of_port P memory socket taken denied fault.Taken is = absurd is
 of_port P memory socket taken denied fault.PortTaken is = taken
 of_port P memory socket taken denied fault.PortDenied is = denied
 
--- ---- of files
+-- ---- files
 
 pub file_serves : (e : ServeFault) → IsFileFault e → IsServeFault e
 file_serves = of_files IsServeFault tt tt tt tt tt
@@ -91,7 +91,7 @@ file_reports = of_files IsReportFault tt tt tt tt tt
 pub file_silent : (e : ServeFault) → IsFileFault e → e ≢ fault.Output
 file_silent = of_files (λ e. e ≢ fault.Output) (λ same. absurd cc) (λ same. absurd cc) (λ same. absurd cc) (λ same. absurd cc) (λ same. absurd cc)
 
--- what the system tells of a file
+-- the fault of a file, from the system's error
 pub file_fault : (k : ErrorKind) (e : ServeFault) → IsFileCause k e → IsFileFault e
 file_fault k fault.Memory is = tt
 file_fault k fault.Store is = tt
@@ -108,7 +108,7 @@ file_fault k fault.Taken is = absurd is
 file_fault k fault.PortTaken is = absurd is
 file_fault k fault.PortDenied is = absurd is
 
--- and what opening files once more comes to
+-- the fault of opening files once more
 pub open_fault : {T : Type 0} (opened : Result T OpenError) (e : ServeFault) → IsOpenCause opened e → IsFileFault e
 open_fault (Err opening.Busy) e is = subst IsFileFault (sym is) tt
 open_fault (Err opening.OutOfMemory) e is = subst IsFileFault (sym is) tt
@@ -116,9 +116,9 @@ open_fault (Err (opening.Io error)) e is = file_fault (error_kind error) e is
 open_fault (Err opening.HotJournal) e is = subst IsFileFault (sym is) tt
 open_fault (Ok files) e is = subst IsFileFault (sym is) tt
 
--- ---- of a look at a name
+-- ---- the system's answer for a name
 
--- a file that is too short, or what the system tells
+-- a file that is too short, or the system's error
 of_look : (P : ServeFault → Type 0) → (looked : Result Metadata Error) → (IsShort looked → P fault.NotOurs) → ((e : ServeFault) → IsFileFault e → P e)
     → (e : ServeFault) → IsLookFault looked e → P e
 of_look P (Ok found) short files e (same, is) = subst P (sym same) (short is)
@@ -133,7 +133,7 @@ look_reports looked = of_look IsReportFault looked (λ short. tt) file_reports
 pub look_silent : (looked : Result Metadata Error) (e : ServeFault) → IsLookFault looked e → e ≢ fault.Output
 look_silent looked = of_look (λ e. e ≢ fault.Output) looked (λ short same. absurd cc) file_silent
 
--- ---- of the tables that files held
+-- ---- the tables in files
 
 module _ {F S : Type 0} (first : start.Ghosts F) (g : Ghosts S) (looked : Result Metadata Error) where
   pub file_tables : (e : ServeFault) → IsFileFault e → IsOfTables first g looked e
@@ -148,7 +148,7 @@ module _ {F S : Type 0} (first : start.Ghosts F) (g : Ghosts S) (looked : Result
   pub port_tables : (e : ServeFault) → IsPortFault e → IsOfTables first g looked e
   port_tables = of_port (IsOfTables first g looked) tt tt tt tt
 
-  -- they were refused
+  -- the tables were refused
   of_refused : (cause : StoreFault) (back : Option (Leftover S)) → IsRefusedFrom first cause back g → IsOfTables first g looked (fault_of cause)
   of_refused store.NotOurs None refused = absurd (refused.0 refl)
   of_refused store.NotOurs (Some left) refused = inr (left, refused)
@@ -157,7 +157,7 @@ module _ {F S : Type 0} (first : start.Ghosts F) (g : Ghosts S) (looked : Result
   of_refused store.NoMemory back refused = tt
   of_refused store.Store back refused = tt
 
-  -- they were opened, and something else failed over them, or they weren't
+  -- the tables were opened and something else failed, or they weren't opened
   pub opened_tables : {B : Type 0} (Over : ServeFault → Type 0) → ((e : ServeFault) → Over e → IsOfTables first g looked e)
       → (opened : Result B (StoreFault × Option (Leftover S))) (done : Result (Unit {0}) ServeFault) → IfErr opened (λ e. IsRefusedFrom first e.0 e.1 g)
       → IfErr done (λ told. MatchResult opened (λ _. Over told) (λ e. told ≡ fault_of e.0)) → IfErr done (IsOfTables first g looked)
@@ -165,7 +165,7 @@ module _ {F S : Type 0} (first : start.Ghosts F) (g : Ghosts S) (looked : Result
   opened_tables Over over (Ok book) (Err told) refused is = over told is
   opened_tables Over over (Err (cause, back)) (Err told) refused is = subst (IsOfTables first g looked) (sym is) (of_refused cause back refused)
 
-  -- the same of a name of which nothing is supposed
+  -- the same for some answer of the system
   pub tables_at_name : (r : Result (Unit {0}) ServeFault) → IfErr r (IsOfTables first g looked) → IfErr r (IsOfTablesAtName first g)
   tables_at_name (Ok done) is = tt
   tables_at_name (Err e) is = (looked, is)
@@ -173,9 +173,9 @@ module _ {F S : Type 0} (first : start.Ghosts F) (g : Ghosts S) (looked : Result
 pub file_tables_there : {F S : Type 0} (first : start.Ghosts F) (g : Ghosts S) (e : ServeFault) → IsFileFault e → IsOfTablesThere first g e
 file_tables_there first g = of_files (IsOfTablesThere first g) tt tt tt tt tt
 
--- ---- of an outcome that is told anew
+-- ---- a result after the cause was found
 
--- what holds in any case
+-- a fact that always holds
 pub if_ok : {P : Type 0} (r : Result (Unit {0}) ServeFault) → P → OnOk r P
 if_ok (Ok done) h = h
 if_ok (Err e) h = tt
@@ -185,14 +185,14 @@ module _ (ended done told : Result (Unit {0}) ServeFault) (closed : done ≡ end
       ⊎ ((ended ≡ Err fault.Store) × ((e : ServeFault) × (told ≡ Err e) × IsFileFault e))
   ways = elim is [ inl same ↦ inl (same ∙ closed) | inr (store, anew) ↦ inr (sym closed ∙ store, anew) ]
 
-  -- a success is one
+  -- a success remains a success
   pub told_ok : (P : Type 0) → OnOk ended P → OnOk told P
   told_ok P h = elim ways [
     | inl same ↦ subst (λ r. OnOk r P) (sym same) h
     | inr (store, (e, anew, files)) ↦ subst (λ r. OnOk r P) (sym anew) tt
   ]
 
-  -- what holds of each fault, and of another cause of the store's refusal
+  -- a fact about each fault, and about another cause of the store's refusal
   pub told_err : (P : ServeFault → Type 0) → IfErr ended P
       → ((e : ServeFault) → P fault.Store → IsFileFault e → P e) → IfErr told P
   told_err P h other = elim ways [
@@ -201,11 +201,11 @@ module _ (ended done told : Result (Unit {0}) ServeFault) (closed : done ≡ end
         subst (λ r. IfErr r P) (sym anew) (other e (subst (λ r. IfErr r P) store h) files)
   ]
 
-  -- nothing was written but with the output's fault
+  -- nothing was written unless the output failed
   pub told_quiet : (Q : Type 0) → IfErr ended (λ e. (e ≡ fault.Output) ⊎ Q) → IfErr told (λ e. (e ≡ fault.Output) ⊎ Q)
   told_quiet Q h = told_err (λ e. (e ≡ fault.Output) ⊎ Q) h (λ e was files. elim was [ inl out ↦ absurd cc | inr same ↦ inr same ])
 
-  -- the output's fault is told as it was
+  -- the fault of the output is reported unchanged
   pub told_output : IsErrOf told fault.Output → IsErrOf ended fault.Output
   told_output h = elim ways [
     | inl same ↦ subst (λ r. IsErrOf r fault.Output) same h

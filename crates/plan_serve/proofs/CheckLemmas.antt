@@ -1,4 +1,4 @@
--- What was written of a summary.
+-- The written part of a summary.
 use Rattle.std.proofs.Common.{◌≡◌, ◌⊎◌, inl, inr, Option, Result, Ok, Err, sym, subst}
 use Rattle.std.specs.Prelude.{IfErr, OnOk, IsErrOf}
 use Rattle.plan_rows.specs.World.{Text}
@@ -15,7 +15,7 @@ module _ {B : Type 0} (shelf : Shelf B) (old new : B) (taken after : Option Text
   none_written e (inl is) same = subst (λ f. Writes shelf old new taken after (Err f)) (sym is) same
   none_written e (inr is) same = subst (λ f. Writes shelf old new taken after (Err f)) (sym is) same
 
-  -- what was written is that of some summary
+  -- a complete output is the text of some summary
   pub printed : (r : Result (Unit {0}) ServeFault) → Writes shelf old new taken after r → OnOk r (IsPrinted taken after)
   printed (Ok done) w = (w.0, w.2)
   printed (Err e) w = tt
@@ -23,12 +23,12 @@ module _ {B : Type 0} (shelf : Shelf B) (old new : B) (taken after : Option Text
   pub printed_in_part : (r : Result (Unit {0}) ServeFault) → Writes shelf old new taken after r → IsErrOf r fault.Output → IsPrintedInPart taken after
   printed_in_part r w is = let it = subst (Writes shelf old new taken after) is w in (it.0, it.1, it.3, it.4)
 
-  -- what was written whole is that of the book
+  -- a complete output is the summary of the book
   pub checks : (r : Result (Unit {0}) ServeFault) → Quiet shelf old new → Writes shelf old new taken after r → OnOk r (ChecksFrom shelf old taken after)
   checks (Ok done) quiet w = (new, quiet, w)
   checks (Err e) quiet w = tt
 
-  -- why it wasn't
+  -- the faults without a complete output
   pub checks_not : (r : Result (Unit {0}) ServeFault) → Writes shelf old new taken after r → IfErr r IsWriteFault
   checks_not (Ok done) w = tt
   checks_not (Err fault.Memory) w = tt

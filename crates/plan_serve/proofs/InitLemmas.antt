@@ -1,4 +1,4 @@
--- Why the tables of a new office weren't made.
+-- The faults of creating the tables of a new office.
 use Rattle.std.proofs.Common.{◌≡◌, ◌≢◌, ◌⊎◌, ◌↔◌, inl, inr, Option, Some, None, Ok, Err, refl, sym, ap, subst}
 use Rattle.sqlite_trees.specs.declared.store.Store.{Ghosts}
 use Rattle.sqlite.specs.Held.{Held, state}
@@ -64,7 +64,7 @@ unread g Opens Refuses remaining rest fault.Taken takes = absurd takes
 unread g Opens Refuses remaining rest fault.PortTaken takes = absurd takes
 unread g Opens Refuses remaining rest fault.PortDenied takes = absurd takes
 
--- why the tables of a new office aren't made
+-- the faults of creating the tables of a new office
 pub init_faults : {S : Type 0} (g : Ghosts S) (Opens : Held S → Type 0) (Refuses : StoreFault → Type 0) (remaining rest : Option Text) (e : ServeFault) (back : Option (Held S))
     → MakesNone g Opens Refuses remaining rest e back → IsInitFault e
 init_faults g Opens Refuses remaining rest fault.Memory back i = tt
@@ -82,7 +82,7 @@ init_faults g Opens Refuses remaining rest fault.Taken back i = tt
 init_faults g Opens Refuses remaining rest fault.PortTaken back i = absurd i
 init_faults g Opens Refuses remaining rest fault.PortDenied back i = absurd i
 
--- a fault that speaks of tables that are there is told of those that were opened
+-- a fault about existing tables is about those of a database that was opened
 pub told_there : {S : Type 0} (g : Ghosts S) (Opens : Held S → Type 0) (Refuses : StoreFault → Type 0) (remaining rest : Option Text) (e : ServeFault) (back : Option (Held S))
     → MakesNone g Opens Refuses remaining rest e back → IsToldThere g Opens e
 told_there g Opens Refuses remaining rest fault.Memory back i = tt

@@ -21,7 +21,7 @@ use Rattle.plan_serve.specs.Reports.{ReportsFrom, ReportsOnFiles, IsWriteFault, 
 use Rattle.plan_serve.specs.Causes.{IsOfTables}
 use Rattle.plan_serve.proofs.CauseLemmas.{of_write}
 
--- the report of an office over the tables that files held
+-- the report of an office over the tables in files
 module _ {F S : Type 0} (first : start.Ghosts F) (g : Ghosts S) (taken after : Option Text) where
   of_taken : (which : Report) (book : Counted S) → IsTakenFrom first book.conn g → ReportsFrom (sql_shelf g) book which taken after → ReportsOnFiles first g which taken after
   of_taken report.Rows book found done = (book, found, done)
@@ -33,12 +33,12 @@ module _ {F S : Type 0} (first : start.Ghosts F) (g : Ghosts S) (taken after : O
   reports_on_files which (Err e) (Ok done) found reports = absurd reports
   reports_on_files which opened (Err e) found reports = tt
 
--- so many, counted otherwise
+-- the same for an equal count
 pub replays_as_many : {F S : Type 0} (first : start.Ghosts F) (g : Ghosts S) (n m : ℕ) (taken after : Option Text) (r : Result (Unit {0}) ServeFault)
     → n ≡ m → OnOk r (ReplaysOnFiles first g n taken after) → OnOk r (ReplaysOnFiles first g m taken after)
 replays_as_many first g n m taken after r same served = subst (λ k. OnOk r (ReplaysOnFiles first g k taken after)) same served
 
--- ---- why it isn't written
+-- ---- the faults of a report
 
 -- responses of an office that is open
 pub replays_not : (r : Result (Unit {0}) ServeFault) → IfErr r (λ e. (e ≡ fault.Memory) ⊎ (e ≡ fault.Output)) → IfErr r IsWriteFault
@@ -46,7 +46,7 @@ replays_not (Ok done) is = tt
 replays_not (Err e) (inl same) = subst IsWriteFault (sym same) tt
 replays_not (Err e) (inr same) = subst IsWriteFault (sym same) tt
 
--- any report over what was opened
+-- a fault of the store is a fault of a report
 of_store : (cause : StoreFault) → IsReportFault (fault_of cause)
 of_store store.NotOurs = tt
 of_store store.Version = tt
@@ -59,7 +59,7 @@ opened_reports opened (Ok done) is = tt
 opened_reports (Ok book) (Err told) is = of_write IsReportFault tt tt tt told is
 opened_reports (Err e) (Err told) is = subst IsReportFault (sym is) (of_store e.0)
 
--- connections whose bytes are in files: one that can't be read, or the report
+-- a file of requests can't be read, or memory runs out
 pub read_replays : (e : ServeFault) → (e ≡ fault.Memory) ⊎ (e ≡ fault.Input) → IsReplayFault e
 read_replays e (inl same) = subst IsReplayFault (sym same) tt
 read_replays e (inr same) = subst IsReplayFault (sym same) tt

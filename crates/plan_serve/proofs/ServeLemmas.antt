@@ -1,4 +1,4 @@
--- Why nothing is served, and what is.
+-- The faults of serving, and the tables that are served.
 use Rattle.std.proofs.Common.{◌≡◌, ℕ, Result, Ok, Err, sym, subst}
 use Rattle.std.specs.Prelude.{IfOk, IfErr, OnOk, MatchResult}
 use Rattle.sqlite_disk.specs.declared.start.Start as start
@@ -14,21 +14,21 @@ use Rattle.plan_serve.specs.Ports.{ServesOnFiles}
 use Rattle.plan_serve.specs.Causes.{IsServeFault}
 use Rattle.plan_serve.proofs.CauseLemmas.{of_port}
 
--- with a fault of the store nothing is served
+-- a fault of the store is a fault of serving
 of_store : (f : StoreFault) → IsServeFault (fault_of f)
 of_store store.NotOurs = tt
 of_store store.Version = tt
 of_store store.NoMemory = tt
 of_store store.Store = tt
 
--- and none over tables that weren't opened, or where nothing listens
+-- a fault of the tables or of the port is a fault of serving
 pub opened_serves : {B E : Type 0} (opened : Result B (StoreFault × E)) (done : Result (Unit {0}) ServeFault)
     → IfErr done (λ told. MatchResult opened (λ _. IsPortFault told) (λ e. told ≡ fault_of e.0)) → IfErr done IsServeFault
 opened_serves opened (Ok done) is = tt
 opened_serves (Ok book) (Err told) is = of_port IsServeFault tt tt tt tt told is
 opened_serves (Err e) (Err told) is = subst IsServeFault (sym is) (of_store e.0)
 
--- the tables that files held were served
+-- the tables in files were served
 pub serves_on_files : {F S E : Type 0} (first : start.Ghosts F) (g : Ghosts S) (count : ℕ) (opened : Result (Counted S) E) (done r : Result (Unit {0}) ServeFault)
     → r ≡ done → IfOk opened (λ b. IsTakenFrom first b.conn g) → OnOk done (MatchResult opened (λ b. ServesFrom (sql_shelf g) b count) (λ _. ⊥))
     → OnOk r (ServesOnFiles first g count)

@@ -17,7 +17,7 @@ use Rattle.plan_store.specs.OnDisk.{IsRefusedFrom}
 use Rattle.plan_door.specs.declared.fault.ServeFault.{ServeFault}
 use Rattle.plan_door.specs.declared.fault.ServeFault.TheVariants as fault
 
--- the fault of a file of an office: there is none, the permission is denied, memory ran out, or
+-- the fault of a file of an office: it doesn't exist, the permission is denied, memory ran out, or
 -- another cause
 abbrev pub IsFileCause : ErrorKind → ServeFault → Type 0
 IsFileCause k fault.Missing = (k ≡ kind.NotFound) ⊎ (k ≡ kind.NotADirectory)
@@ -28,8 +28,8 @@ IsFileCause k fault.Store =
     × (k ≢ kind.ReadOnlyFilesystem) × (k ≢ kind.OutOfMemory)
 IsFileCause k e = ⊥
 
--- the fault of the files of a database: another program has them open, memory ran out, or the
--- system's error; if they can be opened, or have an older journal, the store refused them
+-- The fault of the files of a database: another program has them open, memory ran out, or the
+-- system's error. If they can be opened, or have an older journal, the store refused them.
 abbrev pub IsOpenCause : {T : Type 0} → Result T OpenError → ServeFault → Type 0
 IsOpenCause (Err opening.Busy) e = e ≡ fault.Locked
 IsOpenCause (Err opening.OutOfMemory) e = e ≡ fault.Memory
@@ -60,7 +60,7 @@ abbrev pub IsShort : Result Metadata Error → Type 0
 IsShort (Ok found) = IsFile (file_type found) × (metadata_len found < 512)
 IsShort (Err error) = ⊥
 
--- or something that may be a database
+-- the system's answer for a name: something that may be a database
 abbrev pub IsThere : Result Metadata Error → Type 0
 IsThere (Ok found) = ¬ IsShort (Ok found)
 IsThere (Err error) = ⊥
@@ -75,8 +75,8 @@ module _ {F S : Type 0} (first : start.Ghosts F) (g : Ghosts S) where
   abbrev pub AreRefused : StoreFault → Type 0
   AreRefused cause = (left : Leftover S) × IsRefusedFrom first cause (Some left) g
 
-  -- A fault about tables is about the tables in files: they are no office's, unless the file is too
-  -- short for any tables; or they are of no known version.
+  -- A fault about tables is about the tables in the files. They aren't those of an office, or the
+  -- file is too short for tables, or their version is unknown.
   abbrev pub IsOfTables : Result Metadata Error → ServeFault → Type 0
   IsOfTables looked fault.NotOurs = IsShort looked ⊎ AreRefused store.NotOurs
   IsOfTables looked fault.Version = AreRefused store.Version

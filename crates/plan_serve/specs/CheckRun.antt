@@ -20,8 +20,8 @@ module _ {B : Type 0} (shelf : Shelf B) (old new : B) where
   IsSummed summary =
       shelf.honest new → shelf.stands old → shelf.stands new × IsSummary (shelf.world old) summary
 
-  -- The summary of the rows was written completely, or a part of it if the output failed; or
-  -- nothing was written, because memory ran out or the store refused.
+  -- The summary of the rows was written completely, or in part if the output failed. If memory ran
+  -- out or the store refused, nothing was written.
   abbrev pub Writes : Option Text → Option Text → Result (Unit {0}) ServeFault → Type 0
   Writes taken after (Ok _) =
       (summary : Summary) × IsSummed summary × Appends taken after (text_of summary)

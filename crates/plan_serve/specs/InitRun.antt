@@ -23,7 +23,7 @@ use Rattle.plan_serve.specs.Faults.{fault_of}
 use Rattle.plan_serve.specs.Causes.{IsFileFault}
 use Rattle.plan_door.specs.Keys.{ReadsKey, IsDigestOfKey}
 
--- the tables of an office without rows stand, and a crash leaves nothing else
+-- the tables are those of an office without rows, and a crash leaves nothing else
 pub record IsNewOffice (s : State) (digest : Digest) : Type 0 where
   pub stands : HasCleanDisk s → Stands s
   pub world : HasCleanDisk s → world_of s.now.trees ≡ empty_world digest
@@ -42,7 +42,7 @@ IsTold cause db told =
     ((told ≡ fault.Taken) × (cause ≡ store.NotOurs) × HasOfficeTables db.schema)
     ⊎ ((told ≡ fault_of cause) × (cause ≡ store.NotOurs → ¬ HasOfficeTables db.schema))
 
--- a connection that was opened new, with the contents of the files
+-- a new connection with the contents of the files
 abbrev pub IsOpenedFrom : {F S : Type 0} → start.Ghosts F → Ghosts S → Held S → Type 0
 IsOpenedFrom first g conn =
     IsNew conn × (HasCleanDisk (state g conn) → FindsIn (image_at first) (state g conn))
@@ -93,9 +93,9 @@ module _ {S : Type 0} (g : Ghosts S) (Opens : Held S → Type 0) (Refuses : Stor
       × ¬ ((state g conn).now.schema ≢ no_schema)
       × IsLeft (state g conn) (state g left) digest
 
-  -- The fault of creating an office, and the connection that is returned, if one was opened: there
-  -- is no key, and no database is opened; or there is a key, and the database can't be opened, has
-  -- the tables of an office or others, or refuses.
+  -- The fault of creating an office, and the connection that is returned, if one was opened.
+  -- Without a key no database is opened. With a key the database can't be opened, has the tables of
+  -- an office or others, or refuses.
   abbrev pub MakesNone : Option Text → Option Text → ServeFault → Option (Held S) → Type 0
   MakesNone remaining rest fault.Key back = ReadsKey remaining rest (Err fault.Key) × (back ≡ None)
   MakesNone remaining rest fault.Store back =

@@ -28,9 +28,8 @@ fn file_fault(kind: ErrorKind) -> ServeFault
     ServeFault::Store
 }
 
-/// Fails if the system's answer for a name shows that it is no office: there is no file, the file
-/// isn't accessible, or it is shorter than any database. Nothing is opened, so no file is created
-/// or grows.
+/// Fails if the system's answer for a name rules out an office: the file doesn't exist, isn't
+/// accessible, or is shorter than any database. Nothing is opened, so no file is created or grows.
 pub(crate) fn check_name(looked: io::Result<Metadata>) -> Result<(), ServeFault>
     ensures there { OnOk result (IsThere looked) }
     ensures which { IfErr result (IsLookFault looked) }

@@ -18,7 +18,7 @@ use plan_store::{Leftover, SqlBook, StoreFault};
 use sqlite::{Alter, Connection};
 use std::alloc::Global;
 
-/// The opened tables of an office, or the fault and what is left.
+/// The opened tables of an office, or the fault and the returned connection or store.
 type Opened<S> = Result<SqlBook<S>, (StoreFault, Option<Leftover<S>>)>;
 
 /// A report of an office.

@@ -247,8 +247,8 @@ pub fn replay_from<F: Start, W: Sink>(
     report_at(rt, path, looked, start, Report::Responses(&conns), writer)
 }
 
-/// `plan check-office`: checks every row of the office in the file of this name, and writes the
-/// number of rows in each table and a digest of them.
+/// `plan check-office`: checks every row of the office in the file of this name. It writes the
+/// number of rows in each table and a digest of the rows.
 #[tactic(auto, using(crate::proofs::CauseLemmas::tables_at_name))]
 pub fn check_office_on_file<W: Sink>(
     rt: &HostRuntime,
@@ -333,8 +333,7 @@ pub fn serve_from<F: Start>(
     ensures which { IfErr result IsServeFault }
     // The file exists, and is not too short.
     ensures there { OnOk result (IsThere looked) }
-    // A fault about tables that are no office's, or of no known version, is about tables that were
-    // opened.
+    // A fault about tables is about tables that were opened, or the file is too short for tables.
     ensures tables { IfErr result (IsOfTables F.Start ⟦<Kept<F> as Store>⟧ looked) }
 {
     let path = service.database;

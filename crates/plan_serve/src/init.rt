@@ -33,8 +33,8 @@ pub trait Place: Drop {
         ensures which { IfErr result (λ fault. (fault ≡ NoMemory) ⊎ (fault ≡ Store)) };
 }
 
-// The fault of a command from the fault of its store, if the connection was returned: the tables of
-// an office are distinguished from other tables.
+// The fault of a command from the fault of its store, if the connection was returned. It
+// distinguishes the tables of an office from other tables.
 fn init_fault<S: Alter>(fault: StoreFault, conn: &Connection<S>) -> ServeFault
     ensures { IsTold fault (state S.Store conn.now).now result }
 {
