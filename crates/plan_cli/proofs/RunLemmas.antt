@@ -100,7 +100,7 @@ table_front file text (p, says, table) = (p, project_front file p says, table)
 line_front : HoldsByFront TellsFirstFailing
 line_front file line (first, failing, e) = (first, failing_front file first failing, e)
 
--- what is written for the front of a file is written for the file
+-- the output for the front of a file is the output for the file
 writes_front : (IsText IsLine : List ℕ → List ℕ → Type 0) (file : List ℕ) (taken after : Option (List ℕ))
     (r : Result (Unit {0}) CliFault)
     → HoldsByFront IsText → HoldsByFront IsLine
@@ -112,7 +112,7 @@ writes_front IsText IsLine file taken after (Err cli.Memory) texts lines same = 
 writes_front IsText IsLine file taken after (Err cli.Input) texts lines same = same
 writes_front IsText IsLine file taken after (Err cli.Output) texts lines (text, n, is, part, took) = (text, n, texts file text is, part, took)
 
--- what is written for the bytes that were read is written for the whole file
+-- the output for the bytes that were read is the output for the whole file
 pub writes_known : (IsText IsLine : List ℕ → List ℕ → Type 0) (known : Option (List ℕ)) (read front : List ℕ)
     (taken after : Option (List ℕ)) (r : Result (Unit {0}) CliFault)
     → HoldsByFront IsText → HoldsByFront IsLine → front ≡ read
@@ -290,7 +290,7 @@ plain_front file = by_length (cases_lt longest_text (length file))
 not_plain_front : HoldsByFront TellsNotPlain
 not_plain_front file line (first, (failing, none), e) = (first, (sym (plain_front file) ∙ failing, none), e)
 
--- the reported error is why the file isn't plain
+-- the reported error is the reason why the file isn't plain
 pub told_not_plain : (file : List ℕ) (first : FileFault) (e : CliFault)
     → IsWantOfMemory first ⊎ reading.FailsWith (plain file) first → Refuses (Tells first) e
     → Refuses (TellsNotPlain file) e

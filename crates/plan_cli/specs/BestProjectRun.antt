@@ -1,4 +1,4 @@
--- What `plan best-project` writes for the bytes that it reads (docs/definitions.md, "Runs").
+-- The output of `plan best-project` for the bytes that it reads (docs/definitions.md, "Runs").
 use Rattle.std.specs.Prelude.{◌≡◌, ◌⊎◌, ℕ, List}
 use Rattle.plan_psplib.specs.Project.{Project, SaysProject}
 use Rattle.plan_sgs.specs.Instances.{Planned}
@@ -10,18 +10,18 @@ use Rattle.plan_gantt.specs.ProjectBestText.{IsBestProjectTextOf, TellsBestProje
 use Rattle.plan_gantt.specs.ExactFaultText.{exact_fault_text_of}
 use Rattle.plan_cli.specs.ScheduleRun.{as_available}
 
--- a text tells the best schedule of the project in a file, within the budget that an argument
--- spells and with the capacities of the file
+-- a text shows the best schedule of the project in a file, within the budget of an argument and
+-- with the capacities of the file
 abbrev pub IsBestProjectTableOf : List ℕ → List ℕ → List ℕ → Type 0
 IsBestProjectTableOf argument file text =
     (p : Project) × SaysProject file p × IsBestProjectTextOf argument (as_available p) text
 
--- a line tells the first check that a file fails, or else why its project is refused
+-- a line gives the first check that a file fails, or else the refusal of its project
 abbrev pub TellsWhyNoBestProject : List ℕ → List ℕ → List ℕ → Type 0
 TellsWhyNoBestProject argument file line = TellsFirstFailing file line
     ⊎ ((p : Project) × SaysProject file p × TellsBestProjectRefusal argument (as_available p) line)
 
--- a line tells why a search within a budget is refused
+-- a line gives the refusal of a search within a budget
 abbrev pub TellsSearchRefusal : ℕ → Planned → List ℕ → Type 0
 TellsSearchRefusal budget i line =
     (first : ExactFault) × (first ≡ exact.NoMemory → ⊥) × RefusesProject i budget first

@@ -1,4 +1,4 @@
--- What `plan best` writes for the bytes that it reads (docs/definitions.md, "Runs").
+-- The output of `plan best` for the bytes that it reads (docs/definitions.md, "Runs").
 use Rattle.std.specs.Prelude.{◌≡◌, ◌⊎◌, ℕ, List}
 use Rattle.plan_orlib.specs.Shop as docs
 use Rattle.plan_orlib.specs.Says.{Says}
@@ -11,22 +11,22 @@ use Rattle.plan_gantt.specs.FirstFaults.{TellsFirstShopFault}
 use Rattle.plan_gantt.specs.ShopBestText.{IsBestTextOf, TellsBestRefusal}
 use Rattle.plan_gantt.specs.ExactFaultText.{exact_fault_text_of}
 
--- a text tells the best schedule of an instance in a file
+-- a text shows the best schedule of an instance in a file
 abbrev pub IsBestTableOf : List ℕ → List ℕ → List ℕ → List ℕ → Type 0
 IsBestTableOf argument instance file text =
     (doc : docs.Shop) × Says instance file doc × IsBestTextOf argument (shop_of doc) text
 
--- a line tells the first check that a file fails, or else why its shop is refused
+-- a line gives the first check that a file fails, or else the refusal of its shop
 abbrev pub TellsWhyNoBest : List ℕ → List ℕ → List ℕ → List ℕ → Type 0
 TellsWhyNoBest argument instance file line = TellsFirstShopFault instance file line
     ⊎ ((doc : docs.Shop) × Says instance file doc × TellsBestRefusal argument (shop_of doc) line)
 
--- a line tells why a search within a budget is refused
+-- a line gives the refusal of a search within a budget
 abbrev pub TellsSolvingRefusal : ℕ → JobShop → List ℕ → Type 0
 TellsSolvingRefusal budget s line =
     (first : ExactFault) × (first ≡ exact.NoMemory → ⊥) × RefusesSolving s budget first
     × (line ≡ exact_fault_text_of first)
 
--- a line tells the error of a search, which isn't that of memory
+-- a line gives the error of a search, which isn't that of memory
 abbrev pub TellsSolving : ExactFault → List ℕ → Type 0
 TellsSolving first line = (first ≡ exact.NoMemory → ⊥) × (line ≡ exact_fault_text_of first)

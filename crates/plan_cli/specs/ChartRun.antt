@@ -1,4 +1,4 @@
--- What `plan chart` writes for the bytes that it reads (docs/definitions.md, "Runs").
+-- The output of `plan chart` for the bytes that it reads (docs/definitions.md, "Runs").
 use Rattle.std.specs.Prelude.{◌≡◌, ℕ, List}
 use Rattle.plan_net.specs.Network.{count_of}
 use Rattle.plan_psplib.specs.Project.{Project, SaysProject}
@@ -15,8 +15,8 @@ use Rattle.plan_gantt.specs.ShopCharts.{machine_intervals}
 use Rattle.plan_cli.specs.ScheduleRun.{as_available}
 use Rattle.plan_cli.specs.Scheduled.{IsScheduleBy, IsShopScheduleBy}
 
--- a text is the chart of an instance's schedule by the rule with this name: a line for each
--- activity, from 1 on
+-- a text is the chart of an instance's schedule by the rule with this name: one line for each
+-- activity, numbered from 1
 pub record IsChartBy (name : List ℕ) (i : Planned) (text : List ℕ) : Type 0 where
   pub starts : List ℕ
   pub schedule : IsScheduleBy name i starts
@@ -28,8 +28,8 @@ abbrev pub IsChartOf : List ℕ → List ℕ → List ℕ → Type 0
 IsChartOf name file text =
     (p : Project) × SaysProject file p × IsChartBy name (as_available p) text
 
--- a text is the chart of a shop's schedule by the rule with this name: a line for each machine,
--- from 0 on
+-- a text is the chart of a shop's schedule by the rule with this name: one line for each machine,
+-- numbered from 0
 pub record IsShopChartBy (name : List ℕ) (s : JobShop) (text : List ℕ) : Type 0 where
   pub starts : List ℕ
   pub schedule : IsShopScheduleBy name s starts

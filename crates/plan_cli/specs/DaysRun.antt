@@ -1,4 +1,4 @@
--- What `plan days` writes for the bytes that it reads (docs/definitions.md, "Runs").
+-- The output of `plan days` for the bytes that it reads (docs/definitions.md, "Runs").
 use Rattle.std.specs.Prelude.{◌≡◌, ◌⊎◌, ℕ, List}
 use Rattle.plan_psplib.specs.Project.{Project, SaysProject}
 use Rattle.plan_orlib.specs.Shop as docs
@@ -25,26 +25,26 @@ use Rattle.plan_cli.specs.Scheduled.{IsScheduleBy, IsShopScheduleBy}
 abbrev pub ShowsDays : List ℕ → List ℕ → (Workdays → List ℕ → Type 0) → List ℕ → Type 0
 ShowsDays start marks IsTable text = (c : Workdays) × IsCalendar start marks c × IsTable c text
 
--- a line tells why two texts spell no calendar
+-- a line gives the reason why two texts spell no calendar
 abbrev pub TellsNoCalendar : List ℕ → List ℕ → List ℕ → Type 0
 TellsNoCalendar start marks line =
     (first : CalendarFault) × RefusesTexts start marks first × (line ≡ calendar_fault_text_of first)
 
--- a line tells that a day of the table is beyond the calendar
+-- a line reports that a day of the table is beyond the calendar
 abbrev pub TellsBeyond : Type 0 → List ℕ → Type 0
 TellsBeyond HasBeyond line = HasBeyond × (line ≡ calendar_fault_text_of fault.BeyondCalendar)
 
--- a line tells why no days are shown: the texts spell no calendar, or else a day is beyond it
+-- a line refuses a table of days: the texts spell no calendar, or else a day is beyond it
 abbrev pub TellsNoDays : List ℕ → List ℕ → (Workdays → Type 0) → List ℕ → Type 0
 TellsNoDays start marks HasBeyond line =
     TellsNoCalendar start marks line
     ⊎ ((c : Workdays) × IsCalendar start marks c × TellsBeyond (HasBeyond c) line)
 
--- a line tells the error of a calendar
+-- a line gives the error of a calendar
 abbrev pub TellsCalendarFault : CalendarFault → List ℕ → Type 0
 TellsCalendarFault first line = line ≡ calendar_fault_text_of first
 
--- a line tells the error of a table of days, which isn't that of memory
+-- a line gives the error of a table of days, which isn't that of memory
 abbrev pub TellsDaysFault : DaysFault → List ℕ → Type 0
 TellsDaysFault first line =
     (first ≡ days.BeyondCalendar) × (line ≡ calendar_fault_text_of fault.BeyondCalendar)
@@ -60,18 +60,18 @@ abbrev pub IsDaysOf : List ℕ → List ℕ → List ℕ → List ℕ → List �
 IsDaysOf name start marks file text =
     (p : Project) × SaysProject file p × IsDaysBy name start marks (as_available p) text
 
--- a line tells why the days of an instance's schedule aren't shown, by its schedule
+-- a line refuses the days of an instance's schedule, by its schedule
 pub record HidesDays (name start marks : List ℕ) (i : Planned) (line : List ℕ) : Type 0 where
   pub starts : List ℕ
   pub schedule : IsScheduleBy name i starts
   pub hidden : TellsNoDays start marks (λ c. HasActivityBeyond c i.project.network starts) line
 
--- a line tells why an instance is refused, or else why the days of its schedule aren't shown
+-- a line refuses an instance, or else the days of its schedule
 abbrev pub TellsNoProjectDays : List ℕ → List ℕ → List ℕ → Planned → List ℕ → Type 0
 TellsNoProjectDays name start marks i line =
     TellsRefusal name i line ⊎ HidesDays name start marks i line
 
--- a line tells the first check that a file fails, or else why there are no days of its project
+-- a line gives the first check that a file fails, or else refuses the days of its project
 abbrev pub TellsWhyNoDays : List ℕ → List ℕ → List ℕ → List ℕ → List ℕ → Type 0
 TellsWhyNoDays name start marks file line = TellsFirstFailing file line
     ⊎ ((p : Project) × SaysProject file p
@@ -88,18 +88,18 @@ abbrev pub IsShopDaysOf : List ℕ → List ℕ → List ℕ → List ℕ → Li
 IsShopDaysOf name start marks instance file text =
     (doc : docs.Shop) × Says instance file doc × IsShopDaysBy name start marks (shop_of doc) text
 
--- a line tells why the days of a shop's schedule aren't shown, by its schedule
+-- a line refuses the days of a shop's schedule, by its schedule
 pub record HidesShopDays (name start marks : List ℕ) (s : JobShop) (line : List ℕ) : Type 0 where
   pub starts : List ℕ
   pub schedule : IsShopScheduleBy name s starts
   pub hidden : TellsNoDays start marks (λ c. HasStepBeyond c s starts) line
 
--- a line tells that no rule has this name, or else why the days of a shop's schedule aren't shown
+-- a line reports that no rule has this name, or else refuses the days of a shop's schedule
 abbrev pub TellsNoShopDays : List ℕ → List ℕ → List ℕ → JobShop → List ℕ → Type 0
 TellsNoShopDays name start marks s line =
     TellsNoRule name line ⊎ HidesShopDays name start marks s line
 
--- a line tells the first check that a file fails, or else why there are no days of its shop
+-- a line gives the first check that a file fails, or else refuses the days of its shop
 abbrev pub TellsWhyNoShopDays : List ℕ → List ℕ → List ℕ → List ℕ → List ℕ → List ℕ → Type 0
 TellsWhyNoShopDays name start marks instance file line = TellsFirstShopFault instance file line
     ⊎ ((doc : docs.Shop) × Says instance file doc

@@ -1,4 +1,4 @@
--- What `plan explain` writes for an error line (docs/definitions.md, "Runs").
+-- The output of `plan explain` for an error line (docs/definitions.md, "Runs").
 use Rattle.std.specs.Prelude.{◌≡◌, ◌++◌, ℕ, Bool, true, false, List, [], ◌∷◌, Option, Some, None}
 use Rattle.std.specs.Prelude.{MatchOption, map, drop, codes}
 use Rattle.std.specs.Char.{to_ascii_uppercase}
@@ -44,7 +44,7 @@ ExplainsTokens tokens text = (code : Code) × (carried : Option Code)
 abbrev pub Explains : List ℕ → List ℕ → Type 0
 Explains line text = ExplainsTokens (tokens_of line) text
 
--- a line tells that an error line starts with no code
+-- a line reports that an error line starts with no code
 abbrev pub TellsNoCode : List ℕ → List ℕ → Type 0
 TellsNoCode text line =
     StartsWithCode (tokens_of text) None × (line ≡ codes "C1 unknown code")

@@ -1,4 +1,4 @@
--- What `plan names` writes for the bytes that it reads (docs/definitions.md, "Runs").
+-- The output of `plan names` for the bytes that it reads (docs/definitions.md, "Runs").
 use Rattle.std.specs.Prelude.{◌≡◌, ℕ, List, ◌++◌, Ok, codes}
 use Rattle.std.specs.List.{flat_map}
 use Rattle.plan_psplib.specs.Plain.{plain}
@@ -15,7 +15,7 @@ name_lines names = flat_map (λ name. name ++ codes "\n") names
 abbrev pub AreNamesOf : List ℕ → List ℕ → Type 0
 AreNamesOf file text = (plain file ≡ Ok tt) × (text ≡ name_lines (names_of file))
 
--- a line tells why a file isn't plain
+-- a line gives the reason why a file isn't plain
 abbrev pub TellsNotPlain : List ℕ → List ℕ → Type 0
 TellsNotPlain file line =
     (first : FileFault) × FailsWith (plain file) first × (line ≡ file_fault_text_of first)

@@ -5,8 +5,8 @@ use Rattle.plan_shop.specs.Shop.{JobShop}
 use Rattle.plan_prove.specs.declared.proof.Proof.{Proof}
 use Rattle.plan_gantt.specs.ShopTable.{shop_table_text}
 
--- a line tells that a makespan is the least because the lower bound reaches it, or else the two
--- numbers between which the least makespan lies
+-- a line reports that a makespan is the least because the lower bound reaches it, or else gives the
+-- two bounds of the least makespan
 abbrev pub IsBoundLine : ℕ → ℕ → List ℕ → Type 0
 IsBoundLine lower makespan line =
     ((lower ≡ makespan) × (line ≡ codes "optimal " ++ decimal makespan ++ codes "\n"))

@@ -1,4 +1,4 @@
--- What a command writes for the bytes that it reads (docs/definitions.md, "Runs").
+-- The output of a command for the bytes that it reads (docs/definitions.md, "Runs").
 use Rattle.std.specs.Prelude.{◌≡◌, ◌⊎◌, ℕ, ◌+◌, ◌≤◌, ◌<◌, List, Option, Result, Ok, Err}
 use Rattle.std.specs.Prelude.{String, IfSome, IfOk, IfErr, IsErrOf, OnOk, length, take}
 use Rattle.std.specs.Prelude.{string_bytes}
@@ -24,8 +24,9 @@ IfText result IsText = IfOk result (λ text. IsText (string_bytes text))
 abbrev pub IsDateTableOf : List ℕ → List ℕ → Type 0
 IsDateTableOf file text = (p : Project) × SaysProject file p × IsDateText p.network text
 
--- what a sink has taken after a run: the whole text; or nothing, if the file or an argument is
--- refused, memory runs out or the input fails; or a shorter front of the text, if the output fails
+-- The bytes that a sink has taken after a run: the whole text. It has taken nothing if the file or
+-- an argument is refused, memory runs out or the input fails. It has taken a shorter front of the
+-- text if the output fails.
 abbrev pub Writes : (List ℕ → Type 0) → (List ℕ → Type 0) → Option (List ℕ) → Option (List ℕ)
     → Result (Unit {0}) CliFault → Type 0
 Writes IsText IsLine taken after (Ok _) = (text : List ℕ) × IsText text × Appends taken after text
@@ -42,9 +43,8 @@ JudgesFront remaining rest Does = (front : List ℕ) × (length front ≤ longes
     × IfSome remaining (λ file. front ≡ take (longest_text + 1) file)
     × Consumes remaining rest front × Does front
 
--- unless the input fails or memory runs out, a run writes for the bytes that it read. IsText
--- relates a file to the texts that are written for it, IsLine to the lines that tell why it is
--- refused
+-- Unless the input fails or memory runs out, a run writes for the bytes that it read. IsText
+-- relates a file to the texts that are written for it, IsLine to the lines that refuse it.
 abbrev pub ReadsFront : (List ℕ → List ℕ → Type 0) → (List ℕ → List ℕ → Type 0)
     → Option (List ℕ) → Option (List ℕ) → Option (List ℕ) → Option (List ℕ)
     → Result (Unit {0}) CliFault → Type 0
@@ -60,7 +60,7 @@ Refuses IsLine fault.Memory = Unit {0}
 Refuses IsLine fault.Input = ⊥
 Refuses IsLine fault.Output = ⊥
 
--- a line tells the error of a file, which isn't that of memory
+-- a line gives the error of a file, which isn't that of memory
 abbrev pub Tells : FileFault → List ℕ → Type 0
 Tells first line = (first.code ≡ code.Memory → ⊥) × (line ≡ file_fault_text_of first)
 
@@ -78,7 +78,7 @@ module _ {W : Type 0} (sink : sinks.Ghosts W) where
       HasFailed (sink.calls writer) (sink.calls after) (sink.faults writer) (sink.faults after)
 
 -- The effect of a run on its reader and its writer. IsText relates a file to the texts that are
--- written for it, IsLine to the lines that tell why it is refused.
+-- written for it, IsLine to the lines that refuse it.
 module _ {R W : Type 0} (source : sources.Ghosts R) (sink : sinks.Ghosts W)
     (IsText IsLine : List ℕ → List ℕ → Type 0) where
   pub record Runs (reader reader_after : R) (writer writer_after : W)

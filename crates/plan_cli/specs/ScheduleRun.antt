@@ -1,4 +1,4 @@
--- What `plan schedule` writes for the bytes that it reads (docs/definitions.md, "Runs").
+-- The output of `plan schedule` for the bytes that it reads (docs/definitions.md, "Runs").
 use Rattle.std.specs.Prelude.{◌≡◌, ◌⊎◌, ℕ, List}
 use Rattle.plan_psplib.specs.Project.{Project, SaysProject}
 use Rattle.plan_sgs.specs.Instances.{Planned, planned, RefusesInstance}
@@ -17,16 +17,16 @@ abbrev pub IsScheduleTableOf : List ℕ → List ℕ → List ℕ → Type 0
 IsScheduleTableOf name file text =
     (p : Project) × SaysProject file p × IsScheduleTextOf name (as_available p) text
 
--- a line tells the first check that a file fails, or else why its project is refused
+-- a line gives the first check that a file fails, or else the refusal of its project
 abbrev pub TellsWhyNoSchedule : List ℕ → List ℕ → List ℕ → Type 0
 TellsWhyNoSchedule name file line = TellsFirstFailing file line
     ⊎ ((p : Project) × SaysProject file p × TellsRefusal name (as_available p) line)
 
--- a line tells the first need of an instance that is above its capacity
+-- a line gives the first need of an instance that is above its capacity
 abbrev pub TellsNeed : Planned → List ℕ → Type 0
 TellsNeed i line =
     (first : SgsFault) × RefusesInstance i first × (line ≡ schedule_fault_text_of first)
 
--- a line tells the error of a schedule
+-- a line gives the error of a schedule
 abbrev pub TellsSchedule : SgsFault → List ℕ → Type 0
 TellsSchedule first line = line ≡ schedule_fault_text_of first

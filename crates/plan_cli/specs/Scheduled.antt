@@ -41,7 +41,7 @@ pub record IsMadeBy (rule : Rule) (i : Planned) (schedule : Schedule) : Type 0 w
   pub makespan : schedule.makespan ≡ makespan (problem_of i) schedule.starts.items
   pub fits : CanBeShown (count_of i.project.network) schedule
 
--- the same, by the rule of a name
+-- the same, by the rule with this name
 abbrev pub IsMade : List ℕ → Planned → Schedule → Type 0
 IsMade name i schedule = (rule : Rule) × (name ≡ rule_text rule) × IsMadeBy rule i schedule
 
@@ -52,7 +52,7 @@ pub record IsMadeOfShopBy (rule : ShopRule) (s : JobShop) (schedule : Schedule) 
   pub makespan : schedule.makespan ≡ makespan (shops.problem_of s) schedule.starts.items
   pub fits : CanBeShown (count_steps s) schedule
 
--- the same, by the rule of a name
+-- the same, by the rule with this name
 abbrev pub IsMadeOfShop : List ℕ → JobShop → Schedule → Type 0
 IsMadeOfShop name s schedule =
     (rule : ShopRule) × (name ≡ shop_names.rule_text rule) × IsMadeOfShopBy rule s schedule

@@ -1,4 +1,4 @@
--- What `plan shop` writes for the bytes that it reads (docs/definitions.md, "Runs").
+-- The output of `plan shop` for the bytes that it reads (docs/definitions.md, "Runs").
 use Rattle.std.specs.Prelude.{◌≡◌, ◌⊎◌, ℕ, List}
 use Rattle.plan_orlib.specs.Shop as docs
 use Rattle.plan_orlib.specs.Says.{Says}
@@ -14,12 +14,12 @@ abbrev pub IsShopTableOf : List ℕ → List ℕ → List ℕ → List ℕ → T
 IsShopTableOf name instance file text =
     (doc : docs.Shop) × Says instance file doc × IsShopTextOf name (shop_of doc) text
 
--- a line tells the first check that a file fails, or else that no rule has this name: all machines
--- are open
+-- a line gives the first check that a file fails, or else reports that no rule has this name: all
+-- machines are open
 abbrev pub TellsWhyNoShop : List ℕ → List ℕ → List ℕ → List ℕ → Type 0
 TellsWhyNoShop name instance file line = TellsFirstShopFault instance file line
     ⊎ ((doc : docs.Shop) × Says instance file doc × TellsNoRule name line)
 
--- a line tells the error of a shop, which isn't that of memory
+-- a line gives the error of a shop, which isn't that of memory
 abbrev pub TellsShop : ShopFault → List ℕ → Type 0
 TellsShop first line = (first ≡ shops.NoMemory → ⊥) × (line ≡ shop_fault_text_of first)

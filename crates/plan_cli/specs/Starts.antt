@@ -43,11 +43,11 @@ starts_in count text = do
 abbrev pub starts_fault_text_of : FileFault → List ℕ
 starts_fault_text_of first = file_fault_text_of first ++ codes " of the starts"
 
--- a line tells the error of a text of starts, which isn't that of memory
+-- a line gives the error of a text of starts, which isn't that of memory
 abbrev pub TellsStarts : FileFault → List ℕ → Type 0
 TellsStarts first line = (first.code ≡ code.Memory → ⊥) × (line ≡ starts_fault_text_of first)
 
--- a line tells the first check that a text of `count` starts fails
+-- a line gives the first check that a text of `count` starts fails
 abbrev pub TellsNoStarts : ℕ → List ℕ → List ℕ → Type 0
 TellsNoStarts count text line =
     (first : FileFault) × FailsWith (starts_in count text) first

@@ -36,7 +36,7 @@ IsTextOf (task.Best budget instance) = IsBestTableOf budget.now instance.now
 IsTextOf (task.Prove nodes instance) = IsProofTableOf nodes.now instance.now
 IsTextOf (task.BestProject budget) = IsBestProjectTableOf budget.now
 
--- the lines that tell why a task refuses a file
+-- the lines with which a task refuses a file
 abbrev pub IsLineOf : Task → List ℕ → List ℕ → Type 0
 IsLineOf task.Dates = TellsFirstFailing
 IsLineOf (task.Schedule rule) = TellsWhyNoSchedule rule.now
@@ -52,8 +52,8 @@ IsLineOf (task.Best budget instance) = TellsWhyNoBest budget.now instance.now
 IsLineOf (task.Prove nodes instance) = TellsWhyNoProof nodes.now instance.now
 IsLineOf (task.BestProject budget) = TellsWhyNoBestProject budget.now
 
--- unless the input fails or memory runs out, a task writes its text or line for the bytes that were
--- read, the first of the file if its bytes are known
+-- Unless the input fails or memory runs out, a task writes its text or line for the bytes that were
+-- read. If the bytes of the file are known, these are the first of them.
 abbrev pub DoesTask : Task → Option (List ℕ) → Option (List ℕ) → Option (List ℕ)
     → Result (Unit {0}) CliFault → Type 0
 DoesTask task file taken after result =
@@ -65,8 +65,8 @@ DoesTask task file taken after result =
 abbrev pub AreRead : List ℕ → Option (List ℕ) → Type 0
 AreRead read file = IfSome file (λ bytes. read ≡ take (longest_text + 1) bytes)
 
--- unless the input fails or memory runs out, the verdict is on the bytes of starts that were read,
--- at most one more than the longest text has, for the bytes of a project that were read
+-- Unless the input fails or memory runs out, the verdict is on the starts that were read, for the
+-- project that was read. At most one byte more than the longest text is read.
 abbrev pub DoesCheck : Option (List ℕ) → Option (List ℕ) → Option (List ℕ) → Option (List ℕ)
     → Result (Unit {0}) CliFault → Type 0
 DoesCheck starts file taken after (Err fault.Memory) = Unit {0}

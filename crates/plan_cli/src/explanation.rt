@@ -78,11 +78,11 @@ fn explanation_text(alloc: Global, line: &str) -> Result<String, CliFault>
     Ok(explanation(alloc, code, carried_code(code, tokens))?)
 }
 
-/// Writes the entry of the code that starts an error line, such as `F9 line 31`, in capitals or
-/// not: the form of its line, the meaning and the remedy, each on its own line. If the line carries
-/// another error, such as `E10 F9 line 31`, an empty line and the entry of that one follow. Any
-/// other text is refused with `C1`, and nothing is written. A call of the writer that fails isn't
-/// repeated.
+/// Writes the entry of the code that starts an error line such as `F9 line 31`, in capitals or not.
+/// An entry has the form of the line, the meaning and the remedy, each on its own line. If the line
+/// carries another error, such as `E10 F9 line 31`, an empty line and the entry of that one follow.
+/// Any other text is refused with `C1`, and nothing is written. A call of the writer that fails
+/// isn't repeated.
 pub fn explain_run<W: Sink>(alloc: Global, line: &str, writer: &mut W) -> Result<(), CliFault>
     ensures writes { W.calls writer.new ≤ W.calls writer.old + most_calls }
     // The explanation if there is one, else nothing; a part of it if the output fails.

@@ -25,9 +25,9 @@ fn hint_of(alloc: Global, file: Option<&str>, code: Code) -> Result<String, Allo
 }
 
 /// Returns the hint for an error line, such as
-/// `hint: house.sm: job numbers out of order; see: plan explain F7` for the line `F7 line 21`: the
-/// name of the file, if one is given, the likely cause in a few words, and the command that explains
-/// the code. A line that starts with no code has no hint.
+/// `hint: house.sm: job numbers out of order; see: plan explain F7` for the line `F7 line 21`. A
+/// hint has the name of the file, if one is given, the likely cause in few words, and the command
+/// that explains the code. A line that starts with no code has no hint.
 pub fn hint(alloc: Global, file: Option<&str>, line: &str) -> Result<Option<String>, AllocError>
     ensures { IfOk result (spec.IsHintOf (option_map (λ name. name.now) file.entry) line.now) }
 {

@@ -3,7 +3,7 @@
 use crate::tasks::Task;
 use clap::ArgMatches;
 
-/// What the arguments ask of files.
+/// An order on files.
 #[derive(Clone, Copy)]
 pub enum FileOrder<'a> {
     /// A task on the file with this name.
@@ -38,23 +38,23 @@ impl<'a> FileOrder<'a> {
     }
 }
 
-/// What the arguments ask of an office in a file.
+/// An order on an office in a file.
 #[derive(Clone, Copy)]
 pub enum OfficeOrder<'a> {
-    /// Make a new office.
+    /// Creates a new office.
     Init {
         database: &'a str,
     },
-    /// Count the rows and print their digest.
+    /// Counts the rows and prints their digest.
     Check {
         database: &'a str,
     },
-    /// Answer the connections in files, one in each.
+    /// Prints the responses to the connections in files, one in each.
     Replay {
         database: &'a str,
         requests: &'a [&'a str],
     },
-    /// Serve connections.
+    /// Serves connections.
     Serve {
         database: &'a str,
         /// The port on 127.0.0.1.
@@ -84,7 +84,7 @@ impl<'a> OfficeOrder<'a> {
     }
 }
 
-/// What the arguments ask for.
+/// An order of the command line.
 pub enum Order<'a> {
     File(FileOrder<'a>),
     Office(OfficeOrder<'a>),

@@ -49,7 +49,7 @@ fn proof_table(alloc: Global, shop: &Shop, proof: &Proof) -> Result<String, Allo
     Ok(text)
 }
 
-// Returns what a search of at most so many nodes proves of a job shop.
+// Returns the text of the proof for a job shop, found by a search of at most `nodes` nodes.
 fn proved_text<V: Watcher>(
     alloc: Global,
     nodes: u64,
@@ -74,7 +74,7 @@ fn no_nodes(alloc: Global) -> CliFault
     refusal_by("S7 nodes".to_string(alloc))
 }
 
-// Returns what is proved of a file's job shop.
+// Returns the text of the proof for a file's job shop.
 fn doc_text<V: Watcher>(
     alloc: Global,
     nodes: &str,
@@ -89,8 +89,8 @@ fn doc_text<V: Watcher>(
     proved_text(alloc, nodes, &shop, watcher)
 }
 
-/// Returns what is proved of an instance in a job shop file. The watcher is called during the
-/// search.
+/// Returns the text of the proof for an instance in a job shop file. The watcher is called during
+/// the search.
 pub(crate) fn proof_text<V: Watcher>(
     alloc: Global,
     nodes: &str,

@@ -33,8 +33,8 @@ fn solved_shop_text(alloc: Global, budget: u64, shop: &Shop) -> Result<String, C
     }
 }
 
-// Returns the text of the best schedule of a file's job shop. An argument that spells no budget is
-// refused as 0 is, so the shop's size is tested first.
+// Returns the text of the best schedule of a file's job shop. An argument that isn't a budget is
+// handled like 0, so the shop's size is tested first.
 fn doc_text(alloc: Global, budget: &str, doc: &ShopDoc) -> Result<String, CliFault>
     ensures made { IfText result (IsBestTextOf budget.now (shop_of doc.now)) }
     ensures refused { IfErr result (Refuses (TellsBestRefusal budget.now (shop_of doc.now))) }
@@ -69,8 +69,8 @@ fn solved_text(alloc: Global, budget: u64, instance: &Instance) -> Result<String
     }
 }
 
-// Returns the same within the budget that an argument spells. One that spells no budget is refused
-// as 0 is, so the project's size is tested first.
+// Returns the same within the budget that an argument spells. An argument that isn't a budget is
+// handled like 0, so the project's size is tested first.
 fn instance_text(alloc: Global, budget: &str, instance: &Instance) -> Result<String, CliFault>
     ensures made { IfText result (IsBestProjectTextOf budget.now instance.now) }
     ensures refused { IfErr result (Refuses (TellsNoBestProject budget.now instance.now)) }

@@ -15,17 +15,18 @@ use crate::verdicts::check_text;
 use plan_prove::Watcher;
 use std::alloc::Global;
 
-/// What to print of a project file or of an instance in a job shop file.
+/// A text to print for a project file or for an instance in a job shop file.
 ///
 /// A rule and an instance are given by their names; `-` is the one instance of a file without
 /// names. A project is scheduled with the capacities of its file, a job shop with all machines
 /// open.
 #[derive(Clone, Copy, Debug, Drop)]
 pub enum Task<'a> {
-    /// The date table of a project.
+    /// The date table of a project (critical path method, Kelley and Walker 1959).
     Dates,
-    /// The schedule table of a project by a rule: `lft`, `slk`, `spt`, `mts` or `num`. Errors of
-    /// the schedule: `S1` (a need above the capacity), `S3` (unknown rule).
+    /// The schedule table of a project by a rule: `lft`, `slk`, `spt`, `mts` or `num` (serial
+    /// schedule generation, Kelley 1963; rules, Kolisch 1996). Errors of the schedule: `S1` (a need
+    /// above the capacity), `S3` (unknown rule).
     Schedule {
         rule: &'a str,
     },
@@ -55,18 +56,19 @@ pub enum Task<'a> {
         marks: &'a str,
         instance: &'a str,
     },
-    /// The names of the instances in a job shop file, one on each line, in the order of the file;
-    /// a name that occurs twice is written twice, and other tasks read the first. The only errors
-    /// of the file are `F1` (its length) and `F2` (a zero byte).
+    /// The names of the instances in a job shop file, one on each line, in the order of the file. A
+    /// name that occurs twice is written twice, and other tasks read the first instance. The only
+    /// errors of the file are `F1` (its length) and `F2` (a zero byte).
     Names,
-    /// The first fault in starts of a project, in a sentence, or `active`: a broken arc, else a
-    /// capacity that is exceeded, else an activity that can start earlier by itself. The starts
-    /// are a text of one number for each activity in order, 0–10,000,000. Errors: `S1`, then those
-    /// of the starts (`F1`, `F2`, `F6`, `F9`, `F10`), whose line ends with `of the starts`.
+    /// The first fault in starts of a project, in a sentence, or `active`. The faults in order: a
+    /// broken arc, a capacity that is exceeded, an activity that can start earlier by itself. The
+    /// starts are a text of one number for each activity in order, 0–10,000,000. Errors: `S1`, then
+    /// those of the starts (`F1`, `F2`, `F6`, `F9`, `F10`), whose line ends with `of the starts`.
     Check {
         starts: &'a [u8],
     },
-    /// The schedule table of a job shop by a rule: `spt`, `mwkr` or `fcfs`. Error: `S3`.
+    /// The schedule table of a job shop by a rule: `spt`, `mwkr` or `fcfs` (Giffler and Thompson
+    /// 1960). Error: `S3`.
     Shop {
         rule: &'a str,
         instance: &'a str,
@@ -78,9 +80,10 @@ pub enum Task<'a> {
         budget: &'a str,
         instance: &'a str,
     },
-    /// A schedule of a job shop and what a search of at most so many nodes, 1–1,000,000,000,
-    /// proves of it: `optimal` with the makespan, or `between` with a lower bound of all makespans
-    /// and the makespan; then the schedule table. Error: `S7` (the number of nodes).
+    /// A schedule of a job shop and a lower bound of its least makespan, which a search of at most
+    /// this many nodes finds. The number of nodes is 1–1,000,000,000. The first line is `optimal`
+    /// with the makespan, or `between` with the lower bound and the makespan. The schedule table
+    /// follows. Error: `S7` (the number of nodes).
     Prove {
         nodes: &'a str,
         instance: &'a str,
