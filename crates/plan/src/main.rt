@@ -19,7 +19,7 @@ use std::env;
 use std::io::{self, IsTerminal};
 use std::process::ExitCode;
 
-/// Why no command starts.
+/// The reason why no command starts.
 #[derive(Drop)]
 enum Misuse {
     NoMemory,
@@ -35,7 +35,7 @@ impl From<AllocError> for Misuse {
     }
 }
 
-// Does what the arguments ask of an office.
+// Runs an order on an office.
 fn do_office_order(rt: &HostRuntime, order: OfficeOrder<'_>) -> Result<(), ServeFault> {
     match order {
         OfficeOrder::Init { database } => init_on_file(rt, database),
@@ -66,7 +66,7 @@ fn do_office_order(rt: &HostRuntime, order: OfficeOrder<'_>) -> Result<(), Serve
     }
 }
 
-// Does what the arguments ask of files, and writes to standard output.
+// Runs an order on files, and writes to standard output.
 fn do_file_order(rt: &HostRuntime, order: FileOrder<'_>) -> Result<(), CliFault> {
     let mut writer = StdSink::new(io::writer(rt));
     match order {
@@ -82,7 +82,7 @@ fn do_file_order(rt: &HostRuntime, order: FileOrder<'_>) -> Result<(), CliFault>
     }
 }
 
-// Whether hints are printed: as PLAN_HINTS says, else if standard error is a terminal.
+// Whether hints are printed: PLAN_HINTS decides if it is 1 or 0, else they are for a terminal only.
 fn has_hints(rt: &HostRuntime) -> bool {
     if let Ok(asked) = env::var(rt, "PLAN_HINTS") {
         match asked.as_str() {
@@ -94,7 +94,7 @@ fn has_hints(rt: &HostRuntime) -> bool {
     rt.stderr().is_terminal()
 }
 
-// Prints an error line and, if wanted, the hint for it, and returns the status 1.
+// Prints an error line and, if hints are printed, its hint. Returns the status 1.
 fn print_error(rt: &HostRuntime, file: Option<&str>, line: &str) -> u8 {
     let _ = eprintln!(rt; "{line}");
     if has_hints(rt)
@@ -105,7 +105,7 @@ fn print_error(rt: &HostRuntime, file: Option<&str>, line: &str) -> u8 {
     1
 }
 
-// Does what the arguments ask for, and returns the status.
+// Runs an order, and returns the status.
 fn do_order(rt: &HostRuntime, order: Order<'_>) -> Result<u8, Misuse> {
     match order {
         Order::File(
@@ -125,7 +125,7 @@ fn do_order(rt: &HostRuntime, order: Order<'_>) -> Result<u8, Misuse> {
     }
 }
 
-// Returns why the arguments can't be read: memory runs out, or one isn't UTF-8.
+// Returns the reason why the arguments can't be read: memory ran out, or one isn't UTF-8.
 fn args_misuse(error: &io::Error) -> Misuse {
     if error.kind() == io::ErrorKind::OutOfMemory {
         Misuse::NoMemory
@@ -134,7 +134,7 @@ fn args_misuse(error: &io::Error) -> Misuse {
     }
 }
 
-// Reads the command line, does what it asks for, and returns the status.
+// Reads the command line, runs its order, and returns the status.
 fn run(rt: &HostRuntime) -> Result<u8, Misuse> {
     let alloc = rt.alloc();
     let args = env::args(rt).map_err(|error| args_misuse(&error))?;
@@ -148,7 +148,8 @@ fn run(rt: &HostRuntime) -> Result<u8, Misuse> {
     do_order(rt, order)
 }
 
-// Prints clap's help or usage, and returns its status: that of usage even if it can't be printed.
+// Prints clap's help or usage. Returns 0 for the help and 2 for the usage, even if the usage can't
+// be printed. Returns 1 if memory runs out or the help can't be printed.
 fn print_usage(rt: &HostRuntime, error: &Error) -> u8 {
     if error.kind() == ErrorKind::OutOfMemory {
         return print_error(rt, None, CliFault::Memory.line());
@@ -163,13 +164,13 @@ fn print_usage(rt: &HostRuntime, error: &Error) -> u8 {
     }
 }
 
-// Prints what is wrong with the command line, and returns the status of usage.
+// Prints the error of the command line, and returns the status of usage.
 fn print_misuse<R: Eprint>(rt: &R, what: &str) -> u8 {
     let _ = eprintln!(rt; "error: {what}\n\nFor more information, try '--help'.");
     2
 }
 
-// Prints why no command starts, and returns the status.
+// Prints the reason why no command starts, and returns the status.
 fn report(rt: &HostRuntime, misuse: &Misuse) -> u8 {
     match misuse {
         Misuse::NoMemory => print_error(rt, None, CliFault::Memory.line()),
