@@ -34,9 +34,9 @@ R
 2
 ";
 
-// A capacity, the lag between activities 2 and 5, and a budget; the kind of the answer, its makespan,
-// and the number of answers that the memo then keeps. With a capacity of 1 the work takes 4; with a lag
-// of 3 the longest path takes 4.
+// The question: a capacity, the lag between activities 2 and 5, and a budget. The answer: its kind,
+// its makespan, and the number of answers that the memo then keeps. With a capacity of 1 the work
+// takes 4 time units; with a lag of 3 the longest path takes 4.
 const ASKED: [(u64, u64, u64, Kind, u64, usize); 9] = [
     (2, 0, 10, Kind::Optimal, 2, 1),
     (2, 0, 7, Kind::Budget, 3, 2),

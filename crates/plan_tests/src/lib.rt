@@ -1,6 +1,7 @@
-//! Worked examples of several crates that no command on files shows: networks, profiles, searches and
-//! memos, devices that fail, errors that no file causes, schedules by a list and with a lag, words and
-//! verdicts of job shops; and calls with failed allocations.
+//! Worked examples of several crates that no command on files shows. They cover networks, profiles,
+//! searches and memos, schedules by a list and with a lag, and words and verdicts of job shops.
+//! They also cover devices that fail, errors that no file causes, and calls with failed
+//! allocations.
 #![tactic(auto)]
 
 #[cfg(test)]

@@ -30,8 +30,8 @@ fn settles<T: PartialEq + Drop>(first: Option<T>, second: Option<T>, known: T) -
     }
 }
 
-// Returns the usage of a capacity of 2 at the instants 2 and 3 and the number of changes, with an
-// amount of 1 placed from 0 to 3.
+// Places an amount of 1 from 0 to 3 with a capacity of 2. Returns the usage at the instants 2 and
+// 3, and the number of changes.
 fn placed(rt: &impl Abort, alloc: Global) -> Option<(u64, u64, usize)> {
     let caps = Vec::from_array(alloc, [2]).ok()?;
     let mut profile = Profile::new(alloc, caps).ok()?;

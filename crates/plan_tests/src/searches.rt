@@ -138,7 +138,8 @@ fn is_word(tree: &TableTree, letters: &[u32]) -> bool {
     true
 }
 
-/// Returns all words of a tree in lexicographic order: three digits to base 4, of which 0 is no letter.
+/// Returns all words of a tree in lexicographic order: three digits to base 4, and 0 isn't a
+/// letter.
 fn list_words(alloc: Global, tree: &TableTree) -> Result<Vec<Listed>, AllocError> {
     let mut all = Vec::new(alloc);
     for number in 0..64 {
@@ -194,8 +195,8 @@ fn visited<'a>(
     Ok(visited)
 }
 
-/// Returns the expected answer: the best of all words if the budget suffices for the visited ones, else
-/// of as many visited ones as it allows.
+/// Returns the expected answer. It is the best of all words if the budget suffices for the visited
+/// ones, else the best of the visited ones within the budget.
 fn wanted<'a>(
     initial: u64,
     budget: usize,
@@ -210,8 +211,8 @@ fn wanted<'a>(
     (Kind::Budget, value, word)
 }
 
-/// The words 2 1 and 2 3 have the least makespan, 5, which the bound of 3 reaches: all 9 words but 3 1
-/// are visited. Each tree is given with the makespan of its initial schedule.
+/// The words 2 1 and 2 3 have the least makespan, 5, which the bound of 3 reaches. All 9 words but
+/// 3 1 are visited. Each tree is given with the makespan of its initial schedule.
 const LATE: (u64, &[Row]) = (
     7,
     &[

@@ -2,7 +2,7 @@ use Rattle.std.proofs.Common.{◌≡◌, ◌<◌, take}
 use Rattle.plan_tests.specs.TableTree.{reached}
 use Rattle.plan_tests.proofs.searches.reach.Given as goal
 
--- where the letters so far lead, and the greatest floor on the way
+-- the place of the letters so far, and the greatest floor of their prefixes
 abbrev pub invariant-loop-letter : goal.invariant-loop-letter
 invariant-loop-letter l = record {
   within : l.place < 40;
