@@ -1,5 +1,5 @@
-//! Tests of the service with devices that fail, with failed allocations, and with tables that break a
-//! rule, none of which a command can bring about.
+//! Tests of the service with devices that fail, with failed allocations, and with tables that break
+//! a rule. No command can cause these.
 #![tactic(auto)]
 
 #[cfg(test)]
