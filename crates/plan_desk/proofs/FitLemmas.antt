@@ -263,10 +263,17 @@ fit_opens : (s : Text) (w : World) (body : Text) → s ≡ unwrap_or (desk_named
 unfolding Opens
 fit_opens s w body named =
     fit_given s w _ _ _ (λ b e. fit_unless s w _ _ _
-        (λ absent. fit_makes s w _ _ _ ((subst (λ t. is_name t ≡ true)
-        (sym (named ∙ ap (λ o. unwrap_or o []) (desk_says body b e).1))
-        (desk_says body b e).0, sha256_is_digest b.key, no_row (desk_in w s) absent), no_row
-        (desk_in w s) absent)))
+    (λ absent. fit_makes s w _ _ _ (
+      (
+        subst (λ t. is_name t ≡ true)
+            (sym (named ∙ ap (λ o. unwrap_or o []) (desk_says body b e).1))
+            (desk_says body b e).0,
+        sha256_is_digest b.key,
+        no_row (desk_in w s) absent,
+      ),
+      no_row
+          (desk_in w s) absent,
+    )))
   where
     no_row : (o : Option Desk) → is_some o ≡ false → o ≡ None
     no_row None e = refl
@@ -281,9 +288,19 @@ fit_imports : {A : Type 0} (s : Text) (w : World) (kind : PlanKind) (name body :
 unfolding Imports
 fit_imports s w kind name body Tells Reads named reads =
     fit_given s w _ _ _ (λ row found. fit_unless s w _ _ _
-        (λ room. fit_unless s w _ _ _ (λ next. fit_why_or s w _ _ _ _
-        (λ x is. fit_makes s w _ _ _ ((row, found, leb-false 100 (length (view s w).plans) room, below
-        (leb-false 1000001 row.next next), named, reads x is), some_there (desk_in w s) row found)))))
+    (λ room. fit_unless s w _ _ _ (λ next. fit_why_or s w _ _ _ _
+    (λ x is. fit_makes s w _ _ _ (
+      (
+        row,
+        found,
+        leb-false 100 (length (view s w).plans) room,
+        below
+            (leb-false 1000001 row.next next),
+        named,
+        reads x is,
+      ),
+      some_there (desk_in w s) row found,
+    )))))
   where
     below : {n : ℕ} → n < 1000001 → n ≤ 1000000
     below h = omega (arith, h)
@@ -328,11 +345,17 @@ unfolding SetsLag
 fit_sets_lag s w n body =
     fit_of_plan s w _ _ _ (λ plan seen. fit_given s w _ _ _ (λ b e. fit_by_kind s w _ _ _
     (λ kind. fit_some s w _ _ (λ p says. fit_unless s w _ _ _
-        (λ arc. fit_makes s w _ _ _ ((subst (λ o. IsThereAnd o
-        (λ found. (found.kind ≡ kinds.Project) × ((q : Project) × SaysProject found.body q
-        × (has_arc q.network b.from b.to ≡ true)))) (sym (seen_there s w n plan seen))
-        (kind, (p, says, not-false (has_arc p.network b.from b.to) arc)), lag_says body b e), some_there
-        (plan_in w s plan.n) plan (seen_there s w n plan seen)))))
+    (λ arc. fit_makes s w _ _ _ (
+      (
+        subst (λ o. IsThereAnd o
+            (λ found. (found.kind ≡ kinds.Project) × ((q : Project) × SaysProject found.body q
+            × (has_arc q.network b.from b.to ≡ true)))) (sym (seen_there s w n plan seen))
+            (kind, (p, says, not-false (has_arc p.network b.from b.to) arc)),
+        lag_says body b e,
+      ),
+      some_there
+          (plan_in w s plan.n) plan (seen_there s w n plan seen),
+    ))))
     (λ kind. fit_refuses s w _)))
 
 fit_dates : (s : Text) (w : World) (n : Text) → IsFit s w (Dates (view s w) n)

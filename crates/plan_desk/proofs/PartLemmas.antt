@@ -138,15 +138,15 @@ part_of_schedule : (v u : View) (plan : Plan) (rule : Text) (Rest : Planned → 
 unfolding OfSchedule
 part_of_schedule v u plan rule Rest alike =
     part_some _ _ _ _ (λ p is. project_alike v u plan p alike is)
-        (λ p reply c h. subst (λ i. why_or (TellsRefusal rule i) bad_schedule (IsScheduleBy i rule)
-        (Rest i) reply c) (bound_alike v u plan p alike) h)
+    (λ p reply c h. subst (λ i. why_or (TellsRefusal rule i) bad_schedule (IsScheduleBy i rule)
+    (Rest i) reply c) (bound_alike v u plan p alike) h)
 
 part_of_shop_schedule : (v u : View) (plan : Plan) (rule : Text) (Rest : JobShop → List ℕ → Outcome) → LooksAlike v u → IsPart (OfShopSchedule v plan rule Rest) (OfShopSchedule u plan rule Rest)
 unfolding OfShopSchedule
 part_of_shop_schedule v u plan rule Rest alike =
     part_some _ _ _ _ (λ s is. is) (λ s reply c h. subst
-        (λ usable. why_or (TellsShopRefusal rule s usable) bad_schedule (IsShopScheduleBy s usable rule)
-        (Rest s) reply c) (open_alike v u plan.n s.machines alike) h)
+    (λ usable. why_or (TellsShopRefusal rule s usable) bad_schedule (IsShopScheduleBy s usable rule)
+    (Rest s) reply c) (open_alike v u plan.n s.machines alike) h)
 
 part_schedules : (v u : View) (n rule : Text) → LooksAlike v u → IsPart (Schedules v n rule) (Schedules u n rule)
 unfolding Schedules

@@ -433,14 +433,18 @@ are_dates w = record {
 dates_shown : (key : Option Text) → admits desk_of_pair (asks key (call.dates north (codes "1"))) ≡ true
     → IsDecision desk_of_pair (asks key (call.dates north (codes "1")))
     (said 200 Plain (codes
-        " act       d      ES      EF      LS      LF      TF      FF\n   1       3       0       3       0       3       0       0 *\n   2       4       3       7       3       7       0       0 *\nT 7\n"))
-        Keep
+    " act       d      ES      EF      LS      LF      TF      FF\n   1       3       0       3       0       3       0       0 *\n   2       4       3       7       3       7       0       0 *\nT 7\n"))
+    Keep
 unfolding Dates of_plan given by_kind some shows date_line number_column digits
 dates_shown key open_ = admitted _ key _ _ _ open_ (
   pair_project,
   (pair_project, pair_is_said, refl),
-  (codes " act       d      ES      EF      LS      LF      TF      FF\n   1       3       0       3       0       3       0       0 *\n   2       4       3       7       3       7       0       0 *\nT 7\n",
-      (pair_dates 0, are_dates 0, refl), refl, refl),
+  (
+    codes " act       d      ES      EF      LS      LF      TF      FF\n   1       3       0       3       0       3       0       0 *\n   2       4       3       7       3       7       0       0 *\nT 7\n",
+    (pair_dates 0, are_dates 0, refl),
+    refl,
+    refl,
+  ),
 )
 
 -- the same desk with a lag of 2 on the arc, and its resource bound to a code of capacity 0
@@ -457,14 +461,18 @@ lagged_project = files.with_project_lag pair_project 1 2 2
 lagged_dates : (key : Option Text) → admits lagged_desk (asks key (call.dates north (codes "1"))) ≡ true
     → IsDecision lagged_desk (asks key (call.dates north (codes "1")))
     (said 200 Plain (codes
-        " act       d      ES      EF      LS      LF      TF      FF\n   1       3       0       3       0       3       0       0 *\n   2       4       5       9       5       9       0       0 *\nT 9\n"))
-        Keep
+    " act       d      ES      EF      LS      LF      TF      FF\n   1       3       0       3       0       3       0       0 *\n   2       4       5       9       5       9       0       0 *\nT 9\n"))
+    Keep
 unfolding Dates of_plan given by_kind some shows date_line number_column digits
 lagged_dates key open_ = admitted _ key _ _ _ open_ (
   lagged_project,
   (pair_project, pair_is_said, refl),
-  (codes " act       d      ES      EF      LS      LF      TF      FF\n   1       3       0       3       0       3       0       0 *\n   2       4       5       9       5       9       0       0 *\nT 9\n",
-      (pair_dates 2, are_dates 2, refl), refl, refl),
+  (
+    codes " act       d      ES      EF      LS      LF      TF      FF\n   1       3       0       3       0       3       0       0 *\n   2       4       5       9       5       9       0       0 *\nT 9\n",
+    (pair_dates 2, are_dates 2, refl),
+    refl,
+    refl,
+  ),
 )
 
 -- at capacity 0 the need of activity 1 exceeds the capacity
@@ -543,9 +551,13 @@ unfolding IsRun IsDecision ImportsProject Imports given unless why_or some makes
 desks_in_turn key other open_ open_other = (
   inl (AddPlan Project [] pair, admitted (view north two_desks) key (call.import_project north pair) _ _ open_ (inr (pair_project, pair_is_said, (refl, refl))), refl),
   (
-    inl (AddPlan Project [] pair, admitted (view (codes "north-2") after_north) other
-        (call.import_project (codes "north-2") pair) _ _ open_other
-        (inr (pair_project, pair_is_said, (refl, refl))), refl),
+    inl (
+      AddPlan Project [] pair,
+      admitted (view (codes "north-2") after_north) other
+          (call.import_project (codes "north-2") pair) _ _ open_other
+          (inr (pair_project, pair_is_said, (refl, refl))),
+      refl,
+    ),
     (inl (AddPlan Project [] pair, admitted (view north after_both) key (call.import_project north pair) _ _ open_ (inr (pair_project, pair_is_said, (refl, refl))), refl), tt),
   ),
 )

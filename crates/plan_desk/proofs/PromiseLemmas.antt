@@ -106,8 +106,8 @@ project_schedule : (v : View) (n : Text) (plan : Plan) (rule : Text) (Rest : Pla
 unfolding OfSchedule
 project_schedule v n plan rule Rest IsText reply change seen good shows_so h =
     let made = made_so (IsProjectOf v plan) (λ p. why_or
-        (TellsRefusal rule (bound_project v plan p)) bad_schedule (IsScheduleBy (bound_project v plan p) rule)
-        (Rest (bound_project v plan p))) reply change h in
+    (TellsRefusal rule (bound_project v plan p)) bad_schedule (IsScheduleBy (bound_project v plan p) rule)
+    (Rest (bound_project v plan p))) reply change h in
     let i = bound_project v plan made.value in
     let scheduled = without_reason (TellsRefusal rule i) bad_schedule (IsScheduleBy i rule) (Rest i) reply change made.rest good never_schedule in
     record {
@@ -128,12 +128,12 @@ shop_schedule : (v : View) (n : Text) (plan : Plan) (rule : Text) (Rest : JobSho
 unfolding OfShopSchedule
 shop_schedule v n plan rule Rest IsText reply change seen good shows_so h =
     let made = made_so (IsShopOf plan) (λ s. why_or
-        (TellsShopRefusal rule s (open_machines v plan.n s.machines)) bad_schedule
-        (IsShopScheduleBy s (open_machines v plan.n s.machines) rule) (Rest s)) reply change h in
+    (TellsShopRefusal rule s (open_machines v plan.n s.machines)) bad_schedule
+    (IsShopScheduleBy s (open_machines v plan.n s.machines) rule) (Rest s)) reply change h in
     let s = made.value in
     let scheduled = without_reason (TellsShopRefusal rule s (open_machines v plan.n s.machines)) bad_schedule
-        (IsShopScheduleBy s (open_machines v plan.n s.machines) rule)
-        (Rest s) reply change made.rest good never_schedule in
+    (IsShopScheduleBy s (open_machines v plan.n s.machines) rule)
+    (Rest s) reply change made.rest good never_schedule in
     record {
       plan = plan;
       shop = s;
@@ -192,8 +192,8 @@ days_of plan IsDays IsLate reply change h good =
     (why_or (TellsBeyond IsLate plan.start plan.days) bad_calendar (ShowsDays IsDays plan.start plan.days) (λ text. shows (λ shown. shown ≡ text)))
     change h good (never_calendar missing_calendar_text) in
     let made = without_reason (TellsBeyond IsLate plan.start plan.days) bad_calendar
-        (ShowsDays IsDays plan.start plan.days) (λ text. shows (λ shown. shown ≡ text)) reply change rest good
-        never_calendar in
+    (ShowsDays IsDays plan.start plan.days) (λ text. shows (λ shown. shown ≡ text)) reply change rest good
+    never_calendar in
     let same : reply.body ≡ made.value = shown_as (λ shown. shown ≡ made.value) reply change made.rest in
     subst (λ (text : Text). (c : Workdays) × IsCalendar plan.start plan.days c × IsDays c text) (sym same) made.holds
 
@@ -215,9 +215,9 @@ best_of_project : (v : View) (n : Text) (plan : Plan) (word : Text) (reply : Rep
 unfolding OfProjectBest
 best_of_project v n plan word reply change seen good h =
     let made = made_so (IsProjectOf v plan) (λ p. why_or
-        (TellsBestProjectRefusal word (bound_project v plan p)) bad_schedule
-        (IsBestProjectTextOf word (bound_project v plan p)) (λ text. shows (λ shown. shown ≡ text))) reply
-        change h in
+    (TellsBestProjectRefusal word (bound_project v plan p)) bad_schedule
+    (IsBestProjectTextOf word (bound_project v plan p)) (λ text. shows (λ shown. shown ≡ text))) reply
+    change h in
     let i = bound_project v plan made.value in
     let found = without_reason (TellsBestProjectRefusal word i) bad_schedule (IsBestProjectTextOf word i) (λ text. shows (λ shown. shown ≡ text)) reply change made.rest good never_schedule in
     let same : reply.body ≡ found.value = shown_as (λ shown. shown ≡ found.value) reply change found.rest in
@@ -240,14 +240,14 @@ best_of_shop : (v : View) (n : Text) (plan : Plan) (word : Text) (reply : Reply)
 unfolding OfShopBest
 best_of_shop v n plan word reply change seen good h =
     let made = made_so (IsShopOf plan) (λ s. why_or
-        (TellsNoShopBest word s (open_machines v plan.n s.machines)) bad_schedule
-        (λ text. NoneIsClosed s.steps (open_machines v plan.n s.machines) × IsBestTextOf word s text)
-        (λ text. shows (λ shown. shown ≡ text))) reply change h in
+    (TellsNoShopBest word s (open_machines v plan.n s.machines)) bad_schedule
+    (λ text. NoneIsClosed s.steps (open_machines v plan.n s.machines) × IsBestTextOf word s text)
+    (λ text. shows (λ shown. shown ≡ text))) reply change h in
     let s = made.value in
     let usable = open_machines v plan.n s.machines in
     let found = without_reason (TellsNoShopBest word s usable) bad_schedule
-        (λ text. NoneIsClosed s.steps usable × IsBestTextOf word s text)
-        (λ text. shows (λ shown. shown ≡ text)) reply change made.rest good never_schedule in
+    (λ text. NoneIsClosed s.steps usable × IsBestTextOf word s text)
+    (λ text. shows (λ shown. shown ≡ text)) reply change made.rest good never_schedule in
     let same : reply.body ≡ found.value = shown_as (λ shown. shown ≡ found.value) reply change found.rest in
     let best = found.holds.1.2 in
     record {

@@ -126,8 +126,8 @@ pub opens_by : (w : World) (body name told : Text) (b : read.DeskBody) (row : Op
 opens_by w body name told b row digest r is same again own answer absent made_so = record {
   answer = subst (λ x. Opens (view (opened body) w) body x (OpenDesk digest)) (sym (made_so ∙ ap (λ t. calls.answer 201 (desk_text t)) again))
       (subst (λ d. Opens (view (opened body) w) body (calls.answer 201 (desk_text (string_bytes b.desk)))
-          (OpenDesk d)) (sym (ap (λ o. unwrap_or o []) own))
-          (opens_made w body name _ row is same answer absent));
+      (OpenDesk d)) (sym (ap (λ o. unwrap_or o []) own))
+      (opens_made w body name _ row is same answer absent));
   owner = inr (sym (opened_is body _ is));
 }
 

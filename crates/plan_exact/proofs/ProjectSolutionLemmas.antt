@@ -47,8 +47,8 @@ unfolding project_tree TreeHasProjectWords makespan_by
 taken_is_found i initial list value None instance by_rule are taken = initial_is_found i initial value instance by_rule taken
 taken_is_found i initial list value (Some w) instance by_rule are taken =
     let there : Contains list w = subst (λ (us : List (List ℕ)). Contains us w) (sym taken.split)
-        (Contains-append_right taken.before (w ∷ taken.after) w
-        (Contains-get_or (w ∷ taken.after) 0 w (omega arith))) in
+    (Contains-append_right taken.before (w ∷ taken.after) w
+    (Contains-get_or (w ∷ taken.after) 0 w (omega arith))) in
     let full : IsFullWord i w = ((tree_has_words i w).0 (All-contains (IsWord (project_tree i)) list w are there), taken.full) in
     record { word = w; full = full; starts_are = refl; makespan_is = taken.is }
 
@@ -119,8 +119,8 @@ answered_is_list i initial budget w instance by_rule some =
     let taken : IsTakenFrom (project_tree i) (makespan (problem_of i) initial) h.list (project_outcome i initial budget).found.value (Some w) =
     subst (λ (o : Option (List ℕ)). IsTakenFrom (project_tree i) (makespan (problem_of i) initial) h.list (project_outcome i initial budget).found.value o) some h.least.taken in
     let there : Contains h.list w = subst (λ (us : List (List ℕ)). Contains us w) (sym taken.split)
-        (Contains-append_right taken.before (w ∷ taken.after) w
-        (Contains-get_or (w ∷ taken.after) 0 w (omega arith))) in
+    (Contains-append_right taken.before (w ∷ taken.after) w
+    (Contains-get_or (w ∷ taken.after) 0 w (omega arith))) in
     (full_words_are_lists i w instance).0 ((tree_has_words i w).0 (All-contains (IsWord (project_tree i)) h.list w h.are_words there), taken.full)
 
 -- a schedule is the initial one, where there is no word, and else that of the word

@@ -89,8 +89,8 @@ unfolding tree_of TreeHasWords
 taken_is_full s list value None are taken = record { is_full = initial_word-full s; makespan = taken }
 taken_is_full s list value (Some w) are taken =
     let there : Contains list w = subst (λ (us : List (List ℕ)). Contains us w) (sym taken.split)
-        (Contains-append_right taken.before (w ∷ taken.after) w
-        (Contains-get_or (w ∷ taken.after) 0 w (omega arith))) in
+    (Contains-append_right taken.before (w ∷ taken.after) w
+    (Contains-get_or (w ∷ taken.after) 0 w (omega arith))) in
     let is : IsFullWord s w = record { is_word = (tree_has_words s w).0 (All-contains (IsWord (tree_of s)) list w are there); full = taken.full } in
     record { is_full = is; makespan = taken.is }
 

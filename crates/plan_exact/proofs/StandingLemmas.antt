@@ -96,8 +96,8 @@ explored_is t (suc n) u s = by_left (cases_eq s.left 0) (explored_by t n u (t.le
         ∙ sym (ap (λ ws. after_words t s (u ∷ ws)) (cond-true (nat_le s.found.value (t.bound u)) [] made high))
     by_bound l (inr under) e =
         cond-false (nat_eq s.left 0 || nat_le s.found.value (t.bound u)) (after_word t s u) letters_done
-            (or_from (nat_eq s.left 0) (nat_le s.found.value (t.bound u))
-            (ne_eqb s.left 0 (λ q. omega (arith, q, l))) under)
+        (or_from (nat_eq s.left 0) (nat_le s.found.value (t.bound u))
+        (ne_eqb s.left 0 (λ q. omega (arith, q, l))) under)
         ∙ e
         ∙ sym (ap (λ ws. after_words t s (u ∷ ws)) (cond-false (nat_le s.found.value (t.bound u)) [] made under))
 

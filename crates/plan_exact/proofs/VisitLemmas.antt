@@ -131,9 +131,9 @@ least_is t initial rise pre u post e =
 visited_by : (t : WordTree) (initial : ℕ) → BoundHolds t → (n : ℕ) (u letters : List ℕ) (pre post : List (List ℕ)) → IsWord t u → Follow t u letters
     → words t ≡ pre ++ (words_by t n u letters ++ post)
     → ((a : ℕ) (front back : List (List ℕ)) → Contains (t.letters u) a →
-        words t ≡ front ++ (words_from t n (u ++ a ∷ []) ++ back) →
-        filter (is_visited t initial) (words_from t n (u ++ a ∷ [])) ≡ visit t n (u ++ a ∷ [])
-        (best t (initial_found initial) front))
+    words t ≡ front ++ (words_from t n (u ++ a ∷ []) ++ back) →
+    filter (is_visited t initial) (words_from t n (u ++ a ∷ [])) ≡ visit t n (u ++ a ∷ [])
+    (best t (initial_found initial) front))
     → filter (is_visited t initial) (words_by t n u letters) ≡ visit_by t (visit t n) u (best t (initial_found initial) pre) letters
 visited_by t initial bounded n u [] pre post w follow e go = refl
 visited_by t initial bounded n u (a ∷ letters) pre post w follow e go =
@@ -143,12 +143,12 @@ visited_by t initial bounded n u (a ∷ letters) pre post w follow e go =
     let split : words t ≡ pre ++ (mine ++ (rest ++ post)) = e ∙ ap (λ ws. pre ++ ws) (append_assoc mine rest post) in
     let first : filter (is_visited t initial) mine ≡ visit t n (u ++ a ∷ []) f = go a pre (rest ++ post) follow.0 split in
     let later : filter (is_visited t initial) rest ≡ visit_by t (visit t n) u
-        (best t (initial_found initial) (pre ++ mine)) letters =
-        visited_by t initial bounded n u letters (pre ++ mine) post w follow.1
-        (split ∙ sym (append_assoc pre mine (rest ++ post))) go in
+    (best t (initial_found initial) (pre ++ mine)) letters =
+    visited_by t initial bounded n u letters (pre ++ mine) post w follow.1
+    (split ∙ sym (append_assoc pre mine (rest ++ post))) go in
     let same : best t (initial_found initial) (pre ++ mine) ≡ best t f (visit t n (u ++ a ∷ []) f) =
-        fold-append (better t) (initial_found initial) pre mine
-        ∙ sym (best_visit t bounded n (u ++ a ∷ []) f (word_push t u a w follow.0)) in
+    fold-append (better t) (initial_found initial) pre mine
+    ∙ sym (best_visit t bounded n (u ++ a ∷ []) f (word_push t u a w follow.0)) in
     filter-append (is_visited t initial) mine rest
     ∙ ap (λ ws. ws ++ filter (is_visited t initial) rest) first
     ∙ ap (λ ws. visit t n (u ++ a ∷ []) f ++ ws) (later ∙ ap (λ g. visit_by t (visit t n) u g letters) same)
@@ -169,8 +169,8 @@ by_bound t initial n u f w low opened = by_test (cases_Bool (nat_le f.value (t.b
         let closed : is_open t initial u ≡ false = le-ltb (t.bound u) (least t initial u) (omega (arith, h, low)) in
         filter_none (is_visited t initial) (words_by t n u (t.letters u))
         (each_weaker (IsProperlyBelow t u) (λ x. is_visited t initial x ≡ false)
-            (λ x b. closed_below t initial u x closed b) (words_by t n u (t.letters u))
-            (proper_members t n u (t.letters u) w (all_follow t u)))
+        (λ x b. closed_below t initial u x closed b) (words_by t n u (t.letters u))
+        (proper_members t n u (t.letters u) w (all_follow t u)))
         ∙ sym (cond-true (nat_le f.value (t.bound u)) [] made high)
     by_test (inr under) =
         let h : t.bound u < f.value = leb-false f.value (t.bound u) under in

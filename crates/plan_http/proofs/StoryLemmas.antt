@@ -187,8 +187,8 @@ has_requests : (desk : Text) (v : View) (conns responses story told : List Text)
 unfolding desks.IsStoryOf Spells texts_of
 has_requests desk v [] [] story told (none, nothing) =
     subst (λ (list : List Text). HasRequests desk v list told) (sym none)
-        (subst (λ (list : List Text). HasRequests desk v [] list) (sym nothing)
-        (record { requests = []; replies = []; told_so = (refl, refl); spelled = tt; texts = refl }))
+    (subst (λ (list : List Text). HasRequests desk v [] list) (sym nothing)
+    (record { requests = []; replies = []; told_so = (refl, refl); spelled = tt; texts = refl }))
 has_requests desk v [] (response ∷ responses) story told h = absurd h
 has_requests desk v (bytes ∷ conns) [] story told h = absurd h
 has_requests desk v (bytes ∷ conns) (response ∷ responses) story told (inl (outside, rest)) = has_requests desk v conns responses story told rest

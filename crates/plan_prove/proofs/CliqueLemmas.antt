@@ -87,8 +87,8 @@ filled g limit start rest state others clique starts kept there fill late early 
     let zs : List ℕ = others_of state others clique.items in
     let but : ℕ = others.but in
     let clear : All (R but) zs = each_other (R but) state others clique
-        (λ z in_z passes. either_first g starts clique but z kept there in_z
-        (λ same. (other_parts state others z passes).another (sym same))) in
+    (λ z in_z passes. either_first g starts clique but z kept there in_z
+    (λ same. (other_parts state others z passes).another (sym same))) in
     let order : InOrder R (but ∷ zs) = (recursion_from_All (R but) zs clear, others_in_order g state others clique starts kept) in
     let from : AllByRecursion (λ z. start ≤ get_or starts z 0) (but ∷ zs) =
     (late, recursion_from_All (λ z. start ≤ get_or starts z 0) zs (each_other (λ z. start ≤ get_or starts z 0) state others clique (λ z in_z passes. all_late z passes))) in

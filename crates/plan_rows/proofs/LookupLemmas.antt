@@ -20,8 +20,8 @@ module _ {R : Type 0} (key : R → RowKey) where
   -- the first places after a key was put among them
   pub placed_more : {S : Type 0} (rows : List R) (i : ℕ) (row : R) (k : HeldKey) (places now : HashMap HeldKey ℕ S) → 0 < i → i ≤ length rows → row ≡ get_or rows (i - 1) row → shown_key k ≡ key row
       → ((q : HeldKey) → get_by (λ t. same_key (shown_key q) (shown_key t)) now ≡ cond
-          (same_key (shown_key k) (shown_key q)) (Some (i - 1))
-          (get_by (λ t. same_key (shown_key q) (shown_key t)) places))
+      (same_key (shown_key k) (shown_key q)) (Some (i - 1))
+      (get_by (λ t. same_key (shown_key q) (shown_key t)) places))
       → ((q : HeldKey) → get_by (λ t. same_key (shown_key q) (shown_key t)) places ≡ position_from (λ r. same_key (shown_key q) (key r)) i (drop i rows))
       → (q : HeldKey) → get_by (λ t. same_key (shown_key q) (shown_key t)) now ≡ position_from (λ r. same_key (shown_key q) (key r)) (i - 1) (drop (i - 1) rows)
   placed_more rows zero row k places now some low here is puts has = absurd (omega (arith, some))
@@ -30,7 +30,7 @@ module _ {R : Type 0} (key : R → RowKey) where
       let forth : suc i ≡ i + 1 = omega arith in
       let there : row ≡ get_or rows i row = here ∙ ap (λ n. get_or rows n row) back in
       puts q ∙ ap (λ b. cond b (Some (suc i - 1)) (get_by (λ t. same_key (shown_key q) (shown_key t)) places))
-          (same_key_swap (shown_key k) (shown_key q) ∙ ap (same_key (shown_key q)) (is ∙ ap key there))
+      (same_key_swap (shown_key k) (shown_key q) ∙ ap (same_key (shown_key q)) (is ∙ ap key there))
       ∙ ap (λ o. cond (same_key (shown_key q) (key (get_or rows i row))) (Some (suc i - 1)) o) (has q ∙ ap (λ n. position_from (λ r. same_key (shown_key q) (key r)) n (drop (suc i) rows)) forth)
       ∙ ap (λ n. cond (same_key (shown_key q) (key (get_or rows i row))) (Some n) (position_from (λ r. same_key (shown_key q) (key r)) (i + 1) (drop (suc i) rows))) back
       ∙ sym (place_more (λ r. same_key (shown_key q) (key r)) rows i i row (omega (arith, low)))

@@ -179,8 +179,8 @@ pub pending_more : (plans : List Plan) (plan : Plan) (old new : List HeldKey) (q
     → Tells (not (holds_key new q)) (SomeHasArc (plans ++ plan ∷ []) (shown_key q))
 pending_more plans plan old new q was struck =
     tells_same (some_more plans plan (shown_key q)) (some_less plans plan (shown_key q))
-        (not (holds_key new q)) (tells_either (SomeHasArc plans (shown_key q)) (HasArc plan (shown_key q))
-        (holds_key old q) struck.0 (holds_key new q) struck.1 was struck.2)
+    (not (holds_key new q)) (tells_either (SomeHasArc plans (shown_key q)) (HasArc plan (shown_key q))
+    (holds_key old q) struck.0 (holds_key new q) struck.1 was struck.2)
 
 pub seen_more : (plans : List Plan) (seen : List PlanSeen) (plan : Plan) (one : PlanSeen) → AreSeen plans seen → IsSeen plan one → AreSeen (plans ++ plan ∷ []) (seen ++ one ∷ [])
 seen_more [] [] plan one are is = (is, tt)
@@ -377,8 +377,8 @@ lag_kept_rule w row apart has low =
 lag_rule_kept : (w : World) (row : Lag) → IsLagRow w row → SomeHasArc w.plans (arc_key row) × (is_from_to 1 10000 row.lag ≡ true)
 lag_rule_kept w row rule =
     let there = there_some (plan_in w row.desk row.n)
-        (λ plan. (plan.kind ≡ kinds.Project) × ((p : Project) × SaysProject plan.body p
-        × (has_arc p.network row.source row.target ≡ true)) × (is_from_to 1 10000 row.lag ≡ true)) rule in
+    (λ plan. (plan.kind ≡ kinds.Project) × ((p : Project) × SaysProject plan.body p
+    × (has_arc p.network row.source row.target ≡ true)) × (is_from_to 1 10000 row.lag ≡ true)) rule in
     let own = found_has (λ x. Unit {0}) (is_plan row.desk row.n) w.plans there.0 there.1 (all_unit w.plans) in
     (some_found w.plans (arc_key row) there.0 there.1 (own.1, there.2.0, there.2.1), there.2.2)
 

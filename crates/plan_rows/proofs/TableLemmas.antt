@@ -60,9 +60,9 @@ module _ {R A : Type 0} (g : R → A) (p : A → Bool) where
           rw (cond-true (p (g row)) (Some (g row)) (find p (map g rows)) in_, cond-false (not (p (g row))) (1 + position_or_len (λ row. p (g row)) rows) 0 (not_from_true (p (g row)) in_)) refl
       by_test (inr out_) rest =
           let is : position_or_len (λ row. p (g row)) (row ∷ rows) ≡ suc
-              (position_or_len (λ row. p (g row)) rows) =
-              cond-true (not (p (g row))) (1 + position_or_len (λ row. p (g row)) rows) 0
-              (not_from_false (p (g row)) out_) ∙ (omega arith) in
+          (position_or_len (λ row. p (g row)) rows) =
+          cond-true (not (p (g row))) (1 + position_or_len (λ row. p (g row)) rows) 0
+          (not_from_false (p (g row)) out_) ∙ (omega arith) in
           rw (cond-false (p (g row)) (Some (g row)) (find p (map g rows)) out_, is) (rest (omega (arith, less, is)))
 
   -- the row that is found stands at the place that is found

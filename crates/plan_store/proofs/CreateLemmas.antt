@@ -177,8 +177,8 @@ news g digest good old has db leaves =
     let last = fills digest (state g r6.0) (state g r7.0) m6.schema t0 r7.1 r7.3 in
     let is : db ≡ (state g r7.0).now = leaves.2 ∙ ap (λ h. (state g h).now) r7.4 in
     let kept = λ (t : ℕ) (other : t ≢ 0) (apart : AllByRecursion (λ i. i.tree ≢ t) store_schema.indexes)
-        (none : (state g r6.0).now.trees t ≡ []). ap (λ (d : Database). d.trees t) is
-        ∙ last.others t other apart ∙ none in
+    (none : (state g r6.0).now.trees t ≡ []). ap (λ (d : Database). d.trees t) is
+    ∙ last.others t other apart ∙ none in
     let made = new_store digest db good (ap (λ (d : Database). d.schema) is ∙ last.schema) (ap (λ (d : Database). d.trees 0) is ∙ last.meta_is) (
       kept 1 (λ e. cc) (λ e. cc, (λ e. cc, (λ e. cc, (λ e. cc, (λ e. cc, tt))))) t1,
       kept 3 (λ e. cc) (λ e. cc, (λ e. cc, (λ e. cc, (λ e. cc, (λ e. cc, tt))))) t3,

@@ -61,8 +61,8 @@ start_text text date h =
     let spelled : date_bytes n date.month date.day ≡ text = ap (λ y. year_text y ++ 45 ∷ [] ++ pad2 date.month ++ 45 ∷ [] ++ pad2 date.day) (sym natural.1) ∙ sym h.spelled in
     let range = subst (IsBetween (pos 1900) (pos 2199)) natural.1 h.year in
     let low = date_low n date.month date.day (omega (arith, signed_arith, range.1)) date.month_in.1
-        (let m = (days_in_month_bounds date.year date.month).0 in let d = date.day_in.1 in
-        omega (arith, m, d)) in
+    (let m = (days_in_month_bounds date.year date.month).0 in let d = date.day_in.1 in
+    omega (arith, m, d)) in
     IsUtf8-from_ascii text (subst IsAscii spelled (low_text (date_bytes n date.month date.day) low))
 
 calendar_texts : (start days : List ℕ) → HasCalendar start days → IsUtf8 start × IsUtf8 days
@@ -128,8 +128,8 @@ module _ (w : World) (rules : IsWorld w) (names : AllByRecursion (λ (row : Plan
   pub desks_hold : AllByRecursion HoldsDesk w.desks
   desks_hold = all_weaker (λ row. is_desk_row row ≡ true) HoldsDesk
       (λ row h. let p = and_parts (is_name row.desk)
-          (is_digest row.digest && is_from_to 1 1000001 row.next) h in
-          (name_text row.desk p.0, (and_parts (is_digest row.digest) _ p.1).0)) w.desks rules.desks
+      (is_digest row.digest && is_from_to 1 1000001 row.next) h in
+      (name_text row.desk p.0, (and_parts (is_digest row.digest) _ p.1).0)) w.desks rules.desks
 
   pub plans_hold : AllByRecursion HoldsPlan w.plans
   plans_hold =

@@ -111,14 +111,14 @@ module _ (s : State) (stands : Stands s) where
   all_binds_read all h =
       let show = λ (x : ℤ × Bind). Text x.1.desk ∷ number_value x.1.n ∷ number_value x.1.place ∷ Text x.1.code ∷ [] in
       let cmp = λ (a b : ℤ × Bind). ordering_then (slice_cmp nat_cmp a.1.desk b.1.desk)
-          (ordering_then (int_cmp (pos a.1.n) (pos b.1.n))
-          (ordering_then (int_cmp (pos a.1.place) (pos b.1.place)) (int_cmp a.0 b.0))) in
+      (ordering_then (int_cmp (pos a.1.n) (pos b.1.n))
+      (ordering_then (int_cmp (pos a.1.place) (pos b.1.place)) (int_cmp a.0 b.0))) in
       let kept = held.binds in
       let are = rows_sorted written_bind 7 [] means.all_binds_query.project [] seen kept.entries kept.are kept.rise (λ _. true) (λ x. refl) show (λ x. refl) (by 1 ∷ by 2 ∷ by 3 ∷ by 0 ∷ []) cmp
       (λ a b low. no_tie_after (slice_cmp nat_cmp a.1.desk b.1.desk) (no_tie_after (int_cmp (pos a.1.n) (pos b.1.n)) (no_tie_after (int_cmp (pos a.1.place) (pos b.1.place)) (no_tie low))))
       (λ a b. then_key (value_cmp-Text a.1.desk b.1.desk)
-          (then_key (value_cmp-Int (pos a.1.n) (pos b.1.n))
-          (then_key (value_cmp-Int (pos a.1.place) (pos b.1.place)) (last_key (value_cmp-Int a.0 b.0)))))
+      (then_key (value_cmp-Int (pos a.1.n) (pos b.1.n))
+      (then_key (value_cmp-Int (pos a.1.place) (pos b.1.place)) (last_key (value_cmp-Int a.0 b.0)))))
       h.0 (read_query means.all_binds_text means.all_binds_query _ means.all_binds_is s.now [] h.0 h.1) in
       list_read written_bind read_bind (s.now.trees 7) kept (λ _. true) show ShowsBindRecord bind_kept (λ row. row)
       (λ x y shows. λ i. record {
@@ -128,12 +128,12 @@ module _ (s : State) (stands : Stands s) where
         code = same_texts (string_bytes y.code) x.1.code (sym shows.code) i;
       }) cmp bind_key_before
       (λ x y low. gt_then (slice_cmp nat_cmp x.1.desk y.1.desk) (slice_cmp nat_cmp y.1.desk x.1.desk)
-          (ordering_then (int_cmp (pos x.1.n) (pos y.1.n))
-          (ordering_then (int_cmp (pos x.1.place) (pos y.1.place)) (int_cmp x.0 y.0)))
+      (ordering_then (int_cmp (pos x.1.n) (pos y.1.n))
+      (ordering_then (int_cmp (pos x.1.place) (pos y.1.place)) (int_cmp x.0 y.0)))
       (ordering_then (nat_cmp y.1.n x.1.n) (nat_cmp y.1.place x.1.place)) (nat_list_cmp_total.antisymm x.1.desk y.1.desk)
       (gt_then (int_cmp (pos x.1.n) (pos y.1.n)) (nat_cmp y.1.n x.1.n)
-          (ordering_then (int_cmp (pos x.1.place) (pos y.1.place)) (int_cmp x.0 y.0))
-          (nat_cmp y.1.place x.1.place) (numbers_turned x.1.n y.1.n)
+      (ordering_then (int_cmp (pos x.1.place) (pos y.1.place)) (int_cmp x.0 y.0))
+      (nat_cmp y.1.place x.1.place) (numbers_turned x.1.n y.1.n)
       (gt_last (int_cmp (pos x.1.place) (pos y.1.place)) (nat_cmp y.1.place x.1.place) x.0 y.0 low (numbers_turned x.1.place y.1.place)))) h.0 are all h.2
       ∙ map-id _ ∙ ap (in_order bind_key_before) (filter_true (map read_bind (s.now.trees 7)))
 
@@ -145,9 +145,9 @@ module _ (s : State) (stands : Stands s) where
       let kept = held.lags in
       let are = rows_sorted written_lag 9 [] means.all_lags_query.project [] seen kept.entries kept.are kept.rise (λ _. true) (λ x. refl) show (λ x. refl) (by 1 ∷ by 2 ∷ by 3 ∷ by 4 ∷ by 0 ∷ []) cmp
       (λ a b low. no_tie_after (slice_cmp nat_cmp a.1.desk b.1.desk)
-          (no_tie_after (int_cmp (pos a.1.n) (pos b.1.n))
-          (no_tie_after (int_cmp (pos a.1.source) (pos b.1.source))
-          (no_tie_after (int_cmp (pos a.1.target) (pos b.1.target)) (no_tie low)))))
+      (no_tie_after (int_cmp (pos a.1.n) (pos b.1.n))
+      (no_tie_after (int_cmp (pos a.1.source) (pos b.1.source))
+      (no_tie_after (int_cmp (pos a.1.target) (pos b.1.target)) (no_tie low)))))
       (λ a b. then_key (value_cmp-Text a.1.desk b.1.desk) (then_key (value_cmp-Int (pos a.1.n) (pos b.1.n))
       (then_key (value_cmp-Int (pos a.1.source) (pos b.1.source)) (then_key (value_cmp-Int (pos a.1.target) (pos b.1.target)) (last_key (value_cmp-Int a.0 b.0))))))
       h.0 (read_query means.all_lags_text means.all_lags_query _ means.all_lags_is s.now [] h.0 h.1) in
@@ -163,8 +163,8 @@ module _ (s : State) (stands : Stands s) where
       (ordering_then (int_cmp (pos x.1.n) (pos y.1.n)) (ordering_then (int_cmp (pos x.1.source) (pos y.1.source)) (ordering_then (int_cmp (pos x.1.target) (pos y.1.target)) (int_cmp x.0 y.0))))
       (ordering_then (nat_cmp y.1.n x.1.n) (ordering_then (nat_cmp y.1.source x.1.source) (nat_cmp y.1.target x.1.target))) (nat_list_cmp_total.antisymm x.1.desk y.1.desk)
       (gt_then (int_cmp (pos x.1.n) (pos y.1.n)) (nat_cmp y.1.n x.1.n)
-          (ordering_then (int_cmp (pos x.1.source) (pos y.1.source))
-          (ordering_then (int_cmp (pos x.1.target) (pos y.1.target)) (int_cmp x.0 y.0)))
+      (ordering_then (int_cmp (pos x.1.source) (pos y.1.source))
+      (ordering_then (int_cmp (pos x.1.target) (pos y.1.target)) (int_cmp x.0 y.0)))
       (ordering_then (nat_cmp y.1.source x.1.source) (nat_cmp y.1.target x.1.target)) (numbers_turned x.1.n y.1.n)
       (gt_then (int_cmp (pos x.1.source) (pos y.1.source)) (nat_cmp y.1.source x.1.source) (ordering_then (int_cmp (pos x.1.target) (pos y.1.target)) (int_cmp x.0 y.0)) (nat_cmp y.1.target x.1.target)
       (numbers_turned x.1.source y.1.source) (gt_last (int_cmp (pos x.1.target) (pos y.1.target)) (nat_cmp y.1.target x.1.target) x.0 y.0 low (numbers_turned x.1.target y.1.target))))) h.0 are all h.2

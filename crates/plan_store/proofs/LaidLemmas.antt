@@ -57,8 +57,8 @@ tabled s schema is layout laid =
     let rules = laid.in_order.sound.obeys.rules in
     all_both (λ t. AreNumbered (s.now.trees t.tree)) (λ t. AllByRecursion (IsRowOf t) (s.now.trees t.tree)) (IsTabled s.now.trees) (λ t a b. (a, b)) s.now.schema.tables laid.in_order.order
     (all_both (λ t. AllByRecursion (λ row. (are_typed t.key 0 t.columns (drop 1 row) && has_computed t row) ≡
-        true) (s.now.trees t.tree)) (λ t. AllByRecursion (λ row. are_present t.key 0 t.columns row ≡ true)
-        (s.now.trees t.tree))
+    true) (s.now.trees t.tree)) (λ t. AllByRecursion (λ row. are_present t.key 0 t.columns row ≡ true)
+    (s.now.trees t.tree))
     (λ t. AllByRecursion (IsRowOf t) (s.now.trees t.tree))
     (λ t a b. all_both (λ row. (are_typed t.key 0 t.columns (drop 1 row) && has_computed t row) ≡ true) (λ row. are_present t.key 0 t.columns row ≡ true) (IsRowOf t)
     (λ row x y. ((and_parts (are_typed t.key 0 t.columns (drop 1 row)) (has_computed t row) x).0, y)) (s.now.trees t.tree) a b) s.now.schema.tables (rules Datatype) (rules NotNull))
@@ -112,9 +112,9 @@ module _ (layout : Layout) (db : Database) {A X : Type 0} (written : A → Row) 
       let answer = answer_of layout text (of_table tree [] project (by 0 ∷ [])) names is db rows reads in
       let show = λ (e : ℤ × Row). cells (row_at as_is e) 1 (length columns) in
       let are = read_all tree project (overlay db.trees [])
-          (subst AreNumbered (sym whole) numbered) show shows rows answer
-          ∙ ap (λ l. map show (map entry_of l)) whole
-          ∙ all_full columns filled (db.trees tree) numbered.1 full in
+      (subst AreNumbered (sym whole) numbered) show shows rows answer
+      ∙ ap (λ l. map show (map entry_of l)) whole
+      ∙ all_full columns filled (db.trees tree) numbered.1 full in
       table_taken written read Holds back kept (db.trees tree) numbered found (subst (λ l. TakesAll takes l found) are h)
 
   table_read : AreNumbered (db.trees tree) → AllByRecursion (IsFull columns filled) (db.trees tree) → (found : Option (Vec X Global)) → ListsTaken takes layout text db found
@@ -127,8 +127,8 @@ module _ (layout : Layout) (s : State) (laid : IsLaid layout s) where
   codes_read =
       let table = published_laid layout s laid in
       table_read layout s.now written_code read_code HoldsCode
-          (λ a holds n. code_back a n) published_in 1 tables.published.columns
-          (refl, (refl, (refl, tt))) means.codes_query.project means.codes_text _ (means.codes_is layout)
+      (λ a holds n. code_back a n) published_in 1 tables.published.columns
+      (refl, (refl, (refl, tt))) means.codes_query.project means.codes_text _ (means.codes_is layout)
       (λ x. refl) refl table.0 table.1
 
   pub desks_read : (found : Option (Vec DeskRecord Global)) → ListsTaken (λ row f. TakesRow written_desk HoldsDesk row (option_map desk_kept f)) layout means.desks_text s.now found
@@ -136,20 +136,20 @@ module _ (layout : Layout) (s : State) (laid : IsLaid layout s) where
   desks_read =
       let table = desks_laid layout s laid in
       table_read layout s.now written_desk read_desk HoldsDesk
-          (λ a holds n. desk_back a holds.1 n) desk_kept 3 tables.desks.columns
-          (refl, (refl, (refl, tt))) means.desks_query.project means.desks_text _ (means.desks_is layout)
+      (λ a holds n. desk_back a holds.1 n) desk_kept 3 tables.desks.columns
+      (refl, (refl, (refl, tt))) means.desks_query.project means.desks_text _ (means.desks_is layout)
       (λ x. refl) refl table.0 table.1
 
   plans_listed : (found : Option (List Plan)) (rows : List Row) → Reads (meaning_under (schema_of layout) means.plans_text) s.now [] rows
       → TakesAll (λ row f. TakesRow written_plan IsGoodPlan row (option_map (λ (p : Plan). p) f)) rows found →
-          TakesTable written_plan read_plan IsGoodPlan (s.now.trees 5)
-          (option_map (map (λ (p : Plan). p)) found)
+      TakesTable written_plan read_plan IsGoodPlan (s.now.trees 5)
+      (option_map (map (λ (p : Plan). p)) found)
   plans_listed =
       let table = plans_laid layout s laid in
       table_listed layout s.now written_plan read_plan IsGoodPlan (λ a holds n. plan_back a n)
-          (λ (p : Plan). p) 5 tables.plans.columns
-          (refl, (refl, (refl, (refl, (refl, (refl, (refl, tt))))))) means.plans_query.project
-          means.plans_text _ (means.plans_is layout)
+      (λ (p : Plan). p) 5 tables.plans.columns
+      (refl, (refl, (refl, (refl, (refl, (refl, (refl, tt))))))) means.plans_query.project
+      means.plans_text _ (means.plans_is layout)
       (λ x. refl) refl table.0 table.1
 
   -- good plans, each from its row
@@ -168,9 +168,9 @@ module _ (layout : Layout) (s : State) (laid : IsLaid layout s) where
   binds_read =
       let table = binds_laid layout s laid in
       table_read layout s.now written_bind read_bind HoldsBind
-          (λ a holds n. bind_back a n) bind_kept 7 tables.binds.columns
-          (refl, (refl, (refl, (refl, tt)))) means.binds_query.project means.binds_text _
-          (means.binds_is layout)
+      (λ a holds n. bind_back a n) bind_kept 7 tables.binds.columns
+      (refl, (refl, (refl, (refl, tt)))) means.binds_query.project means.binds_text _
+      (means.binds_is layout)
       (λ x. refl) refl table.0 table.1
 
 pub lags_read : (s : State) → IsLaid Second s → (found : Option (Vec LagRecord Global)) →
@@ -180,8 +180,8 @@ pub lags_read : (s : State) → IsLaid Second s → (found : Option (Vec LagReco
 lags_read s laid =
     let table = lags_laid s laid in
     table_read Second s.now written_lag read_lag HoldsLag
-        (λ a holds n. lag_back a n) lag_kept 9 tables.lags.columns
-        (refl, (refl, (refl, (refl, (refl, tt))))) means.lags_query.project means.lags_text _ means.lags_is
+    (λ a holds n. lag_back a n) lag_kept 9 tables.lags.columns
+    (refl, (refl, (refl, (refl, (refl, tt))))) means.lags_query.project means.lags_text _ means.lags_is
     (λ x. refl) refl table.0 table.1
 
 pub lags_read_in : (layout : Layout) → layout ≡ Second → (s : State) → IsLaid layout s →

@@ -118,8 +118,8 @@ pub bumps : (version : ℤ) (office : Digest) (old new : State) → old.now.sche
 bumps version office old new has are count h =
     let w = runs_as bump_text [] old new store_schema has (Update 0 (alone bump_query)) bump_is bump_plain count h in
     let done = subst (λ s. Does old.step_limit (mode_of old) [] (record old.now { schema = s })
-        (statement_of bump_text (understood store_schema bump_text)) None (Update 0 (alone bump_query))
-        (Ok (w.tally, new.now))) has w.changed in
+    (statement_of bump_text (understood store_schema bump_text)) None (Update 0 (alone bump_query))
+    (Ok (w.tally, new.now))) has w.changed in
     (bumped old.step_limit (mode_of old) old.now.trees version office are (w.tally, new.now) done, w.sound)
 
 -- ---- both statements

@@ -229,8 +229,8 @@ module _ {S : Type 0} (g : Ghosts S) (old mid new : Held S) (rest : IsAtRest (st
       let early = λ (clean : HasCleanDisk (state g mid)). let it : HasCleanDisk (state g old) = omega (arith, one.clean) in it in
       let start = λ (clean : HasCleanDisk (state g mid)). begun_plain g text [] old mid (query (early clean)).plain (begun clean) in
       queries_by (state g old) (state g new) rest (λ clean. early (late clean))
-          (λ clean. leaves_then (state g old) (state g mid) (state g new)
-          (unchanged_stays (state g old) (state g mid) (start (late clean)).1) (leaves clean)) r
+      (λ clean. leaves_then (state g old) (state g mid) (state g new)
+      (unchanged_stays (state g old) (state g mid) (start (late clean)).1) (leaves clean)) r
       (ReviewsRows text (state g old).now (state g new) review) (mode_on (mode rest.outside))
       (told_open (state g new) r (ReviewsRest g mid new review) (ReviewsRows text (state g old).now (state g new) review) (λ clean good h.
       let begin = start (late clean) in

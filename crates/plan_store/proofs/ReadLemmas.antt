@@ -143,7 +143,7 @@ zip_map show Shows f g tells (x ∷ xs) (y ∷ all) zip = ap₂ ◌∷◌ (tells
 
 module _ {A X V : Type 0} (written : A → Row) (read : Row → A) (rows : List Row) (it : Keeps written read rows) (p : A → Bool) (show : ℤ × A → Row) (Shows : Row → X → Type 0) (f : X → V) (g : A → V)
     (tells : (x : ℤ × A) (y : X) → Shows (show x) y → f y ≡ g x.1) (cmp : ℤ × A → ℤ × A → Ordering)
-        (before : A → A → Bool) (agree : (x y : ℤ × A) → x.0 <ℤ y.0 → is_gt (cmp x y) ≡ before y.1 x.1) where
+    (before : A → A → Bool) (agree : (x y : ℤ × A) → x.0 <ℤ y.0 → is_gt (cmp x y) ≡ before y.1 x.1) where
   pub list_read : (answer : List Row) → answer ≡ map show (sort_by cmp (filter (λ x. p x.1) it.entries)) → (all : List X) → AllZip Shows answer all
       → map f all ≡ map g (in_order before (filter p (map read rows)))
   list_read answer is all zip =
@@ -264,8 +264,8 @@ module _ (s : State) (stands : Stands s) where
       let cmp = λ (a b : ℤ × Plan). ordering_then (int_cmp (pos a.1.n) (pos b.1.n)) (int_cmp a.0 b.0) in
       let kept = held.plans in
       let are = rows_sorted written_plan 5 (is_given 1 0 ∷ []) means.plans_query.project
-          (Text desk ∷ []) seen kept.entries kept.are kept.rise (λ x. is_plan_of desk x.1)
-          (owner_tested desk []) show (λ x. refl)
+      (Text desk ∷ []) seen kept.entries kept.are kept.rise (λ x. is_plan_of desk x.1)
+      (owner_tested desk []) show (λ x. refl)
       (by 2 ∷ by 0 ∷ []) cmp (λ a b low. no_tie_after (int_cmp (pos a.1.n) (pos b.1.n)) (no_tie low)) (λ a b. then_key (value_cmp-Int (pos a.1.n) (pos b.1.n)) (last_key (value_cmp-Int a.0 b.0)))
       h.0 (read_query means.plans_text means.plans_query _ means.plans_is s.now (Text desk ∷ []) h.0 h.1) in
       list_read written_plan read_plan (s.now.trees 5) kept (is_plan_of desk) show ShowsEntry entry_in entry_of
@@ -280,10 +280,10 @@ module _ (s : State) (stands : Stands s) where
       let cmp = λ (a b : ℤ × Bind). ordering_then (int_cmp (pos a.1.place) (pos b.1.place)) (int_cmp a.0 b.0) in
       let kept = held.binds in
       let are = rows_sorted written_bind 7 (is_given 1 0 ∷ is_given 2 1 ∷ []) means.binds_query.project given
-          seen kept.entries kept.are kept.rise (λ x. is_bind_of desk n x.1) (bind_of_tested desk n []) show
-          (λ x. refl)
+      seen kept.entries kept.are kept.rise (λ x. is_bind_of desk n x.1) (bind_of_tested desk n []) show
+      (λ x. refl)
       (by 3 ∷ by 0 ∷ []) cmp (λ a b low. no_tie_after (int_cmp (pos a.1.place) (pos b.1.place)) (no_tie low))
-          (λ a b. then_key (value_cmp-Int (pos a.1.place) (pos b.1.place)) (last_key (value_cmp-Int a.0 b.0)))
+      (λ a b. then_key (value_cmp-Int (pos a.1.place) (pos b.1.place)) (last_key (value_cmp-Int a.0 b.0)))
       h.0 (read_query means.binds_text means.binds_query _ means.binds_is s.now given h.0 h.1) in
       list_read written_bind read_bind (s.now.trees 7) kept (is_bind_of desk n) show ShowsBind bind_in place_of
       (λ x y shows. λ i. (same_numbers y.place x.1.place (sym shows.place) i, same_texts (string_bytes y.code) x.1.code (sym shows.code) i)) cmp bind_before
@@ -298,8 +298,8 @@ module _ (s : State) (stands : Stands s) where
       let cmp = λ (a b : ℤ × Lag). ordering_then (int_cmp (pos a.1.source) (pos b.1.source)) (ordering_then (int_cmp (pos a.1.target) (pos b.1.target)) (int_cmp a.0 b.0)) in
       let kept = held.lags in
       let are = rows_sorted written_lag 9 (is_given 1 0 ∷ is_given 2 1 ∷ []) means.lags_query.project given
-          seen kept.entries kept.are kept.rise (λ x. is_lag_of desk n x.1) (lag_of_tested desk n []) show
-          (λ x. refl)
+      seen kept.entries kept.are kept.rise (λ x. is_lag_of desk n x.1) (lag_of_tested desk n []) show
+      (λ x. refl)
       (by 3 ∷ by 4 ∷ by 0 ∷ []) cmp
       (λ a b low. no_tie_after (int_cmp (pos a.1.source) (pos b.1.source)) (no_tie_after (int_cmp (pos a.1.target) (pos b.1.target)) (no_tie low)))
       (λ a b. then_key (value_cmp-Int (pos a.1.source) (pos b.1.source)) (then_key (value_cmp-Int (pos a.1.target) (pos b.1.target)) (last_key (value_cmp-Int a.0 b.0))))
@@ -307,8 +307,8 @@ module _ (s : State) (stands : Stands s) where
       list_read written_lag read_lag (s.now.trees 9) kept (is_lag_of desk n) show ShowsLag lag_in arc_of
       (λ x y shows. λ i. (same_numbers y.from x.1.source (sym shows.source) i, same_numbers y.to x.1.target (sym shows.target) i, same_numbers y.lag x.1.lag (sym shows.lag) i)) cmp lag_before
       (λ x y low. then_both (int_cmp (pos x.1.source) (pos y.1.source))
-          (int_cmp (pos x.1.target) (pos y.1.target)) x.0 y.0 low
-          ∙ above_both x.1.source y.1.source x.1.target y.1.target) h.0 are all h.2
+      (int_cmp (pos x.1.target) (pos y.1.target)) x.0 y.0 low
+      ∙ above_both x.1.source y.1.source x.1.target y.1.target) h.0 are all h.2
       ∙ ap (λ l. map arc_of (in_order lag_before l)) (sym (filter_both (is_lag_by desk) (λ row. row.n == n) (map read_lag (s.now.trees 9))))
 
   pub counted_read : (desk : List ℕ) (count : ℕ) → CountShown means.counted_text s.now (Text desk ∷ []) count → count ≡ length (view desk (world_of s.now.trees)).plans
@@ -357,8 +357,16 @@ found_passes p (x ∷ xs) y e = go (p x) refl e (found_passes p xs y)
 
 -- a plan with the binds and lags that are read beside it
 module _ (w : World) (desk : List ℕ) (n : ℕ) (row : PlanRow) (part : PlanPart)
-    (same : row ≡ record { kind = part.kind; name = part.name; body = part.body; start = part.start; days =
-    part.days; binds = row.binds; lags = row.lags })
+    (same : row ≡ record {
+      kind = part.kind;
+      name = part.name;
+      body = part.body;
+      start = part.start;
+      days =
+          part.days;
+      binds = row.binds;
+      lags = row.lags;
+    })
     (binds : map bind_in row.binds.items ≡ places_of (view desk w) n) (lags : map lag_in row.lags.items ≡ lags_of (view desk w) n) where
   with_parts : (o : Option Plan) → plan_in w desk n ≡ o → Matches IsPlanPart o (Some part) → Matches (IsPlanAnswer (view desk w)) o (Some row)
   with_parts None is h = h

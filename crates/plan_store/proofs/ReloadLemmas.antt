@@ -62,8 +62,8 @@ module _ {S : Type 0} (g : Ghosts S) (old : Held S) (store : S) (settled : IsTru
       let same = λ (h : HasCleanDisk (state g new)). trees h ∙ same_trees (clean h) in
       let schema = λ (h : HasCleanDisk (state g new)).
       one_schema (state g new).now.schema (state g old).now.schema (state g old).now.trees
-          (subst (IsSound (state g new).now.schema) (same h) ((opens h).1 (opens h).0.is_open).0)
-          (live (was_open (clean h))).0 in
+      (subst (IsSound (state g new).now.schema) (same h) ((opens h).1 (opens h).0.is_open).0)
+      (live (was_open (clean h))).0 in
       record {
         outside = outside;
         honesty = λ h. was_clean (clean h);
@@ -74,8 +74,8 @@ module _ {S : Type 0} (g : Ghosts S) (old : Held S) (store : S) (settled : IsTru
           settled = (opens h).0.clean;
           order = subst (λ t. AllByRecursion (λ table. AreNumbered (t table.tree)) (state g new).now.schema.tables) (sym (trees h))
               (numbered_by (g.view store) (state g new).now.schema (listed (whole (clean h)))
-                  (ordered (whole (clean h))) (subst (IsSound (state g new).now.schema) (trees h)
-                  ((opens h).1 (opens h).0.is_open).0));
+              (ordered (whole (clean h))) (subst (IsSound (state g new).now.schema) (trees h)
+              ((opens h).1 (opens h).0.is_open).0));
           sound = ((opens h).1 (opens h).0.is_open).0;
         };
         same = λ h. (λ i. record { schema = schema h i; trees = same h i });

@@ -80,30 +80,32 @@ module _ (old new : State) (has : old.now.schema ≡ store_schema) (held : HoldR
       let given = Text row.code ∷ Text (kind_text row.kind) ∷ number_value row.capacity ∷ [] in
       let w = runs_as publish_text given old new store_schema has (Insert 1 (Values publish_terms 4)) publish_is publish_plain count h in
       let done = subst (λ s. Does old.step_limit (mode_of old) given (record old.now { schema = s })
-          (statement_of publish_text (understood store_schema publish_text)) None
-          (Insert 1 (Values publish_terms 4)) (Ok (w.tally, new.now))) has w.changed in
+      (statement_of publish_text (understood store_schema publish_text)) None
+      (Insert 1 (Values publish_terms 4)) (Ok (w.tally, new.now))) has w.changed in
       code_inserted old new held w.shown.was_open w.sound (row) (code_back row)
       (insert_sets store_schema old.step_limit (mode_of old) (codes "published") 1
-          (1 ∷ []) tables.published.columns (λ _ _. refl) written_code code_casts old.now.trees
-          held.published.entries held.published.are held.published.rise given 1 publish_terms 4 (row) refl
-          (w.tally, new.now) done)
+      (1 ∷ []) tables.published.columns (λ _ _. refl) written_code code_casts old.now.trees
+      held.published.entries held.published.are held.published.rise given 1 publish_terms 4 (row) refl
+      (w.tally, new.now) done)
 
   pub republishes : (code : List ℕ) (capacity : ℕ) → IsWorld (world_of old.now.trees) →
       Executes republish_text (Text code ∷ number_value capacity ∷ []) old new (Ok count) →
-      Steps old new (λ w. record w { published = changed (is_code code)
-      (with_capacity capacity) w.published })
+      Steps old new (λ w. record w {
+        published = changed (is_code code)
+            (with_capacity capacity) w.published;
+      })
   republishes code capacity rules h =
       let given = Text code ∷ number_value capacity ∷ [] in
       let w = runs_as republish_text given old new store_schema has (Update 1 (alone republish_query)) republish_is republish_plain count h in
       let done = subst (λ s. Does old.step_limit (mode_of old) given (record old.now { schema = s })
-          (statement_of republish_text (understood store_schema republish_text)) None
-          (Update 1 (alone republish_query)) (Ok (w.tally, new.now))) has w.changed in
+      (statement_of republish_text (understood store_schema republish_text)) None
+      (Update 1 (alone republish_query)) (Ok (w.tally, new.now))) has w.changed in
       code_updated old new held w.shown.was_open w.sound (is_code code) (with_capacity capacity) (λ x back. code_back (with_capacity capacity x.1) x.0)
       (update_sets store_schema old.step_limit (mode_of old) (codes "published") 1
-          (1 ∷ []) tables.published.columns (λ _ _. refl) written_code code_casts old.now.trees
-          held.published.entries held.published.are held.published.rise given (is_given 1 0 ∷ [])
-          (λ x. is_code code x.1) (code_tested code (number_value capacity ∷ [])) refl 1
-          republish_query.project (with_capacity capacity) (λ x. refl)
+      (1 ∷ []) tables.published.columns (λ _ _. refl) written_code code_casts old.now.trees
+      held.published.entries held.published.are held.published.rise given (is_given 1 0 ∷ [])
+      (λ x. is_code code x.1) (code_tested code (number_value capacity ∷ [])) refl 1
+      republish_query.project (with_capacity capacity) (λ x. refl)
       (few_pass written_code read_code held.published (is_code code) _ (codes_alike code) rules.codes_differ) (w.tally, new.now) done)
 
   pub opens_desk : (desk : List ℕ) (digest : Digest) → is_digest digest ≡ true →
@@ -113,29 +115,31 @@ module _ (old new : State) (has : old.now.schema ≡ store_schema) (held : HoldR
       let given = Text desk ∷ digest_value digest ∷ [] in
       let w = runs_as open_desk_text given old new store_schema has (Insert 2 (Values open_desk_terms 4)) open_desk_is open_desk_plain count h in
       let done = subst (λ s. Does old.step_limit (mode_of old) given (record old.now { schema = s })
-          (statement_of open_desk_text (understood store_schema open_desk_text)) None
-          (Insert 2 (Values open_desk_terms 4)) (Ok (w.tally, new.now))) has w.changed in
+      (statement_of open_desk_text (understood store_schema open_desk_text)) None
+      (Insert 2 (Values open_desk_terms 4)) (Ok (w.tally, new.now))) has w.changed in
       desk_inserted old new held w.shown.was_open w.sound (new_desk desk digest) (desk_back (new_desk desk digest) good)
       (insert_sets store_schema old.step_limit (mode_of old) (codes "desks") 3 (1 ∷ []) tables.desks.columns
-          (λ _ _. refl) written_desk desk_casts old.now.trees held.desks.entries held.desks.are
-          held.desks.rise given 2 open_desk_terms 4 (new_desk desk digest) refl (w.tally, new.now) done)
+      (λ _ _. refl) written_desk desk_casts old.now.trees held.desks.entries held.desks.are
+      held.desks.rise given 2 open_desk_terms 4 (new_desk desk digest) refl (w.tally, new.now) done)
 
   pub sets_key : (desk : List ℕ) (digest : Digest) → is_digest digest ≡ true →
       IsWorld (world_of old.now.trees) → Executes set_key_text (Text desk ∷ digest_value digest ∷ []) old new
-      (Ok count) → Steps old new (λ w. record w { desks =
-      changed (is_desk desk) (with_digest digest) w.desks })
+      (Ok count) → Steps old new (λ w. record w {
+        desks =
+            changed (is_desk desk) (with_digest digest) w.desks;
+      })
   sets_key desk digest good rules h =
       let given = Text desk ∷ digest_value digest ∷ [] in
       let w = runs_as set_key_text given old new store_schema has (Update 2 (alone set_key_query)) set_key_is set_key_plain count h in
       let done = subst (λ s. Does old.step_limit (mode_of old) given (record old.now { schema = s })
-          (statement_of set_key_text (understood store_schema set_key_text)) None
-          (Update 2 (alone set_key_query)) (Ok (w.tally, new.now))) has w.changed in
+      (statement_of set_key_text (understood store_schema set_key_text)) None
+      (Update 2 (alone set_key_query)) (Ok (w.tally, new.now))) has w.changed in
       desk_updated old new held w.shown.was_open w.sound (is_desk desk) (with_digest digest) (λ x back. desk_back (with_digest digest x.1) good x.0)
       (update_sets store_schema old.step_limit (mode_of old) (codes "desks") 3 (1 ∷ []) tables.desks.columns
-          (λ _ _. refl) written_desk desk_casts old.now.trees held.desks.entries held.desks.are
-          held.desks.rise given (is_given 1 0 ∷ []) (λ x. is_desk desk x.1)
-          (desk_tested desk (digest_value digest ∷ [])) refl 2 set_key_query.project (with_digest digest)
-          (λ x. refl)
+      (λ _ _. refl) written_desk desk_casts old.now.trees held.desks.entries held.desks.are
+      held.desks.rise given (is_given 1 0 ∷ []) (λ x. is_desk desk x.1)
+      (desk_tested desk (digest_value digest ∷ [])) refl 2 set_key_query.project (with_digest digest)
+      (λ x. refl)
       (few_pass written_desk read_desk held.desks (is_desk desk) _ (desks_alike desk) rules.desks_differ) (w.tally, new.now) done)
 
   desk_back_at : (x : ℤ × Desk) (next : ℕ) → read_desk (row_at written_desk x) ≡ x.1 → read_desk (row_at written_desk (x.0, record x.1 { next = next })) ≡ record x.1 { next = next }
@@ -143,20 +147,22 @@ module _ (old new : State) (has : old.now.schema ≡ store_schema) (held : HoldR
 
   pub raises : (desk : List ℕ) (next : ℕ) (a b c d : Value) → IsWorld (world_of old.now.trees) →
       Executes raise_text (Text desk ∷ a ∷ b ∷ c ∷ d ∷ number_value next ∷ []) old new (Ok count) →
-      Steps old new (λ w. record w { desks = changed (is_desk desk)
-      (λ row. record row { next = next }) w.desks })
+      Steps old new (λ w. record w {
+        desks = changed (is_desk desk)
+            (λ row. record row { next = next }) w.desks;
+      })
   raises desk next a b c d rules h =
       let given = Text desk ∷ a ∷ b ∷ c ∷ d ∷ number_value next ∷ [] in
       let w = runs_as raise_text given old new store_schema has (Update 2 (alone raise_query)) raise_is raise_plain count h in
       let done = subst (λ s. Does old.step_limit (mode_of old) given (record old.now { schema = s })
-          (statement_of raise_text (understood store_schema raise_text)) None (Update 2 (alone raise_query))
-          (Ok (w.tally, new.now))) has w.changed in
+      (statement_of raise_text (understood store_schema raise_text)) None (Update 2 (alone raise_query))
+      (Ok (w.tally, new.now))) has w.changed in
       desk_updated old new held w.shown.was_open w.sound (is_desk desk) (λ row. record row { next = next }) (λ x back. desk_back_at x next back)
       (update_sets store_schema old.step_limit (mode_of old) (codes "desks") 3 (1 ∷ []) tables.desks.columns
-          (λ _ _. refl) written_desk desk_casts old.now.trees held.desks.entries held.desks.are
-          held.desks.rise given (is_given 1 0 ∷ []) (λ x. is_desk desk x.1)
-          (desk_tested desk (a ∷ b ∷ c ∷ d ∷ number_value next ∷ [])) refl 2 raise_query.project
-          (λ row. record row { next = next }) (λ x. refl)
+      (λ _ _. refl) written_desk desk_casts old.now.trees held.desks.entries held.desks.are
+      held.desks.rise given (is_given 1 0 ∷ []) (λ x. is_desk desk x.1)
+      (desk_tested desk (a ∷ b ∷ c ∷ d ∷ number_value next ∷ [])) refl 2 raise_query.project
+      (λ row. record row { next = next }) (λ x. refl)
       (few_pass written_desk read_desk held.desks (is_desk desk) _ (desks_alike desk) rules.desks_differ) (w.tally, new.now) done)
 
   pub adds_plan : (desk : List ℕ) (n : ℕ) (kind : PlanKind) (name body : List ℕ) →
@@ -167,30 +173,32 @@ module _ (old new : State) (has : old.now.schema ≡ store_schema) (held : HoldR
       let given = Text desk ∷ number_value n ∷ Text (plan_kind_text kind) ∷ Text name ∷ Blob body ∷ [] in
       let w = runs_as add_plan_text given old new store_schema has (Insert 3 (Values add_plan_terms 8)) add_plan_is add_plan_plain count h in
       let done = subst (λ s. Does old.step_limit (mode_of old) given (record old.now { schema = s })
-          (statement_of add_plan_text (understood store_schema add_plan_text)) None
-          (Insert 3 (Values add_plan_terms 8)) (Ok (w.tally, new.now))) has w.changed in
+      (statement_of add_plan_text (understood store_schema add_plan_text)) None
+      (Insert 3 (Values add_plan_terms 8)) (Ok (w.tally, new.now))) has w.changed in
       plan_inserted old new held w.shown.was_open w.sound (new_plan desk n kind name body) (plan_back (new_plan desk n kind name body))
       (insert_sets store_schema old.step_limit (mode_of old) (codes "plans") 5
-          (1 ∷ 2 ∷ []) tables.plans.columns (λ _ _. refl) written_plan plan_casts old.now.trees
-          held.plans.entries held.plans.are held.plans.rise given 3 add_plan_terms 8
-          (new_plan desk n kind name body) refl (w.tally, new.now) done)
+      (1 ∷ 2 ∷ []) tables.plans.columns (λ _ _. refl) written_plan plan_casts old.now.trees
+      held.plans.entries held.plans.are held.plans.rise given 3 add_plan_terms 8
+      (new_plan desk n kind name body) refl (w.tally, new.now) done)
 
   pub sets_calendar : (desk : List ℕ) (n : ℕ) (start days : List ℕ) → IsWorld (world_of old.now.trees) →
       Executes set_calendar_text (Text desk ∷ number_value n ∷ Text start ∷ Text days ∷ []) old new
-      (Ok count) → Steps old new (λ w. record w { plans =
-      changed (is_plan desk n) (with_calendar start days) w.plans })
+      (Ok count) → Steps old new (λ w. record w {
+        plans =
+            changed (is_plan desk n) (with_calendar start days) w.plans;
+      })
   sets_calendar desk n start days rules h =
       let given = Text desk ∷ number_value n ∷ Text start ∷ Text days ∷ [] in
       let w = runs_as set_calendar_text given old new store_schema has (Update 3 (alone set_calendar_query)) set_calendar_is set_calendar_plain count h in
       let done = subst (λ s. Does old.step_limit (mode_of old) given (record old.now { schema = s })
-          (statement_of set_calendar_text (understood store_schema set_calendar_text)) None
-          (Update 3 (alone set_calendar_query)) (Ok (w.tally, new.now))) has w.changed in
+      (statement_of set_calendar_text (understood store_schema set_calendar_text)) None
+      (Update 3 (alone set_calendar_query)) (Ok (w.tally, new.now))) has w.changed in
       plan_updated old new held w.shown.was_open w.sound (is_plan desk n) (with_calendar start days) (λ x back. plan_back (with_calendar start days x.1) x.0)
       (update_sets store_schema old.step_limit (mode_of old) (codes "plans") 5
-          (1 ∷ 2 ∷ []) tables.plans.columns (λ _ _. refl) written_plan plan_casts old.now.trees
-          held.plans.entries held.plans.are held.plans.rise given (is_given 1 0 ∷ is_given 2 1 ∷ [])
-          (λ x. is_plan desk n x.1) (plan_tested desk n (Text start ∷ Text days ∷ [])) refl 3
-          set_calendar_query.project (with_calendar start days) (λ x. refl)
+      (1 ∷ 2 ∷ []) tables.plans.columns (λ _ _. refl) written_plan plan_casts old.now.trees
+      held.plans.entries held.plans.are held.plans.rise given (is_given 1 0 ∷ is_given 2 1 ∷ [])
+      (λ x. is_plan desk n x.1) (plan_tested desk n (Text start ∷ Text days ∷ [])) refl 3
+      set_calendar_query.project (with_calendar start days) (λ x. refl)
       (few_pass written_plan read_plan held.plans (is_plan desk n) _ (plans_alike desk n) rules.plans_differ) (w.tally, new.now) done)
 
   pub removes_plan : (desk : List ℕ) (n : ℕ) → Executes remove_plan_text
@@ -200,13 +208,13 @@ module _ (old new : State) (has : old.now.schema ≡ store_schema) (held : HoldR
       let given = Text desk ∷ number_value n ∷ [] in
       let w = runs_as remove_plan_text given old new store_schema has (Delete 3 (alone remove_plan_query)) remove_plan_is remove_plan_plain count h in
       let done = subst (λ s. Does old.step_limit (mode_of old) given (record old.now { schema = s })
-          (statement_of remove_plan_text (understood store_schema remove_plan_text)) None
-          (Delete 3 (alone remove_plan_query)) (Ok (w.tally, new.now))) has w.changed in
+      (statement_of remove_plan_text (understood store_schema remove_plan_text)) None
+      (Delete 3 (alone remove_plan_query)) (Ok (w.tally, new.now))) has w.changed in
       plan_deleted old new held w.shown.was_open w.sound (is_plan desk n)
       (delete_sets store_schema old.step_limit (mode_of old) (codes "plans") 5
-          (1 ∷ 2 ∷ []) tables.plans.columns (λ _ _. refl) written_plan plan_casts old.now.trees
-          held.plans.entries held.plans.are held.plans.rise given (is_given 1 0 ∷ is_given 2 1 ∷ [])
-          (λ x. is_plan desk n x.1) (plan_tested desk n []) refl 3 (w.tally, new.now) done)
+      (1 ∷ 2 ∷ []) tables.plans.columns (λ _ _. refl) written_plan plan_casts old.now.trees
+      held.plans.entries held.plans.are held.plans.rise given (is_given 1 0 ∷ is_given 2 1 ∷ [])
+      (λ x. is_plan desk n x.1) (plan_tested desk n []) refl 3 (w.tally, new.now) done)
 
   pub removes_binds : (desk : List ℕ) (n : ℕ) → Executes remove_binds_text
       (Text desk ∷ number_value n ∷ []) old new (Ok count) →
@@ -215,13 +223,13 @@ module _ (old new : State) (has : old.now.schema ≡ store_schema) (held : HoldR
       let given = Text desk ∷ number_value n ∷ [] in
       let w = runs_as remove_binds_text given old new store_schema has (Delete 4 (alone remove_binds_query)) remove_binds_is remove_binds_plain count h in
       let done = subst (λ s. Does old.step_limit (mode_of old) given (record old.now { schema = s })
-          (statement_of remove_binds_text (understood store_schema remove_binds_text)) None
-          (Delete 4 (alone remove_binds_query)) (Ok (w.tally, new.now))) has w.changed in
+      (statement_of remove_binds_text (understood store_schema remove_binds_text)) None
+      (Delete 4 (alone remove_binds_query)) (Ok (w.tally, new.now))) has w.changed in
       bind_deleted old new held w.shown.was_open w.sound (is_bind_of desk n)
       (delete_sets store_schema old.step_limit (mode_of old) (codes "binds") 7
-          (1 ∷ 2 ∷ 3 ∷ []) tables.binds.columns (λ _ _. refl) written_bind bind_casts old.now.trees
-          held.binds.entries held.binds.are held.binds.rise given (is_given 1 0 ∷ is_given 2 1 ∷ [])
-          (λ x. is_bind_of desk n x.1) (bind_of_tested desk n []) refl 4 (w.tally, new.now) done)
+      (1 ∷ 2 ∷ 3 ∷ []) tables.binds.columns (λ _ _. refl) written_bind bind_casts old.now.trees
+      held.binds.entries held.binds.are held.binds.rise given (is_given 1 0 ∷ is_given 2 1 ∷ [])
+      (λ x. is_bind_of desk n x.1) (bind_of_tested desk n []) refl 4 (w.tally, new.now) done)
 
   pub removes_lags : (desk : List ℕ) (n : ℕ) → Executes remove_lags_text
       (Text desk ∷ number_value n ∷ []) old new (Ok count) →
@@ -230,14 +238,14 @@ module _ (old new : State) (has : old.now.schema ≡ store_schema) (held : HoldR
       let given = Text desk ∷ number_value n ∷ [] in
       let w = runs_as remove_lags_text given old new store_schema has (Delete 5 (alone remove_lags_query)) remove_lags_is remove_lags_plain count h in
       let done = subst (λ s. Does old.step_limit (mode_of old) given (record old.now { schema = s })
-          (statement_of remove_lags_text (understood store_schema remove_lags_text)) None
-          (Delete 5 (alone remove_lags_query)) (Ok (w.tally, new.now))) has w.changed in
+      (statement_of remove_lags_text (understood store_schema remove_lags_text)) None
+      (Delete 5 (alone remove_lags_query)) (Ok (w.tally, new.now))) has w.changed in
       lag_deleted old new held w.shown.was_open w.sound (is_lag_of desk n)
       (delete_sets store_schema old.step_limit (mode_of old) (codes "lags") 9
-          (1 ∷ 2 ∷ 3 ∷ 4 ∷ []) tables.lags.columns
-          (λ _ _. refl) written_lag lag_casts old.now.trees held.lags.entries held.lags.are held.lags.rise
-          given (is_given 1 0 ∷ is_given 2 1 ∷ []) (λ x. is_lag_of desk n x.1)
-          (lag_of_tested desk n []) refl 5 (w.tally, new.now) done)
+      (1 ∷ 2 ∷ 3 ∷ 4 ∷ []) tables.lags.columns
+      (λ _ _. refl) written_lag lag_casts old.now.trees held.lags.entries held.lags.are held.lags.rise
+      given (is_given 1 0 ∷ is_given 2 1 ∷ []) (λ x. is_lag_of desk n x.1)
+      (lag_of_tested desk n []) refl 5 (w.tally, new.now) done)
 
   pub binds_place : (row : Bind) → Executes bind_text
       (Text row.desk ∷ number_value row.n ∷ number_value row.place ∷ Text row.code ∷ []) old new (Ok count) →
@@ -246,30 +254,32 @@ module _ (old new : State) (has : old.now.schema ≡ store_schema) (held : HoldR
       let given = Text row.desk ∷ number_value row.n ∷ number_value row.place ∷ Text row.code ∷ [] in
       let w = runs_as bind_text given old new store_schema has (Insert 4 (Values bind_terms 5)) bind_is bind_plain count h in
       let done = subst (λ s. Does old.step_limit (mode_of old) given (record old.now { schema = s })
-          (statement_of bind_text (understood store_schema bind_text)) None (Insert 4 (Values bind_terms 5))
-          (Ok (w.tally, new.now))) has w.changed in
+      (statement_of bind_text (understood store_schema bind_text)) None (Insert 4 (Values bind_terms 5))
+      (Ok (w.tally, new.now))) has w.changed in
       bind_inserted old new held w.shown.was_open w.sound (row) (bind_back row)
       (insert_sets store_schema old.step_limit (mode_of old) (codes "binds") 7
-          (1 ∷ 2 ∷ 3 ∷ []) tables.binds.columns (λ _ _. refl) written_bind bind_casts old.now.trees
-          held.binds.entries held.binds.are held.binds.rise given 4 bind_terms 5 (row) refl
-          (w.tally, new.now) done)
+      (1 ∷ 2 ∷ 3 ∷ []) tables.binds.columns (λ _ _. refl) written_bind bind_casts old.now.trees
+      held.binds.entries held.binds.are held.binds.rise given 4 bind_terms 5 (row) refl
+      (w.tally, new.now) done)
 
   pub rebinds : (desk : List ℕ) (n place : ℕ) (code : List ℕ) → IsWorld (world_of old.now.trees) →
       Executes rebind_text (Text desk ∷ number_value n ∷ number_value place ∷ Text code ∷ []) old new
-      (Ok count) → Steps old new (λ w. record w { binds =
-      changed (is_bind desk n place) (with_code code) w.binds })
+      (Ok count) → Steps old new (λ w. record w {
+        binds =
+            changed (is_bind desk n place) (with_code code) w.binds;
+      })
   rebinds desk n place code rules h =
       let given = Text desk ∷ number_value n ∷ number_value place ∷ Text code ∷ [] in
       let w = runs_as rebind_text given old new store_schema has (Update 4 (alone rebind_query)) rebind_is rebind_plain count h in
       let done = subst (λ s. Does old.step_limit (mode_of old) given (record old.now { schema = s })
-          (statement_of rebind_text (understood store_schema rebind_text)) None
-          (Update 4 (alone rebind_query)) (Ok (w.tally, new.now))) has w.changed in
+      (statement_of rebind_text (understood store_schema rebind_text)) None
+      (Update 4 (alone rebind_query)) (Ok (w.tally, new.now))) has w.changed in
       bind_updated old new held w.shown.was_open w.sound (is_bind desk n place) (with_code code) (λ x back. bind_back (with_code code x.1) x.0)
       (update_sets store_schema old.step_limit (mode_of old) (codes "binds") 7
-          (1 ∷ 2 ∷ 3 ∷ []) tables.binds.columns (λ _ _. refl) written_bind bind_casts old.now.trees
-          held.binds.entries held.binds.are held.binds.rise given
-          (is_given 1 0 ∷ is_given 2 1 ∷ is_given 3 2 ∷ []) (λ x. is_bind desk n place x.1)
-          (bind_tested desk n place (Text code ∷ [])) refl 4 rebind_query.project (with_code code) (λ x. refl)
+      (1 ∷ 2 ∷ 3 ∷ []) tables.binds.columns (λ _ _. refl) written_bind bind_casts old.now.trees
+      held.binds.entries held.binds.are held.binds.rise given
+      (is_given 1 0 ∷ is_given 2 1 ∷ is_given 3 2 ∷ []) (λ x. is_bind desk n place x.1)
+      (bind_tested desk n place (Text code ∷ [])) refl 4 rebind_query.project (with_code code) (λ x. refl)
       (few_pass written_bind read_bind held.binds (is_bind desk n place) _ (binds_alike desk n place) rules.binds_differ) (w.tally, new.now) done)
 
   pub sets_lag : (row : Lag) → Executes set_lag_text
@@ -280,13 +290,13 @@ module _ (old new : State) (has : old.now.schema ≡ store_schema) (held : HoldR
       let given = Text row.desk ∷ number_value row.n ∷ number_value row.source ∷ number_value row.target ∷ number_value row.lag ∷ [] in
       let w = runs_as set_lag_text given old new store_schema has (Insert 5 (Values set_lag_terms 6)) set_lag_is set_lag_plain count h in
       let done = subst (λ s. Does old.step_limit (mode_of old) given (record old.now { schema = s })
-          (statement_of set_lag_text (understood store_schema set_lag_text)) None
-          (Insert 5 (Values set_lag_terms 6)) (Ok (w.tally, new.now))) has w.changed in
+      (statement_of set_lag_text (understood store_schema set_lag_text)) None
+      (Insert 5 (Values set_lag_terms 6)) (Ok (w.tally, new.now))) has w.changed in
       lag_inserted old new held w.shown.was_open w.sound (row) (lag_back row)
       (insert_sets store_schema old.step_limit (mode_of old) (codes "lags") 9
-          (1 ∷ 2 ∷ 3 ∷ 4 ∷ []) tables.lags.columns
-          (λ _ _. refl) written_lag lag_casts old.now.trees held.lags.entries held.lags.are held.lags.rise
-          given 5 set_lag_terms 6 (row) refl (w.tally, new.now) done)
+      (1 ∷ 2 ∷ 3 ∷ 4 ∷ []) tables.lags.columns
+      (λ _ _. refl) written_lag lag_casts old.now.trees held.lags.entries held.lags.are held.lags.rise
+      given 5 set_lag_terms 6 (row) refl (w.tally, new.now) done)
 
   pub resets_lag : (desk : List ℕ) (n source target lag : ℕ) → IsWorld (world_of old.now.trees) →
       Executes reset_lag_text (Text desk ∷ number_value n ∷ number_value source ∷ number_value target
@@ -296,15 +306,15 @@ module _ (old new : State) (has : old.now.schema ≡ store_schema) (held : HoldR
       let given = Text desk ∷ number_value n ∷ number_value source ∷ number_value target ∷ number_value lag ∷ [] in
       let w = runs_as reset_lag_text given old new store_schema has (Update 5 (alone reset_lag_query)) reset_lag_is reset_lag_plain count h in
       let done = subst (λ s. Does old.step_limit (mode_of old) given (record old.now { schema = s })
-          (statement_of reset_lag_text (understood store_schema reset_lag_text)) None
-          (Update 5 (alone reset_lag_query)) (Ok (w.tally, new.now))) has w.changed in
+      (statement_of reset_lag_text (understood store_schema reset_lag_text)) None
+      (Update 5 (alone reset_lag_query)) (Ok (w.tally, new.now))) has w.changed in
       lag_updated old new held w.shown.was_open w.sound (is_lag desk n source target) (with_lag lag) (λ x back. lag_back (with_lag lag x.1) x.0)
       (update_sets store_schema old.step_limit (mode_of old) (codes "lags") 9
-          (1 ∷ 2 ∷ 3 ∷ 4 ∷ []) tables.lags.columns
-          (λ _ _. refl) written_lag lag_casts old.now.trees held.lags.entries held.lags.are held.lags.rise
-          given (is_given 1 0 ∷ is_given 2 1 ∷ is_given 3 2 ∷ is_given 4 3 ∷ [])
-          (λ x. is_lag desk n source target x.1) (lag_tested desk n source target (number_value lag ∷ []))
-          refl 5 reset_lag_query.project (with_lag lag) (λ x. refl)
+      (1 ∷ 2 ∷ 3 ∷ 4 ∷ []) tables.lags.columns
+      (λ _ _. refl) written_lag lag_casts old.now.trees held.lags.entries held.lags.are held.lags.rise
+      given (is_given 1 0 ∷ is_given 2 1 ∷ is_given 3 2 ∷ is_given 4 3 ∷ [])
+      (λ x. is_lag desk n source target x.1) (lag_tested desk n source target (number_value lag ∷ []))
+      refl 5 reset_lag_query.project (with_lag lag) (λ x. refl)
       (few_pass written_lag read_lag held.lags (is_lag desk n source target) _ (lags_alike desk n source target) rules.lags_differ) (w.tally, new.now) done)
 
   pub removes_lag : (desk : List ℕ) (n source target : ℕ) →
@@ -315,12 +325,12 @@ module _ (old new : State) (has : old.now.schema ≡ store_schema) (held : HoldR
       let given = Text desk ∷ number_value n ∷ number_value source ∷ number_value target ∷ [] in
       let w = runs_as remove_lag_text given old new store_schema has (Delete 5 (alone remove_lag_query)) remove_lag_is remove_lag_plain count h in
       let done = subst (λ s. Does old.step_limit (mode_of old) given (record old.now { schema = s })
-          (statement_of remove_lag_text (understood store_schema remove_lag_text)) None
-          (Delete 5 (alone remove_lag_query)) (Ok (w.tally, new.now))) has w.changed in
+      (statement_of remove_lag_text (understood store_schema remove_lag_text)) None
+      (Delete 5 (alone remove_lag_query)) (Ok (w.tally, new.now))) has w.changed in
       lag_deleted old new held w.shown.was_open w.sound (is_lag desk n source target)
       (delete_sets store_schema old.step_limit (mode_of old) (codes "lags") 9
-          (1 ∷ 2 ∷ 3 ∷ 4 ∷ []) tables.lags.columns
-          (λ _ _. refl) written_lag lag_casts old.now.trees held.lags.entries held.lags.are held.lags.rise
-          given (is_given 1 0 ∷ is_given 2 1 ∷ is_given 3 2 ∷ is_given 4 3 ∷ [])
-          (λ x. is_lag desk n source target x.1) (lag_tested desk n source target []) refl 5
-          (w.tally, new.now) done)
+      (1 ∷ 2 ∷ 3 ∷ 4 ∷ []) tables.lags.columns
+      (λ _ _. refl) written_lag lag_casts old.now.trees held.lags.entries held.lags.are held.lags.rise
+      given (is_given 1 0 ∷ is_given 2 1 ∷ is_given 3 2 ∷ is_given 4 3 ∷ [])
+      (λ x. is_lag desk n source target x.1) (lag_tested desk n source target []) refl 5
+      (w.tally, new.now) done)

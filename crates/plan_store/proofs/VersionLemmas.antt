@@ -86,5 +86,12 @@ module _ (layout : Layout) (old new : State) (ready : IsReadable layout old) whe
 pub looks_nowhere : (layout : Layout) (s : State) → IsReadable layout s →
     {X : Type 0} (r : Result X BookFault) (Is : X → Type 0) →
     IfOk r (λ x. HasCleanDisk s → IsTrue s.is_open × Is x) → Looks layout s s r Is
-looks_nowhere layout s ready r Is answer = record { ready = ready; honesty = λ clean. clean; same =
-    λ clean live. (live, refl); answer = answer; crash = λ clean trees may. may; endures = endures_itself s }
+looks_nowhere layout s ready r Is answer = record {
+  ready = ready;
+  honesty = λ clean. clean;
+  same =
+      λ clean live. (live, refl);
+  answer = answer;
+  crash = λ clean trees may. may;
+  endures = endures_itself s;
+}

@@ -33,8 +33,8 @@ short : (floors ends : List ℕ) (u v : List ℕ) → Continues (table_tree floo
 short floors ends u [] c l = subst (λ (w : List ℕ). length w ≤ 3) (sym (append-nil u)) l
 short floors ends u (a ∷ v) c l =
     let passes : may_follow floors u a ≡ true = All-contains (λ b. may_follow floors u b ≡ true)
-        (filter (may_follow floors u) (1 ∷ 2 ∷ 3 ∷ [])) a
-        (filter_passes (may_follow floors u) (1 ∷ 2 ∷ 3 ∷ [])) c.0 in
+    (filter (may_follow floors u) (1 ∷ 2 ∷ 3 ∷ [])) a
+    (filter_passes (may_follow floors u) (1 ∷ 2 ∷ 3 ∷ [])) c.0 in
     let room : length u < 3 = ltb-true (length u) 3 (and_parts (nat_lt (length u) 3) (nat_lt 0 (slice_index floors (next_place (reached floors u).place a))) passes).0 in
     subst (λ (w : List ℕ). length w ≤ 3) (append_assoc u (a ∷ []) v) (short floors ends (u ++ a ∷ []) v c.1 (omega (arith, length-append u (a ∷ []), room)))
 
@@ -55,8 +55,8 @@ unfolding BoundHolds
 table_bound_holds floors ends u v word full =
     let k : (reached floors u).bound ≤ (fold (after_letter floors) (reached floors u) v).bound = grows floors (reached floors u) v in
     let e : (reached floors (u ++ v)).bound ≡ (fold (after_letter floors) (reached floors u) v).bound =
-        ap (λ (r : Reached). r.bound) (fold-append (after_letter floors)
-        (record { place = 0; bound = slice_index floors 0 }) u v) in
+    ap (λ (r : Reached). r.bound) (fold-append (after_letter floors)
+    (record { place = 0; bound = slice_index floors 0 }) u v) in
     omega (arith, k, e)
 
 -- each pair of tables describes a tree that obeys the laws

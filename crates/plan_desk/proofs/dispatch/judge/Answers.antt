@@ -21,6 +21,6 @@ returns-else-admission-clause-found g c =
     let call = call_in c.args.request.now.call in
     found_other g.B.Book.shelf _ _ c.args.book.now c.admit.new.book c.in_ok-admission.admission c.without_change.result c.in_ok-admission.ensures.found
     (λ w is. judged_locked (path_of call) (subject_of call) (view (subject_of call) w)
-        (request_in c.args.request.now) c.without_change.result c.no_key.result
-        c.in_ok-admission.admission.is_admitted c.if-admission.false is.admits
+    (request_in c.args.request.now) c.without_change.result c.no_key.result
+    c.in_ok-admission.admission.is_admitted c.if-admission.false is.admits
     c.without_change.ensures.reply c.without_change.ensures.change c.no_key.ensures)

@@ -10,8 +10,8 @@ carry_out-requires g c =
     subst (λ path. g.B.Book.shelf.honest c.judge.new.book → g.B.Book.shelf.stands c.judge.new.book → Allows (owner_of path d.change) (g.B.Book.shelf.world c.judge.new.book) (change_in d.change))
     (sym c.path.ensures)
     (judged_allows g.B.Book.shelf (request_in c.args.request.now)
-        (path_of (call_in c.args.request.now.call)) c.args.book.now c.judge.new.book d
-        c.in_ok-decision.ensures.found (g.met.B.Book.whole c.judge.new.book))
+    (path_of (call_in c.args.request.now.call)) c.args.book.now c.judge.new.book d
+    c.in_ok-decision.ensures.found (g.met.B.Book.whole c.judge.new.book))
 
 pub returns-in_err-decision : goal.returns-in_err-decision
 returns-in_err-decision g c =

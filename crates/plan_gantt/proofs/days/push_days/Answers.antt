@@ -14,8 +14,8 @@ returns-clause-days c =
     let duration = c.args.interval.duration in
     let some : 0 < duration = omega arith in
     on_ok_weaker c.push_day-2.result (both_days c.args.calendar.now start duration (start + (duration - 1))
-        (string_bytes c.args.text.now) (string_bytes c.push_day.new.text)
-        (string_bytes c.push_day-2.new.text) some refl c.in_ok-push_day.ensures.day) c.push_day-2.ensures.day
+    (string_bytes c.args.text.now) (string_bytes c.push_day.new.text)
+    (string_bytes c.push_day-2.new.text) some refl c.in_ok-push_day.ensures.day) c.push_day-2.ensures.day
 
 pub returns-clause-beyond : goal.returns-clause-beyond
 returns-clause-beyond c is =

@@ -21,5 +21,5 @@ returns-clause-text c =
     let shop = c.args.shop.now in
     let whole : c.loop-x.x ≡ count_steps shop = omega arith in
     subst (λ (n : ℕ). IsDaysTable c.args.calendar.now step_days_heading (λ n. step_front shop (n - 1))
-        (λ n. step_interval shop c.args.starts.now (n - 1)) n (string_bytes c.loop-x.text)) whole
-        c.loop-x.invariant
+    (λ n. step_interval shop c.args.starts.now (n - 1)) n (string_bytes c.loop-x.text)) whole
+    c.loop-x.invariant

@@ -10,5 +10,5 @@ use Rattle.plan_http.proofs.lengths.all_agree.Given as goal
 abbrev pub invariant-loop-header : goal.invariant-loop-header
 invariant-loop-header l =
     list_all (spells (digits_value 10 l.number)) (values_of l.name (map (header_bytes l.front) l.headers)) ≡
-        list_all (spells (digits_value 10 l.number))
-        (values_of l.name (map (header_bytes l.front) (drop l.header-index l.headers)))
+    list_all (spells (digits_value 10 l.number))
+    (values_of l.name (map (header_bytes l.front) (drop l.header-index l.headers)))

@@ -15,8 +15,8 @@ returns-then-full c =
     let schedule : Schedule = c.in_ok-schedule.field-0 in
     let active : IsActive (problem_of t.shop) schedule.starts.items =
     subst (λ (xs : List ℕ). IsActive (problem_of t.shop) xs) (sym c.in_ok-schedule.ensures.starts)
-        (full_is_active t.shop c.if-full.ensures.shop.shop t.word c.if-full.ensures.word
-        (sym c.if-full.ensures.value)) in
+    (full_is_active t.shop c.if-full.ensures.shop.shop t.word c.if-full.ensures.word
+    (sym c.if-full.ensures.value)) in
     let whole : IsActiveSchedule t.shop schedule = record {
       active = active;
       makespan_is = c.in_ok-schedule.ensures.makespan ∙ ap (makespan (problem_of t.shop)) (sym c.in_ok-schedule.ensures.starts);

@@ -40,8 +40,8 @@ pub returns-clause-tables : goal.returns-clause-tables
 returns-clause-tables g c =
     told_err c.report_opened.result.0 c.close-done.result c.with_cause.result c.close-done.ensures c.with_cause.ensures (IsOfTables g.F.Start over_files c.args.looked)
     (opened_tables g.F.Start over_files c.args.looked IsWriteFault
-        (write_tables g.F.Start over_files c.args.looked) c.open_from-opened.result c.report_opened.result.0
-        c.open_from-opened.ensures.refused c.report_opened.ensures.which)
+    (write_tables g.F.Start over_files c.args.looked) c.open_from-opened.result c.report_opened.result.0
+    c.open_from-opened.ensures.refused c.report_opened.ensures.which)
     (λ e was files. file_tables g.F.Start over_files c.args.looked e files)
 
 pub returns-clause-there : goal.returns-clause-there

@@ -10,21 +10,21 @@ pub returns-clause-served : goal.returns-clause-served
 returns-clause-served g c =
     told_ok c.serve_opened.result.0 c.close-done.result c.with_cause.result c.close-done.ensures c.with_cause.ensures _
     (serves_on_files g.F.Start over_files c.args.service.now.count c.open_from-opened.result
-        c.serve_opened.result.0 c.serve_opened.result.0 refl c.open_from-opened.ensures.found
-        c.serve_opened.ensures.ok)
+    c.serve_opened.result.0 c.serve_opened.result.0 refl c.open_from-opened.ensures.found
+    c.serve_opened.ensures.ok)
 
 pub returns-clause-which : goal.returns-clause-which
 returns-clause-which g c =
     told_err c.serve_opened.result.0 c.close-done.result c.with_cause.result c.close-done.ensures
-        c.with_cause.ensures IsServeFault (opened_serves c.open_from-opened.result c.serve_opened.result.0
-        c.serve_opened.ensures.which) (λ e was files. file_serves e files)
+    c.with_cause.ensures IsServeFault (opened_serves c.open_from-opened.result c.serve_opened.result.0
+    c.serve_opened.ensures.which) (λ e was files. file_serves e files)
 
 pub returns-clause-tables : goal.returns-clause-tables
 returns-clause-tables g c =
     told_err c.serve_opened.result.0 c.close-done.result c.with_cause.result c.close-done.ensures c.with_cause.ensures (IsOfTables g.F.Start over_files c.args.looked)
     (opened_tables g.F.Start over_files c.args.looked IsPortFault
-        (port_tables g.F.Start over_files c.args.looked) c.open_from-opened.result c.serve_opened.result.0
-        c.open_from-opened.ensures.refused c.serve_opened.ensures.which)
+    (port_tables g.F.Start over_files c.args.looked) c.open_from-opened.result c.serve_opened.result.0
+    c.open_from-opened.ensures.refused c.serve_opened.ensures.which)
     (λ e was files. file_tables g.F.Start over_files c.args.looked e files)
 
 pub returns-clause-there : goal.returns-clause-there

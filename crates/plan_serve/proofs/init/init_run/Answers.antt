@@ -6,18 +6,18 @@ use Rattle.plan_serve.proofs.init.init_run.Goals as goal
 pub returns-in-Err-clause-inits : goal.returns-in-Err-clause-inits
 returns-in-Err-clause-inits g c =
     unread g.P.Kept.Store (g.P.Place.opens c.args.place) (g.P.Place.refuses c.args.place)
-        (g.R.Source.remaining c.args.reader.now) (g.R.Source.remaining c.read_key.new.reader) c.in-Err.fault
-        c.in-Err.ensures.takes
+    (g.R.Source.remaining c.args.reader.now) (g.R.Source.remaining c.read_key.new.reader) c.in-Err.fault
+    c.in-Err.ensures.takes
 
 pub returns-in-Err-connect-clause-inits : goal.returns-in-Err-connect-clause-inits
 returns-in-Err-connect-clause-inits g c =
     subst (λ e. MakesNone g.P.Kept.Store (g.P.Place.opens c.args.place) (g.P.Place.refuses c.args.place)
-        (g.R.Source.remaining c.args.reader.now) (g.R.Source.remaining c.read_key.new.reader) e None)
-        (sym c.store_fault.ensures)
+    (g.R.Source.remaining c.args.reader.now) (g.R.Source.remaining c.read_key.new.reader) e None)
+    (sym c.store_fault.ensures)
     (unopened g.P.Kept.Store (g.P.Place.opens c.args.place) (g.P.Place.refuses c.args.place)
-        (g.R.Source.remaining c.args.reader.now) (g.R.Source.remaining c.read_key.new.reader) c.in-Ok.digest
-        c.in-Ok.ensures.takes c.in-Err-connect.fault c.in-Err-connect.ensures.refused
-        c.in-Err-connect.ensures.which)
+    (g.R.Source.remaining c.args.reader.now) (g.R.Source.remaining c.read_key.new.reader) c.in-Ok.digest
+    c.in-Ok.ensures.takes c.in-Err-connect.fault c.in-Err-connect.ensures.refused
+    c.in-Err-connect.ensures.which)
 
 pub returns-in-Ok-create_in-clause-inits : goal.returns-in-Ok-create_in-clause-inits
 returns-in-Ok-create_in-clause-inits g c = (
@@ -34,8 +34,8 @@ returns-in-Ok-create_in-clause-inits g c = (
 pub returns-in-Err-create_in-clause-inits : goal.returns-in-Err-create_in-clause-inits
 returns-in-Err-create_in-clause-inits g c =
     unmade g.P.Kept.Store (g.P.Place.opens c.args.place) (g.P.Place.refuses c.args.place)
-        (g.R.Source.remaining c.args.reader.now) (g.R.Source.remaining c.read_key.new.reader) c.in-Ok.digest
-        c.in-Ok.ensures.takes c.in-Ok-connect.conn c.in-Err-create_in.conn c.in-Err-create_in.fault
-        c.init_fault.result c.in-Ok-connect.ensures.opened c.in-Err-create_in.ensures.ours
-        c.in-Err-create_in.ensures.known c.in-Err-create_in.ensures.untouched
+    (g.R.Source.remaining c.args.reader.now) (g.R.Source.remaining c.read_key.new.reader) c.in-Ok.digest
+    c.in-Ok.ensures.takes c.in-Ok-connect.conn c.in-Err-create_in.conn c.in-Err-create_in.fault
+    c.init_fault.result c.in-Ok-connect.ensures.opened c.in-Err-create_in.ensures.ours
+    c.in-Err-create_in.ensures.known c.in-Err-create_in.ensures.untouched
     (record { outside = c.in-Err-create_in.ensures.outside; kept = c.in-Err-create_in.ensures.kept; crash = c.in-Err-create_in.ensures.crash }) c.init_fault.ensures

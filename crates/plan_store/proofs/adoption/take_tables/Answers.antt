@@ -8,7 +8,7 @@ pub returns-in_default : goal.returns-in_default
 returns-in_default g c =
     let s = state g.S.Store c.args.conn.now in
     refuses s (Err NotOurs) NotOurs refl c.requires.outside (λ clean. (c.requires.in_order clean).is_open)
-        (λ clean. no_layout s.now (λ layout e. c.in_default.ensures layout (c.schema.ensures.value ∙ e)))
+    (λ clean. no_layout s.now (λ layout e. c.in_default.ensures layout (c.schema.ensures.value ∙ e)))
 
 pub returns-in-Ok : goal.returns-in-Ok
 returns-in-Ok g c =

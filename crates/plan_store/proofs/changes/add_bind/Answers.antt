@@ -14,5 +14,5 @@ returns g c =
     c.transact.ensures _ (rw (c.params-to_sql.ensures, c.params-to_sql-2.ensures, c.params-to_sql-3.ensures, c.params-to_sql-4.ensures)
     (one_makes g.S.Store old c.requires.ready (bind_text, Text c.args.desk.now ∷ number_value c.args.n ∷ number_value c.args.place ∷ Text c.args.code.now ∷ []) _
     (λ mid count stands ran. binds_place (state g.S.Store (begun old))
-        (state g.S.Store mid) stands.store.schema stands.store.rows count
-        (new_bind c.args.desk.now c.args.n c.args.place c.args.code.now) ran) c.requires.kept))
+    (state g.S.Store mid) stands.store.schema stands.store.rows count
+    (new_bind c.args.desk.now c.args.n c.args.place c.args.code.now) ran) c.requires.kept))

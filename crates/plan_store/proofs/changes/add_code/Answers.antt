@@ -15,5 +15,5 @@ returns g c =
     c.transact.ensures _ (rw (c.params-to_sql.ensures, c.params-to_sql-2.ensures, c.params-to_sql-3.ensures, c.word.ensures)
     (one_makes g.S.Store old c.requires.ready (publish_text, Text c.args.code.now ∷ Text (kind_text c.args.kind) ∷ number_value c.args.capacity ∷ []) _
     (λ mid count stands ran. publishes (state g.S.Store (begun old))
-        (state g.S.Store mid) stands.store.schema stands.store.rows count
-        (new_code c.args.code.now c.args.kind c.args.capacity) ran) c.requires.kept))
+    (state g.S.Store mid) stands.store.schema stands.store.rows count
+    (new_code c.args.code.now c.args.kind c.args.capacity) ran) c.requires.kept))

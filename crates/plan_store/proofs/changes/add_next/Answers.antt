@@ -25,5 +25,5 @@ returns g c =
     let body = c.args.body.now in
     let next = subst (IsNextNumber old desk) (sym c.in_ok-n.ensures.same) c.requires.next in
     changes_as old new (numbered_plan desk n kind name body) (apply desk (AddPlan kind name body))
-        (numbered_now old c.requires.ready desk n next kind name body) c.add_numbered.result
-        c.add_numbered.ensures
+    (numbered_now old c.requires.ready desk n next kind name body) c.add_numbered.result
+    c.add_numbered.ensures

@@ -23,12 +23,19 @@ returns g c =
     let f = λ (w : World). record w { desks = changed (is_desk desk) (λ row. record row { next = n + 1 }) w.desks } in
     let h = λ (w : World). record w { plans = w.plans ++ new_plan desk n kind name body ∷ [] } in
     c.transact.ensures (numbered_plan desk n kind name body)
-        (rw (c.params-to_sql.ensures, c.params-to_sql-2.ensures, c.params-to_sql-3.ensures,
-        c.params-to_sql-4.ensures, c.params-to_sql-5.ensures, c.params-to_sql-6.ensures, c.word.ensures,
-        c.in_ok-next.ensures.next)
+    (rw (
+      c.params-to_sql.ensures,
+      c.params-to_sql-2.ensures,
+      c.params-to_sql-3.ensures,
+      c.params-to_sql-4.ensures,
+      c.params-to_sql-5.ensures,
+      c.params-to_sql-6.ensures,
+      c.word.ensures,
+      c.in_ok-next.ensures.next,
+    )
     (two_make g.S.Store old c.requires.ready (raise_text, Text desk ∷ number_value n ∷ kept ∷ Text name ∷ Blob body ∷ number_value (n + 1) ∷ [])
     (add_plan_text, Text desk ∷ number_value n ∷ kept ∷ Text name ∷ Blob body ∷ []) f h
     (λ mid count stands ran. raises (state g.S.Store (begun old))
-        (state g.S.Store mid) stands.store.schema stands.store.rows count desk (n + 1) (number_value n) kept
-        (Text name) (Blob body) stands.store.rules ran)
+    (state g.S.Store mid) stands.store.schema stands.store.rows count desk (n + 1) (number_value n) kept
+    (Text name) (Blob body) stands.store.rules ran)
     (λ mid last count made ran. adds_plan (state g.S.Store mid) (state g.S.Store last) made.schema made.rows count desk n kind name body ran) c.requires.kept))

@@ -13,5 +13,5 @@ returns g c =
     c.transact.ensures _ (rw (c.params-to_sql.ensures, c.params-to_sql-2.ensures, c.params-to_sql-3.ensures, c.params-to_sql-4.ensures)
     (one_makes g.S.Store old c.requires.ready (remove_lag_text, Text c.args.desk.now ∷ number_value c.args.n ∷ number_value c.args.from ∷ number_value c.args.to ∷ []) _
     (λ mid count stands ran. removes_lag (state g.S.Store (begun old))
-        (state g.S.Store mid) stands.store.schema stands.store.rows count c.args.desk.now c.args.n c.args.from
-        c.args.to ran) c.requires.kept))
+    (state g.S.Store mid) stands.store.schema stands.store.rows count c.args.desk.now c.args.n c.args.from
+    c.args.to ran) c.requires.kept))

@@ -13,5 +13,5 @@ returns g c =
     c.transact.ensures _ (rw (c.params-to_sql.ensures, c.params-to_sql-2.ensures, c.params-to_sql-3.ensures, c.params-to_sql-4.ensures)
     (one_makes g.S.Store old c.requires.ready (rebind_text, Text c.args.desk.now ∷ number_value c.args.n ∷ number_value c.args.place ∷ Text c.args.code.now ∷ []) _
     (λ mid count stands ran. rebinds (state g.S.Store (begun old))
-        (state g.S.Store mid) stands.store.schema stands.store.rows count c.args.desk.now c.args.n
-        c.args.place c.args.code.now stands.store.rules ran) c.requires.kept))
+    (state g.S.Store mid) stands.store.schema stands.store.rows count c.args.desk.now c.args.n
+    c.args.place c.args.code.now stands.store.rules ran) c.requires.kept))

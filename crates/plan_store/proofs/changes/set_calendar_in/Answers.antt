@@ -13,5 +13,5 @@ returns g c =
     c.transact.ensures _ (rw (c.params-to_sql.ensures, c.params-to_sql-2.ensures, c.params-to_sql-3.ensures, c.params-to_sql-4.ensures, c.in_ok-n.ensures.same)
     (one_makes g.S.Store old c.requires.ready (set_calendar_text, Text c.args.desk.now ∷ number_value c.args.n ∷ Text c.args.start.now ∷ Text c.args.days.now ∷ []) _
     (λ mid count stands ran. sets_calendar (state g.S.Store (begun old))
-        (state g.S.Store mid) stands.store.schema stands.store.rows count c.args.desk.now c.args.n
-        c.args.start.now c.args.days.now stands.store.rules ran) c.requires.kept))
+    (state g.S.Store mid) stands.store.schema stands.store.rows count c.args.desk.now c.args.n
+    c.args.start.now c.args.days.now stands.store.rules ran) c.requires.kept))

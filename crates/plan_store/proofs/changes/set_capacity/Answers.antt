@@ -13,5 +13,5 @@ returns g c =
     c.transact.ensures _ (rw (c.params-to_sql.ensures, c.params-to_sql-2.ensures)
     (one_makes g.S.Store old c.requires.ready (republish_text, Text c.args.code.now ∷ number_value c.args.capacity ∷ []) _
     (λ mid count stands ran. republishes (state g.S.Store (begun old))
-        (state g.S.Store mid) stands.store.schema stands.store.rows count c.args.code.now c.args.capacity
-        stands.store.rules ran) c.requires.kept))
+    (state g.S.Store mid) stands.store.schema stands.store.rows count c.args.code.now c.args.capacity
+    stands.store.rules ran) c.requires.kept))

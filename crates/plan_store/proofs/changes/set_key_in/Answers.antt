@@ -13,5 +13,5 @@ returns g c =
     c.transact.ensures _ (rw (c.as_bytes.ensures.value, c.as_slice.ensures, c.in_ok-digits.ensures.digits)
     (one_makes g.S.Store old c.requires.ready (set_key_text, Text c.args.name.now ∷ digest_value c.args.digest.now ∷ []) _
     (λ mid count stands ran. sets_key (state g.S.Store (begun old))
-        (state g.S.Store mid) stands.store.schema stands.store.rows count c.args.name.now c.args.digest.now
-        c.digits_of.ensures.known stands.store.rules ran) c.requires.kept))
+    (state g.S.Store mid) stands.store.schema stands.store.rows count c.args.name.now c.args.digest.now
+    c.digits_of.ensures.known stands.store.rules ran) c.requires.kept))

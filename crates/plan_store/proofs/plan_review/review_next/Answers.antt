@@ -18,9 +18,12 @@ pub returns-in-Ok-clause-told : goal.returns-in-Ok-clause-told
 returns-in-Ok-clause-told g c clean =
     let row = row_if c.advance.new.self.has_row c.advance.new.self.conn.now in
     if_all_ok c.review_at.result row c.args.review.now c.review_at.new.review c.review_at.ensures.told
-    (λ next comes. (c.in-Ok.ensures.same clean, goes_next g.S.Store c.args.rows.now.conn.now
-        c.advance.new.self.conn.now c.args.review.now c.review_at.new.review row
-        (c.in-Ok.ensures.ok clean) next comes))
+    (λ next comes. (
+      c.in-Ok.ensures.same clean,
+      goes_next g.S.Store c.args.rows.now.conn.now
+          c.advance.new.self.conn.now c.args.review.now c.review_at.new.review row
+          (c.in-Ok.ensures.ok clean) next comes,
+    ))
 
 pub returns-in-Err-clause-leaves : goal.returns-in-Err-clause-leaves
 returns-in-Err-clause-leaves g c clean =

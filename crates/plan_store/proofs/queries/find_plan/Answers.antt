@@ -52,7 +52,10 @@ returns-in_default g c =
     let n = c.in_ok-n.n in
     let same = found_in_view w desk n ∙ ap (λ k. find (has_number k) (view desk w).plans) c.in_ok-n.ensures.same in
     let none = c.in_ok-part.ensures in
-    asks_again s0 s1 _ _ _ _ none (λ clean. ((none.answer clean).0, subst
-        (λ o. Matches (IsPlanAnswer (view desk w)) o None) same
-        (no_plan w desk n (subst (Matches IsPlanPart (plan_in w desk n)) c.in_default.is
-        (none.answer clean).1))))
+    asks_again s0 s1 _ _ _ _ none (λ clean. (
+      (none.answer clean).0,
+      subst
+          (λ o. Matches (IsPlanAnswer (view desk w)) o None) same
+          (no_plan w desk n (subst (Matches IsPlanPart (plan_in w desk n)) c.in_default.is
+          (none.answer clean).1)),
+    ))

@@ -15,5 +15,5 @@ returns g c =
     let old = state g.S.Store c.args.conn.now in
     let new = state g.S.Store c.first_row.new.conn in
     asks_map old new c.requires.ready c.first_row.result _ _
-        (λ x stands h. plan_read old stands c.args.desk.now c.args.n x
-        (rw (c.params-to_sql.ensures, c.params-to_sql-2.ensures) at h)) c.first_row.ensures
+    (λ x stands h. plan_read old stands c.args.desk.now c.args.n x
+    (rw (c.params-to_sql.ensures, c.params-to_sql-2.ensures) at h)) c.first_row.ensures

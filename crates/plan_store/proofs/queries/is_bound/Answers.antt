@@ -15,6 +15,6 @@ returns g c =
     let old = state g.S.Store c.args.conn.now in
     let new = state g.S.Store c.has_row.new.conn in
     asks_map old new c.requires.ready c.has_row.result _ _
-        (λ x stands h. bound_read old stands c.args.desk.now c.args.n c.args.place x
-        (rw (c.params-to_sql.ensures, c.params-to_sql-2.ensures, c.params-to_sql-3.ensures) at h))
-        c.has_row.ensures
+    (λ x stands h. bound_read old stands c.args.desk.now c.args.n c.args.place x
+    (rw (c.params-to_sql.ensures, c.params-to_sql-2.ensures, c.params-to_sql-3.ensures) at h))
+    c.has_row.ensures

@@ -15,5 +15,5 @@ returns g c =
     let old = state g.S.Store c.args.conn.now in
     let new = state g.S.Store c.list_rows.new.conn in
     asks_map old new c.requires.ready c.list_rows.result _ _
-        (λ x stands h. binds_read old stands c.args.desk.now c.args.n x.items
-        (rw (c.params-to_sql.ensures, c.params-to_sql-2.ensures) at h)) c.list_rows.ensures
+    (λ x stands h. binds_read old stands c.args.desk.now c.args.n x.items
+    (rw (c.params-to_sql.ensures, c.params-to_sql-2.ensures) at h)) c.list_rows.ensures

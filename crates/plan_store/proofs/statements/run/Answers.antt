@@ -26,8 +26,8 @@ returns g c =
     let shown = λ (clean : HasCleanDisk new). query_shown text params old new (c.requires.plain (was clean)) rows.items (ok clean) in
     queries_as old new (Ok rows) c.map_err.result _ same
     (queries old new c.requires.rest was (λ clean. inl (shown clean)) (Ok rows) _
-        (did.mode c.requires.rest.outside) (λ clean. ((shown clean).0.is_open, ok clean)) crash
-        (endures_by old new _ did.survives)))
+    (did.mode c.requires.rest.outside) (λ clean. ((shown clean).0.is_open, ok clean)) crash
+    (endures_by old new _ did.survives)))
     (λ error fault is same _.
     queries_as old new (Err fault) c.map_err.result _ same
     (queries old new c.requires.rest was (λ clean. query_failed text params old new (c.requires.plain (was clean)) error (was_if_err _ c.query_all.result error is (did.err clean))) (Err fault) _

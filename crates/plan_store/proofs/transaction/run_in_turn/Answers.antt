@@ -39,10 +39,12 @@ loop-text-preserved g c =
       same = c.execute.ensures.same_reference ∙ inv.same;
       ran = λ clean inside.
           let before = inv.ran (was clean) inside in
-          let it = c.in_ok-execute.ensures.runs clean before.0 in
-          (it.1.mode, λ last more. before.1 last (ran_more g.S.Store c.args.statements.now
-              c.loop-text.text-index _ c.loop-text-test.true c.loop-text.tx.conn.now
-              c.execute.new.self.conn.now last _ it.1.was_open it.0 more));
+          let it = c.in_ok-execute.ensures.runs clean before.0 in (
+            it.1.mode,
+            λ last more. before.1 last (ran_more g.S.Store c.args.statements.now
+                c.loop-text.text-index _ c.loop-text-test.true c.loop-text.tx.conn.now
+                c.execute.new.self.conn.now last _ it.1.was_open it.0 more),
+          );
       kept = λ clean inside. keeps_then start old new (inv.kept (was clean) inside)
           (kept_where_ran old new (c.in_ok-execute.ensures.runs clean (inv.ran (was clean) inside).0).1);
       survives = survives_on start old new inv.survives c.execute.ensures.survives;

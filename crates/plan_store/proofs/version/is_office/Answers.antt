@@ -68,10 +68,10 @@ returns g c =
     let from : (plans : List Plan) → world_beside review.beside plans ≡ made it.office c.as_slice.result.now c.as_slice-2.result.now plans c.as_slice-3.result.now c.as_slice-4.result.now =
     λ plans. ap (λ (b : Beside). world_beside b plans) (c.review_plans.ensures.same ∙ c.in_ok-review.ensures.beside) in
     let whole : (plans : List Plan) → world_beside review.beside plans ≡ world_others it plans =
-        λ plans. from plans ∙ lent it c.as_slice.result.now c.as_slice-2.result.now c.as_slice-3.result.now
-        c.as_slice-4.result.now c.as_slice.ensures.value c.as_slice-2.ensures.value c.as_slice-3.ensures.value
-        c.as_slice-4.ensures.value plans in
+    λ plans. from plans ∙ lent it c.as_slice.result.now c.as_slice-2.result.now c.as_slice-3.result.now
+    c.as_slice-4.result.now c.as_slice.ensures.value c.as_slice-2.ensures.value c.as_slice-3.ensures.value
+    c.as_slice-4.ensures.value plans in
     judged c.args.layout old new c.requires.ready it c.requires.others c.in_ok-review_plans.field-0 (ReviewsPlans (old.now.trees 5) review) _
     (λ laid holds h. told c.args.layout old laid it holds review whole c.in_ok-is_world.field-0
-        c.in_ok-is_world.ensures (subst (ReviewsPlans (old.now.trees 5) review) c.if-not-branch.false h))
-        c.in_ok-review_plans.ensures.looks
+    c.in_ok-is_world.ensures (subst (ReviewsPlans (old.now.trees 5) review) c.if-not-branch.false h))
+    c.in_ok-review_plans.ensures.looks

@@ -34,10 +34,12 @@ returns-then-branch g c =
     let same : version ≡ to_z w64 (of_z w64 version) = omega (arith, ints, fits) in
     looks_then l old mid new (Ok c.in_ok-others.field-0) _ (Ok c.in_ok-is_office.field-0) _ (Ok (Some _)) (SaysVersion l old.now) one two (λ clean.
     let said = two.answer clean in
-    let live = (two.same clean said.0).0 in
-    (said.0, subst (λ v. IsOfficeAt l v old.now) same
-        (subst (λ (d : Database). IsJudged l d c.in-Some.others true) (one.same (two.honesty clean) live).1
-        (subst (IsJudged l mid.now c.in-Some.others) c.if-branch.true said.1))))
+    let live = (two.same clean said.0).0 in (
+      said.0,
+      subst (λ v. IsOfficeAt l v old.now) same
+          (subst (λ (d : Database). IsJudged l d c.in-Some.others true) (one.same (two.honesty clean) live).1
+          (subst (IsJudged l mid.now c.in-Some.others) c.if-branch.true said.1)),
+    ))
 
 pub returns : goal.returns
 returns g c =

@@ -22,8 +22,8 @@ returns-in_default g c =
     let body = c.args.body.now in
     found_other g.B.Book.shelf _ _ c.args.book.now c.find_plan.new.book c.in_ok-found.field-0 c.without_change.result c.in_ok-found.ensures
     (λ w is. decides_kept desk desk (λ v. Binds v text body)
-        (view desk w) c.without_change.result c.not_found.result _ c.without_change.ensures.reply
-        c.without_change.ensures.change c.not_found.ensures
+    (view desk w) c.without_change.result c.not_found.result _ c.without_change.ensures.reply
+    c.without_change.ensures.change c.not_found.ensures
     (binds_nowhere (view desk w) text body (subst (FindsPlan (view desk w) text) c.in_default.is is)))
 
 pub returns-in_err-count : goal.returns-in_err-count

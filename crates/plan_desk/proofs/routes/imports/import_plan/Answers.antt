@@ -19,8 +19,8 @@ returns-in_default g c =
     let w = g.B.Book.shelf.world c.args.book.now in
     found_known g.B.Book.shelf _ c.args.book.now c.without_change.result
     (λ h s. decides_kept desk desk (λ v. ImportsFile c.args.kind v name body)
-        (view desk w) c.without_change.result c.not_found.result _ c.without_change.ensures.reply
-        c.without_change.ensures.change c.not_found.ensures
+    (view desk w) c.without_change.result c.not_found.result _ c.without_change.ensures.reply
+    c.without_change.ensures.change c.not_found.ensures
     (file_nowhere c.args.kind (view desk w) name body (desk_missing w desk (subst (Matches IsDeskAnswer (desk_in w desk)) c.in_default.is (c.requires h s)))))
 
 pub returns-in-Some-2 : goal.returns-in-Some-2

@@ -15,6 +15,6 @@ returns g c =
     let w = g.B.Book.shelf.world c.args.book.now in
     found_by g.B.Book.shelf _ _ c.args.book.now c.capacities.new.self c.in_ok-rows.rows c.without_change.result c.in_ok-rows.ensures
     (λ is. decides_kept desk desk (λ v. tells (codes_text v.published))
-        (view desk w) c.without_change.result c.in_ok-reply.reply _ c.without_change.ensures.reply
-        c.without_change.ensures.change c.in_ok-reply.ensures
+    (view desk w) c.without_change.result c.in_ok-reply.reply _ c.without_change.ensures.reply
+    c.without_change.ensures.change c.in_ok-reply.ensures
     (tells_so _ _ (ap (answer 200) (ap list_of_codes c.deref.ensures.value ∙ listed_codes w.published c.in_ok-rows.rows.items is))))

@@ -33,8 +33,8 @@ returns-then-is_some g c =
     let d = c.without_change-then-is_some in
     found_by g.B.Book.shelf _ _ c.args.book.now c.desk.new.self c.in_ok-desk.field-0 d.result c.in_ok-desk.ensures
     (λ is. decides_kept [] (opened body) (λ v. Opens v body)
-        (view (opened body) (g.B.Book.shelf.world c.args.book.now)) d.result c.desk_exists.result _
-        d.ensures.reply d.ensures.change c.desk_exists.ensures
+    (view (opened body) (g.B.Book.shelf.world c.args.book.now)) d.result c.desk_exists.result _
+    d.ensures.reply d.ensures.change c.desk_exists.ensures
     (opens_there (g.B.Book.shelf.world c.args.book.now) body _ _ _ says c.as_str.ensures.value is (sym c.is_some.ensures ∙ c.if-is_some.true)))
 
 pub returns : goal.returns

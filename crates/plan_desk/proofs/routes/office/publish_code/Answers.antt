@@ -22,8 +22,8 @@ returns-then-is_other_kind g c =
     let d = c.without_change-then-is_other_kind in
     found_by g.B.Book.shelf _ _ c.args.book.now c.capacity.new.self c.in_ok-row.row d.result c.in_ok-row.ensures
     (λ is. decides_kept [] [] (λ v. Publishes v.published body)
-        (view [] (g.B.Book.shelf.world c.args.book.now)) d.result c.kind_differs.result _ d.ensures.reply
-        d.ensures.change c.kind_differs.ensures
+    (view [] (g.B.Book.shelf.world c.args.book.now)) d.result c.kind_differs.result _ d.ensures.reply
+    d.ensures.change c.kind_differs.ensures
     (publishes_other _ body _ _ says c.as_str.ensures.value (sym (c.is_other_kind.ensures _ is) ∙ c.if-is_other_kind.true)))
 
 pub returns : goal.returns

@@ -16,8 +16,8 @@ returns-then-is_none g c =
     let w = g.B.Book.shelf.world c.args.book.now in
     found_by g.B.Book.shelf _ _ c.args.book.now c.desk.new.self c.in_ok-desk.field-0 c.without_change.result c.in_ok-desk.ensures
     (λ is. decides_kept desk desk (λ v. SetsKey v desk body)
-        (view desk w) c.without_change.result c.not_found.result _ c.without_change.ensures.reply
-        c.without_change.ensures.change c.not_found.ensures
+    (view desk w) c.without_change.result c.not_found.result _ c.without_change.ensures.reply
+    c.without_change.ensures.change c.not_found.ensures
     (sets_key_nowhere (view desk w) desk body (desk_absent w desk _ is c.if-is_none.ensures)))
 
 pub returns-in_default : goal.returns-in_default

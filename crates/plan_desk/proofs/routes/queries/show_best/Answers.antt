@@ -14,8 +14,8 @@ returns-in_default g c =
     let text = c.args.number.now in
     found_other g.B.Book.shelf _ _ c.args.book.now c.find_bound.new.book c.in_ok-bound.field-0 c.without_change.result c.in_ok-bound.ensures
     (λ w is. decides_kept desk desk (λ v. Best v text c.args.budget.now)
-        (view desk w) c.without_change.result c.not_found.result _ c.without_change.ensures.reply
-        c.without_change.ensures.change c.not_found.ensures
+    (view desk w) c.without_change.result c.not_found.result _ c.without_change.ensures.reply
+    c.without_change.ensures.change c.not_found.ensures
     (no_best (view desk w) text c.args.budget.now (subst (FindsBound (view desk w) text) c.in_default.is is)))
 
 pub returns-in_err-reply : goal.returns-in_err-reply
@@ -23,8 +23,8 @@ returns-in_err-reply g c =
     let desk = c.args.desk.now in
     let text = c.args.number.now in
     page_lost g.B.Book.shelf desk text (λ v n. IsBound v n c.in-Some.bound)
-        (λ v n. Best v n c.args.budget.now) _ _ c.args.book.now c.find_bound.new.book c.in_ok-bound.field-0 _
-        _ (g.met.B.Book.whole c.find_bound.new.book) c.in_ok-bound.ensures
+    (λ v n. Best v n c.args.budget.now) _ _ c.args.book.now c.find_bound.new.book c.in_ok-bound.field-0 _
+    _ (g.met.B.Book.whole c.find_bound.new.book) c.in_ok-bound.ensures
     (λ w is. subst (FindsBound (view desk w) text) c.in-Some.is is) c.in_err-reply.ensures c.from_residual-in_err-reply.ensures
 
 pub returns : goal.returns

@@ -14,8 +14,8 @@ returns-in_default g c =
     let text = c.args.number.now in
     found_other g.B.Book.shelf _ _ c.args.book.now c.find_bound.new.book c.in_ok-bound.field-0 c.without_change.result c.in_ok-bound.ensures
     (λ w is. decides_kept desk desk (λ v. ByRule c.args.page v text c.args.rule.now)
-        (view desk w) c.without_change.result c.not_found.result _ c.without_change.ensures.reply
-        c.without_change.ensures.change c.not_found.ensures
+    (view desk w) c.without_change.result c.not_found.result _ c.without_change.ensures.reply
+    c.without_change.ensures.change c.not_found.ensures
     (none_by_rule c.args.page (view desk w) text c.args.rule.now (subst (FindsBound (view desk w) text) c.in_default.is is)))
 
 pub returns-in_err-reply : goal.returns-in_err-reply
@@ -23,8 +23,8 @@ returns-in_err-reply g c =
     let desk = c.args.desk.now in
     let text = c.args.number.now in
     page_lost g.B.Book.shelf desk text (λ v n. IsBound v n c.in-Some.bound)
-        (λ v n. ByRule c.args.page v n c.args.rule.now) _ _ c.args.book.now c.find_bound.new.book
-        c.in_ok-bound.field-0 _ _ (g.met.B.Book.whole c.find_bound.new.book) c.in_ok-bound.ensures
+    (λ v n. ByRule c.args.page v n c.args.rule.now) _ _ c.args.book.now c.find_bound.new.book
+    c.in_ok-bound.field-0 _ _ (g.met.B.Book.whole c.find_bound.new.book) c.in_ok-bound.ensures
     (λ w is. subst (FindsBound (view desk w) text) c.in-Some.is is) c.in_err-reply.ensures c.from_residual-in_err-reply.ensures
 
 pub returns : goal.returns
@@ -32,6 +32,6 @@ returns g c =
     let desk = c.args.desk.now in
     let text = c.args.number.now in
     page_found g.B.Book.shelf desk text (λ v n. IsBound v n c.in-Some.bound)
-        (λ v n. ByRule c.args.page v n c.args.rule.now) _ c.args.book.now c.find_bound.new.book
-        c.in_ok-bound.field-0 _ _ c.in_ok-bound.ensures
+    (λ v n. ByRule c.args.page v n c.args.rule.now) _ c.args.book.now c.find_bound.new.book
+    c.in_ok-bound.field-0 _ _ c.in_ok-bound.ensures
     (λ w is. subst (FindsBound (view desk w) text) c.in-Some.is is) c.in_ok-reply.ensures c.without_change-2.ensures.reply c.without_change-2.ensures.change

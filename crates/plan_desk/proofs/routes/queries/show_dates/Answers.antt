@@ -21,8 +21,8 @@ returns-in_err-reply g c =
     let desk = c.args.desk.now in
     let text = c.args.number.now in
     page_lost g.B.Book.shelf desk text (λ v n. IsFound v n c.in-Some.found.plan)
-        (λ v n. Dates v n) _ _ c.args.book.now c.find_plan.new.book c.in_ok-found.field-0 _ _
-        (g.met.B.Book.whole c.find_plan.new.book) c.in_ok-found.ensures
+    (λ v n. Dates v n) _ _ c.args.book.now c.find_plan.new.book c.in_ok-found.field-0 _ _
+    (g.met.B.Book.whole c.find_plan.new.book) c.in_ok-found.ensures
     (λ w is. found_is (view desk w) text c.in-Some.found (subst (FindsPlan (view desk w) text) c.in-Some.is is)) c.in_err-reply.ensures c.from_residual-in_err-reply.ensures
 
 pub returns : goal.returns
@@ -31,5 +31,5 @@ returns g c =
     let text = c.args.number.now in
     page_found g.B.Book.shelf desk text (λ v n. IsFound v n c.in-Some.found.plan) (λ v n. Dates v n) _ c.args.book.now c.find_plan.new.book c.in_ok-found.field-0 _ _ c.in_ok-found.ensures
     (λ w is. found_is (view desk w) text c.in-Some.found
-        (subst (FindsPlan (view desk w) text) c.in-Some.is is)) c.in_ok-reply.ensures
-        c.without_change-2.ensures.reply c.without_change-2.ensures.change
+    (subst (FindsPlan (view desk w) text) c.in-Some.is is)) c.in_ok-reply.ensures
+    c.without_change-2.ensures.reply c.without_change-2.ensures.change

@@ -34,8 +34,8 @@ returns c = λ known are.
     let desks = tells_true _ c.if-not-branch-2.false (tells_keys desk_kept (λ a b. same_text a.desk b.desk) (λ row. ((desk_kept row).desk, 0, 0, 0))
     (λ a b. text_key (desk_kept a).desk (desk_kept b).desk) c.args.beside.now.desks.now refl c.in_ok-all_differ-2.field-0 c.in_ok-all_differ-2.ensures) in
     let plans = tells_true _ c.if-not-branch-3.false
-        (seen_apart known c.args.plans.now are _ (tells_keys head_seen (λ a b. is_plan a.desk a.n b)
-        (λ row. ((head_seen row).desk, (head_seen row).n, 0, 0))
+    (seen_apart known c.args.plans.now are _ (tells_keys head_seen (λ a b. is_plan a.desk a.n b)
+    (λ row. ((head_seen row).desk, (head_seen row).n, 0, 0))
     (λ a b. plan_key (head_seen a).desk (head_seen b).desk a.n b.n) c.args.plans.now refl c.in_ok-all_differ-3.field-0 c.in_ok-all_differ-3.ensures)) in
     let binds = tells_true _ c.if-not-branch-4.false (tells_keys bind_kept (λ a b. is_bind a.desk a.n a.place b) (λ row. ((bind_kept row).desk, (bind_kept row).n, (bind_kept row).place, 0))
     (λ a b. bind_key (bind_kept a).desk (bind_kept b).desk a.n b.n a.place b.place) c.args.beside.now.binds.now refl c.in_ok-all_differ-4.field-0 c.in_ok-all_differ-4.ensures) in

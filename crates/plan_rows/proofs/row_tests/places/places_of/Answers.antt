@@ -15,6 +15,6 @@ pub returns : goal.returns
 returns g c = λ q.
     let none : c.loop-i.i ≡ 0 = omega arith in
     subst (λ n. get_by (λ k. same_key (shown_key q) (shown_key k)) c.loop-i.places ≡ position_from
-        (λ row. same_key (shown_key q) (g.T.Keyed.key_of row)) n (drop n c.args.rows.now)) none
-        (c.loop-i.invariant q)
+    (λ row. same_key (shown_key q) (g.T.Keyed.key_of row)) n (drop n c.args.rows.now)) none
+    (c.loop-i.invariant q)
     ∙ sym (position_from-zero (λ row. same_key (shown_key q) (g.T.Keyed.key_of row)) c.args.rows.now)

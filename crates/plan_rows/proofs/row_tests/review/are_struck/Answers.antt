@@ -8,7 +8,7 @@ use Rattle.plan_rows.proofs.row_tests.review.are_struck.Goals as goal
 pub returns-then-contains : goal.returns-then-contains
 returns-then-contains c =
     left_at lag_key_of c.args.pending.now.keys c.args.rows.now c.loop-row.row-index c.row-item.result
-        (omega arith) c.row-item.is (c.key.result, c.key.ensures, sym c.contains.ensures ∙ c.if-contains.true)
+    (omega arith) c.row-item.is (c.key.result, c.key.ensures, sym c.contains.ensures ∙ c.if-contains.true)
 
 pub loop-row-preserved : goal.loop-row-preserved
 loop-row-preserved c =

@@ -22,8 +22,8 @@ returns c = λ q some.
     let plan = plan_kept c.args.row.now in
     let net = c.in-Some-network.network in
     let named = c.as_str.ensures.value ∙ ap (λ (r : LagRecord). string_bytes r.desk) (sym c.index-lags-at.is)
-        ∙ owner_name plan c.args.lags.now c.in-Some.at c.index-lags-at.result
-        (sym c.requires.owner ∙ c.in-Some.is) c.index-lags-at.is in (
+    ∙ owner_name plan c.args.lags.now c.in-Some.at c.index-lags-at.result
+    (sym c.requires.owner ∙ c.in-Some.is) c.index-lags-at.is in (
       is_arc_key plan.desk plan.n net.arcs q,
       c.strike_arcs.ensures q ∙ ap (λ t. holds_key c.args.pending.now.keys q && not (is_arc_key t plan.n c.arcs.result.now q)) named
           ∙ ap (λ l. holds_key c.args.pending.now.keys q && not (is_arc_key plan.desk plan.n l q)) c.arcs.ensures.value,

@@ -15,5 +15,5 @@ loop-arc-preserved c = λ q.
 pub returns : goal.returns
 returns c = λ q.
     subst (λ l. holds_key c.loop-arc.pending.keys q ≡
-        (holds_key c.args.pending.now.keys q && not (is_arc_key c.args.desk.now c.args.n l q)))
-        (take_all c.loop-arc.arc-index c.args.arcs.now (omega arith)) (c.loop-arc.invariant q)
+    (holds_key c.args.pending.now.keys q && not (is_arc_key c.args.desk.now c.args.n l q)))
+    (take_all c.loop-arc.arc-index c.args.arcs.now (omega arith)) (c.loop-arc.invariant q)

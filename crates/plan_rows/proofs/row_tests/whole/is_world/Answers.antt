@@ -35,8 +35,8 @@ lent t codes desks binds lags a b d e = λ i. made t.office (a i) (b i) (map pla
 pub returns-then-not-branch : goal.returns-then-not-branch
 returns-then-not-branch c = λ world.
     match_false (HasReviewed (map plan_kept c.as_slice-5.result.now) c.review_all.new.review)
-        (AllByRecursion IsPlanRow (map plan_kept c.as_slice-5.result.now) → ⊥) c.if-not-branch.true
-        c.in_ok-review_all.ensures.told
+    (AllByRecursion IsPlanRow (map plan_kept c.as_slice-5.result.now) → ⊥) c.if-not-branch.true
+    c.in_ok-review_all.ensures.told
     (subst (λ l. AllByRecursion IsPlanRow (map plan_kept l)) (sym c.as_slice-5.ensures.value) world.plans)
 
 pub returns : goal.returns
@@ -45,12 +45,12 @@ returns c =
     let plans = map plan_kept t.plans.items in
     let reviewed = subst (λ l. HasReviewed (map plan_kept l) c.review_all.new.review) c.as_slice-5.ensures.value
     (match_true (HasReviewed (map plan_kept c.as_slice-5.result.now) c.review_all.new.review)
-        (AllByRecursion IsPlanRow (map plan_kept c.as_slice-5.result.now) → ⊥) c.if-not-branch.false
-        c.in_ok-review_all.ensures.told) in
+    (AllByRecursion IsPlanRow (map plan_kept c.as_slice-5.result.now) → ⊥) c.if-not-branch.false
+    c.in_ok-review_all.ensures.told) in
     let from : world_beside c.review_all.new.review.beside plans ≡ made t.office c.as_slice.result.now c.as_slice-2.result.now plans c.as_slice-3.result.now c.as_slice-4.result.now =
     ap (λ (b : Beside). world_beside b plans) (c.in_ok-review_all.ensures.same ∙ c.in_ok-review.ensures.beside) in
     subst (λ w. IfOk c.is_world.result (λ good. Tells good (IsWorld w)))
     (from ∙ lent t c.as_slice.result.now c.as_slice-2.result.now c.as_slice-3.result.now
-        c.as_slice-4.result.now c.as_slice.ensures.value c.as_slice-2.ensures.value c.as_slice-3.ensures.value
-        c.as_slice-4.ensures.value)
+    c.as_slice-4.result.now c.as_slice.ensures.value c.as_slice-2.ensures.value c.as_slice-3.ensures.value
+    c.as_slice-4.ensures.value)
     (c.is_world.ensures plans reviewed)

@@ -19,8 +19,8 @@ loop-plan-preserved c =
     let so_far = map plan_kept (take c.loop-plan.plan-index c.args.plans.now) in
     let plan = plan_kept c.plan-item.result in
     let more = match_true (IsPlanRow plan × HasReviewed (so_far ++ plan ∷ []) c.read.new.self)
-        (IsPlanRow plan → ⊥) c.if-not-branch.false
-        (c.in_ok-read.ensures.told so_far c.loop-plan.invariant.0) in (
+    (IsPlanRow plan → ⊥) c.if-not-branch.false
+    (c.in_ok-read.ensures.told so_far c.loop-plan.invariant.0) in (
       subst (λ l. HasReviewed l c.read.new.self)
           (ap (λ r. so_far ++ plan_kept r ∷ []) c.plan-item.is ∙ take_more plan_kept c.args.plans.now c.loop-plan.plan-index _ c.plan-item.result (omega arith) (omega arith)) more.1,
       c.in_ok-read.ensures.same ∙ c.loop-plan.invariant.1,

@@ -10,11 +10,16 @@ returns g c =
     let at = c.self.inside in
     let change = apply c.args.name.now (OpenDesk c.args.digest.now) in
     let was : Counted g.row.S.Denot = record { conn = at.conn; made = at.calls.made; refused = at.calls.refused; denials = at.denials.refused } in
-    let now : Counted g.row.S.Denot = record { conn = c.open_desk_in-answer.new.conn; made =
-        c.count-counted.new.self.made; refused = c.count-counted.new.self.refused; denials =
-        c.note.new.self.refused } in
+    let now : Counted g.row.S.Denot = record {
+      conn = c.open_desk_in-answer.new.conn;
+      made =
+          c.count-counted.new.self.made;
+      refused = c.count-counted.new.self.refused;
+      denials =
+          c.note.new.self.refused;
+    } in
     subst (λ old. Writes (sql_shelf g.S.Store) old now c.note.result change) c.self.view_is
     (writes_from g.S.Store was now c.self.invariant.ready change c.open_desk_in-answer.result
-        c.count-counted.result c.note.result c.count-counted.ensures.answer c.note.ensures.answer
-        c.open_desk_in-answer.ensures
+    c.count-counted.result c.note.result c.count-counted.ensures.answer c.note.ensures.answer
+    c.open_desk_in-answer.ensures
     c.count-counted.ensures.made c.count-counted.ensures.refused (record { told = c.note.ensures.told; wanted = c.note.ensures.wanted; denied = c.note.ensures.denied }))

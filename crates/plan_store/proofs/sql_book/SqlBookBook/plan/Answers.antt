@@ -13,8 +13,8 @@ returns g c =
     let was : Counted g.row.S.Denot = record { conn = at.conn; made = at.calls.made; refused = at.calls.refused; denials = at.denials.refused } in
     let now : Counted g.row.S.Denot = record { conn = c.find_plan-answer.new.conn; made = at.calls.made; refused = at.calls.refused; denials = c.note.new.self.refused } in
     subst (λ old. Reads (sql_shelf g.S.Store) old now c.note.result
-        (Matches (IsPlanAnswer (view c.args.desk.now ((sql_shelf g.S.Store).world old)))
-        (find (has_number c.args.n) (view c.args.desk.now ((sql_shelf g.S.Store).world old)).plans)))
-        c.self.view_is
+    (Matches (IsPlanAnswer (view c.args.desk.now ((sql_shelf g.S.Store).world old)))
+    (find (has_number c.args.n) (view c.args.desk.now ((sql_shelf g.S.Store).world old)).plans)))
+    c.self.view_is
     (reads_from g.S.Store was now c.self.invariant.ready c.find_plan-answer.result c.note.result _ c.note.ensures.answer c.find_plan-answer.ensures refl refl
     (record { told = c.note.ensures.told; wanted = c.note.ensures.wanted; denied = c.note.ensures.denied }))

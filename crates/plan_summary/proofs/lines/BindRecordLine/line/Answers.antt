@@ -8,5 +8,5 @@ returns c =
     subst (λ t. IfOk c.format.result (λ line. string_bytes line ≡ t))
     (turned (codes "bind ") (c.as_str-desk.result.now ∷ codes " " ∷ decimal c.args.self.now.n ∷ codes " " ∷ decimal c.args.self.now.place ∷ codes " " ∷ c.as_str-code.result.now ∷ codes "\n" ∷ [])
     ∙ ap (from_left (codes "bind ")) (λ i. c.as_str-desk.ensures.value i ∷ codes " "
-        ∷ decimal c.args.self.now.n ∷ codes " " ∷ decimal c.args.self.now.place ∷ codes " "
-        ∷ c.as_str-code.ensures.value i ∷ codes "\n" ∷ [])) c.format.ensures.ok
+    ∷ decimal c.args.self.now.n ∷ codes " " ∷ decimal c.args.self.now.place ∷ codes " "
+    ∷ c.as_str-code.ensures.value i ∷ codes "\n" ∷ [])) c.format.ensures.ok

@@ -9,5 +9,5 @@ returns c =
     subst (λ t. IfOk c.format.result (λ line. string_bytes line ≡ t))
     (turned (codes "desk ") (c.as_str-desk.result.now ∷ codes " " ∷ c.as_str-digest.result.now ∷ codes " " ∷ decimal c.args.self.now.next ∷ codes "\n" ∷ [])
     ∙ ap (from_left (codes "desk ")) (λ i. c.as_str-desk.ensures.value i ∷ codes " "
-        ∷ (c.as_str-digest.ensures.value ∙ c.in_ok-hex.ensures ∙ ap encode_lower c.as_slice.ensures) i
-        ∷ codes " " ∷ decimal c.args.self.now.next ∷ codes "\n" ∷ [])) c.format.ensures.ok
+    ∷ (c.as_str-digest.ensures.value ∙ c.in_ok-hex.ensures ∙ ap encode_lower c.as_slice.ensures) i
+    ∷ codes " " ∷ decimal c.args.self.now.next ∷ codes "\n" ∷ [])) c.format.ensures.ok

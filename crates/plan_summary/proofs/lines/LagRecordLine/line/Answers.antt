@@ -7,9 +7,9 @@ pub returns : goal.returns
 returns c =
     subst (λ t. IfOk c.format.result (λ line. string_bytes line ≡ t))
     (turned (codes "lag ") (c.as_str-desk.result.now ∷ codes " " ∷ decimal c.args.self.now.n ∷ codes " "
-        ∷ decimal c.args.self.now.from ∷ codes " " ∷ decimal c.args.self.now.to ∷ codes " "
-        ∷ decimal c.args.self.now.lag ∷ codes "\n" ∷ [])
+    ∷ decimal c.args.self.now.from ∷ codes " " ∷ decimal c.args.self.now.to ∷ codes " "
+    ∷ decimal c.args.self.now.lag ∷ codes "\n" ∷ [])
     ∙ ap (from_left (codes "lag ")) (λ i. c.as_str-desk.ensures.value i ∷ codes " "
-        ∷ decimal c.args.self.now.n ∷ codes " " ∷ decimal c.args.self.now.from ∷ codes " "
-        ∷ decimal c.args.self.now.to ∷ codes " " ∷ decimal c.args.self.now.lag ∷ codes "\n" ∷ []))
-        c.format.ensures.ok
+    ∷ decimal c.args.self.now.n ∷ codes " " ∷ decimal c.args.self.now.from ∷ codes " "
+    ∷ decimal c.args.self.now.to ∷ codes " " ∷ decimal c.args.self.now.lag ∷ codes "\n" ∷ []))
+    c.format.ensures.ok

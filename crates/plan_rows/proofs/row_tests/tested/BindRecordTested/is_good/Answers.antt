@@ -47,6 +47,6 @@ returns c = λ known are.
     tells_there (IsBindOf w row) c.has_code.result found.1
     (tells_bind w row found.0 c.index-plans-at.result.places c.has_code.result found.2.places
     (ap (λ k. is_place k c.index-plans-at.result.places row.place) (sym kind) ∙ sym c.is_place.ensures
-        ∙ c.if-not-is_place.false) (subst (λ k. Tells c.has_code.result
-        (IsThereAnd (code_in w.published row.code) (λ code. same_kind code.kind (takes k) ≡ true))) kind
-        (rw c.as_str-2.ensures.value at c.has_code.ensures)))
+    ∙ c.if-not-is_place.false) (subst (λ k. Tells c.has_code.result
+    (IsThereAnd (code_in w.published row.code) (λ code. same_kind code.kind (takes k) ≡ true))) kind
+    (rw c.as_str-2.ensures.value at c.has_code.ensures)))
