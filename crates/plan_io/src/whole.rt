@@ -123,10 +123,9 @@ pub fn write_whole<W: Sink>(writer: &mut W, bytes: &[u8]) -> Result<(), OutputEr
         if sent == bytes.len() {
             return Ok(());
         }
-        match writer.write(&bytes[sent..]) {
-            Ok(n) => sent += n,
-            Err(_) => return Err(OutputError { sent }),
-        }
+        sent += writer
+            .write(&bytes[sent..])
+            .map_err(|_| OutputError { sent })?;
     }
     if sent == bytes.len() {
         return Ok(());

@@ -212,8 +212,8 @@ shop_read s d begins is =
     ok_bind (limited_at 1 most_jobs s) _ (length d.jobs, a.0) d (goes_limited 1 most_jobs (length d.jobs) s a.0 a.1 is.jobs.0 is.jobs.1)
     (ok_bind (limited_at 1 most_machines a.0) _ (d.machines, b.0) d (goes_limited 1 most_machines d.machines a.0 b.0 b.1 is.machines.0 is.machines.1)
     (ok_bind (jobs_at d.machines (length d.jobs) [] b.0) _ (d.jobs, all.0) d
-        (goes_jobs d.machines [] d.jobs b.0 all.0 b.2 (recursion_from_All (IsJob d.machines) d.jobs is.steps)
-        (omega (arith, total))) refl))
+    (goes_jobs d.machines [] d.jobs b.0 all.0 b.2 (recursion_from_All (IsJob d.machines) d.jobs is.steps)
+    (omega (arith, total))) refl))
 
 -- what holds of all jobs holds of the one at k
 pub job_at_good : {X : Type 0} (P : List Step → Type 0) (items : X → List Step) (rows : List X) (k : ℕ)

@@ -34,10 +34,7 @@ pub fn names(alloc: Global, text: &[u8]) -> Result<Vec<Vec<u8>>, FileFault>
     ensures early { (f : Fault) → plain text.now ≡ Err f →
         MatchResult result (λ _. ⊥) (TellsError (errors.Fault f)) }
 {
-    match checked_names(alloc, text) {
-        Ok(names) => Ok(names),
-        Err(error) => Err(FileFault::of(alloc, error)),
-    }
+    checked_names(alloc, text).map_err(|error| FileFault::of(alloc, error))
 }
 
 // The names of a text, or the first check that fails.

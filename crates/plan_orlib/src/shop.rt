@@ -112,13 +112,11 @@ pub fn read_shop(alloc: Global, text: &[u8], name: &[u8]) -> Result<ShopDoc, Fil
     ensures missing { IfErr result (λ fault. fault.code ≡ code.NoInstance → ¬
         (Contains (names_of text.now) name.now)) }
 {
-    match named_listing(alloc, text, name) {
-        Ok(listing) => Ok(ShopDoc {
-            machines: listing.machines,
-            jobs: listing.jobs,
-        }),
-        Err(error) => Err(FileFault::of(alloc, error)),
-    }
+    let listing = named_listing(alloc, text, name).map_err(|error| FileFault::of(alloc, error))?;
+    Ok(ShopDoc {
+        machines: listing.machines,
+        jobs: listing.jobs,
+    })
 }
 
 // The shop of a name, as it is read.

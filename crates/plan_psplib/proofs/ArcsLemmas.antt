@@ -104,8 +104,8 @@ rows_goes : (n more job : ℕ) (arcs : List (ℕ × ℕ)) (s : Stream) (x : List
 unfolding precedence_rows_at
 rows_goes n zero job arcs s x e =
     let P : List (ℕ × ℕ) × Stream → Type 0 = λ z. (rows : List (List ℕ)) × (length rows ≡ 0)
-        × AllByRecursion (AreNew n []) rows × Goes s (precedence_numbers job rows) z.1
-        × (z.0 ≡ arcs ++ arcs_of_rows job rows) in
+    × AllByRecursion (AreNew n []) rows × Goes s (precedence_numbers job rows) z.1
+    × (z.0 ≡ arcs ++ arcs_of_rows job rows) in
     subst P (same_ok (arcs, s) x e) ([], refl, tt, refl, sym (append-nil arcs))
 rows_goes n (suc more) job arcs s x e =
     then_ok (precedence_row_at n job s) _ x e (λ y read e.

@@ -212,9 +212,15 @@ sizes_read last head z h =
       doubly_constrained = value_given head (codes "- doubly constrained") 0 f;
     } in
     ok_bind (found_lines last (key_lines head)) _ lines z
-        (are_found_lines last (key_lines head) lines
-        (record { projects = a.2; jobs = b.2; renewable = c.2; nonrenewable = d.2; doubly_constrained =
-        f.2 }))
+    (are_found_lines last (key_lines head) lines
+    (record {
+      projects = a.2;
+      jobs = b.2;
+      renewable = c.2;
+      nonrenewable = d.2;
+      doubly_constrained =
+          f.2;
+    }))
     (ok_bind (values lines) _ vs z (are_values lines vs (record {
       projects = (a.1, a.3, a.4, refl);
       jobs = (b.1, b.3, b.4, refl);

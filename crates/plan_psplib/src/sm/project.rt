@@ -111,10 +111,8 @@ pub fn read_sm(alloc: Global, text: &[u8]) -> Result<ProjectDoc, FileFault>
     ensures early { (f : Fault) → opened text.now ≡ Err f →
         MatchResult result (λ _. ⊥) (TellsError (errors.Fault f)) }
 {
-    match read_document(alloc, text) {
-        Ok(document) => project_of(alloc, document),
-        Err(error) => Err(FileFault::of(alloc, error)),
-    }
+    let document = read_document(alloc, text).map_err(|error| FileFault::of(alloc, error))?;
+    project_of(alloc, document)
 }
 
 // The project of a document that some text says, unless its arcs have a cycle.
@@ -132,14 +130,16 @@ fn project_of(alloc: Global, document: Document) -> Result<ProjectDoc, FileFault
         available,
         precedence_line,
     } = document;
-    match Network::of_rows(alloc, requests.durations, &rows) {
-        Ok(network) => Ok(ProjectDoc {
-            network,
-            needs: requests.needs,
-            avail: available,
-        }),
-        Err(fault) => Err(refusal(alloc, fault, precedence_line)),
-    }
+    let network = Network::of_rows(alloc, requests.durations, &rows).map_err(|fault| refusal(
+        alloc,
+        fault,
+        precedence_line,
+    ))?;
+    Ok(ProjectDoc {
+        network,
+        needs: requests.needs,
+        avail: available,
+    })
 }
 
 // The error of a text whose network has a cycle, or whose memory ran out.
