@@ -1,4 +1,4 @@
--- The pass back: what follows each activity is raised as soon as the tail of a successor is known.
+-- The backward pass: the entry of each activity is raised as soon as the tail of a successor is known.
 use Rattle.std.proofs.Common.{ℕ, ◌≡◌, ◌≢◌, ◌+◌, ◌-◌, ◌≤◌, ◌<◌, ◌⊎◌, inl, inr, List, length, get_or, set, refl, sym, ◌∙◌, subst, arith, get_or-set_same}
 use Rattle.std.proofs.lemmas.Bool.{cases_eq}
 use Rattle.plan_net.specs.Network.{Net, count_of, IsArc, IsActivity, IsGreatest, lag_of, duration_of}
@@ -11,21 +11,23 @@ use Rattle.plan_cpm.specs.Lengths.{IsLengthFrom, RaisesBefore}
 use Rattle.plan_cpm.proofs.StepLemmas.{tail_step}
 use Rattle.plan_cpm.proofs.PassLemmas.{RightBetween, set_apart, succs_done, succs_right}
 
--- what stands for the activity at p is 0, or the lag and what stands for one of its successors, from the place `low` on
+-- the entry of the activity at p is 0, or the lag plus the entry of one of its successors at an index from
+-- `low` on
 abbrev pub IsReachedFrom : Net → List ℕ → List ℕ → ℕ → ℕ → Type 0
 IsReachedFrom net order list low p =
     (get_or list (get_or order p 0 - 1) 0 ≡ 0)
     ⊎ ((q : ℕ) × (low ≤ q) × (q < length order) × IsArc net (get_or order p 0) (get_or order q 0)
     × (get_or list (get_or order p 0 - 1) 0 ≡ lag_of net (get_or order p 0) (get_or order q 0) + get_or list (get_or order q 0 - 1) 0))
 
--- from the place `left` of the order on the tails are done; before it stands for each activity what follows by them
+-- from index `left` of the order on, the entries are tails; before it they are the greatest times after the
+-- activities, by these tails
 pub record AreRests (net : Net) (order list : List ℕ) (left : ℕ) : Type 0 where
   pub done : RightBetween (λ j. IsGreatest (IsLengthFrom net j)) order list left (length order)
   pub above : (p q : ℕ) → p < left → left ≤ q → q < length order → IsArc net (get_or order p 0) (get_or order q 0)
       → lag_of net (get_or order p 0) (get_or order q 0) + get_or list (get_or order q 0 - 1) 0 ≤ get_or list (get_or order p 0 - 1) 0
   pub reached : (p : ℕ) → p < left → IsReachedFrom net order list left p
 
--- the tail of the activity at m, by what follows it
+-- the tail of the activity at m, from the time after it
 tail_at : (net : Net) (order list : List ℕ) (m tail : ℕ) → IsWithinLimits net → IsLeastOrder net order → IsActivity net (get_or order m 0)
     → m < length order → AreRests net order list (m + 1) → tail ≡ duration_of net (get_or order m 0) + get_or list (get_or order m 0 - 1) 0
     → IsGreatest (IsLengthFrom net (get_or order m 0)) tail
@@ -45,14 +47,14 @@ tail_at net order list m tail limits least activity inside rests is =
       reached (inl none) = inl none
       reached (inr (q, past, within, arc, value)) = inr (get_or order q 0, arc, value)
 
--- a predecessor of the activity at m stands at no place from m on
+-- a predecessor of the activity at m has an index below m
 not_before : (net : Net) (order : List ℕ) → IsLeastOrder net order → (m q : ℕ) → m < length order → m ≤ q → q < length order
     → IsArc net (get_or order q 0) (get_or order m 0) → ⊥
 not_before net order least m q inside past within arc =
     let place = earlier net order least.least (get_or order q 0) (get_or order m 0) m arc inside refl in
     once_in net order least.least q place.0 (omega (arith, place.1, past)) within place.2
 
--- one turn of the pass: the tail at m is set, and what follows its predecessors is raised
+-- one step of the pass: the tail at m is set, and the entries of its predecessors are raised
 pub AreRests-step : (net : Net) (order list after : List ℕ) (m tail : ℕ) → IsWithinLimits net → IsLeastOrder net order
     → ((k : ℕ) → k < length order → IsActivity net (get_or order k 0)) → length list ≡ count_of net → m < length order
     → AreRests net order list (m + 1)
@@ -68,7 +70,7 @@ AreRests-step net order list after m tail limits least activities whole inside r
   here : get_or (set list (get_or order m 0 - 1) tail) (get_or order m 0 - 1) 0 ≡ tail
   here = get_or-set_same list (get_or order m 0 - 1) tail 0 (omega (arith, activities m inside, whole))
 
-  -- what the tail left as it was
+  -- the entries that setting the tail didn't change
   apart : (p : ℕ) → p < length order → p ≢ m → get_or (set list (get_or order m 0 - 1) tail) (get_or order p 0 - 1) 0 ≡ get_or list (get_or order p 0 - 1) 0
   apart p within other = set_apart net order list least activities p m tail within inside other
 

@@ -1,4 +1,4 @@
--- The dates as one: what the passes give together, and the textbook's recurrences.
+-- The dates together: the results of the passes, and the recurrences of the textbook.
 use Rattle.std.proofs.Common.{ℕ, ◌≡◌, ◌+◌, ◌-◌, ◌≤◌, ◌<◌, ◌⊎◌, inl, inr, List, [], ◌∷◌, length, get_or, refl, sym, ◌∙◌, ap, subst, arith}
 use Rattle.plan_net.specs.Network.{Net, count_of, IsArc, IsActivity, IsGreatest, IsLeast, lag_of, duration_of}
 use Rattle.plan_net.specs.Path.{IsWalk, last_of, path_length}

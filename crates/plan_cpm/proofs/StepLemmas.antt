@@ -56,7 +56,7 @@ tail_step net j tail rest activity done above reached ends = (some reached, ever
       let a : path_length net k others ≤ tail k = (done k arc).1 (path_length net k others) (others, (ends k arc, path.1.1), refl) in
       omega (arith, above k arc, a, long)
 
--- a running maximum: it is above one more, and is still reached
+-- a running maximum: it is at least one more value, and is still attained
 pub greatest_more : (Q : ℕ → Type 0) (f : ℕ → ℕ) (items : List ℕ) (n latest ready new : ℕ) →
     new ≡ max latest ready → Q (get_or items n 0) → ready ≡ f (get_or items n 0) →
     ((m : ℕ) → m < n → f (get_or items m 0) ≤ latest) → (latest ≡ 0) ⊎ ((i : ℕ) × Q i × (latest ≡ f i)) →
@@ -72,7 +72,7 @@ greatest_more Q f items n latest ready new is here value above reached =
   by_case (inl higher) = inr (get_or items n 0, here, omega (arith, is, value))
   by_case (inr lower) = kept lower reached
 
--- what is reached is bounded by what it is reached from
+-- a start that is attained is bounded by the finish that attains it
 pub start_bound : (net : Net) (list : List ℕ) (j start most : ℕ) → HasGoodLags net →
     ((k : ℕ) → get_or list k 0 ≤ most) → (start ≡ 0)
     ⊎ ((i : ℕ) × IsArc net i j × (start ≡ get_or list (i - 1) 0 + lag_of net i j)) → start ≤ most + 10000

@@ -6,7 +6,7 @@ use Rattle.std.proofs.lemmas.List.{take_rest}
 use Rattle.std.proofs.KnownBytes.{Appends-trans}
 use Rattle.std.specs.Io.KnownBytes.{Appends}
 
--- behind the first bytes the next ones are taken, in the order in which they stand
+-- a sink that takes the first `sent` bytes and then the next n takes the first `sent + n` in order
 pub appends_next : (before between after : Option (List ℕ)) (bytes : List ℕ) (sent n : ℕ) →
     Appends before between (take sent bytes) → Appends between after
     (take n (take (length bytes - sent) (drop sent bytes))) → Appends before after (take (sent + n) bytes)

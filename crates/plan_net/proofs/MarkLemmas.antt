@@ -1,4 +1,4 @@
--- Marks in rows: what setting one changes.
+-- Marks in rows: the effect of setting one.
 use Rattle.std.proofs.Common.{ℕ, suc, zero, Bool, true, false, ◌≡◌, ◌≢◌, ◌+◌, ◌-◌, ◌≤◌, ◌<◌, ◌↔◌, ◌⊎◌, inl, inr, List, [], ◌∷◌, ◌++◌, length, take, get_or, set, replicate, refl, sym, ◌∙◌, ap, subst, arith, Some, Vec, get_or-set_same, get_or-set_other}
 use Rattle.std.specs.declared.alloc.Global.{Global}
 use Rattle.std.specs.List.{Contains}
@@ -39,13 +39,13 @@ pub row_at-push_last : {T : Type 0} (rows : List (Vec T Global)) (row : Vec T Gl
 row_at-push_last [] row = refl
 row_at-push_last (r ∷ rows) row = row_at-push_last rows row
 
--- no row stands behind the last
+-- there is no row after the last
 pub row_at-past : {T : Type 0} (rows : List (Vec T Global)) (k : ℕ) → length rows ≤ k → row_at rows k ≡ []
 row_at-past [] k past = refl
 row_at-past (r ∷ rows) zero past = absurd (omega arith)
 row_at-past (r ∷ rows) (suc k) past = row_at-past rows k (omega arith)
 
--- what a pushed row adds to what holds of each row
+-- a fact of each row, with a pushed row
 pub rows_push : {T : Type 0} (P : ℕ → List T → Type 0) (rows : List (Vec T Global)) (row : Vec T Global) →
     ((k : ℕ) → k < length rows → P k (row_at rows k)) → P (length rows) row.items → (k : ℕ) →
     k < length (rows ++ row ∷ []) → P k (row_at (rows ++ row ∷ []) k)
@@ -123,7 +123,7 @@ arc_of_place arc low high =
     let to : arc.1 ≡ arc.1 - 1 + 1 = omega arith in
     ap (λ (i : ℕ). (i, arc.1)) from ∙ ap (λ (j : ℕ). (arc.0 - 1 + 1, j)) to
 
--- the arc at k is new where its mark is not set
+-- the arc at k is new if its mark is not set
 pub IsNewArc-unmarked : (durations : List ℕ) (arcs : List (ℕ × ℕ)) (k : ℕ) (marks : List (Vec Bool Global)) →
     k < length arcs → HasGoodArcs (unlagged durations arcs) → AreMarks (take k arcs) marks →
     mark_at marks ((get_or arcs k (0, 0)).1 - 1) ((get_or arcs k (0, 0)).0 - 1) ≡ false →

@@ -11,7 +11,7 @@ use Rattle.plan_net.specs.Trails.{IsTrail, IsBackRing}
 use Rattle.plan_net.proofs.RisingLemmas.{stands_in, place_in, least_once}
 use Rattle.plan_net.proofs.TrailLemmas.{comes_once, step_from}
 
--- on a ring one comes to each member after any number of steps
+-- a walk on a ring reaches each member again after any number of steps
 again : (net : Net) (ring : List ℕ) (from : ℕ) → 1 ≤ length ring → Comes net from (get_or ring 0 0) →
     ((k : ℕ) → k + 1 < length ring → IsLeastCaughtBefore net (get_or ring k 0) (get_or ring (k + 1) 0)) →
     IsLeastCaughtBefore net (get_or ring (length ring - 1) 0) (get_or ring 0 0) → (steps k : ℕ) →
@@ -29,7 +29,7 @@ again net ring from some start along around (suc steps) (suc k) within =
     let same : k + 1 ≡ suc k = omega arith in
     (suc before.0, omega (arith, before.1), (get_or ring k 0, before.2, subst (λ (x : ℕ). IsLeastCaughtBefore net (get_or ring k 0) (get_or ring x 0)) same (along k (omega arith))))
 
--- from a ring no step leads away
+-- each step from a member of a ring leads to a member
 stays : (net : Net) (ring : List ℕ) (from : ℕ) → 1 ≤ length ring → Comes net from (get_or ring 0 0) →
     ((k : ℕ) → k + 1 < length ring → IsLeastCaughtBefore net (get_or ring k 0) (get_or ring (k + 1) 0)) →
     IsLeastCaughtBefore net (get_or ring (length ring - 1) 0) (get_or ring 0 0) → (more j : ℕ) →
@@ -50,7 +50,7 @@ stays net ring from some start along around (suc more) j comes =
           (0, omega arith, least_once (λ g. IsCaught net g × IsArc net g (get_or ring (length ring - 1) 0)) (get_or ring 0 0) j around before')
     ]
 
--- the trail from the activity that is met again closes to a ring
+-- the trail from the activity that recurs closes to a ring
 pub IsBackRing-from_trail : (net : Net) (trail : List ℕ) (at from : ℕ) → IsTrail net trail at → from < length trail → get_or trail from 0 ≡ at → IsBackRing net (drop from trail)
 IsBackRing-from_trail net trail at from walked within is = record {
   some = some;
@@ -109,7 +109,7 @@ record IsRing (net : Net) (ring : List ℕ) : Type 0 where
   once : (a b : ℕ) → a < b → b < length ring → get_or ring a 0 ≢ get_or ring b 0
   recurring : (j : ℕ) → Contains ring j ↔ Recurs net j
 
--- against the arcs from its end on, a ring goes along them
+-- a ring against the arcs, reversed, is along the arcs
 IsRing-reverse : (net : Net) (ring : List ℕ) → IsBackRing net ring → IsRing net (reverse ring)
 IsRing-reverse net ring back = record {
   some = omega (arith, back.some, whole);
@@ -261,7 +261,7 @@ IsNamedCycle-turned net ring m closed within lowest = record {
       (sym (turned-high ring m a within (omega arith) high_a) ∙ same
       ∙ turned-high ring m b within inside high_b)
 
--- what the reversal and the turn make of the ring
+-- the result of the reversal and the rotation of the ring
 pub IsNamedCycle-from_back_ring : (net : Net) (ring : List ℕ) (m : ℕ) → IsBackRing net ring →
     m < length (reverse ring) → ((k : ℕ) → k < length (reverse ring) →
     get_or (reverse ring) m 0 ≤ get_or (reverse ring) k 0) →

@@ -1,4 +1,5 @@
--- Verdicts on worked examples: six activities on one resource, with a lag on the third link, and two activities at the last start.
+-- Verdicts on worked examples: six activities on one resource, with a lag on the third link, and two
+-- activities at the last start.
 use Rattle.std.proofs.Common.{ℕ, zero, suc, ◌≡◌, ◌≢◌, ◌+◌, ◌≤◌, ◌<◌, inl, inr, List, [], ◌∷◌, get_or, refl, subst, arith}
 use Rattle.std.proofs.lemmas.Bool.{cases_lt}
 use Rattle.std.proofs.lemmas.List.Elements.{All-from_recursion}
@@ -11,7 +12,7 @@ use Rattle.plan_sgs.proofs.Shifts.{CanStartAt, shift_from_start, start_from_shif
 abbrev link : ℕ → ℕ → ℕ → Link
 link from to lag = record { from = from; to = to; lag = lag }
 
--- six activities of durations 0 3 2 4 5 0, of which the four in the middle need 1
+-- six activities of durations 0 3 2 4 5 0; the four in the middle need 1
 abbrev six : ℕ → ℕ → Problem
 six lag capacity = record {
   durations = 0 ∷ 3 ∷ 2 ∷ 4 ∷ 5 ∷ 0 ∷ [];
@@ -20,7 +21,7 @@ six lag capacity = record {
   capacities = capacity ∷ [];
 }
 
--- two activities of duration 1 that need all there is
+-- two activities of duration 1 that need the whole capacity
 abbrev pair : Problem
 pair = record { durations = 1 ∷ 1 ∷ []; links = []; needs = (1 ∷ []) ∷ (1 ∷ []) ∷ []; capacities = 1 ∷ [] }
 

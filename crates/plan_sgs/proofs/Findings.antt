@@ -1,4 +1,4 @@
--- What is found wrong with a list of starts: the first overload is at a start, and there is at most one verdict.
+-- The faults of a list of starts: the first overload is at a start, and there is at most one verdict.
 use Rattle.std.proofs.Common.{ℕ, zero, suc, ◌≡◌, ◌+◌, ◌-◌, ◌≤◌, ◌<◌, ◌⊎◌, inl, inr, List, length, get_or, Option, Some, None, refl, sym, subst, below_more, arith}
 use Rattle.std.proofs.lemmas.Bool.{cases_lt}
 use Rattle.std.proofs.lemmas.List.Elements.{All-contains}
@@ -39,13 +39,13 @@ keeps_at_starts p s whole none t k inside = elim (cases_lt (capacity p k) (usage
   | inr within ↦ within
 ]
 
--- an overload is more than a list that keeps the capacities has
+-- a list that keeps the capacities has no overload
 pub over_is_more : (p : Problem) (s : List ℕ) (t k : ℕ) → KeepsCapacities p (all_placed s) → IsOver p s t k → ⊥
 over_is_more p s t k kept over =
     let more : capacity p k < usage p (all_placed s) t k = over.more in
     omega (arith, more, kept t k over.inside)
 
--- the least of the first starts is the least of one more where no resource is overloaded there
+-- the least overload of the first starts is that of one more if no resource is overloaded at the new start
 pub over_among_none : (p : Problem) (s : List ℕ) (n : ℕ) (least : Option (ℕ × ℕ)) → IsOverAmong p s n least → ((k : ℕ) → IsOver p s (get_or s n 0) k → ⊥) → IsOverAmong p s (n + 1) least
 over_among_none p s n None among none = λ i k below. below_more (λ h. (q : ℕ) → IsOver p s (get_or s h 0) q → ⊥) n (λ h lower q. among h q lower) none i below k
 over_among_none p s n (Some over) among none =
@@ -53,7 +53,7 @@ over_among_none p s n (Some over) among none =
         (λ h. (q : ℕ) → IsOver p s (get_or s h 0) q → over.0 ≤ get_or s h 0) n
         (λ h lower q. among.3 h q lower) (λ q here. absurd (none q here)) i below k)
 
--- it is so where that start isn't before it
+-- it is the same if the new start isn't before it
 pub over_among_later : (p : Problem) (s : List ℕ) (n : ℕ) (least : Option (ℕ × ℕ)) → IsOverAmong p s n least → (IsBefore (get_or s n 0) least → ⊥) → IsOverAmong p s (n + 1) least
 over_among_later p s n None among later = absurd (later tt)
 over_among_later p s n (Some over) among later =
@@ -91,7 +91,7 @@ over_answer p s (Some over) whole arcs among = (among.0, record { arcs = arcs; o
             inr (same, among.2 l (subst (λ (x : ℕ). IsOver p s x l) (sym same) other))
       ]
 
--- of two pairs each no later than the other both are one
+-- two pairs, each no later than the other, are equal
 pub no_later_once : (i j x y : ℕ) → IsNoLater i j x y → IsNoLater x y i j → (i ≡ x) × (j ≡ y)
 no_later_once i j x y (inl a) (inl b) = absurd (omega (arith, a, b))
 no_later_once i j x y (inl a) (inr b) = absurd (omega (arith, a, b.0))

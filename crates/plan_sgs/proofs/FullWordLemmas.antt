@@ -56,7 +56,7 @@ pub words_are_finite : ProjectWordsAreFinite
 unfolding ProjectWordsAreFinite
 words_are_finite i w word = words_most i w word
 
--- a word is full just where it is as long as there are activities
+-- a word is full exactly if it has as many letters as there are activities
 pub full_long : (i : Planned) (w : List ℕ) → IsWord i w → is_full i w ≡ true → length w ≡ depth_of i
 unfolding is_full
 full_long i w word full =
@@ -82,7 +82,7 @@ full_list i w (word, full) =
     let long : length (places w) ≡ count (problem_of i) = omega (arith, full_long i w word full, length-places w) in
     and_from (nat_eq (length (places w)) (count (problem_of i))) (takes_in_turn (problem_of i) [] (places w)) (eq-eqb (length (places w)) (count (problem_of i)) long) (word_turns i [] w word).turns
 
--- and the other way round
+-- and the reverse
 pub list_full : (i : Planned) (w : List ℕ) → All (λ a. 1 ≤ a) w → is_activity_list (problem_of i) (places w) ≡ true → IsFullWord i w
 list_full i w from_one list =
     let parts = list_parts (problem_of i) (places w) list in
@@ -130,7 +130,7 @@ words_go_on i w instance word open_word =
         (suc (rank_by i.project.network missing.0)) missing.0 (omega arith) missing.1 missing.2 in
     (suc next.0, letter_from i w next.0 next.1 next.2)
 
--- each feasible list has a full word that is no longer
+-- for each feasible list there is a full word that is no longer
 pub words_reach : ProjectWordsReach
 unfolding ProjectWordsReach makespan_by
 words_reach i starts instance feasible = record {

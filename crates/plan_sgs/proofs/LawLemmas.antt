@@ -22,7 +22,8 @@ amount_left p t k i s r left late = elim (cases_lt t (s + duration p i)) [
   | inr ended ↦ omega (arith, amount_ended p t k i (Some s) (λ x is. omega (arith, same_Some s x is, ended)))
 ]
 
--- the next activity is placed no later than it stands in a feasible list, where what is placed starts no later than there, and no later there than it does
+-- the next activity is placed no later than in a feasible list, if there each placed activity starts no
+-- earlier than it was placed and no later than the next activity
 earliest_left : (p : Problem) (starts : List ℕ) (placed : List (Option ℕ)) (j : ℕ) → NeedsFit p →
     IsFeasible p starts → length placed ≡ count p → j < count p → IsReady p placed j →
     get_or placed j None ≡ None
@@ -34,7 +35,7 @@ earliest_left p starts placed j fit feasible size inside ready open_place left =
     let here = left i s is in
     amount_left p t k i s (get_or starts i 0) here.0 (omega (arith, here.1, late))))
 
--- all along a list in the order of the starts
+-- the same after each entry of a list in the order of the starts
 left_after : (p : Problem) (starts : List ℕ) → NeedsFit p → IsFeasible p starts →
     (js taken : List ℕ) (placed : List (Option ℕ)) → IsPartial p placed → TakenIs placed taken →
     takes_in_turn p taken js ≡ true → RisesBy (λ i. get_or starts i 0) js
@@ -58,7 +59,7 @@ left_after p starts fit feasible (j ∷ js) taken placed partial is turns rises 
       | inr before ↦ let old = left h r before.1 in (old.0, old.1.1)
     ]) i s at
 
--- the serial schedule of an order that rises by the starts of a feasible list starts nothing later
+-- if an order is sorted by the starts of a feasible list, its serial schedule starts nothing later
 pub serial_no_later : (p : Problem) (starts js : List ℕ) → NeedsFit p → IsFeasible p starts →
     is_activity_list p js ≡ true → RisesBy (λ i. get_or starts i 0) js → (i : ℕ) → i < count p →
     get_or (serial p js) i 0 ≤ get_or starts i 0
@@ -87,7 +88,7 @@ by_starts_least p rank starts inside fit ranked feasible =
         (by_starts_rises p rank starts inside ranked feasible) i below in
     omega (arith, low))
 
--- a serial schedule that none is shorter than is shortest
+-- a serial schedule of least makespan among serial schedules is shortest
 pub least_shortest : (p : Problem) (rank : ℕ → ℕ) (js : List ℕ) → LinksInside p → NeedsFit p →
     IsRanked p rank → IsActivityList p js → ((other : List ℕ) → IsActivityList p other →
     makespan p (serial p js) ≤ makespan p (serial p other)) → IsShortest p (serial p js)
@@ -100,16 +101,16 @@ least_shortest p rank js inside fit ranked list least = record {
       omega (arith, order, by_starts_least p rank other inside fit ranked feasible);
 }
 
--- each entry that a rule takes comes first of what may come
+-- each entry that a rule takes is the first of the eligible activities
 first_by : (p : Problem) (key : ℕ → ℕ) (taken : List ℕ) (j : ℕ) → IsFirstBelow p key taken (count p) j → IsFirstBy p key taken j
 first_by p key taken j first = record { inside = first.inside; eligible = first.eligible; first = first.first }
 
--- each entry of a list that takes what comes first, in its turn
+-- each entry of a list is the first of the eligible activities in its turn
 abbrev pub TakesFirst : Problem → (ℕ → ℕ) → List ℕ → List ℕ → Type 0
 TakesFirst p key taken [] = Unit {0}
 TakesFirst p key taken (j ∷ js) = IsFirstBy p key taken j × TakesFirst p key (taken ++ j ∷ []) js
 
--- what a rule takes after what is taken
+-- the entries that a rule takes after those already taken
 takes_first : (p : Problem) (rank key : ℕ → ℕ) → LinksInside p → IsRanked p rank → (n : ℕ) (taken : List ℕ) →
     taken_count p taken + n ≡ count p → (js : List ℕ) × (rule_list_from p key taken n ≡ taken ++ js)
     × TakesFirst p key taken js × (length js ≡ n)
@@ -129,7 +130,7 @@ entry_first p key (j ∷ js) taken (suc k) first below =
     subst (λ (xs : List ℕ). IsFirstBy p key xs (get_or js k 0)) (append_assoc taken (j ∷ []) (take k js))
     (entry_first p key js (taken ++ j ∷ []) k first.1 (omega (arith, below)))
 
--- each entry of a rule's list comes first in its turn
+-- each entry of a rule's list is the first of the eligible activities in its turn
 pub rule_entry_first : (p : Problem) (rank key : ℕ → ℕ) → LinksInside p → IsRanked p rank → (k : ℕ) → k < count p → IsFirstBy p key (take k (rule_list p key)) (get_or (rule_list p key) k 0)
 unfolding rule_list
 rule_entry_first p rank key inside ranked k below =

@@ -1,4 +1,5 @@
--- What the calls of a project's tree read: which activities may follow, whether all are placed, starts and the makespan.
+-- The results of the calls of a project's tree: the activities that may follow, the test for full words,
+-- starts and the makespan.
 use Rattle.std.proofs.Common.{ℕ, suc, Bool, true, false, cond, nat_eq, ◌≡◌, ◌+◌, ◌-◌, ◌≤◌, ◌<◌, List, [], ◌∷◌, ◌++◌, length, get_or, map, Option, Some, None, sym, ◌∙◌, ap, arith}
 use Rattle.std.specs.List.{Contains}
 use Rattle.std.proofs.lemmas.List.{append-nil, append_assoc, map-append, get_or_default}
@@ -67,7 +68,7 @@ starts_are v placed facts = ap (map start_or_zero) facts.placed_are
 pub starts_end : (v : Standing) (placed : List (Option ℕ)) → TreeFacts v placed → AllEndBy (problem_of v.instance) (map start_or_zero placed) 6020000
 starts_end v placed facts = all_end (problem_of v.instance) placed 6020000 facts.size facts.ends (λ h. omega (arith, (bounded v.instance facts.instance).lasting h))
 
--- a word is full where it has as many turns as there are activities
+-- a word is full if it has as many turns as there are activities
 pub full_by : (v : Standing) (placed : List (Option ℕ)) (n m : ℕ) → TreeFacts v placed → n ≡ length v.word → m ≡ length placed → nat_eq n m ≡ is_full v.instance v.word
 full_by v placed n m facts word size =
     ap (λ (x : ℕ). nat_eq x m) word ∙ ap (λ (x : ℕ). nat_eq (length v.word) x) (size ∙ facts.size) ∙ full_exactly v.instance v.word facts.word

@@ -1,4 +1,4 @@
--- Entry after entry of a list is taken: one that is handed in, and one that a rule makes.
+-- Entries of a list, taken one after another: from a given list, and by a rule.
 use Rattle.std.proofs.Common.{ℕ, suc, Bool, true, false, nat_eq, nat_lt, ◌&&◌, ◌≡◌, ◌≢◌, ◌+◌, ◌-◌, ◌≤◌, ◌<◌, ◌⊎◌, inl, inr, List, [], ◌∷◌, ◌++◌, length, get_or, set, take, replicate, refl, sym, ◌∙◌, ap, subst, arith}
 use Rattle.std.specs.List.{All}
 use Rattle.std.specs.List.Sorted.{IsPermutation}
@@ -88,16 +88,16 @@ all_taken i list k marks size all taken =
           (subst (λ (xs : List ℕ). takes_in_turn (problem_of i) [] (places xs) ≡ true) whole taken.turns),
     )
 
--- a list of another length is none
+-- a list of another length isn't an activity list
 pub other_length : (i : Planned) (list : List ℕ) → length list ≢ count_of i.project.network → IsTurnList (problem_of i) list → ⊥
 other_length i list other (from_one, order) = other (omega (arith, (list_parts (problem_of i) (places list) order).0, length-places list, count-problem i))
 
--- what a rule takes after its entries so far makes its whole list
+-- the entries so far and those that a rule takes after them are its whole list
 pub record IsTaking (i : Planned) (keys : List ℕ) (turn : ℕ) (list waits : List ℕ) (entries : List Entry) : Type 0 where
   pub rest : rule_list_from (problem_of i) (λ h. get_or keys h 0) (places list) (count_of i.project.network - turn) ≡ rule_list (problem_of i) (λ h. get_or keys h 0)
   pub counted : taken_count (problem_of i) (places list) ≡ turn
   pub from_one : All (λ j. 1 ≤ j) list
-  -- none waits for what isn't taken, of those that are
+  -- no taken activity waits for one that isn't taken
   pub settled : (h : ℕ) → is_member h (places list) ≡ true → open_links (problem_of i) (places list) h ≡ 0
   pub size : length waits ≡ count_of i.project.network
   pub waiting : (h : ℕ) → h < count_of i.project.network → get_or waits h 0 ≡ open_links (problem_of i) (places list) h
@@ -139,7 +139,7 @@ passes : (b : Bool) → 1 ≤ tally b → b ≡ true
 passes true some = refl
 passes false some = absurd (omega (arith, some))
 
--- the one that comes out of the queue is what the rule takes next
+-- the entry that comes out of the queue is the next one that the rule takes
 pub popped_next : (i : Planned) (keys : List ℕ) (turn : ℕ) (list waits : List ℕ) (entries after : List Entry)
     (e : Entry) → length keys ≡ count_of i.project.network → IsTaking i keys turn list waits entries →
     IsPermutation entries (e ∷ after) → PopsGreatest by_key entries e after
@@ -172,7 +172,7 @@ popped_next i keys turn list waits entries after e long taking same pops = recor
         | inr level ↦ inr (sym keyed.2 ∙ level.0 ∙ key, omega (arith, level.1, place))
       ]
 
--- each of its successors waits for one at least
+-- each of its successors waits for at least one
 pub successor_waits : (i : Planned) (keys : List ℕ) (turn : ℕ) (list waits : List ℕ) (entries : List Entry)
     (j : ℕ) → IsSound i.project.network → IsTaking i keys turn list waits entries →
     is_eligible (problem_of i) (places list) (j - 1) ≡ true
@@ -192,7 +192,7 @@ waiting_more i keys turn list waits new entries j h taking eligible lowers insid
     let more = open_more (problem_of i) (places list) (j - 1) h (eligible_not (problem_of i) (places list) (j - 1) eligible) in
     omega (arith, lowers.each h (omega (arith, inside, taking.size)), taking.waiting h inside, more, links_as_arcs i (j - 1) h)
 
--- what comes out of the queue is taken, and those come in that then wait for none
+-- the entry that comes out of the queue is taken, and the activities that then wait for none are queued
 pub taking_more : (i : Planned) (keys : List ℕ) (turn : ℕ) (list waits new : List ℕ)
     (entries between after : List Entry) (e : Entry) → length keys ≡ count_of i.project.network →
     turn < count_of i.project.network → IsTaking i keys turn list waits entries

@@ -1,4 +1,4 @@
--- On each list of starts there is a verdict: whatever it speaks of can be looked for.
+-- Each list of starts has a verdict, since all its parts are decidable.
 use Rattle.std.proofs.Common.{ℕ, zero, suc, ◌≡◌, ◌≢◌, ◌+◌, ◌-◌, ◌≤◌, ◌<◌, ◌⊎◌, inl, inr, List, length, get_or, refl, sym, subst, arith}
 use Rattle.std.proofs.lemmas.Bool.{cases_lt, cases_eq}
 use Rattle.std.proofs.lemmas.List.Elements.{Contains-get_or, All-from_get_or}
@@ -33,7 +33,7 @@ decided_not : (P : Type 0) → Decided P → Decided (P → ⊥)
 decided_not P (inl p) = inr (λ not. not p)
 decided_not P (inr not) = inl not
 
--- the first number below n at which something holds, or that there is none
+-- the first number below n with P, or the fact that there is none
 pub first_below : (P : ℕ → Type 0) → ((i : ℕ) → Decided (P i)) → (n : ℕ) → ((i : ℕ) → i < n → P i → ⊥) ⊎ ((i : ℕ) × (i < n) × P i × ((h : ℕ) → h < i → P h → ⊥))
 first_below P decide zero = inl (λ i below has. omega (arith, below))
 first_below P decide (suc n) = elim (first_below P decide n) [
@@ -131,7 +131,7 @@ arcs_found p s = elim (first_below (λ m. Breaks p s (link_at p m)) (λ m. decid
   | inr found ↦ inr (broken_at p s found.0 found.1 found.2)
 ]
 
--- more of some resource is in use than there is
+-- the usage of some resource exceeds its capacity
 abbrev IsOverAt : Problem → List ℕ → ℕ → Type 0
 IsOverAt p s t = (k : ℕ) × (k < length p.capacities) × (capacity p k < usage p (all_placed s) t k)
 

@@ -13,12 +13,12 @@ use Rattle.plan_shop.specs.Shop.{JobShop}
 use Rattle.plan_shop.specs.Words.{Placed, letter_of, jobs_after, letters_after}
 use Rattle.plan_shop.specs.Names.{chooser_of, key_of, comes_before, letter_among, letter_by}
 
--- the one of two letters, each with its key, that a rule chooses: the first of them where the keys are equal
+-- the one of two letters, each with its key, that a rule chooses: the first one if the keys are equal
 better : ShopRule → Option (ℕ × ℕ) → ℕ → ℕ → Option (ℕ × ℕ)
 better rule None letter key = Some (letter, key)
 better rule (Some best) letter key = cond (comes_before rule key best.1) (Some (letter, key)) (Some best)
 
--- a letter that comes first, and one that does not
+-- a letter that comes first, and one that doesn't
 better-new : (rule : ShopRule) (best : Option (ℕ × ℕ)) (letter key : ℕ) (first : Bool) →
     MatchOption best (first ≡ true) (λ b. first ≡ comes_before rule key b.1) → first ≡ true →
     better rule best letter key ≡ Some (letter, key)
@@ -94,7 +94,7 @@ best-more rule s xs js (Some best) is j key key_is =
               ∙ ap suc (sym new); key = is.key ∙ ap (key_of rule s xs) (sym new) })
     ]
 
--- one letter more of those that may follow
+-- one more letter that may follow
 best-next : (rule : ShopRule) (s : JobShop) (xs : List Placed) (letters : List ℕ) →
     letters ≡ letters_after s xs → (k l key : ℕ) → k < length letters → l ≡ get_or letters k 0 →
     key ≡ key_of rule s xs (l - 1) → (best : Option (ℕ × ℕ))
@@ -159,7 +159,7 @@ best-empty rule s xs letters all k done found so_far is_none =
     let none : jobs_after s xs ≡ [] = sym (take_all k (jobs_after s xs) (omega (arith, done, ap (λ (ls : List ℕ). length ls) all, length-map (jobs_after s xs) letter_of))) ∙ is in
     sym (ap (λ (ls : List ℕ). letter_among rule s xs ls) none)
 
--- a letter of the list is one that may follow
+-- a letter of the list may follow
 pub letter-read : (s : JobShop) (xs : List Placed) (letters : List ℕ) → letters ≡ letters_after s xs → (k l : ℕ) → k < length letters → l ≡ get_or letters k 0 → Contains (letters_after s xs) l
 letter-read s xs letters all k l inside is =
     let Q : List ℕ → Type 0 = λ ls. Contains ls l in

@@ -9,7 +9,7 @@ use Rattle.plan_shop.specs.Laws.{IsFirstLeast, IsFirstZero, IsFirstEnd, Competes
 use Rattle.plan_shop.proofs.NumberLemmas.{there_passes, passes_there, those_rise, first_least_is}
 use Rattle.plan_shop.proofs.Reached.{is_zero, is_rival, soonest, soonest_there, soonest_least, zero_passes, all_positive, nil_has_none, jobs_by_zero, jobs_by_rivals, job_there, letter_there, next_from, has_next_from}
 
--- in a rising list a lesser number stands at a lesser place
+-- in a rising list a lesser number has a lesser index
 place_less : (ks : List ℕ) → AllPairs (λ a b. a < b) ks → (i j : ℕ) → i < length ks → j < length ks → get_or ks i 0 < get_or ks j 0 → i < j
 place_less ks rise i j l m less = elim (cases_lt i j) [
   | inl before ↦ before

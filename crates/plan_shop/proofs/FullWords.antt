@@ -19,7 +19,7 @@ start_new p xs x e = cond-true (nat_eq p.step x) p.start (start_in xs x) (eq-eqb
 pub start_old : (p : Placed) (xs : List Placed) (x : ℕ) → x ≢ p.step → start_in (p ∷ xs) x ≡ start_in xs x
 start_old p xs x other = cond-false (nat_eq p.step x) p.start (start_in xs x) (ne_eqb p.step x (λ e. other (sym e)))
 
--- the starts of what is placed are those
+-- the starts of the placed steps are those
 pub agrees_start : (s : JobShop) (xs : List Placed) → Reached s xs → Agrees (start_in xs) xs
 agrees_start s [] r = tt
 agrees_start s (p ∷ xs) r = (
@@ -51,7 +51,7 @@ full_sound s shop xs r full =
 pub full_feasible : (s : JobShop) → IsShop s → (xs : List Placed) → Reached s xs → is_full s xs ≡ true → IsFeasible (problem_of s) (starts_of s xs)
 full_feasible s shop xs r full = feasible_from s shop (starts_of s xs) (length_table (count_steps s) (start_in xs)) (full_sound s shop xs r full)
 
--- a full schedule continues what it was made of: nothing is unplaced
+-- a full schedule continues the steps that it places, since none is unplaced
 pub full_continues : (s : JobShop) → IsShop s → (xs : List Placed) → Reached s xs → is_full s xs ≡ true → Continues s (at (starts_of s xs)) xs
 full_continues s shop xs r full = record {
   placed = agrees s shop xs r;
@@ -63,7 +63,7 @@ pub full_is_feasible : (s : JobShop) → IsShop s → FullIsFeasible s
 unfolding FullIsFeasible
 full_is_feasible s shop w is full = full_feasible s shop (placed_in s w) (reached s w is) full
 
--- two sound schedules, of which the other has one step earlier and is the same elsewhere
+-- two feasible schedules; the other has one step earlier and is the same elsewhere
 pub record IsMoved (s : JobShop) (starts other : ℕ → ℕ) (x : ℕ) : Type 0 where
   pub below : x < count_steps s
   pub sound : IsSound s starts
@@ -88,7 +88,8 @@ times_first : (s : JobShop) (y n : ℕ) → 0 < n → time_of s y ≤ times_from
 times_first s y zero h = absurd (omega (arith, h))
 times_first s y (suc n) h = omega arith
 
--- the next step of the moved step's job would end by the moved step's new end, where its machine is free by its new start
+-- the next step of the moved step's job would end by the moved step's new end, if its machine is free by its
+-- new start
 soon : (s : JobShop) → IsShop s → (starts other : ℕ → ℕ) (x : ℕ) → IsMoved s starts other x →
     (zs : List Placed) → Reached s zs → Continues s starts zs → steps_done zs (job_of s x) ≤ place_of s x →
     (0 < time_of s x → machine_free s zs (machine_of s x) ≤ other x)
@@ -149,7 +150,7 @@ free_le s shop starts other x moved (p ∷ zs) r con l t =
               (omega (arith, l, done_more p zs (job_of s x), place_below s shop x)) in
           omega (arith, after, end, least, rival.sooner, r.3)
 
--- where a schedule continues a word, no step that the word places can move to an earlier start alone
+-- if a schedule continues a word, no step of the word can move to an earlier start alone
 pub not_moved : (s : JobShop) → IsShop s → (starts other : ℕ → ℕ) (x : ℕ) → IsMoved s starts other x →
     (zs : List Placed) → Reached s zs → Continues s starts zs → place_of s x < steps_done zs (job_of s x) → ⊥
 not_moved s shop starts other x moved [] r con l = omega (arith, l)

@@ -1,4 +1,4 @@
--- What a tree keeps goes along with each push, and comes back with each pop.
+-- The data of a tree after each push and each pop.
 use Rattle.std.proofs.Common.{◌≡◌, ◌≢◌, ℕ, suc, ◌<◌, inl, inr, cond, List, [], ◌∷◌, ◌++◌, get_or, set, refl, sym, ap, ◌∙◌, arith}
 use Rattle.std.specs.Prelude.{nat_eq, nat_lt}
 use Rattle.std.proofs.lemmas.Bool.{cases_eq, cases_lt, cond-true, cond-false, eq-eqb, ne_eqb, lt-ltb, le-ltb}
@@ -46,7 +46,7 @@ start-other s xs j x other = cond-false (nat_eq (next_step s xs j) x) (ready s x
 
 -- ---- one more step
 
--- when a machine is free behind the next step of a job, told by whether the step takes time
+-- the free instant of a machine after the next step of a job, by whether the step has positive time
 pub free-after : (s : JobShop) (xs : List Placed) (j : ℕ) →
     cond (nat_lt 0 (time_of s (next_step s xs j))) (next_end s xs j)
     (machine_free s xs (machine_of s (next_step s xs j))) ≡ machine_free s (place s xs j)

@@ -19,7 +19,7 @@ one_there : (b : Bool) (n x : ℕ) → b ≡ true → x ≡ n → Contains (cond
 one_there true n x e same = (0, omega arith, sym same)
 one_there false n x e same = absurd (false≢true e)
 
--- what is in the list is below n and passes
+-- a number in the list is below n and passes
 pub there_passes : (n : ℕ) (f : ℕ → Bool) (x : ℕ) → Contains (those_below n f) x → (x < n) × (f x ≡ true)
 there_passes zero f x (k, l, e) = absurd (omega (arith, l))
 there_passes (suc n) f x c = elim (Contains-append_cases (those_below n f) (cond (f n) (n ∷ []) []) x c) [
@@ -29,7 +29,7 @@ there_passes (suc n) f x c = elim (Contains-append_cases (those_below n f) (cond
       (omega (arith, o.1), ap f (sym o.1) ∙ o.0)
 ]
 
--- what is below n and passes is in the list
+-- a number below n that passes is in the list
 pub passes_there : (n : ℕ) (f : ℕ → Bool) (x : ℕ) → x < n → f x ≡ true → Contains (those_below n f) x
 passes_there zero f x l e = absurd (omega (arith, l))
 passes_there (suc n) f x l e = elim (cases_eq x n) [
@@ -76,7 +76,7 @@ those_each n f P each k d l =
     let t = there_passes n f (get_or (those_below n f) k d) (Contains-get_or (those_below n f) k d l) in
     each (get_or (those_below n f) k d) t.0 t.1
 
--- R holds of each element and those after it
+-- each element is in relation R to those after it
 abbrev pub InOrder : (ℕ → ℕ → Type 0) → List ℕ → Type 0
 InOrder R [] = Unit {0}
 InOrder R (x ∷ xs) = AllByRecursion (R x) xs × InOrder R xs
@@ -116,7 +116,7 @@ least_of_rest f x (y ∷ ys) = (omega (arith, least_of_first f y ys), weaker ys 
   weaker [] a = tt
   weaker (z ∷ zs) a = (omega (arith, a.0), weaker zs a.1)
 
--- the first of least key, where y comes before x in key, or doesn't
+-- the first entry of least key, if y has a lesser key than x or not
 least_skips : (key : ℕ → ℕ) (x y : ℕ) (ys : List ℕ) (r : ℕ) → key y < key x → IsFirstLeast key (y ∷ ys) r → IsFirstLeast key (x ∷ y ∷ ys) r
 least_skips key x y ys r less h = record {
   place = suc h.place;

@@ -1,4 +1,4 @@
--- What placing one more step does to the counts, the ends and the free machines, and limits on them.
+-- The effect of placing one more step on the counts, the ends and the free instants, and limits on them.
 use Rattle.std.proofs.Common.{◌≡◌, ◌≢◌, ℕ, suc, ◌+◌, ◌*◌, ◌≤◌, ◌<◌, ◌&&◌, inl, inr, max, true, false, List, [], ◌∷◌, length, refl, sym, ap, subst, arith}
 use Rattle.std.specs.Prelude.{nat_lt, nat_eq}
 use Rattle.std.proofs.lemmas.Bool.{cond-true, cond-false, cases_Bool, cases_eq, cases_lt, eq-eqb, ne_eqb, and_left, and_right, and_from, lt-ltb, le-ltb}
@@ -29,7 +29,7 @@ end-same s xs j = cond-true (nat_eq j j) (next_end s xs j) (job_end s xs j) (eq-
 pub end-other : (s : JobShop) (xs : List Placed) (j k : ℕ) → k ≢ j → job_end s (place s xs j) k ≡ job_end s xs k
 end-other s xs j k other = cond-false (nat_eq j k) (next_end s xs j) (job_end s xs k) (ne_eqb j k (λ e. other (sym e)))
 
--- the next step is ready when its machine is free, or later, where it takes some time
+-- the head of the next step isn't before its machine is free, if the step has positive time
 pub ready-free : (s : JobShop) (xs : List Placed) (j : ℕ) → 0 < time_of s (next_step s xs j) → machine_free s xs (machine_of s (next_step s xs j)) ≤ ready s xs j
 unfolding ready
 ready-free s xs j lasts =
@@ -118,7 +118,7 @@ turns-within s xs (turn ∷ turns) b small within =
     let is : b + 10000 + length turns * 10000 ≡ b + length (turn ∷ turns) * 10000 = omega arith in
     subst Q is rest
 
--- no job has more steps placed than it has
+-- no job has more placed steps than steps
 pub IsWithin : JobShop → List Placed → Type 0
 IsWithin s xs = (j : ℕ) → steps_done xs j ≤ s.machines
 
@@ -145,7 +145,7 @@ turns-count s xs (turn ∷ turns) are =
     total_changed s.jobs (steps_done xs) (steps_done (place s xs j)) j 1 letter.job (λ i below other. sym (done-other s xs j i other)) (omega (arith, done-same s xs j)) in
     omega (arith, more, turns-count s (place s xs j) turns are.1)
 
--- what holds of what turns have placed
+-- facts of the steps that turns have placed
 pub record IsPlacedWithin (s : JobShop) (xs : List Placed) : Type 0 where
   pub done : (j : ℕ) → steps_done xs j ≤ s.machines
   pub ends : (j : ℕ) → job_end s xs j ≤ 10000000

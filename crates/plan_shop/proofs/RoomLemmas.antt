@@ -1,4 +1,4 @@
--- The memory for turns holds one more where a letter may follow.
+-- The memory for turns suffices for one more if a letter may follow.
 use Rattle.std.proofs.Common.{◌≡◌, ℕ, ◌<◌, List, [], ◌∷◌, ◌++◌, length, refl, sym, subst, arith}
 use Rattle.std.specs.Prelude.{Contains}
 use Rattle.std.proofs.lemmas.List.{length-append, length-map}

@@ -34,7 +34,7 @@ follows-more : (s : JobShop) (xs : List Placed) (w : List ℕ) (a : ℕ) → Fol
 follows-more s xs [] a follows next = (next, tt)
 follows-more s xs (b ∷ w) a follows next = (follows.0, follows-more s (place s xs (job_of_letter b)) w a follows.1 next)
 
--- a word that goes on to that of a rule
+-- a word that continues to that of a rule
 pub record GoesOn (rule : ShopRule) (s : JobShop) (t : Standing) (n : ℕ) : Type 0 where
   pub shop : t.shop ≡ s
   pub follows : IsWord s t.word

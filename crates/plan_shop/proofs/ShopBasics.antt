@@ -1,4 +1,4 @@
--- Flat numbers, and what a shop's problem says: neighbours in one job, needs of machines, steps apart.
+-- Flat numbers, and the problem of a shop: neighbours in one job, needs of machines, steps apart.
 use Rattle.std.proofs.Common.{◌≡◌, ℕ, zero, suc, ◌+◌, ◌-◌, ◌*◌, ◌≤◌, ◌<◌, max, Bool, true, cond, ◌&&◌, nat_eq, nat_le, nat_lt, ◌⊎◌, ◌≢◌, inl, inr, List, [], ◌∷◌, ◌++◌, length, get_or, map, replicate, Some, None, refl, sym, ◌∙◌, ap, subst, arith}
 use Rattle.std.specs.List.{Contains}
 use Rattle.std.proofs.lemmas.Nat.{div-add-mod', div-mul-add, mod-mul-add, mod_below, div_below, row_fits}
@@ -46,7 +46,7 @@ next_below s shop x l same =
     let below : job_of s x * s.machines + place_of s (suc x) < count_steps s = number_below s shop (job_of s x) (place_of s (suc x)) (job_below s shop x l) (place_below s shop (suc x)) in
     omega (arith, below, number_is s (suc x), ap (λ j. j * s.machines) same)
 
--- and there is a next one in the job where the place isn't the last
+-- and the job has a next step if the index isn't the last
 pub next_job : (s : JobShop) (x : ℕ) → suc (place_of s x) < s.machines → job_of s (suc x) ≡ job_of s x
 next_job s x l =
     let same : suc x ≡ job_of s x * s.machines + suc (place_of s x) = omega (arith, number_is s x) in
@@ -146,7 +146,7 @@ needs_are_machines s x k l =
         [] l in
     ap (λ (ns : List ℕ). get_or ns k 0) row ∙ row_at (machine_of s x) (s.machines - suc (machine_of s x)) k
 
--- what a step that starts there takes of a machine at an instant
+-- the usage of a machine at an instant by a step that starts there
 abbrev taken : JobShop → List ℕ → ℕ → ℕ → ℕ → ℕ
 taken s starts t k x = amount_of (problem_of s) t k x (Some (at starts x))
 
@@ -170,7 +170,7 @@ pub record IsUnderWay (s : JobShop) (starts : List ℕ) (t k x : ℕ) : Type 0 w
   pub since : at starts x ≤ t
   pub before : t < at starts x + time_of s x
 
--- a step takes nothing, or is under way on the machine and takes 1
+-- a step uses 0, or is under way on the machine and uses 1
 taken_cases : (s : JobShop) (starts : List ℕ) (t k x : ℕ) → x < count_steps s → (taken s starts t k x ≡ 0) ⊎ (IsUnderWay s starts t k x × (taken s starts t k x ≡ 1))
 taken_cases s starts t k x l = elim (cases_lt t (at starts x)) [
   | inl early ↦
@@ -212,7 +212,7 @@ total_two (suc n) f x y l m fx fy = elim (cases_eq y n) [
     | inr other ↦ omega (arith, total_one n f x (omega (arith, l, other)) e)
   ]
 
--- where no two terms are 1 and the others are 0, the sum is at most 1
+-- if at most one term is 1 and the others are 0, the sum is at most 1
 total_alone : (n : ℕ) (f : ℕ → ℕ) → ((x : ℕ) → x < n → (f x ≡ 0) ⊎ (f x ≡ 1)) → ((x y : ℕ) → x < y → y < n → f x ≡ 1 → f y ≡ 1 → ⊥) → total n f ≤ 1
 total_alone zero f each alone = omega arith
 total_alone (suc n) f each alone = elim (each n (omega arith)) [
@@ -276,7 +276,7 @@ capacities_from s starts whole apart t k within =
             | inr after ↦ omega (arith, after, uy.before, ux.since)
           ]
 
--- the capacities are kept just where no two steps on a machine overlap
+-- the capacities are kept exactly if no two steps on a machine overlap
 pub capacities_keep_apart : (s : JobShop) → IsShop s → CapacitiesKeepApart s
 unfolding CapacitiesKeepApart
 capacities_keep_apart s shop starts whole = (apart_from s shop starts whole, capacities_from s starts whole)

@@ -28,7 +28,7 @@ start_is s starts (p ∷ xs) r a x l = elim (cases_eq x p.step) [
   ]
 ]
 
--- where all is placed, the starts are those of each list that continues it
+-- if all steps are placed, the starts are those of each list that continues the word
 pub starts_are : (s : JobShop) → IsShop s → (starts : List ℕ) (xs : List Placed) → length starts ≡ count_steps s → Reached s xs → Agrees (at starts) xs → is_full s xs ≡ true → starts_of s xs ≡ starts
 starts_are s shop starts xs whole r a full =
     let long : length (starts_of s xs) ≡ count_steps s = length_table (count_steps s) (start_in xs) in
@@ -36,7 +36,7 @@ starts_are s shop starts xs whole r a full =
     let below : i < count_steps s = omega (arith, l, long) in
     get_or_table (count_steps s) (start_in xs) i below ∙ start_is s (at starts) xs r a i (all_done s shop xs full i below))
 
--- where no step starts later, the makespan is no greater
+-- if no step starts later, the makespan is no greater
 pub makespan_grows : (s : JobShop) (other starts : List ℕ) → ((x : ℕ) → at other x ≤ at starts x) → makespan (problem_of s) other ≤ makespan (problem_of s) starts
 makespan_grows s other starts earlier =
     greatest_grows (count (problem_of s)) (λ i. get_or other i 0 + duration (problem_of s) i) (λ i. get_or starts i 0 + duration (problem_of s) i) (λ i l. omega (arith, earlier i))

@@ -9,7 +9,7 @@ use Rattle.plan_cpm.proofs.floats.free_floats.Goals as goal
 activity : (c : After-index) → IsActivity c.args.network.now (c.loop-k.k + 1)
 activity c = (omega arith, omega (arith, c.loop-k-test.true, c.len-k-end.ensures.count))
 
--- what stands for the activity
+-- the entry of the activity
 next_read : (c : After-index) → IsNextStart c.args.network.now c.args.finishes.now c.args.duration (c.loop-k.k + 1) c.index.result.now
 next_read c =
     let k = c.loop-k.k in

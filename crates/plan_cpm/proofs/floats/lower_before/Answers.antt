@@ -8,14 +8,14 @@ use Rattle.plan_cpm.proofs.NextLemmas.{LowersBefore-from_moved}
 use Rattle.plan_cpm.proofs.floats.lower_before.Goals.{After-preds-j-items}
 use Rattle.plan_cpm.proofs.floats.lower_before.Goals as goal
 
--- beside each predecessor stands its lag
+-- the lag of each predecessor is at its index
 in_place : (c : After-preds-j-items) (m : ℕ) → m < length c.preds-j-items.result.now →
     (m < length c.lags_into-lags.result.now) × (get_or c.lags_into-lags.result.now m 0 ≡ lag_of
     c.args.network.now (get_or c.preds-j-items.result.now m 0) c.args.k)
 in_place c m = lag_in_place c.args.network.now c.args.k c.preds-j-items.result.now c.lags_into-lags.result.now
     m (c.lags_into-lags.ensures.value c.preds-j-items.result.now c.preds-j-items.ensures.exact)
 
--- and what stands there is a predecessor
+-- the entry there is a predecessor
 arc_at : (c : After-preds-j-items) (m : ℕ) → m < length c.preds-j-items.result.now → IsArc c.args.network.now (get_or c.preds-j-items.result.now m 0) c.args.k
 arc_at c m within = (c.preds-j-items.ensures.exact.exact (get_or c.preds-j-items.result.now m 0)).0 (Contains-get_or c.preds-j-items.result.now m 0 within)
 

@@ -5,7 +5,7 @@ use Rattle.plan_cpm.proofs.NextLemmas.{AreNextStartsOf, AreNextStartsOf-more, Ar
 use Rattle.plan_cpm.proofs.floats.next_starts.Goals.{After-duration}
 use Rattle.plan_cpm.proofs.floats.next_starts.Goals as goal
 
--- the activity lasts no longer than it takes to its finish
+-- the duration of the activity is at most its finish
 lasting : (c : After-duration) → c.duration.result ≤ get_or c.args.finishes.now c.loop-i.i 0
 lasting c =
     let same : c.loop-i.i + 1 - 1 ≡ c.loop-i.i = omega arith in
@@ -16,7 +16,7 @@ lasting c =
         same long in
     omega (arith, long', c.duration.ensures.value)
 
--- and its start is what is left
+-- its start is the difference
 start_is : (c : After-duration) → get_or c.args.finishes.now c.loop-i.i 0 - c.duration.result + duration_of c.args.network.now (c.loop-i.i + 1) ≡ get_or c.args.finishes.now c.loop-i.i 0
 start_is c = omega (arith, lasting c, c.duration.ensures.value)
 

@@ -8,7 +8,7 @@ use Rattle.plan_cpm.proofs.MoveLemmas.{AreMoved-more, max_either}
 use Rattle.plan_cpm.proofs.passes.raise_before.Goals.{After-preds-i-items}
 use Rattle.plan_cpm.proofs.passes.raise_before.Goals as goal
 
--- beside each predecessor stands its lag
+-- the lag of each predecessor is at its index
 in_place : (c : After-preds-i-items) (k : ℕ) → k < length c.preds-i-items.result.now →
     (k < length c.lags_into-lags.result.now) × (get_or c.lags_into-lags.result.now k 0 ≡ lag_of
     c.args.network.now (get_or c.preds-i-items.result.now k 0) c.args.j)

@@ -1,4 +1,4 @@
--- An instant that is not there is put in, with the row in force.
+-- An instant that isn't a change is inserted, with the row in force.
 use Rattle.std.proofs.Common.{◌≢◌, ◌-◌, ◌≤◌, ◌<◌, length, get_or, ◌∙◌, arith}
 use Rattle.std.specs.Prelude.{insert}
 use Rattle.std.proofs.lemmas.List.{get_or_default}

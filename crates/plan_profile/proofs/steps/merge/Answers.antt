@@ -1,4 +1,4 @@
--- `==` on the two rows says whether they are alike.
+-- `==` on two rows tests whether they are equal.
 use Rattle.std.proofs.Common.{◌-◌, ◌≤◌, length, sym, ◌∙◌, arith}
 use Rattle.std.specs.Prelude.{remove}
 use Rattle.std.proofs.lemmas.Bool.Decides.{Decides-eqb}

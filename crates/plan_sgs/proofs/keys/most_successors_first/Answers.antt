@@ -1,4 +1,4 @@
--- What the numbers of successors leave falls as they rise.
+-- The keys fall as the numbers of successors rise.
 use Rattle.std.proofs.Common.{◌≡◌, ◌-◌, get_or, subst, arith}
 use Rattle.plan_net.specs.Network.{count_of}
 use Rattle.plan_sgs.proofs.KeyLemmas.{MakeSum, sum_push, leaves_fall}

@@ -1,4 +1,4 @@
--- The interval of the last activity fits beside the others, and the profile has them all with it.
+-- The interval of the last activity fits beside the others, and the profile then holds them all.
 use Rattle.std.proofs.Common.{ℕ, true, ◌≡◌, ◌-◌, List, length, get_or, set, Option, Some, None, sym, ◌∙◌, ap, subst, arith}
 use Rattle.std.proofs.lemmas.List.{length-set, set-set, set-get_or, get_or-set_same}
 use Rattle.std.proofs.lemmas.Option.{same_Some}

@@ -11,7 +11,7 @@ use Rattle.plan_sgs.proofs.BoundedLemmas.{release_is}
 use Rattle.plan_sgs.proofs.placement.release_of.Goals.{After-preds-i-items}
 use Rattle.plan_sgs.proofs.placement.release_of.Goals as goal
 
--- beside each predecessor stands its lag
+-- the lag of each predecessor is at its index
 in_place : (c : After-preds-i-items) (k : ℕ) → k < length c.preds-i-items.result.now →
     (k < length c.lags_into-lags.result.now) × (get_or c.lags_into-lags.result.now k 0 ≡ lag_of
     c.network-network.result.now (get_or c.preds-i-items.result.now k 0) c.args.j)

@@ -10,7 +10,7 @@ use Rattle.plan_net.proofs.PushLemmas.{AreNumbersOfRows-beginnings, AreNumbersOf
 use Rattle.plan_net.proofs.arcs.Arcs.new.Goals.{After-deref-7, After-deref-8, In_ok-lags}
 use Rattle.plan_net.proofs.arcs.Arcs.new.Goals as goal
 
--- what was tested before the rows
+-- the facts that are tested before the rows are made
 plain : (c : After-deref-7) → HasGoodSize (unlagged c.args.durations.items c.args.arcs.items)
     × HasGoodDurations (unlagged c.args.durations.items c.args.arcs.items)
     × HasGoodArcs (unlagged c.args.durations.items c.args.arcs.items)
@@ -27,7 +27,7 @@ all_new c =
     subst (λ (arcs : List (ℕ × ℕ)). HasNewArcs (unlagged c.args.durations.items arcs)) c.deref-4.ensures.value
     (subst (λ (ds : List ℕ). HasNewArcs (unlagged ds c.deref-4.result.now)) c.deref-3.ensures.value c.in_default-first_double_arc.ensures.none)
 
--- the rows, and what they are turned to
+-- the rows, and their transposes
 beginnings : (c : After-deref-7) → AreBeginnings (length c.args.durations.items) c.args.arcs.items c.in_ok-beginnings.beginnings.items
 beginnings c =
     subst (λ (arcs : List (ℕ × ℕ)). AreBeginnings (length c.args.durations.items) arcs c.in_ok-beginnings.beginnings.items) c.deref-6.ensures.value
@@ -40,7 +40,7 @@ succs c = subst (λ (rows : List (Vec ℕ Global)). AreTurned rows (length rows)
 abbrev made : In_ok-lags → Inside
 made c = record { durations = c.args.durations; arcs = c.args.arcs; preds = c.in_ok-preds.preds; succs = c.in_ok-succs.succs; lags = c.in_ok-lags.lags }
 
--- no lag stands beside its rows
+-- its rows have no lag
 has_no_lags : (c : In_ok-lags) → AreNoLags (made c).preds.items (made c).lags.items
 has_no_lags c = subst (λ (ps : List (Vec ℕ Global)). AreNoLags ps c.in_ok-lags.lags.items) c.deref-9.ensures.value c.in_ok-lags.ensures
 

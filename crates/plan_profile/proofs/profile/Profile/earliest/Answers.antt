@@ -1,4 +1,4 @@
--- Each turn keeps what is sought; a row without room is not the last.
+-- Each step keeps the invariant of the search; a row without room isn't the last.
 use Rattle.std.proofs.Common.{length, ◌≡◌, ◌+◌, ◌-◌, ◌<◌, get_or, ◌∙◌, arith}
 use Rattle.std.proofs.lemmas.List.{get_or_default}
 use Rattle.std.proofs.lemmas.Bool.{iff_false}

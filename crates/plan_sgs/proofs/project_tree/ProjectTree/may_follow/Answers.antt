@@ -1,4 +1,4 @@
--- What isn't placed and waits for none is eligible.
+-- Exactly the activities that aren't placed and wait for none are eligible.
 use Rattle.std.proofs.Common.{ℕ, None, false, true, nat_eq, ◌≡◌, get_or, sym, ap, subst, ◌∙◌, arith}
 use Rattle.std.specs.Option.{is_some}
 use Rattle.std.proofs.lemmas.List.{get_or_default}

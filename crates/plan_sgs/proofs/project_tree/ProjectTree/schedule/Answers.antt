@@ -1,4 +1,4 @@
--- The starts of all that is placed.
+-- The starts of all placed activities.
 use Rattle.std.proofs.Common.{ℕ, List, Option, map, sym, ap, subst, ◌∙◌}
 use Rattle.plan_sgs.specs.Serial.{start_or_zero}
 use Rattle.plan_sgs.specs.Instances.{problem_of}
