@@ -35,17 +35,17 @@ tail_at net order list m tail limits least activity inside rests is =
     subst (IsGreatest (IsLengthFrom net (get_or order m 0))) (sym is)
     (tail_step net (get_or order m 0) (λ k. get_or list (k - 1) 0) (get_or list (get_or order m 0 - 1) 0) activity
     (succs_right (λ j. IsGreatest (IsLengthFrom net j)) net order list m limits least inside rests.done) above
-        (reached (rests.reached m (omega arith))) (λ k arc. (arc_ends net (get_or order m 0) k limits arc).1))
-        where
-      above : (k : ℕ) → IsArc net (get_or order m 0) k → lag_of net (get_or order m 0) k + get_or list (k - 1) 0 ≤ get_or list (get_or order m 0 - 1) 0
-      above k arc =
-          succs_done (λ h. IsArc net (get_or order m 0) h → lag_of net (get_or order m 0) h + get_or list (h - 1) 0 ≤ get_or list (get_or order m 0 - 1) 0) net order m limits least inside
-          (λ p lower within arc'. rests.above m p (omega arith) lower within arc') k arc arc
+    (reached (rests.reached m (omega arith))) (λ k arc. (arc_ends net (get_or order m 0) k limits arc).1))
+  where
+    above : (k : ℕ) → IsArc net (get_or order m 0) k → lag_of net (get_or order m 0) k + get_or list (k - 1) 0 ≤ get_or list (get_or order m 0 - 1) 0
+    above k arc =
+        succs_done (λ h. IsArc net (get_or order m 0) h → lag_of net (get_or order m 0) h + get_or list (h - 1) 0 ≤ get_or list (get_or order m 0 - 1) 0) net order m limits least inside
+        (λ p lower within arc'. rests.above m p (omega arith) lower within arc') k arc arc
 
-      reached : IsReachedFrom net order list (m + 1) m
-          → (get_or list (get_or order m 0 - 1) 0 ≡ 0) ⊎ ((k : ℕ) × IsArc net (get_or order m 0) k × (get_or list (get_or order m 0 - 1) 0 ≡ lag_of net (get_or order m 0) k + get_or list (k - 1) 0))
-      reached (inl none) = inl none
-      reached (inr (q, past, within, arc, value)) = inr (get_or order q 0, arc, value)
+    reached : IsReachedFrom net order list (m + 1) m
+        → (get_or list (get_or order m 0 - 1) 0 ≡ 0) ⊎ ((k : ℕ) × IsArc net (get_or order m 0) k × (get_or list (get_or order m 0 - 1) 0 ≡ lag_of net (get_or order m 0) k + get_or list (k - 1) 0))
+    reached (inl none) = inl none
+    reached (inr (q, past, within, arc, value)) = inr (get_or order q 0, arc, value)
 
 -- a predecessor of the activity at m has an index below m
 not_before : (net : Net) (order : List ℕ) → IsLeastOrder net order → (m q : ℕ) → m < length order → m ≤ q → q < length order
@@ -59,8 +59,8 @@ pub AreRests-step : (net : Net) (order list after : List ℕ) (m tail : ℕ) →
     → ((k : ℕ) → k < length order → IsActivity net (get_or order k 0)) → length list ≡ count_of net → m < length order
     → AreRests net order list (m + 1)
     → tail ≡ duration_of net (get_or order m 0) + get_or list (get_or order m 0 - 1) 0 →
-        RaisesBefore net (get_or order m 0) tail (set list (get_or order m 0 - 1) tail) after →
-        AreRests net order after m
+    RaisesBefore net (get_or order m 0) tail (set list (get_or order m 0 - 1) tail) after →
+    AreRests net order after m
 AreRests-step net order list after m tail limits least activities whole inside rests is raises = record {
   done = record { right = λ k lower upper within. right k lower within (cases_eq k m) };
   above = λ p q lower past within arc. above p q lower past within arc (cases_eq q m);
@@ -113,9 +113,15 @@ AreRests-step net order list after m tail limits least activities whole inside r
       let ends = arc_ends net i (get_or order m 0) limits arc in
       let same : i ≡ get_or order p 0 = omega (arith, place, ends.0, activities p (omega (arith, lower, inside))) in
       let value' : get_or after (get_or order p 0 - 1) 0 ≡ lag_of net i (get_or order m 0) + get_or after (get_or order m 0 - 1) 0 = omega (arith, value, at_m) in
-      inr (m, omega arith, inside, subst (λ (h : ℕ). IsArc net h (get_or order m 0)) same arc, subst
-          (λ (h : ℕ). get_or after (get_or order p 0 - 1) 0 ≡ lag_of net h (get_or order m 0) + get_or after
-          (get_or order m 0 - 1) 0) same value')
+      inr (
+        m,
+        omega arith,
+        inside,
+        subst (λ (h : ℕ). IsArc net h (get_or order m 0)) same arc,
+        subst
+            (λ (h : ℕ). get_or after (get_or order p 0 - 1) 0 ≡ lag_of net h (get_or order m 0) + get_or after
+            (get_or order m 0 - 1) 0) same value',
+      )
   reached p lower (inl same) = from (rests.reached p (omega (arith, lower))) where
     old : get_or after (get_or order p 0 - 1) 0 ≡ get_or list (get_or order p 0 - 1) 0
     old = same ∙ apart p (omega (arith, lower, inside)) (λ equal. absurd (omega (arith, equal, lower)))
@@ -123,10 +129,19 @@ AreRests-step net order list after m tail limits least activities whole inside r
     from : IsReachedFrom net order list (m + 1) p
         → IsReachedFrom net order after m p
     from (inl none) = inl (old ∙ none)
-    from (inr (q, past, within, arc, value)) = inr
-        (q, omega (arith, past), within, arc, omega
-        (arith, old, value, behind q (omega (arith, past)) within
-        (λ equal. absurd (omega (arith, equal, past)))))
+    from (inr (q, past, within, arc, value)) = inr (
+      q,
+      omega (arith, past),
+      within,
+      arc,
+      omega (
+        arith,
+        old,
+        value,
+        behind q (omega (arith, past)) within
+            (λ equal. absurd (omega (arith, equal, past))),
+      ),
+    )
 
 -- no number is raised above the greatest lag and the tail
 pub raised_bound : (net : Net) (j tail most high : ℕ) (before after : List ℕ) → HasGoodLags net → RaisesBefore net j tail before after → most ≤ high

@@ -172,6 +172,9 @@ duration_bound_without_lags net duration sound greatest none =
 
 -- and has at most as many activities as the network
 pub path_count : (net : Net) (i : ℕ) (others : List ℕ) → IsSound net → IsPath net i others → length others < count_of net
-path_count net i others sound path = omega (arith, few net.durations (i ∷ others)
-    (path_distinct net i others sound.limits sound.acyclic path.0 path.1)
-    (path_places net i others sound.limits path.0 path.1))
+path_count net i others sound path = omega (
+  arith,
+  few net.durations (i ∷ others)
+      (path_distinct net i others sound.limits sound.acyclic path.0 path.1)
+      (path_places net i others sound.limits path.0 path.1),
+)

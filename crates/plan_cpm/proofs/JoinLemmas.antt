@@ -28,9 +28,13 @@ after_finish net j k early late arc first second =
     let arc' : IsArc net (last_of path.0 path.1) k = subst (λ (x : ℕ). IsArc net x k) (sym path.3) arc in
     let same : lag_of net (last_of path.0 path.1) k ≡ lag_of net j k = ap (λ (x : ℕ). lag_of net x k) path.3 in
     let longer : path_length net path.0 (path.1 ++ k ∷ []) ≤ late =
-        second.1 (path_length net path.0 (path.1 ++ k ∷ []))
-        (path.0, path.1 ++ k ∷ [], (path.2.0, IsWalk-append net path.0 path.1 (k ∷ []) path.2.1 (arc', tt)),
-        last_of-append path.0 path.1 (k ∷ []), refl) in
+    second.1 (path_length net path.0 (path.1 ++ k ∷ [])) (
+      path.0,
+      path.1 ++ k ∷ [],
+      (path.2.0, IsWalk-append net path.0 path.1 (k ∷ []) path.2.1 (arc', tt)),
+      last_of-append path.0 path.1 (k ∷ []),
+      refl,
+    ) in
     omega (arith, longer, length_after-append net path.0 path.1 (k ∷ []), path.4, same)
 
 -- a predecessor's tail is no shorter than its duration, the lag and the tail after it

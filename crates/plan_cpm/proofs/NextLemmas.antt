@@ -69,9 +69,13 @@ AreNextStartsOf-more net finishes list after duration n start limits is lowers s
   reached j activity (inr (i, arc, place, value)) =
       let same : i ≡ j = omega (arith, place, activity, (arc_ends net i (n + 1) limits arc).0) in
       let whole : get_or after (j - 1) 0 + lag_of net i (n + 1) + duration_of net (n + 1) ≡ get_or finishes (n + 1 - 1) 0 = omega (arith, value, here) in
-      inr (n + 1, subst (λ (h : ℕ). IsArc net h (n + 1)) same arc, subst
-          (λ (h : ℕ). get_or after (j - 1) 0 + lag_of net h (n + 1) + duration_of net
-          (n + 1) ≡ get_or finishes (n + 1 - 1) 0) same whole)
+      inr (
+        n + 1,
+        subst (λ (h : ℕ). IsArc net h (n + 1)) same arc,
+        subst
+            (λ (h : ℕ). get_or after (j - 1) 0 + lag_of net h (n + 1) + duration_of net
+            (n + 1) ≡ get_or finishes (n + 1 - 1) 0) same whole,
+      )
 
 -- after all successors were taken into account
 pub AreNextStarts-whole : (net : Net) (finishes list : List ℕ) (duration : ℕ) → IsWithinLimits net

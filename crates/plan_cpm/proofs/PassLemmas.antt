@@ -45,15 +45,15 @@ pub RightBetween-set : (P : ℕ → ℕ → Type 0) (net : Net) (order list : Li
     (set list (get_or order m 0 - 1) v) new_low new_high
 RightBetween-set P net order list low high m v least activities whole inside here new_low new_high between
     right = record { right = λ k lower upper within. by_case k lower upper within (cases_eq k m) } where
-  by_case : (k : ℕ) → new_low ≤ k → k < new_high → k < length order → (k ≡ m) ⊎ (k ≡ m → ⊥) → P (get_or order k 0) (get_or (set list (get_or order m 0 - 1) v) (get_or order k 0 - 1) 0)
-  by_case k lower upper within (inl same) =
-      let a = activities m inside in
-      let place : get_or order m 0 - 1 < length list = omega (arith, a, whole) in
-      subst (λ (x : ℕ). P (get_or order x 0) (get_or (set list (get_or order m 0 - 1) v) (get_or order x 0 - 1) 0)) (sym same)
-      (subst (P (get_or order m 0)) (sym (get_or-set_same list (get_or order m 0 - 1) v 0 place)) here)
-  by_case k lower upper within (inr other) =
-      let bounds = between k lower upper other in
-      subst (P (get_or order k 0)) (sym (set_apart net order list least activities k m v within inside other)) (right.right k bounds.0 bounds.1 within)
+      by_case : (k : ℕ) → new_low ≤ k → k < new_high → k < length order → (k ≡ m) ⊎ (k ≡ m → ⊥) → P (get_or order k 0) (get_or (set list (get_or order m 0 - 1) v) (get_or order k 0 - 1) 0)
+      by_case k lower upper within (inl same) =
+          let a = activities m inside in
+          let place : get_or order m 0 - 1 < length list = omega (arith, a, whole) in
+          subst (λ (x : ℕ). P (get_or order x 0) (get_or (set list (get_or order m 0 - 1) v) (get_or order x 0 - 1) 0)) (sym same)
+          (subst (P (get_or order m 0)) (sym (get_or-set_same list (get_or order m 0 - 1) v 0 place)) here)
+      by_case k lower upper within (inr other) =
+          let bounds = between k lower upper other in
+          subst (P (get_or order k 0)) (sym (set_apart net order list least activities k m v within inside other)) (right.right k bounds.0 bounds.1 within)
 
 -- the predecessors of the activity at m are done
 pub preds_right : (P : ℕ → ℕ → Type 0) (net : Net) (order list : List ℕ) (m : ℕ) → IsLeastOrder net order →

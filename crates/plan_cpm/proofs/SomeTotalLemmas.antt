@@ -19,8 +19,8 @@ module _ (net : Net) (limits : IsWithinLimits net) (order : List ℕ) (least : I
   leads_at : (m : ℕ) → m < length order → ((p : ℕ) → m + 1 ≤ p → p < length order → Decided (Leads net (get_or order p 0) h)) → Decided (Leads net (get_or order m 0) h)
   leads_at m inside behind =
       by_search (some_element (λ arc. IsArc net j arc.1 × ((arc.1 ≡ h) ⊎ Leads net arc.1 h))
-          (λ arc. decide_both (IsArc net j arc.1) ((arc.1 ≡ h) ⊎ Leads net arc.1 h) (decide_arc net j arc.1)
-          (λ there. from_successor arc.1 there)) net.arcs)
+      (λ arc. decide_both (IsArc net j arc.1) ((arc.1 ≡ h) ⊎ Leads net arc.1 h) (decide_arc net j arc.1)
+      (λ there. from_successor arc.1 there)) net.arcs)
     where
       j : ℕ
       j = get_or order m 0
@@ -80,9 +80,12 @@ some_rising Q decide (suc n) = by_last (some_rising Q decide n) (decide (n + 1))
     same = omega arith
 
     by_last : (list : List ℕ) × ListsRising (λ i. (1 ≤ i) × (i ≤ n) × Q i) list → Decided (Q (n + 1)) → (list : List ℕ) × ListsRising (λ i. (1 ≤ i) × (i ≤ suc n) × Q i) list
-    by_last (list, listed) (inl holds) = (list ++ (n + 1)
-        ∷ [], subst (λ (most : ℕ). ListsRising (λ i. (1 ≤ i) × (i ≤ most) × Q i) (list ++ (n + 1) ∷ [])) same
-        (ListsRising-push Q n list holds listed))
+    by_last (list, listed) (inl holds) = (
+      list ++ (n + 1)
+          ∷ [],
+      subst (λ (most : ℕ). ListsRising (λ i. (1 ≤ i) × (i ≤ most) × Q i) (list ++ (n + 1) ∷ [])) same
+          (ListsRising-push Q n list holds listed),
+    )
     by_last (list, listed) (inr fails) = (list, subst (λ (most : ℕ). ListsRising (λ i. (1 ≤ i) × (i ≤ most) × Q i) list) same (ListsRising-skip Q n list fails listed))
 
 -- a sound network has numbers of total successors

@@ -74,9 +74,9 @@ lag_at a net i j row place ok same at = subst (λ (n : Net). get_or (row_at a.la
       let inside : row < count_of (net_of a) = omega (arith, ok.preds_count, at.row_within) in
       let back : j - 1 ≡ row = omega (arith, at.of_end) in
       let first : (m : ℕ) → m < place → get_or (row_at a.preds.items row) m 0 ≢ i = λ m lower is.
-          let up : get_or (row_at a.preds.items row) m 0 < get_or (row_at a.preds.items row) place 0 =
-          rising_later (row_at a.preds.items row) (ok.preds row inside).rising m place lower at.within in
-          absurd (omega (arith, up, is, at.stands)) in
+      let up : get_or (row_at a.preds.items row) m 0 < get_or (row_at a.preds.items row) place 0 =
+      rising_later (row_at a.preds.items row) (ok.preds row inside).rising m place lower at.within in
+      absurd (omega (arith, up, is, at.stands)) in
       sym (lag_beside-map (lag_in a.preds.items a.lags.items) a.arcs.items i j (arc_placed a i j row place ok at)
       ∙ ap (λ (k : ℕ). beside (row_at a.preds.items k) (row_at a.lags.items k) i) back
       ∙ beside-at (row_at a.preds.items row) (row_at a.lags.items row) place i at.within at.stands first)
@@ -146,12 +146,12 @@ net_of-set_lag a i j row place w before ok at is =
     let items : row_at a.lags.items row ≡ before.items = row_at-read a.lags.items row before within.0 is in
     let within' : place < length before.items = subst (λ (xs : List ℕ). place < length xs) items within.1 in
     let first : (m : ℕ) → m < place → get_or (row_at a.preds.items row) m 0 ≢ i = λ m lower same.
-        let up : get_or (row_at a.preds.items row) m 0 < get_or (row_at a.preds.items row) place 0 =
-        rising_later (row_at a.preds.items row) (ok.preds row inside).rising m place lower at.within in
-        absurd (omega (arith, up, same, at.stands)) in
+    let up : get_or (row_at a.preds.items row) m 0 < get_or (row_at a.preds.items row) place 0 =
+    rising_later (row_at a.preds.items row) (ok.preds row inside).rising m place lower at.within in
+    absurd (omega (arith, up, same, at.stands)) in
     let ends : All (λ arc. 1 ≤ arc.1) a.arcs.items = All-weaker (IsGoodArc (net_of a)) (λ arc. 1 ≤ arc.1) (λ arc good. good.1.0) a.arcs.items ok.limits.arcs in
     let changed : map (lag_in a.preds.items (set a.lags.items row (with_item before place w))) a.arcs.items ≡
-        lags_with a.arcs.items (map (lag_in a.preds.items a.lags.items) a.arcs.items) i (row + 1) w =
+    lags_with a.arcs.items (map (lag_in a.preds.items a.lags.items) a.arcs.items) i (row + 1) w =
     lags-set a.preds.items a.lags.items a.arcs.items row place i w before ok.limits.new_arcs ends within.0 is at.within within' at.stands first in
     let net : List ℕ → Net = λ lags. record { durations = a.durations.items; arcs = a.arcs.items; lags = lags } in
     ap net (changed ∙ ap (λ (k : ℕ). lags_with a.arcs.items (map (lag_in a.preds.items a.lags.items) a.arcs.items) i k w) at.of_end)
@@ -235,8 +235,8 @@ pub IsIndexed-made : (a : Inside) (rows : List (Vec ℕ Global)) →
     IsIndexed a
 IsIndexed-made a rows size durations arcs new_arcs beginnings succs preds none =
     IsIndexed-listed a (IsWithinLimits-unlagged a.durations.items a.arcs.items size durations arcs new_arcs)
-        (preds.whole ∙ whole) (preds_turned (net_of a) a.succs.items a.preds.items arcs whole listed preds)
-        whole listed none where
+    (preds.whole ∙ whole) (preds_turned (net_of a) a.succs.items a.preds.items arcs whole listed preds)
+    whole listed none where
       whole : length a.succs.items ≡ count_of (net_of a)
       whole = succs.whole ∙ beginnings.whole
 
@@ -260,5 +260,5 @@ IsIndexed-rows a lists size durations are same preds succs none =
       listed k = ListsRising-same (λ i. (1 ≤ i) × (i ≤ length lists)
           × Contains (row_at lists (i - 1)) (k + 1)) (λ i. IsArc (net_of a) i (k + 1))
           (row_at a.preds.items k) (same_arcs k) (preds.each k) where
-        same_arcs : (k : ℕ) (i : ℕ) → ((1 ≤ i) × (i ≤ length lists) × Contains (row_at lists (i - 1)) (k + 1)) ↔ IsArc (net_of a) i (k + 1)
-        same_arcs k i = (λ here. (beginnings.each k i).0 (((preds.each k).exact i).1 here), λ arc. ((preds.each k).exact i).0 ((beginnings.each k i).1 arc))
+            same_arcs : (k : ℕ) (i : ℕ) → ((1 ≤ i) × (i ≤ length lists) × Contains (row_at lists (i - 1)) (k + 1)) ↔ IsArc (net_of a) i (k + 1)
+            same_arcs k i = (λ here. (beginnings.each k i).0 (((preds.each k).exact i).1 here), λ arc. ((preds.each k).exact i).0 ((beginnings.each k i).1 arc))

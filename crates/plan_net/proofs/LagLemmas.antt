@@ -236,8 +236,8 @@ pub lags-set : (preds lags : List (Vec ℕ Global)) (arcs : List (ℕ × ℕ)) (
     (map (lag_in preds lags) arcs) i (row + 1) w
 lags-set preds lags arcs row place i w before new_arcs ends within is inside inside' here first =
     map-lags_with (lag_in preds lags) (lag_in preds (set lags row (with_item before place w))) arcs i
-        (row + 1) w changed (λ arc has other. kept arc (ends_low arc has) other (cases_eq (arc.1 - 1) row))
-        (AreApart-from_new arcs new_arcs) where
+    (row + 1) w changed (λ arc has other. kept arc (ends_low arc has) other (cases_eq (arc.1 - 1) row))
+    (AreApart-from_new arcs new_arcs) where
       ends_low : (arc : ℕ × ℕ) → Contains arcs arc → 1 ≤ arc.1
       ends_low arc has = All-contains (λ (a : ℕ × ℕ). 1 ≤ a.1) arcs arc ends has
 

@@ -161,9 +161,9 @@ AreMarks-push done arc row column marks before within inside is here known r k =
       let same : arc ≡ (k + 1, r + 1) = here ∙ (ap (λ (x : ℕ). (x, row + 1)) e0 ∙ ap (λ (x : ℕ). (k + 1, x)) e1) in
       let marked : mark_at (set marks row (with_item before column true)) row column ≡ true = mark_at-set_here marks row column before within is inside in
       let marked' : mark_at (set marks row (with_item before column true)) r k ≡ true =
-          subst (λ (x : ℕ). mark_at (set marks row (with_item before column true)) x k ≡ true) (sym same_row)
-          (subst (λ (x : ℕ). mark_at (set marks row (with_item before column true)) row x ≡ true)
-          (sym same_column) marked) in
+      subst (λ (x : ℕ). mark_at (set marks row (with_item before column true)) x k ≡ true) (sym same_row)
+      (subst (λ (x : ℕ). mark_at (set marks row (with_item before column true)) row x ≡ true)
+      (sym same_column) marked) in
       ((λ _. subst (Contains (done ++ arc ∷ [])) same (Contains-push done arc)), (λ _. marked'))
   by_case (inl same) (inr apart) = elsewhere (inr apart)
   by_case (inr apart) w = elsewhere (inl apart)
@@ -191,5 +191,5 @@ AreMarks-more durations arcs k marks before within good square is known =
     let place = place_within durations arcs k marks within good square in
     subst (λ (done : List (ℕ × ℕ)). AreMarks done (set marks ((get_or arcs k (0, 0)).1 - 1) (with_item before ((get_or arcs k (0, 0)).0 - 1) true))) (sym (take_more arcs k (0, 0) within))
     (AreMarks-push (take k arcs) (get_or arcs k (0, 0)) ((get_or arcs k (0, 0)).1 - 1)
-        ((get_or arcs k (0, 0)).0 - 1) marks before place.0 place.1 is
-        (arc_of_place (get_or arcs k (0, 0)) ends.0.0 ends.1.0) known)
+    ((get_or arcs k (0, 0)).0 - 1) marks before place.0 place.1 is
+    (arc_of_place (get_or arcs k (0, 0)) ends.0.0 ends.1.0) known)

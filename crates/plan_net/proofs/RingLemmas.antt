@@ -87,8 +87,8 @@ IsBackRing-from_trail net trail at from walked within is = record {
       let first : from + 0 ≡ from = omega arith in
       let comes : Comes net (suc (length trail - 1)) at = subst (λ (n : ℕ). Comes net n at) whole walked.next in
       let step : IsLeastCaughtBefore net (get_or trail (length trail - 1) 0) at =
-          step_from net (length trail - 1) (get_or trail (length trail - 1) 0) at
-          (walked.steps (length trail - 1) (omega (arith, within))) comes in
+      step_from net (length trail - 1) (get_or trail (length trail - 1) 0) at
+      (walked.steps (length trail - 1) (omega (arith, within))) comes in
       subst (λ (x : ℕ). IsLeastCaughtBefore net x (get_or (drop from trail) 0 0)) (sym (get_or-drop from trail (length (drop from trail) - 1) 0 ∙ ap (λ (k : ℕ). get_or trail k 0) last))
       (subst (λ (x : ℕ). IsLeastCaughtBefore net (get_or trail (length trail - 1) 0) x) (sym (get_or-drop from trail 0 0 ∙ ap (λ (k : ℕ). get_or trail k 0) first ∙ is)) step)
 
@@ -118,9 +118,12 @@ IsRing-reverse net ring back = record {
   once = λ a b lower within same. back.once (length ring - 1 - b) (length ring - 1 - a)
       (omega (arith, whole, within, lower)) (omega (arith, whole, within, lower))
       (sym (at b (omega (arith, whole, within))) ∙ sym same ∙ at a (omega (arith, whole, within, lower)));
-  recurring = λ j. (λ has. (back.recurring j).0 (Contains-permutation (reverse ring) ring j
-      (IsPermutation-sym ring (reverse ring) (IsPermutation-reverse ring)) has), λ always.
-      Contains-permutation ring (reverse ring) j (IsPermutation-reverse ring) ((back.recurring j).1 always));
+  recurring = λ j. (
+    λ has. (back.recurring j).0 (Contains-permutation (reverse ring) ring j
+        (IsPermutation-sym ring (reverse ring) (IsPermutation-reverse ring)) has),
+    λ always.
+        Contains-permutation ring (reverse ring) j (IsPermutation-reverse ring) ((back.recurring j).1 always),
+  );
 } where
   whole : length (reverse ring) ≡ length ring
   whole = length-reverse ring
@@ -171,15 +174,15 @@ turned_to : (ring : List ℕ) (m j : ℕ) → Contains ring j → Contains (turn
 unfolding turned
 turned_to ring m j has =
     Contains-permutation (take m ring ++ drop m ring) (drop m ring ++ take m ring) j
-        (IsPermutation-append_comm (take m ring) (drop m ring))
-        (subst (λ (list : List ℕ). Contains list j) (sym (take-append-drop m ring)) has)
+    (IsPermutation-append_comm (take m ring) (drop m ring))
+    (subst (λ (list : List ℕ). Contains list j) (sym (take-append-drop m ring)) has)
 
 turned_from : (ring : List ℕ) (m j : ℕ) → Contains (turned ring m) j → Contains ring j
 unfolding turned
 turned_from ring m j has =
     subst (λ (list : List ℕ). Contains list j) (take-append-drop m ring)
-        (Contains-permutation (drop m ring ++ take m ring) (take m ring ++ drop m ring) j
-        (IsPermutation-append_comm (drop m ring) (take m ring)) has)
+    (Contains-permutation (drop m ring ++ take m ring) (take m ring ++ drop m ring) j
+    (IsPermutation-append_comm (drop m ring) (take m ring)) has)
 
 -- a ring along the arcs, from its least member on, is the named cycle
 IsNamedCycle-turned : (net : Net) (ring : List ℕ) (m : ℕ) → IsRing net ring → m < length ring → ((k : ℕ) → k < length ring → get_or ring m 0 ≤ get_or ring k 0) → IsNamedCycle net (turned ring m)
@@ -203,20 +206,20 @@ IsNamedCycle-turned net ring m closed within lowest = record {
   along k lower (inl low) w =
       let next : k + m + 1 ≡ k + 1 + m = omega arith in
       joined (get_or ring (k + m + 1) 0) (get_or ring (k + m) 0) _ _
-          (turned-low ring m (k + 1) low ∙ ap (λ (x : ℕ). get_or ring x 0) (sym next))
-          (turned-low ring m k (omega arith)) (closed.along (k + m) (omega arith))
+      (turned-low ring m (k + 1) low ∙ ap (λ (x : ℕ). get_or ring x 0) (sym next))
+      (turned-low ring m k (omega arith)) (closed.along (k + m) (omega arith))
   along k lower (inr high) (inl low) =
       let first : k + 1 + m - length ring ≡ 0 = omega arith in
       let last : k + m ≡ length ring - 1 = omega arith in
       joined (get_or ring 0 0) (get_or ring (length ring - 1) 0) _ _
-          (turned-high ring m (k + 1) within lower high ∙ ap (λ (x : ℕ). get_or ring x 0) first)
-          (turned-low ring m k low ∙ ap (λ (x : ℕ). get_or ring x 0) last) closed.around
+      (turned-high ring m (k + 1) within lower high ∙ ap (λ (x : ℕ). get_or ring x 0) first)
+      (turned-low ring m k low ∙ ap (λ (x : ℕ). get_or ring x 0) last) closed.around
   along k lower (inr high) (inr higher) =
       let next : k + m - length ring + 1 ≡ k + 1 + m - length ring = omega arith in
       joined (get_or ring (k + m - length ring + 1) 0) (get_or ring (k + m - length ring) 0) _ _
-          (turned-high ring m (k + 1) within lower high ∙ ap (λ (x : ℕ). get_or ring x 0) (sym next))
-          (turned-high ring m k within (omega arith) higher)
-          (closed.along (k + m - length ring) (omega arith))
+      (turned-high ring m (k + 1) within lower high ∙ ap (λ (x : ℕ). get_or ring x 0) (sym next))
+      (turned-high ring m k within (omega arith) higher)
+      (closed.along (k + m - length ring) (omega arith))
 
   first_is : get_or (turned ring m) 0 0 ≡ get_or ring m 0
   first_is = let same : 0 + m ≡ m = omega arith in turned-low ring m 0 (omega arith) ∙ ap (λ (x : ℕ). get_or ring x 0) same
@@ -225,17 +228,17 @@ IsNamedCycle-turned net ring m closed within lowest = record {
   around (inl none) =
       let last : length (turned ring m) - 1 + m ≡ length ring - 1 = omega (arith, whole) in
       joined (get_or ring 0 0) (get_or ring (length ring - 1) 0) _ _
-          (first_is ∙ ap (λ (x : ℕ). get_or ring x 0) none)
-          (turned-low ring m (length (turned ring m) - 1) (omega (arith, whole, within))
-          ∙ ap (λ (x : ℕ). get_or ring x 0) last) closed.around
+      (first_is ∙ ap (λ (x : ℕ). get_or ring x 0) none)
+      (turned-low ring m (length (turned ring m) - 1) (omega (arith, whole, within))
+      ∙ ap (λ (x : ℕ). get_or ring x 0) last) closed.around
   around (inr some) =
       let next : m - 1 + 1 ≡ m = omega (arith, some) in
       let last : length (turned ring m) - 1 + m - length ring ≡ m - 1 = omega (arith, whole, within, some) in
       joined (get_or ring (m - 1 + 1) 0) (get_or ring (m - 1) 0) _ _
-          (first_is ∙ ap (λ (x : ℕ). get_or ring x 0) (sym next))
-          (turned-high ring m (length (turned ring m) - 1) within (omega (arith, whole, within))
-          (omega (arith, whole, within, some)) ∙ ap (λ (x : ℕ). get_or ring x 0) last)
-          (closed.along (m - 1) (omega (arith, within, some)))
+      (first_is ∙ ap (λ (x : ℕ). get_or ring x 0) (sym next))
+      (turned-high ring m (length (turned ring m) - 1) within (omega (arith, whole, within))
+      (omega (arith, whole, within, some)) ∙ ap (λ (x : ℕ). get_or ring x 0) last)
+      (closed.along (m - 1) (omega (arith, within, some)))
 
   from : (j : ℕ) → Contains (turned ring m) j → Contains ring j
   from j has = turned_from ring m j has

@@ -218,9 +218,17 @@ named_of net loop = by_ring (reverse (drop loop.place loop.trail)) refl
         let least' = subst (λ (xs : List ℕ). (least.0 < length xs) × ((k : ℕ) → k < length xs → get_or xs least.0 0 ≤ get_or xs k 0)) (sym is) (least.1, least.2) in (
           drop least.0 (reverse ring) ++ take least.0 (reverse ring),
           IsNamedCycle-from_back_ring net ring least.0 (IsBackRing-from_trail net loop.trail loop.at loop.place loop.walked loop.within loop.found) least'.0 least'.1,
-          omega (arith, length-append (drop least.0 (reverse ring))
-              (take least.0 (reverse ring)), length-drop least.0 (reverse ring), length-take least.0
-              (reverse ring), length-reverse ring, length-drop loop.place loop.trail, loop.short),
+          omega (
+            arith,
+            length-append (drop least.0 (reverse ring))
+                (take least.0 (reverse ring)),
+            length-drop least.0 (reverse ring),
+            length-take least.0
+                (reverse ring),
+            length-reverse ring,
+            length-drop loop.place loop.trail,
+            loop.short,
+          ),
         )
 
 -- a network within the limits is sound and has a least order, or it has a named cycle

@@ -68,17 +68,17 @@ later_sources : (low i : ℕ) (rows : List (List ℕ)) → low ≤ i → AllByRe
 later_sources low i [] below = tt
 later_sources low i (row ∷ rows) below =
     all_append (λ (arc : ℕ × ℕ). low ≤ arc.0) (arcs_from i row) (arcs_of_rows (i + 1) rows)
-        (all_from (λ (arc : ℕ × ℕ). low ≤ arc.0) i (λ j. below) row)
-        (later_sources low (i + 1) rows (omega (arith, below)))
+    (all_from (λ (arc : ℕ × ℕ). low ≤ arc.0) i (λ j. below) row)
+    (later_sources low (i + 1) rows (omega (arith, below)))
 
 rows_repeat_none : (n i : ℕ) (rows : List (List ℕ)) → AllByRecursion (IsRow n) rows → NoRepeat (arcs_of_rows i rows)
 rows_repeat_none n i [] h = tt
 rows_repeat_none n i (row ∷ rows) h =
     let later = later_sources (i + 1) (i + 1) rows (omega arith) in
     let apart : (j : ℕ) → AllByRecursion (λ (y : ℕ × ℕ). y ≢ (i, j)) (arcs_of_rows (i + 1) rows) =
-        λ j. all_along (λ (y : ℕ × ℕ). i + 1 ≤ y.0) (λ (y : ℕ × ℕ). y ≢ (i, j)) (λ y from e.
-        let same = ap (λ (arc : ℕ × ℕ). arc.0) e in
-        absurd (omega (arith, from, same))) (arcs_of_rows (i + 1) rows) later in
+    λ j. all_along (λ (y : ℕ × ℕ). i + 1 ≤ y.0) (λ (y : ℕ × ℕ). y ≢ (i, j)) (λ y from e.
+    let same = ap (λ (arc : ℕ × ℕ). arc.0) e in
+    absurd (omega (arith, from, same))) (arcs_of_rows (i + 1) rows) later in
     no_repeat-append (arcs_from i row) (arcs_of_rows (i + 1) rows) (row_repeats_none i row h.0.1) (rows_repeat_none n (i + 1) rows h.1)
     (all_from (λ (x : ℕ × ℕ). AllByRecursion (λ (y : ℕ × ℕ). y ≢ x) (arcs_of_rows (i + 1) rows)) i apart row)
 
@@ -95,8 +95,8 @@ rows_inside : (n i : ℕ) (rows : List (List ℕ)) → 1 ≤ i → i + length ro
 rows_inside n i [] low high h = tt
 rows_inside n i (row ∷ rows) low high h =
     all_append (IsInside n) (arcs_from i row) (arcs_of_rows (i + 1) rows)
-        (row_inside n i row low (omega (arith, high)) h.0.0)
-        (rows_inside n (i + 1) rows (omega (arith, low)) (omega (arith, high)) h.1)
+    (row_inside n i row low (omega (arith, high)) h.0.0)
+    (rows_inside n (i + 1) rows (omega (arith, low)) (omega (arith, high)) h.1)
 
 -- the network of good durations and of rows is within the limits
 pub IsWithinLimits-rows : (durations : List ℕ) (rows : List (List ℕ)) → HasGoodSize (unlagged durations []) →
@@ -156,8 +156,8 @@ row_in_arcs i (list ∷ lists) zero j has =
 row_in_arcs i (list ∷ lists) (suc k) j has =
     let same : i + 1 + k ≡ i + suc k = omega arith in
     Contains-append_right (arcs_from i list.items) (arcs_of_rows (i + 1) (rows_in lists)) (i + suc k, j)
-        (subst (λ (h : ℕ). Contains (arcs_of_rows (i + 1) (rows_in lists)) (h, j)) same
-        (row_in_arcs (i + 1) lists k j has))
+    (subst (λ (h : ℕ). Contains (arcs_of_rows (i + 1) (rows_in lists)) (h, j)) same
+    (row_in_arcs (i + 1) lists k j has))
 
 -- ---- the rows as numbers of rows
 
@@ -226,8 +226,8 @@ arcs_of_rows-push i (first ∷ lists) list =
     let same : i + 1 + length lists ≡ i + suc (length lists) = omega arith in
     let rest = subst (λ (h : ℕ). arcs_of_rows (i + 1) (rows_in (lists ++ list ∷ [])) ≡ arcs_of_rows (i + 1) (rows_in lists) ++ arcs_from h list.items) same (arcs_of_rows-push (i + 1) lists list) in
     ap (λ (arcs : List (ℕ × ℕ)). arcs_from i first.items ++ arcs) rest
-        ∙ sym (append_assoc (arcs_from i first.items) (arcs_of_rows (i + 1) (rows_in lists))
-        (arcs_from (i + suc (length lists)) list.items))
+    ∙ sym (append_assoc (arcs_from i first.items) (arcs_of_rows (i + 1) (rows_in lists))
+    (arcs_from (i + suc (length lists)) list.items))
 
 -- the first rows and the next one
 pub arcs_of_rows-more : (lists : List (Vec ℕ Global)) (k : ℕ) (list : Vec ℕ Global) → k < length lists →

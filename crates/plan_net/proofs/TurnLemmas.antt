@@ -161,9 +161,9 @@ pub IsStuckBelow-at : (net : Net) (placed : List Bool) (j at : ℕ) (succs : Lis
 IsStuckBelow-at net placed j at succs listed below within low held =
     IsStuckBelow-succs net placed j (get_or succs at 0) succs listed below (omega (arith, low))
     (λ m inside lower. before m inside lower (cases_lt m at)) where
-  before : (m : ℕ) → m < length succs → get_or succs m 0 < get_or succs at 0 → (m < at) ⊎ (at ≤ m) → (i : ℕ) × IsArc net i (get_or succs m 0) × IsOpen placed i
-  before m inside lower (inl earlier) = held m earlier (omega (arith, lower, low))
-  before m inside lower (inr later) = let up : get_or succs at 0 ≤ get_or succs m 0 = rising_at_most succs listed.rising at m later inside in absurd (omega (arith, up, lower))
+      before : (m : ℕ) → m < length succs → get_or succs m 0 < get_or succs at 0 → (m < at) ⊎ (at ≤ m) → (i : ℕ) × IsArc net i (get_or succs m 0) × IsOpen placed i
+      before m inside lower (inl earlier) = held m earlier (omega (arith, lower, low))
+      before m inside lower (inr later) = let up : get_or succs at 0 ≤ get_or succs m 0 = rising_at_most succs listed.rising at m later inside in absurd (omega (arith, up, lower))
 
 -- up to the one after j, if all below j have one
 pub IsStuckBelow-behind : (net : Net) (placed : List Bool) (j : ℕ) (succs : List ℕ) → ListsRising (IsArc net j) succs → IsStuckBelowBut net placed j → IsPlaced placed j

@@ -113,8 +113,8 @@ unfolding lists
 zero_lists width =
     let none : 0 * width ≡ 0 = omega arith in
     ap (λ (n : ℕ). take width (drop n (zero_row width)) ∷ []) none
-        ∙ ap (λ (r : List ℕ). r ∷ []) (take_all width (zero_row width)
-        (let size : length (zero_row width) ≡ width = length-replicate width 0 in omega arith))
+    ∙ ap (λ (r : List ℕ). r ∷ []) (take_all width (zero_row width)
+    (let size : length (zero_row width) ≡ width = length-replicate width 0 in omega arith))
 
 pub none_change : (changes : List ℕ) (used : ℕ → ℕ → ℕ) → changes ≡ [] → AreChanges changes used
 none_change changes used none c there = let inside = there.1 in let size = ap length none in absurd (omega arith)

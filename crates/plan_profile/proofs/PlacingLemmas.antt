@@ -76,8 +76,8 @@ added_rows changes rows start end t n steps start_there end_there =
                 inside_yes (changes_until changes start) (changes_until changes end) (changes_until changes t) n no_fewer fewer ∙ sym (inside_yes start end t n since early))
             | inr late ↦
                 (inside_after (changes_until changes start) (changes_until changes end)
-                    (changes_until changes t) n (until_mono changes end t steps.rising late)
-                    ∙ sym (inside_after start end t n late))
+                (changes_until changes t) n (until_mono changes end t steps.rising late)
+                ∙ sym (inside_after start end t n late))
           ])
     ]
 
@@ -137,7 +137,7 @@ pub placed : (changes : List ℕ) (rows : List (List ℕ)) (start end : ℕ) (ne
     (rows1 : List (List ℕ)) (changes2 : List ℕ) (rows2 rows3 : List (List ℕ)) (changes4 : List ℕ)
     (rows4 : List (List ℕ)) (changes5 : List ℕ) (rows5 : List (List ℕ))
     → AreChanges changes (amount changes rows) → IsStaged changes rows start end needs changes1 rows1 changes2
-        rows2 rows3 changes4 rows4 changes5 rows5 → IsPlaced changes rows start end needs changes5 rows5
+    rows2 rows3 changes4 rows4 changes5 rows5 → IsPlaced changes rows start end needs changes5 rows5
 placed changes rows start end needs changes1 rows1 changes2 rows2 rows3 changes4 rows4 changes5 rows5 true_changes s =
     let steps2 = s.closed.usage.steps in
     let start_there = s.closed.kept start s.opened.there in

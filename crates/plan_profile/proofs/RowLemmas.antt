@@ -75,8 +75,8 @@ with_row xs i w ys wide fits =
 -- one more row is raised
 pub raised_more : (amounts : List ℕ) (from i : ℕ) (needs amounts2 row sums amounts3 : List ℕ) → from ≤ i → length row ≡ length needs → AreRaised amounts from i needs amounts2
     → ((k : ℕ) → k < length needs → get_or row k 0 ≡ get_or amounts2 (i * length needs + k) 0) →
-        IsRowWith row needs sums → IsWithRow amounts2 i sums amounts3 →
-        AreRaised amounts from (i + 1) needs amounts3
+    IsRowWith row needs sums → IsWithRow amounts2 i sums amounts3 →
+    AreRaised amounts from (i + 1) needs amounts3
 raised_more amounts from i needs amounts2 row sums amounts3 first even raised is with put =
     let wide : length sums ≡ length needs = with.even ∙ even in
     record {

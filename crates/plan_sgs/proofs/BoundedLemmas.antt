@@ -36,8 +36,8 @@ total_take xs zero within = refl
 total_take xs (suc n) within =
     let next : n + 1 ≡ suc n = omega arith in
     let pushed : sum (take (suc n) xs) ≡ sum (take n xs) + get_or xs n 0 =
-        ap (λ (k : ℕ). sum (take k xs)) (sym next) ∙ ap sum (take_more xs n 0 (omega (arith, within)))
-        ∙ sum_by_push (λ y. y) (take n xs) (get_or xs n 0) in
+    ap (λ (k : ℕ). sum (take k xs)) (sym next) ∙ ap sum (take_more xs n 0 (omega (arith, within)))
+    ∙ sum_by_push (λ y. y) (take n xs) (get_or xs n 0) in
     omega (arith, pushed, total_take xs n (omega (arith, within)))
 
 pub bounded : (i : Planned) → IsInstance i → IsBounded (problem_of i)
@@ -60,8 +60,8 @@ bounded i instance = record {
       let size = instance.project.network.limits.size in
       let whole : take (count_of i.project.network) i.project.network.durations ≡ i.project.network.durations = take_all (count_of i.project.network) i.project.network.durations (omega arith) in
       let limit : sum (take (count_of i.project.network) i.project.network.durations) ≤ 1000000 =
-          (instance.project.network.limits.durations (count_of i.project.network)
-          (omega (arith, size.0), omega arith)).1 in
+      (instance.project.network.limits.durations (count_of i.project.network)
+      (omega (arith, size.0), omega arith)).1 in
       omega (arith, limit, total_take i.project.network.durations (count_of i.project.network) (omega arith));
   few = instance.project.network.limits.size.1;
 }

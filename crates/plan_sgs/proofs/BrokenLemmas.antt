@@ -155,6 +155,6 @@ needs_room i net j d caps row is activity fit same lasts here some k within =
     let place : j ≡ j - 1 + 1 = omega (arith, activity.0) in
     let long : duration_of net j ≡ duration (problem_of i) (j - 1) = ap (λ (n : Net). duration_of n j) is ∙ sym (duration-problem i (j - 1) j place) in
     let room : need (problem_of i) (j - 1) k ≤ capacity (problem_of i) k =
-        fit (j - 1) k (omega (arith, activity.0, activity.1, count-problem i))
-        (omega (arith, some, lasts, long)) (omega (arith, within, ap length same)) in
+    fit (j - 1) k (omega (arith, activity.0, activity.1, count-problem i))
+    (omega (arith, some, lasts, long)) (omega (arith, within, ap length same)) in
     omega (arith, room, need-problem i (j - 1) j row place here k, ap (λ (xs : List ℕ). get_or xs k 0) same)

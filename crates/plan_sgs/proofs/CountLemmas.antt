@@ -101,8 +101,8 @@ row_not_before row rising from_one k within = count_none (λ j. nat_eq (j - 1) (
 pub between_some : (net : Net) (j k : ℕ) → IsArc net j k → 1 ≤ arcs_between net.arcs (j - 1) (k - 1)
 between_some net j k (m, within, is) = count_some (λ arc. nat_eq (arc.0 - 1) (j - 1) && nat_eq (arc.1 - 1) (k - 1)) net.arcs m (j, k) within
     (subst (λ (arc : ℕ × ℕ). (nat_eq (arc.0 - 1) (j - 1) && nat_eq (arc.1 - 1) (k - 1)) ≡ true) (sym is)
-        (and_from (nat_eq (j - 1) (j - 1)) (nat_eq (k - 1) (k - 1)) (eq-eqb (j - 1) (j - 1) refl)
-        (eq-eqb (k - 1) (k - 1) refl)))
+    (and_from (nat_eq (j - 1) (j - 1)) (nat_eq (k - 1) (k - 1)) (eq-eqb (j - 1) (j - 1) refl)
+    (eq-eqb (k - 1) (k - 1) refl)))
 
 pair_is : (arc : ℕ × ℕ) (a b : ℕ) → arc.0 ≡ a → arc.1 ≡ b → arc ≡ (a, b)
 pair_is arc a b from to = ap (λ (x : ℕ). (x, arc.1)) from ∙ ap (λ (y : ℕ). (a, y)) to
@@ -130,11 +130,11 @@ pub between_once : (net : Net) (j h : ℕ) → IsWithinLimits net → IsActivity
 between_once net j h limits activity = count_once (λ arc. nat_eq (arc.0 - 1) (j - 1) && nat_eq (arc.1 - 1) h) net.arcs (0, 0) (λ a b before within one two.
     let long : length (take b net.arcs) ≡ b = length-take-le b net.arcs (omega (arith, within)) in
     let same : get_or (take b net.arcs) a (0, 0) ≡ get_or net.arcs b (0, 0) =
-        get_or-take b net.arcs a (0, 0) before ∙ arc_is net j h limits activity a
-        (omega (arith, before, within)) one ∙ sym (arc_is net j h limits activity b within two) in
+    get_or-take b net.arcs a (0, 0) before ∙ arc_is net j h limits activity a
+    (omega (arith, before, within)) one ∙ sym (arc_is net j h limits activity b within two) in
     limits.new_arcs b within (get_or net.arcs b (0, 0)) (slice_get-get_or net.arcs b (0, 0) within)
-        (subst (λ (arc : ℕ × ℕ). Contains (take b net.arcs) arc) same
-        (Contains-get_or (take b net.arcs) a (0, 0) (omega (arith, before, long)))))
+    (subst (λ (arc : ℕ × ℕ). Contains (take b net.arcs) arc) same
+    (Contains-get_or (take b net.arcs) a (0, 0) (omega (arith, before, long)))))
 
 -- an activity is in the row of successors as many times as there are arcs to it
 pub row_as_arcs : (net : Net) (j : ℕ) (row : List ℕ) → IsWithinLimits net → IsActivity net j →
@@ -168,14 +168,14 @@ degrees_more n k arcs waits i within is below are = record {
   size = length-set waits i (get_or waits i 0 + 1) ∙ are.size;
   each = λ h inside.
       let more : count_by (λ arc. nat_eq (arc.1 - 1) h) (take (k + 1) arcs) ≡ count_by
-          (λ arc. nat_eq (arc.1 - 1) h) (take k arcs) + tally (nat_eq ((get_or arcs k (0, 0)).1 - 1) h) =
-          sum_by_more (λ (arc : ℕ × ℕ). tally (nat_eq (arc.1 - 1) h)) arcs k (0, 0) within in
+      (λ arc. nat_eq (arc.1 - 1) h) (take k arcs) + tally (nat_eq ((get_or arcs k (0, 0)).1 - 1) h) =
+      sum_by_more (λ (arc : ℕ × ℕ). tally (nat_eq (arc.1 - 1) h)) arcs k (0, 0) within in
       let which : tally (nat_eq ((get_or arcs k (0, 0)).1 - 1) h) ≡ tally (nat_eq i h) = ap (λ (m : ℕ). tally (nat_eq m h)) is in
       elim (cases_eq i h) [
         | inl same ↦
             let here : get_or (set waits i (get_or waits i 0 + 1)) h 0 ≡ get_or waits i 0 + 1 =
-                subst (λ (m : ℕ). get_or (set waits i (get_or waits i 0 + 1)) m 0 ≡ get_or waits i 0 + 1) same
-                (get_or-set_same waits i (get_or waits i 0 + 1) 0 (omega (arith, below, are.size))) in
+            subst (λ (m : ℕ). get_or (set waits i (get_or waits i 0 + 1)) m 0 ≡ get_or waits i 0 + 1) same
+            (get_or-set_same waits i (get_or waits i 0 + 1) 0 (omega (arith, below, are.size))) in
             let one : tally (nat_eq i h) ≡ 1 = ap (λ (b : Bool). tally b) (eq-eqb i h same) in
             omega (arith, more, which, here, one, are.each h inside, ap (λ (m : ℕ). get_or waits m 0) same)
         | inr other ↦

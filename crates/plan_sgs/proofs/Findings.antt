@@ -48,33 +48,49 @@ over_is_more p s t k kept over =
 -- the least overload of the first starts is that of one more if no resource is overloaded at the new start
 pub over_among_none : (p : Problem) (s : List ℕ) (n : ℕ) (least : Option (ℕ × ℕ)) → IsOverAmong p s n least → ((k : ℕ) → IsOver p s (get_or s n 0) k → ⊥) → IsOverAmong p s (n + 1) least
 over_among_none p s n None among none = λ i k below. below_more (λ h. (q : ℕ) → IsOver p s (get_or s h 0) q → ⊥) n (λ h lower q. among h q lower) none i below k
-over_among_none p s n (Some over) among none =
-    (among.0, among.1, among.2, λ i k below. below_more
-        (λ h. (q : ℕ) → IsOver p s (get_or s h 0) q → over.0 ≤ get_or s h 0) n
-        (λ h lower q. among.3 h q lower) (λ q here. absurd (none q here)) i below k)
+over_among_none p s n (Some over) among none = (
+  among.0,
+  among.1,
+  among.2,
+  λ i k below. below_more
+      (λ h. (q : ℕ) → IsOver p s (get_or s h 0) q → over.0 ≤ get_or s h 0) n
+      (λ h lower q. among.3 h q lower) (λ q here. absurd (none q here)) i below k,
+)
 
 -- it is the same if the new start isn't before it
 pub over_among_later : (p : Problem) (s : List ℕ) (n : ℕ) (least : Option (ℕ × ℕ)) → IsOverAmong p s n least → (IsBefore (get_or s n 0) least → ⊥) → IsOverAmong p s (n + 1) least
 over_among_later p s n None among later = absurd (later tt)
-over_among_later p s n (Some over) among later =
-    (among.0, among.1, among.2, λ i k below. below_more
-        (λ h. (q : ℕ) → IsOver p s (get_or s h 0) q → over.0 ≤ get_or s h 0) n
-        (λ h lower q. among.3 h q lower) (λ q here. at_most (cases_lt (get_or s n 0) over.0)) i below k) where
-      at_most : (get_or s n 0 < over.0) ⊎ (over.0 ≤ get_or s n 0) → over.0 ≤ get_or s n 0
-      at_most (inl before) = absurd (later before)
-      at_most (inr order) = order
+over_among_later p s n (Some over) among later = (
+  among.0,
+  among.1,
+  among.2,
+  λ i k below. below_more
+      (λ h. (q : ℕ) → IsOver p s (get_or s h 0) q → over.0 ≤ get_or s h 0) n
+      (λ h lower q. among.3 h q lower) (λ q here. at_most (cases_lt (get_or s n 0) over.0)) i below k,
+) where
+  at_most : (get_or s n 0 < over.0) ⊎ (over.0 ≤ get_or s n 0) → over.0 ≤ get_or s n 0
+  at_most (inl before) = absurd (later before)
+  at_most (inr order) = order
 
 -- a start before it at which a resource is overloaded is the least
 pub over_among_here : (p : Problem) (s : List ℕ) (n k : ℕ) (least : Option (ℕ × ℕ)) → IsOverAmong p s n least → IsBefore (get_or s n 0) least
     → 0 < k → IsOver p s (get_or s n 0) (k - 1) → ((l : ℕ) → IsOver p s (get_or s n 0) l → k - 1 ≤ l) → IsOverAmong p s (n + 1) (Some (get_or s n 0, k))
-over_among_here p s n k None among before some over first =
-    (some, over, first, λ i q below. below_more (λ h. (l : ℕ) → IsOver p s (get_or s h 0) l →
-        get_or s n 0 ≤ get_or s h 0) n (λ h lower l here. absurd (among h l lower here))
-        (λ l here. omega arith) i below q)
-over_among_here p s n k (Some other) among before some over first =
-    (some, over, first, λ i q below. below_more (λ h. (l : ℕ) → IsOver p s (get_or s h 0) l →
-        get_or s n 0 ≤ get_or s h 0) n (λ h lower l here. omega (arith, before, among.3 h l lower here))
-        (λ l here. omega arith) i below q)
+over_among_here p s n k None among before some over first = (
+  some,
+  over,
+  first,
+  λ i q below. below_more (λ h. (l : ℕ) → IsOver p s (get_or s h 0) l →
+      get_or s n 0 ≤ get_or s h 0) n (λ h lower l here. absurd (among h l lower here))
+      (λ l here. omega arith) i below q,
+)
+over_among_here p s n k (Some other) among before some over first = (
+  some,
+  over,
+  first,
+  λ i q below. below_more (λ h. (l : ℕ) → IsOver p s (get_or s h 0) l →
+      get_or s n 0 ≤ get_or s h 0) n (λ h lower l here. omega (arith, before, among.3 h l lower here))
+      (λ l here. omega arith) i below q,
+)
 
 -- the least overloaded start is the least overloaded instant
 pub over_answer : (p : Problem) (s : List ℕ) (least : Option (ℕ × ℕ)) → length s ≡ count p → KeepsArcs p s → IsOverAmong p s (count p) least → IsOverAnswer p s least
@@ -104,8 +120,8 @@ broken_not_kept p s i j first kept =
     let a = first.broken.0 in
     let breaks : get_or s a.to 0 < get_or s a.from 0 + duration p a.from + a.lag = first.broken.2 in
     let keeps : get_or s a.from 0 + duration p a.from + a.lag ≤ get_or s a.to 0 =
-        All-contains (λ (b : Link). get_or s b.from 0 + duration p b.from + b.lag ≤ get_or s b.to 0) p.links a
-        kept first.broken.1 in
+    All-contains (λ (b : Link). get_or s b.from 0 + duration p b.from + b.lag ≤ get_or s b.to 0) p.links a
+    kept first.broken.1 in
     omega (arith, breaks, keeps)
 
 -- the first broken link is no later than any other broken one

@@ -126,8 +126,8 @@ unfolding WordsGoOn is_full
 words_go_on i w instance word open_word =
     let missing = all_below_not (depth_of i) (λ j. is_member j (places w)) open_word in
     let next = some_eligible (problem_of i) (rank_by i.project.network) (λ _. 0) (places w)
-        (bounded i instance).inside (ranked i instance.project.network) (λ k d within. omega arith)
-        (suc (rank_by i.project.network missing.0)) missing.0 (omega arith) missing.1 missing.2 in
+    (bounded i instance).inside (ranked i instance.project.network) (λ k d within. omega arith)
+    (suc (rank_by i.project.network missing.0)) missing.0 (omega arith) missing.1 missing.2 in
     (suc next.0, letter_from i w next.0 next.1 next.2)
 
 -- for each feasible list there is a full word that is no longer
@@ -142,10 +142,10 @@ words_reach i starts instance feasible = record {
       let low : makespan (problem_of i) (serial (problem_of i) (by_starts (problem_of i) starts)) ≤ makespan (problem_of i) starts =
       by_starts_least (problem_of i) (rank_by i.project.network) starts (bounded i instance).inside instance.fit (ranked i instance.project.network) feasible in
       let same : makespan (problem_of i) (serial (problem_of i)
-          (places (map suc (by_starts (problem_of i) starts)))) ≡ makespan (problem_of i)
-          (serial (problem_of i) (by_starts (problem_of i) starts)) =
-          ap (λ (js : List ℕ). makespan (problem_of i) (serial (problem_of i) js))
-          (places_suc (by_starts (problem_of i) starts)) in
+      (places (map suc (by_starts (problem_of i) starts)))) ≡ makespan (problem_of i)
+      (serial (problem_of i) (by_starts (problem_of i) starts)) =
+      ap (λ (js : List ℕ). makespan (problem_of i) (serial (problem_of i) js))
+      (places_suc (by_starts (problem_of i) starts)) in
       omega (arith, low, same);
 }
 
@@ -154,8 +154,8 @@ pub least_is_shortest : LeastProjectWordIsShortest
 unfolding LeastProjectWordIsShortest makespan_by
 least_is_shortest i w instance full least =
     least_shortest (problem_of i) (rank_by i.project.network) (places w)
-        (bounded i instance).inside instance.fit (ranked i instance.project.network)
-        (told_by_places (problem_of i) (places w) (full_list i w full)) (λ other list.
+    (bounded i instance).inside instance.fit (ranked i instance.project.network)
+    (told_by_places (problem_of i) (places w) (full_list i w full)) (λ other list.
     let numbered = list_word i other (told_by_entries (problem_of i) other (bounded i instance).inside list) in
     let low : makespan (problem_of i) (serial (problem_of i) (places w)) ≤ makespan (problem_of i) (serial (problem_of i) (places (map suc other))) = least (map suc other) numbered in
     omega (arith, low, ap (λ (js : List ℕ). makespan (problem_of i) (serial (problem_of i) js)) (places_suc other)))

@@ -34,9 +34,14 @@ pub too_much_here : (i : Planned) (h k act res : ℕ) (row : List ℕ) → act �
     slice_get i.project.needs (act - 1) ≡ Some row → IsFirstAbove row i.capacities k
     → ((g q : ℕ) → g < h → IsTooMuch (problem_of i) g q → ⊥) → IsFirstTooMuch (problem_of i) act res
 unfolding problem_of
-too_much_here i h k act res row act_is res_is inside lasts here (within, above, first) none =
-    (h, k, omega (arith, act_is), omega (arith, res_is),
-    (inside, within, omega (arith, lasts, duration-problem i h act act_is), too_much), least) where
+too_much_here i h k act res row act_is res_is inside lasts here (within, above, first) none = (
+  h,
+  k,
+  omega (arith, act_is),
+  omega (arith, res_is),
+  (inside, within, omega (arith, lasts, duration-problem i h act act_is), too_much),
+  least,
+) where
   too_much : capacity (problem_of i) k < need (problem_of i) h k
   too_much = rw (need-problem i h act row act_is here k) above
 

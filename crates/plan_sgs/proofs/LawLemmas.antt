@@ -40,8 +40,8 @@ left_after : (p : Problem) (starts : List ℕ) → NeedsFit p → IsFeasible p s
     (js taken : List ℕ) (placed : List (Option ℕ)) → IsPartial p placed → TakenIs placed taken →
     takes_in_turn p taken js ≡ true → RisesBy (λ i. get_or starts i 0) js
     → ((i s : ℕ) → get_or placed i None ≡ Some s →
-        (s ≤ get_or starts i 0) × AllByRecursion (λ j. get_or starts i 0 ≤ get_or starts j 0) js) →
-        (i s : ℕ) → get_or (serial_from p placed js) i None ≡ Some s → s ≤ get_or starts i 0
+    (s ≤ get_or starts i 0) × AllByRecursion (λ j. get_or starts i 0 ≤ get_or starts j 0) js) →
+    (i s : ℕ) → get_or (serial_from p placed js) i None ≡ Some s → s ≤ get_or starts i 0
 left_after p starts fit feasible [] taken placed partial is turns rises left i s at = (left i s at).0
 left_after p starts fit feasible (j ∷ js) taken placed partial is turns rises left i s at =
     let turn = turn_parts p taken j js turns in
@@ -49,11 +49,11 @@ left_after p starts fit feasible (j ∷ js) taken placed partial is turns rises 
     let ready = ready_from p placed taken j is turn.1 in
     let within : j < length placed = omega (arith, turn.0, partial.size) in
     let low : earliest p placed j ≤ get_or starts j 0 =
-        earliest_left p starts placed j fit feasible partial.size turn.0 ready open_place (λ h r there.
-        let here = left h r there in (here.0, here.1.0)) in
+    earliest_left p starts placed j fit feasible partial.size turn.0 ready open_place (λ h r there.
+    let here = left h r there in (here.0, here.1.0)) in
     left_after p starts fit feasible js (taken ++ j ∷ []) (set placed j (Some (earliest p placed j)))
-        (partial_set p placed j fit partial turn.0 open_place ready)
-        (taken_set placed taken j (earliest p placed j) within is) turn.2 rises.1
+    (partial_set p placed j fit partial turn.0 open_place ready)
+    (taken_set placed taken j (earliest p placed j) within is) turn.2 rises.1
     (λ h r there. elim (set_cases placed j (earliest p placed j) h r within there) [
       | inl here ↦ (omega (arith, low, here.1, ap (λ (x : ℕ). get_or starts x 0) here.0), subst (λ (x : ℕ). AllByRecursion (λ k. get_or starts x 0 ≤ get_or starts k 0) js) (sym here.0) rises.0)
       | inr before ↦ let old = left h r before.1 in (old.0, old.1.1)
@@ -83,9 +83,9 @@ pub by_starts_least : (p : Problem) (rank : ℕ → ℕ) (starts : List ℕ) →
 by_starts_least p rank starts inside fit ranked feasible =
     greatest_grows (count p) (λ i. get_or (serial p (by_starts p starts)) i 0 + duration p i) (λ i. get_or starts i 0 + duration p i) (λ i below.
     let low : get_or (serial p (by_starts p starts)) i 0 ≤ get_or starts i 0 =
-        serial_no_later p starts (by_starts p starts) fit feasible
-        (rule_list_is p rank (λ h. get_or starts h 0) inside ranked)
-        (by_starts_rises p rank starts inside ranked feasible) i below in
+    serial_no_later p starts (by_starts p starts) fit feasible
+    (rule_list_is p rank (λ h. get_or starts h 0) inside ranked)
+    (by_starts_rises p rank starts inside ranked feasible) i below in
     omega (arith, low))
 
 -- a serial schedule of least makespan among serial schedules is shortest
@@ -96,8 +96,8 @@ least_shortest p rank js inside fit ranked list least = record {
   feasible = (serial_active p js inside fit (told_by_entries p js inside list)).feasible;
   least = λ other feasible.
       let order : makespan p (serial p js) ≤ makespan p (serial p (by_starts p other)) =
-          least (by_starts p other) (told_by_places p (by_starts p other)
-          (rule_list_is p rank (λ h. get_or other h 0) inside ranked)) in
+      least (by_starts p other) (told_by_places p (by_starts p other)
+      (rule_list_is p rank (λ h. get_or other h 0) inside ranked)) in
       omega (arith, order, by_starts_least p rank other inside fit ranked feasible);
 }
 
@@ -118,8 +118,8 @@ takes_first p rank key inside ranked zero taken counted = ([], sym (append-nil t
 takes_first p rank key inside ranked (suc n) taken counted =
     let next = next_there p rank key taken inside ranked (omega (arith, counted)) in
     let one : taken_count p taken + 1 ≡ taken_count p (taken ++ next_of p key taken ∷ []) =
-        taken_more p taken (next_of p key taken) next.first.inside
-        (eligible_not p taken (next_of p key taken) next.first.eligible) in
+    taken_more p taken (next_of p key taken) next.first.inside
+    (eligible_not p taken (next_of p key taken) next.first.eligible) in
     let rest = takes_first p rank key inside ranked n (taken ++ next_of p key taken ∷ []) (omega (arith, counted, one)) in
     (next_of p key taken ∷ rest.0, rest.1 ∙ append_assoc taken (next_of p key taken ∷ []) rest.0, (first_by p key taken (next_of p key taken) next.first, rest.2), omega (arith, rest.3))
 

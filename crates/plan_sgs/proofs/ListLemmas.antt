@@ -100,8 +100,8 @@ count_push p j js = elim (cases_Bool (is_member j js)) [
     | inl inside ↦ omega (arith, taken_more p js j inside new)
     | inr outside ↦
         let same : taken_count p (js ++ j ∷ []) ≡ taken_count p js =
-            total_same (count p) (λ i. one_if (is_member i (js ++ j ∷ []))) (λ i. one_if (is_member i js))
-            (λ i below. ap one_if (member_other i j js (λ e. omega (arith, e, below, outside)))) in
+        total_same (count p) (λ i. one_if (is_member i (js ++ j ∷ []))) (λ i. one_if (is_member i js))
+        (λ i below. ap one_if (member_other i j js (λ e. omega (arith, e, below, outside)))) in
         omega (arith, same)
   ]
 ]
@@ -133,15 +133,15 @@ pub told_by_entries : (p : Problem) (js : List ℕ) → LinksInside p → IsActi
 told_by_entries p js inside list = and_from (nat_eq (length js) (count p)) (takes_in_turn p [] js)
     (eq-eqb (length js) (count p) list.each_once) (turns_from p js []
     (λ k within. (list.none_else k 0 within, eligible k within))) where
-  there : (j : ℕ) → j < count p → (k : ℕ) × (k < length js) × (get_or js k 0 ≡ j)
-  there j below = let has = list.all_there j below in (has.0, has.1, get_or_default js has.0 0 j has.1 ∙ has.2)
+      there : (j : ℕ) → j < count p → (k : ℕ) × (k < length js) × (get_or js k 0 ≡ j)
+      there j below = let has = list.all_there j below in (has.0, has.1, get_or_default js has.0 0 j has.1 ∙ has.2)
 
-  all : (j : ℕ) → j < count p → is_member j js ≡ true
-  all j below = let place = there j below in place_member js place.0 j place.1 place.2
+      all : (j : ℕ) → j < count p → is_member j js ≡ true
+      all j below = let place = there j below in place_member js place.0 j place.1 place.2
 
-  eligible : (k : ℕ) → k < length js → is_eligible p (take k js) (get_or js k 0) ≡ true
-  eligible k within =
-      eligible_from p (take k js) (get_or js k 0) (false_from_ne_true (is_member (get_or js k 0) (take k js)) (none_again p js k list.each_once all within)) (λ l d low to.
-      let place = there (get_or p.links l d).from (inside l d low).0 in
-      let early : place.0 < k = list.after place.0 k place.1 within l d low (sym place.2) to in
-      place_member (take k js) place.0 (get_or p.links l d).from (omega (arith, early, length-take-le k js (omega (arith, within)))) (get_or-take k js place.0 0 early ∙ place.2))
+      eligible : (k : ℕ) → k < length js → is_eligible p (take k js) (get_or js k 0) ≡ true
+      eligible k within =
+          eligible_from p (take k js) (get_or js k 0) (false_from_ne_true (is_member (get_or js k 0) (take k js)) (none_again p js k list.each_once all within)) (λ l d low to.
+          let place = there (get_or p.links l d).from (inside l d low).0 in
+          let early : place.0 < k = list.after place.0 k place.1 within l d low (sym place.2) to in
+          place_member (take k js) place.0 (get_or p.links l d).from (omega (arith, early, length-take-le k js (omega (arith, within)))) (get_or-take k js place.0 0 early ∙ place.2))

@@ -57,10 +57,12 @@ pub can_come_eligible : (i : Planned) (marks : List Bool) (taken : List ℕ) (j 
     IsSound i.project.network → AreMarksOf (count_of i.project.network) marks taken →
     CanCome i.project.network marks j → (j - 1 < count (problem_of i))
     × (is_eligible (problem_of i) taken (j - 1) ≡ true)
-can_come_eligible i marks taken j sound are (activity, open_now, released) =
-    (omega (arith, activity, count-problem i), eligible_from (problem_of i) taken (j - 1)
-    (sym (are.each (j - 1) (omega (arith, activity))) ∙ open_now)
-    (released_taken i marks taken j sound are activity.0 released))
+can_come_eligible i marks taken j sound are (activity, open_now, released) = (
+  omega (arith, activity, count-problem i),
+  eligible_from (problem_of i) taken (j - 1)
+      (sym (are.each (j - 1) (omega (arith, activity))) ∙ open_now)
+      (released_taken i marks taken j sound are activity.0 released),
+)
 
 -- and the reverse
 pub eligible_can_come : (i : Planned) (marks : List Bool) (taken : List ℕ) (j : ℕ) →
@@ -68,10 +70,13 @@ pub eligible_can_come : (i : Planned) (marks : List Bool) (taken : List ℕ) (j 
     j - 1 < count (problem_of i) → is_eligible (problem_of i) taken (j - 1) ≡ true →
     CanCome i.project.network marks j
 eligible_can_come i marks taken j sound are low inside eligible =
-    let within : j - 1 < count_of i.project.network = omega (arith, inside, count-problem i) in
-    ((low, omega (arith, low, within)), are.each (j - 1) within
-        ∙ eligible_not (problem_of i) taken (j - 1) eligible, taken_released i marks taken j sound are
-        (eligible_preds (problem_of i) taken (j - 1) eligible))
+    let within : j - 1 < count_of i.project.network = omega (arith, inside, count-problem i) in (
+      (low, omega (arith, low, within)),
+      are.each (j - 1) within
+          ∙ eligible_not (problem_of i) taken (j - 1) eligible,
+      taken_released i marks taken j sound are
+          (eligible_preds (problem_of i) taken (j - 1) eligible),
+    )
 
 -- the index of the first occurrence of a number in a list
 pub place_of : List ℕ → ℕ → ℕ

@@ -18,10 +18,10 @@ pub eligible_open : (p : Problem) (taken : List ℕ) (h : ℕ) → is_eligible p
 eligible_open p taken h = ap (λ (b : Bool). not (is_member h taken) && b)
     (all_fail (is_open taken h) (λ a. not (nat_eq a.to h) || is_member a.from taken)
     (λ a. turned (nat_eq a.to h) (is_member a.from taken)) p.links) where
-  turned : (to has : Bool) → (not to || has) ≡ not (to && not has)
-  turned true true = refl
-  turned true false = refl
-  turned false has = refl
+      turned : (to has : Bool) → (not to || has) ≡ not (to && not has)
+      turned true true = refl
+      turned true false = refl
+      turned false has = refl
 
 -- after one more is taken, its links are no longer counted
 pub open_more : (p : Problem) (taken : List ℕ) (g h : ℕ) → is_member g taken ≡ false → open_links p (taken ++ g ∷ []) h + links_between p g h ≡ open_links p taken h
@@ -81,19 +81,38 @@ queued_more p taken g h times came eligible settled counted freed_now = elim (ca
       let is : tally (is_eligible p taken h) ≡ 1 = ap (λ (b : Bool). tally b) (ap (is_eligible p taken) same ∙ eligible) in
       let it : tally (nat_eq g h) ≡ 1 = ap (λ (b : Bool). tally b) (eq-eqb g h (sym same)) in
       let out : tally (is_eligible p (taken ++ g ∷ []) h) ≡ 0 =
-          ap (λ (b : Bool). tally b) (eligible_open p (taken ++ g ∷ []) h
-          ∙ ap (λ (b : Bool). not b && nat_eq now 0)
-          (ap (λ (k : ℕ). is_member k (taken ++ g ∷ [])) same ∙ member_last g taken)) in
+      ap (λ (b : Bool). tally b) (eligible_open p (taken ++ g ∷ []) h
+      ∙ ap (λ (b : Bool). not b && nat_eq now 0)
+      (ap (λ (k : ℕ). is_member k (taken ++ g ∷ [])) same ∙ member_last g taken)) in
       omega (arith, is, it, out, counted, none (ap (open_links p taken) same ∙ open_none p taken g eligible))
   | inr other ↦ elim (cases_Bool (is_member h taken)) [
-    | inl has ↦ omega (arith, apart other, counted, before, after other, none (settled has), ap
-        (λ (b : Bool). tally (not b && nat_eq (open_links p taken h) 0)) has, ap
-        (λ (b : Bool). tally (not b && nat_eq now 0)) has)
+    | inl has ↦ omega (
+      arith,
+      apart other,
+      counted,
+      before,
+      after other,
+      none (settled has),
+      ap
+          (λ (b : Bool). tally (not b && nat_eq (open_links p taken h) 0)) has,
+      ap
+          (λ (b : Bool). tally (not b && nat_eq now 0)) has,
+    )
     | inr new ↦
-        omega (arith, apart other, counted, before, after other, freed_now, ap
-            (λ (b : Bool). tally (not b && nat_eq (open_links p taken h) 0)) new, ap
-            (λ (b : Bool). tally (not b && nat_eq now 0)) new, freed (open_links p taken h) now
-            (omega (arith, open_more p taken g h (eligible_not p taken g eligible))))
+        omega (
+          arith,
+          apart other,
+          counted,
+          before,
+          after other,
+          freed_now,
+          ap
+              (λ (b : Bool). tally (not b && nat_eq (open_links p taken h) 0)) new,
+          ap
+              (λ (b : Bool). tally (not b && nat_eq now 0)) new,
+          freed (open_links p taken h) now
+              (omega (arith, open_more p taken g h (eligible_not p taken g eligible))),
+        )
   ]
 ] where
   now : ℕ

@@ -62,7 +62,7 @@ pub start_is : (i : Planned) (used : ℕ → ℕ → ℕ) (caps : List ℕ) (pla
     (row : List ℕ) → IsInstance i → IsActivity i.project.network j → caps ≡ (problem_of i).capacities →
     d ≡ duration (problem_of i) (j - 1)
     → slice_get i.project.needs (j - 1) ≡ Some row → IsUsageOf used (problem_of i) placed →
-        from ≡ release (problem_of i) placed (j - 1) → IsEarliestIn caps used from d row t →
-        t ≡ earliest (problem_of i) placed (j - 1)
+    from ≡ release (problem_of i) placed (j - 1) → IsEarliestIn caps used from d row t →
+    t ≡ earliest (problem_of i) placed (j - 1)
 start_is i used caps placed j from d t row instance activity same_caps same_d here is released found =
     found_from used caps (problem_of i) placed (j - 1) from d t row instance.fit (activity_place i j activity) same_caps same_d (needs_place i j row activity here) is released found

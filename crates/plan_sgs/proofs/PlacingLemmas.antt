@@ -38,8 +38,12 @@ fold_least p placed j u m [] low all = low
 fold_least p placed j u m (a ∷ links) low all =
     fold_least p placed j u (later p placed j m a) links
     (cond_both (nat_eq a.to j) (max m (end_of p placed a.from + a.lag)) m (λ x. x ≤ u)
-        (λ yes. omega (arith, low, All-head (λ b. b.to ≡ j → end_of p placed b.from + b.lag ≤ u) a links all
-        (eqb-true a.to j yes))) (λ no. low))
+    (λ yes. omega (
+      arith,
+      low,
+      All-head (λ b. b.to ≡ j → end_of p placed b.from + b.lag ≤ u) a links all
+          (eqb-true a.to j yes),
+    )) (λ no. low))
     (All-tail (λ b. b.to ≡ j → end_of p placed b.from + b.lag ≤ u) a links all)
 
 -- a release is no earlier than each predecessor's end and lag, and is the least such
@@ -63,7 +67,7 @@ usage_set p placed j t u k size inside open_place =
     (λ i below other. ap (amount_of p u k i) (sym (get_or-set_other placed j i (Some t) None other)))
     (let before : amount_of p u k j (get_or placed j None) ≡ 0 = ap (amount_of p u k j) open_place in
     let after : amount_of p u k j (get_or (set placed j (Some t)) j None) ≡ amount_of p u k j (Some t) =
-        ap (amount_of p u k j) (get_or-set_same placed j (Some t) None (omega (arith, size, inside))) in
+    ap (amount_of p u k j) (get_or-set_same placed j (Some t) None (omega (arith, size, inside))) in
     omega (arith, before, after))
 
 -- placing an activity where it fits keeps the capacities
@@ -119,9 +123,9 @@ pub fits_beside : (p : Problem) (placed : List (Option ℕ)) (other : List ℕ) 
 unfolding usage
 fits_beside p placed other j size other_size inside open_place keeps less = fits_from p placed j (get_or other j 0) (λ x k low within.
     let more : usage p placed (get_or other j 0 + x) k + amount_of p (get_or other j 0 + x) k j
-        (Some (get_or other j 0)) ≡ usage p (set placed j (Some (get_or other j 0)))
-        (get_or other j 0 + x) k = usage_set p placed j (get_or other j 0)
-        (get_or other j 0 + x) k size inside open_place in
+    (Some (get_or other j 0)) ≡ usage p (set placed j (Some (get_or other j 0)))
+    (get_or other j 0 + x) k = usage_set p placed j (get_or other j 0)
+    (get_or other j 0 + x) k size inside open_place in
     let all : usage p (set placed j (Some (get_or other j 0))) (get_or other j 0 + x) k ≤ usage p (all_placed other) (get_or other j 0 + x) k = grows (get_or other j 0 + x) k (omega arith) in
     let runs : amount_of p (get_or other j 0 + x) k j (Some (get_or other j 0)) ≡ need p j k = amount_during p (get_or other j 0 + x) k j (get_or other j 0) (omega arith) (omega (arith, low)) in
     omega (arith, more, all, runs, keeps (get_or other j 0 + x) k within)) where
@@ -133,8 +137,8 @@ fits_beside p placed other j size other_size inside open_place keeps less = fits
         | inl same ↦
             let here : get_or (set placed j (Some (get_or other j 0))) i None ≡ Some (get_or other i 0) =
             subst (λ (x : ℕ). get_or (set placed j (Some (get_or other j 0))) x None ≡ Some
-                (get_or other x 0)) (sym same) (get_or-set_same placed j (Some (get_or other j 0)) None
-                (omega (arith, size, inside))) in
+            (get_or other x 0)) (sym same) (get_or-set_same placed j (Some (get_or other j 0)) None
+            (omega (arith, size, inside))) in
             let equal : amount_of p t k i (get_or (set placed j (Some (get_or other j 0))) i None) ≡ amount_of p t k i (Some (get_or other i 0)) = ap (amount_of p t k i) here in
             omega (arith, equal)
       ]

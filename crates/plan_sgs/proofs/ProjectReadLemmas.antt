@@ -52,8 +52,8 @@ pub makespan_is : (v : Standing) (placed : List (Option ℕ)) → TreeFacts v pl
 unfolding makespan_by is_full serial
 makespan_is v placed facts full =
     greatest_same (depth_of v.instance) (end_of (problem_of v.instance) (placed_by v.instance v.word))
-        (λ h. get_or (map start_or_zero (placed_by v.instance v.word)) h 0 + duration
-        (problem_of v.instance) h) (λ h below.
+    (λ h. get_or (map start_or_zero (placed_by v.instance v.word)) h 0 + duration
+    (problem_of v.instance) h) (λ h below.
     let member : is_member h (places v.word) ≡ true = all_below_at (depth_of v.instance) (λ j. is_member j (places v.word)) h full below in
     let start = taken_placed placed (places v.word) h facts.taken member in
     let there : get_or (placed_by v.instance v.word) h None ≡ Some start.0 = sym (ap (λ (xs : List (Option ℕ)). get_or xs h None) facts.placed_are) ∙ start.1 in

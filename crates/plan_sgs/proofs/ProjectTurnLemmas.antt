@@ -50,8 +50,8 @@ word_ends i w instance word h s is =
     let limits = bounded i instance in
     let partial = word_partial i [] instance tt in
     let all = ends_after (problem_of i) (places w) [] (unplaced (depth_of i)) limits partial.0.size
-        (word_turns i [] w word).turns (λ g r there. absurd
-        (none-some r (sym (unplaced_at (depth_of i) g) ∙ there))) h s is in
+    (word_turns i [] w word).turns (λ g r there. absurd
+    (none-some r (sym (unplaced_at (depth_of i) g) ∙ there))) h s is in
     let most : bound_of (problem_of i) (places w) ≤ 6020000 = bound_within (problem_of i) (places w) limits (omega (arith, words_most i w word, length-places w)) in
     omega (arith, all, most)
 
@@ -170,8 +170,8 @@ greatest_placed n length_of placed j s inside within none =
     let here : end_from (length_of j) (get_or (set placed j (Some s)) j None) ≡ s + length_of j = ap (end_from (length_of j)) (get_or-set_same placed j (Some s) None within) in
     let before : end_from (length_of j) (get_or placed j None) ≡ 0 = ap (end_from (length_of j)) none in
     let all = greatest_changed n (λ h. end_from (length_of h) (get_or placed h None))
-        (λ h. end_from (length_of h) (get_or (set placed j (Some s)) h None)) j inside
-        (omega (arith, here, before)) (λ h other.
+    (λ h. end_from (length_of h) (get_or (set placed j (Some s)) h None)) j inside
+    (omega (arith, here, before)) (λ h other.
     ap (end_from (length_of h)) (sym (get_or-set_other placed j h (Some s) None other))) in
     omega (arith, all, here)
 
@@ -180,12 +180,24 @@ pub next_turn : (v : Standing) (placed : List (Option ℕ)) (a start end reach :
     → end ≡ max (end_by v.instance v.word) (start + duration (problem_of v.instance) (a - 1)) → reach ≡ max (reach_by v.instance v.word) (start + tail_of v.instance.project.network (suc (a - 1)))
     → IsTurn v.instance (v.word ++ a ∷ []) (record { letter = a; end = end; reach = reach })
 next_turn v placed a start end reach facts can is ends reaches = record {
-  latest = omega (arith, ends, before_end, greatest_placed (depth_of v.instance)
-      (duration (problem_of v.instance)) placed (a - 1) start
-      (omega (arith, can.inside, facts.size)) can.inside can.none, after_end);
-  farthest = omega (arith, reaches, before_reach, greatest_placed (depth_of v.instance)
-      (λ h. tail_of v.instance.project.network (suc h)) placed (a - 1) start
-      (omega (arith, can.inside, facts.size)) can.inside can.none, after_reach);
+  latest = omega (
+    arith,
+    ends,
+    before_end,
+    greatest_placed (depth_of v.instance)
+        (duration (problem_of v.instance)) placed (a - 1) start
+        (omega (arith, can.inside, facts.size)) can.inside can.none,
+    after_end,
+  );
+  farthest = omega (
+    arith,
+    reaches,
+    before_reach,
+    greatest_placed (depth_of v.instance)
+        (λ h. tail_of v.instance.project.network (suc h)) placed (a - 1) start
+        (omega (arith, can.inside, facts.size)) can.inside can.none,
+    after_reach,
+  );
 } where
   after : set placed (a - 1) (Some start) ≡ placed_by v.instance (v.word ++ a ∷ [])
   after = ap (λ (t : ℕ). set placed (a - 1) (Some t)) is
@@ -210,9 +222,12 @@ word_of-push turns turn = map_push (λ (t : Turn). t.letter) turns turn
 
 turns_push : (i : Planned) (u : List ℕ) (turns : List Turn) (turn : Turn) → AreTurns i u turns → IsTurn i (u ++ word_of turns ++ turn.letter ∷ []) turn → AreTurns i u (turns ++ turn ∷ [])
 turns_push i u [] turn are is = (subst (λ (xs : List ℕ). IsTurn i (xs ++ turn.letter ∷ []) turn) (append-nil u) is, tt)
-turns_push i u (t ∷ ts) turn are is = (are.0, turns_push i (u ++ t.letter ∷ []) ts turn are.1
-    (subst (λ (xs : List ℕ). IsTurn i (xs ++ turn.letter ∷ []) turn)
-    (sym (append_assoc u (t.letter ∷ []) (word_of ts))) is))
+turns_push i u (t ∷ ts) turn are is = (
+  are.0,
+  turns_push i (u ++ t.letter ∷ []) ts turn are.1
+      (subst (λ (xs : List ℕ). IsTurn i (xs ++ turn.letter ∷ []) turn)
+      (sym (append_assoc u (t.letter ∷ []) (word_of ts))) is),
+)
 
 turns_front : (i : Planned) (u : List ℕ) (turns : List Turn) (turn : Turn) → AreTurns i u (turns ++ turn ∷ []) → AreTurns i u turns
 turns_front i u [] turn are = tt
@@ -403,8 +418,8 @@ profiles_more i w profiles after made are size held more = subst (AreProfiles i 
     | inl last ↦
         let same : profile ≡ made = is ∙ get_or_push profiles made profile k (sym last) in
         subst (λ (x : Profile). Holds x (problem_of i) (placed_by i (take k w))) (sym same)
-            (subst (λ (xs : List ℕ). Holds made (problem_of i) (placed_by i xs))
-            (sym (take_all k w (omega (arith, last, size)))) held)
+        (subst (λ (xs : List ℕ). Holds made (problem_of i) (placed_by i xs))
+        (sym (take_all k w (omega (arith, last, size)))) held)
     | inr other ↦
         let before : k < length profiles = omega (arith, within, other, length_push profiles made) in
         are.held k profile before (is ∙ get_or_append_left profiles (made ∷ []) profile k before)

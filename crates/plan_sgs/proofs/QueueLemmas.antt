@@ -129,8 +129,8 @@ lowered_more row k old now within inside waits lowered = record {
       elim (cases_eq i h) [
         | inl same ↦
             let here : get_or (set now i (get_or now i 0 - 1)) h 0 ≡ get_or now i 0 - 1 =
-                subst (λ (m : ℕ). get_or (set now i (get_or now i 0 - 1)) m 0 ≡ get_or now i 0 - 1) same
-                (get_or-set_same now i (get_or now i 0 - 1) 0 (omega (arith, inside, lowered.size))) in
+            subst (λ (m : ℕ). get_or (set now i (get_or now i 0 - 1)) m 0 ≡ get_or now i 0 - 1) same
+            (get_or-set_same now i (get_or now i 0 - 1) 0 (omega (arith, inside, lowered.size))) in
             let one : tally (nat_eq i h) ≡ 1 = ap tally (eq-eqb i h same) in
             omega (arith, here, more, one, waits, lowered.each h below, ap (λ (m : ℕ). get_or now m 0) same)
         | inr other ↦
@@ -156,8 +156,8 @@ raised_more row k old now rising from_one within inside raised = (
         elim (cases_eq i h) [
           | inl same ↦
               let here : get_or (set now i (get_or now i 0 + 1)) h 0 ≡ get_or now i 0 + 1 =
-                  subst (λ (m : ℕ). get_or (set now i (get_or now i 0 + 1)) m 0 ≡ get_or now i 0 + 1) same
-                  (get_or-set_same now i (get_or now i 0 + 1) 0 inside') in
+              subst (λ (m : ℕ). get_or (set now i (get_or now i 0 + 1)) m 0 ≡ get_or now i 0 + 1) same
+              (get_or-set_same now i (get_or now i 0 + 1) 0 inside') in
               let one : tally (nat_eq i h) ≡ 1 = ap tally (eq-eqb i h same) in
               omega (arith, here, more, one, before, ap (λ (m : ℕ). get_or now m 0) same)
           | inr other ↦
@@ -267,8 +267,8 @@ joined_all net j row k old now keys first entries limits activity listed activit
           let came : times_in entries h ≡ times_in first h + 0 =
           joining.free h ∙ ap (λ (b : Bool). times_in first h + cond b (times_in_row (take k row) h) 0) (ne_eqb (get_or now h 0) 0 some) in
           let none : tally (nat_lt 0 (get_or old h 0) && nat_eq (get_or now h 0) 0) ≡ 0 =
-              ap tally (and_right (nat_lt 0 (get_or old h 0)) (nat_eq (get_or now h 0) 0)
-              (ne_eqb (get_or now h 0) 0 some)) in
+          ap tally (and_right (nat_lt 0 (get_or old h 0)) (nat_eq (get_or now h 0) 0)
+          (ne_eqb (get_or now h 0) 0 some)) in
           omega (arith, came, none)
     ]
 
@@ -277,9 +277,12 @@ pub next_known : (net : Net) (j : ℕ) (row : List ℕ) (k : ℕ) (old now : Lis
     ListsRising (IsArc net j) row → ((m : ℕ) → m < length row → IsActivity net (get_or row m 0)) →
     ((h : ℕ) → IsArc net j h → 1 ≤ get_or old (h - 1) 0) → k < length row
     → AreLowered row k old now → IsActivity net (get_or row k 0) × (get_or row k 0 - 1 < length old) × (1 ≤ get_or now (get_or row k 0 - 1) 0)
-next_known net j row k old now size listed activities waiting within lowered =
-    (activities k within, inside, next_waits row k old now listed.rising
-    (λ m low. (activities m low).0) within inside lowered waits) where
+next_known net j row k old now size listed activities waiting within lowered = (
+  activities k within,
+  inside,
+  next_waits row k old now listed.rising
+      (λ m low. (activities m low).0) within inside lowered waits,
+) where
   inside : get_or row k 0 - 1 < length old
   inside = omega (arith, activities k within, size)
 

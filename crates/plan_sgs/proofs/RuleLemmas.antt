@@ -81,11 +81,13 @@ chosen_first p key taken other n is none misses = inr (
 chosen_more : (p : Problem) (key : ℕ → ℕ) (taken : List ℕ) (other n : ℕ) → is_eligible p taken n ≡ true →
     0 < length (eligible p taken n) → IsFirstBelow p key taken n (least_key key other (eligible p taken n)) →
     IsChosenBelow p key taken other (suc n)
-chosen_more p key taken other n is some before = inr
-    (let long : length (eligible p taken (suc n)) ≡ length (eligible p taken n ++ n ∷ []) =
-    ap (λ (xs : List ℕ). length xs) pushed in
-    omega (arith, long, more (eligible p taken n)), subst (IsFirstBelow p key taken (suc n)) (sym chosen)
-    (by_key (cases_lt (key n) (key (least_key key other (eligible p taken n)))))) where
+chosen_more p key taken other n is some before = inr (
+  let long : length (eligible p taken (suc n)) ≡ length (eligible p taken n ++ n ∷ []) =
+      ap (λ (xs : List ℕ). length xs) pushed in
+      omega (arith, long, more (eligible p taken n)),
+  subst (IsFirstBelow p key taken (suc n)) (sym chosen)
+      (by_key (cases_lt (key n) (key (least_key key other (eligible p taken n))))),
+) where
   pushed : eligible p taken (suc n) ≡ eligible p taken n ++ n ∷ []
   pushed = ap (λ (b : Bool). eligible p taken n ++ cond b (n ∷ []) []) is
 
@@ -103,30 +105,30 @@ chosen_more p key taken other n is some before = inr
       (sym (cond-true (nat_lt (key n) (key (least_key key other (eligible p taken n)))) n
       (least_key key other (eligible p taken n)) (lt-ltb (key n)
       (key (least_key key other (eligible p taken n))) less))) (record {
-    inside = omega arith;
-    eligible = is;
-    first = λ h below passes. elim (cases_eq h n) [
-      | inl here ↦ inr (ap key (sym here), omega (arith, here))
-      | inr apart ↦ elim (before.first h (omega (arith, below, apart)) passes) [
-        | inl up ↦ inl (omega (arith, less, up))
-        | inr level ↦ inl (omega (arith, less, level.0))
-      ]
-    ];
-  })
+        inside = omega arith;
+        eligible = is;
+        first = λ h below passes. elim (cases_eq h n) [
+          | inl here ↦ inr (ap key (sym here), omega (arith, here))
+          | inr apart ↦ elim (before.first h (omega (arith, below, apart)) passes) [
+            | inl up ↦ inl (omega (arith, less, up))
+            | inr level ↦ inl (omega (arith, less, level.0))
+          ]
+        ];
+      })
   by_key (inr level) = subst (IsFirstBelow p key taken (suc n))
       (sym (cond-false (nat_lt (key n) (key (least_key key other (eligible p taken n)))) n
       (least_key key other (eligible p taken n)) (le-ltb (key n)
       (key (least_key key other (eligible p taken n))) level))) (record {
-    inside = omega (arith, before.inside);
-    eligible = before.eligible;
-    first = λ h below passes. elim (cases_eq h n) [
-      | inr apart ↦ before.first h (omega (arith, below, apart)) passes
-      | inl here ↦ elim (cases_eq (key (least_key key other (eligible p taken n))) (key n)) [
-        | inl equal ↦ inr (equal ∙ ap key (sym here), omega (arith, before.inside, here))
-        | inr unequal ↦ let up : key (least_key key other (eligible p taken n)) < key n = omega (arith, level, unequal) in inl (omega (arith, up, ap key here))
-      ]
-    ];
-  })
+        inside = omega (arith, before.inside);
+        eligible = before.eligible;
+        first = λ h below passes. elim (cases_eq h n) [
+          | inr apart ↦ before.first h (omega (arith, below, apart)) passes
+          | inl here ↦ elim (cases_eq (key (least_key key other (eligible p taken n))) (key n)) [
+            | inl equal ↦ inr (equal ∙ ap key (sym here), omega (arith, before.inside, here))
+            | inr unequal ↦ let up : key (least_key key other (eligible p taken n)) < key n = omega (arith, level, unequal) in inl (omega (arith, up, ap key here))
+          ]
+        ];
+      })
 
 pub chosen_below : (p : Problem) (key : ℕ → ℕ) (taken : List ℕ) (other n : ℕ) → IsChosenBelow p key taken other n
 chosen_below p key taken other zero = inl (refl, λ h below is. omega (arith, below))
@@ -264,8 +266,8 @@ rule_continues p rank key inside ranked zero taken counted = ([], record { list 
 rule_continues p rank key inside ranked (suc n) taken counted =
     let next = next_there p rank key taken inside ranked (omega (arith, counted)) in
     let one : taken_count p taken + 1 ≡ taken_count p (taken ++ next_of p key taken ∷ []) =
-        taken_more p taken (next_of p key taken) next.first.inside
-        (eligible_not p taken (next_of p key taken) next.first.eligible) in
+    taken_more p taken (next_of p key taken) next.first.inside
+    (eligible_not p taken (next_of p key taken) next.first.eligible) in
     let rest = rule_continues p rank key inside ranked n (taken ++ next_of p key taken ∷ []) (omega (arith, counted, one)) in
     (next_of p key taken ∷ rest.0, continues_more p key taken n rest.0 next rest.1)
 

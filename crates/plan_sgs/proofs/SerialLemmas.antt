@@ -30,8 +30,8 @@ eligible_not p taken j is = not-true (is_member j taken) (and_parts (not (is_mem
 pub eligible_preds : (p : Problem) (taken : List ℕ) (j : ℕ) → is_eligible p taken j ≡ true → All (λ a. a.to ≡ j → is_member a.from taken ≡ true) p.links
 eligible_preds p taken j is k d within to =
     let passes = all_pass (λ a. not (nat_eq a.to j) || is_member a.from taken) p.links
-        (and_parts (not (is_member j taken)) (list_all
-        (λ a. not (nat_eq a.to j) || is_member a.from taken) p.links) is).1 k d within in
+    (and_parts (not (is_member j taken)) (list_all
+    (λ a. not (nat_eq a.to j) || is_member a.from taken) p.links) is).1 k d within in
     elim (or_cases (not (nat_eq (get_or p.links k d).to j)) (is_member (get_or p.links k d).from taken) passes) [
       | inl other ↦ absurd (both_ways (nat_eq (get_or p.links k d).to j) (not-true (nat_eq (get_or p.links k d).to j) other) (eq-eqb (get_or p.links k d).to j to))
       | inr has ↦ has

@@ -120,9 +120,14 @@ start_from_shift p s j feasible has =
             let to_is : get_or other a.to 0 ≡ get_or other j 0 = ap (λ (i : ℕ). get_or other i 0) to in
             omega (arith, has.feasible.arcs n d within, has.shift.rest a.from from, to_is);
         fits = λ u k since lasts before within.
-            omega (arith, usage_before p s other j u k feasible.each_started has.feasible.each_started
-                has.inside has.shift.rest before, amount_during p u k j
-                (get_or other j 0) since lasts, has.feasible.capacities u k within);
+            omega (
+              arith,
+              usage_before p s other j u k feasible.each_started has.feasible.each_started
+                  has.inside has.shift.rest before,
+              amount_during p u k j
+                  (get_or other j 0) since lasts,
+              has.feasible.capacities u k within,
+            );
       },
     )
 
@@ -204,11 +209,11 @@ shift_found p s j r caps used d needs t feasible release asked earliest has =
     elim (cases_lt (get_or s j 0) (at + d)) [
       | inr ends ↦
           let fits : Fits caps used at d needs = fits_from p s j at d caps used d needs asked ends
-              (λ u k since lasts early within. can.fits u k since
-              (omega (arith, lasts, asked.lasts)) early within) in
+          (λ u k since lasts early within. can.fits u k since
+          (omega (arith, lasts, asked.lasts)) early within) in
           inl (omega (arith, ends, earliest.least at (release.least at can.released) fits))
       | inl over ↦
           inr (fits_from p s j (get_or s j 0 - 1) 1 caps used d needs asked (omega (arith, before))
-              (λ u k since lasts early within. can.fits u k (omega (arith, since, before))
-              (omega (arith, early, over, asked.lasts)) early within))
+          (λ u k since lasts early within. can.fits u k (omega (arith, since, before))
+          (omega (arith, early, over, asked.lasts)) early within))
     ]

@@ -141,5 +141,5 @@ pub full_word_ends : (i : Planned) (w : List ℕ) → IsInstance i → IsFullWor
 unfolding serial
 full_word_ends i w instance full =
     (made (problem_of i) w (starts_by i w) (unplaced (count (problem_of i))) (placed_by i w)
-        (bounded i instance) ((word_turns i _ w full.0).from_one, full_list i w full) refl refl
-        (word_ends i w instance full.0) refl).ends
+    (bounded i instance) ((word_turns i _ w full.0).from_one, full_list i w full) refl refl
+    (word_ends i w instance full.0) refl).ends

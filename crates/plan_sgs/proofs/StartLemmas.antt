@@ -83,8 +83,8 @@ pub record AreSums (p : Problem) (s : List ℕ) (t n : ℕ) (sums : List ℕ) : 
 -- the needs of one activity more
 pub sums_with : (p : Problem) (s : List ℕ) (t n : ℕ) (sums row new : List ℕ) → AreSums p s t n sums → get_or s n 0 ≤ t → t < get_or s n 0 + duration p n
     → ((k : ℕ) → need p n k ≡ get_or row k 0) → ((k : ℕ) → get_or row k 0 ≤ 10000) →
-        length new ≡ length sums → ((k : ℕ) → get_or new k 0 ≡ get_or sums k 0 + get_or row k 0) →
-        AreSums p s t (n + 1) new
+    length new ≡ length sums → ((k : ℕ) → get_or new k 0 ≡ get_or sums k 0 + get_or row k 0) →
+    AreSums p s t (n + 1) new
 sums_with p s t n sums row new are since before needs small wide each = record {
   wide = wide ∙ are.wide;
   each = λ k within. omega (arith, each k, are.each k within, needs k, amount_during p t k n (get_or s n 0) since before, total_next n (amount_at p s t k));
@@ -124,9 +124,19 @@ next_fits end p s n d row caps used whole inside caps_are needs lasts ends kept 
     let within' : k < length p.capacities = omega (arith, within, ap length caps_are) in
     let here : amount_at p s t k n ≡ need p n k = amount_during p t k n (get_or s n 0) (omega arith) (omega (arith, below, lasts)) in
     let longer : total (n + 1) (amount_at p s t k) ≤ total (count p) (amount_at p s t k) = total_longer (n + 1) (count p) (amount_at p s t k) (omega (arith, inside)) in
-    omega (arith, first t k (omega (arith, below, ends)) within', needs k, here, total_next n
-        (amount_at p s t k), longer, usage_is p s t k whole, kept t k within', ap
-        (λ (xs : List ℕ). get_or xs k 0) caps_are)
+    omega (
+      arith,
+      first t k (omega (arith, below, ends)) within',
+      needs k,
+      here,
+      total_next n
+          (amount_at p s t k),
+      longer,
+      usage_is p s t k whole,
+      kept t k within',
+      ap
+          (λ (xs : List ℕ). get_or xs k 0) caps_are,
+    )
 
 -- an interval that is cut off at an instant adds before it the needs of the activity
 pub next_used : (end : ℕ) (p : Problem) (s : List ℕ) (n d : ℕ) (row : List ℕ) (used after : ℕ → ℕ → ℕ) →
@@ -150,7 +160,7 @@ next_used end p s n d row used after needs lasts cut first added t k before with
               ∙ (sym (needs k) ∙ sym (amount_during p t k n start since under))
           | inr late ↦
               cond-false (nat_le start t && nat_lt t (start + d)) (get_or row k 0) 0
-                  (and_right (nat_le start t) (nat_lt t (start + d))
-                  (le-ltb t (start + d) (omega (arith, late, lasts)))) ∙ sym (amount_late p t k n start late)
+              (and_right (nat_le start t) (nat_lt t (start + d))
+              (le-ltb t (start + d) (omega (arith, late, lasts)))) ∙ sym (amount_late p t k n start late)
         ]
       ]

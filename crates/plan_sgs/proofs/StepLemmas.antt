@@ -51,8 +51,8 @@ found_from used caps p placed j from d t needs fit inside same_caps same_d same_
     let least : IsEarliest p placed j (earliest p placed j) = earliest_is p placed j fit inside in
     let low : earliest p placed j ≤ t = least.least t (omega (arith, released, found.since)) (fits_same used caps p placed j t d needs same_caps same_d same_needs is found.fitting) in
     let high : t ≤ earliest p placed j = found.least (earliest p placed j)
-        (omega (arith, released, least.released)) (fits_back used caps p placed j
-        (earliest p placed j) d needs same_caps same_d same_needs is least.fitting) in
+    (omega (arith, released, least.released)) (fits_back used caps p placed j
+    (earliest p placed j) d needs same_caps same_d same_needs is least.fitting) in
     omega (arith, low, high)
 
 -- an activity, placed or not, ends by each instant by which all placed activities end
@@ -66,8 +66,8 @@ end_of-limit p placed i last ends = by_start (get_or placed i None) refl where
 pub release_soon : (p : Problem) (placed : List (Option ℕ)) (j last : ℕ) → IsBounded p → EndsBy p placed last → release p placed j ≤ last + 10000
 release_soon p placed j last bounded ends =
     release_least p placed j (last + 10000) (λ k d within to.
-        let lag : (get_or p.links k d).lag ≤ 10000 = bounded.lags k d within in
-        omega (arith, end_of-limit p placed (get_or p.links k d).from last ends, lag))
+    let lag : (get_or p.links k d).lag ≤ 10000 = bounded.lags k d within in
+    omega (arith, end_of-limit p placed (get_or p.links k d).from last ends, lag))
 
 -- an activity is placed soon after the end of what is placed
 pub earliest_soon : (p : Problem) (placed : List (Option ℕ)) (j last : ℕ) → IsBounded p → j < count p → EndsBy p placed last → earliest p placed j ≤ last + 10000
@@ -116,6 +116,6 @@ cond_limit false n = omega arith
 pub bound_within : (p : Problem) (taken : List ℕ) → IsBounded p → length taken ≤ count p → bound_of p taken ≤ 6020000
 bound_within p taken bounded few =
     let sums : total (count p) (λ i. cond (is_member i taken) (duration p i) 0) ≤ total (count p)
-        (duration p) = total_grows (count p) (λ i. cond (is_member i taken) (duration p i) 0) (duration p)
-        (λ i below. cond_limit (is_member i taken) (duration p i)) in
+    (duration p) = total_grows (count p) (λ i. cond (is_member i taken) (duration p i) 0) (duration p)
+    (λ i below. cond_limit (is_member i taken) (duration p i)) in
     omega (arith, sums, bounded.work, bounded.few, few)

@@ -71,8 +71,8 @@ placed_stays p (j ∷ js) taken placed h s turns has is =
     let turn = turn_parts p taken j js turns in
     let other : h ≢ j = λ same. both_ways (is_member j taken) (eligible_not p taken j turn.1) (subst (λ (x : ℕ). is_member x taken ≡ true) same has) in
     placed_stays p js (taken ++ j ∷ []) (set placed j (Some (earliest p placed j))) h s turn.2
-        (member_other h j taken other ∙ has) (get_or-set_other placed j h
-        (Some (earliest p placed j)) None other ∙ is)
+    (member_other h j taken other ∙ has) (get_or-set_other placed j h
+    (Some (earliest p placed j)) None other ∙ is)
 
 -- the activities that a word places, and those of a word that continues it
 pub serial_append : (p : Problem) (placed : List (Option ℕ)) (js ks : List ℕ) → serial_from p placed (js ++ ks) ≡ serial_from p (serial_from p placed js) ks

@@ -78,9 +78,13 @@ pub record IsLetter (i : Planned) (u : List ℕ) (a : ℕ) : Type 0 where
 -- a letter that may follow
 pub letter_is : (i : Planned) (u : List ℕ) (a : ℕ) → Contains (letters_after i u) a → IsLetter i u a
 unfolding letters_after
-letter_is i u a (k, l, e) = record { from_one = omega (arith, number); inside =
-    omega (arith, here.0, number); eligible = ap (is_eligible (problem_of i) (places u))
-    (omega (arith, number)) ∙ here.1 } where
+letter_is i u a (k, l, e) = record {
+  from_one = omega (arith, number);
+  inside =
+      omega (arith, here.0, number);
+  eligible = ap (is_eligible (problem_of i) (places u))
+      (omega (arith, number)) ∙ here.1;
+} where
   js : List ℕ
   js = eligible (problem_of i) (places u) (depth_of i)
 

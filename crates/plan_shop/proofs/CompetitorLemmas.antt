@@ -127,11 +127,11 @@ rival_is_there s xs j [] (n ∷ ns) none are c =
     let machine : machine_of s (next_step s xs j) ≡ machine_of s (next_step s xs b) = c.machine ∙ ap (λ i. machine_of s (next_step s xs i)) same in
     let sooner : ready s xs j < next_end s xs b = omega (arith, c.sooner, ap (next_end s xs) same) in
     let test : is_rival s xs b j ≡ true = and_from (has_next s xs j)
-        (nat_eq (machine_of s (next_step s xs j)) (machine_of s (next_step s xs b))
-        && nat_lt (ready s xs j) (next_end s xs b)) (has_next_from s xs j c.next)
-        (and_from (nat_eq (machine_of s (next_step s xs j)) (machine_of s (next_step s xs b)))
-        (nat_lt (ready s xs j) (next_end s xs b)) (eq-eqb (machine_of s (next_step s xs j))
-        (machine_of s (next_step s xs b)) machine) (lt-ltb (ready s xs j) (next_end s xs b) sooner)) in
+    (nat_eq (machine_of s (next_step s xs j)) (machine_of s (next_step s xs b))
+    && nat_lt (ready s xs j) (next_end s xs b)) (has_next_from s xs j c.next)
+    (and_from (nat_eq (machine_of s (next_step s xs j)) (machine_of s (next_step s xs b)))
+    (nat_lt (ready s xs j) (next_end s xs b)) (eq-eqb (machine_of s (next_step s xs j))
+    (machine_of s (next_step s xs b)) machine) (lt-ltb (ready s xs j) (next_end s xs b) sooner)) in
     subst (λ (ks : List ℕ). Contains ks j) (sym (jobs_by_rivals s xs n ns none are)) (passes_there s.jobs (is_rival s xs b) j c.job test)
 
 -- the letters that may follow are those of the first next step of time 0, or of the steps that compete

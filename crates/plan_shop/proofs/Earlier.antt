@@ -40,7 +40,7 @@ moved_beside : (s : JobShop) → IsShop s → (starts other : ℕ → ℕ) (xs :
     IsSound s starts → Continues s starts xs → IsLeft s starts other xs j → (x : ℕ) → x < count_steps s →
     x ≢ next_step s xs j
     → machine_of s x ≡ machine_of s (next_step s xs j) → 0 < time_of s x → 0 < time_of s (next_step s xs j) →
-        (other x + time_of s x ≤ ready s xs j) ⊎ (ready s xs j + time_of s (next_step s xs j) ≤ other x)
+    (other x + time_of s x ≤ ready s xs j) ⊎ (ready s xs j + time_of s (next_step s xs j) ≤ other x)
 moved_beside s shop starts other xs j r sound con left x l apart same tx ty = elim (cases_lt (place_of s x) (steps_done xs (job_of s x))) [
   | inl placed ↦
       inl (omega (arith, free_of s starts xs r con.placed x placed tx, ready_free s xs j ty, ap (machine_free s xs) same, left.rest x apart))
@@ -107,9 +107,17 @@ moved_continues s shop starts other xs j r sound con left = record {
 
   unplaced : (x : ℕ) → x < count_steps s → steps_done (p ∷ xs) (job_of s x) ≤ place_of s x → 0 < time_of s x → machine_free s (p ∷ xs) (machine_of s x) ≤ other x
   unplaced x l later t =
-      let distinct : x ≢ y = λ e. omega (arith, later, ap (place_of s) e, place_at s j
-          (steps_done xs j) left.next, ap (λ z. steps_done (p ∷ xs) (job_of s z)) e, ap
-          (steps_done (p ∷ xs)) job, done_same p xs j refl) in
+      let distinct : x ≢ y = λ e. omega (
+        arith,
+        later,
+        ap (place_of s) e,
+        place_at s j
+            (steps_done xs j) left.next,
+        ap (λ z. steps_done (p ∷ xs) (job_of s z)) e,
+        ap
+            (steps_done (p ∷ xs)) job,
+        done_same p xs j refl,
+      ) in
       let before : steps_done xs (job_of s x) ≤ place_of s x = omega (arith, later, done_more p xs (job_of s x)) in
       elim (free_cases s p xs (machine_of s x)) [
         | inl (same, ty, is) ↦ omega (arith, is, con.unplaced x l before t, left.room x l before distinct (sym same) t ty, left.rest x distinct)

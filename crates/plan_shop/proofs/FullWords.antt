@@ -99,9 +99,13 @@ soon s shop starts other x moved zs r con l free = elim (cases_eq (steps_done zs
       let y = next_step s zs (job_of s x) in
       let is : y ≡ x = omega (arith, number_is s x, here) in
       let early : ready s zs (job_of s x) ≤ other x =
-          ready_within s zs (job_of s x) (other x) (ended_by s shop starts other x moved zs r con.placed here)
-          (λ t. omega (arith, free (omega (arith, t, ap (time_of s) is)), ap
-          (λ z. machine_free s zs (machine_of s z)) is)) in
+      ready_within s zs (job_of s x) (other x) (ended_by s shop starts other x moved zs r con.placed here)
+      (λ t. omega (
+        arith,
+        free (omega (arith, t, ap (time_of s) is)),
+        ap
+            (λ z. machine_free s zs (machine_of s z)) is,
+      )) in
       omega (arith, early, ap (time_of s) is)
   | inr apart ↦
       let j = job_of s x in
@@ -115,8 +119,8 @@ soon s shop starts other x moved zs r con l free = elim (cases_eq (steps_done zs
       let place : place_of s y ≡ k = place_at s j k (omega (arith, low, last)) in
       let there : y + (place_of s x - k) ≡ x = omega (arith, number_is s x, low) in
       let reach : other y + times_from s y (place_of s x - k) ≤ other (y + (place_of s x - k)) =
-          chain_to s shop other moved.sound_other (place_of s x - k) y
-          (number_below s shop j k job (omega (arith, low, last))) (omega (arith, place, low, last)) in
+      chain_to s shop other moved.sound_other (place_of s x - k) y
+      (number_below s shop j k job (omega (arith, low, last))) (omega (arith, place, low, last)) in
       let first : time_of s y ≤ times_from s y (place_of s x - k) = times_first s y (place_of s x - k) (omega (arith, low)) in
       omega (arith, early, reach, first, moved.rest y before, ap other there)
 ]
@@ -146,8 +150,8 @@ free_le s shop starts other x moved (p ∷ zs) r con l t =
       late tp after end (inl none) = omega (arith, none, tp, ap (time_of s) r.2)
       late tp after end (inr rival) =
           let least : next_end s zs rival.first ≤ next_end s zs (job_of s x) =
-              rival.least (job_of s x) (job_below s shop x moved.below)
-              (omega (arith, l, done_more p zs (job_of s x), place_below s shop x)) in
+          rival.least (job_of s x) (job_below s shop x moved.below)
+          (omega (arith, l, done_more p zs (job_of s x), place_below s shop x)) in
           omega (arith, after, end, least, rival.sooner, r.3)
 
 -- if a schedule continues a word, no step of the word can move to an earlier start alone
@@ -164,8 +168,12 @@ not_moved s shop starts other x moved (p ∷ zs) r con l = elim (placed_cases s 
       let is : next_step s zs p.job ≡ x = sym r.2 ∙ sym new in
       let ended : job_end s zs p.job ≤ other x = omega (arith, ended_by s shop starts other x moved zs r.0 con'.placed done, ap (job_end s zs) job) in
       let early : ready s zs p.job ≤ other x = ready_within s zs p.job (other x) ended
-          (λ t. omega (arith, free_le s shop starts other x moved zs r.0 con' (omega (arith, done))
-          (omega (arith, t, ap (time_of s) is)), ap (λ z. machine_free s zs (machine_of s z)) is)) in
+      (λ t. omega (
+        arith,
+        free_le s shop starts other x moved zs r.0 con' (omega (arith, done))
+            (omega (arith, t, ap (time_of s) is)),
+        ap (λ z. machine_free s zs (machine_of s z)) is,
+      )) in
       omega (arith, early, moved.less, r.3, con.placed.0, ap starts new)
 ]
 

@@ -54,7 +54,7 @@ those_rise (suc n) f i j d l m = elim (cases_lt j (length (those_below n f))) [
   | inl before ↦
       let low : get_or (those_below n f) i d < get_or (those_below n f) j d = those_rise n f i j d l before in
       let first : get_or (those_below n f ++ cond (f n) (n ∷ []) []) i d ≡ get_or (those_below n f) i d =
-          get_or_append_left (those_below n f) (cond (f n) (n ∷ []) []) d i (omega (arith, l, before)) in
+      get_or_append_left (those_below n f) (cond (f n) (n ∷ []) []) d i (omega (arith, l, before)) in
       let second : get_or (those_below n f ++ cond (f n) (n ∷ []) []) j d ≡ get_or (those_below n f) j d = get_or_append_left (those_below n f) (cond (f n) (n ∷ []) []) d j before in
       omega (arith, low, first, second)
   | inr last ↦
@@ -64,8 +64,8 @@ those_rise (suc n) f i j d l m = elim (cases_lt j (length (those_below n f))) [
       let first : get_or (those_below n f ++ cond (f n) (n ∷ []) []) i d ≡ get_or (those_below n f) i d = get_or_append_left (those_below n f) (cond (f n) (n ∷ []) []) d i inside in
       let low : get_or (those_below n f) i d < n = (there_passes n f (get_or (those_below n f) i d) (Contains-get_or (those_below n f) i d inside)).0 in
       let second : get_or (those_below n f ++ cond (f n) (n ∷ []) []) j d ≡ get_or (cond (f n) (n ∷ []) [])
-          (j - length (those_below n f)) d = get_or-append_right (those_below n f) (cond (f n) (n ∷ []) [])
-          (length (those_below n f)) j d refl last in
+      (j - length (those_below n f)) d = get_or-append_right (those_below n f) (cond (f n) (n ∷ []) [])
+      (length (those_below n f)) j d refl last in
       let is : get_or (cond (f n) (n ∷ []) []) (j - length (those_below n f)) d ≡ n = one_is (f n) n (j - length (those_below n f)) d (omega (arith, long, m, last)) in
       omega (arith, first, low, second, is)
 ]
@@ -199,17 +199,23 @@ greatest_keeps key x y ys r zero order l there greatest first = record { place =
   greatest' (suc zero) l = omega (arith, greatest 0 (omega arith), order)
   greatest' (suc (suc i)) l = greatest (suc i) (omega (arith, l))
 greatest_keeps key x y ys r (suc place) order inside there greatest first =
-    record { place = suc (suc place); inside = omega (arith, inside); there = there; greatest =
-    greatest'; first = first' } where
-  greatest' : (i : ℕ) → i < length (x ∷ y ∷ ys) → key (get_or (x ∷ y ∷ ys) i 0) ≤ key r
-  greatest' zero l = greatest 0 (omega arith)
-  greatest' (suc zero) l = omega (arith, greatest 0 (omega arith), order)
-  greatest' (suc (suc i)) l = greatest (suc i) (omega (arith, l))
+    record {
+      place = suc (suc place);
+      inside = omega (arith, inside);
+      there = there;
+      greatest =
+          greatest';
+      first = first';
+    } where
+      greatest' : (i : ℕ) → i < length (x ∷ y ∷ ys) → key (get_or (x ∷ y ∷ ys) i 0) ≤ key r
+      greatest' zero l = greatest 0 (omega arith)
+      greatest' (suc zero) l = omega (arith, greatest 0 (omega arith), order)
+      greatest' (suc (suc i)) l = greatest (suc i) (omega (arith, l))
 
-  first' : (i : ℕ) → i < suc (suc place) → key (get_or (x ∷ y ∷ ys) i 0) < key r
-  first' zero l = first 0 (omega arith)
-  first' (suc zero) l = omega (arith, first 0 (omega arith), order)
-  first' (suc (suc i)) l = first (suc i) (omega (arith, l))
+      first' : (i : ℕ) → i < suc (suc place) → key (get_or (x ∷ y ∷ ys) i 0) < key r
+      first' zero l = first 0 (omega arith)
+      first' (suc zero) l = omega (arith, first 0 (omega arith), order)
+      first' (suc (suc i)) l = first (suc i) (omega (arith, l))
 
 pub first_greatest_is : (key : ℕ → ℕ) (x : ℕ) (ys : List ℕ) → IsFirstGreatest key (x ∷ ys) (first_greatest key x ys)
 first_greatest_is key x [] = record { place = 0; inside = omega arith; there = refl; greatest = only; first = λ i l. absurd (omega (arith, l)) } where

@@ -80,8 +80,12 @@ with_step t x p q (y ∷ ys) is w = (
 
 -- before the first step
 pub gathered-none : (t : Standing) (pending : Pending) → IsSmallShop t.shop →
-    pending ≡ record { heads = replicate 20 1000000000; times = replicate 20 0; tails =
-    replicate 20 1000000000 } → IsGathered t 0 pending
+    pending ≡ record {
+      heads = replicate 20 1000000000;
+      times = replicate 20 0;
+      tails =
+          replicate 20 1000000000;
+    } → IsGathered t 0 pending
 gathered-none t pending small is = record {
   heads_size = ap (λ (p : Pending). length p.heads) is ∙ length-replicate {A = ℕ} 20 1000000000;
   times_size = ap (λ (p : Pending). length p.times) is ∙ length-replicate {A = ℕ} 20 0;
@@ -270,9 +274,9 @@ job_bound-next t j head time tail next head_is time_is tail_is =
     let place : place_of s (next_step s xs j) ≡ steps_done xs j = place_at s j (steps_done xs j) below in
     let count : s.machines - steps_done xs j ≡ suc (s.machines - suc (place_of s (next_step s xs j))) = omega (arith, below, place) in
     let is : job_bound s xs j ≡ ready s xs j + times_from s (next_step s xs j)
-        (s.machines - steps_done xs j) = cond-true (has_next s xs j)
-        (ready s xs j + times_from s (next_step s xs j) (s.machines - steps_done xs j))
-        (job_end s xs j) next in
+    (s.machines - steps_done xs j) = cond-true (has_next s xs j)
+    (ready s xs j + times_from s (next_step s xs j) (s.machines - steps_done xs j))
+    (job_end s xs j) next in
     omega (arith, is, head_is, time_is, tail_is, ap (λ n. times_from s (next_step s xs j) n) count)
 
 -- the bound of a machine, once all steps are gathered

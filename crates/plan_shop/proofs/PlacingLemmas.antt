@@ -42,11 +42,11 @@ pub free-same : (s : JobShop) (xs : List Placed) (j : ℕ) → 0 < time_of s (ne
 free-same s xs j lasts =
     let m : ℕ = machine_of s (next_step s xs j) in
     let here : (nat_eq m m && nat_lt 0 (time_of s (next_step s xs j))) ≡ true =
-        and_from (nat_eq m m) (nat_lt 0 (time_of s (next_step s xs j))) (eq-eqb m m refl)
-        (lt-ltb 0 (time_of s (next_step s xs j)) lasts) in
+    and_from (nat_eq m m) (nat_lt 0 (time_of s (next_step s xs j))) (eq-eqb m m refl)
+    (lt-ltb 0 (time_of s (next_step s xs j)) lasts) in
     let is : machine_free s (place s xs j) m ≡ max (next_end s xs j) (machine_free s xs m) =
-        cond-true (nat_eq m m && nat_lt 0 (time_of s (next_step s xs j)))
-        (max (next_end s xs j) (machine_free s xs m)) (machine_free s xs m) here in
+    cond-true (nat_eq m m && nat_lt 0 (time_of s (next_step s xs j)))
+    (max (next_end s xs j) (machine_free s xs m)) (machine_free s xs m) here in
     omega (arith, is, ready-free s xs j lasts)
 
 pub free-other : (s : JobShop) (xs : List Placed) (j m : ℕ) → m ≢ machine_of s (next_step s xs j) → machine_free s (place s xs j) m ≡ machine_free s xs m
@@ -71,9 +71,13 @@ pub ready-within : (s : JobShop) (xs : List Placed) (b : ℕ) → EndsWithin s x
 unfolding ready
 ready-within s xs b within j = elim (cases_Bool (nat_eq (time_of s (next_step s xs j)) 0)) [
   | inl none ↦ omega (arith, cond-true (nat_eq (time_of s (next_step s xs j)) 0) (job_end s xs j) (max (job_end s xs j) (machine_free s xs (machine_of s (next_step s xs j)))) none, within.jobs j)
-  | inr some ↦ omega (arith, cond-false (nat_eq (time_of s (next_step s xs j)) 0) (job_end s xs j)
-      (max (job_end s xs j) (machine_free s xs (machine_of s (next_step s xs j)))) some, within.jobs j,
-      within.machines (machine_of s (next_step s xs j)))
+  | inr some ↦ omega (
+    arith,
+    cond-false (nat_eq (time_of s (next_step s xs j)) 0) (job_end s xs j)
+        (max (job_end s xs j) (machine_free s xs (machine_of s (next_step s xs j)))) some,
+    within.jobs j,
+    within.machines (machine_of s (next_step s xs j)),
+  )
 ]
 
 -- no step lasts longer than 10,000

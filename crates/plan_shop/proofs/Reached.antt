@@ -84,9 +84,9 @@ all_positive s xs none k l next = elim (cases_eq (time_of s (next_step s xs k)) 
   | inr some ↦ omega (arith, some)
   | inl zero_time ↦
       absurd (nil_has_none (with_zero s xs) k none
-          (passes_there s.jobs (is_zero s xs) k l (and_from (has_next s xs k)
-          (nat_eq (time_of s (next_step s xs k)) 0) (has_next_from s xs k next)
-          (eq-eqb (time_of s (next_step s xs k)) 0 zero_time))))
+      (passes_there s.jobs (is_zero s xs) k l (and_from (has_next s xs k)
+      (nat_eq (time_of s (next_step s xs k)) 0) (has_next_from s xs k next)
+      (eq-eqb (time_of s (next_step s xs k)) 0 zero_time))))
 ]
 
 -- the first of those with a next step that has the least end
@@ -168,12 +168,12 @@ choice_by s xs [] (n ∷ ns) none are i c =
         least = soonest_least s xs n ns are;
         rivals = λ k l next same sooner.
             let test : is_rival s xs b k ≡ true = and_from (has_next s xs k)
-                (nat_eq (machine_of s (next_step s xs k)) (machine_of s (next_step s xs b))
-                && nat_lt (ready s xs k) (next_end s xs b)) (has_next_from s xs k next)
-                (and_from (nat_eq (machine_of s (next_step s xs k)) (machine_of s (next_step s xs b)))
-                (nat_lt (ready s xs k) (next_end s xs b))
-                (eq-eqb (machine_of s (next_step s xs k)) (machine_of s (next_step s xs b)) same)
-                (lt-ltb (ready s xs k) (next_end s xs b) sooner)) in
+            (nat_eq (machine_of s (next_step s xs k)) (machine_of s (next_step s xs b))
+            && nat_lt (ready s xs k) (next_end s xs b)) (has_next_from s xs k next)
+            (and_from (nat_eq (machine_of s (next_step s xs k)) (machine_of s (next_step s xs b)))
+            (nat_lt (ready s xs k) (next_end s xs b))
+            (eq-eqb (machine_of s (next_step s xs k)) (machine_of s (next_step s xs b)) same)
+            (lt-ltb (ready s xs k) (next_end s xs b) sooner)) in
             subst (λ (ks : List ℕ). Contains ks k) (sym (jobs_by_rivals s xs n ns none are)) (passes_there s.jobs (is_rival s xs b) k l test);
       }),
     )
@@ -224,20 +224,20 @@ pub free_new : (s : JobShop) (p : Placed) (xs : List Placed) (m : ℕ) → machi
     0 < time_of s p.step → machine_free s (p ∷ xs) m ≡ max (p.start + time_of s p.step) (machine_free s xs m)
 free_new s p xs m e t =
     cond-true (uses s p m) (max (p.start + time_of s p.step) (machine_free s xs m)) (machine_free s xs m)
-        (and_from (nat_eq (machine_of s p.step) m) (nat_lt 0 (time_of s p.step))
-        (eq-eqb (machine_of s p.step) m e) (lt-ltb 0 (time_of s p.step) t))
+    (and_from (nat_eq (machine_of s p.step) m) (nat_lt 0 (time_of s p.step))
+    (eq-eqb (machine_of s p.step) m e) (lt-ltb 0 (time_of s p.step) t))
 
 pub free_other : (s : JobShop) (p : Placed) (xs : List Placed) (m : ℕ) → (machine_of s p.step ≡ m → ⊥) → machine_free s (p ∷ xs) m ≡ machine_free s xs m
 free_other s p xs m e =
     cond-false (uses s p m) (max (p.start + time_of s p.step) (machine_free s xs m)) (machine_free s xs m)
-        (and_left (nat_eq (machine_of s p.step) m) (nat_lt 0 (time_of s p.step))
-        (ne_eqb (machine_of s p.step) m e))
+    (and_left (nat_eq (machine_of s p.step) m) (nat_lt 0 (time_of s p.step))
+    (ne_eqb (machine_of s p.step) m e))
 
 pub free_zero : (s : JobShop) (p : Placed) (xs : List Placed) (m : ℕ) → time_of s p.step ≡ 0 → machine_free s (p ∷ xs) m ≡ machine_free s xs m
 free_zero s p xs m e =
     cond-false (uses s p m) (max (p.start + time_of s p.step) (machine_free s xs m)) (machine_free s xs m)
-        (and_right (nat_eq (machine_of s p.step) m) (nat_lt 0 (time_of s p.step))
-        (le-ltb 0 (time_of s p.step) (omega (arith, e))))
+    (and_right (nat_eq (machine_of s p.step) m) (nat_lt 0 (time_of s p.step))
+    (le-ltb 0 (time_of s p.step) (omega (arith, e))))
 
 -- one more step uses the machine, or doesn't
 pub free_cases : (s : JobShop) (p : Placed) (xs : List Placed) (m : ℕ) →
@@ -263,33 +263,51 @@ pub ready_end : (s : JobShop) (xs : List Placed) (j : ℕ) → job_end s xs j �
 unfolding ready
 ready_end s xs j = elim (cases_eq (time_of s (next_step s xs j)) 0) [
   | inl none ↦
-      omega (arith, cond-true (nat_eq (time_of s (next_step s xs j)) 0) (job_end s xs j)
-          (max (job_end s xs j) (machine_free s xs (machine_of s (next_step s xs j))))
-          (eq-eqb (time_of s (next_step s xs j)) 0 none))
+      omega (
+        arith,
+        cond-true (nat_eq (time_of s (next_step s xs j)) 0) (job_end s xs j)
+            (max (job_end s xs j) (machine_free s xs (machine_of s (next_step s xs j))))
+            (eq-eqb (time_of s (next_step s xs j)) 0 none),
+      )
   | inr some ↦
-      omega (arith, cond-false (nat_eq (time_of s (next_step s xs j)) 0) (job_end s xs j)
-          (max (job_end s xs j) (machine_free s xs (machine_of s (next_step s xs j))))
-          (ne_eqb (time_of s (next_step s xs j)) 0 some))
+      omega (
+        arith,
+        cond-false (nat_eq (time_of s (next_step s xs j)) 0) (job_end s xs j)
+            (max (job_end s xs j) (machine_free s xs (machine_of s (next_step s xs j))))
+            (ne_eqb (time_of s (next_step s xs j)) 0 some),
+      )
 ]
 
 pub ready_free : (s : JobShop) (xs : List Placed) (j : ℕ) → 0 < time_of s (next_step s xs j) → machine_free s xs (machine_of s (next_step s xs j)) ≤ ready s xs j
 unfolding ready
 ready_free s xs j some =
-    omega (arith, cond-false (nat_eq (time_of s (next_step s xs j)) 0) (job_end s xs j)
-        (max (job_end s xs j) (machine_free s xs (machine_of s (next_step s xs j))))
-        (ne_eqb (time_of s (next_step s xs j)) 0 (λ e. omega (arith, e, some))))
+    omega (
+      arith,
+      cond-false (nat_eq (time_of s (next_step s xs j)) 0) (job_end s xs j)
+          (max (job_end s xs j) (machine_free s xs (machine_of s (next_step s xs j))))
+          (ne_eqb (time_of s (next_step s xs j)) 0 (λ e. omega (arith, e, some))),
+    )
 
 pub ready_within : (s : JobShop) (xs : List Placed) (j b : ℕ) → job_end s xs j ≤ b → (0 < time_of s (next_step s xs j) → machine_free s xs (machine_of s (next_step s xs j)) ≤ b) → ready s xs j ≤ b
 unfolding ready
 ready_within s xs j b ended free = elim (cases_eq (time_of s (next_step s xs j)) 0) [
   | inl none ↦
-      omega (arith, ended, cond-true (nat_eq (time_of s (next_step s xs j)) 0) (job_end s xs j)
-          (max (job_end s xs j) (machine_free s xs (machine_of s (next_step s xs j))))
-          (eq-eqb (time_of s (next_step s xs j)) 0 none))
+      omega (
+        arith,
+        ended,
+        cond-true (nat_eq (time_of s (next_step s xs j)) 0) (job_end s xs j)
+            (max (job_end s xs j) (machine_free s xs (machine_of s (next_step s xs j))))
+            (eq-eqb (time_of s (next_step s xs j)) 0 none),
+      )
   | inr some ↦
-      omega (arith, ended, free (omega (arith, some)), cond-false (nat_eq (time_of s (next_step s xs j)) 0)
-          (job_end s xs j) (max (job_end s xs j) (machine_free s xs (machine_of s (next_step s xs j))))
-          (ne_eqb (time_of s (next_step s xs j)) 0 some))
+      omega (
+        arith,
+        ended,
+        free (omega (arith, some)),
+        cond-false (nat_eq (time_of s (next_step s xs j)) 0)
+            (job_end s xs j) (max (job_end s xs j) (machine_free s xs (machine_of s (next_step s xs j))))
+            (ne_eqb (time_of s (next_step s xs j)) 0 some),
+      )
 ]
 
 -- with one more step, a placed step was placed before or is that step

@@ -43,9 +43,14 @@ pub record GoesOn (rule : ShopRule) (s : JobShop) (t : Standing) (n : ℕ) : Typ
 
 pub goes-first : (rule : ShopRule) (s : JobShop) → GoesOn rule s (standing s []) 0
 unfolding giffler
-goes-first rule s = record { shop = refl; follows = tt; size = refl; rest =
-    ap (λ n. rule_word s (chooser_of rule s) n [])
-    (let is : s.jobs * s.machines - 0 ≡ s.jobs * s.machines = omega arith in is) }
+goes-first rule s = record {
+  shop = refl;
+  follows = tt;
+  size = refl;
+  rest =
+      ap (λ n. rule_word s (chooser_of rule s) n [])
+      (let is : s.jobs * s.machines - 0 ≡ s.jobs * s.machines = omega arith in is);
+}
 
 -- the letter of the rule
 pub record IsNextLetter (rule : ShopRule) (s : JobShop) (xs : List Placed) (a : ℕ) : Type 0 where

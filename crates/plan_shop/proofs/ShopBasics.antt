@@ -142,8 +142,8 @@ pub needs_are_machines : (s : JobShop) → NeedsAreMachines s
 unfolding NeedsAreMachines problem_of
 needs_are_machines s x k l =
     let row : get_or (map (λ w. machine_needs s.machines w.machine) s.steps) x [] ≡ machine_needs s.machines
-        (machine_of s x) = get_or-map (λ (w : Step). machine_needs s.machines w.machine) s.steps x idle
-        [] l in
+    (machine_of s x) = get_or-map (λ (w : Step). machine_needs s.machines w.machine) s.steps x idle
+    [] l in
     ap (λ (ns : List ℕ). get_or ns k 0) row ∙ row_at (machine_of s x) (s.machines - suc (machine_of s x)) k
 
 -- the usage of a machine at an instant by a step that starts there
@@ -158,8 +158,8 @@ taken_during : (s : JobShop) (starts : List ℕ) (t k x : ℕ) → x < count_ste
 taken_during s starts t k x l same since before =
     let under : t < at starts x + duration (problem_of s) x = omega (arith, before, duration_is s x) in
     let test : (nat_le (at starts x) t && nat_lt t (at starts x + duration (problem_of s) x)) ≡ true =
-        and_from (nat_le (at starts x) t) (nat_lt t (at starts x + duration (problem_of s) x))
-        (le-leb (at starts x) t since) (lt-ltb t (at starts x + duration (problem_of s) x) under) in
+    and_from (nat_le (at starts x) t) (nat_lt t (at starts x + duration (problem_of s) x))
+    (le-leb (at starts x) t since) (lt-ltb t (at starts x + duration (problem_of s) x) under) in
     cond-true (nat_le (at starts x) t && nat_lt t (at starts x + duration (problem_of s) x)) (need (problem_of s) x k) 0 test
     ∙ need_of s x k l
     ∙ cond-true (nat_eq (machine_of s x) k) 1 0 (eq-eqb (machine_of s x) k same)
@@ -175,22 +175,22 @@ taken_cases : (s : JobShop) (starts : List ℕ) (t k x : ℕ) → x < count_step
 taken_cases s starts t k x l = elim (cases_lt t (at starts x)) [
   | inl early ↦
       inl (cond-false (nat_le (at starts x) t && nat_lt t (at starts x + duration (problem_of s) x))
-          (need (problem_of s) x k) 0 (and_left (nat_le (at starts x) t)
-          (nat_lt t (at starts x + duration (problem_of s) x)) (lt-leb (at starts x) t early)))
+      (need (problem_of s) x k) 0 (and_left (nat_le (at starts x) t)
+      (nat_lt t (at starts x + duration (problem_of s) x)) (lt-leb (at starts x) t early)))
   | inr since ↦ elim (cases_lt t (at starts x + duration (problem_of s) x)) [
     | inr late ↦
         inl (cond-false (nat_le (at starts x) t && nat_lt t (at starts x + duration (problem_of s) x))
-            (need (problem_of s) x k) 0 (and_right (nat_le (at starts x) t)
-            (nat_lt t (at starts x + duration (problem_of s) x))
-            (le-ltb t (at starts x + duration (problem_of s) x) late)))
+        (need (problem_of s) x k) 0 (and_right (nat_le (at starts x) t)
+        (nat_lt t (at starts x + duration (problem_of s) x))
+        (le-ltb t (at starts x + duration (problem_of s) x) late)))
     | inl under ↦ elim (cases_eq (machine_of s x) k) [
       | inl same ↦
           let before : t < at starts x + time_of s x = omega (arith, under, duration_is s x) in
           inr (record { machine = same; since = since; before = before }, taken_during s starts t k x l same since before)
       | inr other ↦
           let test : (nat_le (at starts x) t && nat_lt t (at starts x + duration (problem_of s) x)) ≡ true =
-              and_from (nat_le (at starts x) t) (nat_lt t (at starts x + duration (problem_of s) x))
-              (le-leb (at starts x) t since) (lt-ltb t (at starts x + duration (problem_of s) x) under) in
+          and_from (nat_le (at starts x) t) (nat_lt t (at starts x + duration (problem_of s) x))
+          (le-leb (at starts x) t since) (lt-ltb t (at starts x + duration (problem_of s) x) under) in
           inl (cond-true (nat_le (at starts x) t && nat_lt t (at starts x + duration (problem_of s) x)) (need (problem_of s) x k) 0 test
           ∙ need_of s x k l
           ∙ cond-false (nat_eq (machine_of s x) k) 1 0 (ne_eqb (machine_of s x) k other))

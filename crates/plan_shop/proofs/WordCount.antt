@@ -22,8 +22,8 @@ placed_count s (p ∷ xs) r =
     let m = may_follow s xs p.job r.1 in
     let one : steps_done xs p.job + 1 ≡ steps_done (p ∷ xs) p.job = omega (arith, done_same p xs p.job refl) in
     let more : total s.jobs (steps_done xs) + 1 ≡ total s.jobs (steps_done (p ∷ xs)) =
-        total_changed s.jobs (steps_done xs) (steps_done (p ∷ xs)) p.job 1 m.job
-        (λ j l other. sym (done_other p xs j (λ e. other (sym e)))) one in
+    total_changed s.jobs (steps_done xs) (steps_done (p ∷ xs)) p.job 1 m.job
+    (λ j l other. sym (done_other p xs j (λ e. other (sym e)))) one in
     omega (arith, more, placed_count s xs r.0)
 
 -- it is at most the number of steps

@@ -62,8 +62,8 @@ reach_from s shop (suc n) w starts e is c =
     let some : is_full s xs ≡ false = short_not_full s xs (reached s w is) (omega (arith, e, length_placed s [] w)) in
     let l : Letter s w starts = letter_is_there s shop w starts is some c in
     let h : Reaches s (makespan (problem_of s) l.other) =
-        reach_from s shop n (w ++ l.letter ∷ []) l.other (omega (arith, e, length_last w l.letter))
-        (follows_last s [] w l.letter is l.follows) l.continued in
+    reach_from s shop n (w ++ l.letter ∷ []) l.other (omega (arith, e, length_last w l.letter))
+    (follows_last s [] w l.letter is l.follows) l.continued in
     record { word = h.word; is_word = h.is_word; full = h.full; makespan = omega (arith, h.makespan, makespan_grows s l.other starts l.no_later) }
 
 -- every list continues the empty word
@@ -136,9 +136,9 @@ spell_from s shop (suc n) w starts e is active con =
     let con'' : Continues s (at starts) (place s xs j) = subst (λ (ts : List ℕ). Continues s (at ts) (place s xs j)) same con' in
     let next : IsWord s (w ++ letter_of j ∷ []) = follows_last s [] w (letter_of j) is (letter_there (jobs_after s xs) j m.1.there) in
     spell_from s shop n (w ++ letter_of j ∷ []) starts
-        (omega (arith, e, length_last w (letter_of j))) next active
-        (subst (λ (zs : List Placed). Continues s (at starts) zs)
-        (sym (placed_append s [] w (letter_of j ∷ []))) con'')
+    (omega (arith, e, length_last w (letter_of j))) next active
+    (subst (λ (zs : List Placed). Continues s (at starts) zs)
+    (sym (placed_append s [] w (letter_of j ∷ []))) con'')
 
 -- every active list is that of a full word
 pub active_is_spelled : (s : JobShop) → IsShop s → ActiveIsSpelled s

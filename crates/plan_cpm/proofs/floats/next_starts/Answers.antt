@@ -12,8 +12,8 @@ lasting c =
     let activity : IsActivity c.args.network.now (c.loop-i.i + 1) = (omega arith, omega (arith, c.loop-i-test.true, c.len-i-end.ensures.count)) in
     let long = lasts c.args.network.now (c.loop-i.i + 1) (get_or c.args.finishes.now (c.loop-i.i + 1 - 1) 0) activity (c.requires.finishes.greatest (c.loop-i.i + 1) activity) in
     let long' : duration_of c.args.network.now (c.loop-i.i + 1) ≤ get_or c.args.finishes.now c.loop-i.i 0 =
-        subst (λ (x : ℕ). duration_of c.args.network.now (c.loop-i.i + 1) ≤ get_or c.args.finishes.now x 0)
-        same long in
+    subst (λ (x : ℕ). duration_of c.args.network.now (c.loop-i.i + 1) ≤ get_or c.args.finishes.now x 0)
+    same long in
     omega (arith, long', c.duration.ensures.value)
 
 -- its start is the difference
@@ -33,8 +33,8 @@ lower_before-requires-clause-start c j arc =
 pub loop-i-preserved : goal.loop-i-preserved
 loop-i-preserved c =
     AreNextStartsOf-more c.args.network.now c.args.finishes.now c.loop-i.nexts.items
-        c.lower_before.new.nexts.items c.args.duration c.loop-i.i
-        (get_or c.args.finishes.now c.loop-i.i 0 - c.duration.result) c.len.ensures.sound.limits
+    c.lower_before.new.nexts.items c.args.duration c.loop-i.i
+    (get_or c.args.finishes.now c.loop-i.i 0 - c.duration.result) c.len.ensures.sound.limits
     (start_is (goal.at.loop-i-preserved c).After-duration) c.lower_before.ensures c.loop-i.invariant
 
 pub returns : goal.returns

@@ -16,11 +16,11 @@ plain : (c : After-deref-7) → HasGoodSize (unlagged c.args.durations.items c.a
     × HasGoodArcs (unlagged c.args.durations.items c.args.arcs.items)
 plain c =
     subst (λ (arcs : List (ℕ × ℕ)). HasGoodSize (unlagged c.args.durations.items arcs)
-        × HasGoodDurations (unlagged c.args.durations.items arcs)
-        × HasGoodArcs (unlagged c.args.durations.items arcs)) c.deref-2.ensures.value
+    × HasGoodDurations (unlagged c.args.durations.items arcs)
+    × HasGoodArcs (unlagged c.args.durations.items arcs)) c.deref-2.ensures.value
     (subst (λ (ds : List ℕ). HasGoodSize (unlagged ds c.deref-2.result.now)
-        × HasGoodDurations (unlagged ds c.deref-2.result.now)
-        × HasGoodArcs (unlagged ds c.deref-2.result.now)) c.deref.ensures.value c.in_default.ensures.none)
+    × HasGoodDurations (unlagged ds c.deref-2.result.now)
+    × HasGoodArcs (unlagged ds c.deref-2.result.now)) c.deref.ensures.value c.in_default.ensures.none)
 
 all_new : (c : After-deref-7) → HasNewArcs (unlagged c.args.durations.items c.args.arcs.items)
 all_new c =
@@ -60,8 +60,8 @@ invariant_of-result c =
     let preds : AreTurned c.in_ok-succs.succs.items (length c.in_ok-succs.succs.items) c.in_ok-preds.preds.items =
     subst (λ (rows : List (Vec ℕ Global)). AreTurned rows (length rows) c.in_ok-preds.preds.items) c.deref-8.ensures.value c.in_ok-preds.ensures in
     IsIndexed-made (made c) c.in_ok-beginnings.beginnings.items (plain before).0 (plain before).1
-        (plain before).2 (all_new before) (beginnings before)
-        (succs (goal.at.invariant_of-result c).After-deref-8) preds (has_no_lags c)
+    (plain before).2 (all_new before) (beginnings before)
+    (succs (goal.at.invariant_of-result c).After-deref-8) preds (has_no_lags c)
 
 pub returns-clause-accepted : goal.returns-clause-accepted
 returns-clause-accepted c =
