@@ -1,11 +1,11 @@
 #!/usr/bin/env python3
-"""Random projects of up to nine activities, with durations, needs and capacities of 0. The optimum of
-`plan solve` is that of trying all serial schedules (least_makespans.py); with few conflicts it lies
-within the bounds. The schedules are checked here: they are feasible, and no activity can start
-earlier by itself.
+"""Random projects of up to nine activities, with durations, needs and capacities of 0, and random job
+shops. The optimum of `plan solve` is that of all serial schedules (least_makespans.py), for a job
+shop that of `plan best`. With few conflicts it lies within the bounds. The schedules are checked
+here: they are feasible, and no activity of a project can start earlier by itself.
 
-    tests/trials/solutions.py               1,000 projects; prints nothing on success
-    tests/trials/solutions.py CASES SEED    CASES projects, drawn from this seed
+    tests/trials/solutions.py               1,000 projects and shops; prints nothing on success
+    tests/trials/solutions.py CASES SEED    CASES of each, drawn from this seed
 """
 
 import os
@@ -17,17 +17,10 @@ sys.dont_write_bytecode = True
 sys.path.insert(0, os.path.dirname(os.path.abspath(__file__)))
 
 import least_makespans as least
+import proofs
 from answers import Wrong, plan, same, written
 
 ENOUGH = "1000000"
-
-
-def answer_of(what, answer):
-    """The words of the first line, and the numbers of each line of the table but its last one."""
-    if answer[0] != 0 or answer[2] != b"":
-        raise Wrong(f"{what} gave {answer!r}")
-    lines = answer[1].decode().splitlines()
-    return lines[0].split(), [[int(word) for word in line.split()] for line in lines[2:-1]]
 
 
 def release(parts, j, starts):
@@ -63,11 +56,11 @@ def try_project(draw, folder):
         return "refused"
     what = least.files.project(*parts)
     file = written(folder, "drawn.sm", what.encode())
-    solved, table = answer_of(what, plan(folder, "solve", "--conflicts", ENOUGH, file))
+    solved, table = proofs.answer_of(what, plan(folder, "solve", "--conflicts", ENOUGH, file))
     same(f"{what}: the optimum", solved, ["optimal", str(optimum)])
     same(f"{what}: the makespan", judge(what, parts, table), optimum)
     few = str(draw.randint(1, 4))
-    found, table = answer_of(what, plan(folder, "solve", "--conflicts", few, file))
+    found, table = proofs.answer_of(what, plan(folder, "solve", "--conflicts", few, file))
     makespan = judge(f"{what}: {few} conflicts", parts, table)
     same(f"{what}: {few} conflicts", int(found[-1]), makespan)
     if not least.is_right(" ".join(found), optimum):
@@ -75,15 +68,34 @@ def try_project(draw, folder):
     return found[0]
 
 
+def try_shop(draw, folder):
+    """One job shop, by a search to its end and by one with few conflicts."""
+    rows = proofs.drawn_shop(draw)
+    what = proofs.text_of(rows)
+    shop = written(folder, "shop.txt", what.encode())
+    best, _ = proofs.answer_of(what, plan(folder, "best", proofs.GREATEST_BUDGET, shop, "-"))
+    solved, table = proofs.answer_of(what, plan(folder, "solve", "--conflicts", ENOUGH, shop, "-"))
+    same(f"{what}: best and solve", solved, best)
+    same(f"{what}: the makespan", str(proofs.judge(what, rows, table)), solved[1])
+    few = str(draw.randint(1, 4))
+    found, table = proofs.answer_of(what, plan(folder, "solve", "--conflicts", few, shop, "-"))
+    makespan = proofs.judge(f"{what}: {few} conflicts", rows, table)
+    same(f"{what}: {few} conflicts", int(found[-1]), makespan)
+    if best[0] != "optimal" or not least.is_right(" ".join(found), int(best[1])):
+        raise Wrong(f"{what}: {best} isn't within {found}")
+    return found[0]
+
+
 def try_solutions(cases, seed, is_verbose=False):
-    """So many random projects."""
+    """So many random projects, and as many job shops."""
     draw = Random(f"solutions {seed}")
     with tempfile.TemporaryDirectory() as folder:
-        kinds = [try_project(draw, folder) for _ in range(cases)]
-    if kinds.count("optimal") < cases // 3:
-        raise Wrong(f"few conflicts proved {kinds.count('optimal')} of {cases} optima")
-    if is_verbose:
-        print(f"{cases} projects; few conflicts leave {kinds.count('between')} between two numbers")
+        for name, trial in (("projects", try_project), ("shops", try_shop)):
+            kinds = [trial(draw, folder) for _ in range(cases)]
+            if kinds.count("optimal") < cases // 3:
+                raise Wrong(f"few conflicts proved {kinds.count('optimal')} of {cases} {name}")
+            if is_verbose:
+                print(f"{cases} {name}; few conflicts leave {kinds.count('between')} open")
 
 
 if __name__ == "__main__":
