@@ -1,4 +1,4 @@
--- What `plan solve` writes for the bytes that it reads (docs/definitions.md, "Runs").
+-- The output of `plan solve` for the bytes that it reads (docs/definitions.md, "Runs").
 use Rattle.std.specs.Prelude.{◌≡◌, ◌⊎◌, ℕ, List, ◌++◌}
 use Rattle.plan_psplib.specs.Project.{Project, SaysProject}
 use Rattle.plan_orlib.specs.Shop as docs
@@ -20,8 +20,8 @@ abbrev pub ShowsSolution : Planned → ℕ → List ℕ → ℕ → List ℕ →
 ShowsSolution i lower starts ends text = (line : List ℕ) × IsBoundLine lower ends line
     × (text ≡ line ++ schedule_table_text i.project.network starts ends)
 
--- a text shows an active schedule of an instance and its makespan, and a lower bound of the
--- makespans of all feasible ones; if they meet, the schedule is a shortest one
+-- A text shows an active schedule of an instance with its makespan, and a lower bound of the
+-- makespans of all feasible ones. If they meet, the schedule is a shortest one.
 pub record IsSolvedBy (i : Planned) (text : List ℕ) : Type 0 where
   pub starts : List ℕ
   pub ends : ℕ
@@ -32,12 +32,12 @@ pub record IsSolvedBy (i : Planned) (text : List ℕ) : Type 0 where
   pub shortest : lower ≡ ends → IsShortest (problem_of i) starts
   pub shown : ShowsSolution i lower starts ends text
 
--- a text shows them for the project in a file, with the capacities of the file
+-- a text shows the solution for the project in a file, with the capacities of the file
 abbrev pub IsSolvedTableOf : List ℕ → List ℕ → Type 0
 IsSolvedTableOf file text =
     (p : Project) × SaysProject file p × IsSolvedBy (as_available p) text
 
--- a line tells the first check that a file fails, or else the first need of its project that is
+-- a line gives the first check that a file fails, or else the first need of its project that is
 -- above its capacity
 abbrev pub TellsWhyNotSolved : List ℕ → List ℕ → Type 0
 TellsWhyNotSolved file line = TellsFirstFailing file line
@@ -48,8 +48,8 @@ abbrev pub ShowsShopSolution : JobShop → ℕ → List ℕ → ℕ → List ℕ
 ShowsShopSolution s lower starts ends text = (line : List ℕ) × IsBoundLine lower ends line
     × (text ≡ line ++ shop_table_text s starts ends)
 
--- a text shows an active schedule of a job shop and its makespan, and a lower bound of the makespans
--- of all feasible ones; if they meet, the schedule is a shortest one
+-- A text shows an active schedule of a job shop with its makespan, and a lower bound of the
+-- makespans of all feasible ones. If they meet, the schedule is a shortest one.
 pub record IsShopSolvedBy (s : JobShop) (text : List ℕ) : Type 0 where
   pub starts : List ℕ
   pub ends : ℕ
@@ -60,7 +60,7 @@ pub record IsShopSolvedBy (s : JobShop) (text : List ℕ) : Type 0 where
   pub shortest : lower ≡ ends → IsShortest (shops.problem_of s) starts
   pub shown : ShowsShopSolution s lower starts ends text
 
--- a text shows them for an instance in a file, with all machines open
+-- a text shows the solution for an instance in a file, with all machines open
 abbrev pub IsShopSolvedTableOf : List ℕ → List ℕ → List ℕ → Type 0
 IsShopSolvedTableOf instance file text =
     (doc : docs.Shop) × Says instance file doc × IsShopSolvedBy (shop_of doc) text

@@ -14,7 +14,7 @@ pub enum FileOrder<'a> {
     Task(Task<'a>, &'a str),
     /// The same, with a line of progress on standard error.
     Watched(Task<'a>, &'a str),
-    /// The same, with a time limit of the search in seconds if there is one.
+    /// A task of `solve` on the file with this name, with a time limit in seconds if there is one.
     Solve {
         task: Task<'a>,
         file: &'a str,

@@ -47,7 +47,7 @@ fn solution_table(alloc: Global, instance: &Instance, solved: &Solved) -> Result
     Ok(text)
 }
 
-// Returns what a search of at most so many conflicts proves of an instance.
+// Returns the solution of an instance that a search of at most so many conflicts finds.
 fn solved_text<V: SolveWatcher>(
     alloc: Global,
     conflicts: u64,
@@ -72,7 +72,7 @@ fn allowed(conflicts: u64) -> u64
     conflicts.max(1).min(MOST_CONFLICTS)
 }
 
-// Returns what is proved of a project with the capacities of its file.
+// Returns the solution of a project with the capacities of its file.
 fn project_text<V: SolveWatcher>(
     alloc: Global,
     conflicts: u64,
@@ -86,7 +86,7 @@ fn project_text<V: SolveWatcher>(
     solved_text(alloc, allowed(conflicts), &instance, watcher)
 }
 
-/// Returns what is proved of the project in a file. The watcher is called during the search, and can
+/// Returns the solution of the project in a file. The watcher is called during the search, and can
 /// stop it.
 pub(crate) fn solution_text<V: SolveWatcher>(
     alloc: Global,
@@ -117,7 +117,7 @@ fn shop_solution_table(alloc: Global, shop: &Shop, solved: &Solved) -> Result<St
     Ok(text)
 }
 
-// Returns what a search of at most so many conflicts proves of a job shop.
+// Returns the solution of a job shop that a search of at most so many conflicts finds.
 fn solved_shop_text<V: SolveWatcher>(
     alloc: Global,
     conflicts: u64,
@@ -135,7 +135,7 @@ fn solved_shop_text<V: SolveWatcher>(
     }
 }
 
-// Returns what is proved of a file's job shop.
+// Returns the solution of a file's job shop.
 fn doc_text<V: SolveWatcher>(
     alloc: Global,
     conflicts: u64,
@@ -149,8 +149,8 @@ fn doc_text<V: SolveWatcher>(
     solved_shop_text(alloc, allowed(conflicts), &shop, watcher)
 }
 
-/// Returns what is proved of an instance in a job shop file. The watcher is called during the
-/// search, and can stop it.
+/// Returns the solution of an instance in a job shop file. The watcher is called during the search,
+/// and can stop it.
 pub(crate) fn shop_solution_text<V: SolveWatcher>(
     alloc: Global,
     conflicts: u64,

@@ -94,13 +94,14 @@ pub enum Task<'a> {
     BestProject {
         budget: &'a str,
     },
-    /// A schedule of a project and a lower bound of all makespans, as for [`Task::Prove`], by a
-    /// search of at most so many conflicts. A number outside 1–1,000,000,000 counts as the nearest
-    /// one inside. Error: `S1`.
+    /// A schedule of a project and a lower bound of its least makespan, which a search of at most
+    /// this many conflicts finds (lazy clause generation, Ohrimenko, Stuckey and Codish 2009). A
+    /// number outside 1–1,000,000,000 counts as the nearest one inside. The text is like that of
+    /// [`Task::Prove`]. Error: `S1`.
     Solve {
         conflicts: u64,
     },
-    /// The same for a job shop, without an error of its own.
+    /// The same for a job shop. It has no error of its own.
     SolveShop {
         conflicts: u64,
         instance: &'a str,
