@@ -1,7 +1,8 @@
 """The progress line of `plan prove` on standard error: when ./plan asks for it, and its numbers
-for a shop that takes many nodes.
+for a shop that takes many nodes. The progress line of `plan solve`, and its time limit.
 
     tests/trials/run terminal    the first, at once
+    tests/trials/run limited     the last, within ten seconds
     tests/trials/run watched     the second, within half a minute; only in whole runs
 """
 
@@ -10,6 +11,7 @@ import pty
 import re
 import shutil
 import subprocess
+import time
 
 from answers import TOP
 from programs import PROGRAM, Wrong, same
@@ -21,7 +23,10 @@ NAME, NODES, LEAST = "orb01", 600_000, 1059
 # after how many nodes the line is written anew
 BETWEEN = 500_000
 LINE = rb"\rbest (\d+), lower end (\d+), (\d+) nodes\x1b\[K"
+SOLVE_LINE = rb"\rbest (\d+), lower bound (\d+), (\d+) conflicts, (\d+) s\x1b\[K"
 CLEARED = b"\r\x1b[K"
+# The time limit of `plan solve`, and how much longer it may take on a busy machine.
+LIMIT, GRACE = 3, 5
 
 
 def tree(room, name, program):
@@ -82,17 +87,22 @@ def try_terminal(room):
     same("the same on a terminal", ended(*begun(*few)), plain)
 
 
-def told(terminal):
-    """What the lines on a terminal tell: the best makespan, the lower end and the nodes of each."""
-    if not re.fullmatch(b"(%b)+%b" % (LINE, re.escape(CLEARED)), terminal):
+def told(terminal, line=LINE):
+    """The numbers of the lines on a terminal: the best makespan, the lower end and the nodes of each."""
+    if not re.fullmatch(b"(%b)+%b" % (line, re.escape(CLEARED)), terminal):
         raise Wrong(f"the terminal got {terminal[:1000]!r}")
-    return [tuple(map(int, numbers)) for numbers in re.findall(LINE, terminal)]
+    return [tuple(map(int, numbers)) for numbers in re.findall(line, terminal)]
 
 
 def judge(rows):
     """Fails if the progress lines, in order, can't be true of the shop."""
     same("the nodes", [row[2] for row in rows], [*range(BETWEEN, NODES, BETWEEN), NODES])
-    for best, lower, _ in rows:
+    judge_bounds(rows)
+
+
+def judge_bounds(rows):
+    """Fails if bounds, in order, can't be true of the shop."""
+    for best, lower, *_ in rows:
         if not lower <= LEAST <= best:
             raise Wrong(f"the least makespan, {LEAST}, isn't between {lower} and {best}")
     for before, behind in zip(rows, rows[1:]):
@@ -112,3 +122,29 @@ def watch(room):
     if between is None:
         raise Wrong(f"{NAME} isn't left between two numbers: {output[:100]!r}")
     judge([*told(terminal), (int(between[2]), int(between[1]), NODES)])
+
+
+def bounds_of(output):
+    """The makespan and the lower bound of an output."""
+    found = re.match(rb"(?:between (\d+)|optimal) (\d+)\n", output)
+    if found is None:
+        raise Wrong(f"{NAME} has no bounds: {output[:100]!r}")
+    return int(found[2]), int(found[1] or found[2])
+
+
+def try_limited(_):
+    """`plan solve` with a time limit on a terminal: at most one line a second, and the end in time.
+    With a conflict limit the output is the same without a terminal."""
+    start = time.monotonic()
+    limited = ended(*begun(PROGRAM, "solve", "--seconds", str(LIMIT), SHOPS, NAME))
+    passed = time.monotonic() - start
+    rows = told(limited[2], SOLVE_LINE)
+    if limited[0] != 0 or len(rows) > LIMIT + 1 or passed > LIMIT + GRACE:
+        raise Wrong(f"status {limited[0]}, {len(rows)} lines, {passed:.1f} s")
+    same("the seconds", [row[3] for row in rows], sorted({row[3] for row in rows}))
+    same("the conflicts", [row[2] for row in rows], sorted(row[2] for row in rows))
+    judge_bounds([*rows, bounds_of(limited[1])])
+    few = [PROGRAM, "solve", "--conflicts", "300", SHOPS, NAME]
+    status, output, terminal = ended(*begun(*few))
+    same("a conflict limit without a terminal", piped(*few), (status, output, b""))
+    judge_bounds([*told(terminal, SOLVE_LINE), bounds_of(output)])

@@ -74,6 +74,14 @@ fn do_file_order(rt: &HostRuntime, order: FileOrder<'_>) -> Result<(), CliFault>
         FileOrder::Watched(task, path) => {
             run_on_file(rt, task, &mut ProgressLine::new(rt), path, &mut writer)
         }
+        FileOrder::Solve {
+            task,
+            file,
+            seconds,
+        } => {
+            let mut line = ProgressLine::within(rt, seconds);
+            run_on_file(rt, task, &mut line, file, &mut writer)
+        }
         FileOrder::Check { file, starts } => check_on_files(rt, file, starts, &mut writer),
         FileOrder::Explain(words) => {
             let line = words.join(rt.alloc(), " ")?;

@@ -25,6 +25,7 @@ use Rattle.plan_cli.specs.ShopRun.{IsShopTableOf, TellsWhyNoShop}
 use Rattle.plan_cli.specs.BestRun.{IsBestTableOf, TellsWhyNoBest}
 use Rattle.plan_cli.specs.ProveRun.{IsProofTableOf, TellsWhyNoProof}
 use Rattle.plan_cli.specs.BestProjectRun.{IsBestProjectTableOf, TellsWhyNoBestProject}
+use Rattle.plan_cli.specs.SolveRun.{IsSolvedTableOf, TellsWhyNotSolved, IsShopSolvedTableOf}
 use Rattle.plan_cli.specs.Tasks.{IsTextOf, IsLineOf}
 use Rattle.plan_cli.specs.declared.tasks.Task.{Task}
 use Rattle.plan_cli.specs.declared.tasks.Task.TheVariants as task
@@ -185,6 +186,13 @@ no_best_project_front : (budget : List ℕ) → HoldsByFront (TellsWhyNoBestProj
 no_best_project_front budget file line (inl first) = inl (line_front file line first)
 no_best_project_front budget file line (inr (p, says, tells)) = inr (p, project_front file p says, tells)
 
+solved_front : HoldsByFront IsSolvedTableOf
+solved_front file text (p, says, table) = (p, project_front file p says, table)
+
+not_solved_front : HoldsByFront TellsWhyNotSolved
+not_solved_front file line (inl first) = inl (line_front file line first)
+not_solved_front file line (inr (p, says, tells)) = inr (p, project_front file p says, tells)
+
 -- a shop file that is too long fails its first check
 long_shop : (instance file : List ℕ) → longest_text < length file
     → reading.shop instance file ≡ fault code.TooLong 0
@@ -257,6 +265,9 @@ proof_front nodes instance file text (doc, says, table) = (doc, says_shop_front 
 no_proof_front : (nodes instance : List ℕ) → HoldsByFront (TellsWhyNoProof nodes instance)
 no_proof_front nodes instance file line (inl first) = inl (first_front instance file line first)
 no_proof_front nodes instance file line (inr (doc, says, tells)) = inr (doc, says_shop_front instance file doc says, tells)
+
+shop_solved_front : (instance : List ℕ) → HoldsByFront (IsShopSolvedTableOf instance)
+shop_solved_front instance file text (doc, says, table) = (doc, says_shop_front instance file doc says, table)
 
 -- the reported error is the first of the shop file
 pub told_no_shop : (instance file : List ℕ) (first : FileFault) (e : CliFault)
@@ -339,6 +350,8 @@ task_front (task.Shop rule instance) = shop_front rule.now instance.now
 task_front (task.Best budget instance) = best_front budget.now instance.now
 task_front (task.Prove nodes instance) = proof_front nodes.now instance.now
 task_front (task.BestProject budget) = best_project_front budget.now
+task_front (task.Solve conflicts) = solved_front
+task_front (task.SolveShop conflicts instance) = shop_solved_front instance.now
 
 pub task_line_front : (task : Task) → HoldsByFront (IsLineOf task)
 task_line_front task.Dates = line_front
@@ -353,3 +366,5 @@ task_line_front (task.Shop rule instance) = no_shop_front rule.now instance.now
 task_line_front (task.Best budget instance) = no_best_front budget.now instance.now
 task_line_front (task.Prove nodes instance) = no_proof_front nodes.now instance.now
 task_line_front (task.BestProject budget) = no_best_project_front budget.now
+task_line_front (task.Solve conflicts) = not_solved_front
+task_line_front (task.SolveShop conflicts instance) = first_front instance.now

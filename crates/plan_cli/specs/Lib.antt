@@ -18,11 +18,13 @@ pub use Rattle.plan_gantt.specs.ShopText
 pub use Rattle.plan_gantt.specs.ShopBestText
 pub use Rattle.plan_gantt.specs.ProjectBestText
 pub use Rattle.plan_prove.specs.Proofs
+pub use Rattle.plan_solve.specs.Solutions
 pub use Rattle.plan_prove.specs.Nodes
 pub mod BestRun
 pub mod BestProjectRun
 pub mod ProofText
 pub mod ProveRun
+pub mod SolveRun
 pub mod Scheduled
 pub mod ChartRun
 pub mod DaysRun

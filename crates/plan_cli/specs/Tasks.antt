@@ -2,7 +2,7 @@
 -- "Runs").
 use Rattle.std.specs.Prelude.{◌≡◌, ℕ, ◌+◌, ◌≤◌, List, Option, Result, Err, IfSome, length, take}
 use Rattle.std.specs.Prelude.{codes, bytes_eq, if◌then◌else◌}
-use Rattle.plan_gantt.specs.FirstFaults.{TellsFirstFailing}
+use Rattle.plan_gantt.specs.FirstFaults.{TellsFirstFailing, TellsFirstShopFault}
 use Rattle.plan_cli.specs.Run.{IsDateTableOf, ReadsFront}
 use Rattle.plan_cli.specs.ScheduleRun.{IsScheduleTableOf, TellsWhyNoSchedule}
 use Rattle.plan_cli.specs.ChartRun.{IsChartOf, IsShopChartOf}
@@ -13,6 +13,7 @@ use Rattle.plan_cli.specs.ShopRun.{IsShopTableOf, TellsWhyNoShop}
 use Rattle.plan_cli.specs.BestRun.{IsBestTableOf, TellsWhyNoBest}
 use Rattle.plan_cli.specs.ProveRun.{IsProofTableOf, TellsWhyNoProof}
 use Rattle.plan_cli.specs.BestProjectRun.{IsBestProjectTableOf, TellsWhyNoBestProject}
+use Rattle.plan_cli.specs.SolveRun.{IsSolvedTableOf, TellsWhyNotSolved, IsShopSolvedTableOf}
 use Rattle.plan_cli.specs.declared.inputs.Inputs as inputs
 use Rattle.plan_cli.specs.declared.tasks.Task.{Task}
 use Rattle.plan_cli.specs.declared.tasks.Task.TheVariants as task
@@ -35,6 +36,8 @@ IsTextOf (task.Shop rule instance) = IsShopTableOf rule.now instance.now
 IsTextOf (task.Best budget instance) = IsBestTableOf budget.now instance.now
 IsTextOf (task.Prove nodes instance) = IsProofTableOf nodes.now instance.now
 IsTextOf (task.BestProject budget) = IsBestProjectTableOf budget.now
+IsTextOf (task.Solve conflicts) = IsSolvedTableOf
+IsTextOf (task.SolveShop conflicts instance) = IsShopSolvedTableOf instance.now
 
 -- the lines with which a task refuses a file
 abbrev pub IsLineOf : Task → List ℕ → List ℕ → Type 0
@@ -51,6 +54,8 @@ IsLineOf (task.Shop rule instance) = TellsWhyNoShop rule.now instance.now
 IsLineOf (task.Best budget instance) = TellsWhyNoBest budget.now instance.now
 IsLineOf (task.Prove nodes instance) = TellsWhyNoProof nodes.now instance.now
 IsLineOf (task.BestProject budget) = TellsWhyNoBestProject budget.now
+IsLineOf (task.Solve conflicts) = TellsWhyNotSolved
+IsLineOf (task.SolveShop conflicts instance) = TellsFirstShopFault instance.now
 
 -- Unless the input fails or memory runs out, a task writes its text or line for the bytes that were
 -- read. If the bytes of the file are known, these are the first of them.

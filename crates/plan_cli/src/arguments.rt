@@ -33,6 +33,10 @@ enum Form {
     Count,
     /// An option with a number of seconds.
     Seconds,
+    /// An option with the time limit of a search in seconds, or none.
+    SearchSeconds,
+    /// An option with the conflict limit of a search, or none.
+    Conflicts,
     /// An option without a value.
     Flag,
 }
@@ -40,10 +44,7 @@ enum Form {
 impl Form {
     // Whether the argument is required.
     fn is_required(self) -> bool {
-        !matches!(
-            self,
-            Form::OptionalText | Form::Count | Form::Seconds | Form::Flag
-        )
+        matches!(self, Form::Text | Form::Name | Form::Names | Form::Port)
     }
 }
 
@@ -197,7 +198,26 @@ const SHOP_COMMANDS: [Entry; 4] = [
     },
 ];
 
-const SCHEDULE_COMMANDS: [Entry; 2] = [
+const SCHEDULE_COMMANDS: [Entry; 3] = [
+    Entry {
+        name: "solve",
+        about: "Prints a short schedule and a proved lower bound",
+        examples: "Examples:\n  plan solve examples/house.sm\n  plan solve --seconds 60 examples/house.sm\n  plan solve --conflicts 1000 examples/shops.txt ft06",
+        arguments: &[
+            FILE,
+            INSTANCE_IF_SHOP,
+            Argument {
+                name: "seconds",
+                form: Form::SearchSeconds,
+                help: "time limit of the search in seconds, 1 to 86400 [default: 10, or none with --conflicts]",
+            },
+            Argument {
+                name: "conflicts",
+                form: Form::Conflicts,
+                help: "conflict limit of the search, 1 to 1000000000",
+            },
+        ],
+    },
     Entry {
         name: "chart",
         about: "Draws the schedule by a priority rule",
@@ -340,6 +360,14 @@ fn arg_of<'a>(alloc: Global, argument: &Argument) -> Arg<'a> {
             .value_name("SECONDS")
             .value_parser(value_parser!(u32).range(1..=60))
             .default_value("2"),
+        Form::SearchSeconds => arg
+            .long(argument.name)
+            .value_name("S")
+            .value_parser(value_parser!(u32).range(1..=86400)),
+        Form::Conflicts => arg
+            .long(argument.name)
+            .value_name("N")
+            .value_parser(value_parser!(u32).range(1..=1000000000)),
         Form::Flag => arg.long(argument.name).action(ArgAction::SetTrue),
         _ => arg,
     }

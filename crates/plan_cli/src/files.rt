@@ -12,14 +12,15 @@ use crate::fault::CliFault;
 use crate::inputs::{Inputs, SystemInputs};
 use crate::runs::run_task;
 use crate::tasks::Task;
+use crate::watchers::{ProofWatcher, SolveWatcher, Unwatched};
 use plan_io::Sink;
-use plan_prove::{Unwatched, Watcher};
 use std::alloc::Global;
 use std::rt::Files;
 
 /// Runs a task on the file with this name, or on standard input if the name is `-`. The watcher is
-/// called during a proof. A file that can't be opened or read is [`CliFault::Input`].
-pub fn run_on_named<I: Inputs, W: Sink, V: Watcher>(
+/// called during a search of `prove` or `solve`. A file that can't be opened or read is
+/// [`CliFault::Input`].
+pub fn run_on_named<I: Inputs, W: Sink, V: ProofWatcher + SolveWatcher>(
     alloc: Global,
     inputs: &I,
     task: Task<'_>,
@@ -85,7 +86,7 @@ pub fn check_on_named<I: Inputs, W: Sink>(
 }
 
 /// Calls [`run_on_named`] with the system's files and standard input.
-pub fn run_on_file<R: Files + Input + AllocGlobal, W: Sink, V: Watcher>(
+pub fn run_on_file<R: Files + Input + AllocGlobal, W: Sink, V: ProofWatcher + SolveWatcher>(
     rt: &R,
     task: Task<'_>,
     watcher: &mut V,

@@ -2,6 +2,10 @@
 
 use crate::tasks::Task;
 use clap::ArgMatches;
+use plan_solve::MOST_CONFLICTS;
+
+/// The time limit of `solve` in seconds if no limit is given.
+const DEFAULT_SECONDS: u32 = 10;
 
 /// An order on files.
 #[derive(Clone, Copy)]
@@ -10,8 +14,17 @@ pub enum FileOrder<'a> {
     Task(Task<'a>, &'a str),
     /// The same, with a line of progress on standard error.
     Watched(Task<'a>, &'a str),
+    /// A task of `solve` on the file with this name, with a time limit in seconds if there is one.
+    Solve {
+        task: Task<'a>,
+        file: &'a str,
+        seconds: Option<u32>,
+    },
     /// The verdict on the starts in one file, for the project in another.
-    Check { file: &'a str, starts: &'a str },
+    Check {
+        file: &'a str,
+        starts: &'a str,
+    },
     /// The meaning of an error line, which is given as one argument or as several.
     Explain(&'a [&'a str]),
 }
@@ -29,6 +42,7 @@ impl<'a> FileOrder<'a> {
         }
         match self {
             FileOrder::Task(_, path) | FileOrder::Watched(_, path) => Some(shown_name(path)),
+            FileOrder::Solve { file, .. } => Some(shown_name(file)),
             FileOrder::Check { starts, .. } if line.ends_with(" of the starts") => {
                 Some(shown_name(starts))
             }
@@ -174,11 +188,38 @@ fn proof_order<'a>(arguments: &'a ArgMatches<'_>) -> Option<FileOrder<'a>> {
     })
 }
 
+// Returns the task of `solve`: that of a job shop if an instance is given, else of a project.
+fn solve_task<'a>(arguments: &'a ArgMatches<'_>, conflicts: u64) -> Task<'a> {
+    match arguments.get_str("INSTANCE") {
+        Some(instance) => Task::SolveShop {
+            conflicts,
+            instance,
+        },
+        None => Task::Solve { conflicts },
+    }
+}
+
+// Returns the order of `solve`. A conflict limit replaces the default time limit.
+fn solve_order<'a>(arguments: &'a ArgMatches<'_>) -> Option<FileOrder<'a>> {
+    let conflicts: Option<u32> = arguments.get_one("conflicts");
+    let seconds: Option<u32> = arguments.get_one("seconds");
+    let limit = match conflicts {
+        Some(_) => seconds,
+        None => Some(seconds.unwrap_or(DEFAULT_SECONDS)),
+    };
+    Some(FileOrder::Solve {
+        task: solve_task(arguments, conflicts.map_or(MOST_CONFLICTS, u64::from)),
+        file: arguments.get_str("FILE")?,
+        seconds: limit,
+    })
+}
+
 // Returns the order of any other command.
 fn file_order<'a>(name: &str, arguments: &'a ArgMatches<'_>) -> Option<FileOrder<'a>> {
     match name {
         "explain" => Some(FileOrder::Explain(arguments.get_strs("CODE")?)),
         "prove" => proof_order(arguments),
+        "solve" => solve_order(arguments),
         "check" => Some(FileOrder::Check {
             file: arguments.get_str("FILE")?,
             starts: arguments.get_str("STARTS")?,

@@ -21,7 +21,7 @@ use std::fmt::Write;
 
 // Returns the line with the lower bound and the makespan, or with the makespan alone if they are
 // equal.
-fn bound_line(alloc: Global, lower: u64, makespan: u64) -> Result<String, AllocError>
+pub(crate) fn bound_line(alloc: Global, lower: u64, makespan: u64) -> Result<String, AllocError>
     requires { lower ≤ makespan }
     ensures { IfOk result (λ line. IsBoundLine lower makespan (string_bytes line)) }
 {

@@ -13,12 +13,12 @@ ghost use Rattle.plan_cli.specs.Tasks.{IsTextOf, IsLineOf};
 use crate::bytes::{read_file, write_text};
 use crate::fault::CliFault;
 use crate::tasks::{Task, text_of};
+use crate::watchers::{ProofWatcher, SolveWatcher, Unwatched};
 use plan_io::{Sink, Source};
-use plan_prove::{Unwatched, Watcher};
 use std::alloc::Global;
 
 // Reads a file, and writes the text of a task for it.
-fn answer<R: Source, W: Sink, V: Watcher>(
+fn answer<R: Source, W: Sink, V: ProofWatcher + SolveWatcher>(
     alloc: Global,
     task: Task<'_>,
     watcher: &mut V,
@@ -47,12 +47,13 @@ fn answer<R: Source, W: Sink, V: Watcher>(
     write_text(writer, &text)
 }
 
-/// Reads a file, and writes the text of a task for it. The watcher is called during a proof.
+/// Reads a file, and writes the text of a task for it. The watcher is called during a search of
+/// `prove` or `solve`.
 ///
 /// Nothing is written unless the whole text was made. A call of the reader or of the writer that
 /// fails isn't repeated. If several errors apply, the file's comes first, then the others in the
 /// order of the task's documentation.
-pub fn run_task<R: Source, W: Sink, V: Watcher>(
+pub fn run_task<R: Source, W: Sink, V: ProofWatcher + SolveWatcher>(
     alloc: Global,
     task: Task<'_>,
     watcher: &mut V,

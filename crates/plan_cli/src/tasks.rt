@@ -10,9 +10,10 @@ use crate::fault::CliFault;
 use crate::names::names_text;
 use crate::proof::proof_text;
 use crate::solutions::{project_best_text, shop_best_text};
+use crate::solver::{shop_solution_text, solution_text};
 use crate::tables::{date_text, schedule_text, shop_text};
 use crate::verdicts::check_text;
-use plan_prove::Watcher;
+use crate::watchers::{ProofWatcher, SolveWatcher};
 use std::alloc::Global;
 
 /// A text to print for a project file or for an instance in a job shop file.
@@ -93,10 +94,23 @@ pub enum Task<'a> {
     BestProject {
         budget: &'a str,
     },
+    /// A schedule of a project and a lower bound of its least makespan, which a search of at most
+    /// this many conflicts finds (lazy clause generation, Ohrimenko, Stuckey and Codish 2009). A
+    /// number outside 1–1,000,000,000 counts as the nearest one inside. The text is like that of
+    /// [`Task::Prove`]. Error: `S1`.
+    Solve {
+        conflicts: u64,
+    },
+    /// The same for a job shop. It has no error of its own.
+    SolveShop {
+        conflicts: u64,
+        instance: &'a str,
+    },
 }
 
-/// Returns the text of a task for a file. The watcher is called during a proof.
-pub(crate) fn text_of<V: Watcher>(
+/// Returns the text of a task for a file. The watcher is called during a search of `prove` or
+/// `solve`.
+pub(crate) fn text_of<V: ProofWatcher + SolveWatcher>(
     alloc: Global,
     task: Task<'_>,
     file: &[u8],
@@ -112,6 +126,13 @@ pub(crate) fn text_of<V: Watcher>(
         Task::Days { rule, start, marks } => Ok(days_text(
             alloc, rule, start, marks, file,
         )?.into_bytes()),
+        Task::Solve { conflicts } => Ok(solution_text(
+            alloc, conflicts, file, watcher,
+        )?.into_bytes()),
+        Task::SolveShop {
+            conflicts,
+            instance,
+        } => Ok(shop_solution_text(alloc, conflicts, instance, file, watcher)?.into_bytes()),
         Task::BestProject { budget } => Ok(project_best_text(alloc, budget, file)?.into_bytes()),
         Task::Check { starts } => Ok(check_text(alloc, starts, file)?.into_bytes()),
         Task::Shop { rule, instance } => Ok(shop_text(alloc, rule, instance, file)?.into_bytes()),

@@ -1,0 +1,166 @@
+//! `plan solve`: a schedule of a project or a job shop and a lower bound of its least makespan.
+
+ghost use Rattle.std.specs.Prelude.{◌≡◌, ◌≤◌, IfOk, IfErr, length, slice_index, EachIndex};
+ghost use Rattle.std.specs.Prelude.{string_bytes};
+ghost use Rattle.plan_net.specs.Network.{count_of};
+ghost use Rattle.plan_shop.specs.Shop.{count_steps};
+ghost use Rattle.plan_shop.specs.Docs.{shop_of};
+ghost use Rattle.plan_solve.specs.Solutions.{IsConflictLimit};
+ghost use Rattle.plan_gantt.specs.FirstFaults.{TellsFirstShopFault};
+ghost use Rattle.plan_gantt.specs.Limits.{latest_start};
+ghost use Rattle.plan_cli.specs.Run.{IfText, Refuses};
+ghost use Rattle.plan_cli.specs.ScheduleRun.{as_available, TellsNeed};
+ghost use Rattle.plan_cli.specs.SolveRun as spec;
+
+use crate::fault::CliFault;
+use crate::projects::{instance_of, read_project};
+use crate::proof::bound_line;
+use crate::shops::{open_shop, read_instance};
+use crate::watchers::SolveWatcher;
+use plan_gantt::{schedule_table, shop_table};
+use plan_orlib::ShopDoc;
+use plan_psplib::ProjectDoc;
+use plan_sgs::Instance;
+use plan_shop::Shop;
+use plan_solve::{MOST_CONFLICTS, SolveFault, Solved, solve_shop_watched, solve_watched};
+use std::alloc::{AllocError, Global};
+
+// Returns the line with the lower bound and the makespan, and the table of the schedule.
+fn solution_table(alloc: Global, instance: &Instance, solved: &Solved) -> Result<String, AllocError>
+    requires starts { length solved.now.schedule.starts.items ≡
+        count_of instance.now.project.network }
+    requires limit { EachIndex solved.now.schedule.starts.items (λ k.
+        slice_index solved.now.schedule.starts.items k ≤ latest_start) }
+    requires below { solved.now.lower ≤ solved.now.schedule.makespan }
+    ensures { IfOk result (λ text. spec.ShowsSolution instance.now solved.now.lower
+        solved.now.schedule.starts.items solved.now.schedule.makespan (string_bytes text)) }
+{
+    let schedule = &solved.schedule;
+    let mut text = bound_line(alloc, solved.lower, schedule.makespan)?;
+    let table = schedule_table(
+        alloc,
+        instance.network(),
+        &schedule.starts,
+        schedule.makespan,
+    )?;
+    text.push_str(&table)?;
+    Ok(text)
+}
+
+// Returns the solution of an instance that a search of at most so many conflicts finds.
+fn solved_text<V: SolveWatcher>(
+    alloc: Global,
+    conflicts: u64,
+    instance: &Instance,
+    watcher: &mut V,
+) -> Result<String, CliFault>
+    requires { IsConflictLimit conflicts }
+    ensures made { IfText result (spec.IsSolvedBy instance.now) }
+    ensures refused { IfErr result (λ e. e ≡ CliFault.Memory) }
+{
+    match solve_watched(alloc, instance, conflicts, watcher) {
+        Ok(solved) => Ok(solution_table(alloc, instance, &solved)?),
+        Err(SolveFault::NoMemory) => Err(CliFault::Memory),
+        Err(SolveFault::BadConflicts) => unreachable!(),
+    }
+}
+
+// Returns the allowed number of conflicts that is nearest to a number.
+fn allowed(conflicts: u64) -> u64
+    ensures { IsConflictLimit result }
+{
+    conflicts.max(1).min(MOST_CONFLICTS)
+}
+
+// Returns the solution of a project with the capacities of its file.
+fn project_text<V: SolveWatcher>(
+    alloc: Global,
+    conflicts: u64,
+    project: &ProjectDoc,
+    watcher: &mut V,
+) -> Result<String, CliFault>
+    ensures made { IfText result (spec.IsSolvedBy (as_available project.now)) }
+    ensures refused { IfErr result (Refuses (TellsNeed (as_available project.now))) }
+{
+    let instance = instance_of(alloc, project)?;
+    solved_text(alloc, allowed(conflicts), &instance, watcher)
+}
+
+/// Returns the solution of the project in a file. The watcher is called during the search, and can
+/// stop it.
+pub(crate) fn solution_text<V: SolveWatcher>(
+    alloc: Global,
+    conflicts: u64,
+    file: &[u8],
+    watcher: &mut V,
+) -> Result<String, CliFault>
+    ensures made { IfText result (spec.IsSolvedTableOf file.now) }
+    ensures refused { IfErr result (Refuses (spec.TellsWhyNotSolved file.now)) }
+{
+    let project = read_project(alloc, file)?;
+    project_text(alloc, conflicts, &project, watcher)
+}
+
+// Returns the line with the lower bound and the makespan, and the table of a job shop's schedule.
+fn shop_solution_table(alloc: Global, shop: &Shop, solved: &Solved) -> Result<String, AllocError>
+    requires starts { length solved.now.schedule.starts.items ≡ count_steps shop.now }
+    requires limit { EachIndex solved.now.schedule.starts.items (λ k.
+        slice_index solved.now.schedule.starts.items k ≤ latest_start) }
+    requires below { solved.now.lower ≤ solved.now.schedule.makespan }
+    ensures { IfOk result (λ text. spec.ShowsShopSolution shop.now solved.now.lower
+        solved.now.schedule.starts.items solved.now.schedule.makespan (string_bytes text)) }
+{
+    let schedule = &solved.schedule;
+    let mut text = bound_line(alloc, solved.lower, schedule.makespan)?;
+    let table = shop_table(alloc, shop, &schedule.starts, schedule.makespan)?;
+    text.push_str(&table)?;
+    Ok(text)
+}
+
+// Returns the solution of a job shop that a search of at most so many conflicts finds.
+fn solved_shop_text<V: SolveWatcher>(
+    alloc: Global,
+    conflicts: u64,
+    shop: &Shop,
+    watcher: &mut V,
+) -> Result<String, CliFault>
+    requires { IsConflictLimit conflicts }
+    ensures made { IfText result (spec.IsShopSolvedBy shop.now) }
+    ensures refused { IfErr result (λ e. e ≡ CliFault.Memory) }
+{
+    match solve_shop_watched(alloc, shop, conflicts, watcher) {
+        Ok(solved) => Ok(shop_solution_table(alloc, shop, &solved)?),
+        Err(SolveFault::NoMemory) => Err(CliFault::Memory),
+        Err(SolveFault::BadConflicts) => unreachable!(),
+    }
+}
+
+// Returns the solution of a file's job shop.
+fn doc_text<V: SolveWatcher>(
+    alloc: Global,
+    conflicts: u64,
+    doc: &ShopDoc,
+    watcher: &mut V,
+) -> Result<String, CliFault>
+    ensures made { IfText result (spec.IsShopSolvedBy (shop_of doc.now)) }
+    ensures refused { IfErr result (λ e. e ≡ CliFault.Memory) }
+{
+    let shop = open_shop(alloc, doc)?;
+    solved_shop_text(alloc, allowed(conflicts), &shop, watcher)
+}
+
+/// Returns the solution of an instance in a job shop file. The watcher is called during the search,
+/// and can stop it.
+pub(crate) fn shop_solution_text<V: SolveWatcher>(
+    alloc: Global,
+    conflicts: u64,
+    instance: &str,
+    file: &[u8],
+    watcher: &mut V,
+) -> Result<String, CliFault>
+    ensures made { IfText result (spec.IsShopSolvedTableOf instance.now file.now) }
+    ensures refused { IfErr result (Refuses (TellsFirstShopFault instance.now file.now)) }
+{
+    let doc = read_instance(alloc, instance, file)?;
+    doc_text(alloc, conflicts, &doc, watcher)
+}

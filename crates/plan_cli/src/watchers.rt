@@ -1,0 +1,28 @@
+//! Watchers of searches: of `plan prove` by nodes, of `plan solve` by conflicts.
+
+pub use plan_prove::Watcher as ProofWatcher;
+pub use plan_solve::Watcher as SolveWatcher;
+
+/// A watcher that ignores all reports and ends no search.
+#[derive(Drop)]
+pub struct Unwatched;
+
+impl ProofWatcher for Unwatched {
+    ghost was_told = { λ _ _. ⊥ };
+
+    fn tell(&mut self, _best: u64, _lower: u64, _nodes: u64) {}
+
+    fn end(&mut self) {}
+}
+
+impl SolveWatcher for Unwatched {
+    ghost was_told = { λ _ _. ⊥ };
+
+    fn tell(&mut self, _best: u64, _lower: u64, _conflicts: u64) {}
+
+    fn is_late(&mut self) -> bool {
+        false
+    }
+
+    fn end(&mut self) {}
+}
