@@ -37,7 +37,7 @@ def ports_below(count, chance=random.Random()):
 def unlimited(text):
     """The configuration with rates that no client reaches."""
     text, found = re.subn(r"rate=[0-9]+r/s", "rate=100000r/s", text)
-    same("the rates of servers.conf", found, 3)
+    same("the rates of servers.conf", found, 5)
     return re.sub(r"burst=[0-9]+( nodelay)?", "burst=100000 nodelay", text)
 
 
