@@ -1,0 +1,138 @@
+// Elements of the page: making them, showing errors with their meaning, and buttons that await an
+// answer. A text is never read as markup.
+
+import { Lost, Refusal } from "./api.js";
+import { FAULTS } from "./faults.js";
+
+export const byId = (name) => document.getElementById(name);
+
+function dressed(node, attributes, children) {
+  for (const [name, value] of Object.entries(attributes)) {
+    if (value !== null && value !== undefined && value !== false) {
+      node.setAttribute(name, value === true ? "" : value);
+    }
+  }
+  node.append(...children);
+  return node;
+}
+
+export const make = (tag, attributes = {}, ...children) =>
+  dressed(document.createElement(tag), attributes, children);
+
+export const draw = (tag, attributes = {}, ...children) =>
+  dressed(document.createElementNS("http://www.w3.org/2000/svg", tag), attributes, children);
+
+const rowHead = (cell) => make("th", { scope: "row" }, cell);
+
+export function tableNode({ caption, heads, rows, foot, marks = [] }) {
+  const row = (cells, index) => make("tr", { class: marks[index] && "critical" },
+    ...cells.map((cell, place) => (place ? make("td", {}, cell) : rowHead(cell))));
+  return make("table", {},
+    ...(caption ? [make("caption", {}, caption)] : []),
+    make("thead", {}, make("tr", {}, ...heads.map((head) => make("th", { scope: "col" }, head)))),
+    make("tbody", {}, ...rows.map(row)),
+    ...(foot ? [make("tfoot", {}, row(foot))] : []));
+}
+
+/** Returns what `plan explain` prints for the last code in a line that it knows. */
+function entryOf(line, faults) {
+  const codes = line.match(/\b[A-Z]\d+\b/g) ?? [];
+  return codes.reverse().map((code) => faults[code]).find(Boolean) ?? [];
+}
+
+/** Returns an error with its meaning; `lead` comes first if there is one. */
+export function refusalNode(line, lead = "", faults = FAULTS) {
+  const meaning = entryOf(line, faults).map((words) => make("p", {}, words));
+  const first = lead ? [make("p", { class: "lead" }, lead)] : [];
+  return make("div", { class: "refusal", role: "alert" }, ...first, make("strong", {}, line),
+    ...meaning);
+}
+
+export function faultNodes(fault) {
+  if (fault instanceof Refusal) {
+    return [refusalNode(fault.message, fault.lead), ...(fault.more ?? [])];
+  }
+  if (fault instanceof Lost) {
+    return [make("div", { class: "unanswered" }, refusalNode(fault.message))];
+  }
+  return [refusalNode(`The page failed: ${fault}`)];
+}
+
+/** Does what a button asks for. The button says so until the answer has come. */
+export async function during(button, place, action) {
+  if (button.getAttribute("aria-disabled") === "true") return;
+  const words = [...button.childNodes];
+  button.replaceChildren(button.dataset.awaiting);
+  button.setAttribute("aria-disabled", "true");
+  place.replaceChildren();
+  try {
+    const told = await action();
+    if (told) place.append(make("p", { role: "status" }, told));
+  } catch (fault) {
+    place.replaceChildren(...faultNodes(fault));
+  } finally {
+    button.replaceChildren(...words);
+    button.removeAttribute("aria-disabled");
+  }
+}
+
+/** Lets a form act by its one button, if that is meant. */
+export function onSubmit(name, action, isMeant = () => true) {
+  const form = byId(name);
+  form.addEventListener("submit", async (event) => {
+    event.preventDefault();
+    const place = form.querySelector(".answer") ?? byId(`${name}-answer`);
+    if (!(await isMeant())) return;
+    during(form.querySelector("button:not([type=button])"), place,
+      () => action(form.elements, form));
+  });
+}
+
+/** Lets a list of tabs choose one of their panels, by mouse and by arrow keys. */
+export function letChoose(list) {
+  const tabs = [...list.querySelectorAll("[role=tab]")];
+  const choose = (tab) => {
+    for (const other of tabs) {
+      const isChosen = other === tab;
+      other.setAttribute("aria-selected", String(isChosen));
+      other.tabIndex = isChosen ? 0 : -1;
+      byId(other.getAttribute("aria-controls")).hidden = !isChosen;
+    }
+  };
+  list.addEventListener("click", ({ target }) => {
+    if (tabs.includes(target)) choose(target);
+  });
+  list.addEventListener("keydown", (event) => {
+    const step = { ArrowRight: 1, ArrowLeft: -1 }[event.key];
+    const at = tabs.indexOf(document.activeElement);
+    if (!step || at < 0) return;
+    event.preventDefault();
+    const next = tabs[(at + step + tabs.length) % tabs.length];
+    choose(next);
+    next.focus();
+  });
+}
+
+export function letTake(place, take) {
+  place.addEventListener("dragover", (event) => event.preventDefault());
+  place.addEventListener("drop", (event) => {
+    event.preventDefault();
+    event.stopPropagation();
+    document.body.classList.remove("dropping");
+    const [file] = event.dataTransfer.files;
+    if (file) take(file);
+  });
+  place.querySelector("input[type=file]").addEventListener("change", ({ target }) => {
+    if (target.files.length) take(target.files[0]);
+    target.value = "";
+  });
+}
+
+export function download(name, type, text) {
+  const address = URL.createObjectURL(new Blob([text], { type }));
+  const link = make("a", { href: address, download: name });
+  document.body.append(link);
+  link.click();
+  link.remove();
+  setTimeout(() => URL.revokeObjectURL(address), 10000);
+}

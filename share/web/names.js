@@ -1,0 +1,84 @@
+// What this browser remembers of plans: titles, names, and the changes that were made here. Keys of
+// desks are never stored. With the switch off, all of it ends with the page.
+
+import { page } from "./state.js";
+
+const SWITCH = "plan/forget";
+const PREFIX = "plan/of/";
+
+function storage() {
+  try {
+    return globalThis.localStorage ?? null;
+  } catch {
+    return null;
+  }
+}
+
+export const isRemembering = () => storage()?.getItem(SWITCH) !== "1";
+
+const keyOf = (n) => `${PREFIX}${page.desk}/${n}`;
+
+/** Switches the memory of this computer; switching it off forgets all desks. */
+export function setRemembering(isOn) {
+  const place = storage();
+  if (!place) return;
+  if (isOn) {
+    place.removeItem(SWITCH);
+    for (const [n, record] of page.records) write(n, record);
+    return;
+  }
+  for (const key of Object.keys(place)) if (key.startsWith(PREFIX)) place.removeItem(key);
+  place.setItem(SWITCH, "1");
+}
+
+function write(n, record) {
+  if (!isRemembering()) return;
+  try {
+    storage()?.setItem(keyOf(n), JSON.stringify(record));
+  } catch {
+    // the memory is full: the page goes on without it
+  }
+}
+
+/** Returns the record of a plan: { title, names, resources, shape, makespan, set }. */
+export function recordOf(n) {
+  if (!page.records.has(n)) {
+    let record = {};
+    try {
+      record = JSON.parse(storage()?.getItem(keyOf(n)) ?? "{}") ?? {};
+    } catch {
+      // a record that can't be read is none
+    }
+    page.records.set(n, record);
+  }
+  return page.records.get(n);
+}
+
+export function remember(n, members) {
+  const record = { ...recordOf(n), ...members };
+  page.records.set(n, record);
+  write(n, record);
+}
+
+export function forget(n) {
+  page.records.delete(n);
+  storage()?.removeItem(keyOf(n));
+}
+
+/** Returns a short text that is the same for plans of the same rows. */
+export function shapeOf(rows) {
+  let code = 2166136261;
+  for (const letter of rows.map(({ d, mach = "" }) => `${d}:${mach}`).join()) {
+    code = Math.imul(code ^ letter.codePointAt(0), 16777619) >>> 0;
+  }
+  return `${rows.length}-${code.toString(16)}`;
+}
+
+/** Remembers a change of a plan that was made here: a bind, a lag, or the calendar. */
+export function rememberChange(n, kind, value) {
+  const on = new Date().toISOString().slice(0, 10);
+  const set = { ...recordOf(n).set };
+  const isList = kind !== "calendar";
+  set[kind] = isList ? { ...set[kind], [value.at]: { ...value, on } } : { ...value, on };
+  remember(n, { set });
+}

@@ -1,0 +1,246 @@
+// The plan that is open: asks for its pages, and shows its schedules as a chart and as tables.
+
+import { ask, askTable, planPath, Refusal, tableOf } from "./api.js";
+import { showChanges } from "./changes.js";
+import { showChart } from "./chart.js";
+import { byId, faultNodes, make, onSubmit, tableNode } from "./dom.js";
+import { showHandIn } from "./handin.js";
+import { settleCalendar, settleModel } from "./model.js";
+import { recordOf, remember, shapeOf } from "./names.js";
+import { clearPaper, fillPaper } from "./paper.js";
+import { markOpen, noteMakespan, showPlans } from "./plans.js";
+import { page, RULES, WORDS_OF_KIND } from "./state.js";
+import { showTable } from "./table.js";
+import { nameOf, namesIn, viewOf } from "./view.js";
+import { COLUMN_WORDS, RULE_WORDS } from "./words.js";
+
+let view = null;
+let tell = () => {};
+
+export const viewNow = () => view;
+
+/** Asks for all pages of a plan, and shows them, or why there are none. */
+export async function openPlan(n) {
+  const { kind } = page.plans.find((plan) => plan.n === n);
+  const isNew = page.plan?.n !== n;
+  const drawn = !isNew && RULES[kind].includes(page.plan.drawn) ? page.plan.drawn : RULES[kind][0];
+  const plan = {
+    n, kind, drawn, dates: null, fault: null, schedules: new Map(), days: new Map(),
+    model: null, calendar: null, note: "",
+  };
+  page.plan = plan;
+  markOpen();
+  awaitPlan(isNew);
+  try {
+    if (kind === "project") plan.dates = await askTable(planPath(n, "dates"));
+    await askSchedules(plan);
+    if (page.plan === plan) showPlan();
+  } catch (fault) {
+    if (page.plan === plan) byId("plan-answer").replaceChildren(...faultNodes(fault));
+  }
+  if (page.plan === plan) byId("plan").removeAttribute("aria-busy");
+}
+
+/** Asks for the schedule by each rule, and for working days until they determine the calendar. */
+async function askSchedules(plan) {
+  for (const rule of RULES[plan.kind]) {
+    const table = await askTable(planPath(plan.n, "schedule", rule));
+    if (table instanceof Refusal) {
+      plan.fault = table;
+      return;
+    }
+    plan.schedules.set(rule, table);
+  }
+  const others = RULES[plan.kind].filter((rule) => rule !== plan.drawn);
+  for (const rule of [plan.drawn, ...others]) {
+    plan.days.set(rule, await askTable(planPath(plan.n, "days", rule)));
+    if (plan.days.get(rule) instanceof Refusal) return;
+    settleCalendar(plan);
+    if (plan.calendar) return;
+  }
+}
+
+/** Shows that the pages of a plan are awaited, and removes notices of another plan. */
+function awaitPlan(isNew) {
+  const { n, kind } = page.plan;
+  byId("plan-head").textContent = `Plan ${n}, a ${WORDS_OF_KIND[kind]}`;
+  byId("plan-answer").replaceChildren(make("p", { role: "status" }, "Asking the office …"));
+  byId("plan-body").hidden = true;
+  byId("plan").hidden = false;
+  byId("plan").setAttribute("aria-busy", "true");
+  byId("best-answer").replaceChildren();
+  if (!isNew) return;
+  for (const place of document.querySelectorAll("#changes .answer, #handin .answer")) {
+    place.replaceChildren();
+  }
+  byId("news").textContent = "";
+  if (page.file?.plan !== n) byId("import-answer").replaceChildren();
+  byId("plans-answer").replaceChildren();
+  byId("tab-table").click();
+  byId("plan-head").focus();
+}
+
+export function leavePlan() {
+  page.plan = null;
+  view = null;
+  byId("plan").hidden = true;
+  clearPaper();
+  markOpen();
+}
+
+export function showPlan() {
+  const { plan } = page;
+  const faults = [plan.fault, plan.dates].filter((part) => part instanceof Refusal);
+  byId("plan-answer").replaceChildren(...faults.flatMap(faultNodes));
+  byId("plan-body").hidden = false;
+  const isDrawn = plan.schedules.size > 0;
+  for (const part of byId("plan").querySelectorAll(".drawn")) part.hidden = !isDrawn;
+  settleModel(plan);
+  settleCalendar(plan);
+  const [table] = plan.schedules.values();
+  if (table) noteMakespan(plan.n, table.total);
+  const record = recordOf(plan.n);
+  if (table && record.names && !record.shape) remember(plan.n, { shape: shapeOf(table.rows) });
+  const { title } = namesIn(plan);
+  const words = `Plan ${plan.n}, a ${WORDS_OF_KIND[plan.kind]}`;
+  byId("plan-head").textContent = title ? `${words}: ${title}` : words;
+  showPlans();
+  showForms(plan);
+  showChanges(plan);
+  showDates(plan.dates);
+  if (isDrawn) showSchedules();
+  else showHandIn(null);
+}
+
+function showForms({ kind, model, note }) {
+  const isProject = kind === "project";
+  byId("lines-label").hidden = isProject;
+  byId("colours-label").hidden = !isProject || !model;
+  byId("note").hidden = !note;
+  byId("note-words").textContent = note;
+  const isNamed = Object.keys(namesIn(page.plan).names).length > 0;
+  byId("names-zone").hidden = isProject ? Boolean(model) : isNamed;
+  if (!model) byId("colours").value = "slack";
+}
+
+/** Shows the schedules: their choice, the tables, and the one that is drawn. Returns the function that
+ * points at a row of it. */
+export function showSchedules() {
+  showChoice(page.plan);
+  showRules(page.plan);
+  return showDrawn();
+}
+
+/** Shows the schedule that is drawn. Returns the function that points at a row of it. */
+export function showDrawn() {
+  const { plan } = page;
+  view = viewOf(plan);
+  tell = showChart(view);
+  showTable(view, `Schedule by ${nameOf(plan, plan.drawn)}`);
+  showDayNote(plan);
+  showHandIn(view);
+  return tell;
+}
+
+export function redraw() {
+  if (view && !byId("chart").hidden && !byId("plan").hidden) tell = showChart(view);
+}
+
+export const showPaper = () => view && fillPaper(view);
+
+function showDayNote(plan) {
+  const refusal = [...plan.days.values()].find((days) => days instanceof Refusal);
+  const isUnset = refusal?.message === "E12 G4 no calendar";
+  const words = isUnset ? "No calendar is set, so times are units of working time, counted from 0."
+    : plan.days.size && !view.dates ? "The dates of this schedule aren't known: the office's working "
+      + "days leave several calendars. Set the calendar on this page." : "";
+  const nodes = refusal && !isUnset ? faultNodes(refusal) : words ? [make("p", {}, words)] : [];
+  byId("days").replaceChildren(...nodes);
+}
+
+function showChoice(plan) {
+  const choices = [...plan.schedules.keys()].map((rule) => {
+    const input = make("input", { type: "radio", name: "drawn", value: rule });
+    input.checked = rule === plan.drawn;
+    input.addEventListener("change", () => {
+      plan.drawn = rule;
+      showDrawn();
+    });
+    return make("label", { title: RULE_WORDS[rule] }, input, ` ${nameOf(plan, rule)}`);
+  });
+  byId("drawn").replaceChildren(byId("drawn").firstElementChild, ...choices);
+}
+
+const titled = (words) => make("abbr", { title: COLUMN_WORDS[words] ?? RULE_WORDS[words] }, words);
+
+function showDates(dates) {
+  byId("dates-fold").hidden = !dates?.rows;
+  if (!dates?.rows) return;
+  byId("dates").replaceChildren(tableNode({
+    caption: `Earliest and latest dates, crews not counted; the whole takes ${dates.total}`,
+    heads: [...dates.heads.map(titled), ""],
+    rows: dates.rows.map((row) =>
+      [...dates.heads.map((head) => row[head]), row.isCritical ? "*" : ""]),
+    marks: dates.rows.map((row) => row.isCritical),
+  }));
+}
+
+function showRules(plan) {
+  const rules = [...plan.schedules.keys()];
+  const tables = rules.map((rule) => plan.schedules.get(rule));
+  const fixed = tables[0].heads.slice(0, -2);
+  const rows = tables[0].rows.map((row, index) => [
+    ...fixed.map((head) => row[head]),
+    ...tables.map(({ rows: ends }) => `${ends[index].start}–${ends[index].end}`),
+  ]);
+  const names = rules.map((rule) =>
+    (rule === "best" ? `best (${plan.schedules.get(rule).verdict})` : titled(rule)));
+  const foot = ["makespan", ...fixed.slice(1).map(() => ""), ...tables.map((t) => `${t.total}`)];
+  byId("rules").replaceChildren(tableNode({
+    caption: "Schedules by rule: start–end", heads: [...fixed.map(titled), ...names], rows, foot,
+  }));
+}
+
+/** Returns how a makespan compares with the shortest schedule by a rule. */
+function comparedWords(plan, total) {
+  const rules = RULES[plan.kind].filter((rule) => plan.schedules.has(rule));
+  const least = rules.reduce((a, b) =>
+    (plan.schedules.get(b).total < plan.schedules.get(a).total ? b : a));
+  const gain = plan.schedules.get(least).total - total;
+  return gain > 0 ? `It is ${gain} shorter than the shortest by a rule (${least}).`
+    : `The rule ${least} is as good.`;
+}
+
+async function searchBest(fields) {
+  const { plan } = page;
+  let table;
+  try {
+    table = tableOf(await ask(planPath(plan.n, "best", fields.budget.value)));
+  } catch (fault) {
+    if (fault instanceof Refusal && /\bS5\b/.test(fault.message)) fault.more = [solveNode(plan)];
+    throw fault;
+  }
+  if (page.plan !== plan) return "";
+  plan.schedules.set("best", table);
+  plan.drawn = "best";
+  showSchedules();
+  const compared = comparedWords(plan, table.total);
+  return table.verdict === "optimal"
+    ? `optimal ${table.total}: no schedule of this plan is shorter. ${compared}`
+    : `budget ${table.total}: the best that was found within ${fields.budget.value} search steps. `
+      + compared;
+}
+
+/** Returns what to do about a plan that is too large for the office's search. */
+const solveNode = ({ kind }) => make("p", { class: "solve" },
+  "Search on your own computer: run ",
+  make("code", {}, kind === "project" ? "plan solve FILE" : "plan solve FILE INSTANCE"),
+  ", then drop what it prints on this page, or paste it under \"Hand in and check\". The page checks "
+  + "and draws it.");
+
+export function letPlanAct() {
+  onSubmit("best", searchBest);
+  for (const name of ["colours", "lines"]) {
+    byId(name).addEventListener("change", () => showDrawn());
+  }
+}
