@@ -1,34 +1,29 @@
 // A table of activities, as spreadsheets save it, and the project file that it becomes: the rules and
 // the error codes T1 to T13 of `plan import`.
 
-const MOST_BYTES = 1048576;
-const MOST_ROWS = 500;
-const MOST_RESOURCES = 16;
-const MOST_AMOUNT = 10000;
-const MOST_WORK = 1000000;
-const MOST_NAME = 200;
-const SYNONYMS = { task: "name", after: "predecessors", "depends on": "predecessors" };
+const MOST = { bytes: 1048576, rows: 500, resources: 16, amount: 10000, work: 1000000, name: 200 };
 const FIXED = ["id", "name", "duration", "predecessors"];
+const SYNONYMS = new Map([["task", "name"], ["after", FIXED[3]], ["depends on", FIXED[3]]]);
 
-/** What to do about each error. */
+/** What each error means. */
 export const TABLE_FAULTS = {
-  T1: ["The table has more than 1,048,576 bytes.", "Delete columns that the plan doesn't need."],
-  T2: ["This line isn't plain text in UTF-8.", "Save the table as CSV in UTF-8."],
-  T3: ["No column is named duration.", "Name the column with the working days duration."],
-  T4: ["Two columns have this name.", "Rename or delete one of them."],
-  T5: ["The duration isn't a whole number.", "Write 0, 1, 2 and so on, without a unit."],
-  T6: ["An id has 1 to 32 characters, without blanks, commas and semicolons.", "Correct the id."],
-  T7: ["Two activities have this id.", "Give one of them another id."],
-  T8: ["No activity has the id that this predecessor names.", "Correct it, or add the activity."],
-  T9: ["A need isn't a whole number.", "Write a whole number, or leave the cell empty."],
-  T10: ["This resource has no capacity.", "Enter it below, or in a row whose id is capacity."],
-  T11: ["These activities wait for each other.", "Remove one of these predecessors."],
-  T12: ["The table is beyond a limit: 500 activities, 16 resources, 10,000 for a duration or an "
-    + "amount, 1,000,000 for all durations together, 200 bytes for a name.", "Use smaller numbers."],
-  T13: ["This row has more cells than the header, or a quote isn't closed.", "Correct the row."],
+  T1: ["The table has more than 1,048,576 bytes."],
+  T2: ["This line isn't plain text in UTF-8. Save the table as CSV in UTF-8."],
+  T3: ["No column is named duration: name the one with the working days so."],
+  T4: ["Two columns have this name."],
+  T5: ["The duration isn't a whole number without a unit."],
+  T6: ["An id has 1 to 32 characters, and no blank, comma or semicolon."],
+  T7: ["Two activities have this id."],
+  T8: ["No activity has the id that this predecessor names."],
+  T9: ["A need isn't a whole number. An empty cell is 0."],
+  T10: ["This resource has no capacity: enter it, or add a row whose id is capacity."],
+  T11: ["These activities wait for each other."],
+  T12: ["This is beyond a limit: 500 activities, 16 resources, 10,000 for a duration or an amount, "
+    + "1,000,000 for all durations, 200 bytes for a name."],
+  T13: ["This row has more cells than the header, or a quote isn't closed."],
 };
 
-/** An error in a table: its line, and the column and record of its cell as far as there is one. */
+/** An error in a table, with the line and the column of its cell as far as there is one. */
 export class TableFault extends Error {
   constructor(words, line = 0, column = -1) {
     super(words);
@@ -36,11 +31,8 @@ export class TableFault extends Error {
   }
 }
 
-/** Returns the text of a file without its byte-order mark. */
-function decoded(bytes) {
-  if (bytes.length > MOST_BYTES) throw new TableFault("T1 too long");
-  if (!isText(bytes)) throw wrongLine(bytes);
-  return new TextDecoder().decode(bytes);
+function fail(words, line, column) {
+  throw new TableFault(words, line, column);
 }
 
 const isText = (bytes) => {
@@ -52,223 +44,157 @@ const isText = (bytes) => {
   }
 };
 
-/** Returns the error that names the first line that isn't text. */
-function wrongLine(bytes) {
-  for (let line = 1, begin = 0; ; line += 1) {
-    const end = bytes.indexOf(10, begin);
-    const piece = end < 0 ? bytes.subarray(begin) : bytes.subarray(begin, end);
-    if (!isText(piece) || end < 0) return new TableFault(`T2 not text line ${line}`, line);
-    begin = end + 1;
+/** Returns the text of a file without its byte-order mark. */
+function decoded(bytes) {
+  if (bytes.length > MOST.bytes) fail("T1 too long");
+  for (let line = 1, begin = 0, end; !isText(bytes) && end !== -1; line += 1, begin = end + 1) {
+    end = bytes.indexOf(10, begin);
+    if (!isText(bytes.subarray(begin, end < 0 ? bytes.length : end))) {
+      fail(`T2 not text line ${line}`, line);
+    }
   }
+  return new TextDecoder().decode(bytes);
 }
 
 /** Returns the separator: the first of tab, semicolon and comma that the header line contains. */
-function separatorOf(text) {
-  const header = text.split(/\r?\n/, 1)[0];
-  return ["\t", ";", ","].find((mark) => header.includes(mark)) ?? ",";
-}
+const separatorOf = (text) =>
+  ["\t", ";", ","].find((mark) => text.split("\n", 1)[0].includes(mark)) ?? ",";
 
 /** Returns the records of a text by RFC 4180, each with the line on which it begins. */
 export function recordsOf(text, mark = separatorOf(text)) {
+  const rest = `[^${mark}\n]*`;
+  const cell = new RegExp(
+    `(?:"([^"]*(?:""[^"]*)*)"(${rest})|([^"${mark}\n]${rest})?)(${mark}|\n|$)`, "y");
   const records = [];
-  let at = 0, line = 1;
-  while (at < text.length) {
-    const record = { line, cells: [] };
-    let isOpen = true;
-    while (isOpen) {
-      let cell = "";
-      if (text[at] === '"') {
-        const begin = at;
-        do {
-          at = text.indexOf('"', at + 1);
-          if (at < 0) throw new TableFault(`T13 line ${record.line} cells`, record.line);
-          at += 1;
-        } while (text[at] === '"');
-        cell = text.slice(begin + 1, at - 1).replaceAll('""', '"');
-      }
-      let end = at;
-      while (end < text.length && text[end] !== mark && text[end] !== "\n") end += 1;
-      isOpen = text[end] === mark;
-      const rest = text.slice(at, end);
-      cell += !isOpen && text[end] === "\n" ? rest.replace(/\r$/, "") : rest;
-      record.cells.push(cell);
-      at = end + 1;
-    }
-    line += text.slice(0, at).split("\n").length - line;
+  for (let line = 1, record = null; record || cell.lastIndex < text.length;) {
+    record ??= { line, cells: [] };
+    const found = cell.exec(text);
+    if (!found) fail(`T13 line ${record.line} cells`, record.line);
+    const [whole, quoted, behind, plain = "", end] = found;
+    const words = quoted === undefined ? plain : quoted.replaceAll('""', '"') + behind;
+    record.cells.push(end === mark ? words : words.replace(/\r$/, ""));
+    line += whole.split("\n").length - 1;
+    if (end === mark) continue;
     records.push(record);
+    record = null;
   }
   return records;
 }
 
-/** Returns the columns of the header: the place of each fixed column and of each resource. */
+/** Returns the columns of the header in their order: what each is, and its name. */
 function columnsOf({ line, cells }) {
-  const places = new Map();
+  const columns = [];
   cells.forEach((cell, place) => {
-    const words = cell.trim().toLowerCase();
-    const head = SYNONYMS[words] ?? words;
-    if (!head) return;
-    if (places.has(head)) throw new TableFault(`T4 column ${words} twice`, line, place);
-    places.set(head, { place, name: cell.trim() });
+    const name = cell.trim(), words = name.toLowerCase();
+    const head = SYNONYMS.get(words) ?? words;
+    if (columns.some((column) => column.head === head)) fail(`T4 column ${words} twice`, line, place);
+    if (head) columns.push({ head, name, place, isResource: !FIXED.includes(head) });
   });
-  if (!places.has("duration")) throw new TableFault("T3 no column duration", line);
-  const resources = [...places].filter(([head]) => !FIXED.includes(head)).map(([, found]) => found);
-  if (resources.length > MOST_RESOURCES) {
-    throw new TableFault(`T12 limit line ${line}`, line, resources[MOST_RESOURCES].place);
-  }
-  return { places, resources };
+  if (!columns.some(({ head }) => head === "duration")) fail("T3 no column duration", line);
+  const extra = columns.filter(({ isResource }) => isResource)[MOST.resources];
+  if (extra) fail(`T12 limit line ${line}`, line, extra.place);
+  return columns;
 }
-
-/** Returns a number of digits; null for other texts. */
-const numberOf = (text) => (/^\d{1,9}$/.test(text) ? Number(text) : null);
 
 /** Returns the number in a cell, or throws an error that names the cell. */
-function amountOf(text, fault, line, place) {
-  const number = numberOf(text);
-  if (number === null) throw new TableFault(fault, line, place);
-  if (number > MOST_AMOUNT) throw new TableFault(`T12 limit line ${line}`, line, place);
-  return number;
+function amountOf(text, words, line, place) {
+  if (!/^\d{1,9}$/.test(text)) fail(words, line, place);
+  if (Number(text) > MOST.amount) fail(`T12 limit line ${line}`, line, place);
+  return Number(text);
 }
 
-/** Reads one row: its cells are tested from left to right. */
-function rowOf({ line, cells }, columns, ids, number) {
-  const { places, resources } = columns;
-  const row = { line, id: String(number), name: "", duration: 0, after: [], needs: [], cells };
-  const fixed = {
-    id(text, place) {
-      if (!/^[^\s,;]{1,32}$/u.test(text)) throw new TableFault(`T6 line ${line} id`, line, place);
-      if (ids.get(text) !== line) {
-        throw new TableFault(`T7 line ${line} id ${text} twice`, line, place);
-      }
+/** Reads one row, from left to right. `lines` are the lines of all ids. */
+function rowOf({ line, cells }, columns, lines, number) {
+  const row = { line, id: String(number), name: "", duration: 0, after: [], needs: [] };
+  for (const { head, name, place, isResource } of columns) {
+    const text = (cells[place] ?? "").trim();
+    const failHere = (words) => fail(words, line, place);
+    if (isResource) {
+      row.needs.push(text ? amountOf(text, `T9 line ${line} need ${name}`, line, place) : 0);
+    } else if (head === "id") {
+      if (!/^[^\s,;]{1,32}$/u.test(text)) failHere(`T6 line ${line} id`);
+      if (lines.get(text) !== line) failHere(`T7 line ${line} id ${text} twice`);
       row.id = text;
-    },
-    name(text, place) {
-      if (/[\u0000-\u001f]/.test(text)) {
-        throw new TableFault(`T2 not text line ${line}`, line, place);
-      }
-      if (new TextEncoder().encode(text).length > MOST_NAME) {
-        throw new TableFault(`T12 limit line ${line}`, line, place);
-      }
+    } else if (head === "name") {
+      if (/[\u0000-\u001f]/.test(text)) failHere(`T2 not text line ${line}`);
+      if (new TextEncoder().encode(text).length > MOST.name) failHere(`T12 limit line ${line}`);
       row.name = text;
-    },
-    duration(text, place) { row.duration = amountOf(text, `T5 line ${line} duration`, line, place); },
-    predecessors(text, place) {
+    } else if (head === "duration") {
+      row.duration = amountOf(text, `T5 line ${line} duration`, line, place);
+    } else {
       row.after = [...new Set(text.split(/[\s,;]+/).filter(Boolean))];
-      const missing = row.after.find((id) => !ids.has(id));
-      if (missing) throw new TableFault(`T8 line ${line} predecessor ${missing}`, line, place);
-    },
-  };
-  const order = [...places].sort((a, b) => a[1].place - b[1].place);
-  for (const [head, { place, name }] of order) {
-    const text = (cells[place] ?? "").trim();
-    if (fixed[head]) fixed[head](text, place);
-    else row.needs.push(text ? amountOf(text, `T9 line ${line} need ${name}`, line, place) : 0);
-  }
-  return { ...row, needs: resources.map((_, at) => row.needs[at]) };
-}
-
-/** Returns the line of the first row of each id; rows without ids are numbered. */
-function idsOf(records, columns) {
-  const place = columns.places.get("id")?.place;
-  const ids = new Map();
-  records.forEach(({ line, cells }, index) => {
-    const id = place === undefined ? String(index + 1) : (cells[place] ?? "").trim();
-    if (id && !ids.has(id)) ids.set(id, line);
-  });
-  return ids;
-}
-
-/** Adds the capacities of a row with the id `capacity` to those found before. */
-function addCapacities(found, { line, cells }, { resources }) {
-  for (const { place, name } of resources) {
-    const text = (cells[place] ?? "").trim();
-    if (text) found.set(name, amountOf(text, `T9 line ${line} need ${name}`, line, place));
-  }
-}
-
-function capacitiesOf(found, { resources }, given) {
-  return resources.map(({ name }) => {
-    const number = given[name] ?? found.get(name);
-    if (number === undefined) {
-      const names = resources.map((resource) => resource.name);
-      throw Object.assign(new TableFault(`T10 no capacity ${name}`), { resources: names, found });
+      const missing = row.after.find((id) => !lines.has(id));
+      if (missing) failHere(`T8 line ${line} predecessor ${missing}`);
     }
-    return number;
-  });
+  }
+  return row;
 }
 
-/** Returns the rows of a cycle, each a predecessor of the next one; null if there is none. */
+/** Returns the first cycle of rows, each a predecessor of the next one; null if there is none. */
 function cycleOf(rows) {
-  const state = rows.map(() => 0);
-  const path = [];
-  const visit = (at) => {
-    state[at] = 1;
-    path.push(at);
-    for (const next of rows[at].before) {
-      if (state[next] === 1) return path.slice(path.indexOf(next));
-      const found = state[next] ? null : visit(next);
+  const done = new Set();
+  const visit = (at, path) => {
+    if (path.includes(at)) return path.slice(path.indexOf(at));
+    if (done.has(at)) return null;
+    done.add(at);
+    return first(rows[at].before, (next) => visit(next, [...path, at]));
+  };
+  const first = (places, find) => {
+    for (const place of places) {
+      const found = find(place);
       if (found) return found;
     }
-    path.pop();
-    state[at] = 2;
     return null;
   };
-  for (let at = 0; at < rows.length; at += 1) {
-    const found = state[at] ? null : visit(at);
-    if (found) return found;
-  }
-  return null;
+  return first(rows.keys(), (at) => visit(at, []));
 }
 
-/** Links rows by their numbers: `after` are predecessors, `before` successors. */
+/** Links rows by their places: `after` are predecessors, `before` successors. */
 function linked(rows) {
-  const places = new Map(rows.map(({ id }, index) => [id, index]));
-  const made = rows.map((row) => ({ ...row, after: row.after.map((id) => places.get(id)) }));
-  made.forEach((row) => { row.before = []; });
-  made.forEach(({ after }, index) => after.forEach((at) => made[at].before.push(index)));
+  const places = new Map(rows.map(({ id }, at) => [id, at]));
+  const made = rows.map((row) => ({ ...row, before: [], after: row.after.map((id) => places.get(id)) }));
+  made.forEach(({ after }, at) => after.forEach((place) => made[place].before.push(at)));
   return made;
 }
 
-/** Returns the records that aren't empty, and whether each gives capacities. */
-function filledOf(records, { places }) {
-  const place = places.get("id")?.place;
-  return records.filter(({ cells }) => cells.some((cell) => cell.trim())).map((record) => {
-    const isCapacity = place !== undefined && (record.cells[place] ?? "").trim() === "capacity";
-    return { ...record, isCapacity };
-  });
-}
-
 /** Reads a table. `given` are capacities by the name of the resource, which override the table's. */
-export function readTable(bytes, given = {}) {
-  const [header, ...rest] = recordsOf(decoded(bytes));
-  const columns = columnsOf(header ?? { line: 1, cells: [] });
-  const filled = filledOf(rest, columns);
-  const ids = idsOf(filled.filter(({ isCapacity }) => !isCapacity), columns);
+export function readTable(bytes, given = new Map()) {
+  const [header = { line: 1, cells: [] }, ...rest] = recordsOf(decoded(bytes));
+  const columns = columnsOf(header);
+  const resources = columns.filter(({ isResource }) => isResource);
+  const idPlace = columns.find(({ head }) => head === "id")?.place;
+  const idOf = ({ cells }) => (cells[idPlace] ?? "").trim();
+  const filled = rest.filter(({ cells }) => cells.some((cell) => cell.trim()));
+  const listed = filled.filter((record) => idOf(record) !== "capacity");
+  const lines = new Map();
+  listed.forEach((record, at) => {
+    const id = idPlace === undefined ? String(at + 1) : idOf(record);
+    if (id && !lines.has(id)) lines.set(id, record.line);
+  });
   const rows = [], found = new Map();
   let work = 0;
   for (const record of filled) {
-    const { line, cells, isCapacity } = record;
-    if (cells.length > header.cells.length) {
-      throw new TableFault(`T13 line ${line} cells`, line, header.cells.length);
-    }
-    if (isCapacity) {
-      addCapacities(found, record, columns);
+    const { line, cells } = record;
+    if (cells.length > header.cells.length) fail(`T13 line ${line} cells`, line, header.cells.length);
+    if (idOf(record) === "capacity") {
+      for (const { place, name } of resources) {
+        const text = (cells[place] ?? "").trim();
+        if (text) found.set(name, amountOf(text, `T9 line ${line} need ${name}`, line, place));
+      }
       continue;
     }
-    rows.push(rowOf(record, columns, ids, rows.length + 1));
+    rows.push(rowOf(record, columns, lines, rows.length + 1));
     work += rows.at(-1).duration;
-    if (rows.length > MOST_ROWS || work > MOST_WORK) {
-      throw new TableFault(`T12 limit line ${line}`, line);
-    }
+    if (rows.length > MOST.rows || work > MOST.work) fail(`T12 limit line ${line}`, line);
   }
-  const capacities = capacitiesOf(found, columns, given);
+  const names = resources.map(({ name }) => name);
+  const capacities = names.map((name) => given.get(name) ?? found.get(name));
+  const lacking = names[capacities.indexOf(undefined)];
+  if (lacking) throw Object.assign(new TableFault(`T10 no capacity ${lacking}`), { names, capacities });
   const made = linked(rows);
   const cycle = cycleOf(made);
-  if (cycle) {
-    const { line } = made[cycle[0]];
-    throw new TableFault(`T11 cycle ${cycle.map((at) => made[at].id).join(" ")}`, line);
-  }
-  const resources = columns.resources.map(({ name }) => name);
-  return { rows: made, resources, capacities, heads: header.cells };
+  if (cycle) fail(`T11 cycle ${cycle.map((at) => made[at].id).join(" ")}`, made[cycle[0]].line);
+  return { rows: made, resources: names, capacities };
 }
 
 const RULER = `${"*".repeat(72)}\n`;

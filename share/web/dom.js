@@ -22,6 +22,10 @@ export const make = (tag, attributes = {}, ...children) =>
 export const draw = (tag, attributes = {}, ...children) =>
   dressed(document.createElementNS("http://www.w3.org/2000/svg", tag), attributes, children);
 
+/** Returns a region that scrolls, with a name. */
+export const wideNode = (name, child) =>
+  make("div", { class: "wide", tabindex: "0", role: "region", "aria-label": name }, child);
+
 const rowHead = (cell) => make("th", { scope: "row" }, cell);
 
 export function tableNode({ caption, heads, rows, foot, marks = [] }) {

@@ -3,7 +3,7 @@
 
 import { command, deskPath, Refusal, shopPath } from "./api.js";
 import { isTable, projectText, readTable, recordsOf, TABLE_FAULTS, TableFault } from "./csv.js";
-import { byId, make, onSubmit, refusalNode, tableNode } from "./dom.js";
+import { byId, make, onSubmit, refusalNode, tableNode, wideNode } from "./dom.js";
 import { takeStarts } from "./handin.js";
 import { remember, shapeOf } from "./names.js";
 import { openPlan, showPlan } from "./plan.js";
@@ -13,12 +13,13 @@ import { page } from "./state.js";
 import { isStarts } from "./starts.js";
 import { counted } from "./words.js";
 
-const importButton = () => byId("import").querySelector("button");
 const LARGEST_FILE = 1048576;
 const CONTEXT = 12;
+const importButton = () => byId("import").querySelector("button");
+const tableRefusal = (fault) => refusalNode(fault.message, "", TABLE_FAULTS);
 
-/** Reads a file as bytes and text; null, with the reason on the page, if that isn't possible. */
-async function contentOf(file) {
+/** Reads a file as bytes; null, with the reason on the page, if that isn't possible. */
+async function bytesOf(file) {
   const isLarge = file.size > LARGEST_FILE;
   const content = isLarge ? null : await file.arrayBuffer().catch(() => null);
   if (content) return new Uint8Array(content);
@@ -31,32 +32,31 @@ async function contentOf(file) {
 export async function takeFile(file) {
   forgetFile();
   byId("import-answer").replaceChildren();
-  const bytes = await contentOf(file);
+  const bytes = await bytesOf(file);
   if (!bytes) return;
+  const { name } = file;
   const text = new TextDecoder().decode(bytes);
-  if (page.plan && !byId("plan").hidden && isStarts(text)) {
-    await takeStarts(new Blob([bytes]));
+  if (page.plan && isStarts(text)) {
+    await takeStarts(file);
     return;
   }
-  const names = instancesOf(text);
-  const isProject = /^\s*PRECEDENCE RELATIONS/m.test(text) || /\.sm$/i.test(file.name);
-  page.file = { name: file.name, bytes, text, table: null, given: {} };
-  if (!isProject && (/\.(csv|tsv)$/i.test(file.name) || isTable(text))) {
-    showTableFile();
-    return;
-  }
-  showFile(isProject ? "project" : "shop", names);
-  if (isProject || names.length < 2) byId("import").requestSubmit();
+  const instances = instancesOf(text);
+  const isProject = /^\s*PRECEDENCE RELATIONS/m.test(text) || /\.sm$/i.test(name);
+  const isList = !isProject && (/\.(csv|tsv)$/i.test(name) || isTable(text));
+  page.file = { name, bytes, text, given: new Map() };
+  showFile(isProject || isList ? "project" : "shop", instances);
+  if (isList) showTableFile();
+  else if (isProject || instances.length < 2) byId("import").requestSubmit();
   else byId("import").elements.instance.focus();
 }
 
-function showFile(kind, names) {
+function showFile(kind, instances) {
   const fields = byId("import").elements;
-  const bytes = page.file.bytes.length.toLocaleString("en");
-  byId("chosen-name").textContent = `${page.file.name}, ${bytes} bytes`;
-  byId("instances").replaceChildren(...names.map((name) => make("option", { value: name })));
+  const { name, bytes } = page.file;
+  byId("chosen-name").textContent = `${name}, ${bytes.length.toLocaleString("en")} bytes`;
+  byId("instances").replaceChildren(...instances.map((value) => make("option", { value })));
   fields.kind.value = kind;
-  fields.instance.value = names[0] ?? "-";
+  fields.instance.value = instances[0] ?? "-";
   byId("chosen").hidden = byId("kinds").hidden = importButton().hidden = false;
   showInstance();
 }
@@ -67,93 +67,84 @@ function showInstance() {
 
 export function forgetFile() {
   page.file = null;
-  byId("chosen").hidden = true;
-  byId("preview").hidden = true;
+  byId("chosen").hidden = byId("preview").hidden = true;
   byId("preview").replaceChildren();
   byId("capacities").replaceChildren();
 }
 
 // -- tables
 
-/** Shows a table, and the project that it becomes, or the error at its cell. */
+/** Shows the table that was taken as the project that it becomes, or its error at its cell. */
 function showTableFile() {
   const { file } = page;
-  showFile("project", []);
   byId("kinds").hidden = true;
   byId("preview").hidden = false;
+  let fault = null;
   try {
     file.table = readTable(file.bytes, file.given);
-    byId("preview").replaceChildren(...projectNodes(file));
-    showCapacities(file, file.table.resources, file.table.capacities);
-    importButton().focus();
-  } catch (fault) {
-    if (!(fault instanceof TableFault)) throw fault;
+  } catch (thrown) {
+    if (!(thrown instanceof TableFault)) throw thrown;
+    fault = thrown;
     file.table = null;
-    importButton().hidden = true;
-    byId("preview").replaceChildren(refusalNode(fault.message, "", TABLE_FAULTS),
-      ...cellNodes(file, fault));
-    if (fault.resources) {
-      showCapacities(file, fault.resources, fault.resources.map((name) => fault.found.get(name)));
-    }
   }
+  const { resources = fault.names ?? [], capacities = fault.capacities ?? [] } = file.table ?? {};
+  importButton().hidden = Boolean(fault);
+  byId("preview").replaceChildren(...(fault
+    ? [tableRefusal(fault), ...cellNodes(file, fault)] : projectNodes(file)));
+  byId("capacities").replaceChildren(...resources.map((name, at) => capacityNode(name, capacities[at])));
+  if (!fault) importButton().focus();
   byId("preview").scrollIntoView({ block: "nearest" });
 }
 
-/** Lets the capacities of resources be entered. */
-function showCapacities(file, resources, capacities) {
-  const fields = resources.map((name, place) => {
-    const value = file.given[name] ?? capacities[place] ?? "";
-    const words = { type: "number", min: 0, max: 10000, value, "data-resource": name };
-    const input = make("input", words);
-    input.addEventListener("change", () => {
-      if (input.value === "" || !input.validity.valid) delete file.given[name];
-      else file.given[name] = input.valueAsNumber;
-      showTableFile();
-    });
-    return make("label", {}, `Capacity of ${name}`, input);
+/** Returns a field for the capacity of a resource. */
+function capacityNode(name, value) {
+  const { given } = page.file;
+  const input = make("input", { type: "number", min: 0, max: 10000, value, "data-resource": name });
+  input.addEventListener("change", () => {
+    if (input.value && input.validity.valid) given.set(name, input.valueAsNumber);
+    else given.delete(name);
+    showTableFile();
   });
-  byId("capacities").replaceChildren(...fields);
+  return make("label", {}, `Capacity of ${name}`, input);
 }
 
 /** Returns the project that a table becomes: its size, and its activities with their numbers. */
-function projectNodes({ name, table }) {
-  const { rows, resources, capacities } = table;
+function projectNodes({ name, table: { rows, resources, capacities } }) {
   const arcs = rows.reduce((sum, { after }) => sum + after.length, 0);
-  const words = `${name} becomes a project of ${counted(rows.length, "activity", "activities")}, `
-    + `with a start and an end around them, ${counted(arcs, "arc")} and `
-    + `${counted(resources.length, "resource")}. Look at it, then import it.`;
-  const caps = resources.map((resource, place) => `${resource} ${capacities[place]}`).join(", ");
+  const caps = resources.map((resource, at) => `${resource} ${capacities[at]}`).join(", ");
   return [
-    make("p", { role: "status" }, words),
-    make("div", { class: "wide", tabindex: "0", role: "region", "aria-label": "The project" },
-      tableNode({
-        caption: caps ? `Capacities: ${caps}` : "No resources",
-        heads: ["number", "id", "name", "duration", "predecessors", ...resources],
-        rows: rows.map((row, at) => [`${at + 2}`, row.id, row.name, `${row.duration}`,
-          row.after.map((before) => before + 2).join(" "), ...row.needs.map(String)]),
-      })),
+    make("p", { role: "status" }, `${name} becomes a project of `
+      + `${counted(rows.length, "activity", "activities")}, with a start and an end around them, `
+      + `${counted(arcs, "arc")} and ${counted(resources.length, "resource")}. Look at it, then import `
+      + "it."),
+    wideNode("The project", tableNode({
+      caption: caps ? `Capacities: ${caps}` : "No resources",
+      heads: ["number", "id", "name", "duration", "predecessors", ...resources],
+      rows: rows.map((row, at) => [`${at + 2}`, row.id, row.name, `${row.duration}`,
+        row.after.map((place) => place + 2).join(" "), ...row.needs.map(String)]),
+    })),
   ];
 }
 
 /** Returns the rows of a table around the one of an error, whose cell is marked. */
-function cellNodes({ name, bytes, text }, { line, column }) {
+function cellNodes({ name, text }, { line, column }) {
   let records = [];
   try {
     records = recordsOf(text.replace(/^\ufeff/, ""));
   } catch {
-    // a quote isn't closed
+    return textNodes(name, text, line);
   }
-  if (!line || !records.length) return textNodes(name, text, line);
-  const at = records.findIndex((record) => record.line === line);
-  const near = records.slice(Math.max(0, at - CONTEXT), at + CONTEXT + 1);
-  const rows = near.map((record) => make("tr", { class: record.line === line && "marked" },
-    make("th", { scope: "row", class: "number" }, `${record.line}`),
-    ...record.cells.map((cell, place) => make("td", {
-      class: record.line === line && place === column && "wrong",
-    }, cell))));
-  return [make("div", { class: "wide", tabindex: "0", role: "region", "aria-label": "The table" },
-    make("table", { class: "cells" },
-      make("caption", {}, `Line ${line} of ${name}`), make("tbody", {}, ...rows)))];
+  const at = Math.max(0, records.findIndex((record) => record.line === line));
+  const rows = records.slice(Math.max(0, at - CONTEXT), at + CONTEXT + 1).map((record) => {
+    const isMarked = record.line === line;
+    const cells = record.cells.map((cell, place) =>
+      make("td", { class: isMarked && place === column && "wrong" }, cell));
+    return make("tr", { class: isMarked && "marked" },
+      make("th", { scope: "row", class: "number" }, `${record.line}`), ...cells);
+  });
+  const caption = line ? `Line ${line} of ${name}` : name;
+  return [wideNode("The table", make("table", { class: "cells" }, make("caption", {}, caption),
+    make("tbody", {}, ...rows)))];
 }
 
 // -- sending
@@ -169,17 +160,15 @@ async function importFile(fields) {
       + "Rename the instance in the file.");
   }
   const text = file.table ? projectText(file.table) : file.text;
-  const body = new Blob([file.table ? text : file.bytes]);
   let made;
   try {
-    made = await command(path, "POST", body);
+    made = await command(path, "POST", new Blob([file.table ? text : file.bytes]));
   } catch (fault) {
     if (fault instanceof Refusal) fault.more = placeInText(file.name, fault.message, text);
     throw fault;
   } finally {
     byId("import-answer").scrollIntoView({ block: "nearest" });
   }
-  file.plan = made.n;
   noteFile(made.n, isProject, file.name, text, instance);
   page.plans = [...page.plans.filter(({ n }) => n !== made.n), made];
   showPlans();
@@ -188,24 +177,16 @@ async function importFile(fields) {
   return `${file.name} is plan ${made.n}.`;
 }
 
-const plainName = (name) => name.replace(/\.[^.]*$/, "");
-
-/** Keeps the model of a project in memory, and remembers the names in a file. */
+/** Keeps the model of a project in memory, and remembers the title and the names in a file. */
 function noteFile(n, isProject, name, text, instance) {
-  if (isProject) {
-    const project = readProject(text);
-    if (!project) return;
-    page.projects.set(n, project);
-    remember(n, {
-      title: project.title ?? plainName(name), shape: shapeOf(project.durations.map((d) => ({ d }))),
-      names: Object.fromEntries(project.names), resources: Object.fromEntries(project.resources),
-    });
-    return;
-  }
-  const shop = readShop(text, instance);
+  const found = isProject ? readProject(text) : readShop(text, instance);
+  if (!found) return;
+  const plain = !isProject && instance !== "-" ? instance : name.replace(/\.[^.]*$/, "");
+  if (isProject) page.projects.set(n, found);
   remember(n, {
-    title: shop.title ?? (instance === "-" ? plainName(name) : instance), shape: undefined,
-    names: Object.fromEntries(shop.jobs), resources: Object.fromEntries(shop.machines),
+    title: found.title ?? plain,
+    shape: isProject ? shapeOf(found.durations.map((d) => ({ d }))) : undefined,
+    names: Object.fromEntries(found.names), resources: Object.fromEntries(found.resources),
   });
 }
 
@@ -213,38 +194,36 @@ function noteFile(n, isProject, name, text, instance) {
 export async function takeNames(file) {
   const { plan } = page;
   const place = byId("names-answer");
-  const bytes = await contentOf(file);
+  const bytes = await bytesOf(file);
   if (!bytes) return;
   let text = new TextDecoder().decode(bytes);
   try {
     if (isTable(text)) text = projectText(readTable(bytes));
   } catch (fault) {
     if (!(fault instanceof TableFault)) throw fault;
-    place.replaceChildren(refusalNode(fault.message, "", TABLE_FAULTS));
+    place.replaceChildren(tableRefusal(fault));
     return;
   }
-  const [table] = plan.schedules.values();
-  const instance = instanceIn(text, plan.kind, table);
+  const instance = instanceIn(text, plan);
   if (instance === undefined) {
-    place.replaceChildren(refusalNode(`${file.name} isn't the file of plan ${plan.n}: `
-      + "its durations differ."));
+    place.replaceChildren(
+      refusalNode(`${file.name} isn't the file of plan ${plan.n}: its durations differ.`));
     return;
   }
   noteFile(plan.n, plan.kind === "project", file.name, text, instance);
-  place.replaceChildren(make("p", { role: "status" },
-    `${file.name} is the file of plan ${plan.n}.`));
+  place.replaceChildren(make("p", { role: "status" }, `${file.name} is the file of plan ${plan.n}.`));
   showPlan();
 }
 
-/** Returns the instance of a text that has the rows of a table, - for a project or a file without
- * names; undefined if there is none. */
-function instanceIn(text, kind, { rows }) {
+/** Returns the instance of a text that is a plan's, - for a project or a file without names;
+ * undefined if there is none. */
+function instanceIn(text, { kind, schedules }) {
+  const [{ rows }] = schedules.values();
   if (kind === "shop") {
     const wanted = rows.map(({ mach, d }) => `${mach}:${d}`).join();
     return [...instancesOf(text), "-"].find((name) => stepsOf(text, name).join() === wanted);
   }
-  const durations = readProject(text)?.durations ?? [];
-  return durations.join() === rows.map(({ d }) => d).join() ? "-" : undefined;
+  return readProject(text)?.durations.join() === rows.map(({ d }) => d).join() ? "-" : undefined;
 }
 
 /** Returns the lines of a text around the one that an error names, which is marked. */
@@ -254,18 +233,15 @@ function placeInText(name, words, text) {
 }
 
 function textNodes(name, text, at) {
-  const lines = text.split("\n");
   const first = Math.max(1, at - CONTEXT);
-  const shown = lines.slice(first - 1, at + CONTEXT).map((line, index) => {
+  const shown = text.split("\n").slice(first - 1, at + CONTEXT).map((line, index) => {
     const isMarked = first + index === at;
-    const number = make("td", { class: "number" }, String(first + index));
-    const content = make("td", {}, line.replaceAll("\0", "\u2400"));
     return make("tr", { class: isMarked && "marked", "aria-current": isMarked && "true" },
-      number, content);
+      make("td", { class: "number" }, `${first + index}`),
+      make("td", {}, line.replaceAll("\0", "\u2400")));
   });
   const caption = make("caption", {}, at ? `Line ${at} of ${name}` : `${name} as a whole`);
-  return [make("div", { class: "wide", tabindex: "0", role: "region", "aria-label": "The file" },
-    make("table", { class: "text" }, caption, make("tbody", {}, ...shown)))];
+  return [wideNode("The file", make("table", { class: "text" }, caption, make("tbody", {}, ...shown)))];
 }
 
 export function letImport() {

@@ -4,7 +4,7 @@
 const TITLES = [
   "PROJECT INFORMATION", "PRECEDENCE RELATIONS", "REQUESTS/DURATIONS", "RESOURCEAVAILABILITIES",
 ];
-const KEYS = ["projects", "jobs", "- renewable", "- nonrenewable", "- doubly constrained"];
+const HEAD = /^(projects|jobs|-|RESOURCES|horizon|initial)/;
 
 /** Returns the trimmed lines that aren't empty and don't consist of stars and hyphens alone. */
 const keptLines = (text) =>
@@ -43,20 +43,15 @@ export function namesOf(text) {
   return { names, resources };
 }
 
-/** Returns the title of a project file: its first line before the keys, or what PSPLIB calls the
- * base; null if there is none. */
+/** Returns the title of a project file: the base that PSPLIB names, or its first line if that isn't
+ * one of the head; undefined if there is none. */
 export function titleIn(text) {
-  const head = [];
-  for (const line of keptLines(text)) {
-    if (titleOf(line)) break;
-    head.push(line);
+  const [first = "", ...lines] = keptLines(text);
+  if (/^file with basedata\b/.test(first)) {
+    const words = first.slice(first.indexOf(":") + 1).trim();
+    return words === "plan import" ? undefined : words;
   }
-  const isKey = (line) => KEYS.some((key) => line.startsWith(key));
-  const base = head.find((line) => /^file with basedata\b/.test(line));
-  const words = base?.split(":").slice(1).join(":").trim();
-  if (base) return words === "plan import" ? null : words || null;
-  const first = head[0];
-  return first && !isKey(first) && !/^(RESOURCES|horizon|initial)/.test(first) ? first : null;
+  return lines.length && !HEAD.test(first) && !titleOf(first) ? first : undefined;
 }
 
 /** Returns the number behind a key of the head. */
@@ -102,18 +97,17 @@ function blockOf(text, instance) {
   return lines.slice(at + 1, end < 0 ? lines.length : end);
 }
 
-/** Returns the names of machines and jobs that a job shop file gives, and its description. */
+/** Returns the names of jobs and machines that a job shop file gives, and its description. */
 export function readShop(text, instance) {
   const lines = blockOf(text, instance);
-  const machines = new Map(), jobs = new Map();
+  const names = new Map(), resources = new Map();
   for (const line of lines) {
     const [, kind, number, name] = line.match(/^\+\s*(machine|job)\s+(\d{1,9})\s+(.+)$/) ?? [];
-    const place = kind === "machine" ? machines : jobs;
-    if (kind && !place.has(Number(number))) place.set(Number(number), name.trim());
+    const place = kind === "job" ? names : resources;
+    if (kind && !place.has(Number(number))) place.set(Number(number), name);
   }
   const first = lines.find((line) => line && !line.startsWith("+"));
-  const isBare = instance === "-" || /^[\d\s]*$/.test(first ?? "");
-  return { machines, jobs, title: isBare ? null : first };
+  return { names, resources, title: instance === "-" ? undefined : first };
 }
 
 /** Returns the machine and the time of each step of an instance, in order, as "0:3". */

@@ -432,8 +432,8 @@ def try_projects(modules, draw):
             " instance b\n+ machine 0 saw\nsecond\n1 1\n0 3\n")
     found = modules.values([["project", "readShop", [shop, name]] for name in ("a", "b")])
     same("the names of a shop", found, [
-        {"machines": [[0, "press"]], "jobs": [[1, "order 7"]], "title": "first"},
-        {"machines": [[0, "saw"]], "jobs": [], "title": "second"},
+        {"names": [[1, "order 7"]], "resources": [[0, "press"]], "title": "first"},
+        {"names": [], "resources": [[0, "saw"]], "title": "second"},
     ])
     steps = modules.values([["project", "stepsOf", [shop, name]] for name in ("a", "b")])
     same("the steps of a shop", steps, [["0:1", "1:2"], ["0:3"]])
