@@ -2,7 +2,7 @@
 // values that this browser set, because the office has no route that returns them.
 
 import { command, planPath } from "./api.js";
-import { byId, onSubmit } from "./dom.js";
+import { byId, fill, onSubmit } from "./dom.js";
 import { recordOf, rememberChange } from "./names.js";
 import { leavePlan, openPlan } from "./plan.js";
 import { dropPlan, showPlans } from "./plans.js";
@@ -91,7 +91,7 @@ export function showChanges(plan) {
   byId("place-word").textContent = word;
   const named = Object.entries(resources).map(([place, name]) =>
     make("option", { value: place }, `${name}`));
-  byId("places").replaceChildren(...named);
+  fill("places", ...named);
   fields.code.replaceChildren(...codes.map(({ code, capacity }) =>
     make("option", { value: code }, `${code} (${capacity})`)));
   byId("bind-set").textContent =

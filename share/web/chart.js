@@ -1,7 +1,7 @@
 // The Gantt chart of a view and the use of its resources, as SVG: for the screen with bars that tell
 // their words, and for paper.
 
-import { byId, draw, make } from "./dom.js";
+import { byId, draw, fill, make } from "./dom.js";
 import {
   freeDays, heightOfRows, labelFor, marksOn, placeOfDate, scaleOf, shortened, widthOf,
 } from "./layout.js";
@@ -12,102 +12,85 @@ const AXIS = 22;
 const RIGHT = 26;
 const USE = 56;
 
-function roomForNames(view, width) {
-  const longest = Math.max(...[...view.lineNames.values()].map((name) => widthOf(name)));
-  const least = view.plan.kind === "project" && view.plan.model ? 84 : 44;
+const lineNode = (name, x1, y1, x2, y2) => draw("line", { class: name, x1, y1, x2, y2 });
+const textNode = (name, x, y, ...words) => draw("text", { class: name, x, y }, ...words);
+const titleNode = (words) => draw("title", {}, words);
+
+function roomForNames({ lineNames, plan }, width) {
+  const longest = Math.max(...[...lineNames.values()].map(widthOf));
+  const least = plan.kind === "project" && plan.model ? 84 : 44;
   return Math.max(least, Math.min(longest + 16, width * 0.28, 240));
 }
 
-/** Returns the lines of an axis behind the bars: its marks, and free days as bands. */
+/** Returns what is behind the bars: free days as bands, the lines of the axis, and today's line. */
 function behindNodes(scale, height) {
   const { x, unit } = scale;
-  return [
+  const now = new Date();
+  const date = new Date(now - now.getTimezoneOffset() * 60000).toISOString().slice(0, 10);
+  const today = placeOfDate(scale, date);
+  const nodes = [
     ...freeDays(scale).map(({ place, days }) =>
       draw("rect", { class: "free", x: x(place), y: 0, width: days * unit, height })),
-    ...marksOn(scale).map(({ place }) =>
-      draw("line", { class: "grid", x1: x(place), x2: x(place), y1: 0, y2: height })),
+    ...marksOn(scale).map(({ place }) => lineNode("grid", x(place), 0, x(place), height)),
   ];
+  if (today === null) return nodes;
+  const line = lineNode("today", x(today), 0, x(today), height);
+  line.append(titleNode(`today, ${date}`));
+  return [...nodes, line];
 }
 
-function todayNode(scale, height) {
-  const now = new Date();
-  const local = new Date(now - now.getTimezoneOffset() * 60000).toISOString().slice(0, 10);
-  const place = placeOfDate(scale, local);
-  if (place === null) return [];
-  const at = scale.x(place);
-  return [draw("line", { class: "today", x1: at, x2: at, y1: 0, y2: height },
-    draw("title", {}, `today, ${local}`))];
-}
+const axisSvg = (scale, width) =>
+  draw("svg", { class: "axis", viewBox: `0 0 ${width} ${AXIS}`, "aria-hidden": "true" },
+    ...marksOn(scale).filter(({ words }) => words)
+      .map(({ place, words }) => textNode("time", scale.x(place), 15, words)));
 
-function axisSvg(scale, width) {
-  const labels = marksOn(scale).filter(({ words }) => words).map(({ place, words }) =>
-    draw("text", { class: "time", x: scale.x(place), y: 15, "data-place": place }, words));
-  const words = { class: "axis", viewBox: `0 0 ${width} ${AXIS}`, "aria-hidden": "true" };
-  return draw("svg", words, ...labels);
-}
-
+/** Returns the shape of a bar; an interval that takes no time is a diamond. */
 function shapeNode(x, y, width, height) {
-  const half = height / 2;
-  if (!width) {
-    const size = Math.min(5, half);
-    return draw("path", { d: `M${x} ${y + half - size}l${size} ${size}l${-size} ${size}`
-      + `l${-size} ${-size}z` });
-  }
-  return draw("rect", { x, y, width, height, rx: 2 });
-}
-
-/** Returns a bar with its label, inside or behind it, if there is room. */
-function barNode(view, bar, y, height, scale) {
-  const x = scale.startOf(bar.start, bar.end);
-  const end = bar.start < bar.end ? scale.endOf(bar.end) : x;
-  const width = end - x;
-  const inside = height >= 9 ? labelFor(bar.labels, width) : "";
-  const room = scale.right + RIGHT - end - 8;
-  const behind = !inside && bar.isAlone ? labelFor(bar.labels, room) : "";
-  const words = inside || behind;
-  const place = { x: inside ? x + 4 : end + 7, y: y + height / 2, class: behind && "behind" };
-  return draw("g", {
-    class: `bar ${bar.colour}${bar.isCritical ? " critical" : ""}`, "data-index": bar.index,
-    "data-line": bar.line, "data-start": bar.start, "data-end": bar.end,
-  }, draw("title", {}, bar.words), shapeNode(x, y, width, height),
-  ...(words ? [draw("text", place, words)] : []));
-}
-
-/** Returns the names of the lines, and a thread along each. */
-function lineNodes(view, lines, row, scale) {
-  return lines.flatMap((line, index) => {
-    const y = row * index;
-    const name = view.lineNames.get(line);
-    const { left, right } = scale;
-    return [
-      draw("line", { class: "thread", x1: left, x2: right, y1: y + row, y2: y + row }),
-      draw("text", { class: "name", x: 4, y: y + row / 2 },
-        draw("title", {}, name), shortened(name, left - 12)),
-    ];
+  if (width) return draw("rect", { x, y, width, height, rx: 2 });
+  const size = Math.min(5, height / 2);
+  return draw("path", {
+    d: `M${x} ${y + height / 2 - size}l${size} ${size}l${-size} ${size}l${-size} ${-size}z`,
   });
 }
 
+/** Returns a bar with its label, inside or behind it, if there is room. */
+function barNode(bar, y, height, scale) {
+  const x = scale.startOf(bar.start, bar.end);
+  const end = bar.start < bar.end ? scale.endOf(bar.end) : x;
+  const inside = height < 9 ? "" : labelFor(bar.labels, end - x);
+  const behind = inside || !bar.isAlone ? "" : labelFor(bar.labels, scale.right + RIGHT - end - 8);
+  return draw("g", {
+    class: `bar ${bar.colour}${bar.isCritical ? " critical" : ""}`, "data-index": bar.index,
+    "data-line": bar.line, "data-start": bar.start, "data-end": bar.end,
+  }, titleNode(bar.words), shapeNode(x, y, end - x, height),
+  ...(inside ? [textNode("", x + 4, y + height / 2, inside)] : []),
+  ...(behind ? [textNode("behind", end + 7, y + height / 2, behind)] : []));
+}
+
+/** Returns a chart of some lines of a view: its axis, its body, and how it was drawn. */
 export function chartOf(view, width, lines, row) {
   const scale = scaleOf(view.calendar, view.total, roomForNames(view, width), width - RIGHT);
-  const height = row * lines.length + 3;
+  const { left, right } = scale;
+  const height = row * lines.length + 3, gap = row > 16 ? 3 : 1.5;
   const places = new Map(lines.map((line, index) => [line, index]));
   const bars = view.bars.filter(({ line }) => places.has(line));
-  const size = { viewBox: `0 0 ${width} ${height}`, class: `rows${row}` };
-  const gap = row > 16 ? 3 : 1.5;
-  const body = draw("svg", size, ...behindNodes(scale, height),
-    ...lineNodes(view, lines, row, scale), ...todayNode(scale, height), draw("g", { class: "arcs" }),
-    ...bars.map((bar) => barNode(view, bar, row * places.get(bar.line) + gap, row - 2 * gap, scale)));
+  const names = lines.flatMap((line, index) => {
+    const name = view.lineNames.get(line);
+    return [lineNode("thread", left, row * (index + 1), right, row * (index + 1)),
+      textNode("name", 4, row * (index + 0.5), titleNode(name), shortened(name, left - 12))];
+  });
+  const body = draw("svg", { viewBox: `0 0 ${width} ${height}`, class: `rows${row}` },
+    ...behindNodes(scale, height), ...names, draw("g", { class: "arcs" }),
+    ...bars.map((bar) => barNode(bar, row * places.get(bar.line) + gap, row - 2 * gap, scale)));
   return { axis: axisSvg(scale, width), body, scale, bars, places, row };
 }
 
-export const legendNodes = (view) => legendOf(view).map(([classes, words]) => make("li", {},
-  ...(classes ? [draw("svg", { viewBox: "0 0 20 12", "aria-hidden": "true" },
-    draw("g", { class: classes }, draw("rect", { x: 1, y: 1, width: 18, height: 10, rx: 2 })))] : []),
-  ` ${words}`));
+export const legendNodes = (view) => legendOf(view).map(([name, words]) => make("li", {},
+  ...(name ? [draw("svg", { viewBox: "0 0 20 12", "aria-hidden": "true" },
+    draw("g", { class: name }, shapeNode(1, 1, 18, 10)))] : []), ` ${words}`));
 
-export function captionOf(view) {
-  const { plan } = view;
-  const unit = view.calendar ? "weeks begin on Monday, free days are shaded" : "working time from 0";
+export function captionOf({ plan, calendar }) {
+  const unit = calendar ? "weeks begin on Monday, free days are shaded" : "working time from 0";
   return `${plan.kind === "project" ? "Activities" : "Steps"} by ${nameOf(plan, plan.drawn)}; ${unit}`;
 }
 
@@ -154,50 +137,46 @@ function letTell(view, chart) {
   return tell;
 }
 
+/** Returns the use of one resource against its capacity, as steps. */
 function useSvg(steps, resource, capacity, name, scale, width, total) {
+  const { left, right } = scale;
   const top = Math.max(1, capacity, ...steps.map(({ used }) => used[resource]));
   const y = (amount) => USE - 4 - (amount * (USE - 12)) / top;
-  const blocks = steps.map(({ time, used }, index) => {
+  const blocks = steps.flatMap(({ time, used: { [resource]: amount } }, index) => {
     const end = steps[index + 1]?.time ?? total;
-    const amount = used[resource];
-    if (!amount || end <= time) return null;
+    if (!amount || end <= time) return [];
     const x = scale.startOf(time, end);
-    return draw("rect", { class: amount > capacity ? "over" : "used", x, y: y(amount),
+    return [draw("rect", { class: amount > capacity ? "over" : "used", x, y: y(amount),
       width: scale.endOf(end) - x, height: y(0) - y(amount), "data-used": amount, "data-time": time,
-    }, draw("title", {}, `${name}: ${amount} of ${capacity} from ${time} to ${end}`));
+    }, titleNode(`${name}: ${amount} of ${capacity} from ${time} to ${end}`))];
   });
-  const words = { viewBox: `0 0 ${width} ${USE}`, role: "img",
-    "aria-label": `Use of ${name}, capacity ${capacity}` };
-  return draw("svg", words,
-    draw("text", { class: "name", x: 4, y: 16 }, shortened(name, scale.left - 12)),
-    draw("text", { class: "time", x: 4, y: 32 }, `of ${capacity}`),
-    draw("line", { class: "thread", x1: scale.left, x2: scale.right, y1: y(0), y2: y(0) }),
-    ...blocks.filter(Boolean),
-    draw("line", { class: "most", x1: scale.left, x2: scale.right, y1: y(capacity),
-      y2: y(capacity) }));
+  return draw("svg", { viewBox: `0 0 ${width} ${USE}`, role: "img",
+    "aria-label": `Use of ${name}, capacity ${capacity}` },
+  textNode("name", 4, 16, shortened(name, left - 12)), textNode("time", 4, 32, `of ${capacity}`),
+  lineNode("thread", left, y(0), right, y(0)), ...blocks,
+  lineNode("most", left, y(capacity), right, y(capacity)));
 }
 
 export function useNodes(view, scale, width) {
-  const { plan, starts } = view;
-  if (plan.kind !== "project" || !plan.model) return [];
+  const { plan: { kind, model, ...plan }, starts, total } = view;
+  if (kind !== "project" || !model) return [];
   const { resources } = namesIn(plan);
-  const steps = useOf(plan.model, starts);
-  return plan.model.capacities.map((capacity, place) => useSvg(steps, place, capacity,
-    resources[place + 1] ?? `resource ${place + 1}`, scale, width, view.total));
+  const steps = useOf(model, starts);
+  return model.capacities.map((capacity, at) => useSvg(steps, at, capacity,
+    resources[at + 1] ?? `resource ${at + 1}`, scale, width, total));
 }
 
 /** Draws a view as wide as there is room. */
 export function showChart(view) {
   const width = Math.max(280, byId("drawing").clientWidth || 320);
   const chart = chartOf(view, width, view.lines, heightOfRows(view.lines.length));
-  const words = { tabindex: "0", role: "application",
-    "aria-label": "Chart; arrow keys go from bar to bar" };
-  for (const [name, value] of Object.entries(words)) chart.body.setAttribute(name, value);
+  Object.assign(chart.body, { tabIndex: 0, role: "application",
+    ariaLabel: "Chart; arrow keys go from bar to bar" });
   byId("caption").textContent = captionOf(view);
   byId("told").textContent = "Point at a bar, or go from bar to bar by the arrow keys.";
-  byId("drawing").replaceChildren(chart.axis, chart.body);
-  byId("legend").replaceChildren(...legendNodes(view));
-  byId("use").replaceChildren(...useNodes(view, chart.scale, width));
+  fill("drawing", chart.axis, chart.body);
+  fill("legend", ...legendNodes(view));
+  fill("use", ...useNodes(view, chart.scale, width));
   const tell = letTell(view, chart);
   return (index) => tell(chart.bars.findIndex((bar) => bar.index === index));
 }

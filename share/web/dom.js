@@ -5,6 +5,7 @@ import { Lost, Refusal } from "./api.js";
 import { FAULTS } from "./faults.js";
 
 export const byId = (name) => document.getElementById(name);
+export const fill = (name, ...nodes) => byId(name).replaceChildren(...nodes);
 
 function dressed(node, attributes, children) {
   for (const [name, value] of Object.entries(attributes)) {

@@ -3,7 +3,7 @@
 
 import { command, deskPath, Refusal, shopPath } from "./api.js";
 import { isTable, projectText, readTable, recordsOf, TABLE_FAULTS, TableFault } from "./csv.js";
-import { byId, make, onSubmit, refusalNode, tableNode, wideNode } from "./dom.js";
+import { byId, fill, make, onSubmit, refusalNode, tableNode, wideNode } from "./dom.js";
 import { takeStarts } from "./handin.js";
 import { remember, shapeOf } from "./names.js";
 import { openPlan, showPlan } from "./plan.js";
@@ -24,14 +24,14 @@ async function bytesOf(file) {
   const content = isLarge ? null : await file.arrayBuffer().catch(() => null);
   if (content) return new Uint8Array(content);
   const words = isLarge ? "H2 too large: at most 1,048,576 bytes are taken" : "it can't be read";
-  byId("import-answer").replaceChildren(refusalNode(`${file.name} was not sent. ${words}.`));
+  fill("import-answer", refusalNode(`${file.name} was not sent. ${words}.`));
   return null;
 }
 
 /** Takes a file that was dropped or chosen, and sends it at once if it is plain what it is. */
 export async function takeFile(file) {
   forgetFile();
-  byId("import-answer").replaceChildren();
+  fill("import-answer");
   const bytes = await bytesOf(file);
   if (!bytes) return;
   const { name } = file;
@@ -54,7 +54,7 @@ function showFile(kind, instances) {
   const fields = byId("import").elements;
   const { name, bytes } = page.file;
   byId("chosen-name").textContent = `${name}, ${bytes.length.toLocaleString("en")} bytes`;
-  byId("instances").replaceChildren(...instances.map((value) => make("option", { value })));
+  fill("instances", ...instances.map((value) => make("option", { value })));
   fields.kind.value = kind;
   fields.instance.value = instances[0] ?? "-";
   byId("chosen").hidden = byId("kinds").hidden = importButton().hidden = false;
@@ -68,8 +68,8 @@ function showInstance() {
 export function forgetFile() {
   page.file = null;
   byId("chosen").hidden = byId("preview").hidden = true;
-  byId("preview").replaceChildren();
-  byId("capacities").replaceChildren();
+  fill("preview");
+  fill("capacities");
 }
 
 // -- tables
@@ -89,9 +89,9 @@ function showTableFile() {
   }
   const { resources = fault.names ?? [], capacities = fault.capacities ?? [] } = file.table ?? {};
   importButton().hidden = Boolean(fault);
-  byId("preview").replaceChildren(...(fault
+  fill("preview", ...(fault
     ? [tableRefusal(fault), ...cellNodes(file, fault)] : projectNodes(file)));
-  byId("capacities").replaceChildren(...resources.map((name, at) => capacityNode(name, capacities[at])));
+  fill("capacities", ...resources.map((name, at) => capacityNode(name, capacities[at])));
   if (!fault) importButton().focus();
   byId("preview").scrollIntoView({ block: "nearest" });
 }

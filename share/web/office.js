@@ -1,7 +1,7 @@
 // The office: publishes capacities, opens desks and replaces their keys.
 
 import { ask, command, orRefusal } from "./api.js";
-import { byId, onSubmit } from "./dom.js";
+import { fill, onSubmit } from "./dom.js";
 import { codesTable } from "./plans.js";
 import { page } from "./state.js";
 
@@ -22,7 +22,7 @@ async function publish(fields) {
 
 export function showPublished() {
   const codes = [...page.published.values()];
-  byId("published").replaceChildren(codesTable(codes, "Nothing was published here yet."));
+  fill("published", codesTable(codes, "Nothing was published here yet."));
 }
 
 async function openDesk(fields) {

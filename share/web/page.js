@@ -3,7 +3,7 @@
 
 import { listenTo, Refusal } from "./api.js";
 import { letChange } from "./changes.js";
-import { byId, during, letChoose, letTake, make, onSubmit } from "./dom.js";
+import { byId, during, fill, letChoose, letTake, make, onSubmit } from "./dom.js";
 import { letHandIn } from "./handin.js";
 import { forgetFile, letImport, takeFile, takeNames } from "./import.js";
 import { askAgain, noteAnswered, noteLost } from "./lost.js";
@@ -104,7 +104,7 @@ function letFit() {
 function letHelp() {
   const terms = glossary().flatMap(([term, meaning]) =>
     [make("dt", {}, term), make("dd", {}, meaning)]);
-  byId("terms").replaceChildren(...terms);
+  fill("terms", ...terms);
   byId("help-button").addEventListener("click", () => byId("help").showModal());
   byId("remember").checked = isRemembering();
   byId("remember").addEventListener("change", ({ target }) => setRemembering(target.checked));

@@ -2,7 +2,7 @@
 // then the table of the schedule.
 
 import { captionOf, chartOf, legendNodes, useNodes } from "./chart.js";
-import { byId, make } from "./dom.js";
+import { fill, make } from "./dom.js";
 import { pagesOf } from "./layout.js";
 import { paperTable } from "./table.js";
 import { nameOf, namesIn } from "./view.js";
@@ -33,8 +33,8 @@ export function fillPaper(view) {
       make("div", { class: "uses" }, ...uses.slice(0, 4)),
       make("p", { class: "hint" }, captionOf(view)));
   });
-  byId("paper").replaceChildren(...charts, make("section", { class: "sheet rows" },
+  fill("paper", ...charts, make("section", { class: "sheet rows" },
     paperTable(view, `${namesIn(view.plan).title || `Plan ${view.plan.n}`}: ${captionOf(view)}`)));
 }
 
-export const clearPaper = () => byId("paper").replaceChildren();
+export const clearPaper = () => fill("paper");

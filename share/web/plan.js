@@ -3,7 +3,7 @@
 import { ask, askTable, planPath, Refusal, tableOf } from "./api.js";
 import { showChanges } from "./changes.js";
 import { showChart } from "./chart.js";
-import { byId, faultNodes, make, onSubmit, tableNode } from "./dom.js";
+import { byId, faultNodes, fill, make, onSubmit, tableNode } from "./dom.js";
 import { showHandIn } from "./handin.js";
 import { settleCalendar, settleModel } from "./model.js";
 import { recordOf, remember, shapeOf } from "./names.js";
@@ -15,7 +15,6 @@ import { nameOf, namesIn, viewOf } from "./view.js";
 import { COLUMN_WORDS, RULE_WORDS } from "./words.js";
 
 let view = null;
-let tell = () => {};
 
 export const viewNow = () => view;
 
@@ -24,10 +23,7 @@ export async function openPlan(n) {
   const { kind } = page.plans.find((plan) => plan.n === n);
   const isNew = page.plan?.n !== n;
   const drawn = !isNew && RULES[kind].includes(page.plan.drawn) ? page.plan.drawn : RULES[kind][0];
-  const plan = {
-    n, kind, drawn, dates: null, fault: null, schedules: new Map(), days: new Map(),
-    model: null, calendar: null, note: "",
-  };
+  const plan = { n, kind, drawn, schedules: new Map(), days: new Map() };
   page.plan = plan;
   markOpen();
   awaitPlan(isNew);
@@ -36,7 +32,7 @@ export async function openPlan(n) {
     await askSchedules(plan);
     if (page.plan === plan) showPlan();
   } catch (fault) {
-    if (page.plan === plan) byId("plan-answer").replaceChildren(...faultNodes(fault));
+    if (page.plan === plan) fill("plan-answer", ...faultNodes(fault));
   }
   if (page.plan === plan) byId("plan").removeAttribute("aria-busy");
 }
@@ -60,29 +56,26 @@ async function askSchedules(plan) {
   }
 }
 
+const headOf = ({ n, kind }) => `Plan ${n}, a ${WORDS_OF_KIND[kind]}`;
+
 /** Shows that the pages of a plan are awaited, and removes notices of another plan. */
 function awaitPlan(isNew) {
-  const { n, kind } = page.plan;
-  byId("plan-head").textContent = `Plan ${n}, a ${WORDS_OF_KIND[kind]}`;
-  byId("plan-answer").replaceChildren(make("p", { role: "status" }, "Asking the office …"));
+  view = null;
+  byId("plan-head").textContent = headOf(page.plan);
+  fill("plan-answer", make("p", { role: "status" }, "Asking the office …"));
   byId("plan-body").hidden = true;
   byId("plan").hidden = false;
   byId("plan").setAttribute("aria-busy", "true");
-  byId("best-answer").replaceChildren();
+  fill("best-answer");
   if (!isNew) return;
-  for (const place of document.querySelectorAll("#changes .answer, #handin .answer")) {
-    place.replaceChildren();
-  }
-  byId("news").textContent = "";
-  if (page.file?.plan !== n) byId("import-answer").replaceChildren();
-  byId("plans-answer").replaceChildren();
+  const notices = "#changes .answer, #handin .answer, #import-answer, #plans-answer, #names-answer, #news";
+  for (const place of document.querySelectorAll(notices)) place.replaceChildren();
   byId("tab-table").click();
   byId("plan-head").focus();
 }
 
 export function leavePlan() {
-  page.plan = null;
-  view = null;
+  page.plan = view = null;
   byId("plan").hidden = true;
   clearPaper();
   markOpen();
@@ -91,35 +84,36 @@ export function leavePlan() {
 export function showPlan() {
   const { plan } = page;
   const faults = [plan.fault, plan.dates].filter((part) => part instanceof Refusal);
-  byId("plan-answer").replaceChildren(...faults.flatMap(faultNodes));
+  fill("plan-answer", ...faults.flatMap(faultNodes));
   byId("plan-body").hidden = false;
-  const isDrawn = plan.schedules.size > 0;
-  for (const part of byId("plan").querySelectorAll(".drawn")) part.hidden = !isDrawn;
+  const [table] = plan.schedules.values();
+  for (const part of byId("plan").querySelectorAll(".drawn")) part.hidden = !table;
   settleModel(plan);
   settleCalendar(plan);
-  const [table] = plan.schedules.values();
-  if (table) noteMakespan(plan.n, table.total);
-  const record = recordOf(plan.n);
-  if (table && record.names && !record.shape) remember(plan.n, { shape: shapeOf(table.rows) });
-  const { title } = namesIn(plan);
-  const words = `Plan ${plan.n}, a ${WORDS_OF_KIND[plan.kind]}`;
-  byId("plan-head").textContent = title ? `${words}: ${title}` : words;
+  if (table) {
+    const { names, shape } = recordOf(plan.n);
+    noteMakespan(plan.n, table.total);
+    if (names && !shape) remember(plan.n, { shape: shapeOf(table.rows) });
+  }
   showPlans();
-  showForms(plan);
+  showParts(plan);
   showChanges(plan);
   showDates(plan.dates);
-  if (isDrawn) showSchedules();
+  if (table) showSchedules();
   else showHandIn(null);
 }
 
-function showForms({ kind, model, note }) {
+/** Shows the title, and the parts of the page that the plan has. */
+function showParts(plan) {
+  const { kind, model, note } = plan;
+  const { title, names } = namesIn(plan);
   const isProject = kind === "project";
+  byId("plan-head").textContent = headOf(plan) + (title ? `: ${title}` : "");
   byId("lines-label").hidden = isProject;
   byId("colours-label").hidden = !isProject || !model;
   byId("note").hidden = !note;
   byId("note-words").textContent = note;
-  const isNamed = Object.keys(namesIn(page.plan).names).length > 0;
-  byId("names-zone").hidden = isProject ? Boolean(model) : isNamed;
+  byId("names-zone").hidden = isProject ? Boolean(model) : Object.keys(names).length > 0;
   if (!model) byId("colours").value = "slack";
 }
 
@@ -135,7 +129,7 @@ export function showSchedules() {
 export function showDrawn() {
   const { plan } = page;
   view = viewOf(plan);
-  tell = showChart(view);
+  const tell = showChart(view);
   showTable(view, `Schedule by ${nameOf(plan, plan.drawn)}`);
   showDayNote(plan);
   showHandIn(view);
@@ -143,7 +137,7 @@ export function showDrawn() {
 }
 
 export function redraw() {
-  if (view && !byId("chart").hidden && !byId("plan").hidden) tell = showChart(view);
+  if (view) showChart(view);
 }
 
 export const showPaper = () => view && fillPaper(view);
@@ -155,7 +149,7 @@ function showDayNote(plan) {
     : plan.days.size && !view.dates ? "The dates of this schedule aren't known: the office's working "
       + "days leave several calendars. Set the calendar on this page." : "";
   const nodes = refusal && !isUnset ? faultNodes(refusal) : words ? [make("p", {}, words)] : [];
-  byId("days").replaceChildren(...nodes);
+  fill("days", ...nodes);
 }
 
 function showChoice(plan) {
@@ -168,7 +162,7 @@ function showChoice(plan) {
     });
     return make("label", { title: RULE_WORDS[rule] }, input, ` ${nameOf(plan, rule)}`);
   });
-  byId("drawn").replaceChildren(byId("drawn").firstElementChild, ...choices);
+  fill("drawn", byId("drawn").firstElementChild, ...choices);
 }
 
 const titled = (words) => make("abbr", { title: COLUMN_WORDS[words] ?? RULE_WORDS[words] }, words);
@@ -176,7 +170,7 @@ const titled = (words) => make("abbr", { title: COLUMN_WORDS[words] ?? RULE_WORD
 function showDates(dates) {
   byId("dates-fold").hidden = !dates?.rows;
   if (!dates?.rows) return;
-  byId("dates").replaceChildren(tableNode({
+  fill("dates", tableNode({
     caption: `Earliest and latest dates, crews not counted; the whole takes ${dates.total}`,
     heads: [...dates.heads.map(titled), ""],
     rows: dates.rows.map((row) =>
@@ -196,17 +190,16 @@ function showRules(plan) {
   const names = rules.map((rule) =>
     (rule === "best" ? `best (${plan.schedules.get(rule).verdict})` : titled(rule)));
   const foot = ["makespan", ...fixed.slice(1).map(() => ""), ...tables.map((t) => `${t.total}`)];
-  byId("rules").replaceChildren(tableNode({
+  fill("rules", tableNode({
     caption: "Schedules by rule: start–end", heads: [...fixed.map(titled), ...names], rows, foot,
   }));
 }
 
 /** Returns how a makespan compares with the shortest schedule by a rule. */
-function comparedWords(plan, total) {
-  const rules = RULES[plan.kind].filter((rule) => plan.schedules.has(rule));
-  const least = rules.reduce((a, b) =>
-    (plan.schedules.get(b).total < plan.schedules.get(a).total ? b : a));
-  const gain = plan.schedules.get(least).total - total;
+function comparedWords({ kind, schedules }, total) {
+  const totalOf = (rule) => schedules.get(rule).total;
+  const least = RULES[kind].reduce((a, b) => (totalOf(b) < totalOf(a) ? b : a));
+  const gain = totalOf(least) - total;
   return gain > 0 ? `It is ${gain} shorter than the shortest by a rule (${least}).`
     : `The rule ${least} is as good.`;
 }
@@ -225,10 +218,9 @@ async function searchBest(fields) {
   plan.drawn = "best";
   showSchedules();
   const compared = comparedWords(plan, table.total);
-  return table.verdict === "optimal"
-    ? `optimal ${table.total}: no schedule of this plan is shorter. ${compared}`
-    : `budget ${table.total}: the best that was found within ${fields.budget.value} search steps. `
-      + compared;
+  const meaning = table.verdict === "optimal" ? "no schedule of this plan is shorter"
+    : `the best that was found within ${fields.budget.value} search steps`;
+  return `${table.verdict} ${table.total}: ${meaning}. ${compared}`;
 }
 
 /** Returns what to do about a plan that is too large for the office's search. */

@@ -2,7 +2,7 @@
 // the focus and after each change; and what is done when a connection is lost.
 
 import { ask, askTable, deskPath, Lost, planPath, Refusal } from "./api.js";
-import { byId, during, make, tableNode } from "./dom.js";
+import { byId, during, fill, make, tableNode } from "./dom.js";
 import { forget, recordOf, remember } from "./names.js";
 import { openPlan, leavePlan } from "./plan.js";
 import { page, RULES, WORDS_OF_KIND } from "./state.js";
@@ -18,7 +18,7 @@ export async function askPlans() {
 export async function askCodes() {
   page.codes = (await ask(deskPath("capacities"))).capacities;
   const none = "The office has published nothing yet.";
-  byId("codes").replaceChildren(codesTable(page.codes, none));
+  fill("codes", codesTable(page.codes, none));
 }
 
 export function showPlans() {
@@ -31,7 +31,7 @@ export function showPlans() {
     return [button, title, WORDS_OF_KIND[kind], `${page.makespans.get(n) ?? makespan ?? ""}`];
   });
   const heads = ["Number", "Title", "Kind", "Makespan"];
-  byId("plans").replaceChildren(
+  fill("plans",
     rows.length ? tableNode({ heads, rows }) : make("p", {}, "No plans yet. Drop a file below."));
   markOpen();
 }

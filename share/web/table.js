@@ -1,6 +1,6 @@
 // The table of a schedule: one row per activity or step, sorted by any of its columns.
 
-import { byId, make } from "./dom.js";
+import { byId, fill, make } from "./dom.js";
 import { COLUMN_WORDS } from "./words.js";
 
 /** Returns the columns that are known: heads with a function that gives a row's cell. */
@@ -72,7 +72,7 @@ export function showTable(view, words) {
   const rows = chosen ? sortedRows(view.rows, chosen[1], sorting.isDown) : view.rows;
   const show = () => showTable(view, words);
   const heads = columns.map(([head]) => headNode(head, show));
-  byId("table").replaceChildren(scheduleNode(view, columns, rows, heads, words));
+  fill("table", scheduleNode(view, columns, rows, heads, words));
 }
 
 /** Returns the table for paper: in the order of the plan, without buttons. */
