@@ -17,12 +17,10 @@ export class Lost extends Error {}
 
 let hooks = { lost() {}, answered() {}, async unsure() {} };
 
-/** Sets the functions that hear of lost connections and of responses. */
 export function listenTo(functions) {
   hooks = functions;
 }
 
-/** Returns the content of a response: a value of JSON, or a text. */
 function judged(response, text) {
   const type = (response.headers.get("Content-Type") ?? "").split(";")[0];
   if (response.ok && type === "application/json") return JSON.parse(text);
@@ -33,7 +31,6 @@ function judged(response, text) {
   throw new Lost(`The server in front of the office answers ${response.status}.`);
 }
 
-/** Sends one request, and returns the content of its response. */
 async function exchange(key, method, path, body) {
   const headers = { "Desk-Key": key };
   const signal = AbortSignal.timeout(MOST_MILLISECONDS);
@@ -74,7 +71,6 @@ export async function command(path, method, body) {
   return ask(path, method, body instanceof Blob ? body : body && JSON.stringify(body));
 }
 
-/** Returns the path of a desk, or of one of its plans. */
 export const deskPath = (...parts) =>
   `/desks/${[page.desk, ...parts].map(encodeURIComponent).join("/")}`;
 export const planPath = (n, ...parts) => deskPath("plans", n, ...parts);

@@ -6,7 +6,6 @@
 const LAST_DAY = 2932896; // 9999-12-31
 const WEEK = [0, 1, 2, 3, 4, 5, 6];
 
-/** Returns the day of a date such as 2024-03-01; null for other texts. */
 export function dayOf(text) {
   if (!/^\d{4}-\d\d-\d\d$/.test(text)) return null;
   const [year, month, date] = text.split("-").map(Number);
@@ -14,13 +13,10 @@ export function dayOf(text) {
   return dateOf(day) === text ? day : null;
 }
 
-/** Returns the date of a day as YYYY-MM-DD. */
 export const dateOf = (day) => new Date(day * 86400000).toISOString().slice(0, 10);
 
-/** Returns the weekday of a day: 0 is Monday. */
 export const weekdayOf = (day) => (((day + 3) % 7) + 7) % 7;
 
-/** Returns the calendar that begins at a date; null if the date or the marks are invalid. */
 export function calendarFrom(start, digits) {
   const day = dayOf(start);
   if (day === null || start < "1900-01-01" || start > "2199-12-31") return null;
@@ -30,7 +26,6 @@ export function calendarFrom(start, digits) {
   return { at: 0, day: day + wait, marks };
 }
 
-/** Returns the days of a week that are worked, counted from the calendar's day. */
 const offsetsOf = ({ day, marks }) =>
   WEEK.filter((offset) => marks[weekdayOf(day + offset)]);
 

@@ -2,49 +2,39 @@
 // values that this browser set, because the office has no route that returns them.
 
 import { command, planPath } from "./api.js";
-import { byId, fill, onSubmit } from "./dom.js";
+import { byId, fill, make, onSubmit } from "./dom.js";
 import { recordOf, rememberChange } from "./names.js";
 import { leavePlan, openPlan } from "./plan.js";
 import { dropPlan, showPlans } from "./plans.js";
 import { CODE_KINDS, page } from "./state.js";
-import { make } from "./dom.js";
 import { namesIn } from "./view.js";
 
-const HERE = "the office doesn't tell it";
+const NOT_HERE = "Not set on this computer; the office doesn't tell it.";
+const boxesOf = (form) => [...form.querySelectorAll("input[type=checkbox]")];
 
-async function changePlan(part, body, note) {
+/** Sends a change of the plan, remembers it, and asks for the plan's pages again. */
+async function changePlan(part, body, valueOf, words) {
   const { n } = page.plan;
   const made = await command(planPath(n, part), "POST", body);
-  const words = note(made, n);
+  rememberChange(n, part, valueOf(made));
   if (page.plan?.n === n) await openPlan(n);
-  return words;
+  return words(made);
 }
 
-const bind = (fields) => changePlan("bind",
-  { place: fields.place.valueAsNumber, code: fields.code.value },
-  (made, n) => {
-    rememberChange(n, "binds", { at: made.place, code: made.code });
-    return `${byId("place-word").textContent} ${made.place} is ${made.code}.`;
-  });
+const bind = ({ place, code }) => changePlan("bind",
+  { place: place.valueAsNumber, code: code.value },
+  (made) => ({ at: made.place, code: made.code }),
+  (made) => `${byId("place-word").textContent} ${made.place} is ${made.code}.`);
 
-/** Sets the calendar; a weekday that is marked is worked. */
-function setCalendar(fields, form) {
-  const boxes = [...form.querySelectorAll("input[type=checkbox]")];
-  const days = boxes.map((box) => (box.checked ? "1" : "0")).join("");
-  return changePlan("calendar", { start: fields.start.value, days }, (made, n) => {
-    rememberChange(n, "calendar", { start: made.start, days: made.days });
-    return `From ${made.start} on; working days ${made.days}, Monday first.`;
-  });
-}
+const setCalendar = ({ start }, form) => changePlan("calendar",
+  { start: start.value, days: boxesOf(form).map(({ checked }) => (checked ? "1" : "0")).join("") },
+  (made) => made,
+  (made) => `From ${made.start} on; working days ${made.days}, Monday first.`);
 
-const setLag = (fields) => changePlan("lag",
-  {
-    from: fields.from.valueAsNumber, to: fields.to.valueAsNumber, lag: fields.lag.valueAsNumber,
-  },
-  (made, n) => {
-    rememberChange(n, "lags", { at: `${made.from}-${made.to}`, lag: made.lag });
-    return `At least ${made.lag} between ${made.from} and ${made.to}.`;
-  });
+const setLag = ({ from, to, lag }) => changePlan("lag",
+  { from: from.valueAsNumber, to: to.valueAsNumber, lag: lag.valueAsNumber },
+  (made) => ({ at: `${made.from}-${made.to}`, lag: made.lag }),
+  (made) => `At least ${made.lag} between ${made.from} and ${made.to}.`);
 
 function isDeleteMeant() {
   const dialog = byId("question");
@@ -65,42 +55,36 @@ async function deletePlan() {
   byId("news").textContent = `Plan ${n} is deleted.`;
 }
 
-const setWords = (changes, words) => Object.values(changes ?? {})
-  .map((change) => `${words(change)} (set here on ${change.on})`).join("; ");
-
-function showCalendar(calendar) {
-  const form = byId("calendar");
-  form.elements.start.value = calendar?.start ?? "";
-  const boxes = [...form.querySelectorAll("input[type=checkbox]")];
-  const days = calendar?.days ?? "1111100";
-  boxes.forEach((box, place) => { box.checked = days[place] === "1"; });
-  byId("calendar-set").textContent = calendar
-    ? `Set here on ${calendar.on}; ${HERE}.` : `Not set on this computer; ${HERE}.`;
+/** Shows what was set here of one kind. */
+function showSet(place, changes, words) {
+  const told = Object.values(changes ?? {})
+    .map((change) => `${words(change)} (set here on ${change.on})`);
+  byId(place).textContent = told.join("; ") || NOT_HERE;
 }
 
+/** Shows the forms of changes as the kind of the plan has them. */
 export function showChanges(plan) {
   const isProject = plan.kind === "project";
-  const codes = page.codes.filter((code) => code.kind === CODE_KINDS[plan.kind]);
-  const { binds, calendar, lags } = recordOf(plan.n).set ?? {};
-  const { resources } = namesIn(plan);
+  const { bind: binds, calendar, lag: lags } = recordOf(plan.n).set ?? {};
   const word = isProject ? "Resource" : "Machine";
-  const fields = byId("bind").elements;
-  fields.place.min = isProject ? 1 : 0;
-  fields.place.max = isProject ? (plan.model?.capacities.length ?? 16)
-    : (plan.model?.capacities.length ?? 20) - 1;
+  const { place, code } = byId("bind").elements;
+  const count = plan.model?.capacities.length ?? (isProject ? 16 : 20);
+  place.min = isProject ? 1 : 0;
+  place.max = isProject ? count : count - 1;
   byId("place-word").textContent = word;
-  const named = Object.entries(resources).map(([place, name]) =>
-    make("option", { value: place }, `${name}`));
-  fill("places", ...named);
-  fields.code.replaceChildren(...codes.map(({ code, capacity }) =>
-    make("option", { value: code }, `${code} (${capacity})`)));
-  byId("bind-set").textContent =
-    setWords(binds, ({ at, code }) => `${word.toLowerCase()} ${at} is ${code}`)
-    || `Nothing was bound on this computer; ${HERE}.`;
+  fill("places", ...Object.entries(namesIn(plan).resources)
+    .map(([value, name]) => make("option", { value }, name)));
+  code.replaceChildren(...page.codes.filter(({ kind }) => kind === CODE_KINDS[plan.kind])
+    .map((found) => make("option", { value: found.code }, `${found.code} (${found.capacity})`)));
+  showSet("bind-set", binds, (made) => `${word.toLowerCase()} ${made.at} is ${made.code}`);
+  showSet("lag-set", lags, ({ at, lag }) => `${at}: ${lag}`);
   byId("lag").hidden = !isProject;
-  byId("lag-set").textContent = setWords(lags, ({ at, lag }) => `${at}: ${lag}`)
-    || `No lag was set on this computer; ${HERE}.`;
-  showCalendar(calendar);
+  byId("calendar").elements.start.value = calendar?.start ?? "";
+  boxesOf(byId("calendar")).forEach((box, at) => {
+    box.checked = (calendar?.days ?? "1111100")[at] === "1";
+  });
+  byId("calendar-set").textContent = calendar
+    ? `Set here on ${calendar.on}; the office doesn't tell it.` : NOT_HERE;
 }
 
 export function letChange() {

@@ -22,7 +22,6 @@ function roomForNames({ lineNames, plan }, width) {
   return Math.max(least, Math.min(longest + 16, width * 0.28, 240));
 }
 
-/** Returns what is behind the bars: free days as bands, the lines of the axis, and today's line. */
 function behindNodes(scale, height) {
   const { x, unit } = scale;
   const now = new Date();
@@ -44,7 +43,6 @@ const axisSvg = (scale, width) =>
     ...marksOn(scale).filter(({ words }) => words)
       .map(({ place, words }) => textNode("time", scale.x(place), 15, words)));
 
-/** Returns the shape of a bar; an interval that takes no time is a diamond. */
 function shapeNode(x, y, width, height) {
   if (width) return draw("rect", { x, y, width, height, rx: 2 });
   const size = Math.min(5, height / 2);
@@ -53,7 +51,6 @@ function shapeNode(x, y, width, height) {
   });
 }
 
-/** Returns a bar with its label, inside or behind it, if there is room. */
 function barNode(bar, y, height, scale) {
   const x = scale.startOf(bar.start, bar.end);
   const end = bar.start < bar.end ? scale.endOf(bar.end) : x;
@@ -67,7 +64,6 @@ function barNode(bar, y, height, scale) {
   ...(behind ? [textNode("behind", end + 7, y + height / 2, behind)] : []));
 }
 
-/** Returns a chart of some lines of a view: its axis, its body, and how it was drawn. */
 export function chartOf(view, width, lines, row) {
   const scale = scaleOf(view.calendar, view.total, roomForNames(view, width), width - RIGHT);
   const { left, right } = scale;
@@ -94,7 +90,6 @@ export function captionOf({ plan, calendar }) {
   return `${plan.kind === "project" ? "Activities" : "Steps"} by ${nameOf(plan, plan.drawn)}; ${unit}`;
 }
 
-/** Draws the links of a bar as lines from the end of one bar to the start of the next. */
 function showLinks(view, chart, index) {
   const { scale, places, row } = chart;
   const bars = new Map(view.bars.map((bar) => [bar.index, bar]));
@@ -110,7 +105,6 @@ function showLinks(view, chart, index) {
   chart.body.querySelector(".arcs").replaceChildren(...nodes);
 }
 
-/** Lets bars tell their words: under the mouse or finger, or by the arrow keys. */
 function letTell(view, chart) {
   const nodes = [...chart.body.querySelectorAll(".bar")];
   let current = -1;
@@ -137,7 +131,6 @@ function letTell(view, chart) {
   return tell;
 }
 
-/** Returns the use of one resource against its capacity, as steps. */
 function useSvg(steps, resource, capacity, name, scale, width, total) {
   const { left, right } = scale;
   const top = Math.max(1, capacity, ...steps.map(({ used }) => used[resource]));
@@ -166,7 +159,6 @@ export function useNodes(view, scale, width) {
     resources[at + 1] ?? `resource ${at + 1}`, scale, width, total));
 }
 
-/** Draws a view as wide as there is room. */
 export function showChart(view) {
   const width = Math.max(280, byId("drawing").clientWidth || 320);
   const chart = chartOf(view, width, view.lines, heightOfRows(view.lines.length));

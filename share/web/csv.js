@@ -5,7 +5,6 @@ const MOST = { bytes: 1048576, rows: 500, resources: 16, amount: 10000, work: 10
 const FIXED = ["id", "name", "duration", "predecessors"];
 const SYNONYMS = new Map([["task", "name"], ["after", FIXED[3]], ["depends on", FIXED[3]]]);
 
-/** What each error means. */
 export const TABLE_FAULTS = {
   T1: ["The table has more than 1,048,576 bytes."],
   T2: ["This line isn't plain text in UTF-8. Save the table as CSV in UTF-8."],
@@ -44,7 +43,6 @@ const isText = (bytes) => {
   }
 };
 
-/** Returns the text of a file without its byte-order mark. */
 function decoded(bytes) {
   if (bytes.length > MOST.bytes) fail("T1 too long");
   for (let line = 1, begin = 0, end; !isText(bytes) && end !== -1; line += 1, begin = end + 1) {
@@ -56,7 +54,6 @@ function decoded(bytes) {
   return new TextDecoder().decode(bytes);
 }
 
-/** Returns the separator: the first of tab, semicolon and comma that the header line contains. */
 const separatorOf = (text) =>
   ["\t", ";", ","].find((mark) => text.split("\n", 1)[0].includes(mark)) ?? ",";
 
@@ -81,7 +78,6 @@ export function recordsOf(text, mark = separatorOf(text)) {
   return records;
 }
 
-/** Returns the columns of the header in their order: what each is, and its name. */
 function columnsOf({ line, cells }) {
   const columns = [];
   cells.forEach((cell, place) => {
@@ -96,7 +92,6 @@ function columnsOf({ line, cells }) {
   return columns;
 }
 
-/** Returns the number in a cell, or throws an error that names the cell. */
 function amountOf(text, words, line, place) {
   if (!/^\d{1,9}$/.test(text)) fail(words, line, place);
   if (Number(text) > MOST.amount) fail(`T12 limit line ${line}`, line, place);
@@ -149,7 +144,6 @@ function cycleOf(rows) {
   return first(rows.keys(), (at) => visit(at, []));
 }
 
-/** Links rows by their places: `after` are predecessors, `before` successors. */
 function linked(rows) {
   const places = new Map(rows.map(({ id }, at) => [id, at]));
   const made = rows.map((row) => ({ ...row, before: [], after: row.after.map((id) => places.get(id)) }));
@@ -237,7 +231,6 @@ export function projectText({ rows, resources, capacities }) {
   ].join("");
 }
 
-/** Returns whether a text looks like a table of activities. */
 export function isTable(text) {
   const header = text.replace(/^\ufeff/, "").split(/\r?\n/, 1)[0].toLowerCase();
   const cells = header.split(/[\t;,]/).map((cell) => cell.trim().replace(/^"(.*)"$/, "$1").trim());

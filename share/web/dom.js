@@ -23,7 +23,6 @@ export const make = (tag, attributes = {}, ...children) =>
 export const draw = (tag, attributes = {}, ...children) =>
   dressed(document.createElementNS("http://www.w3.org/2000/svg", tag), attributes, children);
 
-/** Returns a region that scrolls, with a name. */
 export const wideNode = (name, child) =>
   make("div", { class: "wide", tabindex: "0", role: "region", "aria-label": name }, child);
 
@@ -39,7 +38,6 @@ export function tableNode({ caption, heads, rows, foot, marks = [] }) {
     ...(foot ? [make("tfoot", {}, row(foot))] : []));
 }
 
-/** Returns what `plan explain` prints for the last code in a line that it knows. */
 function entryOf(line, faults) {
   const codes = line.match(/\b[A-Z]\d+\b/g) ?? [];
   return codes.reverse().map((code) => faults[code]).find(Boolean) ?? [];
@@ -81,7 +79,6 @@ export async function during(button, place, action) {
   }
 }
 
-/** Lets a form act by its one button, if that is meant. */
 export function onSubmit(name, action, isMeant = () => true) {
   const form = byId(name);
   form.addEventListener("submit", async (event) => {
@@ -93,7 +90,6 @@ export function onSubmit(name, action, isMeant = () => true) {
   });
 }
 
-/** Lets a list of tabs choose one of their panels, by mouse and by arrow keys. */
 export function letChoose(list) {
   const tabs = [...list.querySelectorAll("[role=tab]")];
   const choose = (tab) => {

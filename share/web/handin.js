@@ -1,108 +1,83 @@
 // Hand in and check: saves the schedule that is drawn, and checks start times that come from elsewhere
 // with the verdicts of `plan check`.
 
-import { byId, download, letTake, make, onSubmit, refusalNode } from "./dom.js";
+import { byId, download, fill, letTake, make, onSubmit, refusalNode } from "./dom.js";
 import { showSchedules, viewNow } from "./plan.js";
 import { makespanOf, verdictOf } from "./slack.js";
 import { csvText, readStarts, StartsFault, startsText } from "./starts.js";
 import { page } from "./state.js";
 import { namesIn, nameOf } from "./view.js";
 
-const MEANINGS = {
-  active: "Feasible, and no activity can start earlier by itself.",
-  feasible: "Feasible, but not active: all others fixed, this one could start earlier.",
-  broken: "Not feasible.",
-};
+const rowsFor = ({ plan, rows, isNamed, dates }) => rows.map((row) => ({
+  ...(plan.kind === "project" ? { act: row.number }
+    : { job: row.job, step: row.step, mach: row.machine }),
+  d: row.d, start: row.start, end: row.end, ...(isNamed && { name: row.name }),
+  ...(dates && { first: row.first, last: row.last }),
+}));
 
-export function rowsFor(view) {
-  const { plan, rows } = view;
-  const kind = plan.kind === "project";
-  return rows.map((row) => ({
-    ...(kind ? { act: row.number } : { job: row.job, step: row.step, mach: row.machine }),
-    d: row.d, start: row.start, end: row.end,
-    ...(view.isNamed ? { name: row.name } : {}),
-    ...(view.dates ? { first: row.first, last: row.last } : {}),
-  }));
-}
-
-function jsonText(view) {
-  const { plan, total } = view;
-  const { title = "" } = namesIn(plan);
-  const value = {
-    desk: page.desk, makespan: total, plan: plan.n, rows: rowsFor(view), schedule: plan.drawn,
-    ...(title ? { title } : {}),
-  };
-  return `${JSON.stringify(value, null, 1)}\n`;
-}
-
+// members of JSON are in the order of the alphabet
 const FORMS = {
-  csv: ["text/csv", (view) => csvText(rowsFor(view))],
-  json: ["application/json", jsonText],
-  starts: ["text/plain", (view) => startsText(view.rows)],
+  csv: ["csv", "text/csv", (view) => csvText(rowsFor(view))],
+  json: ["json", "application/json", (view) => `${JSON.stringify({
+    desk: page.desk, makespan: view.total, plan: view.plan.n, rows: rowsFor(view),
+    schedule: view.plan.drawn, title: namesIn(view.plan).title,
+  }, null, 1)}\n`],
+  starts: ["starts.txt", "text/plain", (view) => startsText(view.rows)],
 };
 
 function save(form) {
   const view = viewNow();
-  const [type, textOf] = FORMS[form];
-  const end = form === "starts" ? "starts.txt" : form;
-  const { plan } = view;
-  download(`${page.desk}-plan-${plan.n}-${plan.drawn}.${end}`, type, textOf(view));
+  const [end, type, textOf] = FORMS[form];
+  download(`${page.desk}-plan-${view.plan.n}-${view.plan.drawn}.${end}`, type, textOf(view));
 }
 
-/** Returns the numbers of a plan's rows, as a file of start times names them. */
-const wantedRows = ({ kind }, { rows }) =>
-  rows.map(({ act, job, step }) => (kind === "project" ? act : `${job} ${step}`));
-
-/** Returns the words of a verdict; for a job shop the names of steps and machines. */
-function verdictWords({ kind }, table, line) {
-  if (kind === "project") return line;
-  const step = (number) => {
-    const row = table.rows[number - 1];
-    return `step ${row.step} of job ${row.job}`;
-  };
-  return line.replace(/activity (\d+)/, (_, n) => step(Number(n)))
-    .replace(/before (\d+)/, (_, n) => `before ${step(Number(n))}`)
-    .replace(/more of resource (\d+) is needed than there is/,
-      (_, n) => `machine ${Number(n) - 1} has two steps`);
+/** Returns a verdict about steps and machines in place of activities and resources. */
+function shopWords(line, rows) {
+  const step = (words, number) => `step ${rows[number - 1].step} of job ${rows[number - 1].job}`;
+  return line.replace(/activity (\d+)/, step)
+    .replace(/(?<=before )(\d+)/, step)
+    .replace(/more of resource (\d+) is .*/, (words, number) => `machine ${number - 1} has two steps`);
 }
 
 /** Checks start times, draws them, and returns the verdict. */
-export function checkStarts(text) {
+function checkStarts(text) {
   const { plan } = page;
-  const [table] = plan.schedules.values();
-  const starts = readStarts(text, plan.kind, wantedRows(plan, table));
-  if (!plan.model) {
-    throw new StartsFault(`The start times can't be checked. ${plan.note} Add the plan's file first.`);
-  }
+  const [{ heads, rows }] = plan.schedules.values();
+  const isProject = plan.kind === "project";
+  const wanted = rows.map(({ act, job, step }) => (isProject ? act : `${job} ${step}`));
+  const starts = readStarts(text, plan.kind, wanted);
+  if (!plan.model) throw new StartsFault(`${plan.note} Add the plan's file first.`);
   const verdict = verdictOf(plan.model, starts);
   const total = makespanOf(plan.model, starts);
-  const rows = table.rows.map((row, index) => ({
-    ...row, start: String(starts[index]), end: String(starts[index] + Number(row.d)),
-  }));
-  plan.schedules.set("own", { heads: table.heads, rows, verdict: verdict.line, total });
+  plan.schedules.set("own", {
+    heads, total, verdict: verdict.line, rows: rows.map((row, at) =>
+      ({ ...row, start: `${starts[at]}`, end: `${starts[at] + Number(row.d)}` })),
+  });
   plan.drawn = "own";
   const tell = showSchedules();
   if (verdict.activity !== undefined) tell(verdict.activity);
-  return { ...verdict, words: verdictWords(plan, table, verdict.line), total };
+  return { ...verdict, total, line: isProject ? verdict.line : shopWords(verdict.line, rows) };
 }
 
+/** Shows the verdict on start times, or why there is none. */
 function showVerdict(text) {
-  const place = byId("check-answer");
   try {
-    const { line, words, isFeasible, total } = checkStarts(text);
-    const kind = line === "active" ? "active" : isFeasible ? "feasible" : "broken";
-    place.replaceChildren(make("div", { class: isFeasible ? "verdict" : "refusal", role: "status" },
-      make("strong", {}, words), make("p", {}, `${MEANINGS[kind]} Makespan ${total}.`)));
+    const { line, isFeasible, total } = checkStarts(text);
+    const meaning = !isFeasible ? "Not feasible."
+      : line === "active" ? "Feasible, and no activity can start earlier by itself."
+        : "Feasible, but not active: all others fixed, this one could start earlier.";
+    fill("check-answer", make("div", { class: isFeasible ? "verdict" : "refusal", role: "status" },
+      make("strong", {}, line), make("p", {}, `${meaning} Makespan ${total}.`)));
   } catch (fault) {
     if (!(fault instanceof StartsFault)) throw fault;
-    place.replaceChildren(refusalNode(fault.message));
+    fill("check-answer", refusalNode(fault.message));
   }
+  byId("check-answer").scrollIntoView({ block: "nearest" });
 }
 
 export async function takeStarts(file) {
   byId("tab-handin").click();
   showVerdict(await file.text());
-  byId("check-answer").scrollIntoView({ block: "nearest" });
 }
 
 export function showHandIn(view) {
@@ -114,8 +89,5 @@ export function showHandIn(view) {
 export function letHandIn() {
   for (const form of Object.keys(FORMS)) byId(`save-${form}`).addEventListener("click", () => save(form));
   letTake(byId("check-zone"), takeStarts);
-  onSubmit("check", async (fields) => {
-    showVerdict(fields.starts.value);
-    byId("check-answer").scrollIntoView({ block: "nearest" });
-  });
+  onSubmit("check", async ({ starts }) => showVerdict(starts.value));
 }

@@ -18,7 +18,6 @@ const CONTEXT = 12;
 const importButton = () => byId("import").querySelector("button");
 const tableRefusal = (fault) => refusalNode(fault.message, "", TABLE_FAULTS);
 
-/** Reads a file as bytes; null, with the reason on the page, if that isn't possible. */
 async function bytesOf(file) {
   const isLarge = file.size > LARGEST_FILE;
   const content = isLarge ? null : await file.arrayBuffer().catch(() => null);
@@ -74,7 +73,6 @@ export function forgetFile() {
 
 // -- tables
 
-/** Shows the table that was taken as the project that it becomes, or its error at its cell. */
 function showTableFile() {
   const { file } = page;
   byId("kinds").hidden = true;
@@ -96,7 +94,6 @@ function showTableFile() {
   byId("preview").scrollIntoView({ block: "nearest" });
 }
 
-/** Returns a field for the capacity of a resource. */
 function capacityNode(name, value) {
   const { given } = page.file;
   const input = make("input", { type: "number", min: 0, max: 10000, value, "data-resource": name });
@@ -108,7 +105,6 @@ function capacityNode(name, value) {
   return make("label", {}, `Capacity of ${name}`, input);
 }
 
-/** Returns the project that a table becomes: its size, and its activities with their numbers. */
 function projectNodes({ name, table: { rows, resources, capacities } }) {
   const arcs = rows.reduce((sum, { after }) => sum + after.length, 0);
   const caps = resources.map((resource, at) => `${resource} ${capacities[at]}`).join(", ");
@@ -126,7 +122,6 @@ function projectNodes({ name, table: { rows, resources, capacities } }) {
   ];
 }
 
-/** Returns the rows of a table around the one of an error, whose cell is marked. */
 function cellNodes({ name, text }, { line, column }) {
   let records = [];
   try {
@@ -149,7 +144,6 @@ function cellNodes({ name, text }, { line, column }) {
 
 // -- sending
 
-/** Sends the file, and opens the new plan. */
 async function importFile(fields) {
   const { file } = page;
   const isProject = fields.kind.value === "project";
@@ -177,7 +171,6 @@ async function importFile(fields) {
   return `${file.name} is plan ${made.n}.`;
 }
 
-/** Keeps the model of a project in memory, and remembers the title and the names in a file. */
 function noteFile(n, isProject, name, text, instance) {
   const found = isProject ? readProject(text) : readShop(text, instance);
   if (!found) return;
@@ -190,7 +183,6 @@ function noteFile(n, isProject, name, text, instance) {
   });
 }
 
-/** Takes the file of the plan that is open, which another computer imported. */
 export async function takeNames(file) {
   const { plan } = page;
   const place = byId("names-answer");
@@ -226,7 +218,6 @@ function instanceIn(text, { kind, schedules }) {
   return readProject(text)?.durations.join() === rows.map(({ d }) => d).join() ? "-" : undefined;
 }
 
-/** Returns the lines of a text around the one that an error names, which is marked. */
 function placeInText(name, words, text) {
   const named = words.match(/^E10 .*?\bline (\d+)/);
   return named ? textNodes(name, text, Number(named[1])) : [];

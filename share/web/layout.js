@@ -6,7 +6,6 @@ import { dateOf, dayAt, dayOf, isWorked, weekdayOf } from "./calendar.js";
 const LETTER = 6.6;
 export const COLOURS = 16;
 
-/** Returns the width of a text of 12 pixels, roughly. */
 export const widthOf = (text) => text.length * LETTER;
 
 /** Returns the scale of an axis from `left` to `right`. Without a calendar a unit is a unit of
@@ -27,7 +26,6 @@ export function scaleOf(calendar, total, left, right) {
   };
 }
 
-/** Returns the least round number of units that takes so much room; at least 1. */
 export function roundUnits(room, unit) {
   for (let size = 1; ; size *= 10) {
     const found = [1, 2, 5].find((digit) => digit * size * unit >= room);
@@ -35,7 +33,6 @@ export function roundUnits(room, unit) {
   }
 }
 
-/** Returns the days of an axis that may get a line: Mondays, or firsts of months, or of years. */
 function lineDays({ origin, span, unit }) {
   const days = Array.from({ length: span + 1 }, (_, place) => origin + place);
   if (unit * 7 >= 8) return days.filter((day) => weekdayOf(day) === 0);
@@ -75,7 +72,6 @@ export function freeDays({ calendar, origin, span, unit }) {
   return runs;
 }
 
-/** Returns where a date is on an axis, in units; null if it is beyond the axis. */
 export function placeOfDate({ calendar, origin, span }, date) {
   if (!calendar) return null;
   const place = dayOf(date) - origin;
@@ -107,7 +103,6 @@ export function coloursOf(bars) {
   return colours;
 }
 
-/** Returns the longest label that fits into a width; "" if none does. */
 export const labelFor = (labels, width) =>
   labels.find((label) => label && widthOf(label) + 8 <= width) ?? "";
 

@@ -8,7 +8,6 @@ import { boundsOf, verdictOf } from "./slack.js";
 
 export const startsOf = (table) => table.rows.map(({ start }) => Number(start));
 
-/** Returns the model of a job shop, which its table contains: machines are resources of 1. */
 function shopModel({ rows }) {
   const machines = Math.max(...rows.map(({ mach }) => Number(mach))) + 1;
   const needs = rows.map(({ mach }) =>
@@ -19,11 +18,10 @@ function shopModel({ rows }) {
   return { durations, arcs, needs, capacities: Array(machines).fill(1) };
 }
 
-/** Returns the model of a project: that of its file with the lags and binds that were set here. */
 function projectModel(plan) {
   const project = page.projects.get(plan.n);
   if (!project) return null;
-  const { lags = {}, binds = {} } = recordOf(plan.n).set ?? {};
+  const { lag: lags = {}, bind: binds = {} } = recordOf(plan.n).set ?? {};
   const arcs = project.arcs.map((arc) =>
     ({ ...arc, lag: lags[`${arc.from + 1}-${arc.to + 1}`]?.lag ?? 0 }));
   const bound = (code) => page.codes.find((found) => found.code === code)?.capacity;

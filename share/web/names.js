@@ -6,11 +6,12 @@ import { page } from "./state.js";
 const SWITCH = "plan/forget";
 const PREFIX = "plan/of/";
 
+// the browser's memory, which may be closed
 function storage() {
   try {
-    return globalThis.localStorage ?? null;
+    return globalThis.localStorage;
   } catch {
-    return null;
+    return undefined;
   }
 }
 
@@ -43,13 +44,13 @@ function write(n, record) {
 /** Returns the record of a plan: { title, names, resources, shape, makespan, set }. */
 export function recordOf(n) {
   if (!page.records.has(n)) {
-    let record = {};
+    let record = null;
     try {
-      record = JSON.parse(storage()?.getItem(keyOf(n)) ?? "{}") ?? {};
+      record = JSON.parse(storage()?.getItem(keyOf(n)) ?? null);
     } catch {
       // a record that can't be read is none
     }
-    page.records.set(n, record);
+    page.records.set(n, record ?? {});
   }
   return page.records.get(n);
 }
@@ -74,11 +75,9 @@ export function shapeOf(rows) {
   return `${rows.length}-${code.toString(16)}`;
 }
 
-/** Remembers a change of a plan that was made here: a bind, a lag, or the calendar. */
 export function rememberChange(n, kind, value) {
   const on = new Date().toISOString().slice(0, 10);
-  const set = { ...recordOf(n).set };
-  const isList = kind !== "calendar";
-  set[kind] = isList ? { ...set[kind], [value.at]: { ...value, on } } : { ...value, on };
-  remember(n, { set });
+  const { set } = recordOf(n);
+  const made = { ...value, on };
+  remember(n, { set: { ...set, [kind]: "at" in value ? { ...set?.[kind], [value.at]: made } : made } });
 }

@@ -6,12 +6,11 @@ import { letChange } from "./changes.js";
 import { byId, during, fill, letChoose, letTake, make, onSubmit } from "./dom.js";
 import { letHandIn } from "./handin.js";
 import { forgetFile, letImport, takeFile, takeNames } from "./import.js";
-import { askAgain, noteAnswered, noteLost } from "./lost.js";
 import { isRemembering, setRemembering } from "./names.js";
 import { letOfficeAct, showPublished, tryOfficeKey } from "./office.js";
 import { clearPaper } from "./paper.js";
 import { leavePlan, letPlanAct, redraw, showPaper } from "./plan.js";
-import { askCodes, askMakespans, askPlans, refresh } from "./plans.js";
+import { askAgain, askLists, askMakespans, noteAnswered, noteLost, refresh } from "./plans.js";
 import { newPage, page } from "./state.js";
 import { glossary } from "./words.js";
 
@@ -21,7 +20,6 @@ function showView(name) {
   byId("who").textContent = name === "office" ? "The office" : `Desk ${page.desk}`;
 }
 
-/** Tries a key. The first words of a refusal say which of them don't match. */
 async function trying(words, action) {
   try {
     await action();
@@ -31,15 +29,11 @@ async function trying(words, action) {
   }
 }
 
-/** Opens a desk: its list of plans shows whether the key is right. */
 async function enterDesk(fields) {
   const entered = newPage();
   entered.desk = fields.desk.value;
   entered.key = fields.key.value;
-  await trying("This desk and key don't match.", async () => {
-    await askPlans();
-    await askCodes();
-  });
+  await trying("This desk and key don't match.", askLists);
   fields.key.value = "";
   leavePlan();
   forgetFile();
@@ -57,7 +51,6 @@ async function enterOffice(fields) {
   byId("office-head").focus();
 }
 
-/** Forgets everything but what this computer remembers of names. */
 function leave() {
   newPage();
   byId("lost").hidden = true;

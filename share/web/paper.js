@@ -11,7 +11,6 @@ import { page, WORDS_OF_KIND } from "./state.js";
 const WIDTH = 1040;
 const LINES = 40;
 
-/** Returns the head of a page: the plan's title, where it is from, and today's date. */
 function headNode(view, place, count) {
   const { plan } = view;
   const { title } = namesIn(plan);

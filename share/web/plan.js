@@ -8,7 +8,7 @@ import { showHandIn } from "./handin.js";
 import { settleCalendar, settleModel } from "./model.js";
 import { recordOf, remember, shapeOf } from "./names.js";
 import { clearPaper, fillPaper } from "./paper.js";
-import { markOpen, noteMakespan, showPlans } from "./plans.js";
+import { markOpen, showPlans } from "./plans.js";
 import { page, RULES, WORDS_OF_KIND } from "./state.js";
 import { showTable } from "./table.js";
 import { nameOf, namesIn, viewOf } from "./view.js";
@@ -58,7 +58,6 @@ async function askSchedules(plan) {
 
 const headOf = ({ n, kind }) => `Plan ${n}, a ${WORDS_OF_KIND[kind]}`;
 
-/** Shows that the pages of a plan are awaited, and removes notices of another plan. */
 function awaitPlan(isNew) {
   view = null;
   byId("plan-head").textContent = headOf(page.plan);
@@ -92,8 +91,8 @@ export function showPlan() {
   settleCalendar(plan);
   if (table) {
     const { names, shape } = recordOf(plan.n);
-    noteMakespan(plan.n, table.total);
-    if (names && !shape) remember(plan.n, { shape: shapeOf(table.rows) });
+    const own = names && !shape ? { shape: shapeOf(table.rows) } : {};
+    remember(plan.n, { makespan: table.total, ...own });
   }
   showPlans();
   showParts(plan);
@@ -103,7 +102,6 @@ export function showPlan() {
   else showHandIn(null);
 }
 
-/** Shows the title, and the parts of the page that the plan has. */
 function showParts(plan) {
   const { kind, model, note } = plan;
   const { title, names } = namesIn(plan);
@@ -125,7 +123,6 @@ export function showSchedules() {
   return showDrawn();
 }
 
-/** Shows the schedule that is drawn. Returns the function that points at a row of it. */
 export function showDrawn() {
   const { plan } = page;
   view = viewOf(plan);
@@ -195,7 +192,6 @@ function showRules(plan) {
   }));
 }
 
-/** Returns how a makespan compares with the shortest schedule by a rule. */
 function comparedWords({ kind, schedules }, total) {
   const totalOf = (rule) => schedules.get(rule).total;
   const least = RULES[kind].reduce((a, b) => (totalOf(b) < totalOf(a) ? b : a));
@@ -223,7 +219,6 @@ async function searchBest(fields) {
   return `${table.verdict} ${table.total}: ${meaning}. ${compared}`;
 }
 
-/** Returns what to do about a plan that is too large for the office's search. */
 const solveNode = ({ kind }) => make("p", { class: "solve" },
   "Search on your own computer: run ",
   make("code", {}, kind === "project" ? "plan solve FILE" : "plan solve FILE INSTANCE"),

@@ -1,24 +1,25 @@
-// The desk's list of plans and the published capacities: asked for at sign-in, when the window gets
-// the focus and after each change; and what is done when a connection is lost.
+// The desk's list of plans and the published capacities: asked for at sign-in and when the window gets
+// the focus; and what is done when a connection is lost.
 
 import { ask, askTable, deskPath, Lost, planPath, Refusal } from "./api.js";
 import { byId, during, fill, make, tableNode } from "./dom.js";
 import { forget, recordOf, remember } from "./names.js";
+import { tryOfficeKey } from "./office.js";
 import { openPlan, leavePlan } from "./plan.js";
 import { page, RULES, WORDS_OF_KIND } from "./state.js";
 
 const MOST_MAKESPANS = 20;
 const LEAST_PAUSE = 1000;
+let asked = -LEAST_PAUSE;
 
-export async function askPlans() {
+const numbers = () => page.plans.map(({ n }) => n);
+
+/** Asks for the list of plans and for the published capacities. */
+export async function askLists() {
   page.plans = (await ask(deskPath("plans"))).plans;
   showPlans();
-}
-
-export async function askCodes() {
   page.codes = (await ask(deskPath("capacities"))).capacities;
-  const none = "The office has published nothing yet.";
-  fill("codes", codesTable(page.codes, none));
+  fill("codes", codesTable(page.codes, "The office has published nothing yet."));
 }
 
 export function showPlans() {
@@ -27,8 +28,8 @@ export function showPlans() {
     const button = make("button", words, `Plan ${n}`);
     button.addEventListener("click", () =>
       during(button, byId("plans-answer"), () => openPlan(n)));
-    const { title = "", makespan } = recordOf(n);
-    return [button, title, WORDS_OF_KIND[kind], `${page.makespans.get(n) ?? makespan ?? ""}`];
+    const { title = "", makespan = "" } = recordOf(n);
+    return [button, title, WORDS_OF_KIND[kind], `${makespan}`];
   });
   const heads = ["Number", "Title", "Kind", "Makespan"];
   fill("plans",
@@ -36,6 +37,7 @@ export function showPlans() {
   markOpen();
 }
 
+/** Marks the plan of the list that is open. */
 export function markOpen() {
   for (const button of byId("plans").querySelectorAll("button")) {
     button.ariaCurrent = Number(button.value) === page.plan?.n ? "true" : null;
@@ -48,29 +50,18 @@ export function codesTable(codes, none) {
   return tableNode({ heads: ["Code", "Kind", "Capacity"], rows });
 }
 
-export function noteMakespan(n, total) {
-  page.makespans.set(n, total);
-  if (recordOf(n).makespan !== total) remember(n, { makespan: total });
-}
-
-/** Asks for the makespans that the list lacks, one after another, as long as the page is the same. */
+/** Asks for the makespans in the list, one after another, as long as the page is the same. */
 export async function askMakespans() {
   const asking = page;
-  const lacking = page.plans.filter(({ n }) => !page.makespans.has(n)).slice(0, MOST_MAKESPANS);
-  for (const { n, kind } of lacking) {
+  for (const { n, kind } of page.plans.slice(0, MOST_MAKESPANS)) {
     const table = await askTable(planPath(n, "schedule", RULES[kind][0])).catch((fault) => fault);
     if (asking !== page || table instanceof Lost) return;
-    if (!(table instanceof Refusal) && table.total !== null) noteMakespan(n, table.total);
+    remember(n, { makespan: table.total ?? "" });
   }
-  if (lacking.length) showPlans();
+  showPlans();
 }
 
-// -- asking again
-
-let asked = -LEAST_PAUSE;
-
-/** Asks for the list and the capacities when the window gets the focus, and for the open plan if
- * something has changed. */
+/** Asks for the lists when the window gets the focus, and for the open plan if they have changed. */
 export async function refresh() {
   const now = performance.now();
   if (byId("desk").hidden || page.isUnsure || now - asked < LEAST_PAUSE) return;
@@ -78,25 +69,61 @@ export async function refresh() {
   const asking = page;
   const before = JSON.stringify([page.plans, page.codes]);
   try {
-    await askPlans();
-    await askCodes();
+    await askLists();
   } catch (fault) {
-    if (!(fault instanceof Lost || fault instanceof Refusal)) throw fault;
-    return;
+    if (fault instanceof Lost || fault instanceof Refusal) return;
+    throw fault;
   }
   if (asking !== page || before === JSON.stringify([page.plans, page.codes])) return;
-  const { plan } = page;
-  if (plan && !page.plans.some(({ n }) => n === plan.n)) {
-    leavePlan();
-    byId("news").textContent = `Plan ${plan.n} isn't in the list any more.`;
-  } else if (plan) {
-    await openPlan(plan.n);
-  }
+  await showAgain();
+}
+
+/** Asks for the open plan again, or closes it if it isn't in the list any more. */
+async function showAgain() {
+  const n = page.plan?.n;
+  if (numbers().includes(n)) await openPlan(n);
+  else leavePlan();
 }
 
 export function dropPlan(n) {
   page.plans = page.plans.filter((plan) => plan.n !== n);
-  page.makespans.delete(n);
   page.projects.delete(n);
   forget(n);
+}
+
+// -- a lost connection
+
+/** Shows that no answer came, and what that means for a command that was sent. */
+export function noteLost(words, method) {
+  if (!byId("door").hidden) return;
+  page.isUnsure ||= method !== "GET";
+  const meaning = page.isUnsure
+    ? "A command was on its way, and it isn't known whether it was carried out. "
+      + "Nothing is sent again before the office has been asked."
+    : "Nothing has changed. The page shows what was answered before.";
+  byId("lost-words").textContent = `The connection is lost. ${words} ${meaning}`;
+  byId("lost").hidden = false;
+  byId("news").textContent = "";
+}
+
+export function noteAnswered() {
+  byId("lost").hidden ||= !page.isUnsure;
+}
+
+/** Asks for the present state, and shows what is new. */
+export async function askAgain() {
+  const before = numbers();
+  const isOffice = byId("desk").hidden;
+  await (isOffice ? tryOfficeKey() : askLists());
+  page.isUnsure = false;
+  byId("lost").hidden = true;
+  for (const node of document.querySelectorAll(".unanswered")) node.remove();
+  await showAgain();
+  const changes = [
+    ...numbers().filter((n) => !before.includes(n)).map((n) => `Plan ${n} is new in the list.`),
+    ...before.filter((n) => !numbers().includes(n)).map((n) => `Plan ${n} isn't in the list any more.`),
+  ];
+  byId("news").textContent = `The office has answered. ${
+    isOffice ? "Each command of this page can safely be sent again."
+      : changes.join(" ") || "The list has the same plans as before."}`;
 }

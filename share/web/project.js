@@ -12,7 +12,6 @@ const keptLines = (text) =>
 
 const titleOf = (line) => TITLES.find((title) => line.startsWith(title));
 
-/** Returns the sections with a title, each as its lines. */
 function sectionsOf(text, title) {
   const sections = [];
   let lines = null;
@@ -28,11 +27,9 @@ function sectionsOf(text, title) {
   return sections;
 }
 
-/** Returns the words of the first section with a title, without its column heads. */
 const wordsIn = (text, title) =>
   (sectionsOf(text, title)[0] ?? []).slice(1).flatMap((line) => line.split(/\s+/)).map(Number);
 
-/** Returns the names that a project file gives to activities and resources, by number. */
 export function namesOf(text) {
   const names = new Map(), resources = new Map();
   for (const line of sectionsOf(text, "PROJECT INFORMATION").flat()) {
@@ -54,7 +51,6 @@ export function titleIn(text) {
   return lines.length && !HEAD.test(first) && !titleOf(first) ? first : undefined;
 }
 
-/** Returns the number behind a key of the head. */
 function valueOf(text, key) {
   const line = keptLines(text).find((kept) => kept.startsWith(key));
   return Number((line ?? "").split(":")[1]?.trim().split(/\s+/)[0]);
@@ -87,7 +83,6 @@ export function readProject(text) {
   };
 }
 
-/** Returns the lines of an instance of a job shop file, or all lines of a file without names. */
 function blockOf(text, instance) {
   const lines = text.split("\n").map((line) => line.trim());
   const nameIn = (line) => line.match(/^instance\s+(\S+)$/)?.[1];
@@ -97,7 +92,6 @@ function blockOf(text, instance) {
   return lines.slice(at + 1, end < 0 ? lines.length : end);
 }
 
-/** Returns the names of jobs and machines that a job shop file gives, and its description. */
 export function readShop(text, instance) {
   const lines = blockOf(text, instance);
   const names = new Map(), resources = new Map();

@@ -7,7 +7,6 @@
 export const makespanOf = ({ durations }, starts) =>
   Math.max(0, ...starts.map((start, place) => start + durations[place]));
 
-/** Returns the first arc that is broken: least predecessor, then least successor. */
 function brokenArc({ arcs, durations }, starts) {
   const broken = arcs.filter(({ from, to, lag }) =>
     starts[to] < starts[from] + durations[from] + lag);
@@ -34,7 +33,6 @@ export function useOf({ durations, needs, capacities }, starts) {
   return steps;
 }
 
-/** Returns the first instant, and its first resource, at which more is used than there is. */
 function overload(model, starts) {
   for (const { time, used } of useOf(model, starts)) {
     const resource = used.findIndex((amount, place) => amount > model.capacities[place]);
@@ -78,7 +76,6 @@ export function boundsOf({ durations, arcs }, starts) {
   return { earliest, latest };
 }
 
-/** Returns the first activity that can start earlier, all others fixed; -1 if there is none. */
 function firstShift(model, starts) {
   const fits = fitter(model, starts);
   const { earliest } = boundsOf(model, starts);

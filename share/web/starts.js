@@ -8,15 +8,12 @@ const MOST_START = 10000000;
 /** A list of start times that can't be read, with the reason. */
 export class StartsFault extends Error {}
 
-/** Returns whole numbers, or throws an error that names the first other word. */
 function numbersOf(words) {
   const wrong = words.find((word) => !/^\d{1,9}$/.test(word) || Number(word) > MOST_START);
   if (wrong !== undefined) throw new StartsFault(`${wrong} isn't a start time from 0 to 10,000,000.`);
   return words.map(Number);
 }
 
-/** Returns the starts in rows with the columns `heads`, in the order of a plan's rows, which the
- * columns `keys` number. */
 function startsIn(heads, rows, keys, wanted) {
   const at = heads.indexOf("start");
   const places = keys.map((key) => heads.indexOf(key));
@@ -27,7 +24,6 @@ function startsIn(heads, rows, keys, wanted) {
   });
 }
 
-/** Returns the lines of a table that `plan` prints, split into words. */
 function tableIn(text) {
   const lines = text.split("\n").map((line) => line.trim().split(/\s+/));
   const at = lines.findIndex((words) => /^(act|job)$/.test(words[0]) && words.includes("start"));
@@ -35,7 +31,6 @@ function tableIn(text) {
   return { heads: lines[at], rows: lines.slice(at + 1).filter((words) => /^\d+$/.test(words[0])) };
 }
 
-/** Returns the rows of a CSV text with a column `start`. */
 function csvIn(text) {
   const plain = text.replace(/^\ufeff/, "");
   if (!/^[^\n]*\bstart\b/.test(plain) || !/^[^\n]*[,;\t]/.test(plain)) return null;
@@ -57,7 +52,6 @@ export function readStarts(text, kind, wanted) {
   return numbers;
 }
 
-/** Returns whether a text looks like start times. */
 export function isStarts(text) {
   return /^[\s\d]+$/.test(text) || Boolean(tableIn(text))
     || /^\ufeff?(act|job)[,;\t]([^\n]*[,;\t])?start\b/.test(text);
@@ -73,5 +67,4 @@ export const csvText = (rows) =>
   [Object.keys(rows[0]), ...rows.map(Object.values)]
     .map((cells) => `${cells.map((cell) => cellOf(String(cell ?? ""))).join(",")}\n`).join("");
 
-/** Returns the starts as bare numbers, one a line, as `plan check` reads them. */
 export const startsText = (rows) => rows.map(({ start }) => `${start}\n`).join("");

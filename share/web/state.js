@@ -1,10 +1,9 @@
 // The state of the page: who is signed in, the plans of the desk, and the plan that is open.
 
-/** The state of a page on which nobody is signed in. */
 const blankPage = () => ({
   desk: "", key: "", plans: [], codes: [], published: new Map(),
   // by plan number: what files and this browser's changes tell, kept in memory only
-  projects: new Map(), records: new Map(), makespans: new Map(),
+  projects: new Map(), records: new Map(),
   file: null, plan: null, isUnsure: false, waiting: Promise.resolve(),
 });
 

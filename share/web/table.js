@@ -3,81 +3,68 @@
 import { byId, fill, make } from "./dom.js";
 import { COLUMN_WORDS } from "./words.js";
 
-/** Returns the columns that are known: heads with a function that gives a row's cell. */
-export function columnsOf(view) {
-  const { plan, isNamed, dates, slack } = view;
-  const isProject = plan.kind === "project";
-  const first = isProject
-    ? [["number", (row) => row.number]]
-    : [["job", (row) => row.job], ["step", (row) => row.step], ["machine", (row) => row.machine]];
-  return [
-    ...first,
-    ...(isNamed ? [["name", (row) => row.name]] : []),
-    ["start", (row) => row.start], ["end", (row) => row.end],
-    ...(dates ? [["first day", (row) => row.first], ["last day", (row) => row.last]] : []),
-    ...(isProject && plan.dates?.rows ? [["float", (row) => row.float]] : []),
-    ...(slack ? [["slack", (row) => row.slack]] : []),
-  ];
-}
+const NAMES = { first: "first day", last: "last day" };
+let sorting = { n: 0, head: "", isDown: false };
+
+/** Returns the members of a row that are known, which are the columns. */
+const columnsOf = ({ plan, isNamed, dates, slack }) => [
+  ...(plan.kind === "project" ? ["number"] : ["job", "step", "machine"]),
+  ...(isNamed ? ["name"] : []), "start", "end", ...(dates ? ["first", "last"] : []),
+  ...(plan.dates?.rows ? ["float"] : []), ...(slack ? ["slack"] : []),
+];
 
 /** Returns the order of two cells: numbers as numbers, texts by the alphabet, empty ones last. */
 export function compare(a, b) {
   if (typeof a === "number" && typeof b === "number") return a - b;
-  if (!a || !b) return (a === "" || a === null) - (b === "" || b === null);
-  return String(a).localeCompare(String(b), "en", { numeric: true });
+  if (!a || !b) return (a === "") - (b === "");
+  return a.localeCompare(b, "en", { numeric: true });
 }
 
-/** Returns the rows sorted by a column; equal ones keep their order. */
-export function sortedRows(rows, valueOf, isDown) {
-  const sign = isDown ? -1 : 1;
-  return [...rows].sort((a, b) => sign * compare(valueOf(a), valueOf(b)) || a.index - b.index);
-}
+const classOf = (head) => head === "name" && "words";
 
-let sorting = { n: 0, head: "", isDown: false };
-
-const headWords = (head) => ({ scope: "col", class: head === "name" && "words" });
-
-/** Returns the head of a column with a button that sorts by it. */
 function headNode(head, show) {
-  const isThis = sorting.head === head;
-  const order = isThis ? (sorting.isDown ? "descending" : "ascending") : null;
-  const button = make("button", { type: "button", title: COLUMN_WORDS[head] ?? `the ${head}` },
-    head, make("span", { "aria-hidden": "true" }, order ? (sorting.isDown ? " ▼" : " ▲") : ""));
+  const { isDown } = sorting, isThis = sorting.head === head;
+  const name = NAMES[head] ?? head;
+  const title = COLUMN_WORDS[head] ?? `the ${name}`;
+  const button = make("button", { type: "button", title }, name,
+    make("span", { "aria-hidden": "true" }, isThis ? (isDown ? " ▼" : " ▲") : ""));
   button.addEventListener("click", () => {
-    sorting.isDown = isThis && !sorting.isDown;
+    sorting.isDown = isThis && !isDown;
     sorting.head = head;
     show();
-    byId("table").querySelector(`[data-head="${head}"] button`)?.focus();
+    byId("table").querySelector(`[data-head=${head}] button`).focus();
   });
-  return make("th", { ...headWords(head), "aria-sort": order, "data-head": head }, button);
+  const order = isThis && (isDown ? "descending" : "ascending");
+  return make("th",
+    { scope: "col", class: classOf(head), "aria-sort": order, "data-head": head }, button);
 }
 
-export function scheduleNode(view, columns, rows, heads, words) {
-  const cells = (row) => columns.map(([head, valueOf], place) => {
-    const star = place === 0 && row.isCritical ? "*" : "";
-    const attributes = { class: head === "name" && "words" };
-    const text = `${valueOf(row) ?? ""}${star}`;
-    return place ? make("td", attributes, text) : make("th", { scope: "row" }, text);
-  });
+function tableOf(columns, rows, heads, words) {
+  const cells = (row) => columns.map((head, at) => (at
+    ? make("td", { class: classOf(head) }, `${row[head]}`)
+    : make("th", { scope: "row" }, `${row[head]}${row.isCritical ? "*" : ""}`)));
   return make("table", {}, make("caption", {}, words),
     make("thead", {}, make("tr", {}, ...heads)),
     make("tbody", {}, ...rows.map((row) =>
-      make("tr", { class: row.isCritical && "critical", "data-row": row.index }, ...cells(row)))));
+      make("tr", { class: row.isCritical && "critical" }, ...cells(row)))));
 }
 
 export function showTable(view, words) {
+  const { n } = view.plan;
   const columns = columnsOf(view);
-  if (sorting.n !== view.plan.n) sorting = { n: view.plan.n, head: "", isDown: false };
-  const chosen = columns.find(([head]) => head === sorting.head);
-  const rows = chosen ? sortedRows(view.rows, chosen[1], sorting.isDown) : view.rows;
+  if (sorting.n !== n) sorting = { n, head: "", isDown: false };
+  const { head, isDown } = sorting;
+  const sign = isDown ? -1 : 1;
+  const rows = columns.includes(head)
+    ? view.rows.toSorted((a, b) => sign * compare(a[head], b[head]) || a.index - b.index) : view.rows;
   const show = () => showTable(view, words);
-  const heads = columns.map(([head]) => headNode(head, show));
-  fill("table", scheduleNode(view, columns, rows, heads, words));
+  fill("table", tableOf(columns, rows, columns.map((column) => headNode(column, show)), words));
 }
 
 /** Returns the table for paper: in the order of the plan, without buttons. */
 export function paperTable(view, words) {
   const columns = columnsOf(view);
-  const heads = columns.map(([head]) => make("th", headWords(head), head));
-  return scheduleNode(view, columns, view.rows, heads, words);
+  const heads = columns.map((head) =>
+    make("th", { scope: "col", class: classOf(head) }, NAMES[head] ?? head));
+  return tableOf(columns, view.rows, heads, words);
 }

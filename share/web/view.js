@@ -10,7 +10,6 @@ import { slackOf, verdictOf } from "./slack.js";
 
 const STARRED = "critical by dates alone (crews not counted)";
 
-/** Returns what a schedule is called: its rule, and its makespan. */
 export function nameOf(plan, rule) {
   const { verdict, total } = plan.schedules.get(rule);
   return rule === "best" ? `best ${verdict} ${total}` : `${rule} ${total}`;
@@ -48,14 +47,12 @@ function rowsOf(plan, table, slack) {
 
 const named = (name) => (name ? ` ${name}` : "");
 
-/** Returns the words about a row's times, dates and slack. */
 function timesOf({ start, end, first, last, slack, isCritical }, needed = "") {
   const dates = first ? `, ${first} to ${last}` : "";
   const known = slack === "" ? "" : `; ${slack ? `slack ${slack}` : "no slack"} in this schedule`;
   return `: ${start} to ${end}${dates}${needed}${isCritical ? `; ${STARRED}` : ""}${known}`;
 }
 
-/** Returns the bars of a project: an activity is a line. */
 function projectBars({ plan: { model, ...plan }, rows, slack }) {
   const { resources } = namesIn(plan);
   const isByResource = byId("colours").value === "resource" && model;
@@ -76,8 +73,6 @@ function projectBars({ plan: { model, ...plan }, rows, slack }) {
   });
 }
 
-/** Returns the bars of a job shop: coloured by jobs on the lines of machines, and by machines on the
- * lines of jobs. */
 function shopBars({ rows }) {
   const isMachine = byId("lines").value === "mach";
   const bars = rows.map((row) => {
@@ -96,7 +91,6 @@ function shopBars({ rows }) {
   return bars.map((bar) => ({ ...bar, colour: `c${colours.get(bar.key)}` }));
 }
 
-/** Returns the name of each line of a chart. */
 function lineNames({ plan, rows }) {
   const isMachine = byId("lines").value === "mach";
   return new Map(rows.map((row) => {
