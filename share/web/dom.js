@@ -26,11 +26,9 @@ export const draw = (tag, attributes = {}, ...children) =>
 export const wideNode = (name, child) =>
   make("div", { class: "wide", tabindex: "0", role: "region", "aria-label": name }, child);
 
-const rowHead = (cell) => make("th", { scope: "row" }, cell);
-
 export function tableNode({ caption, heads, rows, foot, marks = [] }) {
-  const row = (cells, index) => make("tr", { class: marks[index] && "critical" },
-    ...cells.map((cell, place) => (place ? make("td", {}, cell) : rowHead(cell))));
+  const row = ([first, ...cells], index) => make("tr", { class: marks[index] && "critical" },
+    make("th", { scope: "row" }, first), ...cells.map((cell) => make("td", {}, cell)));
   return make("table", {},
     ...(caption ? [make("caption", {}, caption)] : []),
     make("thead", {}, make("tr", {}, ...heads.map((head) => make("th", { scope: "col" }, head)))),
@@ -38,26 +36,18 @@ export function tableNode({ caption, heads, rows, foot, marks = [] }) {
     ...(foot ? [make("tfoot", {}, row(foot))] : []));
 }
 
-function entryOf(line, faults) {
-  const codes = line.match(/\b[A-Z]\d+\b/g) ?? [];
-  return codes.reverse().map((code) => faults[code]).find(Boolean) ?? [];
-}
-
-/** Returns an error with its meaning; `lead` comes first if there is one. */
+/** Returns an error with the meaning of its last code; `lead` comes first if there is one. */
 export function refusalNode(line, lead = "", faults = FAULTS) {
-  const meaning = entryOf(line, faults).map((words) => make("p", {}, words));
-  const first = lead ? [make("p", { class: "lead" }, lead)] : [];
-  return make("div", { class: "refusal", role: "alert" }, ...first, make("strong", {}, line),
-    ...meaning);
+  const code = (line.match(/\b[A-Z]\d+\b/g) ?? []).findLast((found) => faults[found]);
+  return make("div", { class: "refusal", role: "alert" },
+    ...(lead ? [make("p", { class: "lead" }, lead)] : []), make("strong", {}, line),
+    ...(faults[code] ?? []).map((words) => make("p", {}, words)));
 }
 
 export function faultNodes(fault) {
-  if (fault instanceof Refusal) {
-    return [refusalNode(fault.message, fault.lead), ...(fault.more ?? [])];
-  }
-  if (fault instanceof Lost) {
-    return [make("div", { class: "unanswered" }, refusalNode(fault.message))];
-  }
+  const { message, lead, more = [] } = fault;
+  if (fault instanceof Refusal) return [refusalNode(message, lead), ...more];
+  if (fault instanceof Lost) return [make("div", { class: "unanswered" }, refusalNode(message))];
   return [refusalNode(`The page failed: ${fault}`)];
 }
 
@@ -100,9 +90,7 @@ export function letChoose(list) {
       byId(other.getAttribute("aria-controls")).hidden = !isChosen;
     }
   };
-  list.addEventListener("click", ({ target }) => {
-    if (tabs.includes(target)) choose(target);
-  });
+  list.addEventListener("click", ({ target }) => tabs.includes(target) && choose(target));
   list.addEventListener("keydown", (event) => {
     const step = { ArrowRight: 1, ArrowLeft: -1 }[event.key];
     const at = tabs.indexOf(document.activeElement);

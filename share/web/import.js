@@ -122,13 +122,9 @@ function projectNodes({ name, table: { rows, resources, capacities } }) {
   ];
 }
 
-function cellNodes({ name, text }, { line, column }) {
-  let records = [];
-  try {
-    records = recordsOf(text.replace(/^\ufeff/, ""));
-  } catch {
-    return textNodes(name, text, line);
-  }
+function cellNodes({ name, text }, { line, column, message }) {
+  if (/^T13/.test(message)) return textNodes(name, text, line);
+  const records = recordsOf(text.replace(/^\ufeff/, ""));
   const at = Math.max(0, records.findIndex((record) => record.line === line));
   const rows = records.slice(Math.max(0, at - CONTEXT), at + CONTEXT + 1).map((record) => {
     const isMarked = record.line === line;
@@ -158,7 +154,8 @@ async function importFile(fields) {
   try {
     made = await command(path, "POST", new Blob([file.table ? text : file.bytes]));
   } catch (fault) {
-    if (fault instanceof Refusal) fault.more = placeInText(file.name, fault.message, text);
+    const named = fault.message.match(/^E10 .*?\bline (\d+)/);
+    if (named) fault.more = textNodes(file.name, text, Number(named[1]));
     throw fault;
   } finally {
     byId("import-answer").scrollIntoView({ block: "nearest" });
@@ -218,11 +215,7 @@ function instanceIn(text, { kind, schedules }) {
   return readProject(text)?.durations.join() === rows.map(({ d }) => d).join() ? "-" : undefined;
 }
 
-function placeInText(name, words, text) {
-  const named = words.match(/^E10 .*?\bline (\d+)/);
-  return named ? textNodes(name, text, Number(named[1])) : [];
-}
-
+/** Returns the lines of a text around one that is marked. */
 function textNodes(name, text, at) {
   const first = Math.max(1, at - CONTEXT);
   const shown = text.split("\n").slice(first - 1, at + CONTEXT).map((line, index) => {

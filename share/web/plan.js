@@ -141,12 +141,14 @@ export const showPaper = () => view && fillPaper(view);
 
 function showDayNote(plan) {
   const refusal = [...plan.days.values()].find((days) => days instanceof Refusal);
-  const isUnset = refusal?.message === "E12 G4 no calendar";
-  const words = isUnset ? "No calendar is set, so times are units of working time, counted from 0."
-    : plan.days.size && !view.dates ? "The dates of this schedule aren't known: the office's working "
-      + "days leave several calendars. Set the calendar on this page." : "";
-  const nodes = refusal && !isUnset ? faultNodes(refusal) : words ? [make("p", {}, words)] : [];
-  fill("days", ...nodes);
+  if (view.dates) fill("days");
+  else if (!refusal) {
+    fill("days", make("p", {}, "The dates of this schedule aren't known: the office's working days "
+      + "leave several calendars. Set the calendar on this page."));
+  } else if (refusal.message === "E12 G4 no calendar") {
+    fill("days", make("p", {}, "No calendar is set, so times are units of working time, counted "
+      + "from 0."));
+  } else fill("days", ...faultNodes(refusal));
 }
 
 function showChoice(plan) {

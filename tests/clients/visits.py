@@ -52,6 +52,8 @@ def slack_in(text, lines):
 def column(browser, head, css="#table"):
     """The cells of a column of a table."""
     heads, *rows = seen_table(browser, css)
+    if head not in heads:
+        raise Wrong(f"there is no column {head} in {heads}")
     return [row[heads.index(head)] for row in rows]
 
 
