@@ -5,6 +5,8 @@ import datetime
 import io
 import json
 import os
+import shutil
+import subprocess
 import sys
 
 from exchanges import OFFICE_KEY, TOP, Exchange, file_of
@@ -36,6 +38,16 @@ def sign_in(browser, desk=DESK, key=KEY):
     browser.type("#enter [name=desk]", desk)
     browser.type("#enter [name=key]", key)
     submit(browser, "enter")
+
+
+def shop_model(rows):
+    """The model of a job shop whose rows were printed: machines are resources of 1."""
+    machines = max(int(row[2]) for row in rows) + 1
+    needs = [[int(machine == int(row[2])) for machine in range(machines)] for row in rows]
+    arcs = [{"from": at - 1, "to": at, "lag": 0} for at in range(1, len(rows))
+            if rows[at - 1][0] == rows[at][0]]
+    return {"durations": [int(row[3]) for row in rows], "needs": needs, "arcs": arcs,
+            "capacities": [1] * machines}
 
 
 def model_of(text):
@@ -632,6 +644,22 @@ def visit_names(browser):
     same("what is kept with the switch", f"plan/of/{DESK}/6" in kept and "plan/forget" not in kept, True)
 
 
+def visit_other(browser, office):
+    """A plan of another desk with the same number and the same file has no names of this desk."""
+    for path, key, body in (("/office/desks", OFFICE_KEY, b'{"desk":"other","key":"other-key-1"}'),
+                            ("/desks/other/projects", "other-key-1", file_of(HOUSE))):
+        sent(office.server.port, "POST", path, key, body)
+    browser.click("#leave")
+    sign_in(browser, "other", "other-key-1")
+    browser.wait("its makespan", "return document.querySelector('#plans td:last-child')?.textContent")
+    same("its list", seen_table(browser, "#plans")[1:], [["Plan 1", "", "project", "45"]])
+    open_plan(browser, 1)
+    same("its head", seen(browser, "#plan-head"), "Plan 1, a project")
+    browser.click("#leave")
+    sign_in(browser)
+    wait_text(browser, "#plans", "list")
+
+
 # ---- job shops
 
 
@@ -657,14 +685,19 @@ def visit_shop(browser):
         lines = printed("shop", rule, example("shops.txt"), "printing")
         rows = rows_of(lines)
         same_bars(rule, browser, [[row[2], row[4], row[5]] for row in rows], makespan_of(lines))
-        same("the table", [row[:5] for row in seen_table(browser, "#table")[1:]],
-             [[row[0], row[1], row[2], row[4], row[5]] for row in rows])
+        slack = brute_slack(shop_model(rows), [int(row[4]) for row in rows])
+        same("the table", seen_table(browser, "#table")[1:],
+             [[row[0], row[1], row[2], row[4], row[5], str(s)] for row, s in zip(rows, slack)])
     browser.click("#lines option[value=job]")
     same_bars("jobs", browser, [[row[0], row[4], row[5]] for row in rows], makespan_of(lines))
     browser.click("#lines option[value=mach]")
     browser.type("#best [name=budget]", "6")
     submit(browser, "best")
     wait_text(browser, "#best-answer", "optimal 6:")
+    open_tab(browser, "changes")
+    browser.type("#bind [name=place]", "0")
+    submit(browser, "bind")
+    same("machine 0", "machine 0 is press-1 (set here on" in seen(browser, "#bind-set"), True)
     limits = browser.run("const { place } = bind.elements; return [place.min, place.max]")
     same("the places of two machines", limits, ["0", "1"])
 
@@ -682,6 +715,10 @@ def visit_colours(browser):
     the order of their numbers; names are in labels and tooltips."""
     drop(browser, "big.txt", large_shop())
     wait_plan(browser, 8)
+    rows = rows_of(printed("shop", "mwkr", "-", "big", given=large_shop().encode()))
+    slack = brute_slack(shop_model(rows), [int(row[4]) for row in rows])
+    same("the slack of the steps", column(browser, "slack"), [str(number) for number in slack])
+    same("some slack", any(slack), True)
     for lines, count, other in (("mach", 10, 15), ("job", 15, 10)):
         browser.click(f"#lines option[value={lines}]")
         bars = browser.run("""
@@ -732,7 +769,7 @@ def visit_closed(browser, office):
                 && chart.checkVisibility() === arguments[0];
         """, is_open)
         told = texts(browser, "#plan-answer strong")
-        same("the error", told, [] if is_open else ["E11 S4 machine 1 closed"])
+        same("the error", told, [] if is_open else ["E11 S4 machine 0 closed"])
 
 
 def visit_refused(browser):
@@ -1029,11 +1066,25 @@ def visit_quiet(browser):
 
 def shot(browser, name):
     """A picture for the docs."""
-    picture = smaller(browser.picture())
+    keep(name, browser.picture())
+
+
+def keep(name, png):
+    picture = smaller(png)
+    if len(picture) > LARGEST_PICTURE:
+        picture = smaller(png, 32)
     with open(os.path.join(PICTURES, name), "wb") as file:
         file.write(picture)
     if len(picture) > LARGEST_PICTURE:
         raise Wrong(f"{name} has {len(picture)} bytes")
+
+
+def sheet(browser, name, number):
+    """A picture of one printed sheet, if pdftoppm is there."""
+    tool = shutil.which("pdftoppm")
+    if tool:
+        words = [tool, "-r", "72", "-png", "-f", str(number), "-l", str(number), "-"]
+        keep(name, subprocess.run(words, input=browser.printed(), capture_output=True, check=True).stdout)
 
 
 def open_north(browser, office):
@@ -1065,6 +1116,17 @@ def visit_pictures(browser, office):
     browser.run("scrollTo(0, 0)")
     browser.point("#drawing .bar[data-line='5'] rect")
     shot(browser, "desk.png")
+    sheet(browser, "sheet.png", 1)
+    browser.resize(360, 740)
+    browser.run("document.querySelector('#caption').scrollIntoView()")
+    shot(browser, "narrow.png")
+    drop(browser, "big.txt", large_shop())
+    wait_plan(browser, 3)
+    browser.resize(1600, 900)
+    fits(browser, 1600)
+    browser.run("scrollTo(0, 0)")
+    shot(browser, "wide.png")
+    browser.resize(1120, 760)
     open_plan(browser, 1)
     submit(browser, "best")
     wait_text(browser, "#best-answer", "optimal 55:")
@@ -1095,7 +1157,7 @@ def named_house():
 VISIT = [
     visit_door, visit_help, visit_office, visit_desk, visit_left, visit_import, visit_bars, visit_slack,
     visit_use, visit_sort, visit_calendar, visit_today, visit_bind, visit_lag, visit_elsewhere,
-    visit_best, visit_large, visit_check, visit_save, visit_table, visit_capacity, visit_names,
+    visit_best, visit_large, visit_check, visit_save, visit_table, visit_capacity, visit_names, visit_other,
     visit_shop, visit_colours, visit_links, visit_closed, visit_refused, visit_keys, visit_delete,
     visit_lost, visit_found, visit_waiting, visit_sizes, visit_senses, visit_paper, visit_quiet,
     visit_pictures,
