@@ -55,21 +55,20 @@ function decoded(bytes) {
 }
 
 const separatorOf = (text) =>
-  ["\t", ";", ","].find((mark) => text.split("\n", 1)[0].includes(mark)) ?? ",";
+  ["\t", ";", ","].find((mark) => text.split(/[\r\n]/, 1)[0].includes(mark)) ?? ",";
 
 /** Returns the records of a text by RFC 4180, each with the line on which it begins. */
 export function recordsOf(text, mark = separatorOf(text)) {
-  const rest = `[^${mark}\n]*`;
+  const rest = `[^${mark}\r\n]*`;
   const cell = new RegExp(
-    `(?:"([^"]*(?:""[^"]*)*)"(${rest})|([^"${mark}\n]${rest})?)(${mark}|\n|$)`, "y");
+    `(?:"([^"]*(?:""[^"]*)*)"(${rest})|([^"${mark}\r\n]${rest})?)(${mark}|\r?\n|\r|$)`, "y");
   const records = [];
   for (let line = 1, record = null; record || cell.lastIndex < text.length;) {
     record ??= { line, cells: [] };
     const found = cell.exec(text);
     if (!found) fail(`T13 line ${record.line} cells`, record.line);
     const [whole, quoted, behind, plain = "", end] = found;
-    const words = quoted === undefined ? plain : quoted.replaceAll('""', '"') + behind;
-    record.cells.push(end === mark ? words : words.replace(/\r$/, ""));
+    record.cells.push(quoted === undefined ? plain : quoted.replaceAll('""', '"') + behind);
     line += whole.split("\n").length - 1;
     if (end === mark) continue;
     records.push(record);

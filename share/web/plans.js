@@ -14,15 +14,21 @@ let asked = -LEAST_PAUSE;
 
 const numbers = () => page.plans.map(({ n }) => n);
 
-/** Asks for the list of plans and for the published capacities. */
+const isSame = (a, b) => JSON.stringify(a) === JSON.stringify(b);
+
+/** Asks for the list of plans and for the published capacities. Lists that are the same stay, because
+ * a click that gives the window the focus would miss a new button. */
 export async function askLists() {
-  page.plans = (await ask(deskPath("plans"))).plans;
-  showPlans();
+  const { plans } = await ask(deskPath("plans"));
+  const isOld = isSame(plans, page.plans);
+  page.plans = plans;
+  if (!isOld || !byId("plans").firstChild) showPlans();
   page.codes = (await ask(deskPath("capacities"))).capacities;
   fill("codes", codesTable(page.codes, "The office has published nothing yet."));
 }
 
 export function showPlans() {
+  const { value } = byId("plans").contains(document.activeElement) ? document.activeElement : {};
   const rows = page.plans.map(({ n, kind }) => {
     const words = { type: "button", value: n, "data-awaiting": `Plan ${n} …` };
     const button = make("button", words, `Plan ${n}`);
@@ -34,6 +40,7 @@ export function showPlans() {
   const heads = ["Number", "Title", "Kind", "Makespan"];
   fill("plans",
     rows.length ? tableNode({ heads, rows }) : make("p", {}, "No plans yet. Drop a file below."));
+  if (value) byId("plans").querySelector(`[value="${value}"]`)?.focus();
   markOpen();
 }
 
@@ -67,14 +74,14 @@ export async function refresh() {
   if (byId("desk").hidden || page.isUnsure || now - asked < LEAST_PAUSE) return;
   asked = now;
   const asking = page;
-  const before = JSON.stringify([page.plans, page.codes]);
+  const before = [page.plans, page.codes];
   try {
     await askLists();
   } catch (fault) {
     if (fault instanceof Lost || fault instanceof Refusal) return;
     throw fault;
   }
-  if (asking !== page || before === JSON.stringify([page.plans, page.codes])) return;
+  if (asking !== page || isSame(before, [page.plans, page.codes])) return;
   await showAgain();
 }
 

@@ -32,10 +32,11 @@ const wordsIn = (text, title) =>
 
 export function namesOf(text) {
   const names = new Map(), resources = new Map();
-  for (const line of sectionsOf(text, "PROJECT INFORMATION").flat()) {
-    const [, kind, number, name] = line.match(/^(name|resource) (\d{1,9}) (.+)$/) ?? [];
+  const behind = text.slice(text.search(/^\s*RESOURCEAVAILABILITIES/m));
+  for (const line of sectionsOf(behind, "PROJECT INFORMATION").flat()) {
+    const [, kind, number, name] = line.match(/^(name|resource)\s+(\d{1,9})\s+(.+)$/) ?? [];
     const place = kind === "name" ? names : resources;
-    if (kind && !place.has(Number(number))) place.set(Number(number), name.trim());
+    if (kind && !place.has(Number(number))) place.set(Number(number), name);
   }
   return { names, resources };
 }

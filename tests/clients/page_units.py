@@ -287,7 +287,7 @@ def try_records(modules, draw):
         rows = [[draw.choice(["", "a", "b c", 'x"y', f"m{mark}n", "two\nlines", " ", "ä", "'"])
                  for _ in range(draw.randrange(1, 5))] for _ in range(draw.randrange(1, 6))]
         out = io.StringIO()
-        csv.writer(out, delimiter=mark, lineterminator=draw.choice(["\n", "\r\n"])).writerows(rows)
+        csv.writer(out, delimiter=mark, lineterminator=draw.choice(["\n", "\r\n", "\r"])).writerows(rows)
         text = out.getvalue()
         models.append(list(csv.reader(io.StringIO(text, newline=""), delimiter=mark)))
         calls.append(["csv", "recordsOf", [text, mark]])
@@ -424,10 +424,10 @@ def try_projects(modules, draw):
             same(f"the title of {name}", found["title"], title)
     named = file_of("examples/kitchen.sm").decode() + (
         "***\nPROJECT INFORMATION:\nname 2 Demolition work\nname 3 Plumbing\nresource 1 crew\n"
-        "name 2 Another\n***\n")
+        "name 2 Another\nname  4   Wiring\nname 5\n***\n")
     found = modules.values([["project", "readProject", [named]]])[0]
     same("the names", (found["names"], found["resources"]),
-         ([[2, "Demolition work"], [3, "Plumbing"]], [[1, "crew"]]))
+         ([[2, "Demolition work"], [3, "Plumbing"], [4, "Wiring"]], [[1, "crew"]]))
     shop = ("+ nothing\n instance a\n+ machine 0 press\n+ job 1 order 7\nfirst\n1 2\n0 1 1 2\n"
             " instance b\n+ machine 0 saw\nsecond\n1 1\n0 3\n")
     found = modules.values([["project", "readShop", [shop, name]] for name in ("a", "b")])

@@ -752,6 +752,27 @@ def visit_links(browser):
     same("the links of step 1 of job 2", sorted(arcs), [["1", "3"], ["3", "4"]])
 
 
+def visit_focus(browser, office):
+    """The window's focus asks for the lists, which stay if nothing has changed; a plan that was
+    deleted elsewhere is closed."""
+    mark = "return document.querySelector('#plans button')"
+    browser.run(f"window.kept = ({mark[7:]}); window.asked = 0; const real = window.fetch;"
+                "window.fetch = (...words) => { window.asked += 1; return real(...words); };")
+    focus_window(browser)
+    browser.wait("the lists", "return window.asked >= 2")
+    wait_idle(browser)
+    browser.wait("the capacities", "return document.querySelectorAll('#codes tr').length > 2")
+    same("the same button", browser.run(f"return window.kept === ({mark[7:]})"), True)
+    drop(browser, "six.sm", file_of("examples/six.sm").decode())
+    wait_plan(browser, 9)
+    wait_idle(browser)
+    talk(office.server.port, Exchange("DELETE", f"/desks/{DESK}/plans/9", KEY).request())
+    focus_window(browser)
+    browser.wait("no plan", "return plan.hidden")
+    same("the plans", seen_plans(browser), list(range(1, 9)))
+    open_plan(browser, 7)
+
+
 def visit_closed(browser, office):
     """A machine whose code is published with 0 is closed, and the plan says so in the place of a
     chart; with 1 it is open again. The window's focus asks for it."""
@@ -854,8 +875,8 @@ def visit_lost(browser, office):
     same("the office's plans", listed(office.server), before)
     same("the warning", browser.run("return lost.checkVisibility()"), False)
     submit(browser, "import")
-    wait_plan(browser, 9)
-    same("the office's plans then", listed(office.server), [*before, 9])
+    wait_plan(browser, 10)
+    same("the office's plans then", listed(office.server), [*before, 10])
 
 
 def visit_found(browser, office):
@@ -874,15 +895,15 @@ def visit_found(browser, office):
     wait_idle(browser)
     focus_window(browser)
     browser.click("#again")
-    wait_text(browser, "#news", "Plan 10 is new in the list.")
+    wait_text(browser, "#news", "Plan 11 is new in the list.")
     wait_idle(browser)
-    same("the plans", seen_plans(browser), [*before, 10])
-    same("the office's plans", listed(office.server), [*before, 10])
+    same("the plans", seen_plans(browser), [*before, 11])
+    same("the office's plans", listed(office.server), [*before, 11])
 
 
 def visit_waiting(browser):
     """While an answer is awaited the button says so."""
-    open_plan(browser, 9)
+    open_plan(browser, 10)
     browser.run("""
         const real = window.fetch;
         window.fetch = async (...words) => {
@@ -926,7 +947,7 @@ def visit_sizes(browser):
         browser.darken(scheme)
         same(f"a {scheme} page", sum(browser.run(paper)) < 200, is_dark)
     drop(browser, "chain.sm", chain(120))
-    wait_plan(browser, 11)
+    wait_plan(browser, 12)
     wait_idle(browser)
     screens = browser.run("return document.documentElement.scrollHeight / innerHeight")
     same("screens of 120 activities", screens <= 3, True)
@@ -1034,7 +1055,7 @@ def visit_paper(browser):
     """A plan is printed on A4 on its side: charts of 40 lines, each on a sheet, then the table with all
     rows; nothing is cut off."""
     browser.resize(1120, 720)
-    for n, count in ((1, 14), (11, 120)):
+    for n, count in ((1, 14), (12, 120)):
         open_plan(browser, n)
         wait_idle(browser)
         *charts, table = printed_texts(browser)
@@ -1048,7 +1069,7 @@ def visit_paper(browser):
         pages = sheets.count(b"/Type /Page\n")
         same("their size", b"/MediaBox [0 0 84" in sheets, True)
         same(f"the sheets of plan {n}", pages, {14: 2, 120: 6}[count])
-    same("the head", "desk trial, plan 11" in browser.run("dispatchEvent(new Event('beforeprint'));"
+    same("the head", "desk trial, plan 12" in browser.run("dispatchEvent(new Event('beforeprint'));"
          " return document.querySelector('#paper header').textContent"), True)
     browser.run("dispatchEvent(new Event('afterprint'))")
     same("the page afterwards", browser.run("return paper.childElementCount"), 0)
@@ -1158,7 +1179,7 @@ VISIT = [
     visit_door, visit_help, visit_office, visit_desk, visit_left, visit_import, visit_bars, visit_slack,
     visit_use, visit_sort, visit_calendar, visit_today, visit_bind, visit_lag, visit_elsewhere,
     visit_best, visit_large, visit_check, visit_save, visit_table, visit_capacity, visit_names, visit_other,
-    visit_shop, visit_colours, visit_links, visit_closed, visit_refused, visit_keys, visit_delete,
+    visit_shop, visit_colours, visit_links, visit_focus, visit_closed, visit_refused, visit_keys, visit_delete,
     visit_lost, visit_found, visit_waiting, visit_sizes, visit_senses, visit_paper, visit_quiet,
     visit_pictures,
 ]
