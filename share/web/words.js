@@ -27,7 +27,8 @@ const TERMS = {
   "Float": "how far an activity can slip if crews are not counted. A star marks float 0. If crews "
     + "bind, a starred activity may have slack, and one without a star may have none.",
   "Slack": "how much later an activity can start in the schedule that is drawn, all others fixed, so "
-    + "that it stays feasible and no longer.",
+    + "that it stays feasible and no longer. It comes from the plan's file and the changes made in this "
+    + "browser; if the office's dates or schedules differ from these, it isn't shown.",
   "Search steps": "the budget of a search; 200,000 take some seconds.",
   "Optimal": "no schedule of this plan is shorter.",
   "Active": "feasible, and no activity can start earlier by itself.",

@@ -14,8 +14,8 @@ from front import sent
 from page_units import as_model, brute_slack, read_sm, worked_days
 from pages import (
     RULES, drop, example, explained, focus_window, makespan_of, open_plan, open_tab, printed, rows_of,
-    same_bars, same_project, same_table, seen, seen_axis, seen_plans, seen_table, set_date, submit,
-    texts, wait_idle, wait_plan, wait_text,
+    same_bars, same_project, same_senses, same_table, seen, seen_axis, seen_plans, seen_table,
+    set_date, submit, texts, wait_idle, wait_plan, wait_text,
 )
 from pictures import smaller
 from programs import Wrong, plan, same, talk
@@ -87,6 +87,7 @@ def visit_door(browser):
     browser.type("#enter-office [name=key]", "no-such-key")
     submit(browser, "enter-office")
     wait_text(browser, "#enter-office .refusal", "E01 key")
+    same_senses("signing in", browser)
 
 
 def visit_help(browser):
@@ -122,6 +123,7 @@ def visit_office(browser):
     browser.type("#open [name=key]", KEY)
     submit(browser, "open")
     wait_text(browser, "#open .refusal", "E04 desk exists")
+    same_senses("the office", browser)
     browser.click("#leave")
 
 
@@ -575,6 +577,7 @@ def visit_table(browser):
     wait_text(browser, "#preview strong", "T8 line 5 predecessor X")
     same("the cell", texts(browser, "#preview .wrong"), ["B X"])
     same("the row", texts(browser, "#preview .marked td")[0], "D")
+    same_senses("a table with an error", browser)
     same("a button", browser.run("return document.querySelector('#chosen button').checkVisibility()"),
          False)
     drop(browser, "list.csv", text)
@@ -953,81 +956,15 @@ def visit_sizes(browser):
     same("screens of 120 activities", screens <= 3, True)
 
 
-# relative luminance and contrast, by the Web Content Accessibility Guidelines
-CONTRAST = """
-    const channel = (value) => {
-        const part = value / 255;
-        return part <= 0.04045 ? part / 12.92 : ((part + 0.055) / 1.055) ** 2.4;
-    };
-    const light = ([r, g, b]) => 0.2126 * channel(r) + 0.7152 * channel(g) + 0.0722 * channel(b);
-    const parts = (colour) => colour.match(/[0-9.]+/g).map(Number);
-    const contrast = (a, b) => {
-        const [low, high] = [light(a), light(b)].sort((x, y) => x - y);
-        return (high + 0.05) / (low + 0.05);
-    };
-    const behind = (node) => {
-        for (let at = node; at; at = at.parentElement) {
-            const colour = parts(getComputedStyle(at).backgroundColor);
-            if (colour.length === 3 || colour[3] === 1) return colour;
-        }
-        return [255, 255, 255];
-    };
-    const found = [];
-    const walker = document.createTreeWalker(document.body, NodeFilter.SHOW_TEXT);
-    while (walker.nextNode()) {
-        const node = walker.currentNode.parentElement;
-        if (!walker.currentNode.data.trim() || !node.checkVisibility() || node.closest("title, [aria-disabled]"))
-            continue;
-        const style = getComputedStyle(node), bar = node.closest(".bar");
-        const isText = node.namespaceURI.endsWith("svg");
-        const ink = parts(isText ? style.fill : style.color);
-        const under = bar && !node.classList.contains("behind")
-            ? parts(getComputedStyle(bar.querySelector("rect, path")).fill) : behind(node.closest("svg") ?? node);
-        const value = contrast(ink, under);
-        if (value < 4.5) found.push(`${node.tagName}.${node.getAttribute("class")} ${value.toFixed(2)} ${node.textContent.slice(0, 20)}`);
-    }
-    return found;
-"""
-
-# names and roles that programs for reading aloud need
-NAMES = """
-    const found = [];
-    const visible = (css) => [...document.querySelectorAll(css)].filter((node) => node.checkVisibility());
-    const named = (node) => node.getAttribute("aria-label") || node.labels?.length || node.title
-        || (node.getAttribute("aria-labelledby") && document.getElementById(node.getAttribute("aria-labelledby")))
-        || (node.tagName === "BUTTON" && node.textContent.trim());
-    for (const node of visible("input, select, textarea, button, [role=region], [role=tabpanel], [role=tablist], svg[role]"))
-        if (!named(node)) found.push(`${node.tagName}#${node.id} has no name`);
-    const ids = [...document.querySelectorAll("[id]")].map((node) => node.id);
-    for (const id of ids) if (ids.indexOf(id) !== ids.lastIndexOf(id)) found.push(`two elements ${id}`);
-    for (const node of document.querySelectorAll("[aria-controls], [aria-labelledby]")) {
-        const id = node.getAttribute("aria-controls") ?? node.getAttribute("aria-labelledby");
-        if (!document.getElementById(id)) found.push(`no element ${id}`);
-    }
-    for (const table of visible("table"))
-        if (table.tHead && !table.querySelector("thead th[scope=col]")) found.push("a table without heads");
-    for (const node of visible("[tabindex]")) if (node.tabIndex > 0) found.push(`tabindex ${node.tabIndex}`);
-    if (document.documentElement.lang !== "en") found.push("no language");
-    if (visible("main").length !== 1 || visible("h1").length !== 1) found.push("main or h1");
-    const heads = visible("h1, h2, h3").map((node) => Number(node.tagName[1]));
-    heads.forEach((level, at) => { if (at && level > heads[at - 1] + 1) found.push(`a heading skips to ${level}`); });
-    return found;
-"""
-
-
 def visit_senses(browser):
     """Texts have a contrast of 4.5, in the light and in the dark; fields, buttons, regions and
     pictures have names."""
     for n, tab in ((1, "table"), (6, "changes"), (8, "handin")):
         open_plan(browser, n)
         open_tab(browser, tab)
-        for scheme in ("light", "dark"):
-            browser.darken(scheme)
-            same(f"texts of plan {n} in the {scheme}", browser.run(CONTRAST), [])
-            same(f"names of plan {n}", browser.run(NAMES), [])
-    browser.darken("light")
+        same_senses(f"plan {n}", browser)
     browser.click("#help-button")
-    same("names with the help panel", browser.run(NAMES), [])
+    same_senses("the help panel", browser)
     browser.press(ESCAPE)
 
 
