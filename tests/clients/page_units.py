@@ -2,6 +2,7 @@
 starts, table) with Python's datetime and csv, with plain models, and with `plan`. Needs node.
 """
 
+import contextlib
 import csv
 import datetime
 import glob
@@ -247,7 +248,8 @@ def meant(value):
 
 def try_tables(modules, draw):
     """The shared tables become the projects, or give the errors, that are told beside them; the
-    project files are read back, and `plan` accepts them."""
+    project files are read back, and `plan` accepts them. `plan import` does the same, if this
+    program has it."""
     paths = sorted(glob.glob(os.path.join(TABLES, "*.csv")))
     contents = [open(path, "rb").read() for path in paths]
     results = modules.call([["csv", "readTable", [{"bytes": list(content)}]]
@@ -274,9 +276,20 @@ def try_tables(modules, draw):
         name = os.path.basename(path)[:-4]
         if name in cells:
             same(f"the cell of {name}", (result["line"], result["column"]), cells[name])
+    if plan("import", "--help")[0] == 0:
+        same_imports(paths, texts)
     long = b"id,duration\n" + b"a" * 1048576
     same("a table that is too long", modules.call([["csv", "readTable", [{"bytes": list(long)}]]])[0]
          .get("fault"), "T1 too long")
+
+
+def same_imports(paths, texts):
+    """`plan import` gives the same project files and errors, to the byte."""
+    for path in paths:
+        with contextlib.suppress(FileNotFoundError), open(path[:-3] + "error", "rb") as file:
+            same(f"plan import {path}", plan("import", path), (1, b"", file.read()))
+            continue
+        same(f"plan import {path}", plan("import", path), (0, texts[path].encode(), b""))
 
 
 def try_records(modules, draw):
