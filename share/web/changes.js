@@ -55,11 +55,12 @@ async function deletePlan() {
   byId("news").textContent = `Plan ${n} is deleted.`;
 }
 
-/** Shows what was set here of one kind. */
+/** Shows what was set here of one kind, and returns the last of it. */
 function showSet(place, changes, words) {
-  const told = Object.values(changes ?? {})
-    .map((change) => `${words(change)} (set here on ${change.on})`);
+  const made = Object.values(changes ?? {}).sort((a, b) => a.time - b.time);
+  const told = made.map((change) => `${words(change)} (set here on ${change.on})`);
   byId(place).textContent = told.join("; ") || NOT_HERE;
+  return made.at(-1) ?? {};
 }
 
 /** Shows the forms of changes as the kind of the plan has them. */
@@ -76,8 +77,13 @@ export function showChanges(plan) {
     .map(([value, name]) => make("option", { value }, name)));
   code.replaceChildren(...page.codes.filter(({ kind }) => kind === CODE_KINDS[plan.kind])
     .map((found) => make("option", { value: found.code }, `${found.code} (${found.capacity})`)));
-  showSet("bind-set", binds, (made) => `${word.toLowerCase()} ${made.at} is ${made.code}`);
-  showSet("lag-set", lags, ({ at, lag }) => `${at}: ${lag}`);
+  const bound = showSet("bind-set", binds, (made) => `${word.toLowerCase()} ${made.at} is ${made.code}`);
+  place.value = bound.at ?? "";
+  if (bound.code) code.value = bound.code;
+  const delayed = showSet("lag-set", lags, ({ at, lag }) => `${at}: ${lag}`);
+  const { from, to, lag } = byId("lag").elements;
+  [from.value, to.value] = (delayed.at ?? "-").split("-");
+  lag.value = delayed.lag ?? "";
   byId("lag").hidden = !isProject;
   byId("calendar").elements.start.value = calendar?.start ?? "";
   boxesOf(byId("calendar")).forEach((box, at) => {

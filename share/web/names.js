@@ -76,8 +76,8 @@ export function shapeOf(rows) {
 }
 
 export function rememberChange(n, kind, value) {
-  const on = new Date().toISOString().slice(0, 10);
+  const now = new Date();
   const { set } = recordOf(n);
-  const made = { ...value, on };
+  const made = { ...value, on: now.toLocaleDateString("en-CA"), time: now.getTime() };
   remember(n, { set: { ...set, [kind]: "at" in value ? { ...set?.[kind], [value.at]: made } : made } });
 }

@@ -299,7 +299,7 @@ def visit_calendar(browser):
     set_date(browser, "#calendar [name=start]", start)
     submit(browser, "calendar")
     wait_text(browser, "#calendar .answer", "From 2024-03-01 on; working days 1111100")
-    same("set here", f"Set here on {datetime.datetime.now(datetime.UTC).date()}; the office doesn't"
+    same("set here", f"Set here on {datetime.date.today()}; the office doesn't"
          in seen(browser, "#calendar-set"), True)
     for rule in RULES:
         browser.click(f"#drawn [value={rule}]")
@@ -543,6 +543,9 @@ def visit_save(browser, office):
     open_plan(browser, 1)
     lines = printed("schedule", "spt", "-", given=house_of_four())
     rows = rows_of(lines)
+    fields = browser.run("return [bind.elements.place, bind.elements.code, lag.elements.from,"
+                         " lag.elements.to, lag.elements.lag].map((field) => field.value)")
+    same("the values set here last", fields, ["1", "crew-a", "2", "3", "0"])
     browser.click("#drawn [value=spt]")
     name, text = downloaded(browser, office, "csv")
     same("the name of the file", name, f"{DESK}-plan-1-spt.csv")
