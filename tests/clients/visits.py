@@ -495,10 +495,17 @@ def visit_large(browser):
               makespan_of(lines))
 
 
+def values_set(browser):
+    """The values in the forms of changes."""
+    return browser.run("return [bind.elements.place, lag.elements.from, lag.elements.to,"
+                       " lag.elements.lag, calendar.elements.start].map((field) => field.value)")
+
+
 def visit_check(browser):
     """Start times get the verdicts of `plan check`, with the makespan, and their place is shown."""
     drop(browser, "six.sm", file_of("examples/six.sm").decode())
     wait_plan(browser, 5)
+    same("values of a plan that wasn't changed here", values_set(browser), [""] * 5)
     cases = ["0 0 0 3 2 7", "0 0 0 3 2 8", "0 0 0 2 2 7", "0 0 0 3 3 7", "0 0 1 3 3 7", "0 0 0 3 0 7"]
     for starts in cases:
         line = plan("check", example("six.sm"), "-", given=starts.encode())[1].decode().rstrip("\n")
@@ -543,9 +550,7 @@ def visit_save(browser, office):
     open_plan(browser, 1)
     lines = printed("schedule", "spt", "-", given=house_of_four())
     rows = rows_of(lines)
-    fields = browser.run("return [bind.elements.place, bind.elements.code, lag.elements.from,"
-                         " lag.elements.to, lag.elements.lag].map((field) => field.value)")
-    same("the values set here last", fields, ["1", "crew-a", "2", "3", "0"])
+    same("the values set here last", values_set(browser), ["1", "2", "3", "0", "2024-03-01"])
     browser.click("#drawn [value=spt]")
     name, text = downloaded(browser, office, "csv")
     same("the name of the file", name, f"{DESK}-plan-1-spt.csv")
