@@ -1,5 +1,5 @@
-// Changes of a plan: binds, the calendar, lags, and deleting it. The fields are filled with the last
-// values that this browser set, because the office has no route that returns them.
+// Changes of a plan: binds, the calendar, lags, and deleting it. The fields are filled with the
+// last values that this browser set, because the office has no route that returns them.
 
 import { command, planPath } from "./api.js";
 import { byId, fill, make, onSubmit } from "./dom.js";
@@ -77,7 +77,8 @@ export function showChanges(plan) {
     .map(([value, name]) => make("option", { value }, name)));
   code.replaceChildren(...page.codes.filter(({ kind }) => kind === CODE_KINDS[plan.kind])
     .map((found) => make("option", { value: found.code }, `${found.code} (${found.capacity})`)));
-  const bound = showSet("bind-set", binds, (made) => `${word.toLowerCase()} ${made.at} is ${made.code}`);
+  const bound = showSet("bind-set", binds,
+    (made) => `${word.toLowerCase()} ${made.at} is ${made.code}`);
   place.value = bound.at ?? "";
   if (bound.code) code.value = bound.code;
   const delayed = showSet("lag-set", lags, ({ at, lag }) => `${at}: ${lag}`);

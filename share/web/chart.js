@@ -1,5 +1,5 @@
-// The Gantt chart of a view and the use of its resources, as SVG: for the screen with bars that tell
-// their words, and for paper.
+// The Gantt chart of a view and the use of its resources, as SVG: for the screen with bars that
+// tell their words, and for paper.
 
 import { byId, draw, fill, make } from "./dom.js";
 import {
@@ -87,7 +87,8 @@ export const legendNodes = (view) => legendOf(view).map(([name, words]) => make(
 
 export function captionOf({ plan, calendar }) {
   const unit = calendar ? "weeks begin on Monday, free days are shaded" : "working time from 0";
-  return `${plan.kind === "project" ? "Activities" : "Steps"} by ${nameOf(plan, plan.drawn)}; ${unit}`;
+  const rows = plan.kind === "project" ? "Activities" : "Steps";
+  return `${rows} by ${nameOf(plan, plan.drawn)}; ${unit}`;
 }
 
 function showLinks(view, chart, index) {

@@ -1,5 +1,5 @@
-// A table of activities, as spreadsheets save it, and the project file that it becomes: the rules and
-// the error codes T1 to T13 of `plan import`.
+// A table of activities, as spreadsheets save it, and the project file that it becomes: the rules
+// and the error codes T1 to T13 of `plan import`.
 
 const MOST = { bytes: 1048576, rows: 500, resources: 16, amount: 10000, work: 1000000, name: 200 };
 const FIXED = ["id", "name", "duration", "predecessors"];
@@ -82,7 +82,8 @@ function columnsOf({ line, cells }) {
   cells.forEach((cell, place) => {
     const name = cell.trim(), words = name.toLowerCase();
     const head = SYNONYMS.get(words) ?? words;
-    if (columns.some((column) => column.head === head)) fail(`T4 column ${words} twice`, line, place);
+    const isTwice = columns.some((column) => column.head === head);
+    if (isTwice) fail(`T4 column ${words} twice`, line, place);
     if (head) columns.push({ head, name, place, isResource: !FIXED.includes(head) });
   });
   if (!columns.some(({ head }) => head === "duration")) fail("T3 no column duration", line);
@@ -145,12 +146,14 @@ function cycleOf(rows) {
 
 function linked(rows) {
   const places = new Map(rows.map(({ id }, at) => [id, at]));
-  const made = rows.map((row) => ({ ...row, before: [], after: row.after.map((id) => places.get(id)) }));
+  const made = rows.map((row) =>
+    ({ ...row, before: [], after: row.after.map((id) => places.get(id)) }));
   made.forEach(({ after }, at) => after.forEach((place) => made[place].before.push(at)));
   return made;
 }
 
-/** Reads a table. `given` are capacities by the name of the resource, which override the table's. */
+/** Reads a table. `given` are capacities by the name of the resource, which override the table's.
+ * */
 export function readTable(bytes, given = new Map()) {
   const [header = { line: 1, cells: [] }, ...rest] = recordsOf(decoded(bytes));
   const columns = columnsOf(header);
@@ -168,7 +171,8 @@ export function readTable(bytes, given = new Map()) {
   let work = 0;
   for (const record of filled) {
     const { line, cells } = record;
-    if (cells.length > header.cells.length) fail(`T13 line ${line} cells`, line, header.cells.length);
+    const most = header.cells.length;
+    if (cells.length > most) fail(`T13 line ${line} cells`, line, most);
     if (idOf(record) === "capacity") {
       for (const { place, name } of resources) {
         const text = (cells[place] ?? "").trim();
@@ -183,7 +187,9 @@ export function readTable(bytes, given = new Map()) {
   const names = resources.map(({ name }) => name);
   const capacities = names.map((name) => given.get(name) ?? found.get(name));
   const lacking = names[capacities.indexOf(undefined)];
-  if (lacking) throw Object.assign(new TableFault(`T10 no capacity ${lacking}`), { names, capacities });
+  if (lacking) {
+    throw Object.assign(new TableFault(`T10 no capacity ${lacking}`), { names, capacities });
+  }
   const made = linked(rows);
   const cycle = cycleOf(made);
   if (cycle) fail(`T11 cycle ${cycle.map((at) => made[at].id).join(" ")}`, made[cycle[0]].line);
@@ -210,13 +216,15 @@ export function projectText({ rows, resources, capacities }) {
   const horizon = jobs.reduce((sum, { duration }) => sum + duration, 0);
   const heads = amounts.map((_, at) => `  R ${at + 1}`).join("");
   return [
-    RULER, "file with basedata            : plan import\ninitial value random generator: 1\n", RULER,
+    RULER, "file with basedata            : plan import\n",
+    "initial value random generator: 1\n", RULER,
     "projects                      :  1\n", `jobs (incl. supersource/sink ):  ${last}\n`,
     `horizon                       :  ${horizon}\nRESOURCES\n`,
     `  - renewable                 :  ${amounts.length}   R\n`,
     "  - nonrenewable              :  0   N\n  - doubly constrained        :  0   D\n", RULER,
     "PROJECT INFORMATION:\npronr.  #jobs rel.date duedate tardcost  MPM-Time\n",
-    `    1${spaced(rows.length, 6)}      0${spaced(horizon, 8)}        0${spaced(horizon, 8)}\n`, RULER,
+    `    1${spaced(rows.length, 6)}      0${spaced(horizon, 8)}        0${spaced(horizon, 8)}\n`,
+    RULER,
     "PRECEDENCE RELATIONS:\njobnr.    #modes  #successors   successors\n",
     ...jobs.map(({ successors }, at) => `${String(at + 1).padStart(4)}${spaced(1, 8)}`
       + `${spaced(successors.length, 10)}${columns(11, 3, successors)}\n`), RULER,

@@ -1,5 +1,5 @@
-// Hand in and check: saves the schedule that is drawn, and checks start times that come from elsewhere
-// with the verdicts of `plan check`.
+// Hand in and check: saves the schedule that is drawn, and checks start times that come from
+// elsewhere with the verdicts of `plan check`.
 
 import { byId, download, fill, letTake, make, onSubmit, refusalNode } from "./dom.js";
 import { showSchedules, viewNow } from "./plan.js";
@@ -36,7 +36,8 @@ function shopWords(line, rows) {
   const step = (words, number) => `step ${rows[number - 1].step} of job ${rows[number - 1].job}`;
   return line.replace(/activity (\d+)/, step)
     .replace(/(?<=before )(\d+)/, step)
-    .replace(/more of resource (\d+) is .*/, (words, number) => `machine ${number - 1} has two steps`);
+    .replace(/more of resource (\d+) is .*/,
+      (words, number) => `machine ${number - 1} has two steps`);
 }
 
 /** Checks start times, draws them, and returns the verdict. */
@@ -87,7 +88,9 @@ export function showHandIn(view) {
 }
 
 export function letHandIn() {
-  for (const form of Object.keys(FORMS)) byId(`save-${form}`).addEventListener("click", () => save(form));
+  for (const form of Object.keys(FORMS)) {
+    byId(`save-${form}`).addEventListener("click", () => save(form));
+  }
   letTake(byId("check-zone"), takeStarts);
   onSubmit("check", async ({ starts }) => showVerdict(starts.value));
 }

@@ -1,5 +1,5 @@
-// Importing a file: project files and job shop files are sent as they are; a table of a spreadsheet is
-// shown with the project that it becomes, and sent as a project file.
+// Importing a file: project files and job shop files are sent as they are; a table of a
+// spreadsheet is shown with the project that it becomes, and sent as a project file.
 
 import { command, deskPath, Refusal, shopPath } from "./api.js";
 import { isTable, projectText, readTable, recordsOf, TABLE_FAULTS, TableFault } from "./csv.js";
@@ -111,8 +111,8 @@ function projectNodes({ name, table: { rows, resources, capacities } }) {
   return [
     make("p", { role: "status" }, `${name} becomes a project of `
       + `${counted(rows.length, "activity", "activities")}, with a start and an end around them, `
-      + `${counted(arcs, "arc")} and ${counted(resources.length, "resource")}. Look at it, then import `
-      + "it."),
+      + `${counted(arcs, "arc")} and ${counted(resources.length, "resource")}. `
+      + "Look at it, then import it."),
     wideNode("The project", tableNode({
       caption: caps ? `Capacities: ${caps}` : "No resources",
       heads: ["number", "id", "name", "duration", "predecessors", ...resources],
@@ -200,7 +200,8 @@ export async function takeNames(file) {
     return;
   }
   noteFile(plan.n, plan.kind === "project", file.name, text, instance);
-  place.replaceChildren(make("p", { role: "status" }, `${file.name} is the file of plan ${plan.n}.`));
+  place.replaceChildren(
+    make("p", { role: "status" }, `${file.name} is the file of plan ${plan.n}.`));
   showPlan();
 }
 
@@ -225,7 +226,8 @@ function textNodes(name, text, at) {
       make("td", {}, line.replaceAll("\0", "\u2400")));
   });
   const caption = make("caption", {}, at ? `Line ${at} of ${name}` : `${name} as a whole`);
-  return [wideNode("The file", make("table", { class: "text" }, caption, make("tbody", {}, ...shown)))];
+  return [wideNode("The file",
+    make("table", { class: "text" }, caption, make("tbody", {}, ...shown)))];
 }
 
 export function letImport() {

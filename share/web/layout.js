@@ -1,5 +1,5 @@
-// The layout of a chart: where times are on its axis, its marks, free days, colours and row heights.
-// Nothing here draws.
+// The layout of a chart: where times are on its axis, its marks, free days, colours and row
+// heights. Nothing here draws.
 
 import { dateOf, dayAt, dayOf, isWorked, weekdayOf } from "./calendar.js";
 

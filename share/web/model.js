@@ -57,8 +57,8 @@ export function settleModel(plan) {
   if (!model) {
     plan.note = "Slack isn't known, because this page hasn't read the plan's file.";
   } else if (!agrees(model, plan)) {
-    plan.note = "Slack isn't known: the office's plan differs from the file, because somebody bound "
-      + "a resource or set a lag elsewhere.";
+    plan.note = "Slack isn't known: the office's plan differs from the file, because somebody "
+      + "bound a resource or set a lag elsewhere.";
   } else {
     plan.model = model;
   }

@@ -79,5 +79,6 @@ export function rememberChange(n, kind, value) {
   const now = new Date();
   const { set } = recordOf(n);
   const made = { ...value, on: now.toLocaleDateString("en-CA"), time: now.getTime() };
-  remember(n, { set: { ...set, [kind]: "at" in value ? { ...set?.[kind], [value.at]: made } : made } });
+  const all = "at" in value ? { ...set?.[kind], [value.at]: made } : made;
+  remember(n, { set: { ...set, [kind]: all } });
 }

@@ -57,7 +57,8 @@ function leave() {
   byId("news").textContent = "";
   for (const form of document.forms) form.reset();
   byId("remember").checked = isRemembering();
-  const places = ".answer, #plans, #codes, #published, #drawing, #table, #rules, #dates, #use, #drawn";
+  const places = ".answer, #plans, #codes, #published, #drawing, #table, #rules, #dates, #use, "
+    + "#drawn";
   for (const place of document.querySelectorAll(places)) {
     place.replaceChildren(...(place.id === "drawn" ? [place.firstElementChild] : []));
   }

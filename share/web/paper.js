@@ -18,7 +18,8 @@ function headNode(view, place, count) {
   const words = `desk ${page.desk}, plan ${plan.n}, a ${WORDS_OF_KIND[plan.kind]}; schedule by `
     + `${nameOf(plan, plan.drawn)}; printed on ${today}`;
   const pages = count > 1 ? `; chart ${place} of ${count}` : "";
-  return make("header", {}, make("h2", {}, title || `Plan ${plan.n}`), make("p", {}, words + pages));
+  return make("header", {},
+    make("h2", {}, title || `Plan ${plan.n}`), make("p", {}, words + pages));
 }
 
 export function fillPaper(view) {

@@ -67,7 +67,8 @@ function awaitPlan(isNew) {
   byId("plan").setAttribute("aria-busy", "true");
   fill("best-answer");
   if (!isNew) return;
-  const notices = "#changes .answer, #handin .answer, #import-answer, #plans-answer, #names-answer, #news";
+  const notices = "#changes .answer, #handin .answer, #import-answer, #plans-answer, "
+    + "#names-answer, #news";
   for (const place of document.querySelectorAll(notices)) place.replaceChildren();
   byId("tab-table").click();
   byId("plan-head").focus();
@@ -115,8 +116,8 @@ function showParts(plan) {
   if (!model) byId("colours").value = "slack";
 }
 
-/** Shows the schedules: their choice, the tables, and the one that is drawn. Returns the function that
- * points at a row of it. */
+/** Shows the schedules: their choice, the tables, and the one that is drawn. Returns the function
+ * that points at a row of it. */
 export function showSchedules() {
   showChoice(page.plan);
   showRules(page.plan);
@@ -224,8 +225,8 @@ async function searchBest(fields) {
 const solveNode = ({ kind }) => make("p", { class: "solve" },
   "Search on your own computer: run ",
   make("code", {}, kind === "project" ? "plan solve FILE" : "plan solve FILE INSTANCE"),
-  ", then drop what it prints on this page, or paste it under \"Hand in and check\". The page checks "
-  + "and draws it.");
+  ", then drop what it prints on this page, or paste it under \"Hand in and check\". The page "
+  + "checks and draws it.");
 
 export function letPlanAct() {
   onSubmit("best", searchBest);

@@ -1,5 +1,5 @@
-// The desk's list of plans and the published capacities: asked for at sign-in and when the window gets
-// the focus; and what is done when a connection is lost.
+// The desk's list of plans and the published capacities: asked for at sign-in and when the window
+// gets the focus; and what is done when a connection is lost.
 
 import { ask, askTable, deskPath, Lost, planPath, Refusal } from "./api.js";
 import { byId, during, fill, make, tableNode } from "./dom.js";
@@ -16,8 +16,8 @@ const numbers = () => page.plans.map(({ n }) => n);
 
 const isSame = (a, b) => JSON.stringify(a) === JSON.stringify(b);
 
-/** Asks for the list of plans and for the published capacities. Lists that are the same stay, because
- * a click that gives the window the focus would miss a new button. */
+/** Asks for the list of plans and for the published capacities. Lists that are the same stay,
+ * because a click that gives the window the focus would miss a new button. */
 export async function askLists() {
   const { plans } = await ask(deskPath("plans"));
   const isOld = isSame(plans, page.plans);
@@ -68,7 +68,8 @@ export async function askMakespans() {
   showPlans();
 }
 
-/** Asks for the lists when the window gets the focus, and for the open plan if they have changed. */
+/** Asks for the lists when the window gets the focus, and for the open plan if they have changed.
+ * */
 export async function refresh() {
   const now = performance.now();
   if (byId("desk").hidden || page.isUnsure || now - asked < LEAST_PAUSE) return;
@@ -128,7 +129,8 @@ export async function askAgain() {
   await showAgain();
   const changes = [
     ...numbers().filter((n) => !before.includes(n)).map((n) => `Plan ${n} is new in the list.`),
-    ...before.filter((n) => !numbers().includes(n)).map((n) => `Plan ${n} isn't in the list any more.`),
+    ...before.filter((n) => !numbers().includes(n))
+      .map((n) => `Plan ${n} isn't in the list any more.`),
   ];
   byId("news").textContent = `The office has answered. ${
     isOffice ? "Each command of this page can safely be sent again."

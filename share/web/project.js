@@ -1,5 +1,6 @@
-// Project files and job shop files, read as far as the page needs them: names, titles, and the model
-// of a project. The office is the judge of a file; the page reads those that it has accepted.
+// Project files and job shop files, read as far as the page needs them: names, titles, and the
+// model of a project. The office is the judge of a file; the page reads those that it has
+// accepted.
 
 const TITLES = [
   "PROJECT INFORMATION", "PRECEDENCE RELATIONS", "REQUESTS/DURATIONS", "RESOURCEAVAILABILITIES",

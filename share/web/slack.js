@@ -1,5 +1,5 @@
-// Facts about a schedule: its verdict as `plan check` prints it, the slack of each activity, and the
-// use of each resource.
+// Facts about a schedule: its verdict as `plan check` prints it, the slack of each activity, and
+// the use of each resource.
 //
 // A model is { durations, arcs, needs, capacities }: arcs are { from, to, lag }, activities and
 // resources are counted from 0. A schedule is a list of starts.
@@ -96,8 +96,9 @@ export function verdictOf(model, starts) {
   }
   const over = overload(model, starts);
   if (over) {
-    const line = `at time ${over.time} more of resource ${over.resource + 1} is needed than there is`;
-    return { line, isFeasible: false, ...over };
+    const { time, resource } = over;
+    const line = `at time ${time} more of resource ${resource + 1} is needed than there is`;
+    return { line, isFeasible: false, time };
   }
   const activity = firstShift(model, starts);
   if (activity >= 0) {

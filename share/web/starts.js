@@ -10,7 +10,9 @@ export class StartsFault extends Error {}
 
 function numbersOf(words) {
   const wrong = words.find((word) => !/^\d{1,9}$/.test(word) || Number(word) > MOST_START);
-  if (wrong !== undefined) throw new StartsFault(`${wrong} isn't a start time from 0 to 10,000,000.`);
+  if (wrong !== undefined) {
+    throw new StartsFault(`${wrong} isn't a start time from 0 to 10,000,000.`);
+  }
   return words.map(Number);
 }
 
@@ -38,8 +40,8 @@ function csvIn(text) {
   return { heads: header.cells.map((cell) => cell.trim()), rows: rest.map(({ cells }) => cells) };
 }
 
-/** Reads start times. `kind` is project or shop; `wanted` numbers the plan's rows: "3", or "1 2" for
- * step 2 of job 1. */
+/** Reads start times. `kind` is project or shop; `wanted` numbers the plan's rows: "3", or "1 2"
+ * for step 2 of job 1. */
 export function readStarts(text, kind, wanted) {
   const found = tableIn(text) ?? csvIn(text);
   const keys = kind === "project" ? ["act"] : ["job", "step"];
@@ -47,7 +49,8 @@ export function readStarts(text, kind, wanted) {
     : text.split(/[\s,;]+/).filter(Boolean);
   const numbers = numbersOf(words);
   if (numbers.length !== wanted.length) {
-    throw new StartsFault(`The file has ${numbers.length} start times; ${wanted.length} are needed.`);
+    const count = numbers.length;
+    throw new StartsFault(`The file has ${count} start times; ${wanted.length} are needed.`);
   }
   return numbers;
 }

@@ -16,6 +16,7 @@ export function newPage() {
   return page;
 }
 
-export const RULES = { project: ["lft", "slk", "spt", "mts", "num"], shop: ["mwkr", "spt", "fcfs"] };
+export const RULES = {
+  project: ["lft", "slk", "spt", "mts", "num"], shop: ["mwkr", "spt", "fcfs"] };
 export const CODE_KINDS = { project: "crew", shop: "machine" };
 export const WORDS_OF_KIND = { project: "project", shop: "job shop" };

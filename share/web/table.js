@@ -56,7 +56,8 @@ export function showTable(view, words) {
   const { head, isDown } = sorting;
   const sign = isDown ? -1 : 1;
   const rows = columns.includes(head)
-    ? view.rows.toSorted((a, b) => sign * compare(a[head], b[head]) || a.index - b.index) : view.rows;
+    ? [...view.rows].sort((a, b) => sign * compare(a[head], b[head]) || a.index - b.index)
+    : view.rows;
   const show = () => showTable(view, words);
   fill("table", tableOf(columns, rows, columns.map((column) => headNode(column, show)), words));
 }

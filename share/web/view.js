@@ -15,8 +15,8 @@ export function nameOf(plan, rule) {
   return rule === "best" ? `best ${verdict} ${total}` : `${rule} ${total}`;
 }
 
-/** Returns the title of a plan, and the names of activities or jobs, and of resources or machines, by
- * number; none if they were remembered of a plan with other rows. */
+/** Returns the title of a plan, and the names of activities or jobs, and of resources or machines,
+ * by number; none if they were remembered of a plan with other rows. */
 export function namesIn({ n, schedules }) {
   const { title = "", names = {}, resources = {}, shape } = recordOf(n);
   const [table] = schedules.values();

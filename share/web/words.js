@@ -26,9 +26,9 @@ const TERMS = {
   "Rule": "decides which activity is placed next: the one with ..",
   "Float": "how far an activity can slip if crews are not counted. A star marks float 0. If crews "
     + "bind, a starred activity may have slack, and one without a star may have none.",
-  "Slack": "how much later an activity can start in the schedule that is drawn, all others fixed, so "
-    + "that it stays feasible and no longer. It comes from the plan's file and the changes made in this "
-    + "browser; if the office's dates or schedules differ from these, it isn't shown.",
+  "Slack": "how much later an activity can start in the schedule that is drawn, all others fixed, "
+    + "so that it stays feasible and no longer. It comes from the plan's file and the changes made "
+    + "in this browser; if the office's dates or schedules differ from these, it isn't shown.",
   "Search steps": "the budget of a search; 200,000 take some seconds.",
   "Optimal": "no schedule of this plan is shorter.",
   "Active": "feasible, and no activity can start earlier by itself.",
@@ -41,4 +41,5 @@ export const glossary = () => [
   ...Object.entries(COLUMN_WORDS).slice(-6),
 ];
 
-export const counted = (count, noun, nouns = `${noun}s`) => `${count} ${count === 1 ? noun : nouns}`;
+export const counted = (count, noun, nouns = `${noun}s`) =>
+  `${count} ${count === 1 ? noun : nouns}`;
