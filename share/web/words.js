@@ -20,8 +20,7 @@ export const COLUMN_WORDS = {
   LS: "latest start", LF: "latest finish", TF: "total float", FF: "free float",
 };
 const TERMS = {
-  "Crew, machine": "what the office publishes with a capacity. A resource that is bound to it has "
-    + "that capacity instead of the file's.",
+  "Bind": "give a resource or machine a published capacity in place of the file's.",
   "Makespan": "the time from the start to the last end.",
   "Rule": "decides which activity is placed next: the one with ..",
   "Float": "how far an activity can slip if crews are not counted. A star marks float 0. If crews "
@@ -30,8 +29,6 @@ const TERMS = {
     + "so that it stays feasible and no longer. It comes from the plan's file and the changes made "
     + "in this browser; if the office's dates or schedules differ from these, it isn't shown.",
   "Search steps": "the budget of a search; 200,000 take some seconds.",
-  "Optimal": "no schedule of this plan is shorter.",
-  "Active": "feasible, and no activity can start earlier by itself.",
   "Lag": "the least time between the end of an activity and the start of its successor.",
 };
 
