@@ -39,15 +39,10 @@ def replaced(text, pattern, value, count=1):
     return text
 
 
-# The files of the page in a configuration that names each of four, and in one that names all.
-FOUR_FILES = r"(index\.html|desk\.js|desk\.css|faults\.js)"
-ALL_FILES = r"(index\.html|desk\.css|[a-z]+\.js)"
-
-
 def filled(name, room, port, pair):
     """A configuration of share/nginx for a folder; with a pair of a certificate and its key, or in
-    the clear. A configuration that names four files of the page gets all modules of it."""
-    text = file_of(f"share/nginx/{name}").decode().replace(FOUR_FILES, ALL_FILES)
+    the clear."""
+    text = file_of(f"share/nginx/{name}").decode()
     text = replaced(text, r"^ *listen \[::\]:443 ssl;.*\n", "")
     text = replaced(text, r"listen 443 ssl;", f"listen 127.0.0.1:{port}{' ssl' if pair else ''};")
     text = replaced(text, r"/var/log/nginx/office\.log", os.path.join(room, "access.log"))
