@@ -102,7 +102,7 @@ dates_promised v n reply change h good =
 project_schedule : (v : View) (n : Text) (plan : Plan) (rule : Text) (Rest : Planned → List ℕ → Outcome) (IsText : Plan → Planned → List ℕ → Text → Type 0)
     (reply : Reply) (change : Change) → plan_seen v n ≡ Some plan → reply.status ≡ 200
     → ((i : Planned) (starts : List ℕ) → Rest i starts reply change → IsText plan i starts reply.body)
-    → OfSchedule v plan rule Rest reply change → ShowsSchedule v n IsText reply.body
+    → OfSchedule v plan rule Rest reply change → ShowsSchedule v n rule IsText reply.body
 unfolding OfSchedule
 project_schedule v n plan rule Rest IsText reply change seen good shows_so h =
     let made = made_so (IsProjectOf v plan) (λ p. why_or
@@ -116,6 +116,7 @@ project_schedule v n plan rule Rest IsText reply change seen good shows_so h =
       starts = scheduled.value;
       seen = seen;
       said = made.holds;
+      by_rule = scheduled.holds;
       active = scheduled.holds.schedule.active;
       shown = shows_so i scheduled.value scheduled.rest;
     }
@@ -124,7 +125,7 @@ project_schedule v n plan rule Rest IsText reply change seen good shows_so h =
 shop_schedule : (v : View) (n : Text) (plan : Plan) (rule : Text) (Rest : JobShop → List ℕ → Outcome) (IsText : Plan → JobShop → List ℕ → Text → Type 0)
     (reply : Reply) (change : Change) → plan_seen v n ≡ Some plan → reply.status ≡ 200
     → ((s : JobShop) (starts : List ℕ) → Rest s starts reply change → IsText plan s starts reply.body)
-    → OfShopSchedule v plan rule Rest reply change → ShowsShopSchedule v n IsText reply.body
+    → OfShopSchedule v plan rule Rest reply change → ShowsShopSchedule v n rule IsText reply.body
 unfolding OfShopSchedule
 shop_schedule v n plan rule Rest IsText reply change seen good shows_so h =
     let made = made_so (IsShopOf plan) (λ s. why_or
@@ -141,6 +142,7 @@ shop_schedule v n plan rule Rest IsText reply change seen good shows_so h =
       seen = seen;
       said = made.holds;
       opened = scheduled.holds.opened;
+      by_rule = scheduled.holds;
       active = scheduled.holds.active;
       shown = shows_so s scheduled.value scheduled.rest;
     }
@@ -151,7 +153,7 @@ schedule_of : (v : View) (n rule : Text) (Rest : Plan → Planned → List ℕ �
     → ((plan : Plan) (i : Planned) (starts : List ℕ) → Rest plan i starts reply change → IsText plan i starts reply.body)
     → ((plan : Plan) (s : JobShop) (starts : List ℕ) → OfShop plan s starts reply change → IsShopText plan s starts reply.body)
     → of_plan v n (λ plan. by_kind plan.kind (OfSchedule v plan rule (Rest plan)) (OfShopSchedule v plan rule (OfShop plan))) reply change
-    → ShowsSchedule v n IsText reply.body ⊎ ShowsShopSchedule v n IsShopText reply.body
+    → ShowsSchedule v n rule IsText reply.body ⊎ ShowsShopSchedule v n rule IsShopText reply.body
 schedule_of v n rule Rest OfShop IsText IsShopText reply change good project_so shop_so h =
     let at = at_plan v n (λ plan. by_kind plan.kind (OfSchedule v plan rule (Rest plan)) (OfShopSchedule v plan rule (OfShop plan))) reply change h good in
     elim (kinds_apart at.plan.kind (OfSchedule v at.plan rule (Rest at.plan)) (OfShopSchedule v at.plan rule (OfShop at.plan)) reply change at.rest) [
@@ -160,7 +162,7 @@ schedule_of v n rule Rest OfShop IsText IsShopText reply change good project_so 
     ]
 
 schedules_promised : (v : View) (n rule : Text) (reply : Reply) (change : Change) → Schedules v n rule reply change → reply.status ≡ 200
-    → ShowsSchedule v n IsTable reply.body ⊎ ShowsShopSchedule v n IsShopTable reply.body
+    → ShowsSchedule v n rule IsTable reply.body ⊎ ShowsShopSchedule v n rule IsShopTable reply.body
 unfolding Schedules
 schedules_promised v n rule reply change h good =
     schedule_of v n rule (λ plan i starts. shows (IsTable plan i starts)) (λ plan s starts. shows (IsShopTable plan s starts)) IsTable IsShopTable reply change good
@@ -169,7 +171,7 @@ schedules_promised v n rule reply change h good =
     h
 
 charts_promised : (v : View) (n rule : Text) (reply : Reply) (change : Change) → Charts v n rule reply change → reply.status ≡ 200
-    → ShowsSchedule v n IsChart reply.body ⊎ ShowsShopSchedule v n IsShopChart reply.body
+    → ShowsSchedule v n rule IsChart reply.body ⊎ ShowsShopSchedule v n rule IsShopChart reply.body
 unfolding Charts
 charts_promised v n rule reply change h good =
     schedule_of v n rule (λ plan i starts. shows (IsChart plan i starts)) (λ plan s starts. shows (IsShopChart plan s starts)) IsChart IsShopChart reply change good
@@ -198,7 +200,7 @@ days_of plan IsDays IsLate reply change h good =
     subst (λ (text : Text). (c : Workdays) × IsCalendar plan.start plan.days c × IsDays c text) (sym same) made.holds
 
 days_promised : (v : View) (n rule : Text) (reply : Reply) (change : Change) → Days v n rule reply change → reply.status ≡ 200
-    → ShowsSchedule v n AreDays reply.body ⊎ ShowsShopSchedule v n AreShopDays reply.body
+    → ShowsSchedule v n rule AreDays reply.body ⊎ ShowsShopSchedule v n rule AreShopDays reply.body
 unfolding Days
 days_promised v n rule reply change h good =
     schedule_of v n rule

@@ -1,5 +1,5 @@
 -- The content of the pages of a plan (docs/definitions.md, "Desks"). Dates are greatest lengths of
--- paths, and schedules are feasible and active. A schedule that is called optimal has the least
+-- paths. Schedules are those of the named rule, feasible and active. A schedule that is called optimal has the least
 -- makespan of all feasible ones. Pages use the plan's file, the lags of the desk, and the
 -- capacities that are bound and published at that moment.
 use Rattle.std.specs.Prelude.{◌≡◌, ◌⊎◌, ℕ, List, Some, length}
@@ -28,6 +28,7 @@ use Rattle.plan_rows.specs.Changes.{Change}
 use Rattle.plan_rows.specs.Views.{View}
 use Rattle.plan_desk.specs.Calls.{Call, Request, Reply, dates, schedule, chart, days, best}
 use Rattle.plan_rows.specs.Plans.{plan_seen, IsProjectOf, IsShopOf, bound_project, open_machines}
+use Rattle.plan_desk.specs.PageRoutes.{IsScheduleBy, IsShopScheduleBy}
 use Rattle.plan_desk.specs.Decisions.{IsDecision}
 
 -- a page shows the dates that are greatest lengths of paths
@@ -40,19 +41,21 @@ pub record ShowsDates (v : View) (n text : Text) : Type 0 where
   pub longest : AreDates project.network table
   pub shown : text ≡ date_table_text project.network table
 
--- a page shows an active schedule of a project
-pub record ShowsSchedule (v : View) (n : Text)
+-- a page shows the active schedule of a project by the rule with this name
+pub record ShowsSchedule (v : View) (n rule : Text)
     (IsText : Plan → Planned → List ℕ → Text → Type 0) (text : Text) : Type 0 where
   pub plan : Plan
   pub project : Project
   pub starts : List ℕ
   pub seen : plan_seen v n ≡ Some plan
   pub said : IsProjectOf v plan project
+  pub by_rule : IsScheduleBy (bound_project v plan project) rule starts
   pub active : IsActive (problem_of (bound_project v plan project)) starts
   pub shown : IsText plan (bound_project v plan project) starts text
 
--- a page shows an active schedule of a shop whose machines in use are all open
-pub record ShowsShopSchedule (v : View) (n : Text)
+-- a page shows the active schedule of a shop by the rule with this name, and all machines in use
+-- are open
+pub record ShowsShopSchedule (v : View) (n rule : Text)
     (IsText : Plan → JobShop → List ℕ → Text → Type 0) (text : Text) : Type 0 where
   pub plan : Plan
   pub shop : JobShop
@@ -60,6 +63,7 @@ pub record ShowsShopSchedule (v : View) (n : Text)
   pub seen : plan_seen v n ≡ Some plan
   pub said : IsShopOf plan shop
   pub opened : NoneIsClosed shop.steps (open_machines v plan.n shop.machines)
+  pub by_rule : IsShopScheduleBy shop (open_machines v plan.n shop.machines) rule starts
   pub active : IsActive (shops.problem_of shop) starts
   pub shown : IsText plan shop starts text
 
@@ -124,11 +128,11 @@ AreShopDays plan s starts text =
 abbrev pub IsPromised : View → Call → Text → Type 0
 IsPromised v (dates desk n) text = ShowsDates v n text
 IsPromised v (schedule desk n rule) text =
-    ShowsSchedule v n IsTable text ⊎ ShowsShopSchedule v n IsShopTable text
+    ShowsSchedule v n rule IsTable text ⊎ ShowsShopSchedule v n rule IsShopTable text
 IsPromised v (chart desk n rule) text =
-    ShowsSchedule v n IsChart text ⊎ ShowsShopSchedule v n IsShopChart text
+    ShowsSchedule v n rule IsChart text ⊎ ShowsShopSchedule v n rule IsShopChart text
 IsPromised v (days desk n rule) text =
-    ShowsSchedule v n AreDays text ⊎ ShowsShopSchedule v n AreShopDays text
+    ShowsSchedule v n rule AreDays text ⊎ ShowsShopSchedule v n rule AreShopDays text
 IsPromised v (best desk n budget) text = ShowsBest v n text ⊎ ShowsShopBest v n text
 IsPromised v _ text = Unit {0}
 

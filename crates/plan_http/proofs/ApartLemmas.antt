@@ -8,15 +8,17 @@ use Rattle.plan_rows.specs.Views.{View, view, alone}
 use Rattle.plan_desk.specs.Calls.{Call, publish, open_desk, set_key, capacities, plans, import_project, import_shop, remove, bind, set_calendar, set_lag, dates, schedule, chart, days, best, Request, Reply, desk_of, subject, is_publish, admits}
 use Rattle.plan_desk.specs.Stories.{names, concerns, belongs}
 use Rattle.plan_desk.specs.Decisions.{IsStep, IsDecision}
+use Rattle.plan_desk.specs.Promises.{IsPromised, PagesArePromised}
 use Rattle.plan_rows.specs.Books.{Shelf}
 use Rattle.plan_rows.proofs.OwnerLemmas.{text_from_same}
 use Rattle.plan_desk.proofs.SeenLemmas.{view_alone, seen}
+use Rattle.plan_desk.proofs.PromiseLemmas.{pages_are_promised}
 use Rattle.plan_http.specs.Judges.{asks, Judges}
 use Rattle.plan_http.specs.Laws.{OneVerdict}
 use Rattle.plan_http.specs.Answers.{Decision, answered, failed, starved, IsOn}
 use Rattle.plan_http.specs.Connections.{Moves, Serving}
 use Rattle.plan_http.specs.Stories.{belongs_to, IsOutside, AreTold, IsStoryOf}
-use Rattle.plan_http.specs.Isolated.{AreReplies, IsToldAlone, ServingUnseen}
+use Rattle.plan_http.specs.Isolated.{ArePromised, IsToldAlone, ServingUnseen}
 use Rattle.plan_http.proofs.LawLemmas.{one_verdict}
 use Rattle.plan_http.proofs.StoryLemmas.{story_or_want}
 use Rattle.plan_http.proofs.HeadlineLemmas.{served_honest}
@@ -89,17 +91,22 @@ step_seen desk v w r reply after same inside step =
     step_in desk w r reply after (and_parts (concerns desk r.call) (admits v r) inside).0
     (subst (λ (u : View). IsStep (alone u) r reply after) (sym same) step)
 
+-- the page of a step shows what it promises
+promised_step : (w : World) (r : Request) (reply : Reply) (after : World) → IsStep w r reply after → reply.status ≡ 200 → IsPromised (view (subject r) w) r.call reply.body
+unfolding IsStep IsDecision PagesArePromised
+promised_step w r reply after (change, decided, is) good = pages_are_promised (view (subject r) w) r reply change decided good
+
 replies_in : (desk : Text) (v : View) (w : World) (conns responses story told : List Text) → view desk w ≡ v
-    → IsStoryOf desk v conns responses story told → AreReplies w story told
+    → IsStoryOf desk v conns responses story told → ArePromised w story told
 replies_in desk v w [] [] story told same (none, nothing) =
-    subst (λ (list : List Text). AreReplies w list told) (sym none) (subst (λ (list : List Text). AreReplies w [] list) (sym nothing) tt)
+    subst (λ (list : List Text). ArePromised w list told) (sym none) (subst (λ (list : List Text). ArePromised w [] list) (sym nothing) tt)
 replies_in desk v w [] (response ∷ responses) story told same h = absurd h
 replies_in desk v w (bytes ∷ conns) [] story told same h = absurd h
 replies_in desk v w (bytes ∷ conns) (response ∷ responses) story told same (inl (outside, rest)) = replies_in desk v w conns responses story told same rest
 replies_in desk v w (bytes ∷ conns) (response ∷ responses) story told same (inr (r, is, (more, others, is_story, is_told, (after, answer, rest)))) =
     let next = step_seen desk v w r answer.reply after same is.inside answer.step in
-    subst (λ (list : List Text). AreReplies w list told) (sym is_story) (subst (λ (list : List Text). AreReplies w (bytes ∷ more) list) (sym is_told)
-    (r, answer.reply, next.other, is.spelled, next.step, answer.told, replies_in desk (view desk after) next.other conns responses more others next.alike rest))
+    subst (λ (list : List Text). ArePromised w list told) (sym is_story) (subst (λ (list : List Text). ArePromised w (bytes ∷ more) list) (sym is_told)
+    (r, answer.reply, next.other, is.spelled, next.step, answer.told, (λ good. promised_step w r answer.reply next.other next.step good), replies_in desk (view desk after) next.other conns responses more others next.alike rest))
 
 -- a desk receives the same responses in a run and alone
 pub told_alone : (desk : Text) (w : World) (conns responses : List Text) → AreTold desk (view desk w) conns responses

@@ -2,25 +2,22 @@
 use Rattle.std.proofs.Common.{◌≡◌, ◌⊎◌, ℕ, zero, suc, ◌≤◌, List, [], ◌∷◌, ◌++◌, map, length, take, Result, Ok, Err, OnOk, OnErr, inl, inr, refl, sym, ap, ◌∙◌, subst, arith}
 use Rattle.std.proofs.lemmas.List.{length-map}
 use Rattle.plan_rows.specs.World.{Text, World}
-use Rattle.plan_rows.specs.Views.{View, view, alone}
-use Rattle.plan_desk.specs.Calls.{Request, Reply, subject}
+use Rattle.plan_rows.specs.Views.{view, alone}
+use Rattle.plan_desk.specs.Calls.{Request, Reply}
 use Rattle.plan_desk.specs.Stories.{IsWant}
-use Rattle.plan_desk.specs.Decisions.{IsStep, IsRealStep, IsDecision}
+use Rattle.plan_desk.specs.Decisions.{IsStep, IsRealStep}
 use Rattle.plan_rows.specs.Rules.{IsWorld}
 use Rattle.plan_desk.specs.Laws.{AloneKeepsRules}
-use Rattle.plan_desk.specs.Promises.{IsPromised, PagesArePromised}
 use Rattle.plan_rows.specs.Books.{Shelf}
 use Rattle.plan_desk.specs.BookSteps.{Handled}
 use Rattle.plan_desk.proofs.AloneLemmas.{alone_keeps_rules}
-use Rattle.plan_desk.proofs.PromiseLemmas.{pages_are_promised}
 use Rattle.plan_http.specs.declared.runs.RunFault.{RunFault}
 use Rattle.plan_http.specs.Answers.{Decision, answered, failed, starved}
 use Rattle.plan_http.specs.Connections.{Moves, Serving, Stops, IsRunOf, response_of}
 use Rattle.plan_http.specs.Served.{IsMove, AreServed}
-use Rattle.plan_http.specs.Stories.{IsInside, IsAnswered, AreTold, IsStoryOf}
-use Rattle.plan_http.specs.Isolated.{IsToldAlone}
-use Rattle.plan_http.specs.Headline.{answered_of, ArePromised, IsToldOrWanting, ApartRunsAreAlike}
-use Rattle.plan_http.proofs.StoryLemmas.{connections_are_apart, connections_are_told_alike}
+use Rattle.plan_http.specs.Stories.{AreTold}
+use Rattle.plan_http.specs.Headline.{answered_of, ApartRunsAreAlike}
+use Rattle.plan_http.proofs.StoryLemmas.{connections_are_apart, connections_are_told_alike, requests_are_told_alike}
 
 module _ {B : Type 0} (shelf : Shelf B) where
   -- a disk that has returned what was written, returned it before
@@ -160,47 +157,23 @@ told_in_run shelf old new conns responses desk ran honest =
     subst (λ (n : ℕ). AreTold desk (view desk (shelf.world old)) (take n conns) responses) (sym long)
     (subst (λ (list : List Text). AreTold desk (view desk (shelf.world old)) (take ran.count conns) list) (sym ran.responses_are) told)
 
--- each reply of a story shows what it promises
-promised_step : (v : View) (r : Request) (reply : Reply) (after : World) → IsStep (alone v) r reply after → reply.status ≡ 200
-    → IsPromised (view (subject r) (alone v)) r.call reply.body
-unfolding IsStep IsDecision PagesArePromised
-promised_step v r reply after (change, decided, is) good = pages_are_promised (view (subject r) (alone v)) r reply change decided good
-
-promised_first : (desk : Text) (v : View) (bytes response : Text) (more others : List Text) (r : Request) (after : World)
-    → IsInside desk v bytes r → IsAnswered v r response after → ArePromised desk (view desk after) more others → ArePromised desk v (bytes ∷ more) (response ∷ others)
-promised_first desk v bytes response more others r after is answer rest =
-    (r, answer.reply, after, is.spelled, answer.step, answer.told, (λ good. promised_step v r answer.reply after answer.step good), rest)
-
-all_promised : (desk : Text) (v : View) (conns responses story told : List Text) → IsStoryOf desk v conns responses story told → ArePromised desk v story told
-all_promised desk v [] [] story told (none, nothing) =
-    subst (λ (list : List Text). ArePromised desk v list told) (sym none) (subst (λ (list : List Text). ArePromised desk v [] list) (sym nothing) tt)
-all_promised desk v [] (response ∷ responses) story told h = absurd h
-all_promised desk v (bytes ∷ conns) [] story told h = absurd h
-all_promised desk v (bytes ∷ conns) (response ∷ responses) story told (inl (outside, rest)) = all_promised desk v conns responses story told rest
-all_promised desk v (bytes ∷ conns) (response ∷ responses) story told (inr (r, is, (more, others, is_story, is_told, (after, answer, rest)))) =
-    subst (λ (list : List Text). ArePromised desk v list told) (sym is_story) (subst (λ (list : List Text). ArePromised desk v (bytes ∷ more) list) (sym is_told)
-    (promised_first desk v bytes response more others r after is answer (all_promised desk (view desk after) conns responses more others rest)))
-
 -- the rows of one desk alone keep the rules of rows
 pub alone_good : (desk : Text) (w : World) → IsWorld w → IsWorld (alone (view desk w))
 unfolding AloneKeepsRules
 alone_good desk w good = alone_keeps_rules desk w good
 
--- the responses of an office with a desk's rows alone show what they promise
-promised_or_wanting : (desk : Text) (v : View) (conns responses : List Text) → IsToldAlone desk v conns responses → IsToldOrWanting desk v conns responses
-promised_or_wanting desk v conns responses (inl (story, told, is, replies)) =
-    inl (story, told, record { told_so = is; promised = all_promised desk v conns responses story told is })
-promised_or_wanting desk v conns responses (inr want) = inr want
-
 -- two runs
 pub apart_runs_are_alike : {A B : Type 0} (first : Shelf A) (second : Shelf B) → ApartRunsAreAlike first second
 unfolding ApartRunsAreAlike
 apart_runs_are_alike first second = λ a left b right conns responses others answers desk apart also good fine agree. record {
-  first_told = promised_or_wanting desk (view desk (first.world a)) (answered_of conns responses) responses apart.told;
-  second_told = promised_or_wanting desk (view desk (second.world b)) (answered_of others answers) answers also.told;
+  first_told = apart.told;
+  second_told = also.told;
   equal = λ story told given h k.
       connections_are_told_alike desk (view desk (first.world a)) (view desk (second.world b)) (answered_of conns responses) responses (answered_of others answers) answers
       story told given (alone_good desk (first.world a) good) (alone_good desk (second.world b) fine) agree h k;
+  alike = λ story tale told given same h k.
+      requests_are_told_alike desk (view desk (first.world a)) (view desk (second.world b)) (answered_of conns responses) responses (answered_of others answers) answers
+      story tale told given (alone_good desk (first.world a) good) (alone_good desk (second.world b) fine) agree same h k;
 }
 
 -- the result of a run into an empty list

@@ -5,6 +5,8 @@ pub mod DigitLemmas
 pub mod LengthLemmas
 pub mod BodyLemmas
 pub mod RouteLemmas
+pub mod TokenLemmas
+pub mod RouteLawLemmas
 pub mod JudgingLemmas
 pub mod PhraseLemmas
 pub mod ResponseLemmas

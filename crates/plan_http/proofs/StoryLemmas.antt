@@ -17,7 +17,7 @@ use Rattle.plan_http.specs.Laws.{OneVerdict}
 use Rattle.plan_http.specs.Answers.{Decision, answered, failed, starved, IsOn, no_memory}
 use Rattle.plan_http.specs.Connections.{response_of}
 use Rattle.plan_http.specs.Served.{IsMove, AreServed}
-use Rattle.plan_http.specs.Stories.{IsWantText, IsInside, IsAnswered, AreTold, IsStoryOf, IsWanting}
+use Rattle.plan_http.specs.Stories.{IsWantText, IsInside, IsAnswered, AreTold, IsStoryOf, IsWanting, SpellTheSame}
 use Rattle.plan_http.proofs.LawLemmas.{one_verdict}
 
 -- a response is that of a reply to a request, or both are refusals for lack of memory or by the
@@ -217,19 +217,53 @@ spelled_once (bytes ∷ story) (r ∷ requests) [] h k = absurd k
 spelled_once (bytes ∷ story) (r ∷ requests) (q ∷ others) h k =
     ap (λ (x : Request). x ∷ requests) (one_request bytes r q h.0 k.0) ∙ ap (λ (list : List Request). q ∷ list) (spelled_once story requests others h.1 k.1)
 
+-- two stories that spell the same requests spell one list of requests
+spelled_the_same : (story tale : List Text) (requests others : List Request) → SpellTheSame story tale → Spells story requests → Spells tale others → requests ≡ others
+unfolding Spells
+spelled_the_same [] [] [] [] same h k = refl
+spelled_the_same [] [] [] (q ∷ others) same h k = absurd k
+spelled_the_same [] [] (r ∷ requests) others same h k = absurd h
+spelled_the_same [] (other ∷ tale) requests others same h k = absurd same
+spelled_the_same (bytes ∷ story) [] requests others same h k = absurd same
+spelled_the_same (bytes ∷ story) (other ∷ tale) [] others same h k = absurd h
+spelled_the_same (bytes ∷ story) (other ∷ tale) (r ∷ requests) [] same h k = absurd k
+spelled_the_same (bytes ∷ story) (other ∷ tale) (r ∷ requests) (q ∷ others) ((x, is, also), same) h k =
+    let here : r ≡ q = one_request bytes r x h.0 is ∙ one_request other x q also k.0 in
+    ap (λ (y : Request). y ∷ requests) here ∙ ap (λ (list : List Request). q ∷ list) (spelled_the_same story tale requests others same h.1 k.1)
+
+-- the same requests receive the same responses in views that agree, whatever other connections come
+-- before or between
+told_alike_by : (desk : Text) (v u : View) (conns responses others answers story tale told given : List Text)
+    → IsWorld (alone v) → IsWorld (alone u) → Agree v u
+    → ((requests rest : List Request) → Spells story requests → Spells tale rest → requests ≡ rest)
+    → IsStoryOf desk v conns responses story told → IsStoryOf desk u others answers tale given → told ≡ given
+unfolding AgreeingViewsAreToldAlike
+told_alike_by desk v u conns responses others answers story tale told given good fine agree once h k =
+    let a = has_requests desk v conns responses story told h in
+    let b = has_requests desk u others answers tale given k in
+    let same : a.requests ≡ b.requests = once a.requests b.requests a.spelled b.spelled in
+    let first : desks.IsStoryOf desk v a.requests a.replies b.requests a.replies =
+    subst (λ (list : List Request). desks.IsStoryOf desk v a.requests a.replies list a.replies) same a.told_so in
+    let alike : a.replies ≡ b.replies =
+    agreeing_views_are_told_alike desk v u a.requests a.replies b.requests b.replies b.requests a.replies b.replies good fine agree first b.told_so in
+    a.texts ∙ ap (λ (list : List Request). texts_of list a.replies) same ∙ ap (λ (list : List Reply). texts_of b.requests list) alike ∙ sym b.texts
+
 -- a story receives the same responses in views that agree, whatever other connections come before
 -- or between
 pub connections_are_told_alike : (desk : Text) (v u : View) (conns responses others answers story told given : List Text)
     → IsWorld (alone v) → IsWorld (alone u) → Agree v u
     → IsStoryOf desk v conns responses story told → IsStoryOf desk u others answers story given → told ≡ given
-unfolding AgreeingViewsAreToldAlike
 connections_are_told_alike desk v u conns responses others answers story told given good fine agree h k =
-    let a = has_requests desk v conns responses story told h in
-    let b = has_requests desk u others answers story given k in
-    let same : a.requests ≡ b.requests = spelled_once story a.requests b.requests a.spelled b.spelled in
-    let first : desks.IsStoryOf desk v a.requests a.replies b.requests a.replies = subst (λ (list : List Request). desks.IsStoryOf desk v a.requests a.replies list a.replies) same a.told_so in
-    let alike : a.replies ≡ b.replies = agreeing_views_are_told_alike desk v u a.requests a.replies b.requests b.replies b.requests a.replies b.replies good fine agree first b.told_so in
-    a.texts ∙ ap (λ (list : List Request). texts_of list a.replies) same ∙ ap (λ (list : List Reply). texts_of b.requests list) alike ∙ sym b.texts
+    told_alike_by desk v u conns responses others answers story story told given good fine agree
+    (λ requests rest p q. spelled_once story requests rest p q) h k
+
+-- so do stories that spell the same requests
+pub requests_are_told_alike : (desk : Text) (v u : View) (conns responses others answers story tale told given : List Text)
+    → IsWorld (alone v) → IsWorld (alone u) → Agree v u → SpellTheSame story tale
+    → IsStoryOf desk v conns responses story told → IsStoryOf desk u others answers tale given → told ≡ given
+requests_are_told_alike desk v u conns responses others answers story tale told given good fine agree same h k =
+    told_alike_by desk v u conns responses others answers story tale told given good fine agree
+    (λ requests rest p q. spelled_the_same story tale requests rest same p q) h k
 
 -- the responses to a desk belong to a story, unless one of its connections was refused for lack of
 -- memory or by the store

@@ -6,6 +6,7 @@ pub mod Checks
 pub mod Lengths
 pub mod BodyPieces
 pub mod Routes
+pub mod RouteLaws
 pub mod Served
 pub mod Stories
 pub mod Headline

@@ -69,3 +69,10 @@ IsWanting desk v (bytes ∷ conns) (response ∷ responses) =
     ⊎ ((after : World) × IsAnswered v r response after
     × IsWanting desk (view desk after) conns responses)))
 IsWanting desk v conns responses = ⊥
+
+-- two stories spell the same requests, in order: their header fields may differ in order and case
+abbrev pub SpellTheSame : List Text → List Text → Type 0
+SpellTheSame [] [] = Unit {0}
+SpellTheSame (bytes ∷ story) (others ∷ tale) =
+    ((r : Request) × Judges bytes (asks r) × Judges others (asks r)) × SpellTheSame story tale
+SpellTheSame story tale = ⊥

@@ -1,6 +1,7 @@
 //! Laws of connections. Proofs in the crates above cite the contracts.
 
 ghost use Rattle.plan_http.specs.Laws.{OneVerdict, SpellsSomething, ServingIsRun, ServedDesksAreApart};
+ghost use Rattle.plan_http.specs.RouteLaws.{RoutesAreThese};
 
 use crate::client::Listening;
 use crate::head::{FIELD_LIMIT, HEAD_LIMIT, read_head};
@@ -23,6 +24,13 @@ pub fn some_verdict(bytes: &[u8])
     let mut client = Listening::new(MemSource::new(bytes));
     read_head(&mut client, &mut buf, &mut headers);
 }
+
+/// A target has a route exactly if it is plain and its segments are those of the route's text, where
+/// a name in braces stands for any segment but the empty one. The statement doesn't mention the
+/// table of routes.
+pub fn routes_are_these()
+    ensures { RoutesAreThese }
+{}
 
 /// The requests that an office handles on any connections are a run of the office. This holds if
 /// the tables are readable at the end and the disk returned what was written. So each desk receives

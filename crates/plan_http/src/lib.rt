@@ -24,7 +24,7 @@ pub use checks::Check;
 pub use client::{Client, Listening};
 pub use connection::{ConnEnd, serve_conn};
 pub use headline::{Run, TwoRuns, apart_runs_are_alike, serve_two_worlds};
-pub use laws::{one_verdict, served_desks_are_apart, some_verdict};
+pub use laws::{one_verdict, routes_are_these, served_desks_are_apart, some_verdict};
 pub use request::{Asked, read_request};
 pub use response::{respond, response_bytes};
 pub use routes::{Route, Routes};

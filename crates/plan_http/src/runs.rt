@@ -100,8 +100,9 @@ fn serve_each<B: Book>(
 ///
 /// No accepted command is lost by a crash: it leaves the rows after the last accepted command, or
 /// these rows with one refused writing call. Each desk receives the replies of an office that has
-/// its rows and no others. This holds unless a request of its story is refused for lack of memory
-/// or by the store. Facts about rows require a disk that returned what was written.
+/// its rows and no others, and each page shows what it promises. This holds unless a request of its
+/// story is refused for lack of memory or by the store. Facts about rows require a disk that
+/// returned what was written.
 pub fn serve_run<B: Book>(
     alloc: Global,
     office: &mut Office<B>,
