@@ -78,13 +78,12 @@ def seen_bars(browser):
 
 
 def seen_axis(browser):
-    """The marks of the axis, each with its place as a part of the chart's threads."""
+    """The labels of the axis, each with its place as a part of the chart's threads."""
     return browser.run("""
-        const thread = document.querySelector(".thread").getBoundingClientRect();
-        const lines = [...document.querySelectorAll("#drawing .grid")];
-        return [...document.querySelectorAll("#drawing .time")].map((words, index) => [
-            words.textContent,
-            (lines[index].getBoundingClientRect().left - thread.left) / thread.width,
+        const thread = document.querySelector(".thread");
+        const [left, right] = ["x1", "x2"].map((name) => Number(thread.getAttribute(name)));
+        return [...document.querySelectorAll("#drawing .time")].map((words) => [
+            words.textContent, (words.getAttribute("x") - left) / (right - left),
         ]);
     """)
 
@@ -111,13 +110,15 @@ def wait_idle(browser):
     browser.wait("no answer awaited", "return !document.querySelector('[aria-disabled]')")
 
 
-def same_bars(what, browser, rows, last):
-    """The bars are those of rows of a line, a start and an end, to the pixel."""
+def same_bars(what, browser, rows, last, places=None):
+    """The bars are those of rows of a line, a start and an end, to the pixel. `places` gives the
+    left and right edge of an interval and the end of the axis; a unit is a unit of time without it."""
     bars = seen_bars(browser)
     same(f"the bars of {what}", sorted(bar[:3] for bar in bars), sorted(rows))
+    places = places or (lambda start, end: (start, end, max(1, int(last))))
     for line, start, end, left, right, width in bars:
-        scale = width / max(1, int(last))
-        wanted = [int(start) * scale, int(end) * scale]
+        first, behind, whole = places(int(start), int(end))
+        wanted = [first * width / whole, behind * width / whole]
         edges = [left, right] if start != end else [(left + right) / 2] * 2
         if any(abs(a - b) > 2 for a, b in zip(edges, wanted)):
             raise Wrong(f"a bar of line {line} of {what} is at {edges} and not {wanted}")
@@ -147,16 +148,126 @@ def same_project(browser, given):
     stars = [row[0] + "*" for row in rows_of(printed("cpm", "-", given=given)) if row[-1] == "*"]
     marked = browser.run("return [...document.querySelectorAll('#drawing .critical')].map("
                          "(bar) => bar.dataset.line + '*')")
-    same("the bars of what may not slip", marked, stars)
+    same("the bars with a star", marked, stars)
+    same_table(browser, tables["lft"], given)
+
+
+def same_table(browser, lines, given, dates=None, slack=None):
+    """The table of the schedule has the rows of `plan schedule`, the floats of `plan cpm`, the dates
+    and the slack, as far as they are told, whatever names there are."""
+    floats = [row[6] for row in rows_of(printed("cpm", "-", given=given))]
+    stars = ["*" if row[-1] == "*" else "" for row in rows_of(printed("cpm", "-", given=given))]
+    columns = ["number", "start", "end", *(["first day", "last day"] if dates else []), "float"]
+    wanted = [columns + (["slack"] if slack else [])]
+    for at, row in enumerate(rows_of(lines)):
+        cells = [row[0] + stars[at], row[2], row[3], *(dates[at] if dates else []), floats[at]]
+        wanted.append(cells + ([str(slack[at])] if slack else []))
+    found = seen_table(browser, "#table")
+    name = found[0].index("name") if "name" in found[0] else None
+    if name is not None:
+        found = [row[:name] + row[name + 1:] for row in found]
+    if not slack and found[0][-1] == "slack":
+        found = [row[:-1] for row in found]
+    same("the table of the schedule", found, wanted)
+
+
+# relative luminance and contrast, by the Web Content Accessibility Guidelines
+CONTRAST = """
+    const channel = (value) => {
+        const part = value / 255;
+        return part <= 0.04045 ? part / 12.92 : ((part + 0.055) / 1.055) ** 2.4;
+    };
+    const light = ([r, g, b]) => 0.2126 * channel(r) + 0.7152 * channel(g) + 0.0722 * channel(b);
+    const parts = (colour) => colour.match(/[0-9.]+/g).map(Number);
+    const contrast = (a, b) => {
+        const [low, high] = [light(a), light(b)].sort((x, y) => x - y);
+        return (high + 0.05) / (low + 0.05);
+    };
+    const behind = (node) => {
+        for (let at = node; at; at = at.parentElement) {
+            const colour = parts(getComputedStyle(at).backgroundColor);
+            if (colour.length === 3 || colour[3] === 1) return colour;
+        }
+        return [255, 255, 255];
+    };
+    const found = [];
+    const walker = document.createTreeWalker(document.body, NodeFilter.SHOW_TEXT);
+    while (walker.nextNode()) {
+        const node = walker.currentNode.parentElement;
+        if (!walker.currentNode.data.trim() || !node.checkVisibility() || node.closest("title, [aria-disabled]"))
+            continue;
+        const style = getComputedStyle(node), bar = node.closest(".bar");
+        const isText = node.namespaceURI.endsWith("svg");
+        const ink = parts(isText ? style.fill : style.color);
+        const under = bar && !node.classList.contains("behind")
+            ? parts(getComputedStyle(bar.querySelector("rect, path")).fill) : behind(node.closest("svg") ?? node);
+        const value = contrast(ink, under);
+        if (value < 4.5) found.push(`${node.tagName}.${node.getAttribute("class")} ${value.toFixed(2)} ${node.textContent.slice(0, 20)}`);
+    }
+    return found;
+"""
+
+# names and roles that programs for reading aloud need
+NAMES = """
+    const found = [];
+    const visible = (css) => [...document.querySelectorAll(css)].filter((node) => node.checkVisibility());
+    const named = (node) => node.getAttribute("aria-label") || node.labels?.length || node.title
+        || (node.getAttribute("aria-labelledby") && document.getElementById(node.getAttribute("aria-labelledby")))
+        || (node.tagName === "BUTTON" && node.textContent.trim());
+    for (const node of visible("input, select, textarea, button, [role=region], [role=tabpanel], [role=tablist], svg[role]"))
+        if (!named(node)) found.push(`${node.tagName}#${node.id} has no name`);
+    const ids = [...document.querySelectorAll("[id]")].map((node) => node.id);
+    for (const id of ids) if (ids.indexOf(id) !== ids.lastIndexOf(id)) found.push(`two elements ${id}`);
+    for (const node of document.querySelectorAll("[aria-controls], [aria-labelledby]")) {
+        const id = node.getAttribute("aria-controls") ?? node.getAttribute("aria-labelledby");
+        if (!document.getElementById(id)) found.push(`no element ${id}`);
+    }
+    for (const table of visible("table"))
+        if (table.tHead && !table.querySelector("thead th[scope=col]")) found.push("a table without heads");
+    for (const node of visible("[tabindex]")) if (node.tabIndex > 0) found.push(`tabindex ${node.tabIndex}`);
+    if (document.documentElement.lang !== "en") found.push("no language");
+    if (visible("main").length !== 1 || visible("h1").length !== 1) found.push("main or h1");
+    const heads = visible("h1, h2, h3").map((node) => Number(node.tagName[1]));
+    heads.forEach((level, at) => { if (at && level > heads[at - 1] + 1) found.push(`a heading skips to ${level}`); });
+    return found;
+"""
+
+
+def same_senses(what, browser):
+    """Texts have a contrast of 4.5 in the light and in the dark, and elements have names."""
+    for scheme in ("dark", "light"):
+        browser.darken(scheme)
+        same(f"texts of {what} in the {scheme}", browser.run(CONTRAST), [])
+    same(f"names of {what}", browser.run(NAMES), [])
 
 
 # ---- what a person does
 
 
+TABS = {"bind": "changes", "calendar": "changes", "lag": "changes", "delete": "changes",
+        "check": "handin"}
+
+
+def open_tab(browser, name):
+    """Opens one of the tabs of a plan."""
+    browser.run("document.getElementById('tab-' + arguments[0]).click()", name)
+
+
 def submit(browser, form):
     """Presses the button of a form, and waits for the answer."""
-    browser.click(f"#{form} button")
+    if form in TABS:
+        open_tab(browser, TABS[form])
+    browser.click(f"#{form} button:not([type=button])")
     wait_idle(browser)
+
+
+def focus_window(browser):
+    """Lets the window get the focus, more than a second after the last time."""
+    browser.wait("a second", """
+        window.focused ??= performance.now();
+        return performance.now() - window.focused > 1050;
+    """)
+    browser.run("window.focused = performance.now(); dispatchEvent(new Event('focus'))")
 
 
 def set_date(browser, css, date):

@@ -1,4 +1,4 @@
-"""Reduces a PNG to a palette of its 256 most frequent colours."""
+"""Reduces a PNG to a palette of its most frequent colours, 256 by default."""
 
 import collections
 import struct
@@ -53,11 +53,11 @@ def pixels_of(data):
     return lines, width, height
 
 
-def smaller(data):
-    """The same picture with at most 256 colours."""
+def smaller(data, most=256):
+    """The same picture with at most so many colours."""
     lines, width, height = pixels_of(data)
     counts = collections.Counter(colour for line in lines for colour in line)
-    palette = [colour for colour, _ in counts.most_common(256)]
+    palette = [colour for colour, _ in counts.most_common(most)]
     distance = lambda colour, other: sum((a - b) ** 2 for a, b in zip(colour, other))
     place = {
         colour: min(range(len(palette)), key=lambda at: distance(colour, palette[at]))

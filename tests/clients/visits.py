@@ -1,15 +1,21 @@
 """Uses the browser page from the first sign-in to the last plan, in the order of VISIT."""
 
+import csv
+import datetime
+import io
 import json
 import os
+import shutil
+import subprocess
 import sys
 
 from exchanges import OFFICE_KEY, TOP, Exchange, file_of
 from front import sent
+from page_units import as_model, brute_slack, read_sm, worked_days
 from pages import (
-    RULES, drop, example, explained, makespan_of, open_plan, printed, rows_of, same_bars,
-    same_project, seen, seen_axis, seen_plans, seen_table, set_date, submit, texts, wait_idle,
-    wait_plan, wait_text,
+    RULES, drop, example, explained, focus_window, makespan_of, open_plan, open_tab, printed, rows_of,
+    same_bars, same_project, same_senses, same_table, seen, seen_axis, seen_plans, seen_table,
+    set_date, submit, texts, wait_idle, wait_plan, wait_text,
 )
 from pictures import smaller
 from programs import Wrong, plan, same, talk
@@ -19,6 +25,7 @@ SHOP_RULES = ["mwkr", "spt", "fcfs"]
 TAB, ENTER, ESCAPE, LEFT, RIGHT = "\ue004", "\ue007", "\ue00c", "\ue012", "\ue014"
 PICTURES = os.path.join(TOP, "docs", "pictures")
 LARGEST_PICTURE = 60000
+HOUSE = "examples/house.sm"
 
 
 def listed(server):
@@ -27,20 +34,72 @@ def listed(server):
     return [entry["n"] for entry in json.loads(answer.split(b"\r\n\r\n")[1])["plans"]]
 
 
-# ---- a desk and its plans
+def sign_in(browser, desk=DESK, key=KEY):
+    browser.type("#enter [name=desk]", desk)
+    browser.type("#enter [name=key]", key)
+    submit(browser, "enter")
+
+
+def shop_model(rows):
+    """The model of a job shop whose rows were printed: machines are resources of 1."""
+    machines = max(int(row[2]) for row in rows) + 1
+    needs = [[int(machine == int(row[2])) for machine in range(machines)] for row in rows]
+    arcs = [{"from": at - 1, "to": at, "lag": 0} for at in range(1, len(rows))
+            if rows[at - 1][0] == rows[at][0]]
+    return {"durations": [int(row[3]) for row in rows], "needs": needs, "arcs": arcs,
+            "capacities": [1] * machines}
+
+
+def model_of(text):
+    """The model of a project file, as page_units has it."""
+    durations, successors, needs, capacities, _ = read_sm(text)
+    return as_model(durations, successors, needs, capacities)
+
+
+def slack_in(text, lines):
+    """The slack of each activity in a schedule that was printed, by trying all later starts."""
+    return brute_slack(model_of(text), [int(row[2]) for row in rows_of(lines)])
+
+
+def column(browser, head, css="#table"):
+    """The cells of a column of a table."""
+    heads, *rows = seen_table(browser, css)
+    if head not in heads:
+        raise Wrong(f"there is no column {head} in {heads}")
+    return [row[heads.index(head)] for row in rows]
+
+
+# ---- signing in
 
 
 def visit_door(browser):
-    """A wrong key is refused with the office's error; so is an unknown desk."""
+    """The first lines say what the page is. A wrong key is refused in plain words first, then with
+    the office's error; so is an unknown desk."""
+    same("what the page is", "keeps your projects" in seen(browser, "#door .what"), True)
     for desk, key in ((DESK, "no-such-key"), ("nobody", KEY)):
-        browser.type("#enter [name=desk]", desk)
-        browser.type("#enter [name=key]", key)
-        submit(browser, "enter")
+        sign_in(browser, desk, key)
         wait_text(browser, "#enter .refusal strong", "E01 key")
-        same("what the page says of E01", texts(browser, "#enter .refusal p"), explained("E01"))
+        lead, *rest = texts(browser, "#enter .refusal p")
+        same("the first words", lead, "This desk and key don't match.")
+        first = browser.run("return document.querySelector('#enter .refusal').firstChild.textContent")
+        same("what comes first", first, lead)
+        same("what the page says of E01", rest, explained("E01"))
     browser.type("#enter-office [name=key]", "no-such-key")
     submit(browser, "enter-office")
     wait_text(browser, "#enter-office .refusal", "E01 key")
+    same_senses("signing in", browser)
+
+
+def visit_help(browser):
+    """The help panel explains each rule and each column of the date table."""
+    browser.click("#help-button")
+    terms = texts(browser, "#terms dt")
+    for term in (*RULES, *SHOP_RULES, "ES", "LF", "TF", "FF", "Slack", "Makespan"):
+        same(f"the term {term}", terms.count(term), 1)
+    words = dict(zip(terms, texts(browser, "#terms dd")))
+    same("lft", "least latest finish" in words["lft"], True)
+    browser.press(ESCAPE)
+    browser.wait("no panel", "return !document.getElementById('help').open")
 
 
 def visit_office(browser):
@@ -64,6 +123,7 @@ def visit_office(browser):
     browser.type("#open [name=key]", KEY)
     submit(browser, "open")
     wait_text(browser, "#open .refusal", "E04 desk exists")
+    same_senses("the office", browser)
     browser.click("#leave")
 
 
@@ -81,159 +141,672 @@ def visit_desk(browser):
     same("what the browser keeps of the key", kept, [0, 0, "", "", ""])
 
 
+def visit_left(browser):
+    """Signing out leaves no key in the page, and the window's focus sends nothing."""
+    load = "const done = arguments[0]; import('/state.js').then(({ page }) => done(page));"
+    state = lambda: browser.call("POST", "/execute/async", {"script": load, "args": []})
+    same("the key of a desk that is open", state()["key"], KEY)
+    browser.run("const done = arguments[0]; import('/state.js').then((m) => { window.old = m.page; })")
+    browser.wait("the state", "return window.old")
+    browser.click("#leave")
+    same("the key afterwards", (state()["key"], browser.run("return window.old.key")), ("", ""))
+    browser.run("""
+        window.sent = 0;
+        const real = window.fetch;
+        window.fetch = (...words) => { window.sent += 1; return real(...words); };
+    """)
+    focus_window(browser)
+    same("requests without a desk", browser.run("return window.sent"), 0)
+    sign_in(browser)
+    wait_text(browser, "#plans", "No plans yet.")
+
+
+# ---- a project
+
+
 def visit_import(browser):
     """A file is chosen: the plan has the dates, schedules and bars that `plan` prints."""
     browser.choose("#file", example("house.sm"))
     wait_plan(browser, 1)
     wait_text(browser, "#import-answer", "house.sm is plan 1.")
-    same("the plans", seen_table(browser, "#plans"), [["Number", "Kind"], ["Plan 1", "project"]])
-    same_project(browser, file_of("examples/house.sm"))
+    wanted = [["Number", "Title", "Kind", "Makespan"], ["Plan 1", "house", "project", "45"]]
+    same("the plans", seen_table(browser, "#plans"), wanted)
+    same_project(browser, file_of(HOUSE))
     wait_text(browser, "#days", "No calendar is set")
+    lines = printed("schedule", "lft", example("house.sm"))
+    same_table(browser, lines, file_of(HOUSE), slack=slack_in(file_of(HOUSE).decode(), lines))
 
 
 def visit_bars(browser):
-    """A bar tells its activity, start and end, under the mouse and by keys."""
+    """A bar tells its activity, start and end, under the mouse and by keys; its arcs are drawn."""
     row = rows_of(printed("schedule", "lft", example("house.sm")))[4]
     browser.run("document.querySelector('#drawing').scrollIntoView({ block: 'center' })")
     browser.point("#drawing .bar[data-line='5'] rect")
-    words = f"Activity {row[0]}: {row[2]} to {row[3]}; needs 4 of resource 1; may not slip"
+    words = (f"Activity {row[0]}: {row[2]} to {row[3]}; needs 4 of resource 1; critical by dates alone"
+             " (crews not counted); no slack in this schedule")
     browser.wait("the bar under the mouse", "return told.textContent === arguments[0]", words)
-    browser.run("document.querySelector('#drawing svg').focus({ preventScroll: true })")
+    arcs = browser.run("return [...document.querySelectorAll('.arc')].map("
+                       "(arc) => [arc.dataset.from, arc.dataset.to])")
+    same("its arcs", sorted(arcs), [["3", "5"], ["5", "6"], ["5", "8"]])
+    browser.run("document.querySelector('#drawing [role=application]').focus({ preventScroll: true })")
     browser.press(RIGHT, RIGHT, LEFT)
     browser.wait("the bar of the keys", "return told.textContent.startsWith('Activity 6: ')")
     browser.click("#colours option[value=resource]")
-    colours = browser.run("return [...document.querySelectorAll('#drawing .bar')].map("
-                          "(bar) => bar.classList[1])")
+    colours = bar_classes(browser)
     digger = [2, 4, 12]
     wanted = ["cnone" if n in (1, 14) else "c1" if n in digger else "c0" for n in range(1, 15)]
     same("the colours of the resources", colours, wanted)
-    browser.click("#colours option[value=critical]")
+    browser.click("#colours option[value=slack]")
+    legend = " ".join(texts(browser, "#legend li"))
+    same("the legend", "may not slip" in legend, False)
+    same("the star", "* critical by dates alone (crews not counted)" in legend, True)
 
 
-def dates_told(start, marks, path):
-    """The date of each instant at which something starts or ends by some rule."""
-    told = {}
+def bar_classes(browser):
+    """The first class of each bar behind `bar`, in the order of the chart."""
+    return browser.run("return [...document.querySelectorAll('#drawing .bar')].map("
+                       "(bar) => bar.classList[1])")
+
+
+def two_sites():
+    """A project on two sites whose crew binds: the dates alone mislabel its activities."""
+    durations = [0, 4, 3, 2, 4, 3, 2, 5, 0]
+    successors = [[2, 5], [3], [4], [9], [6], [7], [8], [9], []]
+    needs = [0, 2, 2, 1, 2, 2, 1, 1, 0]
+    rows = [f"{n} 1 {len(after)} {' '.join(map(str, after))}" for n, after in enumerate(successors, 1)]
+    asked = [f"{n} 1 {d} {need}" for n, (d, need) in enumerate(zip(durations, needs), 1)]
+    return "\n".join(["Two sites", "projects: 1", "jobs: 9", "- renewable: 1", "- nonrenewable: 0",
+                      "- doubly constrained: 0", "PRECEDENCE RELATIONS:", "n", *rows,
+                      "REQUESTS/DURATIONS:", "n", *asked, "RESOURCEAVAILABILITIES:", "R", "2", ""])
+
+
+def visit_slack(browser):
+    """Where crews bind, the colours are those of the slack that all later starts leave, by each rule;
+    stars are those of the dates."""
+    text = two_sites()
+    drop(browser, "sites.sm", text)
+    wait_plan(browser, 2)
+    wait_text(browser, "#plan-head", "Plan 2, a project: Two sites")
+    differ = 0
     for rule in RULES:
-        days = rows_of(printed("days", rule, start, marks, path))
-        schedule = rows_of(printed("schedule", rule, path))
-        for (_, first, last), (_, _, begin, end) in zip(days, schedule):
-            if first != "-":
-                told[int(begin)], told[int(end) - 1] = first, last
-    return told
+        browser.click(f"#drawn [value={rule}]")
+        lines = printed("schedule", rule, "-", given=text.encode())
+        slack = slack_in(text, lines)
+        same_table(browser, lines, text.encode(), slack=slack)
+        same(f"the colours by {rule}", bar_classes(browser), ["loose" if s else "tight" for s in slack])
+        stars = [row[-1] == "*" for row in rows_of(printed("cpm", "-", given=text.encode()))]
+        differ += sum(star != (s == 0) for star, s in zip(stars, slack))
+    same("a star is another thing than no slack", differ > 3, True)
+    browser.click("#drawn [value=lft]")
+
+
+def visit_use(browser):
+    """The steps below the chart are the use of the resource."""
+    lines = printed("schedule", "lft", "-", given=two_sites().encode())
+    model = model_of(two_sites())
+    starts = [int(row[2]) for row in rows_of(lines)]
+    found = browser.run("return [...document.querySelectorAll('#use rect')].map((bar) =>"
+                        " [Number(bar.dataset.time), Number(bar.dataset.used), bar.classList[0]])")
+    times = sorted({time for s, d in zip(starts, model["durations"]) for time in (s, s + d)})
+    use = lambda time: sum(need[0] for need, s, d in zip(model["needs"], starts, model["durations"])
+                           if s <= time < s + d)
+    same("the use", found, [[time, use(time), "used"] for time in times if use(time)])
+    same("the capacity", "capacity 2" in browser.run(
+        "return document.querySelector('#use svg').getAttribute('aria-label')"), True)
+
+
+def visit_sort(browser):
+    """A head of the table sorts its rows, up and down, numbers as numbers; another plan isn't sorted."""
+    starts = [int(cell) for cell in column(browser, "start")]
+    for order in ("ascending", "descending"):
+        browser.click("#table [data-head=start] button")
+        heads = [head.split()[0] for head in texts(browser, "#table thead th")]
+        found = [int(row[heads.index("start")]) for row in seen_table(browser, "#table")[1:]]
+        same(f"the starts, {order}", found, sorted(starts, reverse=order == "descending"))
+        told = browser.run("return document.querySelector('#table [data-head=start]').ariaSort")
+        same("the order that is told", told, order)
+    browser.click("#table [data-head=number] button")
+    heads, *rows = seen_table(browser, "#table")
+    same("the mark", heads[0], "number ▲")
+    same("the numbers", [int(row[0].rstrip("*")) for row in rows], list(range(1, 10)))
+
+
+# ---- the calendar
+
+
+def days_by(rule, start, marks, path):
+    """The first and the last day of each activity, as `plan days` prints them."""
+    rows = rows_of(printed("days", rule, start, marks, path))
+    return [["", ""] if row[1] == "-" else row[1:] for row in rows]
+
+
+def places_in(start, marks, last):
+    """The edges of intervals on an axis of days, by datetime."""
+    days = worked_days(datetime.date.fromisoformat(start), marks, last + 1)
+    ahead = lambda time: (days[time] - days[0]).days
+    end = lambda time: ahead(time - 1) + 1 if time else 0
+    return lambda a, b: ((ahead(a) if a < b else end(a)), end(b), end(last))
 
 
 def visit_calendar(browser):
-    """Working days are those of `plan days`, in the table and on the axis."""
-    calendar, house = ("2024-03-01", "1111100"), example("house.sm")
-    set_date(browser, "#calendar [name=start]", calendar[0])
+    """Working days are those of `plan days` by each rule; the axis has weeks, and free days are
+    shaded."""
+    open_plan(browser, 1)
+    start, marks = "2024-03-01", "1111100"
+    house = example("house.sm")
+    open_tab(browser, "changes")
+    same("no calendar yet", "Not set on this computer" in seen(browser, "#calendar-set"), True)
+    set_date(browser, "#calendar [name=start]", start)
     submit(browser, "calendar")
     wait_text(browser, "#calendar .answer", "From 2024-03-01 on; working days 1111100")
-    lines = printed("days", "lft", *calendar, house)
-    same("the working days", seen_table(browser, "#days"), [line.split() for line in lines])
-    told, axis = dates_told(*calendar, house), seen_axis(browser)
+    same("set here", f"Set here on {datetime.date.today()}; the office doesn't"
+         in seen(browser, "#calendar-set"), True)
+    for rule in RULES:
+        browser.click(f"#drawn [value={rule}]")
+        lines = printed("schedule", rule, house)
+        slack = slack_in(file_of(HOUSE).decode(), lines)
+        same_table(browser, lines, file_of(HOUSE), days_by(rule, start, marks, house), slack)
+        caption = seen(browser, "#table caption")
+        same("the caption", caption, f"Schedule by {rule} {makespan_of(lines)}")
+        last = int(makespan_of(lines))
+        same_bars(f"a calendar by {rule}", browser, [[row[0], row[2], row[3]] for row in rows_of(lines)],
+                  last, places_in(start, marks, last))
+    browser.click("#drawn [value=lft]")
+    span = places_in(start, marks, 45)(0, 45)[2]
+    axis = seen_axis(browser)
     same("the first date of the axis", axis[0], ["2024-03-01", 0])
-    makespan = int(makespan_of(printed("schedule", "lft", house)))
-    for words, part in axis:
-        same("a date of the axis", words, told.get(round(part * makespan)))
-    for box in range(1, 6):
-        browser.click(f"#marks label:nth-of-type({box}) input")
+    for words, part in axis[1:]:
+        day = datetime.date.fromisoformat(words)
+        same(f"the day {words}", (day.weekday(), round(part * span)),
+             (0, (day - datetime.date(2024, 3, 1)).days))
+    same("weeks with a date", len(axis) > 4, True)
+    bands = browser.run("""
+        const thread = document.querySelector(".thread"), width = thread.x2.baseVal.value - thread.x1.baseVal.value;
+        return [...document.querySelectorAll("#drawing .free")].map((band) =>
+            [(band.x.baseVal.value - thread.x1.baseVal.value) / width, band.width.baseVal.value / width]);
+    """)
+    weekends = [at for at in range(span) if (datetime.date(2024, 3, 1)
+                                             + datetime.timedelta(at)).weekday() == 5]
+    same("the shaded days", [[round(a * span), round(b * span)] for a, b in bands],
+         [[at, 2] for at in weekends])
+
+
+def visit_today(browser):
+    """A calendar that begins two weeks ago has a line of today; this week's Monday is its place."""
+    today = datetime.date.fromisoformat(browser.run("return new Date().toLocaleDateString('en-CA')"))
+    set_date(browser, "#calendar [name=start]", str(today - datetime.timedelta(14)))
+    for box in (6, 7):
+        browser.run("document.querySelectorAll('#marks input')[arguments[0]].click()", box - 1)
+    submit(browser, "calendar")
+    part = browser.run("""
+        const thread = document.querySelector(".thread"), line = document.querySelector("#drawing .today");
+        const width = thread.x2.baseVal.value - thread.x1.baseVal.value;
+        return (line.x1.baseVal.value - thread.x1.baseVal.value) / width;
+    """)
+    same("the place of today", round(part * 45, 3), 14)
+    for box in range(1, 8):
+        browser.run("const box = document.querySelectorAll('#marks input')[arguments[0]];"
+                    " if (box.checked) box.click();", box - 1)
     submit(browser, "calendar")
     wait_text(browser, "#calendar .refusal", "E12 G2 days")
+    set_date(browser, "#calendar [name=start]", "2024-03-01")
+    for box in range(1, 6):
+        browser.run("document.querySelectorAll('#marks input')[arguments[0]].click()", box - 1)
+    submit(browser, "calendar")
+    wait_text(browser, "#calendar .answer", "From 2024-03-01 on; working days 1111100")
 
 
 def house_of_four():
     """The house with a crew of four in the place of five."""
-    house = file_of("examples/house.sm")
+    house = file_of(HOUSE)
     same("availabilities in house.sm", house.count(b"\n    5    1\n"), 1)
     return house.replace(b"\n    5    1\n", b"\n    4    1\n")
 
 
 def visit_bind(browser):
-    """A bound resource has the code's capacity, not the file's."""
+    """A bound resource has the code's capacity, not the file's, also in the slack; a place beyond the
+    plan's resources isn't sent."""
     browser.type("#bind [name=place]", "1")
     submit(browser, "bind")
     wait_text(browser, "#bind .answer", "Resource 1 is crew-a.")
-    same_project(browser, house_of_four())
+    lines = printed("schedule", "lft", "-", given=house_of_four())
+    slack = slack_in(house_of_four().decode(), lines)
+    same("the makespan", seen(browser, "#drawn label").strip(), f"lft {makespan_of(lines)}")
+    same("the slack", column(browser, "slack"), [str(number) for number in slack])
+    same("set here", "resource 1 is crew-a (set here on" in seen(browser, "#bind-set"), True)
+    limits = browser.run("const { place } = bind.elements; return [place.min, place.max]")
+    same("the places of a project of two resources", limits, ["1", "2"])
     browser.type("#bind [name=place]", "3")
-    submit(browser, "bind")
-    wait_text(browser, "#bind .refusal", "E03 body")
+    browser.click("#bind button")
+    beyond = browser.run("return bind.elements.place.validity.rangeOverflow")
+    same("a place beyond", (beyond, texts(browser, "#bind .answer")), (True, ["Resource 1 is crew-a."]))
 
 
 def visit_lag(browser):
-    """A lag delays its successor, and 0 removes it; only an arc has one."""
+    """A lag delays its successor, and 0 removes it; only an arc has one. Slack counts it."""
     arc = {"from": "2", "to": "3", "lag": "5"}
     for name, value in arc.items():
         browser.type(f"#lag [name={name}]", value)
     submit(browser, "lag")
     wait_text(browser, "#lag .answer", "At least 5 between 2 and 3.")
-    wait_text(browser, "#dates caption", "the whole takes 50")
+    wait_text(browser, "#lag-set", "2-3: 5 (set here on")
+    same("the whole", "the whole takes 50" in seen(browser, "#dates caption"), True)
+    model = model_of(house_of_four().decode())
+    for link in model["arcs"]:
+        link["lag"] = 5 if (link["from"], link["to"]) == (1, 2) else 0
+    starts = [int(cell) for cell in column(browser, "start")]
+    same("the slack with a lag", column(browser, "slack"), [str(s) for s in brute_slack(model, starts)])
     browser.type("#lag [name=lag]", "0")
     submit(browser, "lag")
-    wait_text(browser, "#dates caption", "the whole takes 45")
+    wait_text(browser, "#lag-set", "2-3: 0 (set here on")
+    same("the whole", "the whole takes 45" in seen(browser, "#dates caption"), True)
     browser.type("#lag [name=to]", "14")
     submit(browser, "lag")
     wait_text(browser, "#lag .refusal", "E03 body")
 
 
+def visit_elsewhere(browser, office):
+    """A lag or a bind that was set elsewhere is noticed: the page then claims no slack."""
+    path = f"/desks/{DESK}/plans/2/"
+    sent(office.server.port, "POST", path + "lag", KEY, b'{"from":2,"to":3,"lag":3}')
+    open_plan(browser, 2)
+    wait_text(browser, "#note", "Slack isn't known: the office's plan differs from the file")
+    same("a column of slack", "slack" in seen_table(browser, "#table")[0], False)
+    same("the colours", set(bar_classes(browser)), {"plain"})
+    sent(office.server.port, "POST", path + "lag", KEY, b'{"from":2,"to":3,"lag":0}')
+    sent(office.server.port, "POST", path + "bind", KEY, b'{"place":1,"code":"crew-a"}')
+    open_plan(browser, 2)
+    wait_text(browser, "#note", "Slack isn't known")
+    open_tab(browser, "changes")
+    browser.type("#bind [name=place]", "1")
+    submit(browser, "bind")
+    same("a note of what was set here", browser.run("return note.checkVisibility()"), False)
+    same("a column of slack then", "slack" in seen_table(browser, "#table")[0], True)
+
+
+# ---- the best schedule, hand in and check
+
+
 def visit_best(browser):
-    """A file is dropped; the best schedule and its word are those of `plan best-project`."""
+    """A file is dropped; the best schedule and its words are those of `plan best-project`; it is
+    drawn, dated and compared with the rules."""
     drop(browser, "five.sm", file_of("examples/five.sm").decode())
-    wait_plan(browser, 2)
+    wait_plan(browser, 3)
+    same("the budget at first", browser.run("return best.elements.budget.value"), "200000")
+    set_date(browser, "#calendar [name=start]", "2024-03-01")
+    submit(browser, "calendar")
     for budget in ("7", "10"):
         browser.type("#best [name=budget]", budget)
         submit(browser, "best")
         lines = printed("best-project", budget, example("five.sm"))
         wait_text(browser, "#best-answer", lines[0] + ":")
         wait_text(browser, "#drawn label:last-child", f"best {lines[0]}")
+        last = int(makespan_of(lines))
         bars = [[row[0], row[2], row[3]] for row in rows_of(lines)]
-        same_bars("a best schedule", browser, bars, makespan_of(lines))
+        same_bars("a best schedule", browser, bars, last, places_in("2024-03-01", "1111100", last))
         verdict = f"best ({lines[0].split()[0]})"
         same("its column", seen_table(browser, "#rules")[0][-1], verdict)
         ends = [row[-1] for row in seen_table(browser, "#rules")[1:-1]]
         same("its ends", ends, [f"{row[2]}–{row[3]}" for row in rows_of(lines)])
+        days = [str(day) for day in worked_days(datetime.date(2024, 3, 1), "1111100", last)]
+        dates = [["", ""] if row[2] == row[3] else [days[int(row[2])], days[int(row[3]) - 1]]
+                 for row in rows_of(lines)]
+        found = list(map(list, zip(column(browser, "first day"), column(browser, "last day"))))
+        same("its dates", found, dates)
+    least = min(int(makespan_of(printed("schedule", rule, example("five.sm")))) for rule in RULES)
+    told = f"It is {least - 2} shorter than the shortest by a rule" if least > 2 else "is as good"
+    wait_text(browser, "#best-answer", told)
+
+
+def chain(count, width=1):
+    """A project of so many activities, each behind the one before it; with names."""
+    head = f"projects : 1\njobs : {count}\n - renewable : {width} R\n - nonrenewable : 0 N\n"
+    head += " - doubly constrained : 0 D\nPRECEDENCE RELATIONS:\njobnr. #modes #successors\n"
+    arcs = "".join(f"{n} 1 1 {n + 1}\n" for n in range(1, count)) + f"{count} 1 0\n"
+    needs = "".join(f"{n} 1 {n % 4} {' '.join([str(n % 3)] * width)}\n" for n in range(1, count + 1))
+    middle = "REQUESTS/DURATIONS:\njobnr. mode duration R 1\n---\n"
+    names = "".join(f"name {n} Work number {n} of the chain\n" for n in range(1, count + 1))
+    return (head + arcs + middle + needs + "RESOURCEAVAILABILITIES:\nR 1\n" + " ".join(["2"] * width)
+            + "\n***\nPROJECT INFORMATION:\n" + names)
+
+
+def visit_large(browser):
+    """A plan that is too large for the office's search: the page says what to run, and takes what it
+    prints."""
+    text = chain(41, 2)
+    drop(browser, "large.sm", text)
+    wait_plan(browser, 4)
+    wait_text(browser, "#plan-head", "Plan 4, a project: large")
+    submit(browser, "best")
+    wait_text(browser, "#best-answer .refusal", "E11 S5 too large")
+    wait_text(browser, "#best-answer .solve code", "plan solve FILE")
+    browser.click("#colours option[value=resource]")
+    colours = set(bar_classes(browser))
+    same("the first of two that are needed alike", colours, {"cnone", "c0"})
+    browser.click("#colours option[value=slack]")
+    lines = printed("schedule", "num", "-", given=text.encode())
+    output = "\n".join([f"optimal {makespan_of(lines)}", *lines, ""])
+    drop(browser, "solved.txt", output)
+    wait_text(browser, "#check-answer strong", "active")
+    wait_text(browser, "#check-answer", f"Makespan {makespan_of(lines)}.")
+    same("the schedule that is drawn", browser.run("return document.querySelector("
+         "'#drawn :checked').value"), "own")
+    same_bars("what was solved", browser, [[row[0], row[2], row[3]] for row in rows_of(lines)],
+              makespan_of(lines))
+
+
+def values_set(browser):
+    """The values in the forms of changes."""
+    return browser.run("return [bind.elements.place, lag.elements.from, lag.elements.to,"
+                       " lag.elements.lag, calendar.elements.start].map((field) => field.value)")
+
+
+def visit_check(browser):
+    """Start times get the verdicts of `plan check`, with the makespan, and their place is shown."""
+    drop(browser, "six.sm", file_of("examples/six.sm").decode())
+    wait_plan(browser, 5)
+    same("values of a plan that wasn't changed here", values_set(browser), [""] * 5)
+    cases = ["0 0 0 3 2 7", "0 0 0 3 2 8", "0 0 0 2 2 7", "0 0 0 3 3 7", "0 0 1 3 3 7", "0 0 0 3 0 7"]
+    for starts in cases:
+        line = plan("check", example("six.sm"), "-", given=starts.encode())[1].decode().rstrip("\n")
+        browser.run("check.elements.starts.value = arguments[0]", starts)
+        submit(browser, "check")
+        same(f"the verdict on {starts}", seen(browser, "#check-answer strong"), line)
+        ends = [int(s) + d for s, d in zip(starts.split(), [0, 3, 2, 4, 3, 0])]
+        wait_text(browser, "#check-answer", f"Makespan {max(ends)}.")
+        found = "refusal" if "start" in line and "before" in line or "needed" in line else "verdict"
+        same("its colour", browser.run("return document.querySelector('#check-answer > div')"
+                                       ".className"), found)
+        if line.startswith("activity"):
+            wait_text(browser, "#told", f"Activity {line.split()[1]}: ")
+    browser.choose("#check-file", example("late.txt"))
+    wait_text(browser, "#check-answer strong", "activity 6 can start earlier")
+    browser.run("check.elements.starts.value = '0 0 0'")
+    submit(browser, "check")
+    wait_text(browser, "#check-answer", "The file has 3 start times; 6 are needed.")
+
+
+def downloaded(browser, office, button):
+    """The name and the text of a file that the page saves."""
+    room = os.path.join(os.path.dirname(office.database), "saved-" + button)
+    os.makedirs(room, exist_ok=True)
+    browser.devtools("Browser.setDownloadBehavior", behavior="allow", downloadPath=room)
+    open_tab(browser, "handin")
+    browser.click(f"#save-{button}")
+    for _ in range(300):
+        names = [name for name in os.listdir(room) if not name.endswith(".crdownload")]
+        if names:
+            with open(os.path.join(room, names[0]), encoding="utf-8", newline="") as file:
+                text = file.read()
+            if text:
+                os.remove(os.path.join(room, names[0]))
+                return names[0], text
+        browser.wait("a moment", "return true")
+    raise Wrong(f"nothing was saved by {button}")
+
+
+def visit_save(browser, office):
+    """The schedule that is drawn is saved as CSV, JSON and start times."""
+    open_plan(browser, 1)
+    lines = printed("schedule", "spt", "-", given=house_of_four())
+    rows = rows_of(lines)
+    same("the values set here last", values_set(browser), ["1", "2", "3", "0", "2024-03-01"])
+    browser.click("#drawn [value=spt]")
+    name, text = downloaded(browser, office, "csv")
+    same("the name of the file", name, f"{DESK}-plan-1-spt.csv")
+    table = list(csv.reader(io.StringIO(text)))
+    last = int(makespan_of(lines))
+    days = [str(day) for day in worked_days(datetime.date(2024, 3, 1), "1111100", last)]
+    wanted = [["act", "d", "start", "end", "first", "last"]]
+    wanted += [[*row[:4], *(["", ""] if row[2] == row[3] else [days[int(row[2])], days[int(row[3]) - 1]])]
+               for row in rows]
+    same("the CSV", table, wanted)
+    value = json.loads(downloaded(browser, office, "json")[1])
+    found = [[str(row[key]) for key in ("act", "d", "start", "end")] for row in value["rows"]]
+    same("the JSON", (value["makespan"], value["plan"], value["desk"], value["schedule"], value["title"]),
+         (last, 1, DESK, "spt", "house"))
+    same("its rows", found, [row[:4] for row in rows])
+    starts = downloaded(browser, office, "starts")[1]
+    same("the start times", starts.split(), [row[2] for row in rows])
+    with open(os.path.join(os.path.dirname(office.database), "four.sm"), "wb") as file:
+        file.write(house_of_four())
+    verdict = plan("check", file.name, "-", given=starts.encode())
+    same("plan check on them", verdict[:2], (0, b"active\n"))
+    browser.click("#drawn [value=lft]")
+
+
+# ---- tables of spreadsheets
+
+
+def visit_table(browser):
+    """A table is shown with the project that it becomes; an error is shown at its cell."""
+    text = file_of("tests/tables/list.csv").decode()
+    drop(browser, "list.csv", text.replace("B C", "B X"))
+    wait_text(browser, "#preview strong", "T8 line 5 predecessor X")
+    same("the cell", texts(browser, "#preview .wrong"), ["B X"])
+    same("the row", texts(browser, "#preview .marked td")[0], "D")
+    same_senses("a table with an error", browser)
+    same("a button", browser.run("return document.querySelector('#chosen button').checkVisibility()"),
+         False)
+    drop(browser, "list.csv", text)
+    wait_text(browser, "#preview", "a project of 4 activities, with a start and an end around them, "
+              "4 arcs and 2 resources")
+    wanted = [["number", "id", "name", "duration", "predecessors", "crew", "digger"],
+              ["2", "A", "Excavation", "4", "", "3", "1"], ["3", "B", "Foundation", "6", "2", "5", "0"],
+              ["4", "C", "Drains", "3", "2", "2", "1"], ["5", "D", "Walls, north", "10", "3 4", "4", "0"]]
+    same("the project", seen_table(browser, "#preview"), wanted)
+    same("the plans so far", seen_plans(browser), [1, 2, 3, 4, 5])
+
+
+def visit_capacity(browser):
+    """A capacity that the table lacks is entered on the page."""
+    text = file_of("tests/tables/list.csv").decode().replace("capacity,,,,5,1\n", "")
+    drop(browser, "list.csv", text)
+    wait_text(browser, "#preview strong", "T10 no capacity crew")
+    for name, value in (("crew", "5"), ("digger", "1")):
+        browser.type(f"#capacities [data-resource={name}]", value)
+        browser.press(TAB)
+    wait_text(browser, "#preview", "becomes a project of 4 activities")
+    submit(browser, "import")
+    wait_plan(browser, 6)
+    wait_text(browser, "#import-answer", "list.csv is plan 6.")
+    same("the names", column(browser, "name"), ["", "Excavation", "Foundation", "Drains", "Walls, north", ""])
+    # the foundation needs the whole crew, so the drains wait: 4 + 6 + 3 + 10
+    same("its schedule", column(browser, "start"), ["0", "0", "4", "10", "13", "23"])
+    labels = texts(browser, "#drawing .name")
+    same("the names of the lines", [label.split("…")[0] for label in labels][1:3],
+         ["2 Excavation2 Excavation", "3 Foundation3 Foundation"])
+    same("the use of the crew", "Use of crew, capacity 5" in browser.run(
+        "return document.querySelector('#use svg').getAttribute('aria-label')"), True)
+
+
+def visit_names(browser):
+    """Names outlast a sign-in on this computer, without any key, and can be switched off; the plan's
+    file gives them back."""
+    kept = browser.run("return JSON.stringify(localStorage)")
+    same("a name that is kept", "Foundation" in kept, True)
+    same("keys that are kept", [key for key in (KEY, OFFICE_KEY, FIRST_KEY) if key in kept], [])
+    browser.click("#leave")
+    sign_in(browser)
+    wait_text(browser, "#plans", "Two sites")
+    makespans = [row[3] for row in seen_table(browser, "#plans")[1:]]
+    same("makespans in the list", all(cell.isdigit() for cell in makespans), True)
+    open_plan(browser, 6)
+    same("the names then", column(browser, "name")[1], "Excavation")
+    wait_text(browser, "#note", "Slack isn't known, because this page hasn't read the plan's file.")
+    same("the colours", set(bar_classes(browser)), {"plain"})
+    same("the use without a file", texts(browser, "#use svg"), [])
+    browser.click("#remember")
+    browser.click("#leave")
+    kept = browser.run("return Object.keys(localStorage)")
+    same("what is kept without the switch", kept, ["plan/forget"])
+    sign_in(browser)
+    open_plan(browser, 6)
+    same("a column of names", "name" in seen_table(browser, "#table")[0], False)
+    browser.choose("#names-file", example("house.sm"))
+    wait_text(browser, "#names-answer .refusal", "house.sm isn't the file of plan 6")
+    browser.choose("#names-file", os.path.join(TOP, "tests", "tables", "list.csv"))
+    wait_text(browser, "#names-answer", "list.csv is the file of plan 6.")
+    same("the names again", column(browser, "name")[1], "Excavation")
+    same("the slack again", "slack" in seen_table(browser, "#table")[0], True)
+    same("what is kept then", browser.run("return Object.keys(localStorage)"), ["plan/forget"])
+    browser.click("#remember")
+    kept = browser.run("return Object.keys(localStorage).sort()")
+    same("what is kept with the switch", f"plan/of/{DESK}/6" in kept and "plan/forget" not in kept, True)
+
+
+def visit_other(browser, office):
+    """A plan of another desk with the same number and the same file has no names of this desk."""
+    for path, key, body in (("/office/desks", OFFICE_KEY, b'{"desk":"other","key":"other-key-1"}'),
+                            ("/desks/other/projects", "other-key-1", file_of(HOUSE))):
+        sent(office.server.port, "POST", path, key, body)
+    browser.click("#leave")
+    sign_in(browser, "other", "other-key-1")
+    browser.wait("its makespan", "return document.querySelector('#plans td:last-child')?.textContent")
+    same("its list", seen_table(browser, "#plans")[1:], [["Plan 1", "", "project", "45"]])
+    open_plan(browser, 1)
+    same("its head", seen(browser, "#plan-head"), "Plan 1, a project")
+    browser.click("#leave")
+    sign_in(browser)
+    wait_text(browser, "#plans", "list")
+
+
+# ---- job shops
 
 
 def visit_shop(browser):
     """A job shop is imported by the name of its instance; a line is a machine, or a job."""
     browser.choose("#file", example("shops.txt"))
     browser.wait("the instances", "return document.activeElement.name === 'instance'")
+    offered = browser.run("return [...instances.options].map((option) => option.value)")
+    same("the instances that are offered", offered, ["printing", "ft06"])
+    for name in ("a/b", "a b", "..", "a%41"):
+        browser.type("#import [name=instance]", name)
+        before = browser.run("return performance.getEntriesByType('resource').length")
+        submit(browser, "import")
+        wait_text(browser, "#import-answer .refusal", "This name can't be sent")
+        after = browser.run("return performance.getEntriesByType('resource').length")
+        same(f"requests for {name}", after, before)
     browser.type("#import [name=instance]", "printing")
     submit(browser, "import")
-    wait_plan(browser, 3)
+    wait_plan(browser, 7)
     wait_text(browser, "#plans", "job shop")
     for rule in SHOP_RULES:
         browser.click(f"#drawn [value={rule}]")
         lines = printed("shop", rule, example("shops.txt"), "printing")
         rows = rows_of(lines)
         same_bars(rule, browser, [[row[2], row[4], row[5]] for row in rows], makespan_of(lines))
+        slack = brute_slack(shop_model(rows), [int(row[4]) for row in rows])
+        same("the table", seen_table(browser, "#table")[1:],
+             [[row[0], row[1], row[2], row[4], row[5], str(s)] for row, s in zip(rows, slack)])
     browser.click("#lines option[value=job]")
     same_bars("jobs", browser, [[row[0], row[4], row[5]] for row in rows], makespan_of(lines))
     browser.click("#lines option[value=mach]")
     browser.type("#best [name=budget]", "6")
     submit(browser, "best")
     wait_text(browser, "#best-answer", "optimal 6:")
+    open_tab(browser, "changes")
+    browser.type("#bind [name=place]", "0")
+    submit(browser, "bind")
+    same("machine 0", "machine 0 is press-1 (set here on" in seen(browser, "#bind-set"), True)
+    limits = browser.run("const { place } = bind.elements; return [place.min, place.max]")
+    same("the places of two machines", limits, ["0", "1"])
+
+
+def large_shop():
+    """A shop of 15 jobs on 10 machines, with names."""
+    rows = [" ".join(f"{(job + step) % 10} {1 + (job * 7 + step * 3) % 9}" for step in range(10))
+            for job in range(15)]
+    names = "".join(f"+ job {job} order {4700 + job}\n" for job in range(1, 16))
+    return f"instance big\n+ machine 0 press\n{names}fifteen orders\n15 10\n" + "\n".join(rows) + "\n"
+
+
+def visit_colours(browser):
+    """On the lines of machines each job has its colour, on the lines of jobs each machine; lines are in
+    the order of their numbers; names are in labels and tooltips."""
+    drop(browser, "big.txt", large_shop())
+    wait_plan(browser, 8)
+    rows = rows_of(printed("shop", "mwkr", "-", "big", given=large_shop().encode()))
+    slack = brute_slack(shop_model(rows), [int(row[4]) for row in rows])
+    same("the slack of the steps", column(browser, "slack"), [str(number) for number in slack])
+    same("some slack", any(slack), True)
+    for lines, count, other in (("mach", 10, 15), ("job", 15, 10)):
+        browser.click(f"#lines option[value={lines}]")
+        bars = browser.run("""
+            return [...document.querySelectorAll("#drawing .bar")].map((bar) => [Number(bar.dataset.line),
+                Number(bar.dataset.start), bar.classList[1], bar.querySelector("title").textContent]);
+        """)
+        order = [bar[0] for bar in bars]
+        same(f"the lines of {lines}", (order, len(set(order))), (sorted(order), count))
+        starts = [bar[:2] for bar in bars]
+        same("the bars of each line", starts, sorted(starts))
+        same("the colours", len({bar[2] for bar in bars}), other)
+        key = 1 if lines == "mach" else 2
+        words = [bar[3].replace(",", "").replace(":", "").split() for bar in bars]
+        by = {}
+        for bar, word in zip(bars, words):
+            name = word[1] if key == 1 else word[word.index("machine") + 1]
+            same(f"the colour of {lines} {name}", by.setdefault(name, bar[2]), bar[2])
+        same("orders in tooltips", all(" order 47" in bar[3] for bar in bars), True)
+    browser.click("#lines option[value=mach]")
+    same("the press", "M0 press" in texts(browser, "#drawing .name")[0], True)
+
+
+def visit_links(browser):
+    """The selected step is linked with the steps before and behind it, of its job and its machine."""
+    open_plan(browser, 7)
+    browser.click("#drawn [value=mwkr]")
+    browser.run("document.querySelector('#drawing').scrollIntoView({ block: 'center' })")
+    browser.point("#drawing .bar[data-index='2'] rect")
+    arcs = browser.run("return [...document.querySelectorAll('.arc')].map("
+                       "(arc) => [arc.dataset.from, arc.dataset.to])")
+    same("the links of step 1 of job 2", sorted(arcs), [["1", "3"], ["3", "4"]])
+
+
+def visit_focus(browser, office):
+    """The window's focus asks for the lists, which stay if nothing has changed; a plan that was
+    deleted elsewhere is closed."""
+    mark = "return document.querySelector('#plans button')"
+    browser.run(f"window.kept = ({mark[7:]}); window.asked = 0; const real = window.fetch;"
+                "window.fetch = (...words) => { window.asked += 1; return real(...words); };")
+    focus_window(browser)
+    browser.wait("the lists", "return window.asked >= 2")
+    wait_idle(browser)
+    browser.wait("the capacities", "return document.querySelectorAll('#codes tr').length > 2")
+    same("the same button", browser.run(f"return window.kept === ({mark[7:]})"), True)
+    drop(browser, "six.sm", file_of("examples/six.sm").decode())
+    wait_plan(browser, 9)
+    wait_idle(browser)
+    talk(office.server.port, Exchange("DELETE", f"/desks/{DESK}/plans/9", KEY).request())
+    focus_window(browser)
+    browser.wait("no plan", "return plan.hidden")
+    same("the plans", seen_plans(browser), list(range(1, 9)))
+    open_plan(browser, 7)
 
 
 def visit_closed(browser, office):
     """A machine whose code is published with 0 is closed, and the plan says so in the place of a
-    chart; with 1 it is open again."""
+    chart; with 1 it is open again. The window's focus asks for it."""
+    open_tab(browser, "changes")
     browser.type("#bind [name=place]", "1")
     submit(browser, "bind")
     wait_text(browser, "#bind .answer", "Machine 1 is press-1.")
     for capacity, is_open in ((0, False), (1, True)):
         body = b'{"code":"press-1","kind":"machine","capacity":%d}' % capacity
         sent(office.server.port, "POST", "/office/capacities", OFFICE_KEY, body)
-        browser.click("#refresh")
-        wait_idle(browser)
-        wait_text(browser, "#codes td:last-child", str(capacity))
-        seen_chart = browser.run("return chart.checkVisibility()")
-        same(f"a chart with a capacity of {capacity}", seen_chart, is_open)
+        focus_window(browser)
+        wait_text(browser, "#codes tr:last-child td:last-child", str(capacity))
+        browser.wait(f"a chart: {is_open}", """
+            return !document.getElementById("plan").hasAttribute("aria-busy")
+                && chart.checkVisibility() === arguments[0];
+        """, is_open)
         told = texts(browser, "#plan-answer strong")
-        same("the error", told, [] if is_open else ["E11 S4 machine 1 closed"])
+        same("the error", told, [] if is_open else ["E11 S4 machine 0 closed"])
 
 
 def visit_refused(browser):
-    """A wrong file is refused in the office's words, and its line is marked."""
+    """A wrong file is refused in the office's words, and its line is marked. The notice goes when a
+    plan is opened."""
     for name, line in (("wrong_count.sm", "F7 line 21"), ("cycle.sm", "F12 line 17 cycle 3 4")):
         status, out, err = plan("cpm", example(name))
         same(f"plan cpm {name}", (status, out, err.decode()), (1, b"", line + "\n"))
@@ -247,27 +820,15 @@ def visit_refused(browser):
                              "(cell) => cell.innerText)")
         lines = file_of(f"examples/{name}").decode().split("\n")
         same("the marked line", marked, [str(number), lines[number - 1]])
-    same("the plans", len(seen_table(browser, "#plans")), 4)
-
-
-def visit_delete(browser):
-    """A plan is deleted after a question alone."""
-    browser.click("#plans tr:nth-child(2) button")
-    wait_plan(browser, 2)
-    for answer, told in (("no", "Plan 2, a project"), ("yes", "Plan 2 is deleted.")):
-        browser.click("#delete button")
-        wait_text(browser, "#question-words", f"Delete plan 2 of desk {DESK} for good?")
-        browser.click(f"#question [value={answer}]")
-        browser.wait("no question", "return !question.open")
-        wait_text(browser, "#plan-head, #news", told)
-        wait_idle(browser)
-    same("the plans", seen_plans(browser), [1, 3])
+    same("the plans", seen_plans(browser), list(range(1, 9)))
+    open_plan(browser, 3)
+    same("the notice then", seen(browser, "#import-answer"), "")
 
 
 def visit_keys(browser):
     """Keys choose the plan and the schedule that is drawn; Escape deletes nothing."""
     browser.run("document.querySelector('#plans-head').focus()")
-    browser.press(TAB)
+    browser.press(TAB, TAB)
     same("the focus", browser.run("return document.activeElement.textContent"), "Plan 1")
     browser.press(ENTER)
     wait_plan(browser, 1)
@@ -276,13 +837,34 @@ def visit_keys(browser):
     browser.press(TAB, RIGHT)
     makespan = makespan_of(printed("schedule", "slk", "-", given=house_of_four()))
     wait_text(browser, "#caption", f"Activities by slk {makespan}")
+    browser.run("document.querySelector('#tab-table').focus()")
+    browser.press(RIGHT)
+    same("the tab", browser.run("return [changes.hidden, document.activeElement.id]"),
+         [False, "tab-changes"])
     browser.run("document.querySelector('#delete button').focus()")
     browser.press(ENTER)
     browser.wait("the question", "return question.open")
     browser.press(ESCAPE)
     browser.wait("no question", "return !question.open")
     wait_idle(browser)
-    same("the plans", seen_plans(browser), [1, 2, 3])
+    same("the plans", seen_plans(browser), list(range(1, 9)))
+
+
+def visit_delete(browser):
+    """A plan is deleted after a question alone, and its names are forgotten."""
+    open_plan(browser, 2)
+    open_tab(browser, "changes")
+    for answer, told in (("no", "Plan 2, a project"), ("yes", "Plan 2 is deleted.")):
+        browser.click("#delete button")
+        wait_text(browser, "#question-words", f"Delete plan 2 of desk {DESK} for good?")
+        browser.click(f"#question [value={answer}]")
+        browser.wait("no question", "return !question.open")
+        wait_text(browser, "#plan-head, #news", told)
+        wait_idle(browser)
+    same("the plans", seen_plans(browser), [1, 3, 4, 5, 6, 7, 8])
+    same("its record", browser.run("return localStorage.getItem(arguments[0])", f"plan/of/{DESK}/2"), None)
+    same("the others' records", browser.run("return localStorage.getItem(arguments[0]) !== null",
+                                            f"plan/of/{DESK}/6"), True)
 
 
 # ---- a lost connection
@@ -291,24 +873,26 @@ def visit_keys(browser):
 def visit_lost(browser, office):
     """While no office is there nothing is told as done; then the list is asked, and nothing is sent
     before it was."""
+    before = seen_plans(browser)
     office.stop()
     browser.choose("#file", example("six.sm"))
     wait_text(browser, "#lost", "it isn't known whether it was carried out")
     wait_idle(browser)
-    same("the plans that are shown", seen_plans(browser), [1, 3])
+    same("the plans that are shown", seen_plans(browser), before)
     office.start()
     submit(browser, "import")
     wait_text(browser, "#import-answer", "Nothing was sent")
     wait_text(browser, "#news", "The list has the same plans as before.")
-    same("the office's plans", listed(office.server), [1, 3])
+    same("the office's plans", listed(office.server), before)
     same("the warning", browser.run("return lost.checkVisibility()"), False)
     submit(browser, "import")
-    wait_plan(browser, 4)
-    same("the office's plans then", listed(office.server), [1, 3, 4])
+    wait_plan(browser, 10)
+    same("the office's plans then", listed(office.server), [*before, 10])
 
 
 def visit_found(browser, office):
     """A command whose answer is cut off is found in the list, and isn't sent again by itself."""
+    before = seen_plans(browser)
     browser.run("""
         const real = window.fetch;
         window.fetch = async (...words) => {
@@ -320,15 +904,17 @@ def visit_found(browser, office):
     browser.choose("#file", example("six.sm"))
     wait_text(browser, "#lost", "it isn't known whether it was carried out")
     wait_idle(browser)
+    focus_window(browser)
     browser.click("#again")
-    wait_text(browser, "#news", "Plan 5 is new in the list.")
+    wait_text(browser, "#news", "Plan 11 is new in the list.")
     wait_idle(browser)
-    same("the plans", seen_plans(browser), [1, 3, 4, 5])
-    same("the office's plans", listed(office.server), [1, 3, 4, 5])
+    same("the plans", seen_plans(browser), [*before, 11])
+    same("the office's plans", listed(office.server), [*before, 11])
 
 
 def visit_waiting(browser):
     """While an answer is awaited the button says so."""
+    open_plan(browser, 10)
     browser.run("""
         const real = window.fetch;
         window.fetch = async (...words) => {
@@ -337,21 +923,22 @@ def visit_waiting(browser):
             return real(...words);
         };
     """)
-    browser.click("#refresh")
-    browser.wait("a button that awaits", "return refresh.textContent === 'Asking …'")
+    browser.click("#best button")
+    browser.wait("a button that awaits", "return document.querySelector('#best button').textContent"
+                 " === 'Searching …'")
     browser.wait("the request", "return Boolean(window.letGo)")
     browser.run("window.letGo()")
     wait_idle(browser)
-    same("the button then", seen(browser, "#refresh"), "Ask for the list again")
+    same("the button then", seen(browser, "#best button"), "Search for the best")
 
 
-# ---- sizes, the dark, and paper
+# ---- sizes, the dark, people with other senses, and paper
 
 
 def fits(browser, width):
     """Nothing is beyond the right edge, and the chart is as wide as its place."""
     browser.wait(f"a page {width} pixels wide", """
-        const svg = document.querySelector("#drawing svg");
+        const svg = document.querySelector("#drawing [role=application]");
         const room = Math.round(document.getElementById("drawing").clientWidth);
         return innerWidth === arguments[0] && document.documentElement.scrollWidth <= innerWidth
             && Math.abs(svg.viewBox.baseVal.width - room) <= 1;
@@ -359,40 +946,78 @@ def fits(browser, width):
 
 
 def visit_sizes(browser):
-    """It fits narrow and wide windows, in the light and in the dark."""
-    open_plan(browser, 1)
-    for width, height in ((360, 740), (800, 600), (1600, 900)):
-        browser.resize(width, height)
-        fits(browser, width)
+    """It fits narrow and wide windows, in the light and in the dark; a plan of 120 activities takes
+    three screens."""
+    for n in (1, 8):
+        open_plan(browser, n)
+        for width, height in ((360, 740), (800, 600), (1600, 900)):
+            browser.resize(width, height)
+            fits(browser, width)
     paper = "return getComputedStyle(document.body).backgroundColor.match(/[0-9]+/g).map(Number)"
     for scheme, is_dark in (("dark", True), ("light", False)):
         browser.darken(scheme)
         same(f"a {scheme} page", sum(browser.run(paper)) < 200, is_dark)
+    drop(browser, "chain.sm", chain(120))
+    wait_plan(browser, 12)
+    wait_idle(browser)
+    screens = browser.run("return document.documentElement.scrollHeight / innerHeight")
+    same("screens of 120 activities", screens <= 3, True)
 
 
-def chain(count):
-    """A project of so many activities, each behind the one before it, on one resource."""
-    head = f"projects : 1\njobs : {count}\n - renewable : 1 R\n - nonrenewable : 0 N\n"
-    head += " - doubly constrained : 0 D\nPRECEDENCE RELATIONS:\njobnr. #modes #successors\n"
-    arcs = "".join(f"{n} 1 1 {n + 1}\n" for n in range(1, count)) + f"{count} 1 0\n"
-    needs = "".join(f"{n} 1 {n % 4} {n % 3}\n" for n in range(1, count + 1))
-    middle = "REQUESTS/DURATIONS:\njobnr. mode duration R 1\n---\n"
-    return head + arcs + middle + needs + "RESOURCEAVAILABILITIES:\nR 1\n2\n"
+def visit_senses(browser):
+    """Texts have a contrast of 4.5, in the light and in the dark; fields, buttons, regions and
+    pictures have names."""
+    for n, tab in ((1, "table"), (6, "changes"), (8, "handin")):
+        open_plan(browser, n)
+        open_tab(browser, tab)
+        same_senses(f"plan {n}", browser)
+    browser.click("#help-button")
+    same_senses("the help panel", browser)
+    browser.press(ESCAPE)
+
+
+def printed_texts(browser):
+    """The number of sheets, and for each chart and table on paper its width and whether each of its
+    texts is on the sheet."""
+    browser.devtools("Emulation.setEmulatedMedia", media="print", features=[])
+    browser.run("dispatchEvent(new Event('beforeprint'))")
+    value = browser.run("""
+        return [...document.querySelectorAll("#paper .sheet")].map((sheet) => [
+            sheet.querySelectorAll(".bar[data-line]").length, sheet.querySelectorAll("tbody tr").length,
+            sheet.getBoundingClientRect().height,
+            [...sheet.querySelectorAll("svg text")].filter((text) => {
+                const box = text.getBoundingClientRect(), own = text.ownerSVGElement.getBoundingClientRect();
+                return box.left < own.left - 1 || box.right > own.right + 1;
+            }).map((text) => text.textContent),
+        ]);
+    """)
+    browser.run("dispatchEvent(new Event('afterprint'))")
+    browser.devtools("Emulation.setEmulatedMedia", media="", features=[])
+    return value
 
 
 def visit_paper(browser):
-    """A plan is printed on one sheet, A4 on its side; also one of forty activities."""
-    text = chain(40)
-    drop(browser, "chain.sm", text)
-    wait_plan(browser, 6)
-    wait_idle(browser)
-    same_project(browser, text.encode())
-    for n in (1, 3, 6):
+    """A plan is printed on A4 on its side: charts of 40 lines, each on a sheet, then the table with all
+    rows; nothing is cut off."""
+    browser.resize(1120, 720)
+    for n, count in ((1, 14), (12, 120)):
         open_plan(browser, n)
+        wait_idle(browser)
+        *charts, table = printed_texts(browser)
+        same("bars of the charts", [chart[0] for chart in charts],
+             [min(40, count - at) for at in range(0, count, 40)])
+        same("rows of the table", table[1], count)
+        same("texts that are cut off", sum((sheet[3] for sheet in charts), []), [])
+        # 190 mm of A4, at 96 pixels an inch, whose width is that of the window here
+        same("a chart higher than a sheet", [c[2] for c in charts if c[2] > 718 * 1120 / 1047], [])
         sheets = browser.printed()
-        same(f"the sheets of plan {n}", sheets.count(b"/Type /Page\n"), 1)
+        pages = sheets.count(b"/Type /Page\n")
         same("their size", b"/MediaBox [0 0 84" in sheets, True)
-    browser.wait("the chart as before", "return document.querySelector('#drawing svg')")
+        same(f"the sheets of plan {n}", pages, {14: 2, 120: 6}[count])
+    same("the head", "desk trial, plan 12" in browser.run("dispatchEvent(new Event('beforeprint'));"
+         " return document.querySelector('#paper header').textContent"), True)
+    browser.run("dispatchEvent(new Event('afterprint'))")
+    same("the page afterwards", browser.run("return paper.childElementCount"), 0)
 
 
 def visit_quiet(browser):
@@ -407,52 +1032,99 @@ def visit_quiet(browser):
 
 def shot(browser, name):
     """A picture for the docs."""
-    picture = smaller(browser.picture())
+    keep(name, browser.picture())
+
+
+def keep(name, png):
+    picture = smaller(png)
+    if len(picture) > LARGEST_PICTURE:
+        picture = smaller(png, 32)
     with open(os.path.join(PICTURES, name), "wb") as file:
         file.write(picture)
     if len(picture) > LARGEST_PICTURE:
         raise Wrong(f"{name} has {len(picture)} bytes")
 
 
+def sheet(browser, name, number):
+    """A picture of one printed sheet, if pdftoppm is there."""
+    tool = shutil.which("pdftoppm")
+    if tool:
+        words = [tool, "-r", "72", "-png", "-f", str(number), "-l", str(number), "-"]
+        keep(name, subprocess.run(words, input=browser.printed(), capture_output=True, check=True).stdout)
+
+
 def open_north(browser, office):
     """Signs in as a desk with a project and a job shop."""
     for method, path, key, body in [
         ("POST", "/office/desks", OFFICE_KEY, b'{"desk":"north","key":"north-key-1"}'),
-        ("POST", "/desks/north/projects", "north-key-1", file_of("examples/house.sm")),
         ("POST", "/desks/north/shops/ft06", "north-key-1", file_of("examples/shops.txt")),
-        ("POST", "/desks/north/plans/1/calendar", "north-key-1",
-         b'{"start":"2024-03-01","days":"1111100"}'),
     ]:
         sent(office.server.port, method, path, key, body)
     browser.click("#leave")
-    browser.type("#enter [name=desk]", "north")
-    browser.type("#enter [name=key]", "north-key-1")
-    submit(browser, "enter")
-    open_plan(browser, 1)
+    sign_in(browser, "north", "north-key-1")
 
 
 def visit_pictures(browser, office):
-    """A project, a job shop in the dark, and a file that is refused; where pictures are wanted."""
+    """A project from a table, a job shop in the dark, and a table that is refused, where pictures are
+    wanted."""
     if "--pictures" not in sys.argv:
         return
-    browser.resize(1120, 720)
+    browser.resize(1120, 760)
     open_north(browser, office)
+    table = named_house()
+    drop(browser, "house.csv", table)
+    wait_text(browser, "#preview", "becomes a project")
+    submit(browser, "import")
+    wait_plan(browser, 2)
+    set_date(browser, "#calendar [name=start]", "2024-03-01")
+    submit(browser, "calendar")
+    open_tab(browser, "table")
+    browser.run("scrollTo(0, 0)")
     browser.point("#drawing .bar[data-line='5'] rect")
     shot(browser, "desk.png")
-    open_plan(browser, 2)
+    sheet(browser, "sheet.png", 1)
+    browser.resize(360, 740)
+    browser.run("document.querySelector('#caption').scrollIntoView()")
+    shot(browser, "narrow.png")
+    drop(browser, "big.txt", large_shop())
+    wait_plan(browser, 3)
+    browser.resize(1600, 900)
+    fits(browser, 1600)
+    browser.run("scrollTo(0, 0)")
+    shot(browser, "wide.png")
+    browser.resize(1120, 760)
+    open_plan(browser, 1)
     submit(browser, "best")
     wait_text(browser, "#best-answer", "optimal 55:")
     browser.darken("dark")
+    browser.run("scrollTo(0, 0)")
     shot(browser, "shop.png")
     browser.darken("light")
-    browser.choose("#file", example("wrong_count.sm"))
-    wait_text(browser, "#import-answer strong", "E10 F7 line 21")
-    wait_idle(browser)
+    drop(browser, "house.csv", table.replace("G H", "G X"))
+    wait_text(browser, "#preview strong", "T8")
+    browser.run("scrollTo(0, 0)")
     shot(browser, "refused.png")
 
 
+def named_house():
+    """The house of examples/house.sm as a table with names."""
+    names = ["Excavation", "Foundation", "Drains", "Walls", "Roof", "Windows", "Stairs", "Plumbing",
+             "Wiring", "Plaster", "Garden", "Painting"]
+    durations, successors, needs, capacities, _ = read_sm(file_of(HOUSE).decode())
+    letter = lambda number: chr(ord("A") + number - 2)
+    lines = ["id,name,duration,predecessors,crew,digger"]
+    for number, name in enumerate(names, 2):
+        before = [at for at, row in enumerate(successors, 1) if number in row and at > 1]
+        lines.append(",".join([letter(number), name, str(durations[number - 1]),
+                               " ".join(map(letter, before)), *map(str, needs[number - 1])]))
+    return "\n".join([*lines, "capacity,,,," + ",".join(map(str, capacities)), ""])
+
+
 VISIT = [
-    visit_door, visit_office, visit_desk, visit_import, visit_bars, visit_calendar, visit_bind,
-    visit_lag, visit_best, visit_shop, visit_closed, visit_refused, visit_keys, visit_delete,
-    visit_lost, visit_found, visit_waiting, visit_sizes, visit_paper, visit_quiet, visit_pictures,
+    visit_door, visit_help, visit_office, visit_desk, visit_left, visit_import, visit_bars, visit_slack,
+    visit_use, visit_sort, visit_calendar, visit_today, visit_bind, visit_lag, visit_elsewhere,
+    visit_best, visit_large, visit_check, visit_save, visit_table, visit_capacity, visit_names, visit_other,
+    visit_shop, visit_colours, visit_links, visit_focus, visit_closed, visit_refused, visit_keys, visit_delete,
+    visit_lost, visit_found, visit_waiting, visit_sizes, visit_senses, visit_paper, visit_quiet,
+    visit_pictures,
 ]

@@ -1,0 +1,112 @@
+// Requests to the office: one at a time, with the key in a field, and the tables that come back.
+
+import { page } from "./state.js";
+
+const MOST_MILLISECONDS = 90000;
+const WORDS_IN_FRONT = {
+  403: "This address isn't open from where you are.",
+  404: "There is no such address.",
+  413: "The file is too large: an office takes at most 1,048,576 bytes.",
+  429: "Too many requests came in a short time. Wait a moment, and try again.",
+};
+
+/** An error line of the office, or of the server in front of it. */
+export class Refusal extends Error {}
+
+export class Lost extends Error {}
+
+let hooks = { lost() {}, answered() {}, async unsure() {} };
+
+export function listenTo(functions) {
+  hooks = functions;
+}
+
+function judged(response, text) {
+  const type = (response.headers.get("Content-Type") ?? "").split(";")[0];
+  if (response.ok && type === "application/json") return JSON.parse(text);
+  if (response.ok && type === "text/plain") return text;
+  if (type === "text/plain") throw new Refusal(text.trim());
+  const words = WORDS_IN_FRONT[response.status];
+  if (words) throw new Refusal(`${response.status}: ${words}`);
+  throw new Lost(`The server in front of the office answers ${response.status}.`);
+}
+
+async function exchange(key, method, path, body) {
+  const headers = { "Desk-Key": key };
+  const signal = AbortSignal.timeout(MOST_MILLISECONDS);
+  let response, text;
+  try {
+    response = await fetch(path, {
+      method, headers, body, signal, cache: "no-store", credentials: "omit", redirect: "error",
+    });
+    text = await response.text();
+  } catch {
+    throw new Lost("No answer came.");
+  }
+  return judged(response, text);
+}
+
+/** Sends a request after all earlier ones were answered. */
+export async function ask(path, method = "GET", body = undefined) {
+  const asking = page;
+  const key = asking.key;
+  const answer = asking.waiting.then(() => exchange(key, method, path, body));
+  asking.waiting = answer.catch(() => {});
+  try {
+    await answer;
+    hooks.answered();
+  } catch (fault) {
+    if (fault instanceof Lost) hooks.lost(fault.message, method);
+    throw fault;
+  }
+  return answer;
+}
+
+/** Sends a command. While the effect of an earlier one is unknown it asks, and sends nothing. */
+export async function command(path, method, body) {
+  if (page.isUnsure) {
+    await hooks.unsure();
+    throw new Refusal("Nothing was sent: first look whether it has been done already.");
+  }
+  return ask(path, method, body instanceof Blob ? body : body && JSON.stringify(body));
+}
+
+export const deskPath = (...parts) =>
+  `/desks/${[page.desk, ...parts].map(encodeURIComponent).join("/")}`;
+export const planPath = (n, ...parts) => deskPath("plans", n, ...parts);
+
+/** Returns the path that imports an instance; null if an address can't contain its name. */
+export function shopPath(instance) {
+  const isPlain = /^[A-Za-z0-9\-._~!$&'()*+,;=:@]+$/.test(instance);
+  return isPlain && !/^\.\.?$/.test(instance) ? `${deskPath("shops")}/${instance}` : null;
+}
+
+export async function orRefusal(asking) {
+  try {
+    return await asking;
+  } catch (fault) {
+    if (fault instanceof Refusal) return fault;
+    throw fault;
+  }
+}
+
+const wordsOf = (line) => line.trim().split(/\s+/);
+
+/** Returns a table of the office by the names of its columns, with the lines around it. */
+export function tableOf(text) {
+  const lines = text.split("\n").filter((line) => line.trim()).map(wordsOf);
+  const at = lines.findIndex((words) => words[0] === "act" || words[0] === "job");
+  const heads = lines[at] ?? [];
+  const rows = lines.slice(at + 1).filter((words) => /^\d/.test(words[0])).map((words) => ({
+    ...Object.fromEntries(heads.map((head, place) => [head, words[place]])),
+    isCritical: words.length > heads.length,
+  }));
+  const last = lines.at(-1) ?? [""];
+  const total = /^\d/.test(last[0]) ? null : Number(last[1]);
+  return { heads, rows, verdict: at > 0 ? lines[0][0] : "", total };
+}
+
+export async function askTable(path) {
+  const text = await orRefusal(ask(path));
+  return text instanceof Refusal ? text : tableOf(text);
+}

@@ -1,0 +1,92 @@
+// Calendar arithmetic: the date of each unit of working time, as `plan days` counts them.
+//
+// A day is a number, counted from 1970-01-01. A calendar is { at, day, marks }: the unit of time
+// `at` is the day `day`, and `marks` are seven booleans, Monday first. A unit is one working day.
+
+const LAST_DAY = 2932896; // 9999-12-31
+const WEEK = [0, 1, 2, 3, 4, 5, 6];
+
+export function dayOf(text) {
+  if (!/^\d{4}-\d\d-\d\d$/.test(text)) return null;
+  const [year, month, date] = text.split("-").map(Number);
+  const day = Date.UTC(year, month - 1, date) / 86400000;
+  return dateOf(day) === text ? day : null;
+}
+
+export const dateOf = (day) => new Date(day * 86400000).toISOString().slice(0, 10);
+
+export const weekdayOf = (day) => (((day + 3) % 7) + 7) % 7;
+
+export function calendarFrom(start, digits) {
+  const day = dayOf(start);
+  if (day === null || start < "1900-01-01" || start > "2199-12-31") return null;
+  if (!/^[01]{7}$/.test(digits) || digits === "0000000") return null;
+  const marks = [...digits].map((digit) => digit === "1");
+  const wait = WEEK.find((days) => marks[weekdayOf(day + days)]);
+  return { at: 0, day: day + wait, marks };
+}
+
+const offsetsOf = ({ day, marks }) =>
+  WEEK.filter((offset) => marks[weekdayOf(day + offset)]);
+
+/** Returns the day of a unit of time; null after 9999-12-31. */
+export function dayAt(calendar, time) {
+  const offsets = offsetsOf(calendar);
+  const ahead = time - calendar.at;
+  const weeks = Math.floor(ahead / offsets.length);
+  const day = calendar.day + 7 * weeks + offsets[ahead - weeks * offsets.length];
+  return day > LAST_DAY ? null : day;
+}
+
+export const isWorked = ({ marks }, day) => marks[weekdayOf(day)];
+
+/** Returns the first and the last date of each interval; null for those that take no time.
+ * The whole is null if a date would be after 9999-12-31. */
+export function datesOf(calendar, intervals) {
+  const dates = [];
+  for (const { start, end } of intervals) {
+    const days = start < end ? [dayAt(calendar, start), dayAt(calendar, end - 1)] : [];
+    if (days.includes(null)) return null;
+    dates.push(days.length ? { first: dateOf(days[0]), last: dateOf(days[1]) } : null);
+  }
+  return dates;
+}
+
+/** Returns the days of times that tables of the office tell: pairs of a table's rows with `start`
+ * and `end`, and its rows with `first` and `last`. */
+export function daysTold(pairs) {
+  const told = new Map();
+  for (const [rows, days] of pairs) {
+    days.forEach(({ first, last }, index) => {
+      if (first === "-") return;
+      told.set(Number(rows[index].start), dayOf(first));
+      told.set(Number(rows[index].end) - 1, dayOf(last));
+    });
+  }
+  return told;
+}
+
+/** Returns all calendars that give these days to these times, at most 64. */
+export function calendarsOf(told) {
+  if (!told.size) return [];
+  const times = [...told].sort((a, b) => a[0] - b[0]);
+  const [at, day] = times[0];
+  const found = [];
+  for (let bits = 1; bits < 128; bits += 1) {
+    const marks = WEEK.map((place) => Boolean(bits & (1 << place)));
+    const calendar = { at, day, marks };
+    const isSame = ([time, wanted]) => dayAt(calendar, time) === wanted;
+    if (marks[weekdayOf(day)] && times.every(isSame)) found.push(calendar);
+  }
+  return found;
+}
+
+/** Returns the one calendar that a table of working days leaves, up to a time; null if several
+ * differ before that time. */
+export function onlyCalendar(calendars, total) {
+  if (!calendars.length) return null;
+  const days = (calendar) =>
+    Array.from({ length: total }, (_, time) => dayAt(calendar, time)).join();
+  const first = days(calendars[0]);
+  return calendars.every((calendar) => days(calendar) === first) ? calendars[0] : null;
+}

@@ -1,0 +1,102 @@
+// Changes of a plan: binds, the calendar, lags, and deleting it. The fields are filled with the
+// last values that this browser set, because the office has no route that returns them.
+
+import { command, planPath } from "./api.js";
+import { byId, fill, make, onSubmit } from "./dom.js";
+import { recordOf, rememberChange } from "./names.js";
+import { leavePlan, openPlan } from "./plan.js";
+import { dropPlan, showPlans } from "./plans.js";
+import { CODE_KINDS, page } from "./state.js";
+import { namesIn } from "./view.js";
+
+const NOT_HERE = "Not set on this computer; the office doesn't tell it.";
+const boxesOf = (form) => [...form.querySelectorAll("input[type=checkbox]")];
+
+/** Sends a change of the plan, remembers it, and asks for the plan's pages again. */
+async function changePlan(part, body, valueOf, words) {
+  const { n } = page.plan;
+  const made = await command(planPath(n, part), "POST", body);
+  rememberChange(n, part, valueOf(made));
+  if (page.plan?.n === n) await openPlan(n);
+  return words(made);
+}
+
+const bind = ({ place, code }) => changePlan("bind",
+  { place: place.valueAsNumber, code: code.value },
+  (made) => ({ at: made.place, code: made.code }),
+  (made) => `${byId("place-word").textContent} ${made.place} is ${made.code}.`);
+
+const setCalendar = ({ start }, form) => changePlan("calendar",
+  { start: start.value, days: boxesOf(form).map(({ checked }) => (checked ? "1" : "0")).join("") },
+  (made) => made,
+  (made) => `From ${made.start} on; working days ${made.days}, Monday first.`);
+
+const setLag = ({ from, to, lag }) => changePlan("lag",
+  { from: from.valueAsNumber, to: to.valueAsNumber, lag: lag.valueAsNumber },
+  (made) => ({ at: `${made.from}-${made.to}`, lag: made.lag }),
+  (made) => `At least ${made.lag} between ${made.from} and ${made.to}.`);
+
+function isDeleteMeant() {
+  const dialog = byId("question");
+  byId("question-words").textContent = `Delete plan ${page.plan.n} of desk ${page.desk} for good?`;
+  dialog.returnValue = "no";
+  dialog.showModal();
+  return new Promise((answer) => {
+    dialog.addEventListener("close", () => answer(dialog.returnValue === "yes"), { once: true });
+  });
+}
+
+async function deletePlan() {
+  const { n } = await command(planPath(page.plan.n), "DELETE");
+  dropPlan(n);
+  leavePlan();
+  showPlans();
+  byId("plans-head").focus();
+  byId("news").textContent = `Plan ${n} is deleted.`;
+}
+
+/** Shows what was set here of one kind, and returns the last of it. */
+function showSet(place, changes, words) {
+  const made = Object.values(changes ?? {}).sort((a, b) => a.time - b.time);
+  const told = made.map((change) => `${words(change)} (set here on ${change.on})`);
+  byId(place).textContent = told.join("; ") || NOT_HERE;
+  return made.at(-1) ?? {};
+}
+
+/** Shows the forms of changes as the kind of the plan has them. */
+export function showChanges(plan) {
+  const isProject = plan.kind === "project";
+  const { bind: binds, calendar, lag: lags } = recordOf(plan.n).set ?? {};
+  const word = isProject ? "Resource" : "Machine";
+  const { place, code } = byId("bind").elements;
+  const count = plan.model?.capacities.length ?? (isProject ? 16 : 20);
+  place.min = isProject ? 1 : 0;
+  place.max = isProject ? count : count - 1;
+  byId("place-word").textContent = word;
+  fill("places", ...Object.entries(namesIn(plan).resources)
+    .map(([value, name]) => make("option", { value }, name)));
+  code.replaceChildren(...page.codes.filter(({ kind }) => kind === CODE_KINDS[plan.kind])
+    .map((found) => make("option", { value: found.code }, `${found.code} (${found.capacity})`)));
+  const bound = showSet("bind-set", binds,
+    (made) => `${word.toLowerCase()} ${made.at} is ${made.code}`);
+  place.value = bound.at ?? "";
+  if (bound.code) code.value = bound.code;
+  const delayed = showSet("lag-set", lags, ({ at, lag }) => `${at}: ${lag}`);
+  const { from, to, lag } = byId("lag").elements;
+  [from.value, to.value] = (delayed.at ?? "-").split("-");
+  lag.value = delayed.lag ?? "";
+  byId("lag").hidden = !isProject;
+  byId("calendar").elements.start.value = calendar?.start ?? "";
+  boxesOf(byId("calendar")).forEach((box, at) => {
+    box.checked = (calendar?.days ?? "1111100")[at] === "1";
+  });
+  byId("calendar-set").textContent = calendar
+    ? `Set here on ${calendar.on}; the office doesn't tell it.` : NOT_HERE;
+}
+
+export function letChange() {
+  onSubmit("bind", bind);
+  onSubmit("calendar", setCalendar);
+  onSubmit("lag", setLag);
+  onSubmit("delete", deletePlan, isDeleteMeant);
+}

@@ -1,0 +1,245 @@
+// A table of activities, as spreadsheets save it, and the project file that it becomes: the rules
+// and the error codes T1 to T13 of `plan import`.
+
+const MOST = { bytes: 1048576, rows: 500, resources: 16, amount: 10000, work: 1000000, name: 200 };
+const FIXED = ["id", "name", "duration", "predecessors"];
+const SYNONYMS = new Map([["task", "name"], ["after", FIXED[3]], ["depends on", FIXED[3]]]);
+
+export const TABLE_FAULTS = {
+  T1: ["The table has more than 1,048,576 bytes."],
+  T2: ["This line isn't plain text in UTF-8. Save the table as CSV in UTF-8."],
+  T3: ["No column is named duration: name the one with the working days so."],
+  T4: ["Two columns have this name."],
+  T5: ["The duration isn't a whole number without a unit."],
+  T6: ["An id has 1 to 32 characters, and no blank, comma or semicolon."],
+  T7: ["Two activities have this id."],
+  T8: ["No activity has the id that this predecessor names."],
+  T9: ["A need isn't a whole number. An empty cell is 0."],
+  T10: ["This resource has no capacity: enter it, or add a row whose id is capacity."],
+  T11: ["These activities wait for each other."],
+  T12: ["This is beyond a limit: 500 activities, 16 resources, 10,000 for a duration or an amount, "
+    + "1,000,000 for all durations, 200 bytes for a name."],
+  T13: ["This row has more cells than the header, or a quote isn't closed."],
+};
+
+/** An error in a table, with the line and the column of its cell as far as there is one. */
+export class TableFault extends Error {
+  constructor(words, line = 0, column = -1) {
+    super(words);
+    Object.assign(this, { line, column });
+  }
+}
+
+function fail(words, line, column) {
+  throw new TableFault(words, line, column);
+}
+
+const isText = (bytes) => {
+  try {
+    new TextDecoder("utf-8", { fatal: true }).decode(bytes);
+    return !bytes.includes(0);
+  } catch {
+    return false;
+  }
+};
+
+function decoded(bytes) {
+  if (bytes.length > MOST.bytes) fail("T1 too long");
+  for (let line = 1, begin = 0, end; !isText(bytes) && end !== -1; line += 1, begin = end + 1) {
+    end = bytes.indexOf(10, begin);
+    if (!isText(bytes.subarray(begin, end < 0 ? bytes.length : end))) {
+      fail(`T2 not text line ${line}`, line);
+    }
+  }
+  return new TextDecoder().decode(bytes);
+}
+
+const separatorOf = (text) =>
+  ["\t", ";", ","].find((mark) => text.split(/[\r\n]/, 1)[0].includes(mark)) ?? ",";
+
+/** Returns the records of a text by RFC 4180, each with the line on which it begins. */
+export function recordsOf(text, mark = separatorOf(text)) {
+  const rest = `[^${mark}\r\n]*`;
+  const cell = new RegExp(
+    `(?:"([^"]*(?:""[^"]*)*)"(${rest})|([^"${mark}\r\n]${rest})?)(${mark}|\r?\n|\r|$)`, "y");
+  const records = [];
+  for (let line = 1, record = null; record || cell.lastIndex < text.length;) {
+    record ??= { line, cells: [] };
+    const found = cell.exec(text);
+    if (!found) fail(`T13 line ${record.line} cells`, record.line);
+    const [whole, quoted, behind, plain = "", end] = found;
+    record.cells.push(quoted === undefined ? plain : quoted.replaceAll('""', '"') + behind);
+    line += whole.split("\n").length - 1;
+    if (end === mark) continue;
+    records.push(record);
+    record = null;
+  }
+  return records;
+}
+
+function columnsOf({ line, cells }) {
+  const columns = [];
+  cells.forEach((cell, place) => {
+    const name = cell.trim(), words = name.toLowerCase();
+    const head = SYNONYMS.get(words) ?? words;
+    const isTwice = columns.some((column) => column.head === head);
+    if (isTwice) fail(`T4 column ${words} twice`, line, place);
+    if (head) columns.push({ head, name, place, isResource: !FIXED.includes(head) });
+  });
+  if (!columns.some(({ head }) => head === "duration")) fail("T3 no column duration", line);
+  const extra = columns.filter(({ isResource }) => isResource)[MOST.resources];
+  if (extra) fail(`T12 limit line ${line}`, line, extra.place);
+  return columns;
+}
+
+function amountOf(text, words, line, place) {
+  if (!/^\d{1,9}$/.test(text)) fail(words, line, place);
+  if (Number(text) > MOST.amount) fail(`T12 limit line ${line}`, line, place);
+  return Number(text);
+}
+
+/** Reads one row, from left to right. `lines` are the lines of all ids. */
+function rowOf({ line, cells }, columns, lines, number) {
+  const row = { line, id: String(number), name: "", duration: 0, after: [], needs: [] };
+  for (const { head, name, place, isResource } of columns) {
+    const text = (cells[place] ?? "").trim();
+    const failHere = (words) => fail(words, line, place);
+    if (isResource) {
+      row.needs.push(text ? amountOf(text, `T9 line ${line} need ${name}`, line, place) : 0);
+    } else if (head === "id") {
+      if (!/^[^\s,;]{1,32}$/u.test(text)) failHere(`T6 line ${line} id`);
+      if (lines.get(text) !== line) failHere(`T7 line ${line} id ${text} twice`);
+      row.id = text;
+    } else if (head === "name") {
+      if (/[\u0000-\u001f]/.test(text)) failHere(`T2 not text line ${line}`);
+      if (new TextEncoder().encode(text).length > MOST.name) failHere(`T12 limit line ${line}`);
+      row.name = text;
+    } else if (head === "duration") {
+      row.duration = amountOf(text, `T5 line ${line} duration`, line, place);
+    } else {
+      row.after = [...new Set(text.split(/[\s,;]+/).filter(Boolean))];
+      const missing = row.after.find((id) => !lines.has(id));
+      if (missing) failHere(`T8 line ${line} predecessor ${missing}`);
+    }
+  }
+  return row;
+}
+
+/** Returns the first cycle of rows, each a predecessor of the next one; null if there is none. */
+function cycleOf(rows) {
+  const done = new Set();
+  const visit = (at, path) => {
+    if (path.includes(at)) return path.slice(path.indexOf(at));
+    if (done.has(at)) return null;
+    done.add(at);
+    return first(rows[at].before, (next) => visit(next, [...path, at]));
+  };
+  const first = (places, find) => {
+    for (const place of places) {
+      const found = find(place);
+      if (found) return found;
+    }
+    return null;
+  };
+  return first(rows.keys(), (at) => visit(at, []));
+}
+
+function linked(rows) {
+  const places = new Map(rows.map(({ id }, at) => [id, at]));
+  const made = rows.map((row) =>
+    ({ ...row, before: [], after: row.after.map((id) => places.get(id)) }));
+  made.forEach(({ after }, at) => after.forEach((place) => made[place].before.push(at)));
+  return made;
+}
+
+/** Reads a table. `given` are capacities by the name of the resource, which override the table's.
+ * */
+export function readTable(bytes, given = new Map()) {
+  const [header = { line: 1, cells: [] }, ...rest] = recordsOf(decoded(bytes));
+  const columns = columnsOf(header);
+  const resources = columns.filter(({ isResource }) => isResource);
+  const idPlace = columns.find(({ head }) => head === "id")?.place;
+  const idOf = ({ cells }) => (cells[idPlace] ?? "").trim();
+  const filled = rest.filter(({ cells }) => cells.some((cell) => cell.trim()));
+  const listed = filled.filter((record) => idOf(record) !== "capacity");
+  const lines = new Map();
+  listed.forEach((record, at) => {
+    const id = idPlace === undefined ? String(at + 1) : idOf(record);
+    if (id && !lines.has(id)) lines.set(id, record.line);
+  });
+  const rows = [], found = new Map();
+  let work = 0;
+  for (const record of filled) {
+    const { line, cells } = record;
+    const most = header.cells.length;
+    if (cells.length > most) fail(`T13 line ${line} cells`, line, most);
+    if (idOf(record) === "capacity") {
+      for (const { place, name } of resources) {
+        const text = (cells[place] ?? "").trim();
+        if (text) found.set(name, amountOf(text, `T9 line ${line} need ${name}`, line, place));
+      }
+      continue;
+    }
+    rows.push(rowOf(record, columns, lines, rows.length + 1));
+    work += rows.at(-1).duration;
+    if (rows.length > MOST.rows || work > MOST.work) fail(`T12 limit line ${line}`, line);
+  }
+  const names = resources.map(({ name }) => name);
+  const capacities = names.map((name) => given.get(name) ?? found.get(name));
+  const lacking = names[capacities.indexOf(undefined)];
+  if (lacking) {
+    throw Object.assign(new TableFault(`T10 no capacity ${lacking}`), { names, capacities });
+  }
+  const made = linked(rows);
+  const cycle = cycleOf(made);
+  if (cycle) fail(`T11 cycle ${cycle.map((at) => made[at].id).join(" ")}`, made[cycle[0]].line);
+  return { rows: made, resources: names, capacities };
+}
+
+const RULER = `${"*".repeat(72)}\n`;
+const spaced = (number, places) => ` ${String(number).padStart(places)}`;
+const columns = (first, further, numbers) =>
+  numbers.map((number, at) => spaced(number, at ? further : first)).join("");
+
+/** Returns the project file of a table, as `plan import` writes it: activities 1 and n + 2 are the
+ * start and the end; a table without resources gives one of capacity 0. */
+export function projectText({ rows, resources, capacities }) {
+  const last = rows.length + 2;
+  const amounts = resources.length ? capacities : [0];
+  const none = amounts.map(() => 0);
+  const start = { duration: 0, needs: none,
+    successors: rows.flatMap(({ after }, at) => (after.length ? [] : [at + 2])) };
+  const jobs = [start, ...rows.map(({ duration, needs, before }) => ({
+    duration, needs: resources.length ? needs : none,
+    successors: before.length ? before.map((at) => at + 2) : [last],
+  })), { duration: 0, needs: none, successors: [] }];
+  const horizon = jobs.reduce((sum, { duration }) => sum + duration, 0);
+  const heads = amounts.map((_, at) => `  R ${at + 1}`).join("");
+  return [
+    RULER, "file with basedata            : plan import\n",
+    "initial value random generator: 1\n", RULER,
+    "projects                      :  1\n", `jobs (incl. supersource/sink ):  ${last}\n`,
+    `horizon                       :  ${horizon}\nRESOURCES\n`,
+    `  - renewable                 :  ${amounts.length}   R\n`,
+    "  - nonrenewable              :  0   N\n  - doubly constrained        :  0   D\n", RULER,
+    "PROJECT INFORMATION:\npronr.  #jobs rel.date duedate tardcost  MPM-Time\n",
+    `    1${spaced(rows.length, 6)}      0${spaced(horizon, 8)}        0${spaced(horizon, 8)}\n`,
+    RULER,
+    "PRECEDENCE RELATIONS:\njobnr.    #modes  #successors   successors\n",
+    ...jobs.map(({ successors }, at) => `${String(at + 1).padStart(4)}${spaced(1, 8)}`
+      + `${spaced(successors.length, 10)}${columns(11, 3, successors)}\n`), RULER,
+    `REQUESTS/DURATIONS:\njobnr. mode duration${heads}\n${"-".repeat(72)}\n`,
+    ...jobs.map(({ duration, needs }, at) => `${String(at + 1).padStart(3)}${spaced(1, 6)}`
+      + `${spaced(duration, 5)}${columns(7, 4, needs)}\n`), RULER,
+    `RESOURCEAVAILABILITIES:\n${heads}\n${columns(4, 4, amounts)}\n`, RULER,
+    "PROJECT INFORMATION:\n",
+    ...rows.map(({ name }, at) => (name ? `name ${at + 2} ${name}\n` : "")),
+    ...resources.map((name, at) => `resource ${at + 1} ${name}\n`), RULER,
+  ].join("");
+}
+
+export function isTable(text) {
+  const header = text.replace(/^\ufeff/, "").split(/\r?\n/, 1)[0].toLowerCase();
+  const cells = header.split(/[\t;,]/).map((cell) => cell.trim().replace(/^"(.*)"$/, "$1").trim());
+  return cells.includes("duration");
+}

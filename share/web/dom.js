@@ -1,0 +1,127 @@
+// Elements of the page: making them, showing errors with their meaning, and buttons that await an
+// answer. A text is never read as markup.
+
+import { Lost, Refusal } from "./api.js";
+import { FAULTS } from "./faults.js";
+
+export const byId = (name) => document.getElementById(name);
+export const fill = (name, ...nodes) => byId(name).replaceChildren(...nodes);
+
+function dressed(node, attributes, children) {
+  for (const [name, value] of Object.entries(attributes)) {
+    if (value !== null && value !== undefined && value !== false) {
+      node.setAttribute(name, value === true ? "" : value);
+    }
+  }
+  node.append(...children);
+  return node;
+}
+
+export const make = (tag, attributes = {}, ...children) =>
+  dressed(document.createElement(tag), attributes, children);
+
+export const draw = (tag, attributes = {}, ...children) =>
+  dressed(document.createElementNS("http://www.w3.org/2000/svg", tag), attributes, children);
+
+export const wideNode = (name, child) =>
+  make("div", { class: "wide", tabindex: "0", role: "region", "aria-label": name }, child);
+
+export function tableNode({ caption, heads, rows, foot, marks = [] }) {
+  const row = ([first, ...cells], index) => make("tr", { class: marks[index] && "critical" },
+    make("th", { scope: "row" }, first), ...cells.map((cell) => make("td", {}, cell)));
+  return make("table", {},
+    ...(caption ? [make("caption", {}, caption)] : []),
+    make("thead", {}, make("tr", {}, ...heads.map((head) => make("th", { scope: "col" }, head)))),
+    make("tbody", {}, ...rows.map(row)),
+    ...(foot ? [make("tfoot", {}, row(foot))] : []));
+}
+
+/** Returns an error with the meaning of its last code; `lead` comes first if there is one. */
+export function refusalNode(line, lead = "", faults = FAULTS) {
+  const code = (line.match(/\b[A-Z]\d+\b/g) ?? []).findLast((found) => faults[found]);
+  return make("div", { class: "refusal", role: "alert" },
+    ...(lead ? [make("p", { class: "lead" }, lead)] : []), make("strong", {}, line),
+    ...(faults[code] ?? []).map((words) => make("p", {}, words)));
+}
+
+export function faultNodes(fault) {
+  const { message, lead, more = [] } = fault;
+  if (fault instanceof Refusal) return [refusalNode(message, lead), ...more];
+  if (fault instanceof Lost) return [make("div", { class: "unanswered" }, refusalNode(message))];
+  return [refusalNode(`The page failed: ${fault}`)];
+}
+
+/** Does what a button asks for. The button says so until the answer has come. */
+export async function during(button, place, action) {
+  if (button.getAttribute("aria-disabled") === "true") return;
+  const words = [...button.childNodes];
+  button.replaceChildren(button.dataset.awaiting);
+  button.setAttribute("aria-disabled", "true");
+  place.replaceChildren();
+  try {
+    const told = await action();
+    if (told) place.append(make("p", { role: "status" }, told));
+  } catch (fault) {
+    place.replaceChildren(...faultNodes(fault));
+  } finally {
+    button.replaceChildren(...words);
+    button.removeAttribute("aria-disabled");
+  }
+}
+
+export function onSubmit(name, action, isMeant = () => true) {
+  const form = byId(name);
+  form.addEventListener("submit", async (event) => {
+    event.preventDefault();
+    const place = form.querySelector(".answer") ?? byId(`${name}-answer`);
+    if (!(await isMeant())) return;
+    during(form.querySelector("button:not([type=button])"), place,
+      () => action(form.elements, form));
+  });
+}
+
+export function letChoose(list) {
+  const tabs = [...list.querySelectorAll("[role=tab]")];
+  const choose = (tab) => {
+    for (const other of tabs) {
+      const isChosen = other === tab;
+      other.setAttribute("aria-selected", String(isChosen));
+      other.tabIndex = isChosen ? 0 : -1;
+      byId(other.getAttribute("aria-controls")).hidden = !isChosen;
+    }
+  };
+  list.addEventListener("click", ({ target }) => tabs.includes(target) && choose(target));
+  list.addEventListener("keydown", (event) => {
+    const step = { ArrowRight: 1, ArrowLeft: -1 }[event.key];
+    const at = tabs.indexOf(document.activeElement);
+    if (!step || at < 0) return;
+    event.preventDefault();
+    const next = tabs[(at + step + tabs.length) % tabs.length];
+    choose(next);
+    next.focus();
+  });
+}
+
+export function letTake(place, take) {
+  place.addEventListener("dragover", (event) => event.preventDefault());
+  place.addEventListener("drop", (event) => {
+    event.preventDefault();
+    event.stopPropagation();
+    document.body.classList.remove("dropping");
+    const [file] = event.dataTransfer.files;
+    if (file) take(file);
+  });
+  place.querySelector("input[type=file]").addEventListener("change", ({ target }) => {
+    if (target.files.length) take(target.files[0]);
+    target.value = "";
+  });
+}
+
+export function download(name, type, text) {
+  const address = URL.createObjectURL(new Blob([text], { type }));
+  const link = make("a", { href: address, download: name });
+  document.body.append(link);
+  link.click();
+  link.remove();
+  setTimeout(() => URL.revokeObjectURL(address), 10000);
+}

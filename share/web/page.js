@@ -1,0 +1,140 @@
+// The page of a desk: signing in and out, and the events of the window. It asks the routes of
+// docs/api.md, and shows the answers.
+
+import { listenTo, Refusal } from "./api.js";
+import { letChange } from "./changes.js";
+import { byId, during, fill, letChoose, letTake, make, onSubmit } from "./dom.js";
+import { letHandIn } from "./handin.js";
+import { forgetFile, letImport, takeFile, takeNames } from "./import.js";
+import { isRemembering, setRemembering } from "./names.js";
+import { letOfficeAct, showPublished, tryOfficeKey } from "./office.js";
+import { clearPaper } from "./paper.js";
+import { leavePlan, letPlanAct, redraw, showPaper } from "./plan.js";
+import { askAgain, askLists, askMakespans, noteAnswered, noteLost, refresh } from "./plans.js";
+import { newPage, page } from "./state.js";
+import { glossary } from "./words.js";
+
+function showView(name) {
+  for (const view of ["door", "desk", "office"]) byId(view).hidden = view !== name;
+  byId("leave").hidden = byId("who").hidden = name === "door";
+  byId("who").textContent = name === "office" ? "The office" : `Desk ${page.desk}`;
+}
+
+async function trying(words, action) {
+  try {
+    await action();
+  } catch (fault) {
+    if (fault instanceof Refusal && fault.message === "E01 key") fault.lead = words;
+    throw fault;
+  }
+}
+
+async function enterDesk(fields) {
+  const entered = newPage();
+  entered.desk = fields.desk.value;
+  entered.key = fields.key.value;
+  await trying("This desk and key don't match.", askLists);
+  fields.key.value = "";
+  leavePlan();
+  forgetFile();
+  showView("desk");
+  byId("plans-head").focus();
+  askMakespans();
+}
+
+async function enterOffice(fields) {
+  newPage().key = fields.key.value;
+  await trying("This isn't the office's key.", tryOfficeKey);
+  fields.key.value = "";
+  showPublished();
+  showView("office");
+  byId("office-head").focus();
+}
+
+function leave() {
+  newPage();
+  byId("lost").hidden = true;
+  byId("news").textContent = "";
+  for (const form of document.forms) form.reset();
+  byId("remember").checked = isRemembering();
+  const places = ".answer, #plans, #codes, #published, #drawing, #table, #rules, #dates, #use, "
+    + "#drawn";
+  for (const place of document.querySelectorAll(places)) {
+    place.replaceChildren(...(place.id === "drawn" ? [place.firstElementChild] : []));
+  }
+  leavePlan();
+  forgetFile();
+  showView("door");
+  byId("enter").elements.desk.focus();
+}
+
+function letDrop() {
+  const isDesk = () => !byId("desk").hidden;
+  document.addEventListener("dragover", (event) => {
+    event.preventDefault();
+    document.body.classList.toggle("dropping", isDesk());
+  });
+  document.addEventListener("dragleave", () => document.body.classList.remove("dropping"));
+  document.addEventListener("drop", (event) => {
+    event.preventDefault();
+    document.body.classList.remove("dropping");
+    const [file] = event.dataTransfer.files;
+    if (isDesk() && file) takeFile(file);
+  });
+}
+
+function letFit() {
+  let width = 0;
+  new ResizeObserver(([entry]) => {
+    const now = Math.round(entry.contentRect.width);
+    if (now === width || !now) return;
+    width = now;
+    redraw();
+  }).observe(byId("drawing"));
+  addEventListener("beforeprint", showPaper);
+  addEventListener("afterprint", clearPaper);
+}
+
+function letHelp() {
+  fill("terms", ...glossary().flatMap(([term, meaning]) =>
+    [make("dt", {}, term), make("dd", {}, meaning)]));
+  byId("help-button").addEventListener("click", () => byId("help").showModal());
+  byId("remember").checked = isRemembering();
+  byId("remember").addEventListener("change", ({ target }) => setRemembering(target.checked));
+}
+
+function letDescribe() {
+  const name = { pattern: "[a-z0-9][a-z0-9\\-]{0,31}" };
+  name.title = "1 to 32 of a to z, 0 to 9 and -, not beginning with -";
+  const key = { pattern: "[!-~]{8,64}", title: "8 to 64 characters without a blank" };
+  const words = { autocomplete: "off", autocapitalize: "none", spellcheck: false, required: true };
+  for (const input of document.querySelectorAll("[name=desk], input[name=code]")) {
+    Object.assign(input, words, name);
+  }
+  for (const input of document.querySelectorAll("[name=key]")) Object.assign(input, words, key);
+}
+
+function letAct() {
+  onSubmit("enter", enterDesk);
+  onSubmit("enter-office", enterOffice);
+  letImport();
+  letPlanAct();
+  letChange();
+  letHandIn();
+  letOfficeAct();
+  letChoose(byId("tabs"));
+  letTake(byId("names-zone"), takeNames);
+  byId("leave").addEventListener("click", leave);
+  byId("again").addEventListener("click", () =>
+    during(byId("again"), byId("plans-answer"), askAgain));
+  addEventListener("focus", refresh);
+  document.addEventListener("visibilitychange", () => document.hidden || refresh());
+}
+
+listenTo({ lost: noteLost, answered: noteAnswered, unsure: askAgain });
+letDescribe();
+letHelp();
+letAct();
+letDrop();
+letFit();
+for (const doors of document.querySelectorAll("#door fieldset")) doors.disabled = false;

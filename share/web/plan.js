@@ -1,0 +1,236 @@
+// The plan that is open: asks for its pages, and shows its schedules as a chart and as tables.
+
+import { ask, askTable, planPath, Refusal, tableOf } from "./api.js";
+import { showChanges } from "./changes.js";
+import { showChart } from "./chart.js";
+import { byId, faultNodes, fill, make, onSubmit, tableNode } from "./dom.js";
+import { showHandIn } from "./handin.js";
+import { settleCalendar, settleModel } from "./model.js";
+import { recordOf, remember, shapeOf } from "./names.js";
+import { clearPaper, fillPaper } from "./paper.js";
+import { markOpen, showPlans } from "./plans.js";
+import { page, RULES, WORDS_OF_KIND } from "./state.js";
+import { showTable } from "./table.js";
+import { nameOf, namesIn, viewOf } from "./view.js";
+import { COLUMN_WORDS, RULE_WORDS } from "./words.js";
+
+let view = null;
+
+export const viewNow = () => view;
+
+/** Asks for all pages of a plan, and shows them, or why there are none. */
+export async function openPlan(n) {
+  const { kind } = page.plans.find((plan) => plan.n === n);
+  const isNew = page.plan?.n !== n;
+  const drawn = !isNew && RULES[kind].includes(page.plan.drawn) ? page.plan.drawn : RULES[kind][0];
+  const plan = { n, kind, drawn, schedules: new Map(), days: new Map() };
+  page.plan = plan;
+  markOpen();
+  awaitPlan(isNew);
+  try {
+    if (kind === "project") plan.dates = await askTable(planPath(n, "dates"));
+    await askSchedules(plan);
+    if (page.plan === plan) showPlan();
+  } catch (fault) {
+    if (page.plan === plan) fill("plan-answer", ...faultNodes(fault));
+  }
+  if (page.plan === plan) byId("plan").removeAttribute("aria-busy");
+}
+
+/** Asks for the schedule by each rule, and for working days until they determine the calendar. */
+async function askSchedules(plan) {
+  for (const rule of RULES[plan.kind]) {
+    const table = await askTable(planPath(plan.n, "schedule", rule));
+    if (table instanceof Refusal) {
+      plan.fault = table;
+      return;
+    }
+    plan.schedules.set(rule, table);
+  }
+  const others = RULES[plan.kind].filter((rule) => rule !== plan.drawn);
+  for (const rule of [plan.drawn, ...others]) {
+    plan.days.set(rule, await askTable(planPath(plan.n, "days", rule)));
+    if (plan.days.get(rule) instanceof Refusal) return;
+    settleCalendar(plan);
+    if (plan.calendar) return;
+  }
+}
+
+const headOf = ({ n, kind }) => `Plan ${n}, a ${WORDS_OF_KIND[kind]}`;
+
+function awaitPlan(isNew) {
+  view = null;
+  byId("plan-head").textContent = headOf(page.plan);
+  fill("plan-answer", make("p", { role: "status" }, "Asking the office …"));
+  byId("plan-body").hidden = true;
+  byId("plan").hidden = false;
+  byId("plan").setAttribute("aria-busy", "true");
+  fill("best-answer");
+  if (!isNew) return;
+  const notices = "#changes .answer, #handin .answer, #import-answer, #plans-answer, "
+    + "#names-answer, #news";
+  for (const place of document.querySelectorAll(notices)) place.replaceChildren();
+  byId("tab-table").click();
+  byId("plan-head").focus();
+}
+
+export function leavePlan() {
+  page.plan = view = null;
+  byId("plan").hidden = true;
+  clearPaper();
+  markOpen();
+}
+
+export function showPlan() {
+  const { plan } = page;
+  const faults = [plan.fault, plan.dates].filter((part) => part instanceof Refusal);
+  fill("plan-answer", ...faults.flatMap(faultNodes));
+  byId("plan-body").hidden = false;
+  const [table] = plan.schedules.values();
+  for (const part of byId("plan").querySelectorAll(".drawn")) part.hidden = !table;
+  settleModel(plan);
+  settleCalendar(plan);
+  if (table) {
+    const { names, shape } = recordOf(plan.n);
+    const own = names && !shape ? { shape: shapeOf(table.rows) } : {};
+    remember(plan.n, { makespan: table.total, ...own });
+  }
+  showPlans();
+  showParts(plan);
+  showChanges(plan);
+  showDates(plan.dates);
+  if (table) showSchedules();
+  else showHandIn(null);
+}
+
+function showParts(plan) {
+  const { kind, model, note } = plan;
+  const { title, names } = namesIn(plan);
+  const isProject = kind === "project";
+  byId("plan-head").textContent = headOf(plan) + (title ? `: ${title}` : "");
+  byId("lines-label").hidden = isProject;
+  byId("colours-label").hidden = !isProject || !model;
+  byId("note").hidden = !note;
+  byId("note-words").textContent = note;
+  byId("names-zone").hidden = isProject ? Boolean(model) : Object.keys(names).length > 0;
+  if (!model) byId("colours").value = "slack";
+}
+
+/** Shows the schedules: their choice, the tables, and the one that is drawn. Returns the function
+ * that points at a row of it. */
+export function showSchedules() {
+  showChoice(page.plan);
+  showRules(page.plan);
+  return showDrawn();
+}
+
+export function showDrawn() {
+  const { plan } = page;
+  view = viewOf(plan);
+  const tell = showChart(view);
+  showTable(view, `Schedule by ${nameOf(plan, plan.drawn)}`);
+  showDayNote(plan);
+  showHandIn(view);
+  return tell;
+}
+
+export function redraw() {
+  if (view) showChart(view);
+}
+
+export const showPaper = () => view && fillPaper(view);
+
+function showDayNote(plan) {
+  const refusal = [...plan.days.values()].find((days) => days instanceof Refusal);
+  if (view.dates) fill("days");
+  else if (!refusal) {
+    fill("days", make("p", {}, "The dates of this schedule aren't known: the office's working days "
+      + "leave several calendars. Set the calendar on this page."));
+  } else if (refusal.message === "E12 G4 no calendar") {
+    fill("days", make("p", {}, "No calendar is set, so times are units of working time, counted "
+      + "from 0."));
+  } else fill("days", ...faultNodes(refusal));
+}
+
+function showChoice(plan) {
+  const choices = [...plan.schedules.keys()].map((rule) => {
+    const input = make("input", { type: "radio", name: "drawn", value: rule });
+    input.checked = rule === plan.drawn;
+    input.addEventListener("change", () => {
+      plan.drawn = rule;
+      showDrawn();
+    });
+    return make("label", { title: RULE_WORDS[rule] }, input, ` ${nameOf(plan, rule)}`);
+  });
+  fill("drawn", byId("drawn").firstElementChild, ...choices);
+}
+
+const titled = (words) => make("abbr", { title: COLUMN_WORDS[words] ?? RULE_WORDS[words] }, words);
+
+function showDates(dates) {
+  byId("dates-fold").hidden = !dates?.rows;
+  if (!dates?.rows) return;
+  fill("dates", tableNode({
+    caption: `Earliest and latest dates, crews not counted; the whole takes ${dates.total}`,
+    heads: [...dates.heads.map(titled), ""],
+    rows: dates.rows.map((row) =>
+      [...dates.heads.map((head) => row[head]), row.isCritical ? "*" : ""]),
+    marks: dates.rows.map((row) => row.isCritical),
+  }));
+}
+
+function showRules(plan) {
+  const rules = [...plan.schedules.keys()];
+  const tables = rules.map((rule) => plan.schedules.get(rule));
+  const fixed = tables[0].heads.slice(0, -2);
+  const rows = tables[0].rows.map((row, index) => [
+    ...fixed.map((head) => row[head]),
+    ...tables.map(({ rows: ends }) => `${ends[index].start}–${ends[index].end}`),
+  ]);
+  const names = rules.map((rule) =>
+    (rule === "best" ? `best (${plan.schedules.get(rule).verdict})` : titled(rule)));
+  const foot = ["makespan", ...fixed.slice(1).map(() => ""), ...tables.map((t) => `${t.total}`)];
+  fill("rules", tableNode({
+    caption: "Schedules by rule: start–end", heads: [...fixed.map(titled), ...names], rows, foot,
+  }));
+}
+
+function comparedWords({ kind, schedules }, total) {
+  const totalOf = (rule) => schedules.get(rule).total;
+  const least = RULES[kind].reduce((a, b) => (totalOf(b) < totalOf(a) ? b : a));
+  const gain = totalOf(least) - total;
+  return gain > 0 ? `It is ${gain} shorter than the shortest by a rule (${least}).`
+    : `The rule ${least} is as good.`;
+}
+
+async function searchBest(fields) {
+  const { plan } = page;
+  let table;
+  try {
+    table = tableOf(await ask(planPath(plan.n, "best", fields.budget.value)));
+  } catch (fault) {
+    if (fault instanceof Refusal && /\bS5\b/.test(fault.message)) fault.more = [solveNode(plan)];
+    throw fault;
+  }
+  if (page.plan !== plan) return "";
+  plan.schedules.set("best", table);
+  plan.drawn = "best";
+  showSchedules();
+  const compared = comparedWords(plan, table.total);
+  const meaning = table.verdict === "optimal" ? "no schedule of this plan is shorter"
+    : `the best that was found within ${fields.budget.value} search steps`;
+  return `${table.verdict} ${table.total}: ${meaning}. ${compared}`;
+}
+
+const solveNode = ({ kind }) => make("p", { class: "solve" },
+  "Search on your own computer: run ",
+  make("code", {}, kind === "project" ? "plan solve FILE" : "plan solve FILE INSTANCE"),
+  ", then drop what it prints on this page, or paste it under \"Hand in and check\". The page "
+  + "checks and draws it.");
+
+export function letPlanAct() {
+  onSubmit("best", searchBest);
+  for (const name of ["colours", "lines"]) {
+    byId(name).addEventListener("change", () => showDrawn());
+  }
+}

@@ -1,0 +1,130 @@
+// Project files and job shop files, read as far as the page needs them: names, titles, and the
+// model of a project. The office is the judge of a file; the page reads those that it has
+// accepted.
+
+const TITLES = [
+  "PROJECT INFORMATION", "PRECEDENCE RELATIONS", "REQUESTS/DURATIONS", "RESOURCEAVAILABILITIES",
+];
+const HEAD = /^(projects|jobs|-|RESOURCES|horizon|initial)/;
+
+/** Returns the trimmed lines that aren't empty and don't consist of stars and hyphens alone. */
+const keptLines = (text) =>
+  text.split("\n").map((line) => line.trim()).filter((line) => !/^[*-]*$/.test(line));
+
+const titleOf = (line) => TITLES.find((title) => line.startsWith(title));
+
+function sectionsOf(text, title) {
+  const sections = [];
+  let lines = null;
+  for (const line of keptLines(text)) {
+    const found = titleOf(line);
+    if (found) {
+      lines = found === title ? [] : null;
+      if (lines) sections.push(lines);
+    } else if (lines) {
+      lines.push(line);
+    }
+  }
+  return sections;
+}
+
+const wordsIn = (text, title) =>
+  (sectionsOf(text, title)[0] ?? []).slice(1).flatMap((line) => line.split(/\s+/)).map(Number);
+
+export function namesOf(text) {
+  const names = new Map(), resources = new Map();
+  const behind = text.slice(text.search(/^\s*RESOURCEAVAILABILITIES/m));
+  for (const line of sectionsOf(behind, "PROJECT INFORMATION").flat()) {
+    const [, kind, number, name] = line.match(/^(name|resource)\s+(\d{1,9})\s+(.+)$/) ?? [];
+    const place = kind === "name" ? names : resources;
+    if (kind && !place.has(Number(number))) place.set(Number(number), name);
+  }
+  return { names, resources };
+}
+
+/** Returns the title of a project file: the base that PSPLIB names, or its first line if that isn't
+ * one of the head; undefined if there is none. */
+export function titleIn(text) {
+  const [first = "", ...lines] = keptLines(text);
+  if (/^file with basedata\b/.test(first)) {
+    const words = first.slice(first.indexOf(":") + 1).trim();
+    return words === "plan import" ? undefined : words;
+  }
+  return lines.length && !HEAD.test(first) && !titleOf(first) ? first : undefined;
+}
+
+function valueOf(text, key) {
+  const line = keptLines(text).find((kept) => kept.startsWith(key));
+  return Number((line ?? "").split(":")[1]?.trim().split(/\s+/)[0]);
+}
+
+/** Returns the model of a project file with its names and its title; null if it can't be read. */
+export function readProject(text) {
+  const count = valueOf(text, "jobs");
+  const width = valueOf(text, "- renewable");
+  const links = wordsIn(text, "PRECEDENCE RELATIONS");
+  const rows = wordsIn(text, "REQUESTS/DURATIONS");
+  const capacities = wordsIn(text, "RESOURCEAVAILABILITIES");
+  const arcs = [];
+  let at = 0;
+  for (let from = 0; from < count; from += 1) {
+    const size = links[at + 2];
+    for (const to of links.slice(at + 3, at + 3 + size)) arcs.push({ from, to: to - 1, lag: 0 });
+    at += 3 + size;
+  }
+  const numbers = [...links, ...rows, ...capacities];
+  const isWhole = count > 0 && at === links.length && rows.length === count * (3 + width)
+    && capacities.length === width && numbers.every(Number.isInteger);
+  if (!isWhole || !arcs.every(({ to }) => to >= 0 && to < count)) return null;
+  const row = (place) => rows.slice(place * (3 + width), (place + 1) * (3 + width));
+  const places = Array.from({ length: count }, (_, place) => place);
+  return {
+    durations: places.map((place) => row(place)[2]),
+    needs: places.map((place) => row(place).slice(3)),
+    arcs, capacities, ...namesOf(text), title: titleIn(text),
+  };
+}
+
+function blockOf(text, instance) {
+  const lines = text.split("\n").map((line) => line.trim());
+  const nameIn = (line) => line.match(/^instance\s+(\S+)$/)?.[1];
+  const at = lines.findIndex((line) => nameIn(line) === instance);
+  if (at < 0) return lines;
+  const end = lines.findIndex((line, place) => place > at && nameIn(line));
+  return lines.slice(at + 1, end < 0 ? lines.length : end);
+}
+
+export function readShop(text, instance) {
+  const lines = blockOf(text, instance);
+  const names = new Map(), resources = new Map();
+  for (const line of lines) {
+    const [, kind, number, name] = line.match(/^\+\s*(machine|job)\s+(\d{1,9})\s+(.+)$/) ?? [];
+    const place = kind === "job" ? names : resources;
+    if (kind && !place.has(Number(number))) place.set(Number(number), name);
+  }
+  const first = lines.find((line) => line && !line.startsWith("+"));
+  return { names, resources, title: instance === "-" ? undefined : first };
+}
+
+/** Returns the machine and the time of each step of an instance, in order, as "0:3". */
+export function stepsOf(text, instance) {
+  const lines = blockOf(text, instance).filter(Boolean);
+  const first = lines.findIndex((line) => !line.startsWith("+"));
+  const rest = lines.slice(instance === "-" ? first : first + 1);
+  const end = rest.findIndex((line) => line.startsWith("+"));
+  const words = rest.slice(0, end < 0 ? rest.length : end).flatMap((line) => line.split(/\s+/));
+  const [jobs, machines, ...numbers] = words.map(Number);
+  return Array.from({ length: jobs * machines || 0 }, (_, at) =>
+    `${numbers[2 * at]}:${numbers[2 * at + 1]}`);
+}
+
+export const instancesOf = (text) =>
+  [...text.matchAll(/^[ \t]*instance[ \t]+(\S+)[ \t\r]*$/gm)].map((match) => match[1]);
+
+/** Returns the resource of which the greatest part is needed, counted from 1; 0 if none is. If
+ * several are needed alike, it is the first of them. */
+export function mostNeeded(needs, capacities) {
+  const parts = needs.map((need, place) => need / Math.max(1, capacities[place]));
+  const greatest = Math.max(0, ...parts);
+  return greatest > 0 ? parts.indexOf(greatest) + 1 : 0;
+}

@@ -1,0 +1,42 @@
+// The words of the page: what rules, columns and terms mean, for tooltips and for the help panel.
+
+export const RULE_WORDS = {
+  lft: "least latest finish: the activity that must end first",
+  slk: "least slack: the activity with the smallest float",
+  spt: "shortest processing time: the shortest activity or step",
+  mts: "most total successors: the activity that most others wait for",
+  num: "number: the activity with the least number",
+  mwkr: "most work remaining: the job with the most work left",
+  fcfs: "first come, first served: the step that can start first",
+  best: "the shortest schedule that the search found",
+  own: "the start times that you gave to this page",
+};
+export const COLUMN_WORDS = {
+  start: "the units of working time before the start",
+  end: "the units of working time before the end",
+  float: "total float by dates alone: how far it can slip if crews are not counted",
+  slack: "how much later it can start in this schedule, all others fixed",
+  act: "activity", d: "duration", mach: "machine", ES: "earliest start", EF: "earliest finish",
+  LS: "latest start", LF: "latest finish", TF: "total float", FF: "free float",
+};
+const TERMS = {
+  "Bind": "give a resource or machine a published capacity in place of the file's.",
+  "Makespan": "the time from the start to the last end.",
+  "Rule": "decides which activity is placed next: the one with ..",
+  "Float": "how far an activity can slip if crews are not counted. A star marks float 0. If crews "
+    + "bind, a starred activity may have slack, and one without a star may have none.",
+  "Slack": "how much later an activity can start in the schedule that is drawn, all others fixed, "
+    + "so that it stays feasible and no longer. It comes from the plan's file and the changes made "
+    + "in this browser; if the office's dates or schedules differ from these, it isn't shown.",
+  "Search steps": "the budget of a search; 200,000 take some seconds.",
+  "Lag": "the least time between the end of an activity and the start of its successor.",
+};
+
+/** Returns the terms of the help panel with their meanings. */
+export const glossary = () => [
+  ...Object.entries(TERMS), ...Object.entries(RULE_WORDS).slice(0, 7),
+  ...Object.entries(COLUMN_WORDS).slice(-6),
+];
+
+export const counted = (count, noun, nouns = `${noun}s`) =>
+  `${count} ${count === 1 ? noun : nouns}`;
