@@ -140,6 +140,10 @@ module _ {B : Type 0} (shelf : Shelf B) where
     read = read_are turns;
   }
 
+  -- no turn
+  pub no_turns : (old : B) → Runs shelf old old []
+  no_turns old = runs_of old old [] refl
+
 module _ {V R W : Type 0} (known : R → Known) (taken : W → Option Text)
     (Admits : V → V → Result (R × W) DeviceFault → Type 0) (Dismisses : V → V → R → W → ConnEnd → Type 0) where
   visits_more : (came between went : V) (turns : List Turn) (turn : Turn) → AreVisited known taken Admits Dismisses came turns between

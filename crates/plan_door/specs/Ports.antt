@@ -1,5 +1,5 @@
 -- Serving on a port (docs/definitions.md, "Runs").
-use Rattle.std.specs.Prelude.{◌≡◌, ◌≢◌, ℕ, List, length}
+use Rattle.std.specs.Prelude.{◌≡◌, ◌≢◌, ◌≤◌, ℕ, List, Result, Ok, Err, length}
 use Rattle.std_io.specs.declared.io.kind.ErrorKind.{ErrorKind}
 use Rattle.std_io.specs.declared.io.kind.ErrorKind.TheVariants as kind
 use Rattle.plan_rows.specs.Books.{Shelf}
@@ -29,3 +29,12 @@ IsPortFault e = ⊥
 abbrev pub ServesFrom : {B : Type 0} → Shelf B → B → ℕ → Type 0
 ServesFrom {B} shelf book count =
     (after : B) × (turns : List Turn) × (length turns ≡ count) × Runs shelf book after turns
+
+-- An office served `count` turns, one after another. If too many accepts failed, it served at most
+-- `count` turns. If it failed for another cause, it served none.
+abbrev pub TakesTurns : {B : Type 0} → Shelf B → B → B → ℕ → Result (Unit {0}) ServeFault → Type 0
+TakesTurns shelf old new count (Ok _) =
+    (turns : List Turn) × (length turns ≡ count) × Runs shelf old new turns
+TakesTurns shelf old new count (Err fault.Socket) =
+    (turns : List Turn) × (length turns ≤ count) × Runs shelf old new turns
+TakesTurns shelf old new count (Err e) = new ≡ old

@@ -1,9 +1,9 @@
 //! Serving by an office over a book, which is returned at the end.
 
-ghost use Rattle.std.specs.Prelude.{◌≡◌, ◌⊎◌, ◌+◌, ◌≤◌, length, map, vec_items, IfErr, IfNone, IsErrOf, OnOk};
+ghost use Rattle.std.specs.Prelude.{◌≡◌, ◌⊎◌, ◌+◌, ◌≤◌, length, map, vec_items, IfSome, IfErr, IfNone, IsErrOf, OnOk, MatchOption};
 ghost use Rattle.plan_io.specs.Devices.{most_calls, HasFailed};
-ghost use Rattle.plan_door.specs.Ports.{IsPortCause, IsPortFault, ServesFrom};
-ghost use Rattle.plan_door.specs.ReplayRun.{AreAnswered, AreAnsweredInPart, ReplaysFrom};
+ghost use Rattle.plan_door.specs.Ports.{IsPortCause, IsPortFault, ServesFrom, TakesTurns};
+ghost use Rattle.plan_door.specs.ReplayRun.{AreAnswered, AreAnsweredInPart, Replays, ReplaysFrom};
 
 use crate::fault::ServeFault;
 use crate::replay::replay_run;
@@ -40,6 +40,10 @@ pub fn replay_book<B: Book + Drop, W: Sink>(
         (W.faults writer.old) (W.faults writer.new) }
     ensures which { IfErr result.0 (λ e. (e ≡ ServeFault.Memory) ⊎ (e ≡ ServeFault.Output)) }
     ensures back { IfNone result.1 (IsErrOf result.0 ServeFault.Memory) }
+    // The returned book is the one after the written responses, or after the fault.
+    ensures tied { MatchOption result.1 (writer.new ≡ writer.old)
+        (λ after. Replays B.shelf book after (map vec_items conns.now)
+        (W.taken writer.old) (W.taken writer.new) result.0) }
 {
     let Ok(mut office) = Office::new(alloc, book) else {
         return (Err(ServeFault::Memory), None);
@@ -73,7 +77,7 @@ fn announce(rt: &HostRuntime, service: &Service<'_>) {
 }
 
 // Serves connections on a local port, by an office.
-#[tactic(auto, using(crate::proofs::BookLemmas::port_faults))]
+#[tactic(auto, using(crate::proofs::BookLemmas::port_faults, crate::proofs::BookLemmas::listener_turns))]
 fn serve_by<B: Book>(
     rt: &HostRuntime,
     office: &mut Office<B>,
@@ -81,6 +85,7 @@ fn serve_by<B: Book>(
 ) -> Result<(), ServeFault>
     ensures ok { OnOk result (ServesFrom B.shelf office.old service.now.count) }
     ensures which { IfErr result IsPortFault }
+    ensures turns { TakesTurns B.shelf office.old office.new service.now.count result }
 {
     match TcpListener::bind(rt, (Ipv4Addr::LOCALHOST, service.port)) {
         Ok(listener) => {
@@ -101,6 +106,9 @@ pub fn serve_book<B: Book + Drop>(
     ensures ok { OnOk result.0 (ServesFrom B.shelf book service.now.count) }
     ensures which { IfErr result.0 IsPortFault }
     ensures back { IfNone result.1 (IsErrOf result.0 ServeFault.Memory) }
+    // The returned book is the one after the turns.
+    ensures tied { IfSome result.1
+        (λ after. TakesTurns B.shelf book after service.now.count result.0) }
 {
     let Ok(mut office) = Office::new(rt.alloc(), book) else {
         return (Err(ServeFault::Memory), None);
