@@ -1,0 +1,8 @@
+//! Planner's lists: a table of activities as a project file.
+#![tactic(auto)]
+
+mod columns;
+mod jobs;
+mod table;
+
+pub use table::{Activity, Resource, Table};
