@@ -1,2 +1,3 @@
 pub mod NumberedLemmas
 pub mod JobLemmas
+pub mod PieceLemmas

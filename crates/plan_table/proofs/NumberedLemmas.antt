@@ -37,3 +37,13 @@ pub next_written : {B : Type 0} (before old new so_far step more : List B) →
     old ≡ before ++ so_far → new ≡ old ++ step → more ≡ so_far ++ step → new ≡ before ++ more
 next_written before old new so_far step more is written whole =
     written ∙ ap (λ xs. xs ++ step) is ∙ append_assoc before so_far step ∙ ap (λ xs. before ++ xs) (sym whole)
+
+-- the next line of a table whose lines are numbered from n
+pub next_line : {A C : Type 0} (line : ℕ → A → List ℕ) (view : C → A) (n : ℕ) (xs : List C) (k : ℕ) (x : C) (before old new : List ℕ) →
+    k < length xs → x ≡ get_or xs k x →
+    old ≡ before ++ numbered line n (map view (take k xs)) → new ≡ old ++ line (k + n) (view x) →
+    new ≡ before ++ numbered line n (map view (take (k + 1) xs))
+next_line line view n xs k x before old new below is so_far written =
+    let number : k + n ≡ n + k = omega arith in
+    next_written before old new (numbered line n (map view (take k xs))) (line (n + k) (view x)) (numbered line n (map view (take (k + 1) xs)))
+    so_far (written ∙ ap (λ i. old ++ line i (view x)) number) (numbered-more line view n xs k x x below is)

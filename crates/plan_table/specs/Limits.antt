@@ -1,6 +1,6 @@
 -- The limits of a table.
-use Rattle.std.specs.Prelude.{ℕ, ◌≡◌, ◌+◌, ◌≤◌, Bool, true, List, length, map, nat_le, sum}
-use Rattle.std.specs.List.{AllByRecursion, list_all}
+use Rattle.std.specs.Prelude.{ℕ, ◌≡◌, ◌+◌, ◌≤◌, Bool, true, List, length, nat_le}
+use Rattle.std.specs.List.{AllByRecursion, list_all, sum_by}
 use Rattle.plan_net.specs.Limits.{IsSound, longest_duration, longest_sum}
 use Rattle.plan_psplib.specs.Head.{most_resources}
 use Rattle.plan_psplib.specs.Tokens.{greatest}
@@ -39,7 +39,7 @@ pub record IsWithinLimits (t : Table) : Type 0 where
   pub columns : length t.resources ≤ most_resources
   pub activities : AllByRecursion (IsEntry (length t.activities) (length t.resources)) t.activities
   pub resources : AllByRecursion IsSupply t.resources
-  pub total : sum (map (λ a. a.duration) t.activities) ≤ longest_sum
+  pub total : sum_by (λ a. a.duration) t.activities ≤ longest_sum
 
 -- a table within the limits whose activities have no cycle
 pub record IsTable (t : Table) : Type 0 where

@@ -3,6 +3,7 @@
 
 mod columns;
 mod jobs;
+mod project_text;
 mod table;
 
 pub use table::{Activity, Resource, Table};

@@ -20,5 +20,5 @@ loop-k-preserved c =
     next_written (first ∷ []) (map job_in c.loop-k.made.items) (map job_in c.push.new.self.items) so_far (f (2 + k) (activity_of a))
     (jobs_so_far all (map activity_of (take (k + 1) xs))) c.loop-k.invariant
     (ap (map job_in) c.in_ok-push.ensures.items ∙ map_push job_in c.loop-k.made.items made
-        ∙ ap (λ (j : Job). map job_in c.loop-k.made.items ++ j ∷ []) (c.in_ok-next.ensures ∙ ap (λ j. job_of all j (activity_of a)) number))
+    ∙ ap (λ (j : Job). map job_in c.loop-k.made.items ++ j ∷ []) (c.in_ok-next.ensures ∙ ap (λ j. job_of all j (activity_of a)) number))
     (numbered-more f activity_of 2 xs k a a (omega arith) c.index-activities-k.is)

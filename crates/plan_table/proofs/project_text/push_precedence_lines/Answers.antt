@@ -1,0 +1,12 @@
+use Rattle.std.proofs.Common.{◌≡◌, ◌++◌, take, map, ap, ◌∙◌, arith, ℕ, ◌+◌}
+use Rattle.std.specs.String.{string_bytes}
+use Rattle.plan_table.specs.Numbered.{numbered}
+use Rattle.plan_table.specs.Jobs.{job_in}
+use Rattle.plan_table.specs.ProjectText.{precedence_line}
+use Rattle.plan_table.proofs.NumberedLemmas.{next_line}
+use Rattle.plan_table.proofs.project_text.push_precedence_lines.Goals as goal
+
+pub loop-k-preserved : goal.loop-k-preserved
+loop-k-preserved c =
+    next_line precedence_line job_in 1 c.args.jobs.now c.loop-k.k c.index-jobs-k.result _ _ _
+    (omega arith) c.index-jobs-k.is c.loop-k.invariant c.in_ok-push_precedence_line.ensures
