@@ -31,17 +31,21 @@ jobs_so_far all activities = numbered (λ j a. job_of all j a ∷ []) 2 activiti
 
 -- ---- what holds of all jobs
 
-each_job : (P : Job → Type 0) (all : List Activity) (last : Job) → ((j : ℕ) (a : Activity) → P (job_of all j a)) → P last →
-    (n : ℕ) (xs : List Activity) → AllByRecursion P (numbered (λ j a. job_of all j a ∷ []) n xs ++ last ∷ [])
-each_job P all last each end n [] = (end, tt)
-each_job P all last each end n (x ∷ xs) = (each n x, each_job P all last each end (n + 1) xs)
+each_job : (P : Job → Type 0) (Q : Activity → Type 0) (all : List Activity) (last : Job) → ((j : ℕ) (a : Activity) → Q a → P (job_of all j a)) → P last →
+    (n : ℕ) (xs : List Activity) → AllByRecursion Q xs → AllByRecursion P (numbered (λ j a. job_of all j a ∷ []) n xs ++ last ∷ [])
+each_job P Q all last each end n [] h = (end, tt)
+each_job P Q all last each end n (x ∷ xs) h = (each n x h.0, each_job P Q all last each end (n + 1) xs h.1)
 
 -- what holds of the dummies and of the activities' jobs
-pub all_jobs : (P : Job → Type 0) (all : List Activity) (k : ℕ) → P (dummy (numbers_where is_first all) k) → P (dummy [] k) →
-    ((j : ℕ) (a : Activity) → P (job_of all j a)) → AllByRecursion P (jobs_of all k)
-all_jobs P all k first last each = (first, each_job P all (dummy [] k) each last 2 all)
+pub all_jobs : (P : Job → Type 0) (Q : Activity → Type 0) (all : List Activity) (k : ℕ) → P (dummy (numbers_where is_first all) k) → P (dummy [] k) →
+    ((j : ℕ) (a : Activity) → Q a → P (job_of all j a)) → AllByRecursion Q all → AllByRecursion P (jobs_of all k)
+all_jobs P Q all k first last each h = (first, each_job P Q all (dummy [] k) each last 2 all h)
 
-where_short : (test : Activity → Bool) (n : ℕ) (xs : List Activity) → length (numbered (λ j a. cond (test a) (j ∷ []) []) n xs) ≤ length xs
+no_fact : (xs : List Activity) → AllByRecursion (λ a. Unit {0}) xs
+no_fact [] = tt
+no_fact (x ∷ xs) = (tt, no_fact xs)
+
+pub where_short : (test : Activity → Bool) (n : ℕ) (xs : List Activity) → length (numbered (λ j a. cond (test a) (j ∷ []) []) n xs) ≤ length xs
 where_short test n [] = omega arith
 where_short test n (x ∷ xs) = by_test (where_short test (n + 1) xs) (test x)
   where
@@ -50,7 +54,7 @@ where_short test n (x ∷ xs) = by_test (where_short test (n + 1) xs) (test x)
     by_test rest true = omega (arith, rest)
     by_test rest false = omega (arith, rest)
 
-or_last_short : (last most : ℕ) (js : List ℕ) → 1 ≤ most → length js ≤ most → length (or_last last js) ≤ most
+pub or_last_short : (last most : ℕ) (js : List ℕ) → 1 ≤ most → length js ≤ most → length (or_last last js) ≤ most
 or_last_short last most [] some short = omega (arith, some)
 or_last_short last most (j ∷ js) some short = short
 
@@ -60,11 +64,12 @@ IsShort job = length job.successors ≤ 502
 
 pub short_jobs : (all : List Activity) (k : ℕ) → length all ≤ 500 → AllByRecursion IsShort (jobs_of all k)
 short_jobs all k few =
-    all_jobs IsShort all k
+    all_jobs IsShort (λ a. Unit {0}) all k
     (let n = where_short is_first 2 all in omega (arith, n, few))
     (omega arith)
-    (λ j a. or_last_short (last_job_of all) 502 (numbers_where (follows j) all) (omega arith)
+    (λ j a h. or_last_short (last_job_of all) 502 (numbers_where (follows j) all) (omega arith)
         (let n = where_short (follows j) 2 all in omega (arith, n, few)))
+    (no_fact all)
 
 -- the number of jobs
 pub jobs_count : (all : List Activity) (k : ℕ) → length (jobs_of all k) ≡ length all + 2

@@ -1,3 +1,12 @@
 pub mod NumberedLemmas
 pub mod JobLemmas
 pub mod PieceLemmas
+pub mod DigitLemmas
+pub mod LineLemmas
+pub mod RowLemmas
+pub mod SectionLemmas
+pub mod TextLineLemmas
+pub mod GoodJobLemmas
+pub mod RowListLemmas
+pub mod HeadLemmas
+pub mod LawLemmas
