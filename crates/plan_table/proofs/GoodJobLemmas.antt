@@ -34,9 +34,10 @@ where_row test n m (x ∷ xs) fits = by_test (where_row test (n + 1) m xs (omega
     by_test : AllByRecursion (Between (n + 1) m) (numbered (λ j a. cond (test a) (j ∷ []) []) (n + 1) xs) × IsDistinct nat_eq (numbered (λ j a. cond (test a) (j ∷ []) []) (n + 1) xs) → (b : Bool) →
         AllByRecursion (Between n m) (cond b (n ∷ []) [] ++ numbered (λ j a. cond (test a) (j ∷ []) []) (n + 1) xs)
         × IsDistinct nat_eq (cond b (n ∷ []) [] ++ numbered (λ j a. cond (test a) (j ∷ []) []) (n + 1) xs)
-    by_test further true =
-        (((omega arith, omega (arith, fits)), all_along (Between (n + 1) m) (Between n m) (λ j h. (omega (arith, h.0), h.1)) _ further.0),
-            (all_along (Between (n + 1) m) (λ y. nat_eq n y ≡ false) (λ j h. ne_eqb n j (λ e. omega (arith, e, h.0))) _ further.0, further.1))
+    by_test further true = (
+      ((omega arith, omega (arith, fits)), all_along (Between (n + 1) m) (Between n m) (λ j h. (omega (arith, h.0), h.1)) _ further.0),
+      (all_along (Between (n + 1) m) (λ y. nat_eq n y ≡ false) (λ j h. ne_eqb n j (λ e. omega (arith, e, h.0))) _ further.0, further.1),
+    )
     by_test further false = (all_along (Between (n + 1) m) (Between n m) (λ j h. (omega (arith, h.0), h.1)) _ further.0, further.1)
 
 -- the numbers that pass are a row of successors

@@ -87,7 +87,7 @@ head_plain jobs horizon resources small =
     let a = plain_append (codes "jobs (incl. supersource/sink ):  ") (decimal jobs) refl (plain_decimal jobs small.jobs) in
     let b = plain_append (codes "horizon                       :  ") (decimal horizon) refl (plain_decimal horizon small.horizon) in
     let c = plain_append (codes "  - renewable                 :  " ++ decimal resources) (codes "   R")
-        (plain_append (codes "  - renewable                 :  ") (decimal resources) refl (plain_decimal resources small.resources)) refl in
+    (plain_append (codes "  - renewable                 :  ") (decimal resources) refl (plain_decimal resources small.resources)) refl in
     (refl, (refl, (refl, (refl, (refl, (a, (b, (refl, (c, (refl, (refl, (refl, tt))))))))))))
 
 -- ---- the project's own numbers
@@ -106,7 +106,7 @@ information_plain activities horizon few small =
     let b = plain_append (codes "      0") (spaced 8 horizon) refl (plain_column 8 horizon small) in
     let c = plain_append (codes "        0") (spaced 8 horizon) refl (plain_column 8 horizon small) in
     let row = plain_append (placed (codes "    1") 6 activities ++ placed (codes "      0") 8 horizon) (placed (codes "        0") 8 horizon)
-        (plain_append (placed (codes "    1") 6 activities) (placed (codes "      0") 8 horizon) a b) c in
+    (plain_append (placed (codes "    1") 6 activities) (placed (codes "      0") 8 horizon) a b) c in
     (refl, (refl, (row, (refl, tt))))
 
 -- ---- the keys
@@ -142,9 +142,13 @@ resources_value jobs horizon resources rest small =
     let l = codes "  - renewable                 :  " ++ decimal resources ++ codes "   R" in
     let is = resources_trimmed resources in
     let none = head_first (λ t. not (is_title t) && not (begins_with t (codes "- renewable"))) 8 jobs horizon resources small refl in
-    let at = key_at (codes "- renewable") (take 8 (head_lines jobs horizon resources)) l (drop 9 (head_lines jobs horizon resources) ++ rest) 1 none (ap is_kept is) (ap is_title is) (ap (λ t. begins_with t (codes "- renewable")) is) in
-    (kept_at at.0 l, decimal resources, at.1,
-        ap value_word is ∙ ap first_of (words-spaces 2 (decimal resources ++ codes "   R") ∙ words-decimal resources (codes "   R") small.resources refl), number-decimal resources small.resources)
+    let at = key_at (codes "- renewable") (take 8 (head_lines jobs horizon resources)) l (drop 9 (head_lines jobs horizon resources) ++ rest) 1 none (ap is_kept is) (ap is_title is) (ap (λ t. begins_with t (codes "- renewable")) is) in (
+      kept_at at.0 l,
+      decimal resources,
+      at.1,
+      ap value_word is ∙ ap first_of (words-spaces 2 (decimal resources ++ codes "   R") ∙ words-decimal resources (codes "   R") small.resources refl),
+      number-decimal resources small.resources,
+    )
 
 pub nonrenewable_value : (jobs horizon resources : ℕ) (rest : List (List ℕ)) → AreSmall jobs horizon resources →
     GivesValue (head_of_lines jobs horizon resources rest) (codes "- nonrenewable") 0

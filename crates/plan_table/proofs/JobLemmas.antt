@@ -68,7 +68,7 @@ short_jobs all k few =
     (let n = where_short is_first 2 all in omega (arith, n, few))
     (omega arith)
     (λ j a h. or_last_short (last_job_of all) 502 (numbers_where (follows j) all) (omega arith)
-        (let n = where_short (follows j) 2 all in omega (arith, n, few)))
+    (let n = where_short (follows j) 2 all in omega (arith, n, few)))
     (no_fact all)
 
 -- the number of jobs
@@ -92,7 +92,8 @@ pub kept_jobs_short : (jobs : List declared_job.Job) (all : List Activity) (k : 
 kept_jobs_short jobs all k is few =
     let size : length (map job_in jobs) ≡ length jobs = length-map jobs job_in in
     let count = ap length is ∙ jobs_count all k in
-    let P : List Job → Type 0 = λ js. AllByRecursion IsShort js in
-    (omega (arith, size, count, few),
-        All-from_recursion (λ (job : declared_job.Job). length job.successors.items ≤ 502) jobs
-        (all_seen IsShort job_in jobs (subst P (sym is) (short_jobs all k few))))
+    let P : List Job → Type 0 = λ js. AllByRecursion IsShort js in (
+      omega (arith, size, count, few),
+      All-from_recursion (λ (job : declared_job.Job). length job.successors.items ≤ 502) jobs
+          (all_seen IsShort job_in jobs (subst P (sym is) (short_jobs all k few))),
+    )

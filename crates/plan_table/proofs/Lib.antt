@@ -10,3 +10,4 @@ pub mod GoodJobLemmas
 pub mod RowListLemmas
 pub mod HeadLemmas
 pub mod LawLemmas
+pub mod TableTextLemmas

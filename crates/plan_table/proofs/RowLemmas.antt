@@ -70,10 +70,10 @@ row_is places n text numbers small tail =
     let line = number_column places n ++ text in
     let d = decimal_first n small in
     let trimmed : trim line ≡ decimal n ++ text =
-        ap trim_end (trim_start-column places n text small) ∙ (solid_with (decimal n) text (solid_decimal n small) tail.end).end in
+    ap trim_end (trim_start-column places n text small) ∙ (solid_with (decimal n) text (solid_decimal n small) tail.end).end in
     let begins : trim line ≡ d.first ∷ (d.others ++ text) = trimmed ∙ ap (λ t. t ++ text) d.is in
     let digit : is_digit d.first ≡ true =
-        (and_parts (is_digit d.first) (list_all is_digit d.others) (ap (list_all is_digit) (sym d.is) ∙ decimal_digits n small)).0 in
+    (and_parts (is_digit d.first) (list_all is_digit d.others) (ap (list_all is_digit) (sym d.is) ∙ decimal_digits n small)).0 in
     record {
       kept = ap is_kept begins ∙ digit_kept d.first (d.others ++ text) digit;
       title = ap is_title begins ∙ digit_title d.first (d.others ++ text) digit;

@@ -84,21 +84,23 @@ pub precedence_rows : (n k j : ℕ) (jobs : List Job) → n ≤ 502 → j + leng
 precedence_rows n k j [] few fits h = tt
 precedence_rows n k j (job ∷ jobs) few fits h =
     let good = h.0 in
-    let short = good.short in
-    (row_is 4 j (spaced 8 1 ++ (spaced 10 (length job.successors) ++ columns 11 3 job.successors)) (1 ∷ length job.successors ∷ job.successors) (omega (arith, fits))
-        (tail_more 8 1 _ _ (omega arith) (tail_more 10 (length job.successors) _ _ (omega (arith, short))
-            (tail_columns (places_at 11 3) 0 job.successors (small_successors n job.successors few good.row.0)))),
-        precedence_rows n k (j + 1) jobs few (omega (arith, fits)) h.1)
+    let short = good.short in (
+      row_is 4 j (spaced 8 1 ++ (spaced 10 (length job.successors) ++ columns 11 3 job.successors)) (1 ∷ length job.successors ∷ job.successors) (omega (arith, fits))
+          (tail_more 8 1 _ _ (omega arith) (tail_more 10 (length job.successors) _ _ (omega (arith, short))
+          (tail_columns (places_at 11 3) 0 job.successors (small_successors n job.successors few good.row.0)))),
+      precedence_rows n k (j + 1) jobs few (omega (arith, fits)) h.1,
+    )
 
 pub request_rows : (n k j : ℕ) (jobs : List Job) → j + length jobs ≤ 1000 → AllByRecursion (IsGoodJob n k) jobs → AreRows request_row request_gives j jobs
 request_rows n k j [] fits h = tt
 request_rows n k j (job ∷ jobs) fits h =
     let good = h.0 in
-    let short = good.duration in
-    (row_is 3 j (spaced 6 1 ++ (spaced 5 job.duration ++ columns 7 4 job.needs)) (1 ∷ job.duration ∷ job.needs) (omega (arith, fits))
-        (tail_more 6 1 _ _ (omega arith) (tail_more 5 job.duration _ _ (omega (arith, short))
-            (tail_columns (places_at 7 4) 0 job.needs (small_amounts job.needs good.needs.1)))),
-        request_rows n k (j + 1) jobs (omega (arith, fits)) h.1)
+    let short = good.duration in (
+      row_is 3 j (spaced 6 1 ++ (spaced 5 job.duration ++ columns 7 4 job.needs)) (1 ∷ job.duration ∷ job.needs) (omega (arith, fits))
+          (tail_more 6 1 _ _ (omega arith) (tail_more 5 job.duration _ _ (omega (arith, short))
+          (tail_columns (places_at 7 4) 0 job.needs (small_amounts job.needs good.needs.1)))),
+      request_rows n k (j + 1) jobs (omega (arith, fits)) h.1,
+    )
 
 -- the numbers that the rows of jobs give
 pub precedence_numbers_are : (j : ℕ) (jobs : List Job) → numbered precedence_gives j jobs ≡ precedence_numbers j (rows_of jobs)

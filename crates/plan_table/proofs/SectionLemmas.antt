@@ -115,10 +115,12 @@ no_keys key ls = list_all (λ l. not (is_title (trim l)) && not (begins_with (tr
 pub key_at : (key : List ℕ) (ls : List (List ℕ)) (l : List ℕ) (rest : List (List ℕ)) (n : ℕ) → no_keys key ls ≡ true →
     is_kept (trim l) ≡ true → is_title (trim l) ≡ false → begins_with (trim l) key ≡ true →
     (m : ℕ) × (key_line key (before_title (kept_from n (ls ++ l ∷ rest))) ≡ Some (kept_at m l))
-key_at key [] l rest n none kept title begins =
-    (n, ap (λ b. key_line key (before_title (cond b (kept_at n l ∷ kept_from (n + 1) rest) (kept_from (n + 1) rest)))) kept
-    ∙ ap (λ b. key_line key (cond b [] (kept_at n l ∷ before_title (kept_from (n + 1) rest)))) title
-    ∙ ap (λ b. cond b (Some (kept_at n l)) (key_line key (before_title (kept_from (n + 1) rest)))) begins)
+key_at key [] l rest n none kept title begins = (
+  n,
+  ap (λ b. key_line key (before_title (cond b (kept_at n l ∷ kept_from (n + 1) rest) (kept_from (n + 1) rest)))) kept
+      ∙ ap (λ b. key_line key (cond b [] (kept_at n l ∷ before_title (kept_from (n + 1) rest)))) title
+      ∙ ap (λ b. cond b (Some (kept_at n l)) (key_line key (before_title (kept_from (n + 1) rest)))) begins,
+)
 key_at key (x ∷ ls) l rest n none kept title begins =
     let parts = and_parts (not (is_title (trim x)) && not (begins_with (trim x) key)) (no_keys key ls) none in
     let both = and_parts (not (is_title (trim x))) (not (begins_with (trim x) key)) parts.0 in

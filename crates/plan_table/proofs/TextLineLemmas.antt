@@ -73,7 +73,7 @@ counts_are jobs horizon resources =
     let third = codes "  - renewable                 :  " in
     let a : IsLines (counted first jobs (codes "\n")) ((first ++ decimal jobs) ∷ []) = one_line (first ++ decimal jobs) in
     let b : IsLines (counted second horizon (codes "\nRESOURCES\n")) ((second ++ decimal horizon) ∷ codes "RESOURCES" ∷ []) =
-        record { before = λ rest. append_assoc (second ++ decimal horizon) (codes "\nRESOURCES\n") rest } in
+    record { before = λ rest. append_assoc (second ++ decimal horizon) (codes "\nRESOURCES\n") rest } in
     let c : IsLines (counted third resources (codes "   R\n")) ((third ++ decimal resources ++ codes "   R") ∷ []) = behind_number third (codes "   R") resources in
     let d : IsLines (codes "projects                      :  1\n") (codes "projects                      :  1" ∷ []) = record { before = λ rest. refl } in
     lines_both _ _ _ _ (lines_both _ _ _ _ (lines_both _ _ _ _ d a) b) c

@@ -2,8 +2,11 @@
 #![tactic(auto)]
 
 mod columns;
+mod fault;
 mod jobs;
-mod project_text;
+mod sm;
 mod table;
 
+pub use fault::TextFault;
+pub use sm::project_text;
 pub use table::{Activity, Resource, Table};

@@ -1,6 +1,6 @@
 use Rattle.std.proofs.Common.{◌≡◌, take}
 use Rattle.std.specs.List.{sum_by}
-use Rattle.plan_table.proofs.project_text.horizon.Given as goal
+use Rattle.plan_table.proofs.sm.horizon.Given as goal
 
 -- the durations so far
 abbrev pub invariant-loop-activity : goal.invariant-loop-activity

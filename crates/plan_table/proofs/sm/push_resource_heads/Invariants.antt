@@ -2,7 +2,7 @@ use Rattle.std.proofs.Common.{◌≡◌, ◌++◌, take, map}
 use Rattle.std.specs.String.{string_bytes}
 use Rattle.plan_table.specs.Numbered.{numbered}
 use Rattle.plan_table.specs.ProjectText.{resource_heads}
-use Rattle.plan_table.proofs.project_text.push_resource_heads.Given as goal
+use Rattle.plan_table.proofs.sm.push_resource_heads.Given as goal
 
 -- behind the text stand the heads so far
 abbrev pub invariant-loop-k : goal.invariant-loop-k

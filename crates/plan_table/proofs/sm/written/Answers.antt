@@ -4,7 +4,7 @@ use Rattle.plan_table.specs.declared.table.Activity as declared
 use Rattle.plan_table.specs.declared.jobs.Job as declared_job
 use Rattle.plan_table.specs.Table.{activity_of}
 use Rattle.plan_table.proofs.JobLemmas.{kept_jobs_short}
-use Rattle.plan_table.proofs.project_text.written.Goals as goal
+use Rattle.plan_table.proofs.sm.written.Goals as goal
 
 pub push_sections-requires-clause-rows : goal.push_sections-requires-clause-rows
 push_sections-requires-clause-rows c =

@@ -4,7 +4,7 @@ use Rattle.plan_table.specs.Numbered.{numbered}
 use Rattle.plan_table.specs.Table.{resource_of}
 use Rattle.plan_table.specs.ProjectText.{resource_line}
 use Rattle.plan_table.proofs.NumberedLemmas.{next_line}
-use Rattle.plan_table.proofs.project_text.push_resource_lines.Goals as goal
+use Rattle.plan_table.proofs.sm.push_resource_lines.Goals as goal
 
 pub loop-k-preserved : goal.loop-k-preserved
 loop-k-preserved c =

@@ -2,7 +2,7 @@ use Rattle.std.proofs.Common.{◌≡◌, ◌++◌, take, get_or, refl, ap, ◌�
 use Rattle.std.specs.String.{string_bytes}
 use Rattle.plan_table.specs.ProjectText.{resource_head, resource_heads}
 use Rattle.plan_table.proofs.NumberedLemmas.{numbered-next, next_written}
-use Rattle.plan_table.proofs.project_text.push_resource_heads.Goals as goal
+use Rattle.plan_table.proofs.sm.push_resource_heads.Goals as goal
 
 pub loop-k-preserved : goal.loop-k-preserved
 loop-k-preserved c =

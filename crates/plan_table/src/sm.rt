@@ -1,16 +1,20 @@
 //! The `.sm` text of a table.
 
-ghost use Rattle.std.specs.Prelude.{◌≡◌, ◌≤◌, ◌++◌, All, length, map, IfOk, OnOk, string_bytes};
+ghost use Rattle.std.specs.Prelude.{◌≡◌, ◌≤◌, ◌<◌, ◌++◌, All, length, map, IfOk, IsErrOf, OnOk, string_bytes};
 ghost use Rattle.plan_net.specs.Limits.{longest_sum};
-ghost use Rattle.plan_table.specs.Limits.{most_rows};
+ghost use Rattle.plan_psplib.specs.Plain.{longest_text};
+ghost use Rattle.plan_psplib.specs.Project.{SaysProject};
+ghost use Rattle.plan_table.specs.Limits.{IsTable, most_rows};
 ghost use Rattle.plan_table.specs.Numbered.{numbered};
 ghost use Rattle.plan_table.specs.Table as table;
-ghost use Rattle.plan_table.specs.Jobs.{job_in};
+ghost use Rattle.plan_table.specs.Jobs.{job_in, project_of};
 ghost use Rattle.plan_table.specs.ProjectText as spec;
 
 use crate::columns::{push_columns, push_number, push_spaced};
+use crate::fault::TextFault;
 use crate::jobs::{Job, capacities, jobs};
 use crate::table::{Activity, Resource, Table};
+use plan_psplib::LONGEST_TEXT;
 use std::alloc::{AllocError, Global};
 use std::fmt::Write;
 
@@ -379,7 +383,8 @@ fn push_front(
 
 // The text of a table within the limits.
 fn written(alloc: Global, table: &Table) -> Result<String, AllocError>
-    ensures { IfOk result (λ text. string_bytes text ≡ spec.project_text table.now) }
+    ensures text { IfOk result (λ text. string_bytes text ≡ spec.project_text table.now) }
+    ensures table { IsTable table.now }
 {
     let capacities = capacities(alloc, &table.resources)?;
     let jobs = jobs(alloc, &table.activities, capacities.len())?;
@@ -387,5 +392,21 @@ fn written(alloc: Global, table: &Table) -> Result<String, AllocError>
     push_front(alloc, &mut text, &table.activities, capacities.len())?;
     push_sections(alloc, &mut text, &jobs, &capacities)?;
     push_names(&mut text, &table.activities, &table.resources)?;
+    Ok(text)
+}
+
+/// The `.sm` text of a table. Reading it gives the project of the table: its durations, its
+/// precedences, its needs and its capacities. A text that no reader would take for its length is
+/// refused.
+pub fn project_text(alloc: Global, table: &Table) -> Result<String, TextFault>
+    ensures text { IfOk result (λ text. string_bytes text ≡ spec.project_text table.now) }
+    ensures says { IfOk result (λ text. SaysProject (string_bytes text) (project_of table.now)) }
+    ensures long { IsErrOf result TextFault.TooLong →
+        longest_text < length (spec.project_text table.now) }
+{
+    let text = written(alloc, table)?;
+    if text.as_bytes().len() > LONGEST_TEXT {
+        return Err(TextFault::TooLong);
+    }
     Ok(text)
 }

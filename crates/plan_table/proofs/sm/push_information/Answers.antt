@@ -2,7 +2,7 @@ use Rattle.std.proofs.Common.{◌≡◌, ◌++◌}
 use Rattle.std.proofs.lemmas.Result.{on_ok_weaker}
 use Rattle.plan_table.specs.ProjectText.{information_text}
 use Rattle.plan_table.proofs.PieceLemmas.{four_pieces}
-use Rattle.plan_table.proofs.project_text.push_information.Goals as goal
+use Rattle.plan_table.proofs.sm.push_information.Goals as goal
 
 pub returns : goal.returns
 unfolding information_text

@@ -4,7 +4,7 @@ use Rattle.plan_table.specs.Numbered.{numbered}
 use Rattle.plan_table.specs.Table.{activity_of, resource_of}
 use Rattle.plan_table.specs.ProjectText.{names_text, name_line, resource_line, rule_line}
 use Rattle.plan_table.proofs.PieceLemmas.{four_pieces}
-use Rattle.plan_table.proofs.project_text.push_names.Goals as goal
+use Rattle.plan_table.proofs.sm.push_names.Goals as goal
 
 pub returns : goal.returns
 unfolding names_text

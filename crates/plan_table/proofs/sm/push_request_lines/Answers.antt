@@ -4,7 +4,7 @@ use Rattle.plan_table.specs.Numbered.{numbered}
 use Rattle.plan_table.specs.Jobs.{job_in}
 use Rattle.plan_table.specs.ProjectText.{request_line}
 use Rattle.plan_table.proofs.NumberedLemmas.{next_line}
-use Rattle.plan_table.proofs.project_text.push_request_lines.Goals as goal
+use Rattle.plan_table.proofs.sm.push_request_lines.Goals as goal
 
 pub loop-k-preserved : goal.loop-k-preserved
 loop-k-preserved c =
