@@ -4,5 +4,6 @@ pub mod Jobs
 pub mod Limits
 pub mod Columns
 pub mod ProjectText
+pub mod Names
 pub use Rattle.plan_psplib.specs.Project
 pub use Rattle.plan_net.specs.Network

@@ -4,9 +4,11 @@
 mod columns;
 mod fault;
 mod jobs;
+mod names;
 mod sm;
 mod table;
 
 pub use fault::TextFault;
+pub use names::{NameLine, activity_names, first_name, resource_names};
 pub use sm::project_text;
 pub use table::{Activity, Resource, Table};
