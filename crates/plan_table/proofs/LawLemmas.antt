@@ -220,11 +220,11 @@ pub record IsText (text : List ℕ) (jobs : List Job) (capacities : List ℕ) : 
   pub resources : (1 ≤ length capacities) × (length capacities ≤ 16)
   pub total : sum (durations_of jobs) ≤ 1000000
 
-job_rows : (n k : ℕ) (jobs : List Job) → AllByRecursion (IsGoodJob n k) jobs → AllByRecursion (successors.IsRow n) (rows_of jobs)
+pub job_rows : (n k : ℕ) (jobs : List Job) → AllByRecursion (IsGoodJob n k) jobs → AllByRecursion (successors.IsRow n) (rows_of jobs)
 job_rows n k [] h = tt
 job_rows n k (job ∷ jobs) h = (h.0.row, job_rows n k jobs h.1)
 
-job_durations : (n k : ℕ) (jobs : List Job) → AllByRecursion (IsGoodJob n k) jobs → AllByRecursion (λ d. d ≤ 10000) (durations_of jobs)
+pub job_durations : (n k : ℕ) (jobs : List Job) → AllByRecursion (IsGoodJob n k) jobs → AllByRecursion (λ d. d ≤ 10000) (durations_of jobs)
 job_durations n k [] h = tt
 job_durations n k (job ∷ jobs) h = (h.0.duration, job_durations n k jobs h.1)
 

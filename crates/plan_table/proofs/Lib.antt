@@ -11,3 +11,4 @@ pub mod RowListLemmas
 pub mod HeadLemmas
 pub mod LawLemmas
 pub mod TableTextLemmas
+pub mod NetworkLemmas
