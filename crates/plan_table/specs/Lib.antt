@@ -5,5 +5,6 @@ pub mod Limits
 pub mod Columns
 pub mod ProjectText
 pub mod Names
+pub mod Csv
 pub use Rattle.plan_psplib.specs.Project
 pub use Rattle.plan_net.specs.Network

@@ -3,9 +3,11 @@
 
 mod checked;
 mod columns;
+mod csv_step;
 mod fault;
 mod jobs;
 mod names;
+mod records;
 mod sm;
 mod table;
 
