@@ -1,6 +1,8 @@
 -- A table's text as records of cells, by the state machine of the `csv` crate, with the line of each record.
-use Rattle.std.specs.Prelude.{ℕ, ◌+◌, ◌==◌, Bool, true, false, if◌then◌else◌, List, [], ◌∷◌, ◌++◌, map, fold}
-use Rattle.std.specs.List.{list_any}
+use Rattle.std.specs.Prelude.{ℕ, ◌+◌, ◌==◌, Bool, true, false, if◌then◌else◌, List, [], ◌∷◌, ◌++◌, Option, Some, None, Result, Ok, Err, Vec, map, fold, take, drop, nat_eq}
+use Rattle.std.specs.List.{list_any, position, starts_with}
+use Rattle.std.specs.declared.alloc.Global.{Global}
+use Rattle.plan_psplib.specs.Lines.{is_line_feed}
 use Rattle.csv.specs.Machine.{step, is_end, fields_after, field_after, ends_at_end}
 use Rattle.csv.specs.Reading.{default_config}
 use Rattle.csv.specs.declared.parser.Config.{Config}
@@ -124,3 +126,47 @@ rows_at_end m = if ends_at_end m.state then m.rows ++ record { line = m.first; c
 -- the delimiter of a header line: the first of tab, semicolon and comma that it has
 abbrev pub delimiter_of : List ℕ → ℕ
 delimiter_of line = if list_any (λ byte. byte == 9) line then 9 else if list_any (λ byte. byte == 59) line then 59 else 44
+
+-- the line of a record that ends between quotes
+abbrev pub unclosed_in : machine.State → ℕ → Option ℕ
+unclosed_in st.InQuoted line = Some line
+unclosed_in st.StartRecord line = None
+unclosed_in st.StartField line = None
+unclosed_in st.InField line = None
+unclosed_in st.AfterQuote line = None
+unclosed_in st.InEscape line = None
+unclosed_in st.InComment line = None
+unclosed_in st.AfterCr line = None
+
+abbrev pub unclosed : Machine → Option ℕ
+unclosed m = unclosed_in m.state m.first
+
+-- the first line of a text
+abbrev pub line_to : Option ℕ → List ℕ → List ℕ
+line_to None text = text
+line_to (Some end) text = take end text
+
+abbrev pub header_line : List ℕ → List ℕ
+header_line text = line_to (position is_line_feed text) text
+
+-- a text without a byte-order mark at its start
+abbrev pub without_mark : List ℕ → List ℕ
+without_mark text = if starts_with nat_eq text (0xEF ∷ 0xBB ∷ 0xBF ∷ []) then drop 3 text else text
+
+-- the machine after a table's text, in the delimiter of its first line
+abbrev pub read_of : List ℕ → Machine
+read_of text = scanned (delimiter_of (header_line text)) text
+
+-- the records, or the line of the one that isn't closed
+abbrev pub rows_or_line : Option ℕ → List Row → Result (List Row) ℕ
+rows_or_line None rows = Ok rows
+rows_or_line (Some line) rows = Err line
+
+-- what a table's text reads as: its records, or the line of a record in which a quote isn't closed
+unfoldable pub records_of : List ℕ → Result (List Row) ℕ
+records_of text = rows_or_line (unclosed (read_of (without_mark text))) (rows_at_end (read_of (without_mark text)))
+
+-- the same, as the program answers it
+abbrev pub rows_of : Result (Vec declared.Row Global) ℕ → Result (List Row) ℕ
+rows_of (Ok rows) = Ok (map row_of rows.items)
+rows_of (Err line) = Err line

@@ -1,6 +1,10 @@
 //! A table's text as records of cells.
 
 ghost use Rattle.std.specs.Prelude.{◌≡◌, ◌≤◌, ◌<◌, ◌+◌, length, map, fold, IfOk, OnOk};
+ghost use Rattle.csv.specs.Machine.{ends_at_end as ends};
+ghost use Rattle.std.specs.List.{position};
+ghost use Rattle.plan_psplib.specs.Lines.{is_line_feed};
+ghost use Rattle.plan_psplib.specs.Plain.{longest_text};
 ghost use Rattle.plan_table.specs.Csv as spec;
 
 use crate::csv_step::{Action, State, step};
@@ -117,4 +121,111 @@ impl Machine {
         self.state = state;
         self.act(alloc, byte, action)
     }
+}
+
+// The machine after a text.
+fn scanned(alloc: Global, delimiter: u8, text: &[u8]) -> Result<Machine, AllocError>
+    requires { length text.now ≤ longest_text }
+    ensures { IfOk result (λ m. spec.machine_of m ≡ spec.scanned delimiter text.now) }
+{
+    let mut machine = Machine::new(alloc);
+    for &byte in text {
+        machine.feed(alloc, delimiter, byte)?;
+    }
+    Ok(machine)
+}
+
+// Whether the end of a text ends a record.
+fn ends_at_end(state: State) -> bool
+    ensures { result ≡ ends (spec.state_of state) }
+{
+    !matches!(state, State::StartRecord | State::AfterCr)
+}
+
+impl Machine {
+    // The records, with the one that the end of the text ends.
+    fn into_rows(mut self, alloc: Global) -> Result<Vec<Row>, AllocError>
+        ensures { IfOk result (λ rows. map spec.row_of rows.items
+            ≡ spec.rows_at_end (spec.machine_of self)) }
+    {
+        if ends_at_end(self.state) {
+            self.end_record(alloc)?;
+        }
+        Ok(self.rows)
+    }
+
+    // The line of a record that ends between quotes.
+    fn unclosed(&self) -> Option<u64>
+        ensures { result ≡ spec.unclosed (spec.machine_of self.now) }
+    {
+        match self.state {
+            State::InQuoted => Some(self.first),
+            _ => None,
+        }
+    }
+}
+
+// The delimiter of a header line.
+fn delimiter_of(line: &[u8]) -> u8
+    ensures { result ≡ spec.delimiter_of line.now }
+{
+    if line.contains(&b'\t') {
+        b'\t'
+    } else if line.contains(&b';') {
+        b';'
+    } else {
+        b','
+    }
+}
+
+// Where the first line ends.
+fn first_line_end(text: &[u8]) -> Option<usize>
+    ensures { result ≡ position is_line_feed text.now }
+{
+    text.iter().position(|&byte| byte == b'\n')
+}
+
+// The first line of a text.
+fn header_line(text: &[u8]) -> &[u8]
+    ensures { result.now ≡ spec.header_line text.now }
+{
+    match first_line_end(text) {
+        Some(end) => &text[..end],
+        None => text,
+    }
+}
+
+// A text without a byte-order mark at its start.
+fn without_mark(text: &[u8]) -> &[u8]
+    ensures { result.now ≡ spec.without_mark text.now }
+{
+    if text.starts_with(b"\xef\xbb\xbf") {
+        &text[3..]
+    } else {
+        text
+    }
+}
+
+// The machine after a table's text.
+fn read(alloc: Global, text: &[u8]) -> Result<Machine, AllocError>
+    requires { length text.now ≤ longest_text }
+    ensures { IfOk result (λ m. spec.machine_of m ≡ spec.read_of text.now) }
+{
+    scanned(alloc, delimiter_of(header_line(text)), text)
+}
+
+/// The records of a table's text, or the line of a record in which a quote isn't closed.
+///
+/// The delimiter is the first of tab, semicolon and comma that the first line has; a byte-order mark
+/// is skipped. Records are those of the `csv` crate (RFC 4180).
+#[tactic(auto, unfolding(crate::specs::Csv::records_of))]
+pub fn read_records(alloc: Global, text: &[u8]) -> Result<Result<Vec<Row>, u64>, AllocError>
+    requires { length text.now ≤ longest_text }
+    ensures { IfOk result (λ read. spec.rows_of read ≡ spec.records_of text.now) }
+{
+    let machine = read(alloc, without_mark(text))?;
+    if let Some(line) = machine.unclosed() {
+        return Ok(Err(line));
+    }
+    Ok(Ok(machine.into_rows(alloc)?))
 }
