@@ -12,3 +12,4 @@ pub mod HeadLemmas
 pub mod LawLemmas
 pub mod TableTextLemmas
 pub mod NetworkLemmas
+pub mod ReadLemmas

@@ -6,5 +6,7 @@ pub mod Columns
 pub mod ProjectText
 pub mod Names
 pub mod Csv
+pub mod Reading
+pub mod Cells
 pub use Rattle.plan_psplib.specs.Project
 pub use Rattle.plan_net.specs.Network

@@ -1,6 +1,7 @@
 //! Planner's lists: a table of activities as a project file.
 #![tactic(auto)]
 
+mod cells;
 mod checked;
 mod columns;
 mod csv_step;
