@@ -8,5 +8,6 @@ pub mod Names
 pub mod Csv
 pub mod Reading
 pub mod Cells
+pub mod Header
 pub use Rattle.plan_psplib.specs.Project
 pub use Rattle.plan_net.specs.Network

@@ -3,6 +3,7 @@
 ghost use Rattle.std.specs.Prelude.{◌≡◌, ◌≤◌, ℕ, List, length, map, nat_le, IfOk, string_bytes};
 ghost use Rattle.std.specs.List.{list_all};
 ghost use Rattle.plan_table.specs.Cells as spec;
+ghost use Rattle.plan_table.specs.Header.{Head};
 ghost use Rattle.plan_table.specs.Limits.{IsName, most_rows};
 ghost use Rattle.plan_table.specs.Reading.{Fails, Gives, fault};
 
@@ -17,6 +18,9 @@ const LONGEST_NAME: usize = 200;
 pub fn word_fault(alloc: Global, code: TableCode, line: u64, word: &[u8]) -> ReadError
     ensures number { Fails result (fault {A = ℕ} code line word.now) }
     ensures list { Fails result (fault {A = List ℕ} code line word.now) }
+    ensures unit { Fails result (fault {A = Unit {0}} code line word.now) }
+    ensures head { Fails result (fault {A = Head} code line word.now) }
+    ensures heads { Fails result (fault {A = List Head} code line word.now) }
 {
     match Vec::from_slice(alloc, word) {
         Ok(word) => ReadError::Fault(TableFault { code, line, word }),

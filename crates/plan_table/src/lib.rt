@@ -6,6 +6,7 @@ mod checked;
 mod columns;
 mod csv_step;
 mod fault;
+mod header;
 mod jobs;
 mod names;
 mod records;
