@@ -9,5 +9,6 @@ pub mod Csv
 pub mod Reading
 pub mod Cells
 pub mod Header
+pub mod Rows
 pub use Rattle.plan_psplib.specs.Project
 pub use Rattle.plan_net.specs.Network

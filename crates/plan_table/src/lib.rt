@@ -10,6 +10,7 @@ mod header;
 mod jobs;
 mod names;
 mod records;
+mod rows;
 mod sm;
 mod table;
 
