@@ -10,5 +10,6 @@ pub mod Reading
 pub mod Cells
 pub mod Header
 pub mod Rows
+pub mod Entries
 pub use Rattle.plan_psplib.specs.Project
 pub use Rattle.plan_net.specs.Network

@@ -1,9 +1,11 @@
 //! The cells of an activity.
 
-ghost use Rattle.std.specs.Prelude.{◌≡◌, ◌≤◌, ℕ, List, length, map, nat_le, IfOk, string_bytes};
+ghost use Rattle.std.specs.Prelude.{◌≡◌, ◌≤◌, ℕ, List, Option, length, map, nat_le, IfOk, string_bytes};
 ghost use Rattle.std.specs.List.{list_all};
 ghost use Rattle.plan_table.specs.Cells as spec;
 ghost use Rattle.plan_table.specs.Header.{Head};
+ghost use Rattle.plan_table.specs.Entries.{Entries};
+ghost use Rattle.plan_table.specs.Table.{Activity};
 ghost use Rattle.plan_table.specs.Limits.{IsName, most_rows};
 ghost use Rattle.plan_table.specs.Reading.{Fails, Gives, fault};
 
@@ -21,6 +23,9 @@ pub fn word_fault(alloc: Global, code: TableCode, line: u64, word: &[u8]) -> Rea
     ensures unit { Fails result (fault {A = Unit {0}} code line word.now) }
     ensures head { Fails result (fault {A = Head} code line word.now) }
     ensures heads { Fails result (fault {A = List Head} code line word.now) }
+    ensures activity { Fails result (fault {A = Activity} code line word.now) }
+    ensures entries { Fails result (fault {A = Entries} code line word.now) }
+    ensures capacities { Fails result (fault {A = List (Option ℕ)} code line word.now) }
 {
     match Vec::from_slice(alloc, word) {
         Ok(word) => ReadError::Fault(TableFault { code, line, word }),

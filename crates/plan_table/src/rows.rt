@@ -1,6 +1,6 @@
 //! The rows of a table: activities.
 
-ghost use Rattle.std.specs.Prelude.{◌≡◌, ◌≤◌, ◌++◌, length, map, IfOk, OnOk};
+ghost use Rattle.std.specs.Prelude.{◌≡◌, ◌≤◌, ◌++◌, length, map, drop, IfOk, OnOk};
 ghost use Rattle.std.specs.List.{list_all, list_any};
 ghost use Rattle.plan_psplib.specs.Lines as lines;
 ghost use Rattle.plan_table.specs.Cells as cells;
@@ -142,4 +142,78 @@ fn read_cell(
         Column::Nothing => {}
     }
     Ok(())
+}
+
+/// The first cell of those that are left, an empty one if there is none, and the others.
+pub fn split_first(cells: &[Vec<u8>]) -> (&[u8], &[Vec<u8>])
+    ensures cell { result.0.now ≡ spec.first_cell (map (λ cell. cell.items) cells.now) }
+    ensures rest { map (λ cell. cell.items) result.1.now
+        ≡ drop 1 (map (λ cell. cell.items) cells.now) }
+{
+    match cells {
+        [first, rest @ ..] => (first, rest),
+        [] => (b"", cells),
+    }
+}
+
+// An activity of which only the id is known.
+fn fresh(alloc: Global, id: &[u8]) -> Result<Activity, AllocError>
+    ensures { IfOk result (λ a. activity_of a ≡ spec.fresh_activity id.now) }
+{
+    Ok(Activity {
+        id: String::from_utf8_lossy(alloc, id)?,
+        name: String::new(alloc),
+        duration: 0,
+        predecessors: Vec::new(alloc),
+        needs: Vec::new(alloc),
+    })
+}
+
+// An activity with what the cells of columns say.
+#[tactic(auto, unfolding(crate::specs::Rows::row_read))]
+fn read_row(
+    alloc: Global,
+    ids: &Ids<'_>,
+    line: u64,
+    id: &[u8],
+    heads: &[Head],
+    cells: &[Vec<u8>],
+) -> Result<Activity, ReadError>
+    requires { length ids.now.all.now ≤ most_rows }
+    ensures { Gives activity_of result (spec.row_read
+        (map (λ other. other.items) ids.now.all.now)
+        (map (λ other. other.items) ids.now.before.now) line (spec.fresh_activity id.now)
+        (map head_of heads.now) (map (λ cell. cell.items) cells.now)) }
+{
+    let mut activity = fresh(alloc, id)?;
+    let mut rest = cells;
+    for head in heads {
+        let (cell, others) = split_first(rest);
+        rest = others;
+        read_cell(alloc, ids, line, &mut activity, head, trim(cell))?;
+    }
+    Ok(activity)
+}
+
+/// The activity of a row.
+#[tactic(auto, unfolding(crate::specs::Rows::activity_read))]
+pub fn read_activity(
+    alloc: Global,
+    ids: &Ids<'_>,
+    line: u64,
+    id: &[u8],
+    heads: &[Head],
+    cells: &[Vec<u8>],
+) -> Result<Activity, ReadError>
+    requires { length ids.now.all.now ≤ most_rows }
+    ensures { Gives activity_of result (spec.activity_read
+        (map (λ other. other.items) ids.now.all.now)
+        (map (λ other. other.items) ids.now.before.now) line id.now
+        (map head_of heads.now) (map (λ cell. cell.items) cells.now)) }
+{
+    let activity = read_row(alloc, ids, line, id, heads, cells)?;
+    if cells.len() > heads.len() {
+        return Err(word_fault(alloc, TableCode::Cells, line, b""));
+    }
+    Ok(activity)
 }
