@@ -1,7 +1,10 @@
 -- Reading in two steps.
-use Rattle.std.proofs.Common.{◌≡◌, ℕ, ◌≤◌, List, [], Vec, Result, Ok, Err, length, map, drop, sym, ap, ◌∙◌}
+use Rattle.std.proofs.Common.{◌≡◌, ℕ, ◌≤◌, List, [], Vec, Result, Ok, Err, length, map, drop, take, true, false, sym, ap, ◌∙◌}
+use Rattle.std.specs.Str.{IsUtf8, is_utf8}
+use Rattle.std.proofs.lemmas.Bool.{false_from_ne_true}
+use Rattle.std.proofs.lemmas.Str.{IsUtf8-from_is_utf8, is_utf8-from_IsUtf8}
 use Rattle.std.specs.declared.alloc.Global.{Global}
-use Rattle.std.proofs.lemmas.List.{drop-map, drop_all}
+use Rattle.std.proofs.lemmas.List.{drop-map, drop_all, take-map, take_all}
 use Rattle.plan_table.specs.Rows.{first_cell}
 use Rattle.plan_table.specs.declared.fault.ReadError.{ReadError}
 use Rattle.plan_table.specs.declared.fault.ReadError.TheVariants as errors
@@ -23,3 +26,17 @@ cell_dropped cells n = ap first_cell (drop-map (λ (cell : Vec ℕ Global). cell
 -- no cell is left
 pub no_cell : (cells : List (Vec ℕ Global)) (n : ℕ) → length cells ≤ n → first_cell (drop n (map (λ cell. cell.items) cells)) ≡ []
 no_cell cells n past = cell_dropped cells n ∙ ap (λ (cs : List (Vec ℕ Global)). first_cell (map (λ cell. cell.items) cs)) (drop_all n cells past)
+
+-- the first ids
+pub ids_taken : (ids : List (Vec ℕ Global)) (n : ℕ) → map (λ id. id.items) (take n ids) ≡ take n (map (λ id. id.items) ids)
+ids_taken ids n = sym (take-map (λ (id : Vec ℕ Global). id.items) n ids)
+
+pub all_taken : (ids : List (Vec ℕ Global)) (n : ℕ) → length ids ≤ n → map (λ id. id.items) ids ≡ take n (map (λ id. id.items) ids)
+all_taken ids n past = ap (map (λ (id : Vec ℕ Global). id.items)) (sym (take_all n ids past)) ∙ ids_taken ids n
+
+-- what isn't UTF-8 fails the test
+pub not_text : (bytes : List ℕ) → ¬ (IsUtf8 bytes) → is_utf8 bytes ≡ false
+not_text bytes none = false_from_ne_true (is_utf8 bytes) (λ e. none (IsUtf8-from_is_utf8 bytes e))
+
+pub is_text : (bytes : List ℕ) → IsUtf8 bytes → is_utf8 bytes ≡ true
+is_text bytes text = is_utf8-from_IsUtf8 bytes text

@@ -11,5 +11,6 @@ pub mod Cells
 pub mod Header
 pub mod Rows
 pub mod Entries
+pub mod Listing
 pub use Rattle.plan_psplib.specs.Project
 pub use Rattle.plan_net.specs.Network

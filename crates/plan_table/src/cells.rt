@@ -5,7 +5,7 @@ ghost use Rattle.std.specs.List.{list_all};
 ghost use Rattle.plan_table.specs.Cells as spec;
 ghost use Rattle.plan_table.specs.Header.{Head};
 ghost use Rattle.plan_table.specs.Entries.{Entries};
-ghost use Rattle.plan_table.specs.Table.{Activity};
+ghost use Rattle.plan_table.specs.Table.{Activity, Resource, Table};
 ghost use Rattle.plan_table.specs.Limits.{IsName, most_rows};
 ghost use Rattle.plan_table.specs.Reading.{Fails, Gives, fault};
 
@@ -24,6 +24,8 @@ pub fn word_fault(alloc: Global, code: TableCode, line: u64, word: &[u8]) -> Rea
     ensures head { Fails result (fault {A = Head} code line word.now) }
     ensures heads { Fails result (fault {A = List Head} code line word.now) }
     ensures activity { Fails result (fault {A = Activity} code line word.now) }
+    ensures table { Fails result (fault {A = Table} code line word.now) }
+    ensures resources { Fails result (fault {A = List Resource} code line word.now) }
     ensures entries { Fails result (fault {A = Entries} code line word.now) }
     ensures capacities { Fails result (fault {A = List (Option ℕ)} code line word.now) }
 {

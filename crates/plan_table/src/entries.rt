@@ -1,6 +1,6 @@
 //! The rows of a table: its activities, and the row of the capacities.
 
-ghost use Rattle.std.specs.Prelude.{◌≡◌, ◌≤◌, [], length, map, drop, IfOk, OnOk};
+ghost use Rattle.std.specs.Prelude.{◌≡◌, ◌≤◌, ◌+◌, [], length, map, drop, take, IfOk, OnOk};
 ghost use Rattle.std.specs.Fmt.{decimal};
 ghost use Rattle.plan_table.specs.Csv.{row_of};
 ghost use Rattle.plan_table.specs.Entries as spec;
@@ -128,8 +128,10 @@ fn push_id(
 // With one activity more.
 #[tactic(auto, unfolding(crate::specs::Entries::added))]
 fn add(alloc: Global, entries: &mut Entries, line: u64, activity: Activity) -> Result<(), ReadError>
-    ensures { Gives (λ _. spec.entries_of entries.new) result (spec.added line
+    ensures exact { Gives (λ _. spec.entries_of entries.new) result (spec.added line
         (spec.entries_of entries.old) (activity_of activity)) }
+    ensures one { OnOk result (length entries.new.activities.items
+        ≡ length entries.old.activities.items + 1) }
 {
     let total = u64::from(entries.total) + u64::from(activity.duration);
     if total > 1_000_000 {
@@ -197,4 +199,130 @@ fn read_capacities(
         read_capacity(alloc, line, &mut capacities, head, trim(cell))?;
     }
     Ok(capacities)
+}
+
+// The ids of the activities.
+fn read_ids(alloc: Global, place: Option<usize>, rows: &[Row]) -> Result<Vec<Vec<u8>>, AllocError>
+    ensures ids { IfOk result (λ v. map (λ id. id.items) v.items ≡ spec.ids_of place
+        (map row_of rows.now)) }
+    ensures few { IfOk result (λ v. length v.items ≤ most_rows) }
+{
+    let mut ids = Vec::new(alloc);
+    for row in rows {
+        push_id(alloc, place, &mut ids, row)?;
+    }
+    Ok(ids)
+}
+
+// The row of the capacities.
+#[tactic(auto, unfolding(crate::specs::Entries::capacity_row))]
+fn read_capacity_row(
+    alloc: Global,
+    heads: &[Head],
+    entries: &mut Entries,
+    line: u64,
+    cells: &[Vec<u8>],
+) -> Result<(), ReadError>
+    ensures exact { Gives (λ _. spec.entries_of entries.new) result (spec.capacity_row
+        (map head_of heads.now) (spec.entries_of entries.old) line
+        (map (λ cell. cell.items) cells.now)) }
+    ensures activities { OnOk result (entries.new.activities ≡ entries.old.activities) }
+{
+    if entries.capacities.is_some() {
+        return Err(word_fault(alloc, TableCode::IdTwice, line, b"capacity"));
+    }
+    let found = read_capacities(alloc, line, heads, cells)?;
+    if cells.len() > heads.len() {
+        return Err(word_fault(alloc, TableCode::Cells, line, b""));
+    }
+    entries.capacities = Some(found);
+    Ok(())
+}
+
+// The first ids.
+#[tactic(auto, using(crate::proofs::ReadLemmas::ids_taken, crate::proofs::ReadLemmas::all_taken))]
+fn first_ids(ids: &[Vec<u8>], count: usize) -> &[Vec<u8>]
+    ensures { map (λ id. id.items) result.now ≡ take count (map (λ id. id.items) ids.now) }
+{
+    if count < ids.len() {
+        &ids[..count]
+    } else {
+        ids
+    }
+}
+
+// The row of an activity.
+#[tactic(auto, unfolding(crate::specs::Entries::activity_row))]
+fn read_activity_row(
+    alloc: Global,
+    heads: &[Head],
+    ids: &[Vec<u8>],
+    entries: &mut Entries,
+    line: u64,
+    id: &[u8],
+    cells: &[Vec<u8>],
+) -> Result<(), ReadError>
+    requires { length ids.now ≤ most_rows }
+    ensures exact { Gives (λ _. spec.entries_of entries.new) result (spec.activity_row
+        (map head_of heads.now) (map (λ id. id.items) ids.now) (spec.entries_of entries.old)
+        line id.now (map (λ cell. cell.items) cells.now)) }
+    ensures few { OnOk result (length entries.new.activities.items ≤ most_rows) }
+{
+    let count = entries.activities.as_slice().len();
+    if count >= MOST_ROWS {
+        return Err(word_fault(alloc, TableCode::Limit, line, b""));
+    }
+    let known = Ids {
+        all: ids,
+        before: first_ids(ids, count),
+    };
+    let activity = read_activity(alloc, &known, line, id, heads, cells)?;
+    add(alloc, entries, line, activity)
+}
+
+// What a row adds.
+#[tactic(auto, unfolding(crate::specs::Entries::entry_read))]
+fn read_entry(
+    alloc: Global,
+    heads: &[Head],
+    place: Option<usize>,
+    ids: &[Vec<u8>],
+    entries: &mut Entries,
+    row: &Row,
+) -> Result<(), ReadError>
+    requires ids { length ids.now ≤ most_rows }
+    requires few { length entries.old.activities.items ≤ most_rows }
+    ensures exact { Gives (λ _. spec.entries_of entries.new) result (spec.entry_read
+        (map head_of heads.now) place (map (λ id. id.items) ids.now)
+        (spec.entries_of entries.old) (row_of row.now)) }
+    ensures few { OnOk result (length entries.new.activities.items ≤ most_rows) }
+{
+    if is_blank_row(&row.cells) {
+        return Ok(());
+    }
+    let count = entries.activities.as_slice().len();
+    let id = id_of(alloc, place, count, &row.cells)?;
+    if is_capacity(place, &id) {
+        return read_capacity_row(alloc, heads, entries, row.line, &row.cells);
+    }
+    read_activity_row(alloc, heads, ids, entries, row.line, &id, &row.cells)
+}
+
+/// What the rows of a table say.
+#[tactic(auto, unfolding(crate::specs::Entries::entries_at))]
+pub fn read_entries(alloc: Global, heads: &[Head], rows: &[Row]) -> Result<Entries, ReadError>
+    ensures { Gives spec.entries_of result (spec.entries_in (map head_of heads.now)
+        (map row_of rows.now)) }
+{
+    let place = id_place(heads);
+    let ids = read_ids(alloc, place, rows)?;
+    let mut entries = Entries {
+        activities: Vec::new(alloc),
+        capacities: None,
+        total: 0,
+    };
+    for row in rows {
+        read_entry(alloc, heads, place, &ids, &mut entries, row)?;
+    }
+    Ok(entries)
 }

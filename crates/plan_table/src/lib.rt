@@ -9,6 +9,7 @@ mod entries;
 mod fault;
 mod header;
 mod jobs;
+mod listing;
 mod names;
 mod records;
 mod rows;

@@ -104,6 +104,7 @@ fn append(numbers: &mut Vec<u32>, more: &[u32]) -> Result<(), AllocError>
 }
 
 /// The ids of all activities, and of those before the one that is read.
+#[derive(Clone, Copy)]
 pub struct Ids<'a> {
     pub all: &'a [Vec<u8>],
     pub before: &'a [Vec<u8>],
