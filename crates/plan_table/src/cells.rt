@@ -3,6 +3,7 @@
 ghost use Rattle.std.specs.Prelude.{◌≡◌, ◌≤◌, ℕ, List, Option, length, map, nat_le, IfOk, string_bytes};
 ghost use Rattle.std.specs.List.{list_all};
 ghost use Rattle.plan_table.specs.Cells as spec;
+ghost use Rattle.plan_table.specs.Csv.{Row};
 ghost use Rattle.plan_table.specs.Header.{Head};
 ghost use Rattle.plan_table.specs.Entries.{Entries};
 ghost use Rattle.plan_table.specs.Table.{Activity, Resource, Table};
@@ -26,6 +27,7 @@ pub fn word_fault(alloc: Global, code: TableCode, line: u64, word: &[u8]) -> Rea
     ensures activity { Fails result (fault {A = Activity} code line word.now) }
     ensures table { Fails result (fault {A = Table} code line word.now) }
     ensures resources { Fails result (fault {A = List Resource} code line word.now) }
+    ensures rows { Fails result (fault {A = List Row} code line word.now) }
     ensures entries { Fails result (fault {A = Entries} code line word.now) }
     ensures capacities { Fails result (fault {A = List (Option ℕ)} code line word.now) }
 {
