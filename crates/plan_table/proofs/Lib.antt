@@ -13,3 +13,5 @@ pub mod LawLemmas
 pub mod TableTextLemmas
 pub mod NetworkLemmas
 pub mod ReadLemmas
+pub mod LimitLemmas
+pub mod TableLimitLemmas
