@@ -15,3 +15,4 @@ pub mod NetworkLemmas
 pub mod ReadLemmas
 pub mod LimitLemmas
 pub mod TableLimitLemmas
+pub mod CycleLemmas

@@ -118,7 +118,11 @@ pub record IsDraft (m c : ℕ) (a : Activity) : Type 0 where
 
 more_columns : (m c d : ℕ) (a : Activity) → c ≡ d → IsDraft m c a → IsDraft m d a
 more_columns m c d a same_count draft = record {
-  name = draft.name; duration = draft.duration; predecessors = draft.predecessors; whole = draft.whole ∙ same_count; needs = draft.needs;
+  name = draft.name;
+  duration = draft.duration;
+  predecessors = draft.predecessors;
+  whole = draft.whole ∙ same_count;
+  needs = draft.needs;
 }
 
 cell_draft : (ids before : List (List ℕ)) (line c : ℕ) (a b : Activity) (column : Column) (resource cell : List ℕ) →
@@ -127,28 +131,46 @@ unfolding cell_read
 cell_draft ids before line c a b columns.Duration resource cell e draft =
     then_ok (amount code.BadDuration line [] cell) _ b e (λ n is e.
     subst (λ (x : Activity). IsDraft (length ids) (c + 0) x) (same_ok (record a { duration = n }) b e)
-        (record { name = draft.name; duration = amount_small code.BadDuration line [] cell n is; predecessors = draft.predecessors;
-            whole = let w = draft.whole in omega (arith, w); needs = draft.needs }))
+    (record {
+      name = draft.name;
+      duration = amount_small code.BadDuration line [] cell n is;
+      predecessors = draft.predecessors;
+      whole = let w = draft.whole in omega (arith, w);
+      needs = draft.needs;
+    }))
 cell_draft ids before line c a b columns.Id resource cell e draft =
     then_ok (id_read before line cell) _ b e (λ u is e.
     subst (λ (x : Activity). IsDraft (length ids) (c + 0) x) (same_ok a b e) (more_columns (length ids) c (c + 0) a (omega arith) draft))
 cell_draft ids before line c a b columns.Name resource cell e draft =
     then_ok (name line cell) _ b e (λ text is e.
     subst (λ (x : Activity). IsDraft (length ids) (c + 0) x) (same_ok (record a { name = text }) b e)
-        (record { name = name_good line cell text is; duration = draft.duration; predecessors = draft.predecessors;
-            whole = let w = draft.whole in omega (arith, w); needs = draft.needs }))
+    (record {
+      name = name_good line cell text is;
+      duration = draft.duration;
+      predecessors = draft.predecessors;
+      whole = let w = draft.whole in omega (arith, w);
+      needs = draft.needs;
+    }))
 cell_draft ids before line c a b columns.Predecessors resource cell e draft =
     then_ok (predecessors_at ids line [] (ids_in cell)) _ b e (λ js is e.
     subst (λ (x : Activity). IsDraft (length ids) (c + 0) x) (same_ok (record a { predecessors = a.predecessors ++ js }) b e)
-        (record { name = draft.name; duration = draft.duration;
-            predecessors = all_both (IsKnown (length ids)) a.predecessors js draft.predecessors (predecessors_known ids line [] (ids_in cell) js is tt);
-            whole = let w = draft.whole in omega (arith, w); needs = draft.needs }))
+    (record {
+      name = draft.name;
+      duration = draft.duration;
+      predecessors = all_both (IsKnown (length ids)) a.predecessors js draft.predecessors (predecessors_known ids line [] (ids_in cell) js is tt);
+      whole = let w = draft.whole in omega (arith, w);
+      needs = draft.needs;
+    }))
 cell_draft ids before line c a b columns.Resource resource cell e draft =
     then_ok (need line resource cell) _ b e (λ n is e.
     subst (λ (x : Activity). IsDraft (length ids) (c + 1) x) (same_ok (record a { needs = a.needs ++ n ∷ [] }) b e)
-        (record { name = draft.name; duration = draft.duration; predecessors = draft.predecessors;
-            whole = push_length a.needs n ∙ ap (λ k. k + 1) draft.whole;
-            needs = all_push (λ amount. amount ≤ 10000) a.needs n draft.needs (need_small line resource cell n is) }))
+    (record {
+      name = draft.name;
+      duration = draft.duration;
+      predecessors = draft.predecessors;
+      whole = push_length a.needs n ∙ ap (λ k. k + 1) draft.whole;
+      needs = all_push (λ amount. amount ≤ 10000) a.needs n draft.needs (need_small line resource cell n is);
+    }))
 cell_draft ids before line c a b columns.Nothing resource cell e draft =
     subst (λ (x : Activity). IsDraft (length ids) (c + 0) x) (same_ok a b e) (more_columns (length ids) c (c + 0) a (omega arith) draft)
 
@@ -193,9 +215,10 @@ unfolding head_read
 head_good line before cell h e =
     then_ok (once before cell) _ h e (λ u new e.
     then_ok (check (nat_lt (resources_in before) 16) code.Limit line) _ h e (λ v room e.
-    then_ok (name line (trim cell)) _ h e (λ text is e.
-    (ltb-true (resources_in before) 16 (check_ok _ code.Limit line v room),
-        subst (λ (x : Head). IsName x.name) (same_ok (record { column = column_of (key_of cell); key = key_of cell; name = text }) h e) (name_good line (trim cell) text is)))))
+    then_ok (name line (trim cell)) _ h e (λ text is e. (
+      ltb-true (resources_in before) 16 (check_ok _ code.Limit line v room),
+      subst (λ (x : Head). IsName x.name) (same_ok (record { column = column_of (key_of cell); key = key_of cell; name = text }) h e) (name_good line (trim cell) text is),
+    ))))
 
 heads_good : (line : ℕ) (before : List Head) (cells : List (List ℕ)) (heads : List Head) → heads_at line before cells ≡ Ok heads → AreHeads before → AreHeads heads
 unfolding heads_at

@@ -82,14 +82,16 @@ added_good m k line e f a is few draft good =
     let size = push_length e.activities a in
     let sums = sum_by_push (λ (x : Activity). x.duration) e.activities a in
     let total = good.total in
-    subst (λ (x : Entries). AreGood m k x × (length x.activities ≡ length e.activities + 1)) (same_ok g f is)
-    (record {
-      few = omega (arith, size, few);
-      activities = all_push (IsDraft m k) e.activities a good.activities draft;
-      capacities = good.capacities;
-      total = omega (arith, sums, total);
-      limit = leb-true (e.total + a.duration) 1000000 (check_ok _ code.Limit line u fits);
-    }, size))
+    subst (λ (x : Entries). AreGood m k x × (length x.activities ≡ length e.activities + 1)) (same_ok g f is) (
+      record {
+        few = omega (arith, size, few);
+        activities = all_push (IsDraft m k) e.activities a good.activities draft;
+        capacities = good.capacities;
+        total = omega (arith, sums, total);
+        limit = leb-true (e.total + a.duration) 1000000 (check_ok _ code.Limit line u fits);
+      },
+      size,
+    ))
 
 capacity_row_good : (m k : ℕ) (heads : List Head) (e f : Entries) (line : ℕ) (cells : List (List ℕ)) → capacity_row heads e line cells ≡ Ok f → AreGood m k e →
     AreGood m k f × (length f.activities ≡ length e.activities)
@@ -156,9 +158,10 @@ entry_good heads place ids so_far e f row is size good =
         let n = length e.activities in
         let id = id_of place n row.cells in
         let same_entries = same_ok e f is in
-        let takes_none = ap (λ x. not x && not (is_capacity place id) && nat_lt n 500) blank in
-        (subst (λ (x : Entries). AreGood (length ids) (resources_in heads) x) same_entries good,
-            pushed_length (takes place n id row.cells) false n so_far id takes_none size ∙ ap (λ (x : Entries). length x.activities) same_entries)
+        let takes_none = ap (λ x. not x && not (is_capacity place id) && nat_lt n 500) blank in (
+          subst (λ (x : Entries). AreGood (length ids) (resources_in heads) x) same_entries good,
+          pushed_length (takes place n id row.cells) false n so_far id takes_none size ∙ ap (λ (x : Entries). length x.activities) same_entries,
+        )
     by_blank false blank is =
         filled_good heads place ids so_far e f row.line row.cells (is_capacity place (id_of place (length e.activities) row.cells)) blank refl is size good
 
@@ -216,9 +219,16 @@ resources_good capacities before found (head ∷ heads) is small named good =
 entries_are : (m k n c : ℕ) (xs : List Activity) → m ≡ n → k ≡ c → AllByRecursion (IsDraft m k) xs → AllByRecursion (IsEntry n c) xs
 entries_are m k n c [] p q h = tt
 entries_are m k n c (x ∷ xs) p q h =
-    let d = h.0 in
-    (record { name = d.name; duration = d.duration; predecessors = subst (λ i. AllByRecursion (λ j. (2 ≤ j) × (j ≤ i + 1)) x.predecessors) p d.predecessors;
-        whole = d.whole ∙ q; needs = d.needs }, entries_are m k n c xs p q h.1)
+    let d = h.0 in (
+      record {
+        name = d.name;
+        duration = d.duration;
+        predecessors = subst (λ i. AllByRecursion (λ j. (2 ≤ j) × (j ≤ i + 1)) x.predecessors) p d.predecessors;
+        whole = d.whole ∙ q;
+        needs = d.needs;
+      },
+      entries_are m k n c xs p q h.1,
+    )
 
 rows_good : (rows : List Row) (t : Table) → table_in rows ≡ Ok t → IsWithinLimits t
 unfolding table_in

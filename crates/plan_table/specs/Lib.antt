@@ -12,5 +12,6 @@ pub mod Header
 pub mod Rows
 pub mod Entries
 pub mod Listing
+pub mod Refused
 pub use Rattle.plan_psplib.specs.Project
 pub use Rattle.plan_net.specs.Network

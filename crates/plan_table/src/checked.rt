@@ -50,8 +50,8 @@ fn all_jobs(
     jobs(alloc, activities, capacities.as_slice().len())
 }
 
-// Whether the activities of a table within the limits have no cycle.
-fn check(alloc: Global, activities: &[Activity], resources: &[Resource]) -> Result<(), NetFault>
+/// Whether the activities of a table within the limits have no cycle.
+pub fn check(alloc: Global, activities: &[Activity], resources: &[Resource]) -> Result<(), NetFault>
     requires { IsWithinLimits (table_of activities.now resources.now) }
     ensures sound { OnOk result
         (IsSound (network_of (table_jobs (table_of activities.now resources.now)))) }
