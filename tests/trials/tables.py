@@ -113,10 +113,10 @@ def words_of(cell):
 
 
 def checked_name(name, line):
-    if any(ord(c) < 32 for c in name):
-        raise Refused(f"T2 not text line {line}")
     if len(name.encode()) > LONGEST_NAME:
         raise Refused(f"T12 limit line {line}")
+    if any(ord(c) < 32 for c in name):
+        raise Refused(f"T2 not text line {line}")
     return name
 
 
@@ -131,10 +131,10 @@ def header_of(line, cells):
         keys.append(key)
         kind = COLUMNS.get(key, "resource") if key else "nothing"
         kinds.append(kind)
+        if kind == "resource" and len(resources) == MOST_RESOURCES:
+            raise Refused(f"T12 limit line {line}")
+        checked_name(name, line)
         if kind == "resource":
-            checked_name(name, line)
-            if len(resources) == MOST_RESOURCES:
-                raise Refused(f"T12 limit line {line}")
             resources.append(name)
     if "duration" not in kinds:
         raise Refused("T3 no column duration")
@@ -149,22 +149,21 @@ class Table:
     """What the records of a table say."""
 
     def __init__(self, found, given):
+        for line, cells in found[-1:]:
+            if cells is None:
+                raise Refused(f"T13 line {line} cells")
         line, cells = found[0] if found else (1, [])
-        if cells is None:
-            raise Refused(f"T13 line {line} cells")
         self.kinds, keys, self.resources = header_of(line, cells)
         self.id_at = keys.index("id") if "id" in keys else None
-        rows = [(n, c) for n, c in found[1:] if c is None or any(x.strip(BLANKS) for x in c)]
-        self.ids = [self.id_of(k, c) for k, (_, c) in enumerate(rows) if c is not None]
+        rows = [(n, c) for n, c in found[1:] if any(x.strip(BLANKS) for x in c)]
+        ids = [self.id_of(k, c) for k, (_, c) in enumerate(rows)]
+        names = [name for name in ids if name != "capacity" or self.id_at is None][:MOST_ROWS]
         self.numbers = {}
-        for name in self.ids:
-            if name != "capacity" or self.id_at is None:
-                self.numbers.setdefault(name, len(self.numbers) + 2)
+        for k, name in enumerate(names):
+            self.numbers.setdefault(name, k + 2)
         self.rows, self.capacities, self.seen, self.total = [], None, [], 0
-        for k, (n, c) in enumerate(rows):
-            if c is None:
-                raise Refused(f"T13 line {n} cells")
-            self.take(n, c, self.ids[k])
+        for (n, c), name in zip(rows, ids):
+            self.take(n, c, name)
         self.amounts = self.all_capacities(given)
         self.refuse_cycles()
 
@@ -184,9 +183,6 @@ class Table:
             cell = cells[k].strip(BLANKS) if k < len(cells) else ""
             if kind == "duration":
                 row["duration"] = amount(cell, f"T5 line {line} duration", line)
-                self.total += row["duration"]
-                if self.total > LONGEST_SUM:
-                    raise Refused(f"T12 limit line {line}")
             elif kind == "id":
                 if not is_id(cell):
                     raise Refused(f"T6 line {line} id")
@@ -205,6 +201,9 @@ class Table:
                 resource += 1
         if len(cells) > len(self.kinds):
             raise Refused(f"T13 line {line} cells")
+        self.total += row["duration"]
+        if self.total > LONGEST_SUM:
+            raise Refused(f"T12 limit line {line}")
         self.seen.append(name)
         self.rows.append(row)
 
@@ -248,8 +247,8 @@ class Table:
             j = min(i for i in before[j] if i in caught)
         cycle = path[path.index(j):][::-1]
         least = cycle.index(min(cycle))
-        ids = list(self.numbers)
-        raise Refused("T11 cycle " + " ".join(ids[j - 2] for j in cycle[least:] + cycle[:least]))
+        names = [self.seen[j - 2] for j in cycle[least:] + cycle[:least]]
+        raise Refused("T11 cycle " + " ".join(names))
 
     # ---- the text
 

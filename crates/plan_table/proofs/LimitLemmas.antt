@@ -202,23 +202,15 @@ pub record AreHeads (heads : List Head) : Type 0 where
   pub few : resources_in heads ≤ 16
   pub names : AllByRecursion (λ (h : Head). IsName h.name) heads
 
-count_at_most : (column : Column) → resource_count column ≤ 1
-count_at_most columns.Resource = omega arith
-count_at_most columns.Duration = omega arith
-count_at_most columns.Id = omega arith
-count_at_most columns.Name = omega arith
-count_at_most columns.Predecessors = omega arith
-count_at_most columns.Nothing = omega arith
-
-head_good : (line : ℕ) (before : List Head) (cell : List ℕ) (h : Head) → head_read line before cell ≡ Ok h → (resources_in before < 16) × IsName h.name
+head_good : (line : ℕ) (before : List Head) (cell : List ℕ) (h : Head) → head_read line before cell ≡ Ok h → (resources_in before + resource_count h.column ≤ 16) × IsName h.name
 unfolding head_read
 head_good line before cell h e =
     then_ok (once before cell) _ h e (λ u new e.
-    then_ok (check (nat_lt (resources_in before) 16) code.Limit line) _ h e (λ v room e.
-    then_ok (name line (trim cell)) _ h e (λ text is e. (
-      ltb-true (resources_in before) 16 (check_ok _ code.Limit line v room),
-      subst (λ (x : Head). IsName x.name) (same_ok (record { column = column_of (key_of cell); key = key_of cell; name = text }) h e) (name_good line (trim cell) text is),
-    ))))
+    then_ok (check (nat_le (resources_in before + resource_count (column_of (key_of cell))) 16) code.Limit line) _ h e (λ v room e.
+    then_ok (name line (trim cell)) _ h e (λ text is e.
+    subst (λ (x : Head). (resources_in before + resource_count x.column ≤ 16) × IsName x.name)
+    (same_ok (record { column = column_of (key_of cell); key = key_of cell; name = text }) h e)
+    (leb-true (resources_in before + resource_count (column_of (key_of cell))) 16 (check_ok _ code.Limit line v room), name_good line (trim cell) text is))))
 
 heads_good : (line : ℕ) (before : List Head) (cells : List (List ℕ)) (heads : List Head) → heads_at line before cells ≡ Ok heads → AreHeads before → AreHeads heads
 unfolding heads_at
@@ -227,9 +219,8 @@ heads_good line before (cell ∷ cells) heads e good =
     then_ok (head_read line before cell) _ heads e (λ h is e.
     let one = head_good line before cell h is in
     let sums = sum_by_push (λ (x : Head). resource_count x.column) before h in
-    let most = count_at_most h.column in
     heads_good line (before ++ h ∷ []) cells heads e (record {
-      few = omega (arith, sums, most, one.0);
+      few = omega (arith, sums, one.0);
       names = all_push (λ (x : Head). IsName x.name) before h good.names one.1;
     }))
 

@@ -1,5 +1,5 @@
 -- The header of a table: what each column has.
-use Rattle.std.specs.Prelude.{ℕ, ◌+◌, ◌==◌, ◌||◌, Bool, true, false, if◌then◌else◌, List, [], ◌∷◌, ◌++◌, Result, Ok, length, map, not, nat_lt, codes}
+use Rattle.std.specs.Prelude.{ℕ, ◌+◌, ◌==◌, ◌||◌, Bool, true, false, if◌then◌else◌, List, [], ◌∷◌, ◌++◌, Result, Ok, length, map, not, nat_le, codes}
 use Rattle.std.specs.List.{list_any, sum_by}
 use Rattle.std.specs.Char.{to_ascii_lowercase}
 use Rattle.std.specs.String.{string_bytes}
@@ -68,7 +68,7 @@ once before cell = if length (key_of cell) == 0 || not (has_key (key_of cell) be
 unfoldable pub head_read : ℕ → List Head → List ℕ → Result Head Fault
 head_read line before cell = do
   new ← once before cell
-  room ← check (nat_lt (resources_in before) most_resources) code.Limit line
+  room ← check (nat_le (resources_in before + resource_count (column_of (key_of cell))) most_resources) code.Limit line
   text ← name line (trim cell)
   Ok (record { column = column_of (key_of cell); key = key_of cell; name = text })
 

@@ -1,6 +1,6 @@
 //! The header of a table.
 
-ghost use Rattle.std.specs.Prelude.{◌≡◌, ◌≤◌, [], map, IfOk};
+ghost use Rattle.std.specs.Prelude.{◌≡◌, ◌≤◌, [], length, map, IfOk};
 ghost use Rattle.plan_table.specs.Header as spec;
 ghost use Rattle.plan_table.specs.Reading.{Gives};
 
@@ -97,7 +97,8 @@ fn resource_count(column: Column) -> usize
 
 /// How many columns are resources.
 pub fn resources_in(heads: &[Head]) -> usize
-    ensures { result ≡ spec.resources_in (map spec.head_of heads.now) }
+    ensures value { result ≡ spec.resources_in (map spec.head_of heads.now) }
+    ensures limit { result ≤ length heads.now }
 {
     let mut count = 0;
     for head in heads {
@@ -125,15 +126,12 @@ fn read_head(alloc: Global, line: u64, before: &[Head], cell: &[u8]) -> Result<H
 {
     let key = key_of(alloc, cell)?;
     check_once(alloc, before, &key, cell)?;
-    if resources_in(before) >= 16 {
+    let column = column_of(&key);
+    if resources_in(before) + resource_count(column) > 16 {
         return Err(word_fault(alloc, TableCode::Limit, line, b""));
     }
     let name = name(alloc, line, trim(cell))?;
-    Ok(Head {
-        column: column_of(&key),
-        key,
-        name,
-    })
+    Ok(Head { column, key, name })
 }
 
 // The columns of a header.
