@@ -1,12 +1,11 @@
 -- The ids of the activities of a cycle, and what a table is refused for.
-use Rattle.std.proofs.Common.{◌≡◌, ◌⊎◌, inl, inr, ℕ, zero, suc, ◌≤◌, ◌<◌, List, [], ◌∷◌, Result, Ok, Err, length, map, get_or, refl, sym, ap, ◌∙◌, arith}
+use Rattle.std.proofs.Common.{◌≡◌, inl, ℕ, zero, suc, ◌≤◌, ◌<◌, List, [], ◌∷◌, length, map, get_or, refl, sym, ap, arith}
 use Rattle.std.specs.String.{string_bytes}
-use Rattle.plan_net.specs.Cycle.{IsNamedCycle}
 use Rattle.plan_table.specs.declared.table.Activity as declared
 use Rattle.plan_table.specs.declared.fault.ReadError.{ReadError}
 use Rattle.plan_table.specs.declared.fault.ReadError.TheVariants as errors
 use Rattle.plan_table.specs.Reading.{Fails}
-use Rattle.plan_table.specs.Table.{Table, activity_of}
+use Rattle.plan_table.specs.Table.{activity_of}
 use Rattle.plan_table.specs.Listing.{table_read}
 use Rattle.plan_table.specs.Refused.{id_from, IsRefused}
 

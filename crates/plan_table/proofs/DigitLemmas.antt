@@ -1,9 +1,9 @@
 -- The decimal digits of a number: what their bytes are, and that they are read as the number.
-use Rattle.std.proofs.Common.{◌≡◌, ℕ, ◌+◌, ◌-◌, ◌*◌, ◌^◌, ◌≤◌, ◌<◌, ◌&&◌, Bool, true, false, List, [], ◌∷◌, Some, length, refl, sym, ap, ◌∙◌, subst, arith, rules, cond, None, Option}
+use Rattle.std.proofs.Common.{◌≡◌, ℕ, ◌+◌, ◌-◌, ◌*◌, ◌≤◌, ◌<◌, ◌&&◌, Bool, true, false, List, [], ◌∷◌, Some, length, refl, sym, ap, ◌∙◌, arith, rules, cond, None}
 use Rattle.std.specs.Prelude.{nat_le, not, fold}
 use Rattle.std.specs.List.{list_all}
 use Rattle.std.specs.Fmt.{decimal}
-use Rattle.std.proofs.lemmas.Bool.{agree_below, agree_below_at, ltb-true, leb-true, le-leb, and_parts, and_from, not-false}
+use Rattle.std.proofs.lemmas.Bool.{agree_below, agree_below_at, leb-true, le-leb, and_parts, and_from, not-false}
 use Rattle.std.proofs.lemmas.Fmt.{digits_decimal, digits_value-decimal, length-decimal-le, decimal_nonempty}
 use Rattle.std.proofs.lemmas.Str.Parse.{IsNumeralModel, numerals_by_fold}
 use Rattle.plan_psplib.specs.Numbers as numbers

@@ -1,5 +1,5 @@
 -- The jobs of a table within the limits: their successors, durations and needs.
-use Rattle.std.proofs.Common.{◌≡◌, ℕ, zero, suc, ◌+◌, ◌-◌, ◌≤◌, ◌<◌, Bool, true, false, List, [], ◌∷◌, ◌++◌, length, map, replicate, sum, refl, sym, ap, ◌∙◌, subst, arith, cond}
+use Rattle.std.proofs.Common.{◌≡◌, ℕ, zero, suc, ◌+◌, ◌≤◌, Bool, true, false, List, [], ◌∷◌, ◌++◌, length, map, replicate, sum, refl, sym, ◌∙◌, arith, cond}
 use Rattle.std.specs.Prelude.{nat_eq}
 use Rattle.std.specs.List.{AllByRecursion, IsDistinct, sum_by}
 use Rattle.std.proofs.lemmas.Bool.{ne_eqb}
@@ -9,10 +9,10 @@ use Rattle.plan_net.specs.Successors.{IsRow}
 use Rattle.plan_psplib.specs.Says.{IsNeeds}
 use Rattle.plan_table.specs.Numbered.{numbered}
 use Rattle.plan_table.specs.Table.{Activity, Resource, Table}
-use Rattle.plan_table.specs.Jobs.{Job, job_of, jobs_of, table_jobs, durations_of, dummy, is_first, follows, numbers_where, or_last, last_job_of, or_zero, capacities_of}
+use Rattle.plan_table.specs.Jobs.{Job, job_of, table_jobs, durations_of, dummy, is_first, follows, numbers_where, or_last, last_job_of, or_zero, capacities_of}
 use Rattle.plan_table.specs.Limits.{IsEntry, IsSupply, IsWithinLimits}
 use Rattle.plan_table.specs.ProjectText.{horizon_of}
-use Rattle.plan_table.proofs.JobLemmas.{all_jobs, IsShort, where_short, or_last_short}
+use Rattle.plan_table.proofs.JobLemmas.{all_jobs, where_short, or_last_short}
 
 all_along : {A : Type 0} (P Q : A → Type 0) → ((x : A) → P x → Q x) → (xs : List A) → AllByRecursion P xs → AllByRecursion Q xs
 all_along P Q f [] h = tt

@@ -1,20 +1,19 @@
 -- The lines of the head, and those before the sections that are read.
-use Rattle.std.proofs.Common.{◌≡◌, ℕ, zero, suc, ◌+◌, ◌-◌, ◌≤◌, ◌<◌, ◌&&◌, Bool, true, false, List, [], ◌∷◌, ◌++◌, Some, Option, length, map, take, drop, codes, refl, sym, ap, ◌∙◌, subst, append_assoc, append-nil, arith, cond}
+use Rattle.std.proofs.Common.{◌≡◌, ℕ, ◌<◌, ◌&&◌, Bool, true, false, List, [], ◌∷◌, ◌++◌, Some, map, take, drop, codes, refl, sym, ap, ◌∙◌, append-nil, arith, cond}
 use Rattle.std.specs.Prelude.{not}
 use Rattle.std.specs.List.{AllByRecursion, list_all}
 use Rattle.std.specs.Fmt.{decimal}
 use Rattle.std.proofs.lemmas.Bool.{and_from, not_from_false}
 use Rattle.std.proofs.lemmas.List.{take-map}
-use Rattle.std.proofs.lemmas.List.Folds.{list_all-map, list_all-append}
+use Rattle.std.proofs.lemmas.List.Folds.{list_all-map}
 use Rattle.plan_psplib.specs.Lines.{NumberedLine, is_blank, trim, trim_start, trim_end, before_trimmed, words}
 use Rattle.plan_psplib.specs.Numbers.{number}
 use Rattle.plan_psplib.specs.Sections.{is_kept, is_title, begins_with, before_title, key_line, value_word, first_of}
-use Rattle.plan_table.specs.Numbered.{numbered}
-use Rattle.plan_table.specs.Columns.{number_column, spaced}
-use Rattle.plan_table.specs.ProjectText.{placed, resource_head, resource_heads}
+use Rattle.plan_table.specs.Columns.{spaced}
+use Rattle.plan_table.specs.ProjectText.{placed}
 use Rattle.plan_table.proofs.DigitLemmas.{number-decimal}
-use Rattle.plan_table.proofs.LineLemmas.{IsPlain, plain_append, plain_decimal, plain_column, words-decimal, words-spaces, IsSolid, trim_end-before, solid_decimal}
-use Rattle.plan_table.proofs.SectionLemmas.{none_begins, no_titles, no_keys, kept_from, kept_at, key_at}
+use Rattle.plan_table.proofs.LineLemmas.{IsPlain, plain_append, plain_decimal, plain_column, words-decimal, words-spaces, trim_end-before, solid_decimal}
+use Rattle.plan_table.proofs.SectionLemmas.{none_begins, kept_from, kept_at, key_at}
 use Rattle.plan_table.proofs.TextLineLemmas.{rule, head_lines, numbers_row, information_lines}
 
 -- ---- trimmed lines by their first byte

@@ -1,5 +1,5 @@
 -- What the text of a table says: the project of the table.
-use Rattle.std.proofs.Common.{◌≡◌, ◌≢◌, ℕ, zero, suc, ◌+◌, ◌-◌, ◌≤◌, ◌<◌, ◌&&◌, Bool, true, false, List, [], ◌∷◌, ◌++◌, Some, Option, length, map, sum, drop, codes, refl, sym, ap, ◌∙◌, subst, append_assoc, append-nil, arith, cond}
+use Rattle.std.proofs.Common.{◌≡◌, ◌≢◌, ℕ, ◌+◌, ◌≤◌, Bool, true, false, List, [], ◌∷◌, ◌++◌, Some, length, map, sum, codes, refl, sym, ap, ◌∙◌, subst, append-nil, arith, cond}
 use Rattle.std.specs.Prelude.{not, All, nat_le}
 use Rattle.std.specs.List.{AllByRecursion, list_all, flat_map}
 use Rattle.std.specs.Fmt.{decimal}
@@ -14,17 +14,16 @@ use Rattle.plan_net.specs.Limits.{IsSound}
 use Rattle.plan_psplib.specs.Document.{Document}
 use Rattle.plan_psplib.specs.Project.{Project, SaysProject}
 use Rattle.plan_psplib.proofs.NetworkLemmas.{project_good}
-use Rattle.plan_psplib.specs.Lines.{NumberedLine, raw_lines, trim, trim_end, before_trimmed}
+use Rattle.plan_psplib.specs.Lines.{raw_lines, trim, trim_end, before_trimmed}
 use Rattle.plan_psplib.specs.Lines.{words as words_in}
 use Rattle.plan_psplib.specs.Numbers.{number}
-use Rattle.plan_psplib.specs.Streams.{Stream, LineWord, words_of}
-use Rattle.plan_psplib.specs.Sections.{kept_lines, head_of, section, section_from, before_title, key_line, is_kept, is_title, begins_with, precedence_title, requests_title, availabilities_title}
+use Rattle.plan_psplib.specs.Streams.{Stream, LineWord}
+use Rattle.plan_psplib.specs.Sections.{kept_lines, section, section_from, before_title, key_line, is_kept, is_title, begins_with, precedence_title, requests_title, availabilities_title}
 use Rattle.plan_psplib.specs.Says.{Says, HasValue, IsNeeds, SpellsArcs, Spells, SectionSpells, precedence_numbers, request_numbers}
 use Rattle.plan_table.specs.Numbered.{numbered}
 use Rattle.plan_table.specs.Columns.{number_column, spaced, places_at, columns}
 use Rattle.plan_table.specs.Jobs.{Job, rows_of, durations_of, network_of}
 use Rattle.plan_table.specs.ProjectText.{resource_head, resource_heads}
-use Rattle.plan_table.proofs.LineLemmas.{IsPlain, plain_append, plain_decimal}
 use Rattle.plan_table.proofs.RowLemmas.{IsRow, row_is, blank_row, tail_columns}
 use Rattle.plan_table.proofs.SectionLemmas.{kept_from, none_begins, no_titles, section_past, section_at, section_words, numbers_in, words_numbers}
 use Rattle.plan_table.proofs.TextLineLemmas.{rule, dashes, head_lines, information_lines, precedence_row, precedence_lines, request_row, request_lines, availability_lines}

@@ -1,18 +1,18 @@
 -- Lines: how a text is cut into them, and what a line is without the blanks at its ends.
-use Rattle.std.proofs.Common.{◌≡◌, ℕ, zero, suc, ◌+◌, ◌-◌, ◌≤◌, ◌<◌, Bool, true, false, List, [], ◌∷◌, ◌++◌, length, map, filter, replicate, refl, sym, ap, ◌∙◌, subst, append_assoc, append-nil, arith, cond, ◌⊎◌, inl, inr}
+use Rattle.std.proofs.Common.{◌≡◌, ℕ, zero, suc, ◌-◌, ◌<◌, Bool, true, false, List, [], ◌∷◌, ◌++◌, length, filter, replicate, refl, sym, ap, ◌∙◌, subst, append_assoc, append-nil, arith, cond}
 use Rattle.std.specs.Prelude.{nat_le, not, All}
 use Rattle.std.specs.List.{list_all, slice_split}
 use Rattle.std.specs.Fmt.{decimal}
-use Rattle.std.proofs.lemmas.Bool.{agree_below, agree_below_at, leb-true, eqb-true, and_parts, and_from, not-true}
+use Rattle.std.proofs.lemmas.Bool.{leb-true, eqb-true, and_parts, and_from, not-true}
 use Rattle.std.proofs.lemmas.List.{length-append}
 use Rattle.std.proofs.lemmas.Fmt.{decimal_nonempty}
 use Rattle.std.proofs.lemmas.List.Elements.{All-weaker}
 use Rattle.std.proofs.lemmas.List.Sums.{AllPass-from_list_all}
 use Rattle.std.proofs.lemmas.List.Folds.{list_all-append}
 use Rattle.std.proofs.lemmas.List.Splits.{slice_split_at, slice_split_none, slice_split-cons_yes, length-slice_split}
-use Rattle.plan_psplib.specs.Lines.{is_line_feed, is_blank, is_nonempty, without_empty_end, raw_lines, trim_start, before_trimmed, trim_end, trim, words}
-use Rattle.plan_table.specs.Columns.{number_column, spaced}
-use Rattle.plan_table.proofs.DigitLemmas.{HasFirst, decimal_first, decimal_passes, all_weaker}
+use Rattle.plan_psplib.specs.Lines.{is_line_feed, is_blank, is_nonempty, without_empty_end, raw_lines, trim_start, before_trimmed, trim_end, words}
+use Rattle.plan_table.specs.Columns.{number_column}
+use Rattle.plan_table.proofs.DigitLemmas.{decimal_first, decimal_passes}
 
 -- a byte that is no control character
 abbrev pub is_plain : ℕ → Bool

@@ -1,5 +1,5 @@
 -- The network of a table within the limits.
-use Rattle.std.proofs.Common.{◌≡◌, ℕ, zero, suc, ◌+◌, ◌-◌, ◌≤◌, List, [], ◌∷◌, length, map, take, get_or, slice_index, sum, sym, subst, ap, ◌∙◌, arith}
+use Rattle.std.proofs.Common.{◌≡◌, ℕ, zero, suc, ◌+◌, ◌-◌, ◌≤◌, List, [], ◌∷◌, length, slice_index, sym, subst, ◌∙◌, arith}
 use Rattle.std.specs.List.{AllByRecursion}
 use Rattle.std.proofs.lemmas.List.{length-map}
 use Rattle.std.proofs.lemmas.List.Sums.{sum_by-take-le}
@@ -7,10 +7,10 @@ use Rattle.plan_net.specs.Network.{unlagged}
 use Rattle.plan_net.specs.Limits.{HasGoodSize, HasGoodDurations}
 use Rattle.plan_net.specs.Successors.{AreRows}
 use Rattle.plan_table.specs.Table.{Table}
-use Rattle.plan_table.specs.Jobs.{Job, table_jobs, durations_of, rows_of, capacities_of}
+use Rattle.plan_table.specs.Jobs.{table_jobs, durations_of, rows_of, capacities_of}
 use Rattle.plan_table.specs.Limits.{IsWithinLimits}
 use Rattle.plan_table.proofs.JobLemmas.{jobs_count}
-use Rattle.plan_table.proofs.GoodJobLemmas.{IsGoodJob, good_jobs, jobs_total}
+use Rattle.plan_table.proofs.GoodJobLemmas.{good_jobs, jobs_total}
 use Rattle.plan_table.proofs.LawLemmas.{job_rows, job_durations}
 
 durations_count : (t : Table) → length (durations_of (table_jobs t)) ≡ length t.activities + 2

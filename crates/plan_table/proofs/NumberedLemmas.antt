@@ -1,5 +1,5 @@
 -- The next element of a list with its number.
-use Rattle.std.proofs.Common.{◌≡◌, ℕ, suc, ◌+◌, ◌<◌, ◌≤◌, List, [], ◌∷◌, ◌++◌, length, map, take, get_or, refl, sym, ap, ◌∙◌, append_assoc, append-nil, arith, length-take-le}
+use Rattle.std.proofs.Common.{◌≡◌, ℕ, ◌+◌, ◌<◌, List, [], ◌∷◌, ◌++◌, length, map, take, get_or, sym, ap, ◌∙◌, append_assoc, append-nil, arith, length-take-le}
 use Rattle.std.proofs.lemmas.List.{map_more, take_more, length-map}
 use Rattle.plan_table.specs.Numbered.{numbered}
 

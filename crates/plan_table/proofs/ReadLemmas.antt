@@ -1,5 +1,5 @@
 -- Reading in two steps.
-use Rattle.std.proofs.Common.{◌≡◌, ℕ, ◌≤◌, List, [], Vec, Result, Ok, Err, length, map, drop, take, true, false, sym, ap, ◌∙◌}
+use Rattle.std.proofs.Common.{◌≡◌, ℕ, ◌≤◌, List, [], Vec, Result, Ok, length, map, drop, take, true, false, sym, ap, ◌∙◌}
 use Rattle.std.specs.Str.{IsUtf8, is_utf8}
 use Rattle.std.proofs.lemmas.Bool.{false_from_ne_true}
 use Rattle.std.proofs.lemmas.Str.{IsUtf8-from_is_utf8, is_utf8-from_IsUtf8}
@@ -8,7 +8,7 @@ use Rattle.std.proofs.lemmas.List.{drop-map, drop_all, take-map, take_all}
 use Rattle.plan_table.specs.Rows.{first_cell}
 use Rattle.plan_table.specs.declared.fault.ReadError.{ReadError}
 use Rattle.plan_table.specs.declared.fault.ReadError.TheVariants as errors
-use Rattle.plan_table.specs.Reading.{Fault, ◌>>=◌, Fails, fault_of}
+use Rattle.plan_table.specs.Reading.{Fault, ◌>>=◌, Fails}
 
 -- what fails first fails the whole
 pub fails_first : {A B : Type 0} (e : ReadError) (first : Result A Fault) (next : A → Result B Fault) (total : Result B Fault) → Fails e first → (first >>= next) ≡ total → Fails e total

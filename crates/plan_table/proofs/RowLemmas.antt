@@ -1,16 +1,16 @@
 -- Rows: lines of numbers, and what is read in them.
-use Rattle.std.proofs.Common.{◌≡◌, ℕ, zero, suc, ◌+◌, ◌-◌, ◌≤◌, ◌<◌, ◌&&◌, ◌||◌, Bool, true, false, List, [], ◌∷◌, ◌++◌, Some, length, map, replicate, codes, refl, sym, ap, ◌∙◌, subst, append_assoc, append-nil, arith, cond, ◌⊎◌, inl, inr}
+use Rattle.std.proofs.Common.{◌≡◌, ℕ, ◌+◌, ◌<◌, ◌&&◌, ◌||◌, Bool, true, false, List, [], ◌∷◌, ◌++◌, Some, map, refl, sym, ap, ◌∙◌, subst, append-nil, ◌⊎◌, inl, inr}
 use Rattle.std.specs.Prelude.{not, nat_eq}
 use Rattle.std.specs.List.{list_all, AllByRecursion}
 use Rattle.std.specs.Fmt.{decimal}
-use Rattle.std.proofs.lemmas.Bool.{and_from, and_parts, not-true}
-use Rattle.plan_psplib.specs.Lines.{trim_start, trim_end, trim, words}
+use Rattle.std.proofs.lemmas.Bool.{and_parts, not-true}
+use Rattle.plan_psplib.specs.Lines.{trim_end, trim, words}
 use Rattle.plan_psplib.specs.Numbers.{is_digit, number}
 use Rattle.plan_psplib.specs.Sections.{is_rule_byte, is_kept, is_title}
 use Rattle.plan_table.specs.Numbered.{numbered}
-use Rattle.plan_table.specs.Columns.{number_column, spaced, places_at, columns}
-use Rattle.plan_table.proofs.DigitLemmas.{HasFirst, decimal_first, decimal_digits, digit_passes, number-decimal}
-use Rattle.plan_table.proofs.LineLemmas.{IsPlain, plain_append, plain_decimal, plain_column, StartsBlank, words-blank, words-decimal, words-column, trim_start-column, IsSolid, trim_end-before, solid_before, solid_decimal, solid_column}
+use Rattle.plan_table.specs.Columns.{number_column, spaced}
+use Rattle.plan_table.proofs.DigitLemmas.{decimal_first, decimal_digits, digit_passes, number-decimal}
+use Rattle.plan_table.proofs.LineLemmas.{IsPlain, plain_append, plain_column, StartsBlank, words-blank, words-decimal, words-column, trim_start-column, IsSolid, solid_before, solid_decimal, solid_column}
 
 -- the texts of numbers behind other numbers
 pub record IsTail (text : List ℕ) (numbers : List ℕ) : Type 0 where

@@ -1,20 +1,18 @@
 -- The rows of jobs: what holds of all of them, and the numbers that they give.
-use Rattle.std.proofs.Common.{◌≡◌, ℕ, zero, suc, ◌+◌, ◌-◌, ◌≤◌, ◌<◌, ◌&&◌, Bool, true, false, List, [], ◌∷◌, ◌++◌, Some, Option, length, map, refl, sym, ap, ◌∙◌, subst, append_assoc, append-nil, arith, cond}
+use Rattle.std.proofs.Common.{◌≡◌, ℕ, ◌+◌, ◌≤◌, ◌<◌, true, false, List, [], ◌∷◌, ◌++◌, Some, length, map, refl, sym, ap, ◌∙◌, append_assoc, arith, cond}
 use Rattle.std.specs.Prelude.{not}
-use Rattle.std.specs.List.{AllByRecursion, list_all, flat_map}
+use Rattle.std.specs.List.{AllByRecursion, flat_map}
 use Rattle.std.proofs.lemmas.Bool.{and_from, not_from_false, or_parts}
 use Rattle.std.proofs.lemmas.List.{map-append}
-use Rattle.std.proofs.lemmas.List.Folds.{list_all-append}
-use Rattle.plan_net.specs.Successors as successors
 use Rattle.plan_psplib.specs.Lines.{trim, words}
 use Rattle.plan_psplib.specs.Numbers.{number}
-use Rattle.plan_psplib.specs.Sections.{is_kept, is_title, begins_with, precedence_title, requests_title, availabilities_title}
+use Rattle.plan_psplib.specs.Sections.{is_title, begins_with, requests_title, availabilities_title}
 use Rattle.plan_psplib.specs.Says.{precedence_numbers, request_numbers}
 use Rattle.plan_table.specs.Numbered.{numbered}
-use Rattle.plan_table.specs.Columns.{number_column, spaced, places_at, columns}
+use Rattle.plan_table.specs.Columns.{spaced, places_at, columns}
 use Rattle.plan_table.specs.Jobs.{Job, durations_of, rows_of}
 use Rattle.plan_table.proofs.LineLemmas.{IsPlain}
-use Rattle.plan_table.proofs.RowLemmas.{IsRow, IsTail, tail_more, tail_columns, row_is}
+use Rattle.plan_table.proofs.RowLemmas.{IsRow, tail_more, tail_columns, row_is}
 use Rattle.plan_table.proofs.SectionLemmas.{none_begins, no_titles, numbers_in}
 use Rattle.plan_table.proofs.TextLineLemmas.{precedence_row, request_row}
 use Rattle.plan_table.proofs.GoodJobLemmas.{IsGoodJob}

@@ -1,14 +1,13 @@
 -- The kept lines of a text, its sections, and its keys.
-use Rattle.std.proofs.Common.{◌≡◌, ℕ, zero, suc, ◌+◌, ◌≤◌, ◌<◌, ◌&&◌, ◌||◌, Bool, true, false, List, [], ◌∷◌, ◌++◌, Option, Some, length, map, filter, drop, codes, refl, sym, ap, ◌∙◌, subst, append_assoc, append-nil, arith, cond}
+use Rattle.std.proofs.Common.{◌≡◌, ℕ, ◌+◌, ◌&&◌, Bool, true, false, List, [], ◌∷◌, ◌++◌, Option, Some, map, filter, drop, refl, ap, ◌∙◌, append-nil, cond}
 use Rattle.std.specs.Prelude.{not}
 use Rattle.std.specs.List.{list_all, flat_map}
 use Rattle.std.proofs.lemmas.Bool.{and_parts, not-true}
 use Rattle.std.proofs.lemmas.List.{map-append}
-use Rattle.plan_psplib.specs.Lines.{NumberedLine, trim, words, numbered_from, raw_lines, lines}
+use Rattle.plan_psplib.specs.Lines.{NumberedLine, trim, words, numbered_from}
 use Rattle.plan_psplib.specs.Numbers.{number}
-use Rattle.plan_psplib.specs.Streams.{LineWord, Stream, words_at, words_of, before_end}
-use Rattle.plan_psplib.specs.Sections.{is_kept, kept_lines, begins_with, is_title, before_title, section, section_from, key_line}
-use Rattle.plan_psplib.specs.Says.{Spells}
+use Rattle.plan_psplib.specs.Streams.{LineWord, words_at, words_of}
+use Rattle.plan_psplib.specs.Sections.{is_kept, begins_with, is_title, before_title, section, section_from, key_line}
 
 -- the kept ones of lines, of which the first has the number n
 abbrev pub kept_from : ℕ → List (List ℕ) → List NumberedLine

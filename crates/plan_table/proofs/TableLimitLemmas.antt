@@ -1,6 +1,6 @@
 -- The table that a text says is within the limits.
-use Rattle.std.proofs.Common.{◌≡◌, ℕ, zero, suc, ◌+◌, ◌≤◌, ◌<◌, ◌==◌, ◌&&◌, Bool, true, false, List, [], ◌∷◌, ◌++◌, Option, Some, None, Result, Ok, Err, length, map, refl, sym, ap, ◌∙◌, subst, arith, cond}
-use Rattle.std.specs.Prelude.{nat_le, nat_lt, slice_index_or, is_some, take, drop, fold, not, codes}
+use Rattle.std.proofs.Common.{◌≡◌, ℕ, zero, suc, ◌+◌, ◌≤◌, ◌<◌, ◌==◌, ◌&&◌, Bool, true, false, List, [], ◌∷◌, ◌++◌, Option, Some, None, Ok, length, refl, sym, ap, ◌∙◌, subst, arith, cond}
+use Rattle.std.specs.Prelude.{nat_le, nat_lt, slice_index_or, is_some, take, drop, fold, not}
 use Rattle.std.specs.List.{AllByRecursion, sum_by}
 use Rattle.std.proofs.lemmas.Bool.{leb-true, ltb-true, lt-ltb}
 use Rattle.std.proofs.lemmas.List.Sums.{sum_by-cons, sum_by_push}
@@ -11,14 +11,14 @@ use Rattle.plan_table.specs.declared.header.Column.{Column}
 use Rattle.plan_table.specs.declared.header.Column.TheVariants as columns
 use Rattle.plan_table.specs.Csv.{Row, records_of}
 use Rattle.plan_table.specs.Limits.{IsName, IsEntry, IsSupply, IsWithinLimits}
-use Rattle.plan_table.specs.Reading.{Fault, ◌>>=◌, fault, check}
+use Rattle.plan_table.specs.Reading.{◌>>=◌, check}
 use Rattle.plan_table.specs.Cells.{amount}
 use Rattle.plan_table.specs.Header.{Head, resource_count, resources_in, header}
 use Rattle.plan_table.specs.Rows.{activity_read, first_cell}
 use Rattle.plan_table.specs.Entries.{Entries, is_blank_row, is_capacity, id_of, id_place, with_id, takes, pushed, ids_of, added, activity_row, first_capacities, capacity_in, capacity_read, capacities_read, capacity_row, filled_row, row_by, entry_read, entries_at, entries_in, no_entries}
 use Rattle.plan_table.specs.Listing.{known_capacity, resource_by, resource_read, resources_at, or_none, table_in, utf8, closed, table_read}
 use Rattle.plan_table.specs.Table.{Activity, Resource, Table}
-use Rattle.plan_table.proofs.LimitLemmas.{then_ok, same_ok, check_ok, all_push, push_length, amount_small, IsDraft, activity_draft, AreHeads, header_good}
+use Rattle.plan_table.proofs.LimitLemmas.{then_ok, same_ok, check_ok, all_push, push_length, amount_small, IsDraft, activity_draft, header_good}
 
 -- ---- capacities
 

@@ -1,6 +1,5 @@
 -- The text of a table within the limits.
-use Rattle.std.proofs.Common.{◌≡◌, ℕ, zero, suc, ◌+◌, ◌-◌, ◌≤◌, ◌<◌, ◌&&◌, Bool, true, false, List, [], ◌∷◌, ◌++◌, length, map, sum, codes, refl, sym, ap, ◌∙◌, subst, append_assoc, append-nil, arith}
-use Rattle.std.specs.Prelude.{nat_le}
+use Rattle.std.proofs.Common.{◌≡◌, ℕ, ◌+◌, ◌≤◌, ◌<◌, true, List, [], ◌∷◌, ◌++◌, length, codes, refl, sym, ap, ◌∙◌, subst, append_assoc, arith}
 use Rattle.std.specs.List.{AllByRecursion, list_all}
 use Rattle.std.specs.Fmt.{decimal}
 use Rattle.std.proofs.lemmas.Bool.{and_from, le-leb, leb-true}
@@ -8,20 +7,18 @@ use Rattle.std.proofs.lemmas.List.Folds.{list_all-append}
 use Rattle.plan_psplib.specs.Lines.{raw_lines}
 use Rattle.plan_psplib.specs.Project.{SaysProject}
 use Rattle.plan_table.specs.Numbered.{numbered}
-use Rattle.plan_table.specs.Columns.{columns}
 use Rattle.plan_table.specs.Table.{Activity, Resource, Table}
-use Rattle.plan_table.specs.Jobs.{Job, table_jobs, durations_of, capacities_of, project_of}
+use Rattle.plan_table.specs.Jobs.{Job, table_jobs, capacities_of, project_of}
 use Rattle.plan_table.specs.Limits.{IsEntry, IsSupply, IsWithinLimits, IsTable}
-use Rattle.plan_table.specs.ProjectText.{resource_head, resource_heads, rule_line, head_text, information_text, front_text, precedence_text, requests_text, availabilities_text, sections_text, name_line, name_line_of, resource_line, names_text, horizon_of, project_text}
+use Rattle.plan_table.specs.ProjectText.{resource_head, resource_heads, rule_line, head_text, front_text, sections_text, name_line, name_line_of, resource_line, names_text, horizon_of, project_text}
 use Rattle.plan_table.proofs.DigitLemmas.{all_weaker}
 use Rattle.plan_table.proofs.LineLemmas.{is_plain, IsPlain, plain_append, plain_decimal, raw_line}
 use Rattle.plan_table.proofs.JobLemmas.{jobs_count}
 use Rattle.plan_table.proofs.GoodJobLemmas.{IsGoodJob, good_jobs, jobs_total, good_capacities, capacities_fit}
-use Rattle.plan_table.proofs.RowLemmas.{IsRow}
 use Rattle.plan_table.proofs.RowListLemmas.{AreRows, row_lines, rows_plain, precedence_rows, request_rows, precedence_gives, request_gives}
-use Rattle.plan_table.proofs.TextLineLemmas.{lines_before, IsLines, lines_both, raw_lines-before, rule, dashes, head_lines, information_lines, precedence_row, precedence_lines, request_row, request_lines, availability_lines, head_is_lines, information_is_lines, precedence_is_lines, requests_are_lines, availabilities_are_lines}
+use Rattle.plan_table.proofs.TextLineLemmas.{lines_before, IsLines, lines_both, raw_lines-before, rule, head_lines, information_lines, precedence_row, precedence_lines, request_row, request_lines, availability_lines, head_is_lines, information_is_lines, precedence_is_lines, requests_are_lines, availabilities_are_lines}
 use Rattle.plan_table.proofs.HeadLemmas.{AreSmall, head_plain, information_plain}
-use Rattle.plan_table.proofs.LawLemmas.{IsLaidOut, IsText, capacities_row, request_head, is_some_byte, says_project}
+use Rattle.plan_table.proofs.LawLemmas.{IsText, capacities_row, is_some_byte, says_project}
 
 all_both : {A : Type 0} (P : A → Type 0) (xs ys : List A) → AllByRecursion P xs → AllByRecursion P ys → AllByRecursion P (xs ++ ys)
 all_both P [] ys h k = k

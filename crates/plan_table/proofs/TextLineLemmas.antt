@@ -1,12 +1,12 @@
 -- The sections of a table's text as lines.
-use Rattle.std.proofs.Common.{◌≡◌, ℕ, zero, suc, ◌+◌, ◌-◌, ◌≤◌, ◌<◌, List, [], ◌∷◌, ◌++◌, length, map, codes, refl, sym, ap, ◌∙◌, subst, append_assoc, append-nil, arith}
+use Rattle.std.proofs.Common.{◌≡◌, ℕ, ◌+◌, List, [], ◌∷◌, ◌++◌, length, codes, refl, sym, ap, ◌∙◌, subst, append_assoc}
 use Rattle.std.specs.Fmt.{decimal}
 use Rattle.std.specs.List.{AllByRecursion}
 use Rattle.plan_psplib.specs.Lines.{raw_lines}
 use Rattle.plan_table.specs.Numbered.{numbered}
 use Rattle.plan_table.specs.Columns.{number_column, spaced, columns}
 use Rattle.plan_table.specs.Jobs.{Job}
-use Rattle.plan_table.specs.ProjectText.{rule_line, counted, placed, opening, counts, head_text, numbers_line, information_text, precedence_line, precedence_text, resource_heads, request_line, request_heads, requests_text, availabilities_text}
+use Rattle.plan_table.specs.ProjectText.{rule_line, counted, placed, opening, counts, head_text, information_text, precedence_line, precedence_text, resource_heads, request_line, request_heads, requests_text, availabilities_text}
 use Rattle.plan_table.proofs.LineLemmas.{IsPlain, raw_line}
 
 -- lines, each with its end, before a text

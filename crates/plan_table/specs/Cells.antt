@@ -4,7 +4,7 @@ use Rattle.std.specs.List.{list_all}
 use Rattle.std.specs.Str.Lossy.{utf8_lossy}
 use Rattle.plan_table.specs.declared.fault.TableCode.{TableCode}
 use Rattle.plan_table.specs.declared.fault.TableCode.TheVariants as code
-use Rattle.plan_psplib.specs.Lines.{is_blank, words}
+use Rattle.plan_psplib.specs.Lines.{words}
 use Rattle.plan_psplib.specs.Numbers.{number}
 use Rattle.plan_psplib.specs.Sections.{begins_with}
 use Rattle.plan_psplib.specs.Tokens.{greatest}

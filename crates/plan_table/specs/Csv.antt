@@ -3,7 +3,7 @@ use Rattle.std.specs.Prelude.{ℕ, ◌+◌, ◌==◌, Bool, true, false, if◌th
 use Rattle.std.specs.List.{list_any, position, starts_with}
 use Rattle.std.specs.declared.alloc.Global.{Global}
 use Rattle.plan_psplib.specs.Lines.{is_line_feed}
-use Rattle.csv.specs.Machine.{step, is_end, fields_after, field_after, ends_at_end}
+use Rattle.csv.specs.Machine.{step, ends_at_end}
 use Rattle.csv.specs.Reading.{default_config}
 use Rattle.csv.specs.declared.parser.Config.{Config}
 use Rattle.csv.specs.declared.parser.State as machine

@@ -1,5 +1,5 @@
 -- The limits of a table.
-use Rattle.std.specs.Prelude.{ℕ, ◌≡◌, ◌+◌, ◌≤◌, Bool, true, List, length, nat_le}
+use Rattle.std.specs.Prelude.{ℕ, ◌≡◌, ◌+◌, ◌≤◌, true, List, length, nat_le}
 use Rattle.std.specs.List.{AllByRecursion, list_all, sum_by}
 use Rattle.plan_net.specs.Limits.{IsSound, longest_duration, longest_sum}
 use Rattle.plan_psplib.specs.Head.{most_resources}

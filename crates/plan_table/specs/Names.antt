@@ -1,5 +1,5 @@
 -- The names in a project file: lines in the section behind the availabilities.
-use Rattle.std.specs.Prelude.{ℕ, ◌==◌, Bool, if◌then◌else◌, List, [], ◌∷◌, Option, Some, None, codes, drop, take, length}
+use Rattle.std.specs.Prelude.{ℕ, ◌==◌, if◌then◌else◌, List, [], ◌∷◌, Option, Some, None, codes, drop, take, length}
 use Rattle.std.specs.List.{filter_map, find, position}
 use Rattle.plan_table.specs.declared.names.NameLine as declared
 use Rattle.plan_psplib.specs.Lines.{NumberedLine, lines, is_blank, trim_start}

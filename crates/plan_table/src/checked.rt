@@ -69,8 +69,8 @@ pub fn check(alloc: Global, activities: &[Activity], resources: &[Resource]) -> 
 impl Table {
     /// The table of these activities and resources.
     ///
-    /// The limits are the caller's, so it is refused with [`NetFault::Cycle`] alone, which names the
-    /// activities by their numbers, or with [`NetFault::NoMemory`] in place of any answer.
+    /// The limits are the caller's, so it is refused with [`NetFault::Cycle`] alone, which names
+    /// the activities by their numbers, or with [`NetFault::NoMemory`] in place of any answer.
     pub fn new(
         alloc: Global,
         activities: Vec<Activity>,

@@ -38,7 +38,8 @@ pub fn push_spaced(
     places: usize,
     n: u32,
 ) -> Result<(), AllocError>
-    ensures { OnOk result (string_bytes text.new ≡ string_bytes text.old ++ spec.spaced places n) }
+    ensures { OnOk result
+        (string_bytes text.new ≡ string_bytes text.old ++ spec.spaced places n) }
 {
     text.push_str(" ")?;
     push_number(alloc, text, places, n)

@@ -96,8 +96,8 @@ fn names_behind<'a>(
     Ok(names)
 }
 
-/// The names of activities in a project file, in the order of their lines. The first name of a number
-/// counts.
+/// The names of activities in a project file, in the order of their lines. The first name of a
+/// number counts.
 pub fn activity_names(alloc: Global, text: &[u8]) -> Result<Vec<NameLine<'_>>, AllocError>
     ensures { IfOk result (λ names. map spec.name_of names.items
         ≡ spec.names_behind spec.activity_key text.now) }
@@ -105,8 +105,8 @@ pub fn activity_names(alloc: Global, text: &[u8]) -> Result<Vec<NameLine<'_>>, A
     names_behind(alloc, b"name ", text)
 }
 
-/// The names of resources in a project file, in the order of their lines. The first name of a number
-/// counts.
+/// The names of resources in a project file, in the order of their lines. The first name of a
+/// number counts.
 pub fn resource_names(alloc: Global, text: &[u8]) -> Result<Vec<NameLine<'_>>, AllocError>
     ensures { IfOk result (λ names. map spec.name_of names.items
         ≡ spec.names_behind spec.resource_key text.now) }

@@ -216,8 +216,8 @@ fn read(alloc: Global, text: &[u8]) -> Result<Machine, AllocError>
 
 /// The records of a table's text, or the line of a record in which a quote isn't closed.
 ///
-/// The delimiter is the first of tab, semicolon and comma that the first line has; a byte-order mark
-/// is skipped. Records are those of the `csv` crate (RFC 4180).
+/// The delimiter is the first of tab, semicolon and comma that the first line has; a byte-order
+/// mark is skipped. Records are those of the `csv` crate (RFC 4180).
 #[tactic(auto, unfolding(crate::specs::Csv::records_of))]
 pub fn read_records(alloc: Global, text: &[u8]) -> Result<Result<Vec<Row>, u64>, AllocError>
     requires { length text.now ≤ longest_text }

@@ -211,7 +211,8 @@ fn push_precedences(alloc: Global, text: &mut String, jobs: &[Job]) -> Result<()
 
 // The head of the column of a resource.
 fn push_resource_head(text: &mut String, i: u32) -> Result<(), AllocError>
-    ensures { OnOk result (string_bytes text.new ≡ string_bytes text.old ++ spec.resource_head i) }
+    ensures { OnOk result
+        (string_bytes text.new ≡ string_bytes text.old ++ spec.resource_head i) }
 {
     write!(text, "  R {i}")
 }

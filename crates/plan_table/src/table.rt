@@ -3,8 +3,8 @@
 use std::alloc::Global;
 use std::marker::Model;
 
-/// An activity: its id, its name, its duration, the numbers of its predecessors, and what it needs of
-/// each resource.
+/// An activity: its id, its name, its duration, the numbers of its predecessors, and what it
+/// needs of each resource.
 #[derive(Drop)]
 pub struct Activity {
     pub id: String,

@@ -1,4 +1,4 @@
-use Rattle.std.proofs.Common.{◌≡◌, ℕ, List, [], length, map, sym, ap, ◌∙◌, subst}
+use Rattle.std.proofs.Common.{ℕ, List, [], length, map, sym, ap, ◌∙◌, subst}
 use Rattle.plan_net.specs.Network.{unlagged}
 use Rattle.plan_net.specs.Limits.{HasGoodSize, HasGoodDurations}
 use Rattle.plan_net.specs.Successors.{AreRows, rows_in}

@@ -1,4 +1,4 @@
-use Rattle.std.proofs.Common.{◌≡◌, ◌++◌, take, map}
+use Rattle.std.proofs.Common.{◌≡◌, ◌++◌, take}
 use Rattle.std.specs.String.{string_bytes}
 use Rattle.plan_table.specs.Columns.{columns}
 use Rattle.plan_table.proofs.columns.push_columns.Given as goal

@@ -1,4 +1,4 @@
-use Rattle.std.proofs.Common.{◌≡◌, ◌==◌, length, ap, ◌∙◌, arith}
+use Rattle.std.proofs.Common.{◌==◌, length, ap, ◌∙◌, arith}
 use Rattle.plan_table.specs.Jobs.{is_first}
 use Rattle.plan_table.proofs.JobLemmas.{next_number}
 use Rattle.plan_table.proofs.jobs.first_activities.Goals as goal

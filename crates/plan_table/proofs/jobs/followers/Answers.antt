@@ -1,4 +1,4 @@
-use Rattle.std.proofs.Common.{◌≡◌, ◌==◌, ap, ◌∙◌, arith, ℕ}
+use Rattle.std.proofs.Common.{◌==◌, ap, ◌∙◌, arith}
 use Rattle.std.specs.List.{list_any}
 use Rattle.plan_table.specs.Jobs.{follows}
 use Rattle.plan_table.proofs.JobLemmas.{next_number}

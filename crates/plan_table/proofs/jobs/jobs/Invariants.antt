@@ -1,4 +1,4 @@
-use Rattle.std.proofs.Common.{◌≡◌, [], ◌∷◌, take, map}
+use Rattle.std.proofs.Common.{◌≡◌, ◌∷◌, take, map}
 use Rattle.plan_table.specs.Table.{activity_of}
 use Rattle.plan_table.specs.Jobs.{job_in, dummy, numbers_where, is_first}
 use Rattle.plan_table.proofs.JobLemmas.{jobs_so_far}

@@ -1,4 +1,4 @@
-use Rattle.std.proofs.Common.{◌≡◌, ◌++◌, map, codes}
+use Rattle.std.proofs.Common.{map, codes}
 use Rattle.std.proofs.lemmas.Result.{on_ok_weaker}
 use Rattle.plan_table.specs.Numbered.{numbered}
 use Rattle.plan_table.specs.Table.{activity_of, resource_of}

@@ -1,4 +1,3 @@
-use Rattle.std.proofs.Common.{◌≡◌, ◌++◌}
 use Rattle.std.proofs.lemmas.Result.{on_ok_weaker}
 use Rattle.plan_table.specs.ProjectText.{precedence_text}
 use Rattle.plan_table.proofs.PieceLemmas.{four_pieces}

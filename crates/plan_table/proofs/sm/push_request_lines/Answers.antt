@@ -1,6 +1,4 @@
-use Rattle.std.proofs.Common.{◌≡◌, ◌++◌, take, map, ap, ◌∙◌, arith, ℕ, ◌+◌}
-use Rattle.std.specs.String.{string_bytes}
-use Rattle.plan_table.specs.Numbered.{numbered}
+use Rattle.std.proofs.Common.{arith}
 use Rattle.plan_table.specs.Jobs.{job_in}
 use Rattle.plan_table.specs.ProjectText.{request_line}
 use Rattle.plan_table.proofs.NumberedLemmas.{next_line}

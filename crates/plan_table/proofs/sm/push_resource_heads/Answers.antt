@@ -1,4 +1,4 @@
-use Rattle.std.proofs.Common.{◌≡◌, ◌++◌, take, get_or, refl, ap, ◌∙◌, arith, ℕ, ◌+◌}
+use Rattle.std.proofs.Common.{◌≡◌, ◌++◌, take, get_or, refl, ap, ◌∙◌, arith, ◌+◌}
 use Rattle.std.specs.String.{string_bytes}
 use Rattle.plan_table.specs.ProjectText.{resource_head, resource_heads}
 use Rattle.plan_table.proofs.NumberedLemmas.{numbered-next, next_written}

@@ -1,6 +1,5 @@
-use Rattle.std.proofs.Common.{◌≡◌, ◌++◌, take, map}
+use Rattle.std.proofs.Common.{◌≡◌, ◌++◌, take}
 use Rattle.std.specs.String.{string_bytes}
-use Rattle.plan_table.specs.Numbered.{numbered}
 use Rattle.plan_table.specs.ProjectText.{resource_heads}
 use Rattle.plan_table.proofs.sm.push_resource_heads.Given as goal
 
