@@ -1,0 +1,26 @@
+-- The ids of the activities of a cycle, and what a table is refused for.
+use Rattle.std.proofs.Common.{◌≡◌, inl, ℕ, zero, suc, ◌≤◌, ◌<◌, List, [], ◌∷◌, length, map, get_or, refl, sym, ap, arith}
+use Rattle.std.specs.String.{string_bytes}
+use Rattle.plan_table.specs.declared.table.Activity as declared
+use Rattle.plan_table.specs.declared.fault.ReadError.{ReadError}
+use Rattle.plan_table.specs.declared.fault.ReadError.TheVariants as errors
+use Rattle.plan_table.specs.Reading.{Fails}
+use Rattle.plan_table.specs.Table.{activity_of}
+use Rattle.plan_table.specs.Listing.{table_read}
+use Rattle.plan_table.specs.Refused.{id_from, IsRefused}
+
+-- the id of the activity at a place
+pub id_there : (xs : List declared.Activity) (k : ℕ) (a : declared.Activity) → k < length xs → a ≡ get_or xs k a → id_from (map activity_of xs) k ≡ string_bytes a.id
+id_there [] k a below is = absurd (omega (arith, below))
+id_there (x ∷ xs) zero a below is = ap (λ (y : declared.Activity). string_bytes y.id) (sym is)
+id_there (x ∷ xs) (suc k) a below is = id_there xs k a (omega (arith, below)) is
+
+pub no_id : (xs : List declared.Activity) (k : ℕ) → length xs ≤ k → id_from (map activity_of xs) k ≡ []
+no_id [] k past = refl
+no_id (x ∷ xs) zero past = absurd (omega (arith, past))
+no_id (x ∷ xs) (suc k) past = no_id xs k (omega (arith, past))
+
+-- a text that fails a check is refused for it
+pub refused_first : (text : List ℕ) (e : ReadError) → Fails e (table_read text) → IsRefused text e
+refused_first text errors.Memory h = tt
+refused_first text (errors.Fault f) h = inl h

@@ -1,0 +1,232 @@
+-- What is read of a table is within the limits.
+use Rattle.std.proofs.Common.{◌≡◌, ℕ, ◌+◌, ◌≤◌, ◌<◌, ◌==◌, Bool, true, false, List, [], ◌∷◌, ◌++◌, Option, Some, None, Result, Ok, Err, length, refl, ap, ◌∙◌, subst, arith, cond}
+use Rattle.std.specs.Prelude.{nat_le}
+use Rattle.std.specs.List.{AllByRecursion, list_all}
+use Rattle.std.specs.Str.Lossy.{utf8_lossy}
+use Rattle.std.proofs.lemmas.Bool.{leb-true}
+use Rattle.std.proofs.lemmas.List.Sums.{sum_by-cons, sum_by_push}
+use Rattle.plan_psplib.specs.Numbers.{number}
+use Rattle.plan_table.specs.declared.fault.TableCode.{TableCode}
+use Rattle.plan_table.specs.declared.fault.TableCode.TheVariants as code
+use Rattle.plan_table.specs.declared.header.Column.{Column}
+use Rattle.plan_table.specs.declared.header.Column.TheVariants as columns
+use Rattle.plan_table.specs.Limits.{IsName}
+use Rattle.plan_table.specs.Reading.{Fault, ◌>>=◌, fault, check}
+use Rattle.plan_table.specs.Cells.{same, amount_in, amount, name, number_from, known, predecessor, predecessors_at, ids_in}
+use Rattle.plan_table.specs.Header.{Head, resource_count, resources_in, head_read, heads_at, header, once, column_of, key_of}
+use Rattle.plan_table.specs.Rows.{need, cell_read, row_read, activity_read, fresh_activity, id_read, first_cell}
+use Rattle.plan_table.specs.Table.{Activity}
+use Rattle.plan_psplib.specs.Lines.{trim}
+use Rattle.std.specs.Prelude.{drop}
+
+-- ---- reading in steps
+
+pub then_ok : {A B P : Type 0} (r : Result A Fault) (f : A → Result B Fault) (y : B) → (r >>= f) ≡ Ok y → ((x : A) → r ≡ Ok x → f x ≡ Ok y → P) → P
+then_ok (Ok x) f y e go = go x refl e
+then_ok (Err g) f y e go = absurd (cc)
+
+pub same_ok : {A : Type 0} (x y : A) → Path (Result A Fault) (Ok x) (Ok y) → x ≡ y
+same_ok x y e = cc
+
+pub check_ok : (b : Bool) (c : TableCode) (line : ℕ) (u : Unit {0}) → check b c line ≡ Ok u → b ≡ true
+check_ok true c line u e = refl
+check_ok false c line u e = absurd (cc)
+
+pub all_push : {A : Type 0} (P : A → Type 0) (xs : List A) (x : A) → AllByRecursion P xs → P x → AllByRecursion P (xs ++ x ∷ [])
+all_push P [] x h p = (p, tt)
+all_push P (y ∷ xs) x h p = (h.0, all_push P xs x h.1 p)
+
+all_both : {A : Type 0} (P : A → Type 0) (xs ys : List A) → AllByRecursion P xs → AllByRecursion P ys → AllByRecursion P (xs ++ ys)
+all_both P [] ys h k = k
+all_both P (x ∷ xs) ys h k = (h.0, all_both P xs ys h.1 k)
+
+pub push_length : {A : Type 0} (xs : List A) (x : A) → length (xs ++ x ∷ []) ≡ length xs + 1
+push_length [] x = refl
+push_length (y ∷ xs) x = let rest = push_length xs x in omega (arith, rest)
+
+-- ---- cells
+
+abbrev IsKnown : ℕ → ℕ → Type 0
+IsKnown m j = (2 ≤ j) × (j ≤ m + 1)
+
+number_range : (n : ℕ) (ids : List (List ℕ)) (id : List ℕ) (j : ℕ) → number_from n ids id ≡ Some j → (n ≤ j) × (j < n + length ids)
+number_range n [] id j e = absurd (cc)
+number_range n (other ∷ others) id j e = by_same (number_range (n + 1) others id j) (same other id) e
+  where
+    by_same : (number_from (n + 1) others id ≡ Some j → (n + 1 ≤ j) × (j < n + 1 + length others)) → (b : Bool) →
+        cond b (Some n) (number_from (n + 1) others id) ≡ Some j → (n ≤ j) × (j < n + length (other ∷ others))
+    by_same rest true e = let is : n ≡ j = cc in (omega (arith, is), omega (arith, is))
+    by_same rest false e = let r = rest e in (omega (arith, r.0), omega (arith, r.1))
+
+predecessor_known : (ids : List (List ℕ)) (line : ℕ) (id : List ℕ) (j : ℕ) → predecessor ids line id ≡ Ok j → IsKnown (length ids) j
+unfolding predecessor
+predecessor_known ids line id j e = by_number (number_from 2 ids id) refl e
+  where
+    by_number : (o : Option ℕ) → number_from 2 ids id ≡ o → known o line id ≡ Ok j → IsKnown (length ids) j
+    by_number None is e = absurd (cc)
+    by_number (Some n) is e =
+        let same_number : n ≡ j = same_ok n j e in
+        let r = number_range 2 ids id n is in
+        (omega (arith, r.0, same_number), omega (arith, r.1, same_number))
+
+predecessors_known : (ids : List (List ℕ)) (line : ℕ) (before : List ℕ) (ws : List (List ℕ)) (js : List ℕ) → predecessors_at ids line before ws ≡ Ok js →
+    AllByRecursion (IsKnown (length ids)) before → AllByRecursion (IsKnown (length ids)) js
+unfolding predecessors_at
+predecessors_known ids line before [] js e h = subst (λ (xs : List ℕ). AllByRecursion (IsKnown (length ids)) xs) (same_ok before js e) h
+predecessors_known ids line before (id ∷ others) js e h =
+    then_ok (predecessor ids line id) _ js e (λ n is e.
+    predecessors_known ids line (before ++ n ∷ []) others js e (all_push (IsKnown (length ids)) before n h (predecessor_known ids line id n is)))
+
+pub amount_small : (c : TableCode) (line : ℕ) (word cell : List ℕ) (n : ℕ) → amount c line word cell ≡ Ok n → n ≤ 10000
+unfolding amount
+amount_small c line word cell n e = by_number (number cell) e
+  where
+    by_test : (m : ℕ) (b : Bool) → nat_le m 10000 ≡ b → cond b (Ok m) (fault code.Limit line []) ≡ Ok n → n ≤ 10000
+    by_test m true is e = let small = leb-true m 10000 is in let same_number : m ≡ n = same_ok m n e in omega (arith, small, same_number)
+    by_test m false is e = absurd (cc)
+
+    by_number : (o : Option ℕ) → amount_in o c line word ≡ Ok n → n ≤ 10000
+    by_number None e = absurd (cc)
+    by_number (Some m) e = by_test m (nat_le m 10000) refl e
+
+need_small : (line : ℕ) (resource cell : List ℕ) (n : ℕ) → need line resource cell ≡ Ok n → n ≤ 10000
+need_small line resource cell n e = by_test (length cell == 0) e
+  where
+    by_test : (b : Bool) → cond b (Ok 0) (amount code.BadNeed line resource cell) ≡ Ok n → n ≤ 10000
+    by_test true e = let is : 0 ≡ n = same_ok 0 n e in omega (arith, is)
+    by_test false e = amount_small code.BadNeed line resource cell n e
+
+name_good : (line : ℕ) (cell text : List ℕ) → name line cell ≡ Ok text → IsName text
+unfolding name
+name_good line cell text e =
+    then_ok (check (nat_le (length (utf8_lossy cell)) 200) code.Limit line) _ text e (λ u short e.
+    then_ok (check (list_all (λ byte. nat_le 32 byte) (utf8_lossy cell)) code.NotText line) _ text e (λ v plain e.
+    subst IsName (same_ok (utf8_lossy cell) text e) (record {
+      short = leb-true (length (utf8_lossy cell)) 200 (check_ok _ code.Limit line u short);
+      plain = check_ok _ code.NotText line v plain;
+    })))
+
+-- ---- activities
+
+-- an activity with what some columns say, of which so many are resources
+pub record IsDraft (m c : ℕ) (a : Activity) : Type 0 where
+  pub name : IsName a.name
+  pub duration : a.duration ≤ 10000
+  pub predecessors : AllByRecursion (IsKnown m) a.predecessors
+  pub whole : length a.needs ≡ c
+  pub needs : AllByRecursion (λ amount. amount ≤ 10000) a.needs
+
+more_columns : (m c d : ℕ) (a : Activity) → c ≡ d → IsDraft m c a → IsDraft m d a
+more_columns m c d a same_count draft = record {
+  name = draft.name;
+  duration = draft.duration;
+  predecessors = draft.predecessors;
+  whole = draft.whole ∙ same_count;
+  needs = draft.needs;
+}
+
+cell_draft : (ids before : List (List ℕ)) (line c : ℕ) (a b : Activity) (column : Column) (resource cell : List ℕ) →
+    cell_read ids before line a column resource cell ≡ Ok b → IsDraft (length ids) c a → IsDraft (length ids) (c + resource_count column) b
+unfolding cell_read
+cell_draft ids before line c a b columns.Duration resource cell e draft =
+    then_ok (amount code.BadDuration line [] cell) _ b e (λ n is e.
+    subst (λ (x : Activity). IsDraft (length ids) (c + 0) x) (same_ok (record a { duration = n }) b e)
+    (record {
+      name = draft.name;
+      duration = amount_small code.BadDuration line [] cell n is;
+      predecessors = draft.predecessors;
+      whole = let w = draft.whole in omega (arith, w);
+      needs = draft.needs;
+    }))
+cell_draft ids before line c a b columns.Id resource cell e draft =
+    then_ok (id_read before line cell) _ b e (λ u is e.
+    subst (λ (x : Activity). IsDraft (length ids) (c + 0) x) (same_ok a b e) (more_columns (length ids) c (c + 0) a (omega arith) draft))
+cell_draft ids before line c a b columns.Name resource cell e draft =
+    then_ok (name line cell) _ b e (λ text is e.
+    subst (λ (x : Activity). IsDraft (length ids) (c + 0) x) (same_ok (record a { name = text }) b e)
+    (record {
+      name = name_good line cell text is;
+      duration = draft.duration;
+      predecessors = draft.predecessors;
+      whole = let w = draft.whole in omega (arith, w);
+      needs = draft.needs;
+    }))
+cell_draft ids before line c a b columns.Predecessors resource cell e draft =
+    then_ok (predecessors_at ids line [] (ids_in cell)) _ b e (λ js is e.
+    subst (λ (x : Activity). IsDraft (length ids) (c + 0) x) (same_ok (record a { predecessors = a.predecessors ++ js }) b e)
+    (record {
+      name = draft.name;
+      duration = draft.duration;
+      predecessors = all_both (IsKnown (length ids)) a.predecessors js draft.predecessors (predecessors_known ids line [] (ids_in cell) js is tt);
+      whole = let w = draft.whole in omega (arith, w);
+      needs = draft.needs;
+    }))
+cell_draft ids before line c a b columns.Resource resource cell e draft =
+    then_ok (need line resource cell) _ b e (λ n is e.
+    subst (λ (x : Activity). IsDraft (length ids) (c + 1) x) (same_ok (record a { needs = a.needs ++ n ∷ [] }) b e)
+    (record {
+      name = draft.name;
+      duration = draft.duration;
+      predecessors = draft.predecessors;
+      whole = push_length a.needs n ∙ ap (λ k. k + 1) draft.whole;
+      needs = all_push (λ amount. amount ≤ 10000) a.needs n draft.needs (need_small line resource cell n is);
+    }))
+cell_draft ids before line c a b columns.Nothing resource cell e draft =
+    subst (λ (x : Activity). IsDraft (length ids) (c + 0) x) (same_ok a b e) (more_columns (length ids) c (c + 0) a (omega arith) draft)
+
+row_draft : (ids before : List (List ℕ)) (line c : ℕ) (a b : Activity) (heads : List Head) (cells : List (List ℕ)) →
+    row_read ids before line a heads cells ≡ Ok b → IsDraft (length ids) c a → IsDraft (length ids) (c + resources_in heads) b
+unfolding row_read
+row_draft ids before line c a b [] cells e draft =
+    subst (λ (x : Activity). IsDraft (length ids) (c + 0) x) (same_ok a b e) (more_columns (length ids) c (c + 0) a (omega arith) draft)
+row_draft ids before line c a b (head ∷ heads) cells e draft =
+    then_ok (cell_read ids before line a head.column head.name (trim (first_cell cells))) _ b e (λ x is e.
+    let one = cell_draft ids before line c a x head.column head.name (trim (first_cell cells)) is draft in
+    let rest = row_draft ids before line (c + resource_count head.column) x b heads (drop 1 cells) e one in
+    let sums = sum_by-cons (λ (h : Head). resource_count h.column) head heads in
+    more_columns (length ids) (c + resource_count head.column + resources_in heads) (c + resources_in (head ∷ heads)) b (omega (arith, sums)) rest)
+
+pub activity_draft : (ids before : List (List ℕ)) (line : ℕ) (id : List ℕ) (heads : List Head) (cells : List (List ℕ)) (b : Activity) →
+    activity_read ids before line id heads cells ≡ Ok b → IsDraft (length ids) (resources_in heads) b
+unfolding activity_read
+activity_draft ids before line id heads cells b e =
+    then_ok (row_read ids before line (fresh_activity id) heads cells) _ b e (λ x is e.
+    then_ok (check (nat_le (length cells) (length heads)) code.Cells line) _ b e (λ u whole e.
+    let none : IsDraft (length ids) 0 (fresh_activity id) = record { name = record { short = omega arith; plain = refl }; duration = omega arith; predecessors = tt; whole = refl; needs = tt } in
+    let draft = row_draft ids before line 0 (fresh_activity id) x heads cells is none in
+    subst (λ (y : Activity). IsDraft (length ids) (resources_in heads) y) (same_ok x b e) (more_columns (length ids) (0 + resources_in heads) (resources_in heads) x (omega arith) draft)))
+
+-- ---- the header
+
+pub record AreHeads (heads : List Head) : Type 0 where
+  pub few : resources_in heads ≤ 16
+  pub names : AllByRecursion (λ (h : Head). IsName h.name) heads
+
+head_good : (line : ℕ) (before : List Head) (cell : List ℕ) (h : Head) → head_read line before cell ≡ Ok h → (resources_in before + resource_count h.column ≤ 16) × IsName h.name
+unfolding head_read
+head_good line before cell h e =
+    then_ok (once before cell) _ h e (λ u new e.
+    then_ok (check (nat_le (resources_in before + resource_count (column_of (key_of cell))) 16) code.Limit line) _ h e (λ v room e.
+    then_ok (name line (trim cell)) _ h e (λ text is e.
+    subst (λ (x : Head). (resources_in before + resource_count x.column ≤ 16) × IsName x.name)
+    (same_ok (record { column = column_of (key_of cell); key = key_of cell; name = text }) h e)
+    (leb-true (resources_in before + resource_count (column_of (key_of cell))) 16 (check_ok _ code.Limit line v room), name_good line (trim cell) text is))))
+
+heads_good : (line : ℕ) (before : List Head) (cells : List (List ℕ)) (heads : List Head) → heads_at line before cells ≡ Ok heads → AreHeads before → AreHeads heads
+unfolding heads_at
+heads_good line before [] heads e good = subst AreHeads (same_ok before heads e) good
+heads_good line before (cell ∷ cells) heads e good =
+    then_ok (head_read line before cell) _ heads e (λ h is e.
+    let one = head_good line before cell h is in
+    let sums = sum_by_push (λ (x : Head). resource_count x.column) before h in
+    heads_good line (before ++ h ∷ []) cells heads e (record {
+      few = omega (arith, sums, one.0);
+      names = all_push (λ (x : Head). IsName x.name) before h good.names one.1;
+    }))
+
+pub header_good : (line : ℕ) (cells : List (List ℕ)) (heads : List Head) → header line cells ≡ Ok heads → AreHeads heads
+unfolding header
+header_good line cells heads e =
+    then_ok (heads_at line [] cells) _ heads e (λ hs is e.
+    then_ok (check _ code.NoDuration 0) _ heads e (λ u has e.
+    subst AreHeads (same_ok hs heads e) (heads_good line [] cells hs is (record { few = omega arith; names = tt }))))

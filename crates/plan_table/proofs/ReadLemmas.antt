@@ -1,0 +1,42 @@
+-- Reading in two steps.
+use Rattle.std.proofs.Common.{◌≡◌, ℕ, ◌≤◌, List, [], Vec, Result, Ok, length, map, drop, take, true, false, sym, ap, ◌∙◌}
+use Rattle.std.specs.Str.{IsUtf8, is_utf8}
+use Rattle.std.proofs.lemmas.Bool.{false_from_ne_true}
+use Rattle.std.proofs.lemmas.Str.{IsUtf8-from_is_utf8, is_utf8-from_IsUtf8}
+use Rattle.std.specs.declared.alloc.Global.{Global}
+use Rattle.std.proofs.lemmas.List.{drop-map, drop_all, take-map, take_all}
+use Rattle.plan_table.specs.Rows.{first_cell}
+use Rattle.plan_table.specs.declared.fault.ReadError.{ReadError}
+use Rattle.plan_table.specs.declared.fault.ReadError.TheVariants as errors
+use Rattle.plan_table.specs.Reading.{Fault, ◌>>=◌, Fails}
+
+-- what fails first fails the whole
+pub fails_first : {A B : Type 0} (e : ReadError) (first : Result A Fault) (next : A → Result B Fault) (total : Result B Fault) → Fails e first → (first >>= next) ≡ total → Fails e total
+fails_first errors.Memory first next total h is = tt
+fails_first (errors.Fault f) first next total h is = sym is ∙ ap (λ r. r >>= next) h
+
+-- what is read first, and then the rest
+pub ok_first : {A B : Type 0} (first : Result A Fault) (x : A) (next : A → Result B Fault) (total : Result B Fault) → first ≡ Ok x → (first >>= next) ≡ total → next x ≡ total
+ok_first first x next total h is = sym (ap (λ r. r >>= next) h) ∙ is
+
+-- the first of the cells that are left
+pub cell_dropped : (cells : List (Vec ℕ Global)) (n : ℕ) → first_cell (drop n (map (λ cell. cell.items) cells)) ≡ first_cell (map (λ cell. cell.items) (drop n cells))
+cell_dropped cells n = ap first_cell (drop-map (λ (cell : Vec ℕ Global). cell.items) n cells)
+
+-- no cell is left
+pub no_cell : (cells : List (Vec ℕ Global)) (n : ℕ) → length cells ≤ n → first_cell (drop n (map (λ cell. cell.items) cells)) ≡ []
+no_cell cells n past = cell_dropped cells n ∙ ap (λ (cs : List (Vec ℕ Global)). first_cell (map (λ cell. cell.items) cs)) (drop_all n cells past)
+
+-- the first ids
+pub ids_taken : (ids : List (Vec ℕ Global)) (n : ℕ) → map (λ id. id.items) (take n ids) ≡ take n (map (λ id. id.items) ids)
+ids_taken ids n = sym (take-map (λ (id : Vec ℕ Global). id.items) n ids)
+
+pub all_taken : (ids : List (Vec ℕ Global)) (n : ℕ) → length ids ≤ n → map (λ id. id.items) ids ≡ take n (map (λ id. id.items) ids)
+all_taken ids n past = ap (map (λ (id : Vec ℕ Global). id.items)) (sym (take_all n ids past)) ∙ ids_taken ids n
+
+-- what isn't UTF-8 fails the test
+pub not_text : (bytes : List ℕ) → ¬ (IsUtf8 bytes) → is_utf8 bytes ≡ false
+not_text bytes none = false_from_ne_true (is_utf8 bytes) (λ e. none (IsUtf8-from_is_utf8 bytes e))
+
+pub is_text : (bytes : List ℕ) → IsUtf8 bytes → is_utf8 bytes ≡ true
+is_text bytes text = is_utf8-from_IsUtf8 bytes text

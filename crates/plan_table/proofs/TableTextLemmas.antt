@@ -1,0 +1,175 @@
+-- The text of a table within the limits.
+use Rattle.std.proofs.Common.{◌≡◌, ℕ, ◌+◌, ◌≤◌, ◌<◌, true, List, [], ◌∷◌, ◌++◌, length, codes, refl, sym, ap, ◌∙◌, subst, append_assoc, arith}
+use Rattle.std.specs.List.{AllByRecursion, list_all}
+use Rattle.std.specs.Fmt.{decimal}
+use Rattle.std.proofs.lemmas.Bool.{and_from, le-leb, leb-true}
+use Rattle.std.proofs.lemmas.List.Folds.{list_all-append}
+use Rattle.plan_psplib.specs.Lines.{raw_lines}
+use Rattle.plan_psplib.specs.Project.{SaysProject}
+use Rattle.plan_table.specs.Numbered.{numbered}
+use Rattle.plan_table.specs.Table.{Activity, Resource, Table}
+use Rattle.plan_table.specs.Jobs.{Job, table_jobs, capacities_of, project_of}
+use Rattle.plan_table.specs.Limits.{IsEntry, IsSupply, IsWithinLimits, IsTable}
+use Rattle.plan_table.specs.ProjectText.{resource_head, resource_heads, rule_line, head_text, front_text, sections_text, name_line, name_line_of, resource_line, names_text, horizon_of, project_text}
+use Rattle.plan_table.proofs.DigitLemmas.{all_weaker}
+use Rattle.plan_table.proofs.LineLemmas.{is_plain, IsPlain, plain_append, plain_decimal, raw_line}
+use Rattle.plan_table.proofs.JobLemmas.{jobs_count}
+use Rattle.plan_table.proofs.GoodJobLemmas.{IsGoodJob, good_jobs, jobs_total, good_capacities, capacities_fit}
+use Rattle.plan_table.proofs.RowListLemmas.{AreRows, row_lines, rows_plain, precedence_rows, request_rows, precedence_gives, request_gives}
+use Rattle.plan_table.proofs.TextLineLemmas.{lines_before, IsLines, lines_both, raw_lines-before, rule, head_lines, information_lines, precedence_row, precedence_lines, request_row, request_lines, availability_lines, head_is_lines, information_is_lines, precedence_is_lines, requests_are_lines, availabilities_are_lines}
+use Rattle.plan_table.proofs.HeadLemmas.{AreSmall, head_plain, information_plain}
+use Rattle.plan_table.proofs.LawLemmas.{IsText, capacities_row, is_some_byte, says_project}
+
+all_both : {A : Type 0} (P : A → Type 0) (xs ys : List A) → AllByRecursion P xs → AllByRecursion P ys → AllByRecursion P (xs ++ ys)
+all_both P [] ys h k = k
+all_both P (x ∷ xs) ys h k = (h.0, all_both P xs ys h.1 k)
+
+-- ---- plain lines
+
+heads_plain : (i : ℕ) (capacities : List ℕ) → i + length capacities ≤ 1000 → IsPlain (numbered (λ i _. resource_head i) i capacities)
+heads_plain i [] few = refl
+heads_plain i (c ∷ cs) few =
+    plain_append (resource_head i) (numbered (λ i _. resource_head i) (i + 1) cs)
+    (plain_append (codes "  R ") (decimal i) refl (plain_decimal i (omega (arith, few)))) (heads_plain (i + 1) cs (omega (arith, few)))
+
+abbrev all_lines : ℕ → ℕ → ℕ → List Job → List ℕ → List (List ℕ)
+all_lines n activities horizon jobs capacities =
+    (head_lines n horizon (length capacities) ++ information_lines activities horizon)
+    ++ ((precedence_lines jobs ++ request_lines jobs capacities) ++ availability_lines capacities)
+
+lines_plain : (activities horizon : ℕ) (jobs : List Job) (capacities : List ℕ) → AreSmall (length jobs) horizon (length capacities) → activities < 1000000000 →
+    length capacities ≤ 16 → 1 ≤ length capacities → AllByRecursion (λ n. n ≤ 10000) capacities →
+    AreRows precedence_row precedence_gives 1 jobs → AreRows request_row request_gives 1 jobs →
+    AllByRecursion IsPlain (all_lines (length jobs) activities horizon jobs capacities)
+lines_plain activities horizon jobs capacities small few short some low precedences requests =
+    let heads = heads_plain 1 capacities (omega (arith, short)) in
+    let head = plain_append (codes "jobnr. mode duration") (resource_heads capacities) refl heads in
+    all_both IsPlain (head_lines (length jobs) horizon (length capacities) ++ information_lines activities horizon)
+    ((precedence_lines jobs ++ request_lines jobs capacities) ++ availability_lines capacities)
+    (all_both IsPlain (head_lines (length jobs) horizon (length capacities)) (information_lines activities horizon)
+    (head_plain (length jobs) horizon (length capacities) small) (information_plain activities horizon few small.horizon))
+    (all_both IsPlain (precedence_lines jobs ++ request_lines jobs capacities) (availability_lines capacities)
+    (all_both IsPlain (precedence_lines jobs) (request_lines jobs capacities)
+    (refl, (refl, all_both IsPlain (row_lines precedence_row 1 jobs) (rule ∷ []) (rows_plain precedence_row precedence_gives 1 jobs precedences) (refl, tt)))
+    (refl, (head, (refl, all_both IsPlain (row_lines request_row 1 jobs) (rule ∷ []) (rows_plain request_row request_gives 1 jobs requests) (refl, tt)))))
+    (refl, (heads, ((capacities_row capacities some low).plain, (refl, tt)))))
+
+-- ---- no zero bytes
+
+abbrev HasBytes : List ℕ → Type 0
+HasBytes text = list_all is_some_byte text ≡ true
+
+bytes_append : (a b : List ℕ) → HasBytes a → HasBytes b → HasBytes (a ++ b)
+bytes_append a b p q = list_all-append is_some_byte a b ∙ and_from (list_all is_some_byte a) (list_all is_some_byte b) p q
+
+plain_bytes : (text : List ℕ) → IsPlain text → HasBytes text
+plain_bytes text plain = all_weaker is_plain is_some_byte (λ b e. le-leb 1 b (let low = leb-true 32 b e in omega (arith, low))) text plain
+
+lines_bytes : (ls : List (List ℕ)) (rest : List ℕ) → AllByRecursion IsPlain ls → HasBytes rest → HasBytes (lines_before ls rest)
+lines_bytes [] rest plain h = h
+lines_bytes (l ∷ ls) rest plain h = bytes_append l (10 ∷ lines_before ls rest) (plain_bytes l plain.0) (lines_bytes ls rest plain.1 h)
+
+name_line_bytes : (j : ℕ) (name : List ℕ) → j < 1000000000 → IsPlain name → HasBytes (name_line_of j name)
+name_line_bytes j [] small plain = refl
+name_line_bytes j (byte ∷ name) small plain =
+    bytes_append (codes "name " ++ decimal j ++ codes " " ++ (byte ∷ name)) (codes "\n")
+    (bytes_append (codes "name " ++ decimal j ++ codes " ") (byte ∷ name)
+    (bytes_append (codes "name " ++ decimal j) (codes " ") (bytes_append (codes "name ") (decimal j) refl (plain_bytes (decimal j) (plain_decimal j small))) refl)
+    (plain_bytes (byte ∷ name) plain)) refl
+
+resource_line_bytes : (i : ℕ) (r : Resource) → i < 1000000000 → IsPlain r.name → HasBytes (resource_line i r)
+unfolding resource_line
+resource_line_bytes i r small plain =
+    bytes_append (codes "resource " ++ decimal i ++ codes " " ++ r.name) (codes "\n")
+    (bytes_append (codes "resource " ++ decimal i ++ codes " ") r.name
+    (bytes_append (codes "resource " ++ decimal i) (codes " ") (bytes_append (codes "resource ") (decimal i) refl (plain_bytes (decimal i) (plain_decimal i small))) refl)
+    (plain_bytes r.name plain)) refl
+
+activity_names_bytes : (n k j : ℕ) (xs : List Activity) → j + length xs ≤ 1000 → AllByRecursion (IsEntry n k) xs → HasBytes (numbered name_line j xs)
+unfolding name_line
+activity_names_bytes n k j [] few h = refl
+activity_names_bytes n k j (x ∷ xs) few h =
+    bytes_append (name_line j x) (numbered name_line (j + 1) xs) (name_line_bytes j x.name (omega (arith, few)) h.0.name.plain)
+    (activity_names_bytes n k (j + 1) xs (omega (arith, few)) h.1)
+
+resource_names_bytes : (i : ℕ) (rs : List Resource) → i + length rs ≤ 1000 → AllByRecursion IsSupply rs → HasBytes (numbered resource_line i rs)
+resource_names_bytes i [] few h = refl
+resource_names_bytes i (r ∷ rs) few h =
+    bytes_append (resource_line i r) (numbered resource_line (i + 1) rs) (resource_line_bytes i r (omega (arith, few)) h.0.name.plain)
+    (resource_names_bytes (i + 1) rs (omega (arith, few)) h.1)
+
+names_bytes : (t : Table) → IsWithinLimits t → HasBytes (names_text t)
+unfolding names_text
+names_bytes t limits =
+    let rows = limits.rows in
+    let columns = limits.columns in
+    let a = activity_names_bytes (length t.activities) (length t.resources) 2 t.activities (omega (arith, rows)) limits.activities in
+    let b = resource_names_bytes 1 t.resources (omega (arith, columns)) limits.resources in
+    bytes_append (codes "PROJECT INFORMATION:\n" ++ numbered name_line 2 t.activities ++ numbered resource_line 1 t.resources) rule_line
+    (bytes_append (codes "PROJECT INFORMATION:\n" ++ numbered name_line 2 t.activities) (numbered resource_line 1 t.resources)
+    (bytes_append (codes "PROJECT INFORMATION:\n") (numbered name_line 2 t.activities) refl a) b) refl
+
+-- ---- the text as lines
+
+text_is_lines : (t : Table) (n : ℕ) (jobs : List Job) (capacities : List ℕ) → length t.activities + 2 ≡ n →
+    IsLines (front_text t.activities (length capacities) ++ sections_text jobs capacities) (all_lines n (length t.activities) (horizon_of t.activities) jobs capacities)
+text_is_lines t n jobs capacities count =
+    let head = subst (λ m. IsLines (head_text (length t.activities + 2) (horizon_of t.activities) (length capacities)) (head_lines m (horizon_of t.activities) (length capacities))) count
+    (head_is_lines (length t.activities + 2) (horizon_of t.activities) (length capacities)) in
+    lines_both _ _ _ _ (lines_both _ _ _ _ head (information_is_lines (length t.activities) (horizon_of t.activities)))
+    (lines_both _ _ _ _ (lines_both _ _ _ _ (precedence_is_lines jobs) (requests_are_lines jobs capacities)) (availabilities_are_lines capacities))
+
+regroup : {A : Type 0} (a b c d e x : List A) → ((a ++ b) ++ ((c ++ d) ++ e)) ++ x ≡ a ++ (b ++ (c ++ (d ++ (e ++ x))))
+regroup a b c d e x = simp append_assoc
+
+names_first : (t : Table) → (rest : List (List ℕ)) × (raw_lines (names_text t) ≡ codes "PROJECT INFORMATION:" ∷ rest)
+unfolding names_text
+names_first t =
+    let tail = numbered name_line 2 t.activities ++ numbered resource_line 1 t.resources ++ rule_line in
+    (raw_lines tail, raw_line (codes "PROJECT INFORMATION:") tail refl)
+
+-- the text of a table within the limits, if it is short enough
+text_of_table : (t : Table) → IsWithinLimits t → length (project_text t) ≤ 1048576 → IsText (project_text t) (table_jobs t) (capacities_of t.resources)
+text_of_table t limits short =
+    let jobs = table_jobs t in
+    let capacities = capacities_of t.resources in
+    let count : length t.activities + 2 ≡ length jobs = sym (jobs_count t.activities (length capacities)) in
+    let rows = limits.rows in
+    let total = limits.total in
+    let fit = capacities_fit t limits in
+    let low = good_capacities t limits in
+    let good = subst (λ n. AllByRecursion (IsGoodJob n (length capacities)) jobs) count (good_jobs t limits) in
+    let few : length jobs ≤ 502 = omega (arith, count, rows) in
+    let small : AreSmall (length jobs) (horizon_of t.activities) (length capacities) = record { jobs = omega (arith, few); horizon = omega (arith, total); resources = omega (arith, fit.1) } in
+    let precedences = precedence_rows (length jobs) (length capacities) 1 jobs few (omega (arith, few)) good in
+    let requests = request_rows (length jobs) (length capacities) 1 jobs (omega (arith, few)) good in
+    let ls = all_lines (length jobs) (length t.activities) (horizon_of t.activities) jobs capacities in
+    let plain = lines_plain (length t.activities) (horizon_of t.activities) jobs capacities small (omega (arith, rows)) fit.1 fit.0 low precedences requests in
+    let is = (text_is_lines t (length jobs) jobs capacities count).before (names_text t) in
+    let names = names_first t in
+    record {
+      laid_out = record {
+        activities = length t.activities;
+        horizon = horizon_of t.activities;
+        rest = names.0;
+        raw = ap raw_lines is ∙ raw_lines-before ls (names_text t) plain ∙ ap (λ r. ls ++ r) names.1
+            ∙ regroup (head_lines (length jobs) (horizon_of t.activities) (length capacities)) (information_lines (length t.activities) (horizon_of t.activities))
+            (precedence_lines jobs) (request_lines jobs capacities) (availability_lines capacities) (codes "PROJECT INFORMATION:" ∷ names.0);
+        small = small;
+        precedences = precedences;
+        requests = requests;
+        some = fit.0;
+        capacities_small = low;
+      };
+      short = short;
+      plain = ap (list_all is_some_byte) is ∙ lines_bytes ls (names_text t) plain (names_bytes t limits);
+      good = good;
+      fewest = omega (arith, count);
+      most = few;
+      resources = fit;
+      total = let same = jobs_total t in omega (arith, same, total);
+    }
+
+-- the text of a table says the project of the table
+pub table_said : (t : Table) → IsTable t → length (project_text t) ≤ 1048576 → SaysProject (project_text t) (project_of t)
+table_said t is short = says_project (project_text t) (table_jobs t) (capacities_of t.resources) (text_of_table t is.limits short) is.sound

@@ -1,0 +1,17 @@
+pub mod Numbered
+pub mod Table
+pub mod Jobs
+pub mod Limits
+pub mod Columns
+pub mod ProjectText
+pub mod Names
+pub mod Csv
+pub mod Reading
+pub mod Cells
+pub mod Header
+pub mod Rows
+pub mod Entries
+pub mod Listing
+pub mod Refused
+pub use Rattle.plan_psplib.specs.Project
+pub use Rattle.plan_net.specs.Network

@@ -1,0 +1,79 @@
+-- What the text of a table says: its activities and its resources.
+use Rattle.std.specs.Prelude.{ℕ, ◌+◌, if◌then◌else◌, List, [], ◌∷◌, ◌++◌, Option, Some, None, Result, Ok, Err, length, take, nat_le, slice_index_or, count_by}
+use Rattle.std.specs.Str.{is_utf8}
+use Rattle.std.specs.Str.Lossy.{utf8_valid_len}
+use Rattle.plan_psplib.specs.Lines.{is_line_feed}
+use Rattle.plan_psplib.specs.Plain.{longest_text}
+use Rattle.plan_table.specs.declared.fault.TableCode.TheVariants as code
+use Rattle.plan_table.specs.declared.header.Column.{Column}
+use Rattle.plan_table.specs.declared.header.Column.TheVariants as columns
+use Rattle.plan_table.specs.declared.listing.Listing as declared
+use Rattle.plan_table.specs.Csv.{Row, records_of}
+use Rattle.plan_table.specs.Reading.{Fault, fault, check, ◌>>=◌}
+use Rattle.plan_table.specs.Header.{Head, header}
+use Rattle.plan_table.specs.Entries.{entries_in}
+use Rattle.plan_table.specs.Table.{Resource, Table, table_of}
+
+-- the same, as the program keeps it
+abbrev pub listing_of : declared.Listing → Table
+listing_of l = table_of l.activities.items l.resources.items
+
+-- a capacity that is known
+abbrev pub known_capacity : Option ℕ → List ℕ → Result ℕ Fault
+known_capacity None name = fault code.NoCapacity 0 name
+known_capacity (Some n) name = Ok n
+
+-- the resources with that of a column; its capacity is at its place among those of the resources
+abbrev pub resource_by : Column → List (Option ℕ) → List Resource → List ℕ → Result (List Resource) Fault
+resource_by columns.Resource capacities before name =
+    known_capacity (slice_index_or capacities (length before) None) name >>= λ n. Ok (before ++ record { name = name; capacity = n } ∷ [])
+resource_by columns.Duration capacities before name = Ok before
+resource_by columns.Id capacities before name = Ok before
+resource_by columns.Name capacities before name = Ok before
+resource_by columns.Predecessors capacities before name = Ok before
+resource_by columns.Nothing capacities before name = Ok before
+
+unfoldable pub resource_read : List (Option ℕ) → List Resource → Head → Result (List Resource) Fault
+resource_read capacities before head = resource_by head.column capacities before head.name
+
+-- the resources of columns, behind others
+unfoldable pub resources_at : List (Option ℕ) → List Resource → List Head → Result (List Resource) Fault
+resources_at capacities before [] = Ok before
+resources_at capacities before (head ∷ heads) = do
+  found ← resource_read capacities before head
+  resources_at capacities found heads
+
+-- the capacities of their row; none if it hasn't come
+abbrev pub or_none : Option (List (Option ℕ)) → List (Option ℕ)
+or_none None = []
+or_none (Some capacities) = capacities
+
+-- what records say, the first of which is the header
+unfoldable pub table_in : List Row → Result Table Fault
+table_in [] = fault code.NoDuration 0 []
+table_in (first ∷ rows) = do
+  heads ← header first.line first.cells
+  entries ← entries_in heads rows
+  resources ← resources_at (or_none entries.capacities) [] heads
+  Ok (record { activities = entries.activities; resources = resources })
+
+-- the line of a byte
+abbrev pub line_at : List ℕ → ℕ → ℕ
+line_at text n = count_by is_line_feed (take n text) + 1
+
+-- a text is UTF-8
+abbrev pub utf8 : List ℕ → Result (Unit {0}) Fault
+utf8 text = if is_utf8 text then Ok tt else fault code.NotText (line_at text (utf8_valid_len text)) []
+
+-- records whose quotes are closed
+abbrev pub closed : Result (List Row) ℕ → Result (List Row) Fault
+closed (Ok rows) = Ok rows
+closed (Err line) = fault code.Cells line []
+
+-- what a text says
+unfoldable pub table_read : List ℕ → Result Table Fault
+table_read text = do
+  short ← check (nat_le (length text) longest_text) code.TooLong 0
+  good ← utf8 text
+  rows ← closed (records_of text)
+  table_in rows

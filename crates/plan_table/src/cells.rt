@@ -1,0 +1,156 @@
+//! The cells of an activity.
+
+ghost use Rattle.std.specs.Prelude.{◌≡◌, ◌≤◌, ℕ, List, Option, length, map, nat_le, IfOk, string_bytes};
+ghost use Rattle.std.specs.List.{list_all};
+ghost use Rattle.plan_table.specs.Cells as spec;
+ghost use Rattle.plan_table.specs.Csv.{Row};
+ghost use Rattle.plan_table.specs.Header.{Head};
+ghost use Rattle.plan_table.specs.Entries.{Entries};
+ghost use Rattle.plan_table.specs.Table.{Activity, Resource, Table};
+ghost use Rattle.plan_table.specs.Limits.{IsName, most_rows};
+ghost use Rattle.plan_table.specs.Reading.{Fails, Gives, fault};
+
+use crate::fault::{ReadError, TableCode, TableFault};
+use plan_psplib::{GREATEST_AMOUNT, Words, number};
+use std::alloc::{AllocError, Global};
+
+/// The most bytes of a name.
+const LONGEST_NAME: usize = 200;
+
+/// A fault that names a word.
+pub fn word_fault(alloc: Global, code: TableCode, line: u64, word: &[u8]) -> ReadError
+    ensures number { Fails result (fault {A = ℕ} code line word.now) }
+    ensures list { Fails result (fault {A = List ℕ} code line word.now) }
+    ensures unit { Fails result (fault {A = Unit {0}} code line word.now) }
+    ensures head { Fails result (fault {A = Head} code line word.now) }
+    ensures heads { Fails result (fault {A = List Head} code line word.now) }
+    ensures activity { Fails result (fault {A = Activity} code line word.now) }
+    ensures table { Fails result (fault {A = Table} code line word.now) }
+    ensures resources { Fails result (fault {A = List Resource} code line word.now) }
+    ensures rows { Fails result (fault {A = List Row} code line word.now) }
+    ensures entries { Fails result (fault {A = Entries} code line word.now) }
+    ensures capacities { Fails result (fault {A = List (Option ℕ)} code line word.now) }
+{
+    match Vec::from_slice(alloc, word) {
+        Ok(word) => ReadError::Fault(TableFault { code, line, word }),
+        Err(_) => ReadError::Memory,
+    }
+}
+
+/// Whether two texts are the same.
+pub fn same(a: &[u8], b: &[u8]) -> bool
+    ensures { result ≡ spec.same a.now b.now }
+{
+    a.len() == b.len() && a.starts_with(b)
+}
+
+/// The amount in a cell.
+#[tactic(auto, unfolding(crate::specs::Cells::amount))]
+pub fn amount(
+    alloc: Global,
+    code: TableCode,
+    line: u64,
+    word: &[u8],
+    cell: &[u8],
+) -> Result<u32, ReadError>
+    ensures exact { Gives (λ n. n) result (spec.amount code line word.now cell.now) }
+    ensures fits { IfOk result (λ n. n ≤ 10000) }
+{
+    match number(cell) {
+        None => Err(word_fault(alloc, code, line, word)),
+        Some(n) if n > GREATEST_AMOUNT => Err(word_fault(alloc, TableCode::Limit, line, b"")),
+        Some(n) => Ok(n as u32),
+    }
+}
+
+// Whether no byte is a control character.
+fn is_plain(name: &[u8]) -> bool
+    ensures { result ≡ list_all (λ byte. nat_le 32 byte) name.now }
+{
+    name.iter().all(|&byte| byte >= 32)
+}
+
+/// The name in a cell.
+#[tactic(auto, unfolding(crate::specs::Cells::name))]
+pub fn name(alloc: Global, line: u64, cell: &[u8]) -> Result<String, ReadError>
+    ensures exact { Gives string_bytes result (spec.name line cell.now) }
+    ensures fits { IfOk result (λ name. IsName (string_bytes name)) }
+{
+    let name = String::from_utf8_lossy(alloc, cell)?;
+    if name.as_bytes().len() > LONGEST_NAME {
+        return Err(word_fault(alloc, TableCode::Limit, line, b""));
+    }
+    if !is_plain(name.as_bytes()) {
+        return Err(word_fault(alloc, TableCode::NotText, line, b""));
+    }
+    Ok(name)
+}
+
+// A space in place of what stands between ids.
+fn as_blank(byte: u8) -> u8
+    ensures { result ≡ spec.as_blank byte }
+{
+    match byte {
+        b',' | b';' | b'\n' => b' ',
+        other => other,
+    }
+}
+
+// A cell with spaces in place of what stands between ids.
+fn with_blanks(alloc: Global, cell: &[u8]) -> Result<Vec<u8>, AllocError>
+    ensures { IfOk result (λ v. v.items ≡ map spec.as_blank cell.now) }
+{
+    let mut text = Vec::new(alloc);
+    for &byte in cell {
+        text.push(as_blank(byte))?;
+    }
+    Ok(text)
+}
+
+// The number of the first activity with an id.
+fn number_of(ids: &[Vec<u8>], id: &[u8]) -> Option<u32>
+    requires { length ids.now ≤ most_rows }
+    ensures { result ≡ spec.number_from 2 (map (λ other. other.items) ids.now) id.now }
+{
+    for (k, other) in ids.iter().enumerate() {
+        if same(other, id) {
+            return Some(k as u32 + 2);
+        }
+    }
+    None
+}
+
+// The number of a predecessor.
+#[tactic(auto, unfolding(crate::specs::Cells::predecessor))]
+fn predecessor(alloc: Global, ids: &[Vec<u8>], line: u64, id: &[u8]) -> Result<u32, ReadError>
+    requires { length ids.now ≤ most_rows }
+    ensures { Gives (λ n. n) result (spec.predecessor (map (λ other. other.items) ids.now)
+        line id.now) }
+{
+    match number_of(ids, id) {
+        Some(n) => Ok(n),
+        None => Err(word_fault(alloc, TableCode::NoSuchId, line, id)),
+    }
+}
+
+/// The numbers of the predecessors in a cell.
+#[tactic(auto, unfolding(crate::specs::Cells::predecessors_at))]
+pub fn predecessors(
+    alloc: Global,
+    ids: &[Vec<u8>],
+    line: u64,
+    cell: &[u8],
+) -> Result<Vec<u32>, ReadError>
+    requires { length ids.now ≤ most_rows }
+    ensures { Gives (λ v. v.items) result (spec.predecessors
+        (map (λ other. other.items) ids.now) line cell.now) }
+{
+    let text = with_blanks(alloc, cell)?;
+    let mut words = Words::new(&text);
+    let mut numbers = Vec::new(alloc);
+    while let Some(id) = words.next_word() {
+        let number = predecessor(alloc, ids, line, id)?;
+        numbers.push(number)?;
+    }
+    Ok(numbers)
+}

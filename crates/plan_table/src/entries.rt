@@ -1,0 +1,328 @@
+//! The rows of a table: its activities, and the row of the capacities.
+
+ghost use Rattle.std.specs.Prelude.{◌≡◌, ◌≤◌, ◌+◌, [], length, map, drop, take, IfOk, OnOk};
+ghost use Rattle.std.specs.Fmt.{decimal};
+ghost use Rattle.plan_table.specs.Csv.{row_of};
+ghost use Rattle.plan_table.specs.Entries as spec;
+ghost use Rattle.plan_table.specs.Header.{head_of};
+ghost use Rattle.plan_table.specs.Limits.{most_rows};
+ghost use Rattle.plan_table.specs.Reading.{Gives};
+ghost use Rattle.plan_table.specs.Rows.{first_cell};
+ghost use Rattle.plan_table.specs.Table.{activity_of};
+
+use crate::cells::{amount, same, word_fault};
+use crate::fault::{ReadError, TableCode};
+use crate::header::{Column, Head};
+use crate::records::Row;
+use crate::rows::{Ids, read_activity, split_first};
+use crate::table::Activity;
+use plan_psplib::trim;
+use std::alloc::{AllocError, Global};
+
+/// The most activities of a table.
+const MOST_ROWS: usize = 500;
+
+/// What rows say so far.
+#[derive(Drop)]
+pub struct Entries {
+    pub activities: Vec<Activity>,
+    pub capacities: Option<Vec<Option<u32>>>,
+    pub total: u32,
+}
+
+// Whether nothing stands in a row.
+fn is_blank_row(cells: &[Vec<u8>]) -> bool
+    ensures { result ≡ spec.is_blank_row (map (λ cell. cell.items) cells.now) }
+{
+    for cell in cells {
+        if !trim(cell).is_empty() {
+            return false;
+        }
+    }
+    true
+}
+
+// Whether a row is that of the capacities.
+fn is_capacity(place: Option<usize>, id: &[u8]) -> bool
+    ensures { result ≡ spec.is_capacity place id.now }
+{
+    place.is_some() && same(id, b"capacity")
+}
+
+// The cell at a place, an empty one if there is none.
+#[tactic(auto, using(crate::proofs::ReadLemmas::cell_dropped, crate::proofs::ReadLemmas::no_cell))]
+fn cell_at(cells: &[Vec<u8>], place: usize) -> &[u8]
+    ensures { result.now ≡ first_cell (drop place (map (λ cell. cell.items) cells.now)) }
+{
+    if place < cells.len() {
+        split_first(&cells[place..]).0
+    } else {
+        b""
+    }
+}
+
+// The column of the ids.
+fn id_place(heads: &[Head]) -> Option<usize>
+    ensures { result ≡ spec.id_place (map head_of heads.now) }
+{
+    for (k, head) in heads.iter().enumerate() {
+        if same(&head.key, b"id") {
+            return Some(k);
+        }
+    }
+    None
+}
+
+// The digits of a number.
+fn digits(alloc: Global, number: usize) -> Result<Vec<u8>, AllocError>
+    ensures { IfOk result (λ v. v.items ≡ decimal number) }
+{
+    let text = format!(in alloc; "{number}")?;
+    Vec::from_slice(alloc, text.as_bytes())
+}
+
+// The id of the row behind so many activities.
+fn id_of(
+    alloc: Global,
+    place: Option<usize>,
+    count: usize,
+    cells: &[Vec<u8>],
+) -> Result<Vec<u8>, AllocError>
+    requires { count ≤ most_rows }
+    ensures { IfOk result (λ v. v.items ≡ spec.id_of place count
+        (map (λ cell. cell.items) cells.now)) }
+{
+    match place {
+        None => digits(alloc, count + 1),
+        Some(place) => Vec::from_slice(alloc, trim(cell_at(cells, place))),
+    }
+}
+
+// Whether the id of a row is that of an activity, and there is room for it.
+fn takes_id(place: Option<usize>, count: usize, id: &[u8], cells: &[Vec<u8>]) -> bool
+    ensures { result ≡ spec.takes place count id.now (map (λ cell. cell.items) cells.now) }
+{
+    !is_blank_row(cells) && !is_capacity(place, id) && count < MOST_ROWS
+}
+
+// The ids with that of a row.
+fn push_id(
+    alloc: Global,
+    place: Option<usize>,
+    ids: &mut Vec<Vec<u8>>,
+    row: &Row,
+) -> Result<(), AllocError>
+    requires { length ids.old.items ≤ most_rows }
+    ensures ids { OnOk result (map (λ id. id.items) ids.new.items ≡ spec.with_id place
+        (map (λ id. id.items) ids.old.items) (row_of row.now)) }
+    ensures few { OnOk result (length ids.new.items ≤ most_rows) }
+{
+    let count = ids.as_slice().len();
+    let id = id_of(alloc, place, count, &row.cells)?;
+    if takes_id(place, count, &id, &row.cells) {
+        ids.push(id)?;
+    }
+    Ok(())
+}
+
+// With one activity more.
+#[tactic(auto, unfolding(crate::specs::Entries::added))]
+fn add(alloc: Global, entries: &mut Entries, line: u64, activity: Activity) -> Result<(), ReadError>
+    ensures exact { Gives (λ _. spec.entries_of entries.new) result (spec.added line
+        (spec.entries_of entries.old) (activity_of activity)) }
+    ensures one { OnOk result (length entries.new.activities.items
+        ≡ length entries.old.activities.items + 1) }
+{
+    let total = u64::from(entries.total) + u64::from(activity.duration);
+    if total > 1_000_000 {
+        return Err(word_fault(alloc, TableCode::Limit, line, b""));
+    }
+    entries.total = total as u32;
+    entries.activities.push(activity)?;
+    Ok(())
+}
+
+// The capacity in a cell, if it has one.
+fn capacity_in(
+    alloc: Global,
+    line: u64,
+    resource: &[u8],
+    cell: &[u8],
+) -> Result<Option<u32>, ReadError>
+    ensures { Gives (λ c. c) result (spec.capacity_in line resource.now cell.now) }
+{
+    if cell.is_empty() {
+        return Ok(None);
+    }
+    let n = amount(alloc, TableCode::BadNeed, line, resource, cell)?;
+    Ok(Some(n))
+}
+
+// The capacities with that of a column.
+#[tactic(auto, unfolding(crate::specs::Entries::capacity_read))]
+fn read_capacity(
+    alloc: Global,
+    line: u64,
+    before: &mut Vec<Option<u32>>,
+    head: &Head,
+    cell: &[u8],
+) -> Result<(), ReadError>
+    ensures { Gives (λ _. before.new.items) result (spec.capacity_read line before.old.items
+        (head_of head.now).column (head_of head.now).name cell.now) }
+{
+    match head.column {
+        Column::Resource => {
+            let capacity = capacity_in(alloc, line, head.name.as_bytes(), cell)?;
+            before.push(capacity)?;
+        }
+        _ => {}
+    }
+    Ok(())
+}
+
+// The capacities in a row.
+#[tactic(auto, unfolding(crate::specs::Entries::capacities_read))]
+fn read_capacities(
+    alloc: Global,
+    line: u64,
+    heads: &[Head],
+    cells: &[Vec<u8>],
+) -> Result<Vec<Option<u32>>, ReadError>
+    ensures { Gives (λ v. v.items) result (spec.capacities_read line [] (map head_of heads.now)
+        (map (λ cell. cell.items) cells.now)) }
+{
+    let mut capacities = Vec::new(alloc);
+    let mut rest = cells;
+    for head in heads {
+        let (cell, others) = split_first(rest);
+        rest = others;
+        read_capacity(alloc, line, &mut capacities, head, trim(cell))?;
+    }
+    Ok(capacities)
+}
+
+// The ids of the activities.
+fn read_ids(alloc: Global, place: Option<usize>, rows: &[Row]) -> Result<Vec<Vec<u8>>, AllocError>
+    ensures ids { IfOk result (λ v. map (λ id. id.items) v.items ≡ spec.ids_of place
+        (map row_of rows.now)) }
+    ensures few { IfOk result (λ v. length v.items ≤ most_rows) }
+{
+    let mut ids = Vec::new(alloc);
+    for row in rows {
+        push_id(alloc, place, &mut ids, row)?;
+    }
+    Ok(ids)
+}
+
+// The row of the capacities.
+#[tactic(auto, unfolding(crate::specs::Entries::capacity_row))]
+fn read_capacity_row(
+    alloc: Global,
+    heads: &[Head],
+    entries: &mut Entries,
+    line: u64,
+    cells: &[Vec<u8>],
+) -> Result<(), ReadError>
+    ensures exact { Gives (λ _. spec.entries_of entries.new) result (spec.capacity_row
+        (map head_of heads.now) (spec.entries_of entries.old) line
+        (map (λ cell. cell.items) cells.now)) }
+    ensures activities { OnOk result (entries.new.activities ≡ entries.old.activities) }
+{
+    if entries.capacities.is_some() {
+        return Err(word_fault(alloc, TableCode::IdTwice, line, b"capacity"));
+    }
+    let found = read_capacities(alloc, line, heads, cells)?;
+    if cells.len() > heads.len() {
+        return Err(word_fault(alloc, TableCode::Cells, line, b""));
+    }
+    entries.capacities = Some(found);
+    Ok(())
+}
+
+// The first ids.
+#[tactic(auto, using(crate::proofs::ReadLemmas::ids_taken, crate::proofs::ReadLemmas::all_taken))]
+fn first_ids(ids: &[Vec<u8>], count: usize) -> &[Vec<u8>]
+    ensures { map (λ id. id.items) result.now ≡ take count (map (λ id. id.items) ids.now) }
+{
+    if count < ids.len() {
+        &ids[..count]
+    } else {
+        ids
+    }
+}
+
+// The row of an activity.
+#[tactic(auto, unfolding(crate::specs::Entries::activity_row))]
+fn read_activity_row(
+    alloc: Global,
+    heads: &[Head],
+    ids: &[Vec<u8>],
+    entries: &mut Entries,
+    line: u64,
+    id: &[u8],
+    cells: &[Vec<u8>],
+) -> Result<(), ReadError>
+    requires { length ids.now ≤ most_rows }
+    ensures exact { Gives (λ _. spec.entries_of entries.new) result (spec.activity_row
+        (map head_of heads.now) (map (λ id. id.items) ids.now) (spec.entries_of entries.old)
+        line id.now (map (λ cell. cell.items) cells.now)) }
+    ensures few { OnOk result (length entries.new.activities.items ≤ most_rows) }
+{
+    let count = entries.activities.as_slice().len();
+    if count >= MOST_ROWS {
+        return Err(word_fault(alloc, TableCode::Limit, line, b""));
+    }
+    let known = Ids {
+        all: ids,
+        before: first_ids(ids, count),
+    };
+    let activity = read_activity(alloc, &known, line, id, heads, cells)?;
+    add(alloc, entries, line, activity)
+}
+
+// What a row adds.
+#[tactic(auto, unfolding(crate::specs::Entries::entry_read))]
+fn read_entry(
+    alloc: Global,
+    heads: &[Head],
+    place: Option<usize>,
+    ids: &[Vec<u8>],
+    entries: &mut Entries,
+    row: &Row,
+) -> Result<(), ReadError>
+    requires ids { length ids.now ≤ most_rows }
+    requires few { length entries.old.activities.items ≤ most_rows }
+    ensures exact { Gives (λ _. spec.entries_of entries.new) result (spec.entry_read
+        (map head_of heads.now) place (map (λ id. id.items) ids.now)
+        (spec.entries_of entries.old) (row_of row.now)) }
+    ensures few { OnOk result (length entries.new.activities.items ≤ most_rows) }
+{
+    if is_blank_row(&row.cells) {
+        return Ok(());
+    }
+    let count = entries.activities.as_slice().len();
+    let id = id_of(alloc, place, count, &row.cells)?;
+    if is_capacity(place, &id) {
+        return read_capacity_row(alloc, heads, entries, row.line, &row.cells);
+    }
+    read_activity_row(alloc, heads, ids, entries, row.line, &id, &row.cells)
+}
+
+/// What the rows of a table say.
+#[tactic(auto, unfolding(crate::specs::Entries::entries_at))]
+pub fn read_entries(alloc: Global, heads: &[Head], rows: &[Row]) -> Result<Entries, ReadError>
+    ensures { Gives spec.entries_of result (spec.entries_in (map head_of heads.now)
+        (map row_of rows.now)) }
+{
+    let place = id_place(heads);
+    let ids = read_ids(alloc, place, rows)?;
+    let mut entries = Entries {
+        activities: Vec::new(alloc),
+        capacities: None,
+        total: 0,
+    };
+    for row in rows {
+        read_entry(alloc, heads, place, &ids, &mut entries, row)?;
+    }
+    Ok(entries)
+}

@@ -1,0 +1,93 @@
+//! The errors of a table and of its text.
+
+ghost use Rattle.std.specs.Prelude.{◌≡◌};
+
+use std::alloc::{AllocError, AllocFailed};
+use thiserror::Error;
+
+/// Why there is no text.
+#[derive(Clone, Copy, Debug, PartialEq, Eq, Error)]
+pub enum TextFault {
+    /// Memory ran out.
+    #[error("E90 memory")]
+    Memory,
+    /// The text has more bytes than a reader takes.
+    #[error("T1 too long")]
+    TooLong,
+}
+
+impl From<AllocError> for TextFault {
+    ghost use Rattle.plan_table.specs.declared.fault.TextFault.TheVariants.{Memory};
+
+    ghost from_gives = { λ _ fault. fault ≡ Memory };
+
+    fn from(_error: AllocError) -> TextFault {
+        TextFault::Memory
+    }
+}
+
+/// The check that a table fails.
+#[derive(Clone, Copy, Debug, PartialEq, Eq)]
+pub enum TableCode {
+    /// T1: more than 1,048,576 bytes.
+    TooLong,
+    /// T2: not UTF-8, or a control character in a name.
+    NotText,
+    /// T3: no column of durations.
+    NoDuration,
+    /// T4: a header twice.
+    ColumnTwice,
+    /// T5: a duration that is no number.
+    BadDuration,
+    /// T6: an id that is none.
+    BadId,
+    /// T7: an id twice.
+    IdTwice,
+    /// T8: a predecessor that no row has as its id.
+    NoSuchId,
+    /// T9: a need that is no number.
+    BadNeed,
+    /// T10: a resource without a capacity.
+    NoCapacity,
+    /// T11: a cycle.
+    Cycle,
+    /// T12: above a limit.
+    Limit,
+    /// T13: more cells than headers, or a quote that isn't closed.
+    Cells,
+}
+
+/// A check that a table fails: its line, 0 if it has none, and the word that it names.
+#[derive(Drop, Debug)]
+pub struct TableFault {
+    pub code: TableCode,
+    pub line: u64,
+    pub word: Vec<u8>,
+}
+
+/// The error of a part of a table.
+#[derive(Drop, Debug)]
+pub enum ReadError {
+    Memory,
+    Fault(TableFault),
+}
+
+impl From<AllocError> for ReadError {
+    ghost use Rattle.plan_table.specs.declared.fault.ReadError.TheVariants.{Memory};
+
+    ghost from_gives = { λ _ e. e ≡ Memory };
+
+    fn from(_error: AllocError) -> ReadError {
+        ReadError::Memory
+    }
+}
+
+impl<T: Drop> From<AllocFailed<T>> for ReadError {
+    ghost use Rattle.plan_table.specs.declared.fault.ReadError.TheVariants.{Memory};
+
+    ghost from_gives = { λ _ e. e ≡ Memory };
+
+    fn from(_error: AllocFailed<T>) -> ReadError {
+        ReadError::Memory
+    }
+}

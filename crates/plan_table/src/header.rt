@@ -1,0 +1,162 @@
+//! The header of a table.
+
+ghost use Rattle.std.specs.Prelude.{◌≡◌, ◌≤◌, [], length, map, IfOk};
+ghost use Rattle.plan_table.specs.Header as spec;
+ghost use Rattle.plan_table.specs.Reading.{Gives};
+
+use crate::cells::{name, same, word_fault};
+use crate::fault::{ReadError, TableCode};
+use plan_psplib::trim;
+use std::alloc::{AllocError, Global};
+
+/// What a column has.
+#[derive(Clone, Copy)]
+pub enum Column {
+    Duration,
+    Id,
+    Name,
+    Predecessors,
+    Resource,
+    Nothing,
+}
+
+/// A column: what it has, its header in lower case, and its header as the name of a resource.
+#[derive(Drop)]
+pub struct Head {
+    pub column: Column,
+    pub key: Vec<u8>,
+    pub name: String,
+}
+
+// A header in lower case, without the blanks at its ends.
+fn key_of(alloc: Global, cell: &[u8]) -> Result<Vec<u8>, AllocError>
+    ensures { IfOk result (λ v. v.items ≡ spec.key_of cell.now) }
+{
+    let mut key = Vec::new(alloc);
+    for byte in trim(cell) {
+        key.push(byte.to_ascii_lowercase())?;
+    }
+    Ok(key)
+}
+
+// Whether a header is that of the column of names.
+fn is_name_key(key: &[u8]) -> bool
+    ensures { result ≡ spec.is_name_key key.now }
+{
+    same(key, b"name") || same(key, b"task")
+}
+
+// Whether a header is that of the column of predecessors.
+fn is_predecessors_key(key: &[u8]) -> bool
+    ensures { result ≡ spec.is_predecessors_key key.now }
+{
+    same(key, b"predecessors") || same(key, b"after") || same(key, b"depends on")
+}
+
+// What a column has.
+fn column_of(key: &[u8]) -> Column
+    ensures { result ≡ spec.column_of key.now }
+{
+    if key.is_empty() {
+        Column::Nothing
+    } else if same(key, b"duration") {
+        Column::Duration
+    } else if same(key, b"id") {
+        Column::Id
+    } else if is_name_key(key) {
+        Column::Name
+    } else if is_predecessors_key(key) {
+        Column::Predecessors
+    } else {
+        Column::Resource
+    }
+}
+
+/// Whether a column has this header.
+pub fn has_key(heads: &[Head], key: &[u8]) -> bool
+    ensures { result ≡ spec.has_key key.now (map spec.head_of heads.now) }
+{
+    for head in heads {
+        if same(&head.key, key) {
+            return true;
+        }
+    }
+    false
+}
+
+// 1 for a resource.
+fn resource_count(column: Column) -> usize
+    ensures value { result ≡ spec.resource_count column }
+    ensures limit { result ≤ 1 }
+{
+    match column {
+        Column::Resource => 1,
+        _ => 0,
+    }
+}
+
+/// How many columns are resources.
+pub fn resources_in(heads: &[Head]) -> usize
+    ensures value { result ≡ spec.resources_in (map spec.head_of heads.now) }
+    ensures limit { result ≤ length heads.now }
+{
+    let mut count = 0;
+    for head in heads {
+        count += resource_count(head.column);
+    }
+    count
+}
+
+// A header that isn't empty comes once.
+fn check_once(alloc: Global, before: &[Head], key: &[u8], cell: &[u8]) -> Result<(), ReadError>
+    requires { key.now ≡ spec.key_of cell.now }
+    ensures { Gives (λ u. u) result (spec.once (map spec.head_of before.now) cell.now) }
+{
+    if key.is_empty() || !has_key(before, key) {
+        return Ok(());
+    }
+    Err(word_fault(alloc, TableCode::ColumnTwice, 0, trim(cell)))
+}
+
+// A column behind others.
+#[tactic(auto, unfolding(crate::specs::Header::head_read))]
+fn read_head(alloc: Global, line: u64, before: &[Head], cell: &[u8]) -> Result<Head, ReadError>
+    ensures { Gives spec.head_of result (spec.head_read line
+        (map spec.head_of before.now) cell.now) }
+{
+    let key = key_of(alloc, cell)?;
+    check_once(alloc, before, &key, cell)?;
+    let column = column_of(&key);
+    if resources_in(before) + resource_count(column) > 16 {
+        return Err(word_fault(alloc, TableCode::Limit, line, b""));
+    }
+    let name = name(alloc, line, trim(cell))?;
+    Ok(Head { column, key, name })
+}
+
+// The columns of a header.
+#[tactic(auto, unfolding(crate::specs::Header::heads_at))]
+fn read_heads(alloc: Global, line: u64, cells: &[Vec<u8>]) -> Result<Vec<Head>, ReadError>
+    ensures { Gives (λ v. map spec.head_of v.items) result (spec.heads_at line []
+        (map (λ cell. cell.items) cells.now)) }
+{
+    let mut heads = Vec::new(alloc);
+    for cell in cells {
+        let head = read_head(alloc, line, &heads, cell)?;
+        heads.push(head)?;
+    }
+    Ok(heads)
+}
+
+/// The columns of a header, one of which has the durations.
+#[tactic(auto, unfolding(crate::specs::Header::header))]
+pub fn read_header(alloc: Global, line: u64, cells: &[Vec<u8>]) -> Result<Vec<Head>, ReadError>
+    ensures { Gives (λ v. map spec.head_of v.items) result (spec.header line
+        (map (λ cell. cell.items) cells.now)) }
+{
+    let heads = read_heads(alloc, line, cells)?;
+    if !has_key(&heads, b"duration") {
+        return Err(word_fault(alloc, TableCode::NoDuration, 0, b""));
+    }
+    Ok(heads)
+}

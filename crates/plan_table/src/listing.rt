@@ -1,0 +1,159 @@
+//! What the text of a table says.
+
+ghost use Rattle.std.specs.Prelude.{◌≡◌, ◌≤◌, [], None, length, map, option_map, slice_index_or};
+ghost use Rattle.plan_psplib.specs.Plain.{longest_text};
+ghost use Rattle.plan_table.specs.Csv.{records_of, row_of};
+ghost use Rattle.plan_table.specs.Header.{head_of};
+ghost use Rattle.plan_table.specs.Listing as spec;
+ghost use Rattle.plan_table.specs.Reading.{Gives};
+ghost use Rattle.plan_table.specs.Table.{resource_of};
+
+use crate::cells::word_fault;
+use crate::entries::read_entries;
+use crate::fault::{ReadError, TableCode};
+use crate::header::{Column, Head, read_header};
+use crate::records::{Row, read_records};
+use crate::table::{Activity, Resource};
+use plan_psplib::LONGEST_TEXT;
+use std::alloc::Global;
+use std::str;
+
+/// The activities and the resources of a table.
+#[derive(Drop)]
+pub struct Listing {
+    pub activities: Vec<Activity>,
+    pub resources: Vec<Resource>,
+}
+
+// The capacity at a place.
+fn capacity_at(capacities: &[Option<u32>], place: usize) -> Option<u32>
+    ensures { result ≡ slice_index_or capacities.now place None }
+{
+    if place < capacities.len() {
+        capacities[place]
+    } else {
+        None
+    }
+}
+
+// The resources with that of a column.
+#[tactic(auto, unfolding(crate::specs::Listing::resource_read))]
+fn read_resource(
+    alloc: Global,
+    capacities: &[Option<u32>],
+    before: &mut Vec<Resource>,
+    head: &Head,
+) -> Result<(), ReadError>
+    ensures { Gives (λ _. map resource_of before.new.items) result (spec.resource_read
+        capacities.now (map resource_of before.old.items) (head_of head.now)) }
+{
+    match head.column {
+        Column::Resource => {
+            let place = before.as_slice().len();
+            let name = String::from_str(alloc, head.name.as_str())?;
+            match capacity_at(capacities, place) {
+                Some(capacity) => before.push(Resource { name, capacity })?,
+                None => {
+                    let fault = word_fault(alloc, TableCode::NoCapacity, 0, name.as_bytes());
+                    return Err(fault);
+                }
+            }
+        }
+        _ => {}
+    }
+    Ok(())
+}
+
+// The resources of columns.
+#[tactic(auto, unfolding(crate::specs::Listing::resources_at))]
+fn read_resources(
+    alloc: Global,
+    capacities: &[Option<u32>],
+    heads: &[Head],
+) -> Result<Vec<Resource>, ReadError>
+    ensures { Gives (λ v. map resource_of v.items) result (spec.resources_at capacities.now []
+        (map head_of heads.now)) }
+{
+    let mut resources = Vec::new(alloc);
+    for head in heads {
+        read_resource(alloc, capacities, &mut resources, head)?;
+    }
+    Ok(resources)
+}
+
+// The capacities of their row; none if it hasn't come.
+fn or_none(capacities: &Option<Vec<Option<u32>>>) -> &[Option<u32>]
+    ensures { result.now ≡ spec.or_none (option_map (λ v. v.items) capacities.now) }
+{
+    match capacities {
+        Some(list) => list,
+        None => &[],
+    }
+}
+
+// What records say.
+#[tactic(auto, unfolding(crate::specs::Listing::table_in))]
+fn read_rows(alloc: Global, rows: &[Row]) -> Result<Listing, ReadError>
+    ensures { Gives spec.listing_of result (spec.table_in (map row_of rows.now)) }
+{
+    match rows {
+        [first, rest @ ..] => {
+            let heads = read_header(alloc, first.line, &first.cells)?;
+            let entries = read_entries(alloc, &heads, rest)?;
+            let resources = read_resources(alloc, or_none(&entries.capacities), &heads)?;
+            Ok(Listing {
+                activities: entries.activities,
+                resources,
+            })
+        }
+        [] => Err(word_fault(alloc, TableCode::NoDuration, 0, b"")),
+    }
+}
+
+// The line of a byte.
+fn line_at(text: &[u8], n: usize) -> u64
+    requires within { n ≤ length text.now }
+    requires short { length text.now ≤ longest_text }
+    ensures { result ≡ spec.line_at text.now n }
+{
+    text[..n].iter().filter(|&&byte| byte == b'\n').count() as u64 + 1
+}
+
+// A text is UTF-8.
+#[tactic(auto, using(crate::proofs::ReadLemmas::not_text, crate::proofs::ReadLemmas::is_text))]
+fn check_utf8(alloc: Global, text: &[u8]) -> Result<(), ReadError>
+    requires { length text.now ≤ longest_text }
+    ensures { Gives (λ u. u) result (spec.utf8 text.now) }
+{
+    match str::from_utf8(text) {
+        Ok(_) => Ok(()),
+        Err(error) => {
+            let line = line_at(text, error.valid_up_to());
+            Err(word_fault(alloc, TableCode::NotText, line, b""))
+        }
+    }
+}
+
+// Records whose quotes are closed.
+fn closed_records(alloc: Global, text: &[u8]) -> Result<Vec<Row>, ReadError>
+    requires { length text.now ≤ longest_text }
+    ensures { Gives (λ v. map row_of v.items) result (spec.closed (records_of text.now)) }
+{
+    match read_records(alloc, text)? {
+        Ok(rows) => Ok(rows),
+        Err(line) => Err(word_fault(alloc, TableCode::Cells, line, b"")),
+    }
+}
+
+/// What the text of a table says, or the first check that it fails.
+#[tactic(auto, unfolding(crate::specs::Listing::table_read))]
+pub fn read_listing(alloc: Global, text: &[u8]) -> Result<Listing, ReadError>
+    ensures { Gives spec.listing_of result (spec.table_read text.now) }
+{
+    if text.len() > LONGEST_TEXT {
+        return Err(word_fault(alloc, TableCode::TooLong, 0, b""));
+    }
+    check_utf8(alloc, text)?;
+    let rows = closed_records(alloc, text)?;
+    read_rows(alloc, &rows)
+}

@@ -1,0 +1,89 @@
+//! Tables out of texts.
+
+ghost use Rattle.std.specs.Prelude.{◌≡◌, ◌++◌, ◌∷◌, Ok, map, IfOk, IfErr, OnOk};
+ghost use Rattle.plan_table.specs.Jobs.{network_of, table_jobs};
+ghost use Rattle.plan_table.specs.Limits.{IsWithinLimits};
+ghost use Rattle.plan_table.specs.Listing.{listing_of, table_read};
+ghost use Rattle.plan_table.specs.Refused as spec;
+ghost use Rattle.plan_table.specs.Table.{activity_of, table_of};
+
+use crate::checked::check;
+use crate::fault::{ReadError, TableCode, TableFault};
+use crate::listing::{Listing, read_listing};
+use crate::table::{Activity, Table};
+use plan_net::NetFault;
+use std::alloc::{AllocError, Global};
+
+// The id of activity `j`.
+#[tactic(auto, using(crate::proofs::CycleLemmas::id_there, crate::proofs::CycleLemmas::no_id))]
+fn id_at(activities: &[Activity], j: u32) -> &str
+    ensures { result.now ≡ spec.id_at (map activity_of activities.now) j }
+{
+    let place = (j as usize).saturating_sub(2);
+    if place < activities.len() {
+        activities[place].id.as_str()
+    } else {
+        ""
+    }
+}
+
+// Puts an id behind others, and a space before it.
+fn push_id(word: &mut Vec<u8>, id: &[u8]) -> Result<(), AllocError>
+    ensures { OnOk result (word.new.items ≡ word.old.items ++ (32 ∷ id.now)) }
+{
+    word.push(b' ')?;
+    word.extend_from_slice(id)
+}
+
+// The ids of activities, a space before each.
+fn spaced_ids(
+    alloc: Global,
+    activities: &[Activity],
+    numbers: &[u32],
+) -> Result<Vec<u8>, AllocError>
+    ensures { IfOk result (λ v. v.items ≡ spec.spaced_ids (map activity_of activities.now)
+        numbers.now) }
+{
+    let mut word = Vec::new(alloc);
+    for &j in numbers {
+        push_id(&mut word, id_at(activities, j).as_bytes())?;
+    }
+    Ok(word)
+}
+
+// The fault of a table whose activities have a cycle.
+fn cycle_fault(alloc: Global, activities: &[Activity], members: &[u32]) -> ReadError
+    ensures { spec.IsCycleFault (map activity_of activities.now) members.now result }
+{
+    match spaced_ids(alloc, activities, members) {
+        Ok(word) => ReadError::Fault(TableFault {
+            code: TableCode::Cycle,
+            line: 0,
+            word,
+        }),
+        Err(_) => ReadError::Memory,
+    }
+}
+
+/// Reads a table: its activities, resources and capacities, or the first check that it fails.
+///
+/// Activities without a cycle alone make a table; otherwise the fault names the cycle by its ids.
+pub fn read_table(alloc: Global, text: &[u8]) -> Result<Table, ReadError>
+    // What is read is what the text says.
+    ensures found { IfOk result (λ t. table_read text.now ≡ Ok t) }
+    // Which check is the first that fails, or which cycle there is.
+    ensures refused { IfErr result (spec.IsRefused text.now) }
+{
+    let Listing {
+        activities,
+        resources,
+    } = read_listing(alloc, text)?;
+    match check(alloc, &activities, &resources) {
+        Ok(()) => Ok(Table {
+            activities,
+            resources,
+        }),
+        Err(NetFault::Cycle(members)) => Err(cycle_fault(alloc, &activities, &members)),
+        Err(_) => Err(ReadError::Memory),
+    }
+}

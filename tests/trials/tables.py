@@ -1,0 +1,410 @@
+#!/usr/bin/env python3
+"""Compares `plan import` with a reader of tables in Python, over drawn tables.
+
+    tests/trials/tables.py [--tables 5000] [--seed 1]
+
+Each table is drawn with names, quotes, blanks and all three delimiters; one in three is then damaged
+at some byte. The model reads it with Python's module csv and prints the `.sm` text or the error line
+that docs/formats.md describes. It prints nothing on success. The program is the one that ./plan runs,
+or the one that PLAN_PROGRAM names.
+"""
+
+import argparse
+import csv
+import io
+import os
+import random
+import subprocess
+import sys
+
+sys.dont_write_bytecode = True
+TRIALS = os.path.dirname(os.path.abspath(__file__))
+sys.path.insert(0, os.path.join(os.path.dirname(TRIALS), "clients"))
+from programs import PROGRAM, Wrong
+
+LONGEST_TEXT = 1048576
+MOST_ROWS = 500
+MOST_RESOURCES = 16
+GREATEST = 10000
+LONGEST_SUM = 1000000
+LONGEST_NAME = 200
+LONGEST_ID = 32
+
+BLANKS = "\t\v\f\r\x1a "
+RULE = "*" * 72
+COLUMNS = {
+    "duration": "duration",
+    "id": "id",
+    "name": "name",
+    "task": "name",
+    "predecessors": "predecessors",
+    "after": "predecessors",
+    "depends on": "predecessors",
+}
+
+
+class Refused(Exception):
+    """The line that a table is refused with."""
+
+
+# ---- the model: from bytes to records
+
+
+def records(text, delimiter):
+    """The records of a text, each with the line in which it begins. A record that ends between quotes
+    comes as None."""
+    found, cells, cell, state, line, first = [], [], "", "between", 1, 1
+    for character in text:
+        if state == "between" or state == "after cr":
+            first = line
+        if state in ("between", "after cr") and character in "\r\n":
+            state = "between"
+        elif state == "quoted":
+            if character == '"':
+                state = "after quote"
+            else:
+                cell += character
+        elif state == "after quote" and character == '"':
+            cell, state = cell + '"', "quoted"
+        elif state in ("between", "after cr", "start") and character == '"':
+            state = "quoted"
+        elif character == delimiter:
+            cells, cell, state = cells + [cell], "", "start"
+        elif character in "\r\n":
+            found.append((first, cells + [cell]))
+            cells, cell, state = [], "", "after cr" if character == "\r" else "between"
+        else:
+            cell, state = cell + character, "in"
+        line += character == "\n"
+    if state == "quoted":
+        found.append((first, None))
+    elif state not in ("between", "after cr"):
+        found.append((first, cells + [cell]))
+    return found
+
+
+def same_as_module(text, delimiter, found):
+    """Whether Python's own module reads the same records, of a text that isn't damaged."""
+    rows = [row for row in csv.reader(io.StringIO(text, newline=""), delimiter=delimiter) if row]
+    return rows == [cells for _, cells in found]
+
+
+# ---- the model: from records to a table
+
+
+def number_of(word):
+    """The number that a word is: 1 to 9 decimal digits."""
+    return int(word) if 1 <= len(word) <= 9 and all("0" <= c <= "9" for c in word) else None
+
+
+def amount(word, fault, line):
+    value = number_of(word)
+    if value is None:
+        raise Refused(fault)
+    if value > GREATEST:
+        raise Refused(f"T12 limit line {line}")
+    return value
+
+
+def words_of(cell):
+    for mark in ",;" + BLANKS + "\n":
+        cell = cell.replace(mark, " ")
+    return [word for word in cell.split(" ") if word]
+
+
+def checked_name(name, line):
+    if len(name.encode()) > LONGEST_NAME:
+        raise Refused(f"T12 limit line {line}")
+    if any(ord(c) < 32 for c in name):
+        raise Refused(f"T2 not text line {line}")
+    return name
+
+
+def header_of(line, cells):
+    """The kinds of the columns, and the names of those that are resources."""
+    kinds, keys, resources = [], [], []
+    for cell in cells:
+        name = cell.strip(BLANKS)
+        key = name.lower() if name.isascii() else "".join(c.lower() if c.isascii() else c for c in name)
+        if key and key in keys:
+            raise Refused(f"T4 column {name} twice")
+        keys.append(key)
+        kind = COLUMNS.get(key, "resource") if key else "nothing"
+        kinds.append(kind)
+        if kind == "resource" and len(resources) == MOST_RESOURCES:
+            raise Refused(f"T12 limit line {line}")
+        checked_name(name, line)
+        if kind == "resource":
+            resources.append(name)
+    if "duration" not in kinds:
+        raise Refused("T3 no column duration")
+    return kinds, keys, resources
+
+
+def is_id(word):
+    return 1 <= len(word) <= LONGEST_ID and not any(c in word for c in BLANKS + "\n,;")
+
+
+class Table:
+    """What the records of a table say."""
+
+    def __init__(self, found, given):
+        for line, cells in found[-1:]:
+            if cells is None:
+                raise Refused(f"T13 line {line} cells")
+        line, cells = found[0] if found else (1, [])
+        self.kinds, keys, self.resources = header_of(line, cells)
+        self.id_at = keys.index("id") if "id" in keys else None
+        rows = [(n, c) for n, c in found[1:] if any(x.strip(BLANKS) for x in c)]
+        ids = [self.id_of(k, c) for k, (_, c) in enumerate(rows)]
+        names = [name for name in ids if name != "capacity" or self.id_at is None][:MOST_ROWS]
+        self.numbers = {}
+        for k, name in enumerate(names):
+            self.numbers.setdefault(name, k + 2)
+        self.rows, self.capacities, self.seen, self.total = [], None, [], 0
+        for (n, c), name in zip(rows, ids):
+            self.take(n, c, name)
+        self.amounts = self.all_capacities(given)
+        self.refuse_cycles()
+
+    def id_of(self, k, cells):
+        if self.id_at is None:
+            return str(k + 1)
+        return cells[self.id_at].strip(BLANKS) if self.id_at < len(cells) else ""
+
+    def take(self, line, cells, name):
+        if self.id_at is not None and name == "capacity":
+            return self.take_capacities(line, cells)
+        if len(self.rows) == MOST_ROWS:
+            raise Refused(f"T12 limit line {line}")
+        row = {"name": "", "duration": 0, "before": [], "needs": []}
+        resource = 0
+        for k, kind in enumerate(self.kinds):
+            cell = cells[k].strip(BLANKS) if k < len(cells) else ""
+            if kind == "duration":
+                row["duration"] = amount(cell, f"T5 line {line} duration", line)
+            elif kind == "id":
+                if not is_id(cell):
+                    raise Refused(f"T6 line {line} id")
+                if cell in self.seen:
+                    raise Refused(f"T7 line {line} id {cell} twice")
+            elif kind == "name":
+                row["name"] = checked_name(cell, line)
+            elif kind == "predecessors":
+                for word in words_of(cell):
+                    if word not in self.numbers:
+                        raise Refused(f"T8 line {line} predecessor {word}")
+                    row["before"].append(self.numbers[word])
+            elif kind == "resource":
+                fault = f"T9 line {line} need {self.resources[resource]}"
+                row["needs"].append(amount(cell, fault, line) if cell else 0)
+                resource += 1
+        if len(cells) > len(self.kinds):
+            raise Refused(f"T13 line {line} cells")
+        self.total += row["duration"]
+        if self.total > LONGEST_SUM:
+            raise Refused(f"T12 limit line {line}")
+        self.seen.append(name)
+        self.rows.append(row)
+
+    def take_capacities(self, line, cells):
+        if self.capacities is not None:
+            raise Refused(f"T7 line {line} id capacity twice")
+        self.capacities = []
+        for k, kind in enumerate(self.kinds):
+            if kind == "resource":
+                cell = cells[k].strip(BLANKS) if k < len(cells) else ""
+                fault = f"T9 line {line} need {self.resources[len(self.capacities)]}"
+                self.capacities.append(amount(cell, fault, line) if cell else None)
+        if len(cells) > len(self.kinds):
+            raise Refused(f"T13 line {line} cells")
+
+    def all_capacities(self, given):
+        amounts = []
+        for k, name in enumerate(self.resources):
+            own = self.capacities[k] if self.capacities is not None else None
+            found = given.get(name, own)
+            if found is None:
+                raise Refused(f"T10 no capacity {name}")
+            amounts.append(found)
+        return amounts
+
+    def refuse_cycles(self):
+        """Names the cycle that starts at the least activity of the largest set in which each member
+        has a predecessor in the set, and goes to the least such predecessor again and again."""
+        before = {j + 2: sorted(set(row["before"])) for j, row in enumerate(self.rows)}
+        caught = set(before)
+        while True:
+            free = {j for j in caught if not any(i in caught for i in before[j])}
+            if not free:
+                break
+            caught -= free
+        if not caught:
+            return
+        path, j = [], min(caught)
+        while j not in path:
+            path.append(j)
+            j = min(i for i in before[j] if i in caught)
+        cycle = path[path.index(j):][::-1]
+        least = cycle.index(min(cycle))
+        names = [self.seen[j - 2] for j in cycle[least:] + cycle[:least]]
+        raise Refused("T11 cycle " + " ".join(names))
+
+    # ---- the text
+
+    def jobs(self):
+        count = len(self.rows)
+        zeros = [0] * max(1, len(self.resources))
+        first = [j + 2 for j, row in enumerate(self.rows) if not row["before"]]
+        jobs = [(0, first, zeros)]
+        for j, row in enumerate(self.rows):
+            after = [k + 2 for k, other in enumerate(self.rows) if j + 2 in other["before"]]
+            jobs.append((row["duration"], after or [count + 2], row["needs"] or [0]))
+        return jobs + [(0, [], zeros)]
+
+    def text(self):
+        jobs, amounts, horizon = self.jobs(), self.amounts or [0], sum(r["duration"] for r in self.rows)
+        heads = "".join(f"  R {i + 1}" for i in range(len(amounts)))
+        lines = [RULE, "file with basedata            : plan import", "initial value random generator: 1", RULE]
+        lines += ["projects                      :  1", f"jobs (incl. supersource/sink ):  {len(jobs)}"]
+        lines += [f"horizon                       :  {horizon}", "RESOURCES"]
+        lines += [f"  - renewable                 :  {len(amounts)}   R"]
+        lines += ["  - nonrenewable              :  0   N", "  - doubly constrained        :  0   D", RULE]
+        lines += ["PROJECT INFORMATION:", "pronr.  #jobs rel.date duedate tardcost  MPM-Time"]
+        lines += [f"    1{spaced(6, len(self.rows))}      0{spaced(8, horizon)}        0{spaced(8, horizon)}", RULE]
+        lines += ["PRECEDENCE RELATIONS:", "jobnr.    #modes  #successors   successors"]
+        for j, (_, after, _) in enumerate(jobs):
+            lines.append(f"{j + 1:>4}{spaced(8, 1)}{spaced(10, len(after))}{columns(11, 3, after)}")
+        lines += [RULE, "REQUESTS/DURATIONS:", "jobnr. mode duration" + heads, "-" * 72]
+        for j, (duration, _, needs) in enumerate(jobs):
+            lines.append(f"{j + 1:>3}{spaced(6, 1)}{spaced(5, duration)}{columns(7, 4, needs)}")
+        lines += [RULE, "RESOURCEAVAILABILITIES:", heads, columns(4, 4, amounts), RULE, "PROJECT INFORMATION:"]
+        lines += [f"name {j + 2} {row['name']}" for j, row in enumerate(self.rows) if row["name"]]
+        lines += [f"resource {k + 1} {name}" for k, name in enumerate(self.resources)]
+        return "\n".join(lines + [RULE]) + "\n"
+
+
+def spaced(places, n):
+    return f" {n:>{places}}"
+
+
+def columns(first, further, numbers):
+    return "".join(spaced(first if k == 0 else further, n) for k, n in enumerate(numbers))
+
+
+def wanted(data, given):
+    """What `plan import` prints for these bytes, or the line that it refuses them with."""
+    try:
+        if len(data) > LONGEST_TEXT:
+            raise Refused("T1 too long")
+        try:
+            text = data.decode("utf-8")
+        except UnicodeDecodeError as error:
+            line = data[: error.start].count(b"\n") + 1
+            raise Refused(f"T2 not text line {line}") from error
+        text = text.removeprefix("\ufeff")
+        head = text.split("\n", 1)[0]
+        delimiter = "\t" if "\t" in head else ";" if ";" in head else ","
+        return 0, Table(records(text, delimiter), given).text().encode(), b""
+    except Refused as fault:
+        return 1, b"", str(fault).encode() + b"\n"
+
+
+# ---- drawn tables
+
+
+def drawn_cell(draw, cell, delimiter):
+    """A cell as a spreadsheet writes it."""
+    if draw.random() < 0.2:
+        cell = " " * draw.randrange(3) + cell + " " * draw.randrange(3)
+    if delimiter in cell or '"' in cell or "\n" in cell or draw.random() < 0.2:
+        return '"' + cell.replace('"', '""') + '"'
+    return cell
+
+
+NAMES = ["Roof", "Walls, north", "Fundament Süd", "Drains; old", 'The "big" one', "", "名前", "Garden"]
+HEADS = {
+    "duration": ["duration", "Duration", " DURATION "],
+    "id": ["id", "ID"],
+    "name": ["name", "task", "Task"],
+    "predecessors": ["predecessors", "after", "depends on", "Depends On"],
+}
+
+
+def drawn_table(draw):
+    """A table that is mostly good, as text."""
+    delimiter = draw.choice([",", ";", "\t"])
+    end = draw.choice(["\n", "\r\n"])
+    count = draw.choice([0, 1, 2, 3, 5, 8, 14, 40])
+    resources = [draw.choice(["crew", "digger", "Kran", "bücher"]) + str(k) for k in range(draw.randrange(4))]
+    kinds = ["duration"] + [k for k in ("id", "name", "predecessors") if draw.random() < 0.8] + resources
+    draw.shuffle(kinds)
+    ids = [chr(65 + k) if count <= 26 else f"a{k}" for k in range(count)]
+    if "id" not in kinds:
+        ids = [str(k + 1) for k in range(count)]
+    lines = [[draw.choice(HEADS[k]) if k in HEADS else k for k in kinds]]
+    order = list(range(count))
+    if draw.random() < 0.3:
+        draw.shuffle(order)
+    for place, k in enumerate(order):
+        before = draw.sample(order[:place], min(place, draw.randrange(4)))
+        row = {"duration": str(draw.randrange(30)), "id": ids[k], "name": draw.choice(NAMES)}
+        row["predecessors"] = draw.choice([" ", ",", "; "]).join(ids[i] for i in before)
+        row.update({name: draw.choice(["", "0", "1", "3"]) for name in resources})
+        if draw.random() < 0.02:
+            row[draw.choice(kinds)] = draw.choice(["x", "-1", "99999", "A B", "1000000000"])
+        lines.append([row[kind] for kind in kinds])
+    if "id" in kinds and draw.random() < 0.9:
+        row = {"id": "capacity", **{name: str(draw.randrange(1, 9)) for name in resources}}
+        lines.insert(draw.randrange(1, len(lines) + 1), [row.get(kind, "") for kind in kinds])
+    if draw.random() < 0.2:
+        lines.insert(draw.randrange(1, len(lines) + 1), [""] * len(kinds))
+    mark = "\ufeff" if draw.random() < 0.2 else ""
+    text = end.join(delimiter.join(drawn_cell(draw, cell, delimiter) for cell in line) for line in lines)
+    return mark + text + (end if draw.random() < 0.8 else ""), delimiter
+
+
+def damaged(draw, data):
+    """The same bytes with one of them changed, removed or repeated."""
+    if not data:
+        return data
+    k = draw.randrange(len(data))
+    return draw.choice([
+        data[:k] + bytes([draw.choice(b'",;\t\n\r A0\x00\xff')]) + data[k + 1 :],
+        data[:k] + data[k + 1 :],
+        data[:k] + data[k : k + 1] * 2 + data[k + 1 :],
+        data[:k],
+    ])
+
+
+def try_tables(count, seed):
+    draw = random.Random(seed)
+    for n in range(count):
+        text, delimiter = drawn_table(draw)
+        data = text.encode()
+        found = records(text.removeprefix("\ufeff"), delimiter)
+        if not same_as_module(text.removeprefix("\ufeff"), delimiter, found):
+            raise Wrong(f"table {n}: the model's records differ from those of Python's module csv")
+        if draw.random() < 1 / 3:
+            data = damaged(draw, data)
+        given = {"crew0": draw.randrange(9)} if draw.random() < 0.2 else {}
+        options = [f"--capacity={name}={amount}" for name, amount in given.items()]
+        done = subprocess.run([PROGRAM, "import", *options, "-"], input=data, capture_output=True, timeout=60)
+        answer = (done.returncode, done.stdout, done.stderr.split(b"\n")[0] + b"\n" if done.stderr else b"")
+        if answer != wanted(data, given):
+            raise Wrong(f"table {n} of seed {seed}: {data!r}\n  gave {answer!r}\n  not {wanted(data, given)!r}")
+
+
+def main():
+    parser = argparse.ArgumentParser(prog="tests/trials/tables.py")
+    parser.add_argument("--tables", type=int, default=5000, help="how many tables")
+    parser.add_argument("--seed", type=int, default=1, help="where the tables begin")
+    words = parser.parse_args()
+    try:
+        try_tables(words.tables, words.seed)
+    except Wrong as wrong:
+        sys.exit(str(wrong))
+
+
+if __name__ == "__main__":
+    main()
