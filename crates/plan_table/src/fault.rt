@@ -37,9 +37,9 @@ pub enum TableCode {
     NoDuration,
     /// T4: a header twice.
     ColumnTwice,
-    /// T5: a duration that is no number.
+    /// T5: an invalid duration.
     BadDuration,
-    /// T6: an id that is none.
+    /// T6: an invalid id.
     BadId,
     /// T7: an id twice.
     IdTwice,

@@ -20,7 +20,7 @@ pub enum Column {
     Nothing,
 }
 
-/// A column: what it has, its header in lower case, and its header as the name of a resource.
+/// A column: its kind, its header in lower case, and its header as the name of a resource.
 #[derive(Drop)]
 pub struct Head {
     pub column: Column,
