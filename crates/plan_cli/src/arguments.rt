@@ -44,7 +44,7 @@ enum Form {
 impl Form {
     // Whether the argument is required.
     fn is_required(self) -> bool {
-        matches!(self, Form::Text | Form::Name | Form::Names | Form::Port)
+        matches!(self, Form::Text | Form::Name | Form::Names | Form::Texts | Form::Port)
     }
 }
 
