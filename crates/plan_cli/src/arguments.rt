@@ -44,7 +44,10 @@ enum Form {
 impl Form {
     // Whether the argument is required.
     fn is_required(self) -> bool {
-        matches!(self, Form::Text | Form::Name | Form::Names | Form::Texts | Form::Port)
+        matches!(
+            self,
+            Form::Text | Form::Name | Form::Names | Form::Texts | Form::Port
+        )
     }
 }
 
