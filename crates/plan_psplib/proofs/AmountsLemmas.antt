@@ -49,10 +49,10 @@ unfolding duration_at
 goes_duration total d s t p small fits =
     ok_bind (number_at s) _ (record { value = d; line = t.last }, t) (d, t) (goes_number s t d p)
     (ok_bind (check (nat_le d greatest && nat_le (total + d) greatest_total) code.Limit t.last) _ tt (d, t)
-        (ok_check _ code.Limit t.last (true_both (nat_le d greatest) (nat_le (total + d) greatest_total)
-        (le-leb d greatest small) (le-leb (total + d) greatest_total fits))) refl)
+    (ok_check _ code.Limit t.last (true_both (nat_le d greatest) (nat_le (total + d) greatest_total)
+    (le-leb d greatest small) (le-leb (total + d) greatest_total fits))) refl)
 
-request_goes : (k job total : ℕ) (s : Stream) (x : Request × Stream) → request_row_at k job total s ≡ Ok x →
+pub request_goes : (k job total : ℕ) (s : Stream) (x : Request × Stream) → request_row_at k job total s ≡ Ok x →
     Goes s (job ∷ 1 ∷ x.0.duration ∷ x.0.needs) x.1 × (x.0.duration ≤ greatest)
     × (total + x.0.duration ≤ greatest_total) × IsNeeds k x.0.needs
 unfolding request_row_at
@@ -151,7 +151,7 @@ goes_requests k job rows (d ∷ ds) (ns ∷ nss) s t same p small fits each =
     let sums = sum_behind rows.durations d ds in
     let all = sum_by-cons (λ n. n) d ds in
     ok_bind (request_row_at k job (sum rows.durations) s) _ (row, a.0) (behind rows (d ∷ ds) (ns ∷ nss), t)
-        (goes_request k job (sum rows.durations) row s a.0 a.1 small.0 (omega (arith, all, fits)) each.0)
+    (goes_request k job (sum rows.durations) row s a.0 a.1 small.0 (omega (arith, all, fits)) each.0)
     (goes_requests k (job + 1) (with_row rows row) ds nss a.0 t (omega (arith, same)) a.2 small.1 (omega (arith, sums, fits)) each.1
     ∙ ap (λ (r : Requests). Ok (r, t)) (behind-with_row rows row ds nss))
 
@@ -193,8 +193,8 @@ requests_read n k s r h =
     let total = h.total in
     let same = h.needs_count ∙ sym h.durations_count in
     let read : request_rows_at k n 1 none s ≡ Ok (r, a.0) =
-        ap (λ more. request_rows_at k more 1 none s) (sym h.durations_count)
-        ∙ goes_requests k 1 none r.durations r.needs s a.0 same a.1 h.small (omega (arith, total)) h.each in
+    ap (λ more. request_rows_at k more 1 none s) (sym h.durations_count)
+    ∙ goes_requests k 1 none r.durations r.needs s a.0 same a.1 h.small (omega (arith, total)) h.each in
     ok_bind (request_rows_at k n 1 none s) _ (r, a.0) r read
     (ok_bind (end_at a.0) _ tt r (none_end a.0 a.2) refl)
 

@@ -124,8 +124,8 @@ words-Some text i t e =
     let blank : is_blank (get_or text i 0) ≡ true = let P : ℕ → Type 0 = λ n. is_blank (get_or text n 0) ≡ true in subst P at.0 (passes_at_first is_blank text 0 at.1) in
     let some : 0 < length (take i text) = let n = length-take-le i text (omega (arith, short)) in let m = after_first_byte text i t e in omega (arith, n, m) in
     let behind : words (drop i text) ≡ words (drop (i + 1) text) = ap words (drop-cons text i 0 short)
-        ∙ words-blank (get_or text i 0) (drop (suc i) text) blank
-        ∙ ap (λ n. words (drop n text)) (sym (add-one i)) in
+    ∙ words-blank (get_or text i 0) (drop (suc i) text) blank
+    ∙ ap (λ n. words (drop n text)) (sym (add-one i)) in
     ap (filter is_nonempty) (slice_split-Some is_blank text i e)
     ∙ kept_piece (take i text) (slice_split is_blank (drop (i + 1) text)) some
     ∙ ap (λ ws. take i text ∷ ws) (sym behind)

@@ -122,16 +122,31 @@ said_document text d h =
     let c = h.availabilities in
     ok_bind (plain text) _ tt d (is_plain text h.short h.plain)
     (ok_bind (sizes last (head_of text)) _ z d (sizes_read last (head_of text) z
-        (record { projects = h.one_project; jobs = h.jobs; resources = h.resources; nonrenewable =
-        h.no_nonrenewable; doubly_constrained = h.no_doubly_constrained; jobs_fit =
-        h.jobs_fit; resources_fit = h.resources_fit }))
+    (record {
+      projects = h.one_project;
+      jobs = h.jobs;
+      resources = h.resources;
+      nonrenewable =
+          h.no_nonrenewable;
+      doubly_constrained = h.no_doubly_constrained;
+      jobs_fit =
+          h.jobs_fit;
+      resources_fit = h.resources_fit;
+    }))
     (ok_bind (found_section last (section precedence_title (kept_lines text))) _ a.0 d (ap (found_section last) a.1)
     (ok_bind (precedence z.jobs a.0) _ d.arcs d (precedence_read z.jobs a.0 d.arcs a.3)
     (ok_bind (found_section last (section requests_title (kept_lines text))) _ b.0 d (ap (found_section last) b.1)
     (ok_bind (requests z.jobs z.resources b.0) _ d.requests d
-        (requests_read z.jobs z.resources b.0 d.requests
-        (record { spelled = b.2; durations_count = refl; needs_count = h.rows; small =
-        h.durations_fit; total = h.total_fits; each = h.needs }))
+    (requests_read z.jobs z.resources b.0 d.requests
+    (record {
+      spelled = b.2;
+      durations_count = refl;
+      needs_count = h.rows;
+      small =
+          h.durations_fit;
+      total = h.total_fits;
+      each = h.needs;
+    }))
     (ok_bind (found_section last (section availabilities_title (kept_lines text))) _ c.0 d (ap (found_section last) c.1)
     (ok_bind (availabilities z.resources c.0) _ d.available d (availabilities_read c.0 d.available c.2 h.available_fit)
     (ap (λ n. let e : Document = record { requests = d.requests; arcs = d.arcs; available = d.available; precedence_line = n } in Ok e) a.2))))))))

@@ -12,8 +12,8 @@ pub returns-in_err-row-clause-exact : goal.returns-in_err-row-clause-exact
 returns-in_err-row-clause-exact c =
     let error = err_from_is_err_and c.from_residual-in_err-row.result c.from_residual-in_err-row.ensures.1 in
     rw (error.1, error.2) (rows_fail c.args.jobs c.in_err-row.field-0.0 c.args.jobs c.loop-done.done _
-        (arcs_of_rows 1 (rows_in c.loop-done.rows.items)) c.loop-done.words _ c.loop-done-test.true
-        c.in_err-row.ensures c.loop-done.invariant.reads)
+    (arcs_of_rows 1 (rows_in c.loop-done.rows.items)) c.loop-done.words _ c.loop-done-test.true
+    c.in_err-row.ensures c.loop-done.invariant.reads)
 
 pub loop-done-preserved : goal.loop-done-preserved
 loop-done-preserved c =

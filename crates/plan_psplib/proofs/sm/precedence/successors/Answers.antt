@@ -9,9 +9,9 @@ pub returns-in_err-job : goal.returns-in_err-job
 returns-in_err-job c =
     let error = err_from_is_err_and c.from_residual-in_err-job.result c.from_residual-in_err-job.ensures.1 in
     rw (error.1, error.2) (successors_fail c.args.jobs
-        (errors.Fault c.in_err-job.field-0.0) c.args.count c.loop.counter c.loop.found.items c.loop.words _
-        c.loop-test.true (c.in_err-job.ensures.exact c.loop.found.items
-        (rw c.deref_mut.ensures.value c.loop.invariant.marked)) c.loop.invariant.reads)
+    (errors.Fault c.in_err-job.field-0.0) c.args.count c.loop.counter c.loop.found.items c.loop.words _
+    c.loop-test.true (c.in_err-job.ensures.exact c.loop.found.items
+    (rw c.deref_mut.ensures.value c.loop.invariant.marked)) c.loop.invariant.reads)
 
 pub loop-preserved : goal.loop-preserved
 loop-preserved c = record {
@@ -23,9 +23,9 @@ loop-preserved c = record {
       let marked : List Bool → Type 0 = λ marks. AreMarks marks (c.loop.found.items ++ c.in_ok-job.job ∷ []) in
       let kept : length c.successor.new.marks ≡ c.loop.marks.len = c.successor.auto.marks ∙ c.deref_mut.ensures.len in
       rw c.in_ok-push.ensures.items (subst marked (sym
-          (written_back c.successor.new.marks c.loop.marks.items c.loop.marks.len kept))
-          (c.in_ok-job.ensures.marked c.loop.found.items
-          (rw c.deref_mut.ensures.value c.loop.invariant.marked)));
+      (written_back c.successor.new.marks c.loop.marks.items c.loop.marks.len kept))
+      (c.in_ok-job.ensures.marked c.loop.found.items
+      (rw c.deref_mut.ensures.value c.loop.invariant.marked)));
   room = search rules;
 }
 

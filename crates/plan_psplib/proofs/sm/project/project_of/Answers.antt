@@ -17,8 +17,8 @@ of_rows-requires-clause-durations c = durations_good c.requires.said.0 (document
 pub returns-in-Err : goal.returns-in-Err
 returns-in-Err c =
     let refused = subst (λ (rows : List (Vec ℕ Global)). IsFirstFault
-        (unlagged c.args.document.requests.durations.items (arcs_of_rows 1 (rows_in rows))) c.in-Err.fault)
-        c.deref.ensures.value c.in-Err.ensures.refused in
+    (unlagged c.args.document.requests.durations.items (arcs_of_rows 1 (rows_in rows))) c.in-Err.fault)
+    c.deref.ensures.value c.in-Err.ensures.refused in
     told (document_of c.args.document) c.in-Err.fault c.refusal.result refused c.refusal.ensures
 
 pub returns-in-Ok : goal.returns-in-Ok
@@ -26,7 +26,7 @@ returns-in-Ok c =
     let d = document_of c.args.document in
     let accepted = c.in-Ok.ensures.accepted in
     let is : c.in-Ok.network ≡ unlagged d.requests.durations d.arcs = accepted.0
-        ∙ ap (λ (rows : List (Vec ℕ Global)). unlagged d.requests.durations (arcs_of_rows 1 (rows_in rows)))
-        c.deref.ensures.value in
+    ∙ ap (λ (rows : List (Vec ℕ Global)). unlagged d.requests.durations (arcs_of_rows 1 (rows_in rows)))
+    c.deref.ensures.value in
     let with_network : Net → Project = λ net. record { network = net; needs = d.requests.needs; available = d.available } in
     (project_good c.requires.said.0 d c.in-Ok.network c.requires.said.1 is accepted.1, ap with_network is)

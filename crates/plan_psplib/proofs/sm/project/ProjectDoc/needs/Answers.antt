@@ -11,7 +11,7 @@ returns-clause-amounts c =
     let active = c.requires in
     let below : c.args.activity - 1 < count_of c.self.inside.network = omega (arith, counted, active.0, active.1) in
     let row = row_good good (λ v. v.items) c.self.inside.needs.items (c.args.activity - 1) c.index.result.now
-        (count_of c.self.inside.network) c.self.invariant.rows below c.index.ensures c.self.invariant.needs in
+    (count_of c.self.inside.network) c.self.invariant.rows below c.index.ensures c.self.invariant.needs in
     let Lent : List ℕ → Type 0 = good in
     let Seen : Project → Type 0 = λ p. AreAmounts (length p.available) c.deref.result.now in
     subst Seen c.self.view_is (subst Lent (sym c.deref.ensures.value) row)
