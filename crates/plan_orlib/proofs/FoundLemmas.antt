@@ -152,20 +152,20 @@ unfolding limited_at limited
 avoids_limited least most s =
     avoids_then (number_at s) _ (avoids_number s) (λ n.
     avoids_then (limited least most n.0) _ (avoids_then
-        (check (nat_le least n.0.value && nat_le n.0.value most) code.Limit n.0.line) _
-        (avoids_check _ code.Limit n.0.line (λ e. absurd (cc))) (λ u. avoids_ok n.0.value)) (λ value.
+    (check (nat_le least n.0.value && nat_le n.0.value most) code.Limit n.0.line) _
+    (avoids_check _ code.Limit n.0.line (λ e. absurd (cc))) (λ u. avoids_ok n.0.value)) (λ value.
     avoids_ok _))
 
 avoids_step : (machines total : ℕ) (s : Stream) → Avoids (step_at machines total s)
 unfolding step_at machine_at duration_at
 avoids_step machines total s =
     avoids_then (machine_at machines s) _ (avoids_then (number_at s) _ (avoids_number s)
-        (λ n. avoids_then (check (nat_lt n.0.value machines) code.BadMachine n.0.line) _
-        (avoids_check _ code.BadMachine n.0.line (λ e. absurd (cc))) (λ u. avoids_ok _))) (λ machine.
+    (λ n. avoids_then (check (nat_lt n.0.value machines) code.BadMachine n.0.line) _
+    (avoids_check _ code.BadMachine n.0.line (λ e. absurd (cc))) (λ u. avoids_ok _))) (λ machine.
     avoids_then (duration_at total machine.1) _ (avoids_then (number_at machine.1) _ (avoids_number machine.1)
-        (λ n. avoids_then (check (nat_le n.0.value greatest && nat_le (total + n.0.value) greatest_total)
-        code.Limit n.0.line) _ (avoids_check _ code.Limit n.0.line (λ e. absurd (cc))) (λ u. avoids_ok _)))
-        (λ time.
+    (λ n. avoids_then (check (nat_le n.0.value greatest && nat_le (total + n.0.value) greatest_total)
+    code.Limit n.0.line) _ (avoids_check _ code.Limit n.0.line (λ e. absurd (cc))) (λ u. avoids_ok _)))
+    (λ time.
     avoids_ok _))
 
 avoids_steps : (machines total more : ℕ) (before : List Step) (s : Stream) → Avoids (steps_at machines total more before s)

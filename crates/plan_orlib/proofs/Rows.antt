@@ -16,13 +16,15 @@ step machine time = record { machine = machine; time = time }
 abbrev collection : List ℕ
 collection = codes "a collection of shops\n instance ft06 again\n+++++++++++++++++++++++++++++\ninstance tiny\n+++++++++++++++++++++++++++++\n1 1\n1 1\n0 2\n+++++++++++++++++++++++++++++\ninstance ft06\n+++++++++++++++++++++++++++++\nFisher and Thompson 6x6\n6 6\n2 1 0 3 1 6 3 7 5 3 4 6\n1 8 2 5 4 10 5 10 0 10 3 4\n2 5 3 4 5 8 0 9 1 1 4 7\n1 5 0 5 2 5 3 3 4 8 5 9\n2 9 1 3 4 5 5 4 0 3 3 1\n1 3 3 3 5 9 0 10 4 4 2 1\n+++++++++++++++++++++++++++++\ninstance last\n"
 
-ft06_read : shop (codes "ft06") collection ≡ Ok (record
-    { machines = 6; jobs = (step 2 1 ∷ step 0 3 ∷ step 1 6 ∷ step 3 7 ∷ step 5 3 ∷ step 4 6 ∷ [])
-    ∷ (step 1 8 ∷ step 2 5 ∷ step 4 10 ∷ step 5 10 ∷ step 0 10 ∷ step 3 4 ∷ [])
-    ∷ (step 2 5 ∷ step 3 4 ∷ step 5 8 ∷ step 0 9 ∷ step 1 1 ∷ step 4 7 ∷ [])
-    ∷ (step 1 5 ∷ step 0 5 ∷ step 2 5 ∷ step 3 3 ∷ step 4 8 ∷ step 5 9 ∷ [])
-    ∷ (step 2 9 ∷ step 1 3 ∷ step 4 5 ∷ step 5 4 ∷ step 0 3 ∷ step 3 1 ∷ [])
-    ∷ (step 1 3 ∷ step 3 3 ∷ step 5 9 ∷ step 0 10 ∷ step 4 4 ∷ step 2 1 ∷ []) ∷ [] })
+ft06_read : shop (codes "ft06") collection ≡ Ok (record {
+  machines = 6;
+  jobs = (step 2 1 ∷ step 0 3 ∷ step 1 6 ∷ step 3 7 ∷ step 5 3 ∷ step 4 6 ∷ [])
+      ∷ (step 1 8 ∷ step 2 5 ∷ step 4 10 ∷ step 5 10 ∷ step 0 10 ∷ step 3 4 ∷ [])
+      ∷ (step 2 5 ∷ step 3 4 ∷ step 5 8 ∷ step 0 9 ∷ step 1 1 ∷ step 4 7 ∷ [])
+      ∷ (step 1 5 ∷ step 0 5 ∷ step 2 5 ∷ step 3 3 ∷ step 4 8 ∷ step 5 9 ∷ [])
+      ∷ (step 2 9 ∷ step 1 3 ∷ step 4 5 ∷ step 5 4 ∷ step 0 3 ∷ step 3 1 ∷ [])
+      ∷ (step 1 3 ∷ step 3 3 ∷ step 5 9 ∷ step 0 10 ∷ step 4 4 ∷ step 2 1 ∷ []) ∷ [];
+})
 unfolding shop plain shop_at limited_at limited number_at jobs_at steps_at step_at machine_at duration_at
 ft06_read = refl
 

@@ -10,8 +10,8 @@ pub returns-in_err-row : goal.returns-in_err-row
 returns-in_err-row g c =
     let error = err_from_is_err_and c.from_residual.result c.from_residual.ensures.1 in
     rw (error.1, error.2) (jobs_fail c.args.machines c.in_err-row.field-0.0 c.args.jobs c.loop.counter
-        (map (λ row. row.items) c.loop.rows.items) c.loop.words _ c.loop-test.true
-        (rw c.loop.invariant.total at c.in_err-row.ensures.exact) c.loop.invariant.reads)
+    (map (λ row. row.items) c.loop.rows.items) c.loop.words _ c.loop-test.true
+    (rw c.loop.invariant.total at c.in_err-row.ensures.exact) c.loop.invariant.reads)
 
 pub loop-preserved : goal.loop-preserved
 loop-preserved g c =

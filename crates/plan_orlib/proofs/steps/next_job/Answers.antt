@@ -10,8 +10,8 @@ pub returns-in_err-step-clause-exact : goal.returns-in_err-step-clause-exact
 returns-in_err-step-clause-exact g c =
     let error = err_from_is_err_and c.from_residual.result c.from_residual.ensures.1 in
     rw (error.1, error.2) (steps_fail c.args.machines c.args.before
-        (errors.Fault c.in_err-step.field-0.0) c.args.machines c.loop.counter c.loop.steps.items c.loop.words
-        _ c.loop-test.true (rw c.loop.invariant.total at c.in_err-step.ensures.exact) c.loop.invariant.reads)
+    (errors.Fault c.in_err-step.field-0.0) c.args.machines c.loop.counter c.loop.steps.items c.loop.words
+    _ c.loop-test.true (rw c.loop.invariant.total at c.in_err-step.ensures.exact) c.loop.invariant.reads)
 
 pub loop-preserved : goal.loop-preserved
 loop-preserved g c =
