@@ -219,11 +219,4 @@ PRAGMA integrity_check;
 """
 
 # The text of all rows, whose digest `plan check-office` prints (docs/operations.md, "Backups").
-ROWS = """
-SELECT 'office ' || office FROM meta;
-SELECT 'published ' || code || ' ' || kind || ' ' || capacity FROM published ORDER BY code;
-SELECT 'desk ' || desk || ' ' || digest || ' ' || next FROM desks ORDER BY desk;
-SELECT 'plan ' || desk || ' ' || n || ' ' || kind || ' ' || hex(name) || ' ' || hex(body) || ' ' || start || ' ' || days FROM plans ORDER BY desk, n;
-SELECT 'bind ' || desk || ' ' || n || ' ' || place || ' ' || code FROM binds ORDER BY desk, n, place;
-SELECT 'lag ' || desk || ' ' || n || ' ' || src || ' ' || dst || ' ' || lag FROM lags ORDER BY desk, n, src, dst;
-"""
+ROWS = file_of("examples/rows.sql").decode()

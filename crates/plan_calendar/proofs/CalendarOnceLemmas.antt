@@ -1,5 +1,5 @@
--- What two texts fix of a calendar, and so of its working days.
-use Rattle.std.proofs.Common.{ℕ, ◌≡◌, ◌+◌, Bool, true, false, List, [], ◌∷◌, ◌++◌, map, refl, sym, ◌∙◌, ap, arith, pos, ℤ, ◌+ℤ◌}
+-- Two texts determine a calendar, and so its working days.
+use Rattle.std.proofs.Common.{ℕ, ◌≡◌, Bool, true, false, List, [], ◌∷◌, ◌++◌, map, refl, sym, ◌∙◌, ap, arith, pos, ℤ, ◌+ℤ◌}
 use Rattle.jiff_core.specs.Date.{epoch_day}
 use Rattle.jiff_core.specs.declared.civil.date.Date.{Date}
 use Rattle.jiff_core.proofs.DateLemmas.{epoch_day_same}
@@ -10,7 +10,7 @@ use Rattle.plan_calendar.specs.declared.calendar.CalendarFault.{CalendarFault}
 use Rattle.plan_calendar.specs.declared.calendar.CalendarFault.TheVariants as fault
 use Rattle.plan_calendar.proofs.TextLemmas.{natural_year, same_parts}
 
--- two calendars that go alike: from one day on, by the same marks
+-- two equivalent calendars: the same first day and the same marks
 pub record GoAlike (c d : Workdays) : Type 0 where
   pub start : epoch_day c.start ≡ epoch_day d.start
   pub marks : c.marks ≡ d.marks
@@ -42,14 +42,14 @@ digits_once (x ∷ xs) (y ∷ ys) same =
 pub marks_once : (text : List ℕ) (xs ys : List Bool) → IsMarksText text xs → IsMarksText text ys → xs ≡ ys
 marks_once text xs ys first second = digits_once xs ys (sym first.spelled ∙ second.spelled)
 
--- the calendars of two texts go alike
+-- the calendars of two texts are equivalent
 pub calendar_once : (start marks : List ℕ) (c d : Workdays) → IsCalendar start marks c → IsCalendar start marks d → GoAlike c d
 calendar_once start marks c d first second = record {
   start = start_once start c.start d.start first.start_text second.start_text;
   marks = marks_once marks c.marks d.marks first.marks_text second.marks_text;
 }
 
--- texts are refused for one fault
+-- texts have at most one error
 pub texts_once : (start marks : List ℕ) (f g : CalendarFault) → RefusesTexts start marks f → RefusesTexts start marks g → f ≡ g
 texts_once start marks fault.BadDate fault.BadDate first second = refl
 texts_once start marks fault.BadDate fault.BadDays first second = absurd (first second.0.0 second.0.1)
@@ -59,13 +59,13 @@ texts_once start marks fault.BadDays fault.BadDays first second = refl
 texts_once start marks fault.BadDays fault.BeyondCalendar first second = absurd second
 texts_once start marks fault.BeyondCalendar g first second = absurd first
 
--- and for none where they are a calendar
+-- texts of a calendar have no error
 pub texts_apart : (start marks : List ℕ) (c : Workdays) (f : CalendarFault) → IsCalendar start marks c → RefusesTexts start marks f → ⊥
 texts_apart start marks c fault.BadDate calendar refused = refused c.start calendar.start_text
 texts_apart start marks c fault.BadDays calendar refused = refused.1 c.marks calendar.marks_text
 texts_apart start marks c fault.BeyondCalendar calendar refused = refused
 
--- calendars that go alike have the same working days
+-- equivalent calendars have the same working days
 pub working_alike : (c d : Workdays) (t : ℕ) (date : Date) → GoAlike c d → IsWorkingDay c t date → IsWorkingDay d t date
 working_alike c d t date same day = record {
   days = day.days;

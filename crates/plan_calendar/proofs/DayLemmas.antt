@@ -30,7 +30,7 @@ after_weekday calendar t date day = record {
   before = sym (marks_by_day calendar.marks (epoch_day calendar.start) day.days) ∙ day.before;
 }
 
--- where the day isn't in the calendar's range, there is no working day
+-- if the day isn't in the range of dates, there is no working day
 pub beyond : (calendar : Workdays) (w t days : ℕ) → w ≡ weekday_at calendar → IsMarkedAfter calendar.marks w t days → (IsEpochDay (epoch_day calendar.start +ℤ pos days) → ⊥) → IsBeyond calendar t
 beyond calendar w t days same found outside date day =
     let here : IsMarkedAfter calendar.marks (weekday_at calendar) t days = subst (λ v. IsMarkedAfter calendar.marks v t days) same found in

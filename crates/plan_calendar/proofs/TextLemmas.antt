@@ -1,4 +1,4 @@
--- What the texts of a calendar spell.
+-- The date and the marks that the texts of a calendar spell.
 use Rattle.std.proofs.Common.{◌≡◌, ℕ, zero, suc, ◌+◌, ◌/◌, ◌%◌, ◌<◌, inl, inr, Bool, true, false, nat_eq, List, [], ◌∷◌, ◌++◌, length, get_or, map, Option, Some, None, refl, sym, ◌∙◌, subst, ap, arith, pos, negsuc, ℤ}
 use Rattle.std.specs.List.{list_any}
 use Rattle.std.specs.Option.{IfNone}
@@ -8,7 +8,7 @@ use Rattle.jiff_core.proofs.SignedLemmas.{signed_arith}
 use Rattle.jiff_fmt.specs.Text.{year_text, pad2}
 use Rattle.plan_calendar.specs.CalendarText.{IsStartText, date_bytes, mark_digit, IsMarkDigit, IsMarksText}
 
--- what holds of an absent value, and what follows from it
+-- a fact of an absent value, weakened
 pub none_weaker : {A : Type 0} (r : Option A) (P Q : Type 0) → (P → Q) → IfNone r P → IfNone r Q
 none_weaker None P Q follows p = follows p
 none_weaker (Some x) P Q follows p = p
@@ -46,7 +46,7 @@ digit_at [] k inside = absurd (omega (arith, inside))
 digit_at (mark ∷ marks) zero inside = digit_is mark
 digit_at (mark ∷ marks) (suc k) inside = digit_at marks k (omega (arith, inside))
 
--- a one stands where a weekday is marked
+-- a text contains a one exactly if it marks a weekday
 pub any_one : (marks : List Bool) → list_any (λ byte. nat_eq byte 49) (map mark_digit marks) ≡ list_any (λ mark. mark) marks
 any_one [] = refl
 any_one (true ∷ marks) = refl

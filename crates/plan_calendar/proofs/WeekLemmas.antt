@@ -26,7 +26,7 @@ one_more marks w n =
     let e : n + 1 ≡ suc n = omega arith in
     ap (λ k. marks_before marks w k) e ∙ next marks w n
 
--- one day more, which is marked or isn't
+-- one more day, marked or not
 pub one_marked : (marks : List Bool) (w n : ℕ) (mark : Bool) → mark ≡ mark_after marks w n → mark ≡ true → marks_before marks w (n + 1) ≡ marks_before marks w n + 1
 one_marked marks w n mark same marked = one_more marks w n ∙ ap (λ m. marks_before marks w n + one_if m) (sym same ∙ marked)
 
@@ -74,7 +74,7 @@ rises marks w n (suc m) =
     let h = rises marks w n m in
     omega (arith, f, h)
 
--- more are before a later day than before a marked one
+-- more marked days are before a later day than before a marked one
 above : (marks : List Bool) (w a b : ℕ) → mark_after marks w a ≡ true → a < b → marks_before marks w a < marks_before marks w b
 above marks w a b marked later =
     let e : b ≡ suc a + (b - suc a) = omega (arith, later) in
@@ -90,7 +90,7 @@ same_day marks w t a b x y =
     let down : b < a → marks_before marks w b < marks_before marks w a = above marks w b a y.marked in
     grind (arith, up, down, x.before, y.before)
 
--- no more are marked than there are days
+-- there are at most as many marked days as days
 pub at_most_days : (marks : List Bool) (w n : ℕ) → marks_before marks w n ≤ n
 at_most_days marks w zero =
     let e = none_before marks w in

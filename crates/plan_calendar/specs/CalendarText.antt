@@ -34,7 +34,7 @@ pub record IsCalendar (start marks : List ℕ) (calendar : Workdays) : Type 0 wh
   pub start_text : IsStartText start calendar.start
   pub marks_text : IsMarksText marks calendar.marks
 
--- the texts are refused for this: the date comes first
+-- the error of the texts; that of the date comes first
 abbrev pub RefusesTexts : List ℕ → List ℕ → CalendarFault → Type 0
 RefusesTexts start marks fault.BadDate = HasNoStart start
 RefusesTexts start marks fault.BadDays = ((date : Date) × IsStartText start date) × HasNoMarks marks

@@ -1,12 +1,12 @@
--- The marks along the days from a weekday on, of which 0 is Monday.
+-- The marks of the days from a weekday on. Weekday 0 is Monday.
 use Rattle.std.specs.Prelude.{◌≡◌, ℕ, zero, suc, ◌+◌, ◌%◌, Bool, true, false, List, slice_index_or}
 use Rattle.plan_calendar.specs.WorkingDay.{one_if}
 
--- the mark so many days after the weekday
+-- the mark of the day that is `days` after the weekday
 unfoldable pub mark_after : List Bool → ℕ → ℕ → Bool
 mark_after marks weekday days = slice_index_or marks ((weekday + days) % 7) false
 
--- how many of the first so many days from the weekday on are marked
+-- the number of marked days among the first n days from the weekday on
 unfoldable pub marks_before : List Bool → ℕ → ℕ → ℕ
 marks_before marks weekday zero = 0
 marks_before marks weekday (suc n) = marks_before marks weekday n + one_if (mark_after marks weekday n)

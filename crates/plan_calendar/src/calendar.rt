@@ -16,13 +16,13 @@ use jiff_core::civil;
 use std::marker::Model;
 use thiserror::Error;
 
-/// Why there is no calendar, or no working day.
+/// An error of a calendar or of a working day.
 #[derive(Clone, Copy, Debug, PartialEq, Eq, Error)]
 pub enum CalendarFault {
-    /// The first date isn't written `YYYY-MM-DD`, is none, or isn't from 1900-01-01 to 2199-12-31.
+    /// The first date isn't written `YYYY-MM-DD`, doesn't exist, or isn't from 1900-01-01 to 2199-12-31.
     #[error("G1 date")]
     BadDate,
-    /// The marks aren't seven of `0` and `1`, or have no `1`.
+    /// The marks aren't seven digits `0` or `1`, or none of them is `1`.
     #[error("G2 days")]
     BadDays,
     /// The working day would come after 9999-12-31.
@@ -37,7 +37,7 @@ pub struct Calendar {
     marks: [bool; 7],
 }
 
-// The date so many days later, if there is one.
+// Returns the date `days` days after `start`, if it exists.
 fn later(start: Date, days: u64) -> Option<Date>
     requires { days ≤ MOST_DAYS * 7 + 6 }
     ensures some { IfSome result (λ date. epoch_day date ≡ epoch_day start +ℤ pos days) }
@@ -61,8 +61,9 @@ impl Model for Calendar {
 }
 
 impl Calendar {
-    /// The calendar with this first date, ten bytes `YYYY-MM-DD` from 1900-01-01 to 2199-12-31, and these marks, a byte `0` or
-    /// `1` for each weekday, Monday first, of which one is `1`. If both are bad, the date is rejected. Allocates nothing.
+    /// Returns the calendar with a first date and marks of the weekdays. The date is ten bytes `YYYY-MM-DD`,
+    /// from 1900-01-01 to 2199-12-31. The marks are a byte `0` or `1` for each weekday, Monday first, at
+    /// least one of them `1`. If both are invalid, the error is that of the date. Allocates nothing.
     pub fn new(start: &str, marks: &str) -> Result<Calendar, CalendarFault>
         ensures ok { IfOk result (IsCalendar start.now marks.now) }
         ensures refused { IfErr result (RefusesTexts start.now marks.now) }
@@ -76,8 +77,9 @@ impl Calendar {
         Ok(Calendar { start, marks })
     }
 
-    /// The date on which instant `t` falls: of the dates from the first on whose weekday is marked, the one with exactly `t`
-    /// before it. Allocates nothing, and a far instant takes no longer than a near one.
+    /// Returns the date of instant `t`, in working days from 0 on: the date with a marked weekday that has
+    /// exactly `t` such dates before it, from the first date on. The cost doesn't depend on `t`. Allocates
+    /// nothing.
     pub fn day(&self, t: u64) -> Result<Date, CalendarFault>
         ensures day { IfOk result (IsWorkingDay self.now t) }
         ensures beyond { IfErr result (λ fault. (fault ≡ BeyondCalendar) × IsBeyond self.now t) }

@@ -6,12 +6,12 @@ ghost use Rattle.plan_calendar.specs.CalendarText.{AreTwoDigits, date_bytes, IsS
 
 use jiff::civil::Date;
 
-/// The years in which a calendar may begin.
+/// The range of years in which a calendar may begin.
 pub const FIRST_YEAR: u64 = 1900;
 
 pub const LAST_YEAR: u64 = 2199;
 
-// A year, a month and a day, of which the calendar may have none.
+// A year, a month and a day, which may not form a date.
 #[derive(Clone, Copy)]
 pub struct DateParts {
     pub year: u64,
@@ -34,7 +34,7 @@ fn two_digits(tens: u8, ones: u8) -> Option<u64>
     Some((tens - b'0') as u64 * 10 + (ones - b'0') as u64)
 }
 
-// The parts of ten bytes that are written YYYY-MM-DD.
+// Returns the parts of a text of ten bytes `YYYY-MM-DD`.
 fn date_parts(text: &[u8]) -> Option<DateParts>
     ensures bound { IfSome result (λ parts. (parts.year < 10000) × (parts.month < 100) ×
         (parts.day < 100)) }
@@ -62,7 +62,7 @@ fn date_parts(text: &[u8]) -> Option<DateParts>
     })
 }
 
-// The date with these parts.
+// Returns the date with these parts, if it exists.
 fn date_of(year: u64, month: u64, day: u64) -> Option<Date>
     requires year { year < 10000 }
     requires month { month < 100 }
@@ -78,7 +78,7 @@ fn date_of(year: u64, month: u64, day: u64) -> Option<Date>
     }
 }
 
-// The first date of a calendar, in ten bytes as YYYY-MM-DD.
+// Parses the first date of a calendar: ten bytes `YYYY-MM-DD`, from 1900-01-01 to 2199-12-31.
 pub fn start_date(text: &str) -> Option<Date>
     ensures some { IfSome result (IsStartText text.now) }
     ensures none { IfNone result (HasNoStart text.now) }

@@ -4,7 +4,7 @@ ghost use Rattle.std.specs.Prelude.{◌≡◌, ℕ, ◌<◌, length, slice_index
 ghost use Rattle.std.specs.Bool.{OnTrue};
 ghost use Rattle.plan_calendar.specs.CalendarText.{IsMarkDigit, IsMarksText, HasNoMarks};
 
-// Whether each byte is a digit of a mark.
+// Tests whether each byte is `0` or `1`.
 fn are_mark_digits(bytes: &[u8]) -> bool
     ensures all { OnTrue result (EachIndex bytes.now (λ k. IsMarkDigit (slice_index bytes.now k))) }
     ensures other { result ≡ false → SomeIndex bytes.now (λ k.
@@ -20,7 +20,7 @@ fn are_mark_digits(bytes: &[u8]) -> bool
     true
 }
 
-// The marks of the weekdays, in seven bytes `0` or `1`, Monday first.
+// Parses the marks of the weekdays: seven bytes `0` or `1`, Monday first, at least one of them `1`.
 pub fn week_marks(text: &str) -> Option<[bool; 7]>
     ensures some { IfSome result (IsMarksText text.now) }
     ensures none { IfNone result (HasNoMarks text.now) }

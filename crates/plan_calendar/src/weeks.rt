@@ -5,10 +5,10 @@ ghost use Rattle.plan_calendar.specs.WorkingDay.{IsWeek};
 ghost use Rattle.plan_calendar.specs.declared.weeks.TheConstants.{MOST_DAYS};
 ghost use Rattle.plan_calendar.specs.Weeks.{mark_after, marks_before, IsMarkedAfter};
 
-/// How many days lie between the first and the last date that there is, -9999-01-01 and 9999-12-31.
+/// The number of days from the first date, -9999-01-01, to the last one, 9999-12-31.
 pub const MOST_DAYS: u64 = 7_304_483;
 
-// The mark so many days after the weekday, within a week.
+// Returns the mark of the day `days` days after the weekday, within a week.
 #[tactic(auto, unfolding(crate::specs::Weeks::mark_after))]
 fn mark_at(marks: &[bool], weekday: u64, days: u64) -> bool
     requires seven { length marks.now ≡ 7 }
@@ -19,7 +19,7 @@ fn mark_at(marks: &[bool], weekday: u64, days: u64) -> bool
     marks[((weekday + days) % 7) as usize]
 }
 
-// How many days of a week are marked.
+// Returns the number of marked days of a week.
 #[tactic(auto, using(crate::proofs::WeekLemmas::none_before, crate::proofs::WeekLemmas::one_more, crate::proofs::WeekLemmas::at_most_days))]
 fn marks_of_week(marks: &[bool], weekday: u64) -> u64
     requires week { IsWeek marks.now }
@@ -36,7 +36,7 @@ fn marks_of_week(marks: &[bool], weekday: u64) -> u64
     count
 }
 
-// The day of a week, from the weekday on, that is marked and has so many marked days before it.
+// Returns the marked day of a week, counted from the weekday on, with `before` marked days before it.
 #[tactic(auto, using(crate::proofs::WeekLemmas::none_before, crate::proofs::WeekLemmas::one_more))]
 fn day_of_week(marks: &[bool], weekday: u64, before: u64) -> u64
     requires week { IsWeek marks.now }
@@ -57,7 +57,7 @@ fn day_of_week(marks: &[bool], weekday: u64, before: u64) -> u64
     0
 }
 
-// The marked day after the weekday with exactly `t` before it.
+// Returns the marked day, counted from the weekday on, with exactly `t` marked days before it.
 pub fn nth_marked(marks: &[bool], weekday: u64, t: u64) -> u64
     requires week { IsWeek marks.now }
     requires weekday { weekday < 7 }

@@ -1,4 +1,4 @@
--- The pass back: what follows each activity is raised as soon as the tail of a successor is known.
+-- The backward pass: the entry of each activity is raised as soon as the tail of a successor is known.
 use Rattle.std.proofs.Common.{ℕ, ◌≡◌, ◌≢◌, ◌+◌, ◌-◌, ◌≤◌, ◌<◌, ◌⊎◌, inl, inr, List, length, get_or, set, refl, sym, ◌∙◌, subst, arith, get_or-set_same}
 use Rattle.std.proofs.lemmas.Bool.{cases_eq}
 use Rattle.plan_net.specs.Network.{Net, count_of, IsArc, IsActivity, IsGreatest, lag_of, duration_of}
@@ -11,21 +11,23 @@ use Rattle.plan_cpm.specs.Lengths.{IsLengthFrom, RaisesBefore}
 use Rattle.plan_cpm.proofs.StepLemmas.{tail_step}
 use Rattle.plan_cpm.proofs.PassLemmas.{RightBetween, set_apart, succs_done, succs_right}
 
--- what stands for the activity at p is 0, or the lag and what stands for one of its successors, from the place `low` on
+-- the entry of the activity at p is 0, or the lag plus the entry of one of its successors at an index from
+-- `low` on
 abbrev pub IsReachedFrom : Net → List ℕ → List ℕ → ℕ → ℕ → Type 0
 IsReachedFrom net order list low p =
     (get_or list (get_or order p 0 - 1) 0 ≡ 0)
     ⊎ ((q : ℕ) × (low ≤ q) × (q < length order) × IsArc net (get_or order p 0) (get_or order q 0)
     × (get_or list (get_or order p 0 - 1) 0 ≡ lag_of net (get_or order p 0) (get_or order q 0) + get_or list (get_or order q 0 - 1) 0))
 
--- from the place `left` of the order on the tails are done; before it stands for each activity what follows by them
+-- from index `left` of the order on, the entries are tails; before it they are the greatest times after the
+-- activities, by these tails
 pub record AreRests (net : Net) (order list : List ℕ) (left : ℕ) : Type 0 where
   pub done : RightBetween (λ j. IsGreatest (IsLengthFrom net j)) order list left (length order)
   pub above : (p q : ℕ) → p < left → left ≤ q → q < length order → IsArc net (get_or order p 0) (get_or order q 0)
       → lag_of net (get_or order p 0) (get_or order q 0) + get_or list (get_or order q 0 - 1) 0 ≤ get_or list (get_or order p 0 - 1) 0
   pub reached : (p : ℕ) → p < left → IsReachedFrom net order list left p
 
--- the tail of the activity at m, by what follows it
+-- the tail of the activity at m, from the time after it
 tail_at : (net : Net) (order list : List ℕ) (m tail : ℕ) → IsWithinLimits net → IsLeastOrder net order → IsActivity net (get_or order m 0)
     → m < length order → AreRests net order list (m + 1) → tail ≡ duration_of net (get_or order m 0) + get_or list (get_or order m 0 - 1) 0
     → IsGreatest (IsLengthFrom net (get_or order m 0)) tail
@@ -33,32 +35,32 @@ tail_at net order list m tail limits least activity inside rests is =
     subst (IsGreatest (IsLengthFrom net (get_or order m 0))) (sym is)
     (tail_step net (get_or order m 0) (λ k. get_or list (k - 1) 0) (get_or list (get_or order m 0 - 1) 0) activity
     (succs_right (λ j. IsGreatest (IsLengthFrom net j)) net order list m limits least inside rests.done) above
-        (reached (rests.reached m (omega arith))) (λ k arc. (arc_ends net (get_or order m 0) k limits arc).1))
-        where
-      above : (k : ℕ) → IsArc net (get_or order m 0) k → lag_of net (get_or order m 0) k + get_or list (k - 1) 0 ≤ get_or list (get_or order m 0 - 1) 0
-      above k arc =
-          succs_done (λ h. IsArc net (get_or order m 0) h → lag_of net (get_or order m 0) h + get_or list (h - 1) 0 ≤ get_or list (get_or order m 0 - 1) 0) net order m limits least inside
-          (λ p lower within arc'. rests.above m p (omega arith) lower within arc') k arc arc
+    (reached (rests.reached m (omega arith))) (λ k arc. (arc_ends net (get_or order m 0) k limits arc).1))
+  where
+    above : (k : ℕ) → IsArc net (get_or order m 0) k → lag_of net (get_or order m 0) k + get_or list (k - 1) 0 ≤ get_or list (get_or order m 0 - 1) 0
+    above k arc =
+        succs_done (λ h. IsArc net (get_or order m 0) h → lag_of net (get_or order m 0) h + get_or list (h - 1) 0 ≤ get_or list (get_or order m 0 - 1) 0) net order m limits least inside
+        (λ p lower within arc'. rests.above m p (omega arith) lower within arc') k arc arc
 
-      reached : IsReachedFrom net order list (m + 1) m
-          → (get_or list (get_or order m 0 - 1) 0 ≡ 0) ⊎ ((k : ℕ) × IsArc net (get_or order m 0) k × (get_or list (get_or order m 0 - 1) 0 ≡ lag_of net (get_or order m 0) k + get_or list (k - 1) 0))
-      reached (inl none) = inl none
-      reached (inr (q, past, within, arc, value)) = inr (get_or order q 0, arc, value)
+    reached : IsReachedFrom net order list (m + 1) m
+        → (get_or list (get_or order m 0 - 1) 0 ≡ 0) ⊎ ((k : ℕ) × IsArc net (get_or order m 0) k × (get_or list (get_or order m 0 - 1) 0 ≡ lag_of net (get_or order m 0) k + get_or list (k - 1) 0))
+    reached (inl none) = inl none
+    reached (inr (q, past, within, arc, value)) = inr (get_or order q 0, arc, value)
 
--- a predecessor of the activity at m stands at no place from m on
+-- a predecessor of the activity at m has an index below m
 not_before : (net : Net) (order : List ℕ) → IsLeastOrder net order → (m q : ℕ) → m < length order → m ≤ q → q < length order
     → IsArc net (get_or order q 0) (get_or order m 0) → ⊥
 not_before net order least m q inside past within arc =
     let place = earlier net order least.least (get_or order q 0) (get_or order m 0) m arc inside refl in
     once_in net order least.least q place.0 (omega (arith, place.1, past)) within place.2
 
--- one turn of the pass: the tail at m is set, and what follows its predecessors is raised
+-- one step of the pass: the tail at m is set, and the entries of its predecessors are raised
 pub AreRests-step : (net : Net) (order list after : List ℕ) (m tail : ℕ) → IsWithinLimits net → IsLeastOrder net order
     → ((k : ℕ) → k < length order → IsActivity net (get_or order k 0)) → length list ≡ count_of net → m < length order
     → AreRests net order list (m + 1)
     → tail ≡ duration_of net (get_or order m 0) + get_or list (get_or order m 0 - 1) 0 →
-        RaisesBefore net (get_or order m 0) tail (set list (get_or order m 0 - 1) tail) after →
-        AreRests net order after m
+    RaisesBefore net (get_or order m 0) tail (set list (get_or order m 0 - 1) tail) after →
+    AreRests net order after m
 AreRests-step net order list after m tail limits least activities whole inside rests is raises = record {
   done = record { right = λ k lower upper within. right k lower within (cases_eq k m) };
   above = λ p q lower past within arc. above p q lower past within arc (cases_eq q m);
@@ -68,7 +70,7 @@ AreRests-step net order list after m tail limits least activities whole inside r
   here : get_or (set list (get_or order m 0 - 1) tail) (get_or order m 0 - 1) 0 ≡ tail
   here = get_or-set_same list (get_or order m 0 - 1) tail 0 (omega (arith, activities m inside, whole))
 
-  -- what the tail left as it was
+  -- the entries that setting the tail didn't change
   apart : (p : ℕ) → p < length order → p ≢ m → get_or (set list (get_or order m 0 - 1) tail) (get_or order p 0 - 1) 0 ≡ get_or list (get_or order p 0 - 1) 0
   apart p within other = set_apart net order list least activities p m tail within inside other
 
@@ -111,9 +113,15 @@ AreRests-step net order list after m tail limits least activities whole inside r
       let ends = arc_ends net i (get_or order m 0) limits arc in
       let same : i ≡ get_or order p 0 = omega (arith, place, ends.0, activities p (omega (arith, lower, inside))) in
       let value' : get_or after (get_or order p 0 - 1) 0 ≡ lag_of net i (get_or order m 0) + get_or after (get_or order m 0 - 1) 0 = omega (arith, value, at_m) in
-      inr (m, omega arith, inside, subst (λ (h : ℕ). IsArc net h (get_or order m 0)) same arc, subst
-          (λ (h : ℕ). get_or after (get_or order p 0 - 1) 0 ≡ lag_of net h (get_or order m 0) + get_or after
-          (get_or order m 0 - 1) 0) same value')
+      inr (
+        m,
+        omega arith,
+        inside,
+        subst (λ (h : ℕ). IsArc net h (get_or order m 0)) same arc,
+        subst
+            (λ (h : ℕ). get_or after (get_or order p 0 - 1) 0 ≡ lag_of net h (get_or order m 0) + get_or after
+            (get_or order m 0 - 1) 0) same value',
+      )
   reached p lower (inl same) = from (rests.reached p (omega (arith, lower))) where
     old : get_or after (get_or order p 0 - 1) 0 ≡ get_or list (get_or order p 0 - 1) 0
     old = same ∙ apart p (omega (arith, lower, inside)) (λ equal. absurd (omega (arith, equal, lower)))
@@ -121,10 +129,19 @@ AreRests-step net order list after m tail limits least activities whole inside r
     from : IsReachedFrom net order list (m + 1) p
         → IsReachedFrom net order after m p
     from (inl none) = inl (old ∙ none)
-    from (inr (q, past, within, arc, value)) = inr
-        (q, omega (arith, past), within, arc, omega
-        (arith, old, value, behind q (omega (arith, past)) within
-        (λ equal. absurd (omega (arith, equal, past)))))
+    from (inr (q, past, within, arc, value)) = inr (
+      q,
+      omega (arith, past),
+      within,
+      arc,
+      omega (
+        arith,
+        old,
+        value,
+        behind q (omega (arith, past)) within
+            (λ equal. absurd (omega (arith, equal, past))),
+      ),
+    )
 
 -- no number is raised above the greatest lag and the tail
 pub raised_bound : (net : Net) (j tail most high : ℕ) (before after : List ℕ) → HasGoodLags net → RaisesBefore net j tail before after → most ≤ high

@@ -1,4 +1,4 @@
--- No path without a cycle is longer than all durations and the lags between them.
+-- A path without a cycle is at most as long as all durations and the lags between them.
 use Rattle.std.proofs.Common.{ℕ, suc, zero, ◌≡◌, ◌≢◌, ◌+◌, ◌-◌, ◌*◌, ◌≤◌, ◌<◌, ◌⊎◌, inl, inr, List, [], ◌∷◌, length, get_or, set, sum, refl, sym, ap, arith, get_or-set_other}
 use Rattle.std.specs.List.{Contains}
 use Rattle.std.proofs.lemmas.List.{length-set, set_past, get_or_past}
@@ -13,22 +13,22 @@ use Rattle.plan_net.proofs.RowLemmas.{arc_ends}
 use Rattle.plan_net.proofs.LagLemmas.{lag_of-limit}
 use Rattle.plan_cpm.specs.Lengths.{IsLength, HasNoLag}
 
--- no number of the list comes again
+-- no number of the list recurs
 AreDistinct : List ℕ → Type 0
 AreDistinct [] = Unit {0}
 AreDistinct (j ∷ js) = (Contains js j → ⊥) × AreDistinct js
 
--- each number of the list is a place of another list, counted from 1
+-- each number of the list is an index of another list, counted from 1
 ArePlaces : List ℕ → List ℕ → Type 0
 ArePlaces xs [] = Unit {0}
 ArePlaces xs (j ∷ js) = (1 ≤ j) × (j ≤ length xs) × ArePlaces xs js
 
--- what the list has at those places
+-- the sum of the entries at the indices of those activities
 total_at : List ℕ → List ℕ → ℕ
 total_at xs [] = 0
 total_at xs (j ∷ js) = get_or xs (j - 1) 0 + total_at xs js
 
--- one element of a sum is taken out
+-- one element of a sum is removed
 sum-without : (xs : List ℕ) (k : ℕ) → sum (set xs k 0) + get_or xs k 0 ≡ sum xs
 sum-without [] k = refl
 sum-without (x ∷ xs) k = by_case (cases_lt k (length (x ∷ xs))) where
@@ -39,7 +39,7 @@ sum-without (x ∷ xs) k = by_case (cases_lt k (length (x ∷ xs))) where
 Contains-nil : {x : ℕ} → Contains [] x → ⊥
 Contains-nil (k, within, is) = omega arith
 
--- an element that isn't asked for doesn't count
+-- an element outside the list doesn't affect the sum
 total_at-set : (xs js : List ℕ) (j v : ℕ) → 1 ≤ j → ArePlaces xs js → (Contains js j → ⊥) → total_at (set xs (j - 1) v) js ≡ total_at xs js
 unfolding total_at ArePlaces
 total_at-set xs [] j v low places misses = refl
@@ -52,7 +52,7 @@ unfolding ArePlaces
 ArePlaces-set xs [] k v places = tt
 ArePlaces-set xs (j ∷ js) k v places = (places.0, omega (arith, places.1, length-set xs k v), ArePlaces-set xs js k v places.2)
 
--- distinct places have no more than the whole
+-- the entries at distinct indices add up to at most the whole sum
 total_at-most : (xs js : List ℕ) → AreDistinct js → ArePlaces xs js → total_at xs js ≤ sum xs
 unfolding AreDistinct ArePlaces total_at
 total_at-most xs [] distinct places = omega arith
@@ -61,7 +61,7 @@ total_at-most xs (j ∷ js) distinct places =
     let same : total_at (set xs (j - 1) 0) js ≡ total_at xs js = total_at-set xs js j 0 places.0 places.2 distinct.0 in
     omega (arith, rest, same, sum-without xs (j - 1))
 
--- so many distinct places need as long a list
+-- as many distinct indices need as long a list
 ones : ℕ → List ℕ
 ones zero = []
 ones (suc n) = 1 ∷ ones n
@@ -101,7 +101,7 @@ few xs js distinct places =
     let places' : ArePlaces (ones (length xs)) js = ArePlaces-same xs (ones (length xs)) js (sym (length-ones (length xs))) places in
     omega (arith, total_at-most (ones (length xs)) js distinct places', total_at-ones (length xs) js places', sum-ones (length xs))
 
--- a walk that has an activity has a walk to it
+-- a walk over an activity contains a walk to it
 walk_to : (net : Net) (i : ℕ) (others : List ℕ) (x : ℕ) → IsWalk net i others → Contains others x → (front : List ℕ) × IsWalk net i front × (1 ≤ length front) × (last_of i front ≡ x)
 walk_to net i [] x walk has = absurd (Contains-nil has)
 walk_to net i (j ∷ others) x (arc, walk) (zero, within, is) = (j ∷ [], (arc, tt), omega arith, is)
@@ -109,7 +109,7 @@ walk_to net i (j ∷ others) x (arc, walk) (suc k, within, is) =
     let rest = walk_to net j others x walk (k, omega arith, is) in
     (j ∷ rest.0, (arc, rest.1), omega arith, rest.3)
 
--- on a path without a cycle no activity comes again
+-- on a path without a cycle no activity recurs
 path_distinct : (net : Net) (i : ℕ) (others : List ℕ) → IsWithinLimits net → IsAcyclic net → IsActivity net i → IsWalk net i others → AreDistinct (i ∷ others)
 unfolding AreDistinct
 path_distinct net i [] limits acyclic activity walk = (Contains-nil, tt)
@@ -124,7 +124,7 @@ unfolding ArePlaces
 path_places net i [] limits activity walk = (activity.0, activity.1, tt)
 path_places net i (j ∷ others) limits activity (arc, walk) = (activity.0, activity.1, path_places net j others limits (arc_ends net i j limits arc).1 walk)
 
--- a walk takes its durations, and for each arc the greatest lag at most
+-- a walk lasts at most its durations plus the greatest lag for each arc
 length_after-most : (net : Net) (most i : ℕ) (others : List ℕ) →
     ((h k : ℕ) → IsArc net h k → lag_of net h k ≤ most) → IsWalk net i others →
     length_after net i others ≤ total_at net.durations others + most * length others
@@ -136,7 +136,7 @@ length_after-most net most i (j ∷ others) lags (arc, walk) =
     let more : most * suc (length others) ≡ most * length others + most = mul-suc most (length others) in
     omega (arith, lag, rest, more)
 
--- a path is no longer than all durations, and the greatest lag for each activity but one
+-- a path is at most as long as all durations plus the greatest lag for each activity but one
 pub path_bound : (net : Net) (i : ℕ) (others : List ℕ) → IsSound net → IsPath net i others → path_length net i others ≤ sum net.durations + LONGEST_LAG * (count_of net - 1)
 unfolding total_at
 path_bound net i others sound path =
@@ -147,7 +147,7 @@ path_bound net i others sound path =
     let count : length (i ∷ others) ≤ count_of net = few net.durations (i ∷ others) distinct places in
     omega (arith, most, all, count)
 
--- without lags it is no longer than all durations
+-- without lags a path is at most as long as all durations
 pub path_bound_without_lags : (net : Net) (i : ℕ) (others : List ℕ) → IsSound net → HasNoLag net → IsPath net i others → path_length net i others ≤ sum net.durations
 unfolding total_at
 path_bound_without_lags net i others sound none path =
@@ -170,8 +170,11 @@ duration_bound_without_lags net duration sound greatest none =
     let most : path_length net path.0 path.1 ≤ sum net.durations = path_bound_without_lags net path.0 path.1 sound none path.2 in
     omega (arith, most, path.3)
 
--- and has no more activities than there are
+-- and has at most as many activities as the network
 pub path_count : (net : Net) (i : ℕ) (others : List ℕ) → IsSound net → IsPath net i others → length others < count_of net
-path_count net i others sound path = omega (arith, few net.durations (i ∷ others)
-    (path_distinct net i others sound.limits sound.acyclic path.0 path.1)
-    (path_places net i others sound.limits path.0 path.1))
+path_count net i others sound path = omega (
+  arith,
+  few net.durations (i ∷ others)
+      (path_distinct net i others sound.limits sound.acyclic path.0 path.1)
+      (path_places net i others sound.limits path.0 path.1),
+)

@@ -1,4 +1,4 @@
--- The dates as one: what the passes give together, and the textbook's recurrences.
+-- The dates together: the results of the passes, and the recurrences of the textbook.
 use Rattle.std.proofs.Common.{ℕ, ◌≡◌, ◌+◌, ◌-◌, ◌≤◌, ◌<◌, ◌⊎◌, inl, inr, List, [], ◌∷◌, length, get_or, refl, sym, ◌∙◌, ap, subst, arith}
 use Rattle.plan_net.specs.Network.{Net, count_of, IsArc, IsActivity, IsGreatest, IsLeast, lag_of, duration_of}
 use Rattle.plan_net.specs.Path.{IsWalk, last_of, path_length}
@@ -67,11 +67,16 @@ IsConsistent-from_parts net dates parts = record {
   whole : length dates.durations ≡ count_of net
   whole = ap length parts.durations
 
-  at : (i : ℕ) → i < length dates.durations → record
-      { lasting : get_or dates.durations i 0 ≡ duration_of net (i + 1); begun : duration_of net
-      (i + 1) ≤ get_or dates.finishes i 0; kept : duration_of net
-      (i + 1) ≤ get_or dates.tails i 0; joined : get_or dates.tails i 0 + get_or dates.finishes i 0 ≤
-      dates.duration + duration_of net (i + 1); same : i + 1 - 1 ≡ i }
+  at : (i : ℕ) → i < length dates.durations → record {
+    lasting : get_or dates.durations i 0 ≡ duration_of net (i + 1);
+    begun : duration_of net
+        (i + 1) ≤ get_or dates.finishes i 0;
+    kept : duration_of net
+        (i + 1) ≤ get_or dates.tails i 0;
+    joined : get_or dates.tails i 0 + get_or dates.finishes i 0 ≤
+        dates.duration + duration_of net (i + 1);
+    same : i + 1 - 1 ≡ i;
+  }
   at i within =
       let same : i + 1 - 1 ≡ i = omega arith in
       let n = numbers net dates (i + 1) parts (omega arith, omega (arith, whole)) in
@@ -178,8 +183,8 @@ KeepRecurrences-from_parts net dates parts top = record {
         let arc' : IsArc net before j = subst (λ (x : ℕ). IsArc net before x) ends lastly.arc in
         let activity = (arc_ends net before j parts.limits arc').0 in
         let low : path_length net h lastly.before ≤ early_finish_of dates before =
-            (parts.finishes.greatest before activity).1 (path_length net h lastly.before)
-            (h, lastly.before, (path.0, lastly.walk), refl, refl) in
+        (parts.finishes.greatest before activity).1 (path_length net h lastly.before)
+        (h, lastly.before, (path.0, lastly.walk), refl, refl) in
         let d : duration_of net (last_of g others) ≡ duration_of net j = ap (duration_of net) ends in
         let l : lag_of net before (last_of g others) ≡ lag_of net before j = ap (lag_of net before) ends in
         (before, arc', omega (arith, n.lasting, n.begun, long, lastly.longer, low, d, l, after before j arc'))
@@ -206,8 +211,8 @@ KeepRecurrences-from_parts net dates parts top = record {
     some (h ∷ others, path, long) =
         let arc' = path.1.0 in
         let low : path_length net h others ≤ get_or dates.tails (h - 1) 0 =
-            (parts.tails.greatest h (arc_ends net j h parts.limits arc').1).1 (path_length net h others)
-            (others, ((arc_ends net j h parts.limits arc').1, path.1.1), refl) in
+        (parts.tails.greatest h (arc_ends net j h parts.limits arc').1).1 (path_length net h others)
+        (others, ((arc_ends net j h parts.limits arc').1, path.1.1), refl) in
         (h, arc', omega (arith, n.lasting, n.begun, n.joined, long, low, ahead j h arc'))
 
   reached : (j : ℕ) × IsActivity net j × (early_finish_of dates j ≡ dates.duration)

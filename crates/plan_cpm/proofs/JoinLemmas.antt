@@ -1,4 +1,4 @@
--- Paths joined at an activity: what follows for finishes, tails and starts.
+-- Paths joined at an activity, with consequences for finishes, tails and starts.
 use Rattle.std.proofs.Common.{ℕ, ◌≡◌, ◌+◌, ◌-◌, ◌≤◌, ◌<◌, ◌⊎◌, inl, inr, List, [], ◌∷◌, ◌++◌, length, get_or, refl, sym, ap, subst, arith, below_more}
 use Rattle.std.proofs.lemmas.List.{get_or_append_left, get_or_push}
 use Rattle.plan_net.specs.Network.{Net, IsArc, IsActivity, IsGreatest, lag_of, duration_of}
@@ -28,9 +28,13 @@ after_finish net j k early late arc first second =
     let arc' : IsArc net (last_of path.0 path.1) k = subst (λ (x : ℕ). IsArc net x k) (sym path.3) arc in
     let same : lag_of net (last_of path.0 path.1) k ≡ lag_of net j k = ap (λ (x : ℕ). lag_of net x k) path.3 in
     let longer : path_length net path.0 (path.1 ++ k ∷ []) ≤ late =
-        second.1 (path_length net path.0 (path.1 ++ k ∷ []))
-        (path.0, path.1 ++ k ∷ [], (path.2.0, IsWalk-append net path.0 path.1 (k ∷ []) path.2.1 (arc', tt)),
-        last_of-append path.0 path.1 (k ∷ []), refl) in
+    second.1 (path_length net path.0 (path.1 ++ k ∷ [])) (
+      path.0,
+      path.1 ++ k ∷ [],
+      (path.2.0, IsWalk-append net path.0 path.1 (k ∷ []) path.2.1 (arc', tt)),
+      last_of-append path.0 path.1 (k ∷ []),
+      refl,
+    ) in
     omega (arith, longer, length_after-append net path.0 path.1 (k ∷ []), path.4, same)
 
 -- a predecessor's tail is no shorter than its duration, the lag and the tail after it
@@ -54,7 +58,7 @@ through net j finish tail duration first second all =
     let whole : path_length net to.0 (to.1 ++ from.0) ≤ duration = all.1 (path_length net to.0 (to.1 ++ from.0)) (to.0, to.1 ++ from.0, (to.2.0, IsWalk-append net to.0 to.1 from.0 to.2.1 on), refl) in
     omega (arith, whole, length_after-append net to.0 to.1 from.0, to.4, from.2, same)
 
--- no activity finishes after the end of all
+-- no activity finishes after the project duration
 pub within_all : (net : Net) (j finish duration : ℕ) → IsGreatest (IsLengthTo net j) finish → IsGreatest (IsLength net) duration → finish ≤ duration
 within_all net j finish duration first all = let to = first.0 in all.1 finish (to.0, to.1, to.2, to.4)
 
@@ -70,7 +74,7 @@ finish_at_most_next net finishes duration j v limits are all activity next = by_
       let after = after_finish net j k (get_or finishes (j - 1) 0) (get_or finishes (k - 1) 0) arc (are.greatest j activity) late in
       omega (arith, is, after)
 
--- one more free float goes to the end of the list
+-- one more free float is appended to the list
 pub IsNextStart-push : (net : Net) (finishes list : List ℕ) (duration k value : ℕ) → length list ≡ k →
     IsNextStart net finishes duration (k + 1) (get_or finishes k 0 + value) →
     ((i : ℕ) → i < k → IsNextStart net finishes duration (i + 1) (get_or finishes i 0 + get_or list i 0)) →

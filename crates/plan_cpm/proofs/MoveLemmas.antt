@@ -1,20 +1,20 @@
--- Numbers that stand for activities, of which one after another is raised, or lowered.
+-- Lists of numbers by activity, in which one entry after another is raised or lowered.
 use Rattle.std.proofs.Common.{ℕ, max, min, ◌≡◌, ◌+◌, ◌-◌, ◌<◌, ◌⊎◌, inl, inr, List, length, get_or, set, sym, ◌∙◌, ap, subst, arith, below_more, get_or-set_same, get_or-set_other}
 use Rattle.std.proofs.lemmas.List.{length-set}
 use Rattle.std.proofs.lemmas.Bool.{cases_lt, cases_eq}
 
--- w is the number that stood at x, or what f has for an activity with Q that has its place there
+-- w is the old number at x, or the value of f for an activity with Q that has the index x
 abbrev pub IsOldOrNew : (ℕ → Type 0) → (ℕ → ℕ) → List ℕ → ℕ → ℕ → Type 0
 IsOldOrNew Q f before x w = (w ≡ get_or before x 0) ⊎ ((i : ℕ) × Q i × (x ≡ i - 1) × (w ≡ f i))
 
--- each number that stands for one of the first n items went by R to where f has it, or beyond; the others are as they were
+-- the entries of the first n items were moved by R to their values of f or beyond; the others are unchanged
 pub record AreMoved (R : ℕ → ℕ → Type 0) (Q : ℕ → Type 0) (f : ℕ → ℕ) (items : List ℕ) (n : ℕ) (before after : List ℕ) : Type 0 where
   pub whole : length after ≡ length before
   pub kept : (x : ℕ) → R (get_or before x 0) (get_or after x 0)
   pub moved : (m : ℕ) → m < n → R (f (get_or items m 0)) (get_or after (get_or items m 0 - 1) 0)
   pub reached : (x : ℕ) → IsOldOrNew Q f before x (get_or after x 0)
 
--- one more of them
+-- one more entry is moved
 pub AreMoved-more : (R : ℕ → ℕ → Type 0) (Q : ℕ → Type 0) (f : ℕ → ℕ) (items : List ℕ) (n v : ℕ) (before list : List ℕ) → ((a : ℕ) → R a a)
     → ((a b c : ℕ) → R a b → R b c → R a c) → Q (get_or items n 0) → get_or items n 0 - 1 < length list
     → R (get_or list (get_or items n 0 - 1) 0) v → R (f (get_or items n 0)) v

@@ -1,4 +1,4 @@
--- Starts of successors, of which one after another is taken in.
+-- Starts of successors, taken into account one after another.
 use Rattle.std.proofs.Common.{ℕ, ◌≡◌, ◌+◌, ◌-◌, ◌≤◌, ◌<◌, ◌⊎◌, inl, inr, List, length, get_or, sym, ◌∙◌, subst, arith}
 use Rattle.std.proofs.lemmas.Bool.{cases_lt}
 use Rattle.plan_net.specs.Network.{Net, count_of, IsArc, IsActivity, ListsRising, lag_of, duration_of}
@@ -26,7 +26,7 @@ lag_at_most_start net finishes j k start limits are is arc =
     let after = after_finish net j k (get_or finishes (j - 1) 0) (get_or finishes (k - 1) 0) arc (are.greatest j ends.0) (are.greatest k ends.1) in
     omega (arith, is, after)
 
--- where all predecessors were met, what stands for each was lowered
+-- after all predecessors, the entry of each was lowered
 pub LowersBefore-from_moved : (net : Net) (k start : ℕ) (items before after : List ℕ) → ListsRising (λ j. IsArc net j k) items
     → ((j : ℕ) → IsArc net j k → lag_of net j k ≤ start)
     → AreMoved (λ a b. b ≤ a) (λ j. IsArc net j k) (λ j. start - lag_of net j k) items (length items) before after → LowersBefore net k start before after
@@ -41,7 +41,7 @@ LowersBefore-from_moved net k start items before after listed room moved = recor
   reached x (inl same) = inl same
   reached x (inr (j, arc, place, value)) = inr (j, arc, place, omega (arith, value, room j arc))
 
--- one more successor is taken in
+-- one more successor is taken into account
 pub AreNextStartsOf-more : (net : Net) (finishes list after : List ℕ) (duration n start : ℕ) → IsWithinLimits net
     → start + duration_of net (n + 1) ≡ get_or finishes n 0 → LowersBefore net (n + 1) start list after → AreNextStartsOf net finishes duration n list
     → AreNextStartsOf net finishes duration (n + 1) after
@@ -69,11 +69,15 @@ AreNextStartsOf-more net finishes list after duration n start limits is lowers s
   reached j activity (inr (i, arc, place, value)) =
       let same : i ≡ j = omega (arith, place, activity, (arc_ends net i (n + 1) limits arc).0) in
       let whole : get_or after (j - 1) 0 + lag_of net i (n + 1) + duration_of net (n + 1) ≡ get_or finishes (n + 1 - 1) 0 = omega (arith, value, here) in
-      inr (n + 1, subst (λ (h : ℕ). IsArc net h (n + 1)) same arc, subst
-          (λ (h : ℕ). get_or after (j - 1) 0 + lag_of net h (n + 1) + duration_of net
-          (n + 1) ≡ get_or finishes (n + 1 - 1) 0) same whole)
+      inr (
+        n + 1,
+        subst (λ (h : ℕ). IsArc net h (n + 1)) same arc,
+        subst
+            (λ (h : ℕ). get_or after (j - 1) 0 + lag_of net h (n + 1) + duration_of net
+            (n + 1) ≡ get_or finishes (n + 1 - 1) 0) same whole,
+      )
 
--- where all successors are taken in
+-- after all successors were taken into account
 pub AreNextStarts-whole : (net : Net) (finishes list : List ℕ) (duration : ℕ) → IsWithinLimits net
     → AreNextStartsOf net finishes duration (count_of net) list → AreNextStarts net finishes duration list
 AreNextStarts-whole net finishes list duration limits are = record {

@@ -1,4 +1,4 @@
--- Of each of these a network has only one: its dates, its numbers of total successors.
+-- A network has at most one table of dates and one list of total successors.
 use Rattle.std.proofs.Common.{ℕ, ◌≡◌, ◌+◌, ◌-◌, ◌⊎◌, inl, inr, List, length, get_or, sym, ◌∙◌, ap, subst, arith}
 use Rattle.plan_net.specs.Network.{Net, count_of, IsArc, IsActivity, IsLeast}
 use Rattle.plan_net.proofs.RisingLemmas.{least_once}
@@ -7,7 +7,7 @@ use Rattle.plan_cpm.specs.Lengths.{IsLength, IsLengthTo, IsLengthFrom, AreFinish
 use Rattle.plan_cpm.specs.Dates.{DateTable, AreDates, IsSuccessorStart, early_start_of, early_finish_of, free_float_of}
 use Rattle.plan_cpm.specs.Successors.{IsTotalSuccessor, IsCountOf, AreTotals}
 
--- lists with a number for each activity that agree at each of them are one
+-- lists with equal numbers for all activities are equal
 by_activity : (net : Net) (xs ys : List ℕ) → length xs ≡ count_of net → length ys ≡ count_of net → ((j : ℕ) → IsActivity net j → get_or xs (j - 1) 0 ≡ get_or ys (j - 1) 0) → xs ≡ ys
 by_activity net xs ys long_x long_y each =
     same_entries xs ys (long_x ∙ sym long_y) (λ k within.
@@ -24,15 +24,15 @@ pub tails_once : (net : Net) (xs ys : List ℕ) → AreTails net xs → AreTails
 tails_once net xs ys first second =
     by_activity net xs ys first.whole second.whole (λ j activity. greatest_once (IsLengthFrom net j) _ _ (first.greatest j activity) (second.greatest j activity))
 
--- the least with P is the least with what is the same
+-- the least number with P is the least with an equivalent property
 least_as : (P Q : ℕ → Type 0) (w : ℕ) → ((v : ℕ) → P v → Q v) → ((v : ℕ) → Q v → P v) → IsLeast P w → IsLeast Q w
 least_as P Q w to from least = (to w least.0, λ v holds. least.1 v (from v holds))
 
--- the starts of successors are the same where the early starts are
+-- the starts of successors are the same if the early starts are
 starts_as : (net : Net) (a b : DateTable) (j : ℕ) → ((k : ℕ) → early_start_of a k ≡ early_start_of b k) → (v : ℕ) → IsSuccessorStart net a j v → IsSuccessorStart net b j v
 starts_as net a b j same v (k, arc, is) = (k, arc, is ∙ same k)
 
--- the free floats of an activity, where all else is the same
+-- the free floats of an activity are the same if all other dates are
 floats_once : (net : Net) (a b : DateTable) → AreDates net a → AreDates net b → a.duration ≡ b.duration → a.durations ≡ b.durations → a.finishes ≡ b.finishes
     → (j : ℕ) → IsActivity net j → free_float_of a j ≡ free_float_of b j
 floats_once net a b first second long lasting ends j activity = by_next (next_or_none net j) where
@@ -75,7 +75,7 @@ dates_once net a b first second =
     let floats = by_activity net a.free_floats b.free_floats first.free_count second.free_count (floats_once net a b first second long lasting ends) in
     same_table a b long lasting ends (tails_once net a.tails b.tails first.tails second.tails) floats
 
--- P holds of one count of numbers
+-- the count of numbers with P is unique
 pub count_once : (P : ℕ → Type 0) (m n : ℕ) → IsCountOf P m → IsCountOf P n → m ≡ n
 count_once P m n first second =
     sym first.long ∙ ap (λ (xs : List ℕ). length xs) (rising_once P first.members second.members first.lists second.lists) ∙ second.long

@@ -1,4 +1,4 @@
--- The passes over the order: what is done so far, and what one turn adds.
+-- The passes over the order: the part that is done, and one step.
 use Rattle.std.proofs.Common.{ℕ, ◌≡◌, ◌≢◌, ◌+◌, ◌-◌, ◌≤◌, ◌<◌, ◌⊎◌, inl, inr, List, length, get_or, set, refl, sym, ap, subst, arith, get_or-set_same, get_or-set_other}
 use Rattle.std.proofs.lemmas.List.{set_past}
 use Rattle.std.proofs.lemmas.Bool.{cases_lt, cases_eq, cases_order}
@@ -9,11 +9,11 @@ use Rattle.plan_net.proofs.RowLemmas.{arc_ends}
 use Rattle.plan_net.proofs.RisingLemmas.{place_in}
 use Rattle.plan_net.proofs.CaughtLemmas.{earlier, once_in}
 
--- the numbers of the activities at the places from `low` to before `high` of the order are right
+-- the numbers of the activities from index `low` to before `high` of the order are correct
 pub record RightBetween (P : ℕ → ℕ → Type 0) (order list : List ℕ) (low high : ℕ) : Type 0 where
   pub right : (k : ℕ) → low ≤ k → k < high → k < length order → P (get_or order k 0) (get_or list (get_or order k 0 - 1) 0)
 
--- the activities at two places of the order have two places in a list
+-- the activities at two indices of the order have two indices in a list
 pub order_apart : (net : Net) (order : List ℕ) → IsLeastOrder net order →
     ((k : ℕ) → k < length order → IsActivity net (get_or order k 0)) → (k m : ℕ) → k < length order →
     m < length order → k ≢ m → get_or order k 0 - 1 ≢ get_or order m 0 - 1
@@ -27,7 +27,7 @@ order_apart net order least activities k m within inside apart same = distinct (
     ]
   ]
 
--- a number that is set for one activity changes that of no other
+-- setting the number of one activity changes that of no other
 pub set_apart : (net : Net) (order list : List ℕ) → IsLeastOrder net order →
     ((k : ℕ) → k < length order → IsActivity net (get_or order k 0)) → (k m v : ℕ) → k < length order →
     m < length order → k ≢ m → get_or (set list (get_or order m 0 - 1) v)
@@ -36,7 +36,7 @@ set_apart net order list least activities k m v within inside apart =
     get_or-set_other list (get_or order m 0 - 1) (get_or order k 0 - 1) v 0
     (order_apart net order least activities k m within inside apart)
 
--- one more number is right
+-- one more number is correct
 pub RightBetween-set : (P : ℕ → ℕ → Type 0) (net : Net) (order list : List ℕ) (low high m v : ℕ) →
     IsLeastOrder net order → ((k : ℕ) → k < length order → IsActivity net (get_or order k 0)) →
     length list ≡ count_of net → m < length order → P (get_or order m 0) v → (new_low new_high : ℕ) →
@@ -45,15 +45,15 @@ pub RightBetween-set : (P : ℕ → ℕ → Type 0) (net : Net) (order list : Li
     (set list (get_or order m 0 - 1) v) new_low new_high
 RightBetween-set P net order list low high m v least activities whole inside here new_low new_high between
     right = record { right = λ k lower upper within. by_case k lower upper within (cases_eq k m) } where
-  by_case : (k : ℕ) → new_low ≤ k → k < new_high → k < length order → (k ≡ m) ⊎ (k ≡ m → ⊥) → P (get_or order k 0) (get_or (set list (get_or order m 0 - 1) v) (get_or order k 0 - 1) 0)
-  by_case k lower upper within (inl same) =
-      let a = activities m inside in
-      let place : get_or order m 0 - 1 < length list = omega (arith, a, whole) in
-      subst (λ (x : ℕ). P (get_or order x 0) (get_or (set list (get_or order m 0 - 1) v) (get_or order x 0 - 1) 0)) (sym same)
-      (subst (P (get_or order m 0)) (sym (get_or-set_same list (get_or order m 0 - 1) v 0 place)) here)
-  by_case k lower upper within (inr other) =
-      let bounds = between k lower upper other in
-      subst (P (get_or order k 0)) (sym (set_apart net order list least activities k m v within inside other)) (right.right k bounds.0 bounds.1 within)
+      by_case : (k : ℕ) → new_low ≤ k → k < new_high → k < length order → (k ≡ m) ⊎ (k ≡ m → ⊥) → P (get_or order k 0) (get_or (set list (get_or order m 0 - 1) v) (get_or order k 0 - 1) 0)
+      by_case k lower upper within (inl same) =
+          let a = activities m inside in
+          let place : get_or order m 0 - 1 < length list = omega (arith, a, whole) in
+          subst (λ (x : ℕ). P (get_or order x 0) (get_or (set list (get_or order m 0 - 1) v) (get_or order x 0 - 1) 0)) (sym same)
+          (subst (P (get_or order m 0)) (sym (get_or-set_same list (get_or order m 0 - 1) v 0 place)) here)
+      by_case k lower upper within (inr other) =
+          let bounds = between k lower upper other in
+          subst (P (get_or order k 0)) (sym (set_apart net order list least activities k m v within inside other)) (right.right k bounds.0 bounds.1 within)
 
 -- the predecessors of the activity at m are done
 pub preds_right : (P : ℕ → ℕ → Type 0) (net : Net) (order list : List ℕ) (m : ℕ) → IsLeastOrder net order →
@@ -63,7 +63,7 @@ preds_right P net order list m least inside right i arc =
     let place = earlier net order least.least i (get_or order m 0) m arc inside refl in
     subst (λ (x : ℕ). P x (get_or list (x - 1) 0)) place.2 (right.right place.0 (omega arith) place.1 (omega (arith, place.1)))
 
--- what holds of the activities behind the place m holds of the successors of that at m
+-- a fact of the activities after index m is a fact of the successors of the one at m
 pub succs_done : (Q : ℕ → Type 0) (net : Net) (order : List ℕ) (m : ℕ) → IsWithinLimits net →
     IsLeastOrder net order → m < length order → ((p : ℕ) → m + 1 ≤ p → p < length order →
     Q (get_or order p 0)) → (k : ℕ) → IsArc net (get_or order m 0) k → Q k
@@ -85,7 +85,7 @@ pub succs_right : (P : ℕ → ℕ → Type 0) (net : Net) (order list : List �
     IsArc net (get_or order m 0) k → P k (get_or list (k - 1) 0)
 succs_right P net order list m limits least inside right = succs_done (λ j. P j (get_or list (j - 1) 0)) net order m limits least inside (λ p lower within. right.right p lower within within)
 
--- where the order is done, each activity is
+-- if the order is done, each activity is
 pub each_right : (P : ℕ → ℕ → Type 0) (net : Net) (order list : List ℕ) → IsLeastOrder net order → RightBetween P order list 0 (length order) → (j : ℕ) → IsActivity net j → P j (get_or list (j - 1) 0)
 each_right P net order list least right j activity =
     let place = place_in order j (least.each j activity) in

@@ -1,4 +1,4 @@
--- A sound network has dates: the greatest lengths of paths, along its order and back, and the floats that they leave.
+-- A sound network has dates: the greatest lengths of paths, along its order and back, and the floats.
 use Rattle.std.proofs.Common.{ℕ, suc, zero, ◌≡◌, ◌+◌, ◌-◌, ◌≤◌, ◌<◌, ◌⊎◌, inl, inr, List, [], ◌∷◌, ◌++◌, length, get_or, set, replicate, refl, sym, ◌∙◌, ap, subst, arith}
 use Rattle.std.specs.List.{Contains}
 use Rattle.std.proofs.lemmas.List.{length-set, length-replicate, length_push, get_or_append_left, get_or_push}
@@ -19,7 +19,7 @@ use Rattle.plan_cpm.proofs.DateLemmas.{duration_greatest, AreDates-from_parts}
 
 -- ---- the greatest and the least over arcs
 
--- w is the greatest of f on the arcs with P, 0 if there is none
+-- w is the greatest value of f on the arcs with P, 0 if there is none
 record IsMost (P : ℕ × ℕ → Type 0) (f : ℕ × ℕ → ℕ) (arcs : List (ℕ × ℕ)) (w : ℕ) : Type 0 where
   above : (arc : ℕ × ℕ) → Contains arcs arc → P arc → f arc ≤ w
   reached : (w ≡ 0) ⊎ ((arc : ℕ × ℕ) × Contains arcs arc × P arc × (w ≡ f arc))
@@ -28,7 +28,7 @@ some_most : (P : ℕ × ℕ → Type 0) (f : ℕ × ℕ → ℕ) → ((arc : ℕ
 some_most P f decide [] = (0, record { above = λ arc has holds. absurd (omega (arith, has.1)); reached = inl refl })
 some_most P f decide (first ∷ arcs) = by_first (decide first) (some_most P f decide arcs)
   where
-    -- what is reached among the others
+    -- a value that is attained among the other arcs
     later : (w : ℕ) → (w ≡ 0) ⊎ ((arc : ℕ × ℕ) × Contains arcs arc × P arc × (w ≡ f arc)) → (w ≡ 0) ⊎ ((arc : ℕ × ℕ) × Contains (first ∷ arcs) arc × P arc × (w ≡ f arc))
     later w (inl none) = inl none
     later w (inr (arc, has, holds, is)) = inr (arc, Contains-append_right (first ∷ []) arcs arc has, holds, is)
@@ -92,7 +92,7 @@ some_fewest P f limit decide (first ∷ arcs) = by_first (decide first) (some_fe
       | inr more ↦ (w, record { within = fewest.within; below = λ arc has. low w w fewest (omega arith) more arc (in_cons first arcs arc has); reached = later w fewest.reached })
     ]
 
--- ---- a list of what there is for each activity
+-- ---- a list with an entry for each activity
 
 pub some_list : (P : ℕ → ℕ → Type 0) (n : ℕ) → ((j : ℕ) → 1 ≤ j → j ≤ n → (v : ℕ) × P j v)
     → (list : List ℕ) × (length list ≡ n) × ((j : ℕ) → 1 ≤ j → j ≤ n → P j (get_or list (j - 1) 0))
@@ -114,7 +114,7 @@ some_list P (suc n) each = by_rest (some_list P n (λ j low high. each j low (om
 -- ---- finishes and tails
 
 module _ (net : Net) (limits : IsWithinLimits net) (order : List ℕ) (least : IsLeastOrder net order) (activities : (k : ℕ) → k < length order → IsActivity net (get_or order k 0)) where
-  -- the finish of the activity at m, where those before it are right
+  -- the finish of the activity at m, if those before it are correct
   some_finish : (list : List ℕ) (m : ℕ) → m < length order → RightBetween (λ j. IsGreatest (IsLengthTo net j)) order list 0 m → (v : ℕ) × IsGreatest (IsLengthTo net (get_or order m 0)) v
   some_finish list m inside right = by_most (some_most (λ arc. arc.1 ≡ j) (λ arc. get_or list (arc.0 - 1) 0 + lag_of net arc.0 j) (λ arc. cases_eq arc.1 j) net.arcs)
     where
@@ -134,7 +134,7 @@ module _ (net : Net) (limits : IsWithinLimits net) (order : List ℕ) (least : I
           by_reached (inl none) = inl none
           by_reached (inr (arc, has, same, is)) = inr (arc.0, subst (λ (k : ℕ). IsArc net arc.0 k) same has, is)
 
-  -- the finishes of the first so many activities of the order
+  -- the finishes of the first m activities of the order
   finishes_to : (m : ℕ) → m ≤ length order → (list : List ℕ) × (length list ≡ count_of net) × RightBetween (λ j. IsGreatest (IsLengthTo net j)) order list 0 m
   finishes_to zero few = (replicate (count_of net) 0, length-replicate (count_of net) 0, record { right = λ k lower upper within. absurd (omega (arith, upper)) })
   finishes_to (suc m) few =
@@ -151,7 +151,7 @@ module _ (net : Net) (limits : IsWithinLimits net) (order : List ℕ) (least : I
       let all = finishes_to (length order) (omega arith) in
       (all.0, record { whole = all.1; greatest = each_right (λ j. IsGreatest (IsLengthTo net j)) net order all.0 least all.2 })
 
-  -- the tail of the activity at m, where those behind it are right
+  -- the tail of the activity at m, if those after it are correct
   some_tail : (list : List ℕ) (m : ℕ) → m < length order →
       RightBetween (λ j. IsGreatest (IsLengthFrom net j)) order list (m + 1) (length order) →
       (v : ℕ) × IsGreatest (IsLengthFrom net (get_or order m 0)) v
@@ -173,7 +173,7 @@ module _ (net : Net) (limits : IsWithinLimits net) (order : List ℕ) (least : I
           by_reached (inl none) = inl none
           by_reached (inr (arc, has, same, is)) = inr (arc.1, subst (λ (h : ℕ). IsArc net h arc.1) same has, is)
 
-  -- the tails of the last so many activities of the order
+  -- the tails of the last n activities of the order
   tails_of_last : (n m : ℕ) → n + m ≡ length order → (list : List ℕ) × (length list ≡ count_of net) × RightBetween (λ j. IsGreatest (IsLengthFrom net j)) order list m (length order)
   tails_of_last zero m all = (replicate (count_of net) 0, length-replicate (count_of net) 0, record { right = λ k lower upper within. absurd (omega (arith, all, lower, upper)) })
   tails_of_last (suc n) m all =
@@ -227,7 +227,7 @@ some_duration net finishes limits are = by_list finishes refl
         let found = some_greatest first others in
         (found.0, duration_greatest net (first ∷ others) found.0 limits (subst (AreFinishes net) is are) found.1 found.2)
 
--- what the starts of successors leave to an activity
+-- the least start of a successor less its lag
 some_next : (net : Net) (finishes : List ℕ) (duration j : ℕ) → IsWithinLimits net → AreFinishes net finishes → IsActivity net j → (v : ℕ) × IsNextStart net finishes duration j v
 some_next net finishes duration j limits are activity =
     by_fewest (some_fewest (λ arc. arc.0 ≡ j) (λ arc. get_or finishes (arc.1 - 1) 0 - duration_of net arc.1 - lag_of net j arc.1) duration (λ arc. cases_eq arc.0 j) net.arcs)

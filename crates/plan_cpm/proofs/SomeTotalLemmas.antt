@@ -1,4 +1,4 @@
--- A sound network has numbers of total successors: whether a path leads from one activity to another is decided.
+-- A sound network has numbers of total successors, since the existence of a path is decidable.
 use Rattle.std.proofs.Common.{ℕ, suc, zero, ◌≡◌, ◌+◌, ◌≤◌, ◌<◌, ◌⊎◌, inl, inr, List, [], ◌∷◌, ◌++◌, length, get_or, refl, sym, subst, arith}
 use Rattle.std.specs.List.{Contains}
 use Rattle.std.proofs.lemmas.Bool.{cases_eq}
@@ -15,12 +15,12 @@ use Rattle.plan_cpm.proofs.ReachLemmas.{led_to, arc_leads, leads_on, leads_via}
 use Rattle.plan_cpm.proofs.SomeDateLemmas.{some_list, order_activities}
 
 module _ (net : Net) (limits : IsWithinLimits net) (order : List ℕ) (least : IsLeastOrder net order) (h : ℕ) where
-  -- a path leads from the activity at m, where it is decided for those behind it
+  -- a path from the activity at m exists or not, if this is decided for those after it
   leads_at : (m : ℕ) → m < length order → ((p : ℕ) → m + 1 ≤ p → p < length order → Decided (Leads net (get_or order p 0) h)) → Decided (Leads net (get_or order m 0) h)
   leads_at m inside behind =
       by_search (some_element (λ arc. IsArc net j arc.1 × ((arc.1 ≡ h) ⊎ Leads net arc.1 h))
-          (λ arc. decide_both (IsArc net j arc.1) ((arc.1 ≡ h) ⊎ Leads net arc.1 h) (decide_arc net j arc.1)
-          (λ there. from_successor arc.1 there)) net.arcs)
+      (λ arc. decide_both (IsArc net j arc.1) ((arc.1 ≡ h) ⊎ Leads net arc.1 h) (decide_arc net j arc.1)
+      (λ there. from_successor arc.1 there)) net.arcs)
     where
       j : ℕ
       j = get_or order m 0
@@ -44,7 +44,7 @@ module _ (net : Net) (limits : IsWithinLimits net) (order : List ℕ) (least : I
           let step = leads_via net j h limits leads in
           none (j, step.0) step.1 (step.1, step.2))
 
-  -- it is decided for the last so many activities of the order
+  -- this is decided for the last n activities of the order
   leads_of_last : (n m : ℕ) → n + m ≡ length order → (p : ℕ) → m ≤ p → p < length order → Decided (Leads net (get_or order p 0) h)
   leads_of_last zero m all p lower within = absurd (omega (arith, all, lower, within))
   leads_of_last (suc n) m all p lower within = by_place (leads_of_last n (m + 1) (omega (arith, all))) (cases_eq m p)
@@ -71,7 +71,7 @@ decide_total net order limits least j activity k = by_parts (cases_eq k j) (deci
     by_parts (inr other) (inl (others, path, some, ends)) = inl (other, (others, path, ends))
     by_parts (inr other) (inr none) = inr (λ total. none (leads total))
 
--- the numbers from 1 to n of which something holds, rising
+-- the numbers from 1 to n with Q, in rising order
 pub some_rising : (Q : ℕ → Type 0) → ((k : ℕ) → Decided (Q k)) → (n : ℕ) → (list : List ℕ) × ListsRising (λ i. (1 ≤ i) × (i ≤ n) × Q i) list
 some_rising Q decide zero = ([], ListsRising-nil Q)
 some_rising Q decide (suc n) = by_last (some_rising Q decide n) (decide (n + 1))
@@ -80,9 +80,12 @@ some_rising Q decide (suc n) = by_last (some_rising Q decide n) (decide (n + 1))
     same = omega arith
 
     by_last : (list : List ℕ) × ListsRising (λ i. (1 ≤ i) × (i ≤ n) × Q i) list → Decided (Q (n + 1)) → (list : List ℕ) × ListsRising (λ i. (1 ≤ i) × (i ≤ suc n) × Q i) list
-    by_last (list, listed) (inl holds) = (list ++ (n + 1)
-        ∷ [], subst (λ (most : ℕ). ListsRising (λ i. (1 ≤ i) × (i ≤ most) × Q i) (list ++ (n + 1) ∷ [])) same
-        (ListsRising-push Q n list holds listed))
+    by_last (list, listed) (inl holds) = (
+      list ++ (n + 1)
+          ∷ [],
+      subst (λ (most : ℕ). ListsRising (λ i. (1 ≤ i) × (i ≤ most) × Q i) (list ++ (n + 1) ∷ [])) same
+          (ListsRising-push Q n list holds listed),
+    )
     by_last (list, listed) (inr fails) = (list, subst (λ (most : ℕ). ListsRising (λ i. (1 ≤ i) × (i ≤ most) × Q i) list) same (ListsRising-skip Q n list fails listed))
 
 -- a sound network has numbers of total successors

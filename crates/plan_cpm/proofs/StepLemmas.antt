@@ -20,10 +20,14 @@ finish_step net j finish start activity done above reached = (some reached, ever
   some (inr (i, arc, is)) =
       let path = (done i arc).0 in
       let arc' : IsArc net (last_of path.0 path.1) j = subst (λ (x : ℕ). IsArc net x j) (sym path.3) arc in
-      let same : lag_of net (last_of path.0 path.1) j ≡ lag_of net i j = ap (λ (x : ℕ). lag_of net x j) path.3 in
-      (path.0, path.1 ++ j ∷ [], (path.2.0, IsWalk-append net path.0 path.1 (j ∷ []) path.2.1 (arc', tt)),
-          last_of-append path.0 path.1 (j ∷ []), omega
-          (arith, length_after-append net path.0 path.1 (j ∷ []), path.4, is, same))
+      let same : lag_of net (last_of path.0 path.1) j ≡ lag_of net i j = ap (λ (x : ℕ). lag_of net x j) path.3 in (
+        path.0,
+        path.1 ++ j ∷ [],
+        (path.2.0, IsWalk-append net path.0 path.1 (j ∷ []) path.2.1 (arc', tt)),
+        last_of-append path.0 path.1 (j ∷ []),
+        omega
+            (arith, length_after-append net path.0 path.1 (j ∷ []), path.4, is, same),
+      )
 
   every : (v : ℕ) → IsLengthTo net j v → v ≤ start + duration_of net j
   every v (i, [], path, ends, long) = let same : duration_of net i ≡ duration_of net j = ap (duration_of net) ends in omega (arith, long, same)
@@ -56,14 +60,16 @@ tail_step net j tail rest activity done above reached ends = (some reached, ever
       let a : path_length net k others ≤ tail k = (done k arc).1 (path_length net k others) (others, (ends k arc, path.1.1), refl) in
       omega (arith, above k arc, a, long)
 
--- a running maximum: it is above one more, and is still reached
+-- a running maximum: it is at least one more value, and is still attained
 pub greatest_more : (Q : ℕ → Type 0) (f : ℕ → ℕ) (items : List ℕ) (n latest ready new : ℕ) →
     new ≡ max latest ready → Q (get_or items n 0) → ready ≡ f (get_or items n 0) →
     ((m : ℕ) → m < n → f (get_or items m 0) ≤ latest) → (latest ≡ 0) ⊎ ((i : ℕ) × Q i × (latest ≡ f i)) →
     ((m : ℕ) → m < n + 1 → f (get_or items m 0) ≤ new) × ((new ≡ 0) ⊎ ((i : ℕ) × Q i × (new ≡ f i)))
-greatest_more Q f items n latest ready new is here value above reached =
-    (below_more (λ m. f (get_or items m 0) ≤ new) n (λ m lower. omega (arith, above m lower))
-    (omega (arith, value)), by_case (cases_lt latest ready)) where
+greatest_more Q f items n latest ready new is here value above reached = (
+  below_more (λ m. f (get_or items m 0) ≤ new) n (λ m lower. omega (arith, above m lower))
+      (omega (arith, value)),
+  by_case (cases_lt latest ready),
+) where
   kept : ready ≤ latest → (latest ≡ 0) ⊎ ((i : ℕ) × Q i × (latest ≡ f i)) → (new ≡ 0) ⊎ ((i : ℕ) × Q i × (new ≡ f i))
   kept low (inl none) = inl (omega (arith, is, none))
   kept low (inr (i, has, same)) = inr (i, has, omega (arith, is, same))
@@ -72,7 +78,7 @@ greatest_more Q f items n latest ready new is here value above reached =
   by_case (inl higher) = inr (get_or items n 0, here, omega (arith, is, value))
   by_case (inr lower) = kept lower reached
 
--- what is reached is bounded by what it is reached from
+-- a start that is attained is bounded by the finish that attains it
 pub start_bound : (net : Net) (list : List ℕ) (j start most : ℕ) → HasGoodLags net →
     ((k : ℕ) → get_or list k 0 ≤ most) → (start ≡ 0)
     ⊎ ((i : ℕ) × IsArc net i j × (start ≡ get_or list (i - 1) 0 + lag_of net i j)) → start ≤ most + 10000

@@ -7,7 +7,7 @@ use Rattle.plan_net.specs.Path.{IsPath, last_of}
 abbrev pub IsTotalSuccessor : Net → ℕ → ℕ → Type 0
 IsTotalSuccessor net j k = (k ≢ j) × ((others : List ℕ) × IsPath net j others × (last_of j others ≡ k))
 
--- how many numbers P holds of
+-- count is the number of numbers with P
 pub record IsCountOf (P : ℕ → Type 0) (count : ℕ) : Type 0 where
   pub members : List ℕ
   pub lists : ListsRising P members

@@ -1,4 +1,4 @@
-//! Free floats, and `dates`, which puts all together.
+//! Free floats, and `dates`, which computes all dates.
 
 ghost use Rattle.std.specs.Prelude.{◌≡◌, ℕ, ◌+◌, ◌*◌, ◌-◌, ◌≤◌, ◌<◌, length, sum, IfOk, slice_index, EachIndex, SomeIndex};
 ghost use Rattle.plan_net.specs.Network.{IsActivity, IsArc, IsGreatest, count_of, lag_of};
@@ -25,7 +25,7 @@ fn greatest(values: &[u64]) -> u64
     most
 }
 
-// Lowers what stands for each predecessor of `k` to what the start of `k` leaves to its end.
+// Lowers the entry of each predecessor of `k` to at most `start`, the start of `k`, less the lag of the arc.
 fn lower_before(network: &Network, k: u32, start: u64, nexts: &mut Vec<u64>)
     requires activity { IsActivity network.now k }
     requires whole { length nexts.old.items ≡ count_of network.now }
@@ -40,7 +40,8 @@ fn lower_before(network: &Network, k: u32, start: u64, nexts: &mut Vec<u64>)
     }
 }
 
-// The least start of a successor, less the arc's lag, for each activity; the whole duration without successors.
+// Returns for each activity the least start of a successor less the lag of the arc, at most the project
+// duration.
 fn next_starts(
     alloc: Global,
     network: &Network,
@@ -89,7 +90,8 @@ fn durations_of(alloc: Global, network: &Network) -> Result<Vec<u64>, AllocError
     Ok(list)
 }
 
-/// The dates of the activities (the critical path method of Kelley and Walker 1959).
+/// Returns the dates of the activities (the critical path method of Kelley and Walker 1959). The only error
+/// is out of memory.
 pub fn dates(alloc: Global, network: &Network) -> Result<Dates, AllocError>
     ensures dates { IfOk result (AreDates network.now) }
     ensures recurrences { IfOk result (KeepRecurrences network.now) }
@@ -99,7 +101,7 @@ pub fn dates(alloc: Global, network: &Network) -> Result<Dates, AllocError>
     ensures bound_without_lags { IfOk result (λ made. HasNoLag network.now →
         made.duration ≤ sum network.now.durations) }
 {
-    // the network's facts, on which the proof rests
+    // The proof needs the facts of the network, which this call states.
     let _count = network.len();
     let finishes = earliest_finishes(alloc, network)?;
     let after = tails(alloc, network)?;

@@ -1,6 +1,7 @@
-//! Dates of activity networks by the critical path method: earliest and latest dates, floats, tails and successors.
+//! Dates of activity networks by the critical path method: earliest and latest dates, floats, tails and
+//! successors.
 //!
-//! The contracts speak of all paths; the code makes one pass forward and one back.
+//! The contracts define the dates by all paths; the code makes one forward and one backward pass.
 #![tactic(auto)]
 
 mod floats;

@@ -1,4 +1,4 @@
-//! The pass forward (earliest finishes) and the pass back (tails). Begin here.
+//! The forward pass (earliest finishes) and the backward pass (tails).
 
 ghost use Rattle.std.specs.Prelude.{◌≡◌, ℕ, ◌+◌, ◌-◌, ◌≤◌, ◌⊎◌, length, IfOk, slice_index, EachIndex};
 ghost use Rattle.plan_net.specs.Network.{IsActivity, IsArc, count_of, lag_of};
@@ -7,10 +7,10 @@ ghost use Rattle.plan_cpm.specs.Lengths.{AreFinishes, AreTails, RaisesBefore};
 use plan_net::Network;
 use std::alloc::{AllocError, Global};
 
-// No path is as long as this: 502 durations of 10,000 and as many lags.
+// A bound on the length of a path, in time units: 502 durations and 502 lags of 10,000 each.
 pub(crate) const FARTHEST: u64 = 10_040_000;
 
-// The greatest finish of a predecessor and the arc's lag; 0 without predecessors.
+// Returns the greatest sum of a predecessor's finish and the lag of its arc, 0 without predecessors.
 fn last_before(network: &Network, j: u32, finishes: &[u64]) -> u64
     requires activity { IsActivity network.now j }
     requires whole { length finishes.now ≡ count_of network.now }
@@ -41,7 +41,7 @@ pub(crate) fn earliest_finishes(alloc: Global, network: &Network) -> Result<Vec<
     Ok(finishes)
 }
 
-// Raises what follows each predecessor of `j` to the lag of its arc and the tail of `j`.
+// Raises the entry of each predecessor of `j` to at least the lag of its arc plus the tail of `j`.
 fn raise_before(network: &Network, j: u32, tail: u64, rests: &mut Vec<u64>)
     requires activity { IsActivity network.now j }
     requires whole { length rests.old.items ≡ count_of network.now }
@@ -66,7 +66,7 @@ pub fn tails(alloc: Global, network: &Network) -> Result<Vec<u64>, AllocError>
     while left > 0 {
         left -= 1;
         let j = order[left];
-        // what follows `j` stands where its tail will
+        // so far the entry of `j` excludes its duration
         let tail = network.duration(j) + tails[j as usize - 1];
         tails[j as usize - 1] = tail;
         raise_before(network, j, tail, &mut tails);

@@ -1,4 +1,4 @@
-//! Total successors, by marks united from the end of the order on.
+//! Total successors, computed from the end of the order by unions of marks.
 
 ghost use Rattle.std.specs.Prelude.{◌≡◌, ℕ, ◌≤◌, ◌⊎◌, length, true, false, slice_index_or, IfOk};
 ghost use Rattle.plan_net.specs.Network.{IsActivity, count_of};
@@ -9,7 +9,7 @@ ghost use Rattle.plan_cpm.specs.Reached.{AreReaches, AreReachesAfter, IsReach};
 use plan_net::{MOST_ACTIVITIES, Network};
 use std::alloc::{AllocError, Global};
 
-// Sets each mark that the other row has.
+// Sets each mark that is set in the other row.
 fn unite(row: &mut Vec<bool>, other: &[bool])
     requires { length row.old.items ≡ length other.now }
     ensures whole { length row.new.items ≡ length row.old.items }
@@ -27,7 +27,7 @@ fn unite(row: &mut Vec<bool>, other: &[bool])
     }
 }
 
-// The marks of the activities to which paths lead from `j`, by those of its successors.
+// Returns the marks of the activities that paths from `j` reach, computed from the rows of its successors.
 fn reach_of(
     alloc: Global,
     network: &Network,
@@ -50,7 +50,7 @@ fn reach_of(
     Ok(row)
 }
 
-// How many marks are set.
+// Returns the number of marks that are set.
 fn marks_set(row: &[bool]) -> u32
     requires { length row.now ≤ MOST_ACTIVITIES }
     ensures { IsCountOf (λ k. (1 ≤ k) × (k ≤ length row.now) × IsPlaced row.now k) result }
@@ -64,7 +64,7 @@ fn marks_set(row: &[bool]) -> u32
     count
 }
 
-// As many rows as activities, all of them empty.
+// Returns `count` empty rows.
 fn empty_rows(alloc: Global, count: usize) -> Result<Vec<Vec<bool>>, AllocError>
     ensures { IfOk result (λ rows. length rows.items ≡ count) }
 {
@@ -75,7 +75,7 @@ fn empty_rows(alloc: Global, count: usize) -> Result<Vec<Vec<bool>>, AllocError>
     Ok(rows)
 }
 
-// For each activity the marks of those to which paths lead from it, from the end of the order on.
+// Returns for each activity the marks of those that paths from it reach, computed from the end of the order.
 fn reaches(alloc: Global, network: &Network) -> Result<Vec<Vec<bool>>, AllocError>
     ensures { IfOk result (λ rows. AreReaches network.now rows.items) }
 {
@@ -91,7 +91,7 @@ fn reaches(alloc: Global, network: &Network) -> Result<Vec<Vec<bool>>, AllocErro
     Ok(rows)
 }
 
-/// For each activity how many others come at some time after it: its direct and indirect successors.
+/// Returns the number of direct and indirect successors of each activity.
 pub fn total_successors(alloc: Global, network: &Network) -> Result<Vec<u32>, AllocError>
     ensures { IfOk result (λ list. AreTotals network.now list.items) }
 {

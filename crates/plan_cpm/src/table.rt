@@ -61,7 +61,7 @@ impl Dates {
         }
     }
 
-    /// T: the least duration of the whole network, which is the length of its longest path.
+    /// T: the least duration of the project, which is the length of the longest path.
     pub fn duration(&self) -> u64
         ensures { result ≡ self.now.duration }
     {
@@ -84,7 +84,7 @@ impl Dates {
         self.finishes[index_of(j)]
     }
 
-    /// LS: the latest start of activity `j` that delays nothing.
+    /// LS: the latest start of activity `j` that doesn't delay the project.
     pub fn ls(&self, j: u32) -> u64
         requires { IsDated self.now j }
         ensures { result ≡ late_start_of self.now j }
@@ -92,7 +92,7 @@ impl Dates {
         self.duration - self.tails[index_of(j)]
     }
 
-    /// LF: the latest finish of activity `j` that delays nothing.
+    /// LF: the latest finish of activity `j` that doesn't delay the project.
     pub fn lf(&self, j: u32) -> u64
         requires { IsDated self.now j }
         ensures { result ≡ late_finish_of self.now j }
@@ -100,7 +100,7 @@ impl Dates {
         self.duration - self.tails[index_of(j)] + self.durations[index_of(j)]
     }
 
-    /// TF: the total float of activity `j`, by which it may start later without delaying the whole.
+    /// TF: the total float of activity `j`, by which it may start later without delaying the project.
     pub fn tf(&self, j: u32) -> u64
         requires { IsDated self.now j }
         ensures { result ≡ total_float_of self.now j }
@@ -118,7 +118,7 @@ impl Dates {
         self.free_floats[index_of(j)]
     }
 
-    /// Whether activity `j` is critical: it has no total float.
+    /// Tests whether activity `j` is critical: its total float is 0.
     pub fn critical(&self, j: u32) -> bool
         requires { IsDated self.now j }
         ensures { IsTrue result ↔ (total_float_of self.now j ≡ 0) }

@@ -5,7 +5,7 @@ use Rattle.std.proofs.lemmas.List.Elements.{All-nil, All-push, All-weaker}
 use Rattle.plan_exact.specs.Words.{WordTree}
 use Rattle.plan_exact.specs.Visited.{Found, initial_found, better, best, IsTakenFrom, IsFirstLeast}
 
--- what is taken from a list is taken from a longer one
+-- a result taken from a list is also taken from a longer one
 taken_more : (t : WordTree) (initial : ℕ) (ws : List (List ℕ)) (v : List ℕ) (value : ℕ) (word : Option (List ℕ)) → IsTakenFrom t initial ws value word → IsTakenFrom t initial (ws ++ v ∷ []) value word
 taken_more t initial ws v value None h = h
 taken_more t initial ws v value (Some w) h = record {

@@ -1,4 +1,4 @@
--- What the solution of a project depends on.
+-- The data on which the solution of a project depends.
 use Rattle.std.proofs.Common.{◌≡◌, ℕ, List, sym, subst}
 use Rattle.plan_sgs.specs.Instances.{Planned, problem_of}
 use Rattle.plan_sgs.specs.ProjectWords.{letters_after, is_full, makespan_by, least_of_all, bound_of}
@@ -7,14 +7,14 @@ use Rattle.plan_exact.specs.ProjectTrees.{project_tree}
 use Rattle.plan_exact.specs.ProjectSolutions.{project_outcome, IsProjectSolution}
 use Rattle.plan_exact.specs.declared.shop_solution.Solved.{Solved}
 
--- the instance with a content, out of a project with these availabilities
+-- the instance with a content, from a project with these availabilities
 abbrev instance_of : Content → List ℕ → Planned
 instance_of c available = record {
   project = record { network = c.network; needs = c.needs; available = available };
   capacities = c.capacities;
 }
 
--- what the file says to be available doesn't matter beside the capacities
+-- the availabilities of the file don't matter once capacities are given
 available_is_idle : (c : Content) (old new : List ℕ) (budget : ℕ) (solved : Solved) → IsProjectSolution (instance_of c old) budget solved → IsProjectSolution (instance_of c new) budget solved
 unfolding project_outcome project_tree problem_of letters_after is_full makespan_by least_of_all bound_of
 available_is_idle c old new budget solved is = record {
@@ -26,7 +26,7 @@ available_is_idle c old new budget solved is = record {
   ends = is.ends;
 }
 
--- a solution of one instance is one of every instance with the same content
+-- a solution of one instance is a solution of every instance with the same content
 pub same_content_solves : (i j : Planned) (budget : ℕ) (solved : Solved) → content_of j ≡ content_of i → IsProjectSolution i budget solved → IsProjectSolution j budget solved
 same_content_solves i j budget solved same is =
     subst (λ (c : Content). IsProjectSolution (instance_of c j.project.available) budget solved) (sym same)

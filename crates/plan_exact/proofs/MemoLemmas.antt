@@ -1,4 +1,4 @@
--- What a memo's entries keep as they are looked up, moved to the front and put in.
+-- The entries of a memo: lookup, moving an entry to the front, and insertion.
 use Rattle.std.proofs.Common.{◌≡◌, ◌≢◌, ℕ, ◌+◌, ◌-◌, ◌≤◌, Bool, true, false, ◌&&◌, nat_eq, List, [], ◌∷◌, ◌++◌, take, get_or, Contains, inl, inr, Option, Some, None, refl, sym, ap, ◌∙◌, subst, add-one, true≢false, arith}
 use Rattle.std.specs.Prelude.{All, IfSome, map, Vec}
 use Rattle.std.specs.Global.{Global}
@@ -32,7 +32,7 @@ use Rattle.plan_exact.specs.declared.questions.Question.TheVariants as question
 use Rattle.plan_exact.specs.declared.questions.ShopQuestion.{ShopQuestion}
 use Rattle.plan_exact.specs.declared.questions.ProjectQuestion.{ProjectQuestion}
 
--- the tests that `==` makes of steps and of questions
+-- the tests of `==` on steps and on questions
 abbrev pub same_step : Step → Step → Bool
 same_step a b = nat_eq a.machine b.machine && nat_eq a.time b.time
 
@@ -59,14 +59,14 @@ same_step_decides a b =
     Decides-like (same_step a b) (λ e. λ i. record { machine = e.0 i; time = e.1 i }) (λ e. (ap (λ w. w.machine) e, ap (λ w. w.time) e))
     (Decides-and (nat_eq a.machine b.machine) (nat_eq a.time b.time) (Decides-eqb a.machine b.machine) (Decides-eqb a.time b.time))
 
--- equal questions ask of equal things, within equal budgets
+-- equal questions ask the same, within equal budgets
 of_shop-parts : (s t : JobShop) (a b : ℕ) → OfShop s a ≡ OfShop t b → (s ≡ t) × (a ≡ b)
 of_shop-parts s t a b e = (cc, cc)
 
 of_project-parts : (c d : Content) (a b : ℕ) → OfProject c a ≡ OfProject d b → (c ≡ d) × (a ≡ b)
 of_project-parts c d a b e = (cc, cc)
 
--- two questions on shops are the same exactly where they ask the same
+-- two questions on shops are equal exactly if they ask the same
 same_shop_decides : (q k : ShopQuestion) → Decides (same_shop q k) (asked_by (question.Shop q) ≡ asked_by (question.Shop k))
 same_shop_decides q k =
     let steps = slice_eq-Decides same_step_decides q.steps.items k.steps.items (pointwise same_step q.steps.items k.steps.items) refl in
@@ -90,7 +90,7 @@ same_numbers_decides xs ys = slice_eq-Decides Decides-eqb xs ys (pointwise nat_e
 abbrev rows_of : List (Vec ℕ Global) → List (List ℕ)
 rows_of rows = map (λ row. row.items) rows
 
--- rows are compared by what they hold
+-- rows are compared by their contents
 same_rows_decides : (xs ys : List (Vec ℕ Global)) → Decides (pointwise same_row xs ys) (rows_of xs ≡ rows_of ys)
 same_rows_decides [] [] = (λ _. refl, λ _. refl)
 same_rows_decides [] (y ∷ ys) = (λ e. cc, λ e. cc)
@@ -99,7 +99,7 @@ same_rows_decides (x ∷ xs) (y ∷ ys) =
     Decides-like (same_row x y && pointwise same_row xs ys) (λ e. λ i. e.0 i ∷ e.1 i) (λ e. (cc, cc))
     (Decides-and _ _ (same_numbers_decides x.items y.items) (same_rows_decides xs ys))
 
--- two questions on projects are the same exactly where they ask the same
+-- two questions on projects are equal exactly if they ask the same
 same_project_decides : (q k : ProjectQuestion) → Decides (same_project q k) (asked_by (question.Project q) ≡ asked_by (question.Project k))
 same_project_decides q k =
     let arcs = slice_eq-Decides same_arc_decides q.arcs.items k.arcs.items (pointwise same_arc q.arcs.items k.arcs.items) refl in
@@ -126,7 +126,7 @@ same_project_decides q k =
     (Decides-and _ _ (same_rows_decides q.needs.items k.needs.items)
     (Decides-and _ _ (same_numbers_decides q.capacities.items k.capacities.items) (Decides-eqb q.budget k.budget))))))
 
--- two questions are the same exactly where they ask the same
+-- two questions are equal exactly if they ask the same
 pub same_question_decides : (q k : Question) → Decides (same_question q k) (asked_by q ≡ asked_by k)
 same_question_decides (question.Shop q) (question.Shop k) = same_shop_decides q k
 same_question_decides (question.Shop q) (question.Project k) = (λ e. cc, λ e. cc)
@@ -136,7 +136,7 @@ same_question_decides (question.Project q) (question.Project k) = same_project_d
 abbrev Entry : Type 0
 Entry = Question × Solved
 
--- where there is a value there is its entry, and the list falls in two around it
+-- if a value is found, the list has an entry with it, and splits around the entry
 record IsFound (test : Question → Bool) (es : List Entry) (solved : Solved) : Type 0 where
   key : Question
   before : List Entry
@@ -175,7 +175,7 @@ found test (e ∷ es) solved h = (elim (test e.0) as (λ y. test e.0 ≡ y → I
   | false ↦ λ t. found_later test e es solved t (found test es solved (rw t at h))
 ]) refl
 
--- where there is no value no key asks what q asks
+-- if no value is found, no key asks the same as q
 pub not_found : (q : Question) (es : List Entry) → lookup (same_question q) es ≡ None → Contains (questions es) (asked_by q) → ⊥
 not_found q [] h c = let within = c.1 in omega arith
 not_found q (e ∷ es) h c = (elim (same_question q e.0) as (λ y. same_question q e.0 ≡ y → ⊥) [
@@ -186,7 +186,7 @@ not_found q (e ∷ es) h c = (elim (same_question q e.0) as (λ y. same_question
   ]
 ]) refl
 
--- what is true of each entry stays so as one of them moves to the front
+-- a fact of each entry remains one if an entry moves to the front
 promoted_all : (P : Entry → Type 0) (test : Question → Bool) (es : List Entry) → All P es → All P (promoted test es)
 promoted_all P test es all = λ k d within.
     let e = get_or (promoted test es) k d in
@@ -208,7 +208,7 @@ promoted_remembers q es solved h =
     ap questions moved ∙ (λ i. same i ∷ map-append (λ e. asked_by e.0) f.before f.after i) in
     inl (questions f.before, questions f.after, was, is)
 
--- what is found answers what is asked
+-- the value that is found answers the question
 pub found_answers : (q : Question) (es : List Entry) (solved : Solved) → All IsAnswered es → lookup (same_question q) es ≡ Some solved
     → Answers (asked_by q) solved
 found_answers q es solved all h =
@@ -217,7 +217,7 @@ found_answers q es solved all h =
     let answered : IsAnswered (f.key, solved) = All-contains IsAnswered es (f.key, solved) all (Contains-lookup_entry (same_question q) es (f.key, solved) f.entry).0 in
     subst (λ (a : Asked). Answers a solved) same answered
 
--- a copy of an answer solves the shop that the answer does
+-- a copy of an answer solves the same shop
 copy_solves_shop : (s : JobShop) (budget : ℕ) (solved copy : Solved) → copy.kind ≡ solved.kind → copy.schedule.starts.items ≡ solved.schedule.starts.items
     → copy.schedule.makespan ≡ solved.schedule.makespan → IsSolution s budget solved → IsSolution s budget copy
 copy_solves_shop s budget solved copy kind starts makespan is = record {
@@ -229,7 +229,7 @@ copy_solves_shop s budget solved copy kind starts makespan is = record {
   within = All-same (λ t. t ≤ 10000000) copy.schedule.starts.items solved.schedule.starts.items starts is.within;
 }
 
--- and the project
+-- and the same project
 copy_solves_project : (i : Planned) (budget : ℕ) (solved copy : Solved) → copy.kind ≡ solved.kind → copy.schedule.starts.items ≡ solved.schedule.starts.items
     → copy.schedule.makespan ≡ solved.schedule.makespan → IsProjectSolution i budget solved → IsProjectSolution i budget copy
 copy_solves_project i budget solved copy kind starts makespan is = record {
@@ -241,7 +241,7 @@ copy_solves_project i budget solved copy kind starts makespan is = record {
   ends = subst (λ (xs : List ℕ). AllEndBy (problem_of i) xs latest_end) (sym starts) is.ends;
 }
 
--- a copy of an answer answers what the answer does
+-- a copy of an answer answers the same question
 pub copy_answers : (a : Asked) (solved copy : Solved) → copy.kind ≡ solved.kind → copy.schedule.starts.items ≡ solved.schedule.starts.items
     → copy.schedule.makespan ≡ solved.schedule.makespan → Answers a solved → Answers a copy
 copy_answers (OfShop s budget) solved copy kind starts makespan is = copy_solves_shop s budget solved copy kind starts makespan is
@@ -263,13 +263,13 @@ no_entry q es (Some e) h new =
     let there = Contains-lookup_entry (same_question q) es e h in
     absurd (new (subst (Contains (questions es)) (sym ((same_question_decides q e.0).0 there.1)) (asks_among es e there.0)))
 
--- an answer to a new question goes first
+-- an answer to a new question is put first
 put_first : (kept : LruCache Question Solved) (q : Question) (solved : Solved) → (Contains (questions kept.entries) (asked_by q) → ⊥)
     → put_entries same_question kept q solved ≡ (q, solved) ∷ take (kept.cap - 1) kept.entries
 put_first kept q solved new = rw (no_entry q kept.entries (lookup_entry (same_question q) kept.entries) refl new) refl
 
 module _ (kept : LruCache Question Solved) (q : Question) (solved : Solved) (memo : IsMemo kept) (unasked : Contains (questions kept.entries) (asked_by q) → ⊥) where
-  -- after a new answer was put in, all are answers to their questions
+  -- after a new answer is inserted, all entries are answers to their questions
   pub put_is_memo : IsAnswered (q, solved) → IsMemo (lru_cache (put_entries same_question kept q solved) kept.cap)
   put_is_memo answered = record {
     room = memo.room;
@@ -285,13 +285,13 @@ module _ (kept : LruCache Question Solved) (q : Question) (solved : Solved) (mem
       ap questions (put_first kept q solved unasked) ∙ ap (λ l. asked_by q ∷ l) others in
       inr (unasked, is ∙ ap (λ n. asked_by q ∷ take (n - 1) (questions kept.entries)) memo.room)
 
--- a question whose key differs from all keys is none of the questions
+-- a question whose key differs from all keys isn't one of the questions
 others_differ : (q : Question) (es : List Entry) → AllByRecursion (λ k. same_question q k ≡ false) (keys_of es) → All (λ a. asked_by q ≢ a) (questions es)
 others_differ q [] differ = All-nil (λ a. asked_by q ≢ a)
 others_differ q (e ∷ es) differ =
     All-cons (λ a. asked_by q ≢ a) (asked_by e.0) (questions es) (λ same. true≢false (sym ((same_question_decides q e.0).1 same) ∙ differ.0)) (others_differ q es differ.1)
 
--- where no two keys are the same no question comes twice
+-- if all keys differ, no question occurs twice
 pub questions_differ : (es : List Entry) → IsDistinct same_question (keys_of es) → AllPairs (λ a b. a ≢ b) (questions es)
 unfolding IsDistinct
 questions_differ [] distinct = λ i j d before within. absurd (omega arith)
@@ -311,7 +311,7 @@ one_row_more rows read row k so_far here =
     map-append (λ (r : Vec ℕ Global). r.items) read (row ∷ []) ∙ ap (λ (rs : List (List ℕ)). rs ++ row.items ∷ []) so_far
     ∙ (rw add-one (sym (take-suc rows k row.items (slice_get_within rows k row.items here) ∙ ap (λ w. take k rows ++ w ∷ []) (get_or_from_slice_get rows k row.items row.items here))))
 
--- what is found for a question on a project is its solution
+-- the answer that is found for a question on a project is its solution
 pub found_solves_project : (a : Asked) (i : Planned) (budget : ℕ) (found : Option Solved) (solved : Solved) → a ≡ asked_of_project i budget → found ≡ Some solved
     → IfSome found (Answers a) → IsProjectSolution i budget solved
 found_solves_project a i budget found solved asks is answers =

@@ -1,4 +1,4 @@
--- Of each of these there is only one: the budget of a text, the answer of a search within a budget.
+-- A text has at most one budget, and a search within a budget at most one answer.
 use Rattle.std.proofs.Common.{ℕ, ◌≡◌, List, refl, sym, ◌∙◌, subst, arith}
 use Rattle.std.proofs.lemmas.Fmt.{decimal_injective}
 use Rattle.plan_sgs.specs.Instances.{Planned}
@@ -20,7 +20,7 @@ budget_once text m n first second =
     let high = second.0.1 in
     decimal_injective m n (omega (arith, low)) (omega (arith, high)) (sym first.1 ∙ second.1)
 
--- two answers that say the same: of one kind, with the same starts and the same makespan
+-- two equal answers: of one kind, with the same starts and the same makespan
 pub record SolvedAlike (a b : Solved) : Type 0 where
   pub kind : a.kind ≡ b.kind
   pub starts : a.schedule.starts.items ≡ b.schedule.starts.items

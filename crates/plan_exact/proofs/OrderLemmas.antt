@@ -12,7 +12,7 @@ irreflexive a = le-ltb a a (omega arith)
 itself : (a : ℕ) → nat_eq a a ≡ true
 itself a = eq-eqb a a refl
 
--- what two words begin with in common doesn't count
+-- a common prefix doesn't affect the order of two words
 pub is_before-append : (u v w : List ℕ) → is_before (u ++ v) (u ++ w) ≡ is_before v w
 is_before-append [] v w = refl
 is_before-append (a ∷ u) v w =
@@ -32,7 +32,7 @@ and_false : (b : Bool) → (b && false) ≡ false
 and_false true = refl
 and_false false = refl
 
--- of two words at most one comes before the other: by their first letters, or by what follows
+-- at most one of two words comes before the other: by their first letters, or by the rest
 one_way_by : (a b : ℕ) (u w : List ℕ) → (is_before u w ≡ true → is_before w u ≡ false) → (nat_lt a b ≡ true) ⊎ ((nat_eq a b && is_before u w) ≡ true) → is_before (b ∷ w) (a ∷ u) ≡ false
 one_way_by a b u w go (inl less) =
     let l : a < b = ltb-true a b less in
@@ -51,7 +51,7 @@ one_way [] (b ∷ w) e = refl
 one_way (a ∷ u) [] e = cc
 one_way (a ∷ u) (b ∷ w) e = one_way_by a b u w (one_way u w) (or_cases (nat_lt a b) (nat_eq a b && is_before u w) e)
 
--- R holds of each element and those after it
+-- each element is in relation R to those after it
 abbrev pub InOrder : {X : Type 0} → (X → X → Type 0) → List X → Type 0
 InOrder R [] = Unit {0}
 InOrder R (x ∷ xs) = AllByRecursion (R x) xs × InOrder R xs
@@ -98,7 +98,7 @@ Ordered-append [] ys o p across = p
 Ordered-append (x ∷ xs) ys o p across =
     (each_append (λ y. is_before x y ≡ true) xs ys o.0 across.0, Ordered-append xs ys o.1 p across.1)
 
--- where no element passes, none is kept; where each does, all are
+-- if no element passes, none is kept; if each does, all are
 pub filter_none : {X : Type 0} (p : X → Bool) (xs : List X) → AllByRecursion (λ x. p x ≡ false) xs → filter p xs ≡ []
 filter_none p [] f = refl
 filter_none p (x ∷ xs) f = cond-false (p x) (x ∷ filter p xs) (filter p xs) f.0 ∙ filter_none p xs f.1
@@ -107,7 +107,7 @@ pub filter_all : {X : Type 0} (p : X → Bool) (xs : List X) → AllByRecursion 
 filter_all p [] f = refl
 filter_all p (x ∷ xs) f = cond-true (p x) (x ∷ filter p xs) (filter p xs) f.0 ∙ ap (λ ys. x ∷ ys) (filter_all p xs f.1)
 
--- in a list in order the words before one of it are those that stand before it
+-- in an ordered list the words before a word are the earlier entries
 pub earlier : (pre : List (List ℕ)) (u : List ℕ) (post : List (List ℕ)) → Ordered (pre ++ u ∷ post) → filter (λ w. is_before w u) (pre ++ u ∷ post) ≡ pre
 earlier [] u post o =
     cond-false (is_before u u) (u ∷ filter (λ w. is_before w u) post) (filter (λ w. is_before w u) post) (not_before_itself u)

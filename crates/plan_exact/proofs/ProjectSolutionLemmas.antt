@@ -1,4 +1,5 @@
--- The schedule of every solution is that of a full word of the project: it is active, and shortest where it is called so.
+-- The schedule of every solution is that of a full word of the project: it is active, and shortest if it is
+-- called so.
 use Rattle.std.proofs.Common.{◌≡◌, ℕ, ◌≤◌, true, List, ◌∷◌, Option, Some, None, Contains, refl, sym, ap, ◌∙◌, subst, arith}
 use Rattle.std.specs.Prelude.{All}
 use Rattle.std.proofs.lemmas.List.Elements.{All-contains, Contains-append_right, Contains-get_or}
@@ -39,7 +40,7 @@ initial_is_found i initial value instance by_rule is =
     let full = rule_word_is_full i by_rule.0 instance in
     record { word = rule_word i by_rule.0; full = full.0; starts_are = by_rule.2 ∙ sym full.1; makespan_is = is }
 
--- what is taken from words of the project, or is the initial schedule, has a full word
+-- a result from words of the project, or the initial schedule, has a full word
 taken_is_found : (i : Planned) (initial : List ℕ) (list : List (List ℕ)) (value : ℕ) (word : Option (List ℕ)) → IsInstance i
     → IsRuleSchedule i rule.LatestFinish initial → All (IsWord (project_tree i)) list
     → IsTakenFrom (project_tree i) (makespan (problem_of i) initial) list value word → IsFoundWord i value (starts_or i initial word)
@@ -52,7 +53,7 @@ taken_is_found i initial list value (Some w) instance by_rule are taken =
     let full : IsFullWord i w = ((tree_has_words i w).0 (All-contains (IsWord (project_tree i)) list w are there), taken.full) in
     record { word = w; full = full; starts_are = refl; makespan_is = taken.is }
 
--- what a search answers has a full word
+-- the answer of a search has a full word
 pub outcome_is_found : (i : Planned) (initial : List ℕ) (budget : ℕ) → IsInstance i → IsRuleSchedule i rule.LatestFinish initial
     → IsFoundWord i (project_outcome i initial budget).found.value (starts_or i initial (project_outcome i initial budget).found.word)
 unfolding project_outcome
@@ -79,12 +80,12 @@ solution_is_active i budget solved instance is =
     let h = solution_is_found i budget solved instance is in
     subst (λ (xs : List ℕ). IsActive (problem_of i) xs) (sym h.starts_are) (full_is_active i h.word instance h.full)
 
--- its makespan is the one beside it
+-- its makespan is that of the starts
 pub solution_has_makespan : (i : Planned) (budget : ℕ) (solved : Solved) → IsInstance i → IsProjectSolution i budget solved
     → solved.schedule.makespan ≡ makespan (problem_of i) solved.schedule.starts.items
 solution_has_makespan i budget solved instance is = (solution_is_found i budget solved instance is).makespan_is
 
--- where a solution is called optimal its schedule is a shortest one
+-- if a solution is called optimal, its schedule is a shortest one
 pub solution_is_shortest : (i : Planned) (budget : ℕ) (solved : Solved) → IsInstance i → IsProjectSolution i budget solved → solved.kind ≡ Optimal
     → IsShortest (problem_of i) solved.schedule.starts.items
 unfolding project_outcome FoundIsShortestProject
@@ -103,7 +104,7 @@ solution_is_shortest i budget solved instance is optimal =
         sym (solution_has_makespan i budget solved instance is) ∙ is.found.makespan in
         omega (arith, most, same)
 
--- a search of the project's tree from the initial schedule on answers what the definition says
+-- a search of the project's tree from the initial schedule on returns the answer of the definition
 pub search_is_outcome : (i : Planned) (budget : ℕ) (tree : CountedProject) (initial : Schedule) (found : Outcome) → tree.instance ≡ i → IsInitial i initial
     → found ≡ outcome (project_tree tree.instance) initial.makespan budget → found ≡ project_outcome i initial.starts.items budget
 unfolding project_outcome
@@ -123,13 +124,13 @@ answered_is_list i initial budget w instance by_rule some =
     (Contains-get_or (w ∷ taken.after) 0 w (omega arith))) in
     (full_words_are_lists i w instance).0 ((tree_has_words i w).0 (All-contains (IsWord (project_tree i)) h.list w h.are_words there), taken.full)
 
--- a schedule is the initial one, where there is no word, and else that of the word
+-- a schedule is the initial one if there is no word, otherwise that of the word
 pub record IsMadeOf (i : Planned) (initial : List ℕ) (word : Option (List ℕ)) (schedule : Schedule) : Type 0 where
   pub starts : schedule.starts.items ≡ starts_or i initial word
   pub makespan : schedule.makespan ≡ makespan (problem_of i) schedule.starts.items
   pub ends : AllEndBy (problem_of i) schedule.starts.items latest_end
 
--- what a search answers, with the schedule of its word, is a solution within the limits
+-- the answer of a search, with the schedule of its word, is a solution within the limits
 pub solution_of_answer : (i : Planned) (budget : ℕ) (initial schedule : Schedule) (answer : Answer) → IsInstance i → HasFewActivities i → IsBudget budget → IsInitial i initial
     → outcome_of answer ≡ project_outcome i initial.starts.items budget
     → IsMadeOf i initial.starts.items (letters_of answer.word) schedule

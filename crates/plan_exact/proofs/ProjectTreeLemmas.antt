@@ -19,7 +19,7 @@ unfolding project_tree
 follows_from i u [] c = tt
 follows_from i u (a ∷ v) c = (c.0, follows_from i (u ++ a ∷ []) v c.1)
 
--- and the other way round
+-- and the reverse
 continues_from : (i : Planned) (u v : List ℕ) → Follows i u v → Continues (project_tree i) u v
 unfolding project_tree
 continues_from i u [] f = tt
@@ -49,7 +49,7 @@ pub project_trees_keep_laws : ProjectTreesKeepLaws
 unfolding ProjectTreesKeepLaws
 project_trees_keep_laws = keeps_laws
 
--- what is found first of least makespan is no greater than the makespan of any feasible schedule
+-- the first result of least makespan is at most the makespan of any feasible schedule
 pub found_is_shortest : FoundIsShortestProject
 unfolding FoundIsShortestProject ProjectWordsReach project_tree
 found_is_shortest i initial f starts instance least feasible =

@@ -20,7 +20,7 @@ unfolding tree_of
 follows_from s u [] c = tt
 follows_from s u (a ∷ v) c = (c.0, subst (λ zs. Follows s zs v) (placed_append s [] u (a ∷ [])) (follows_from s (u ++ a ∷ []) v c.1))
 
--- and the other way round
+-- and the reverse
 continues_from : (s : JobShop) (u v : List ℕ) → Follows s (placed_in s u) v → Continues (tree_of s) u v
 unfolding tree_of
 continues_from s u [] f = tt
@@ -50,7 +50,7 @@ pub shop_trees_keep_laws : ShopTreesKeepLaws
 unfolding ShopTreesKeepLaws
 shop_trees_keep_laws = keeps_laws
 
--- what is found first of least makespan is no greater than the makespan of any feasible schedule
+-- the first result of least makespan is at most the makespan of any feasible schedule
 pub found_is_shortest : FoundIsShortest
 unfolding FoundIsShortest WordsReach tree_of
 found_is_shortest s initial f starts shop least feasible =

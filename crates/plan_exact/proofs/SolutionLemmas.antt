@@ -1,4 +1,5 @@
--- The schedule of every solution is that of a full word of the shop: it is active, and shortest where it is called so.
+-- The schedule of every solution is that of a full word of the shop: it is active, and shortest if it is
+-- called so.
 use Rattle.std.proofs.Common.{◌≡◌, ℕ, ◌⊎◌, inl, inr, true, false, nat_le, List, ◌∷◌, Option, Some, None, length, take, Contains, sym, ap, ◌∙◌, subst, arith}
 use Rattle.std.specs.Prelude.{All}
 use Rattle.std.proofs.lemmas.Bool.{cases_Bool, cond-true, cond-false}
@@ -24,7 +25,7 @@ use Rattle.plan_exact.proofs.WordLemmas.{words_listed}
 use Rattle.plan_exact.proofs.BestLemmas.{first_least}
 use Rattle.plan_exact.proofs.ShopTreeLemmas.{keeps_laws, tree_has_words, found_is_shortest}
 
--- what is found is the first of least makespan of some words of the tree
+-- the result is the first of least makespan of some words of the tree
 pub record IsFoundIn (t : WordTree) (initial : ℕ) (f : Found) : Type 0 where
   pub list : List (List ℕ)
   pub are_words : All (IsWord t) list
@@ -82,7 +83,7 @@ pub record IsFoundWord (s : JobShop) (value : ℕ) (w : List ℕ) : Type 0 where
   pub is_full : IsFullWord s w
   pub makespan : value ≡ makespan_by s w
 
--- what is taken from words of the shop, or is the initial schedule, has a full word
+-- a result from words of the shop, or the initial schedule, has a full word
 taken_is_full : (s : JobShop) (list : List (List ℕ)) (value : ℕ) (word : Option (List ℕ)) → All (IsWord (tree_of s)) list
     → IsTakenFrom (tree_of s) (makespan_by s (initial_word s)) list value word → IsFoundWord s value (word_or (initial_word s) word)
 unfolding tree_of TreeHasWords
@@ -109,13 +110,13 @@ solution_is_active s budget solved shop is =
     let w : List ℕ = word_or (initial_word s) (solution s budget).found.word in
     subst (λ (xs : List ℕ). IsActive (problem_of s) xs) (sym is.starts) (full_is_active s shop w h.is_full.is_word h.is_full.full)
 
--- its makespan is the one beside it
+-- its makespan is that of the starts
 pub solution_has_makespan : (s : JobShop) (budget : ℕ) (solved : Solved) → IsShop s → IsSolution s budget solved → solved.schedule.makespan ≡ makespan (problem_of s) solved.schedule.starts.items
 unfolding makespan_of
 solution_has_makespan s budget solved shop is =
     is.makespan ∙ (solution_word s budget shop).makespan ∙ ap (λ (xs : List ℕ). makespan (problem_of s) xs) (sym is.starts)
 
--- where a solution is called optimal its schedule is a shortest one
+-- if a solution is called optimal, its schedule is a shortest one
 pub solution_is_shortest : (s : JobShop) (budget : ℕ) (solved : Solved) → IsShop s → IsSolution s budget solved → solved.kind ≡ Optimal → IsShortest (problem_of s) solved.schedule.starts.items
 unfolding solution FoundIsShortest
 solution_is_shortest s budget solved shop is called =
@@ -136,12 +137,12 @@ unfolding solution
 search_is_solution s budget tree initial found same by is =
     is ∙ ap (λ (t : JobShop). outcome (tree_of t) initial.makespan budget) same ∙ ap (λ n. outcome (tree_of s) n budget) by.makespan
 
--- the word that a search answers, the initial one where there is none, is full
+-- the word of an answer, or the initial one if there is none, is full
 pub answered_is_full : (s : JobShop) (budget : ℕ) (answer : Answer) → IsShop s → outcome_of answer ≡ solution s budget → IsFullWord s (word_or (initial_word s) (letters_of answer.word))
 answered_is_full s budget answer shop is =
     subst (λ (o : Outcome). IsFullWord s (word_or (initial_word s) o.found.word)) (sym is) (solution_word s budget shop).is_full
 
--- what a search answers, with the schedule of its word, is a solution within the limits
+-- the answer of a search, with the schedule of its word, is a solution within the limits
 pub solution_of_answer : (s : JobShop) (budget : ℕ) (answer : Answer) (schedule : Schedule) → IsShop s → HasFewSteps s → IsBudget budget → outcome_of answer ≡ solution s budget
     → IsScheduleBy s (word_or (initial_word s) (letters_of answer.word)) schedule → IsSolution s budget (record { kind = answer.kind; schedule = schedule })
 solution_of_answer s budget answer schedule shop few allowed is by =

@@ -1,4 +1,4 @@
--- How a search stands after a list of words, and what it answers at its end.
+-- The state of a search after a list of words, and its answer at the end.
 use Rattle.std.proofs.Common.{◌≡◌, ℕ, zero, suc, ◌-◌, ◌<◌, ◌≤◌, ◌⊎◌, inl, inr, true, false, cond, not, ◌||◌, nat_le, nat_eq, List, [], ◌∷◌, ◌++◌, fold, length, take, refl, sym, ap, ◌∙◌, arith}
 use Rattle.std.proofs.lemmas.Bool.{cases_Bool, cond-true, cond-false, or_left, or_right, or_from, eq-eqb, ne_eqb, le-leb, lt-leb, cases_lt, cases_eq}
 use Rattle.std.proofs.lemmas.List.Sums.{fold-append}
@@ -20,13 +20,13 @@ after_word_stuck t s w e = cond-true (nat_eq s.left 0) (stuck s) (record { left 
 pub after_word_more : (t : WordTree) (s : Standing) (w : List ℕ) → 0 < s.left → after_word t s w ≡ record { left = s.left - 1; found = better t s.found w; cut = s.cut }
 after_word_more t s w l = cond-false (nat_eq s.left 0) (stuck s) (record { left = s.left - 1; found = better t s.found w; cut = s.cut }) (ne_eqb s.left 0 (λ e. omega (arith, e, l)))
 
--- with nothing left, words change nothing but that they are left out
+-- if no visit is left, further words are left out
 after_words_stuck : (t : WordTree) (s : Standing) (w : List ℕ) (ws : List (List ℕ)) → s.left ≡ 0 → after_words t s (w ∷ ws) ≡ stuck s
 after_words_stuck t s w [] e = after_word_stuck t s w e
 after_words_stuck t s w (v ∷ ws) e =
     ap (λ p. after_words t p (v ∷ ws)) (after_word_stuck t s w e) ∙ after_words_stuck t (stuck s) v ws refl
 
--- either nothing is left, or each word was compared
+-- either no visit is left, or each word was compared
 after_words_found : (t : WordTree) (s : Standing) (ws : List (List ℕ)) → ((after_words t s ws).left ≡ 0) ⊎ ((after_words t s ws).found ≡ best t s.found ws)
 after_words_found t s [] = inr refl
 after_words_found t s (w ∷ ws) = by_left (cases_lt 0 s.left) (after_words_found t (after_word t s w) ws)
@@ -38,18 +38,18 @@ after_words_found t s (w ∷ ws) = by_left (cases_lt 0 s.left) (after_words_foun
     by_left (inl l) (inr e) = inr (e ∙ ap (λ p. best t p.found ws) (after_word_more t s w l))
     by_left (inr l) e = inl (ap (λ (p : Standing). p.left) (after_words_stuck t s w ws (omega (arith, l))))
 
--- the search makes at least the word itself
+-- the search visits at least the word itself
 visit_head : (t : WordTree) (n : ℕ) (u : List ℕ) (f : Found) → (rest : List (List ℕ)) × (visit t n u f ≡ u ∷ rest)
 visit_head t zero u f = ([], refl)
 visit_head t (suc n) u f = (cond (nat_le f.value (t.bound u)) [] (visit_by t (visit t n) u (better t f u) (t.letters u)), refl)
 
--- with nothing left it doesn't count from where the search goes on
+-- if no visit is left, the start of the search doesn't matter
 visit_stuck : (t : WordTree) (n : ℕ) (u : List ℕ) (f : Found) (s : Standing) → s.left ≡ 0 → after_words t s (visit t n u f) ≡ stuck s
 visit_stuck t n u f s e =
     let h : (rest : List (List ℕ)) × (visit t n u f ≡ u ∷ rest) = visit_head t n u f in
     ap (after_words t s) h.1 ∙ after_words_stuck t s u h.0 e
 
--- by letters: what is found before them is what the search stands at, or nothing is left
+-- by letters: the result before them is that of the state, or no visit is left
 explored_by : (t : WordTree) (n : ℕ) (u letters : List ℕ) (s : Standing) (f : Found)
     → ((a : ℕ) (p : Standing) → explored t n (u ++ a ∷ []) p ≡ after_words t p (visit t n (u ++ a ∷ []) p.found))
     → (s.left ≡ 0) ⊎ (s.found ≡ f) → fold (λ p a. explored t n (u ++ a ∷ []) p) s letters ≡ after_words t s (visit_by t (visit t n) u f letters)
@@ -77,7 +77,7 @@ explored_by t n u (a ∷ letters) s f go h =
     next (inr e) (inl r) = inl r
     next (inr e) (inr r) = inr (r ∙ ap (λ g. best t g (visit t n child f)) e)
 
--- the search of the words that begin with u compares the words that it makes, one after another
+-- the search of the words that begin with u compares the visited words, one after another
 pub explored_is : (t : WordTree) (n : ℕ) (u : List ℕ) (s : Standing) → explored t n u s ≡ after_words t s (visit t n u s.found)
 explored_is t zero u s = refl
 explored_is t (suc n) u s = by_left (cases_eq s.left 0) (explored_by t n u (t.letters u) (after_word t s u) (better t s.found u) (λ a p. explored_is t n (u ++ a ∷ []) p))
@@ -173,7 +173,7 @@ outcome_none t initial budget k none =
     ∙ sym (ap outcome_so_far (explored_is t t.depth [] (start_of initial budget) ∙ visit_stuck t t.depth [] (initial_found initial) (start_of initial budget) none))
     ∙ outcome_is t initial budget k
 
--- else the words from the empty one on are
+-- otherwise the words from the empty one on are
 pub outcome_some : (t : WordTree) (initial budget : ℕ) → KeepsLaws t → (budget ≡ 0 → ⊥) → (u : List ℕ) → u ≡ [] → (s : Standing)
     → s ≡ explored t (t.depth - length u) u (begun initial budget) → outcome_so_far s ≡ outcome t initial budget
 outcome_some t initial budget k some u empty s e =

@@ -19,7 +19,7 @@ no_letters t finite u (a ∷ letters) w deep follow =
     let k : length (u ++ a ∷ []) ≤ t.depth = finite (u ++ a ∷ []) (word_push t u a w follow.0) in
     absurd (omega (arith, k, length-append u (a ∷ []), deep))
 
--- a child by how many letters may still follow
+-- a child, by the number of letters that may still follow
 child_is : (t : WordTree) (u : List ℕ) (n : ℕ) → t.depth - length u ≡ suc n → (s : Standing) (a : ℕ) → child_explored t u s a ≡ explored t n (u ++ a ∷ []) s
 child_is t u n e s a = ap (λ k. explored t k (u ++ a ∷ []) s) (omega (arith, e, length-append u (a ∷ [])))
 
@@ -41,7 +41,7 @@ pub pushed : (t t' : WordTree) (u u' : List ℕ) (a : ℕ) → t' ≡ t → u' �
 pushed t t' u u' a same longer w l =
     subst (λ x. IsWord x u') (sym same) (subst (IsWord t) (sym longer) (word_push t u a w l))
 
--- where a search stands after the children of an open word that was visited
+-- the state of a search after the children of an open word that was visited
 pub explored_step : (t : WordTree) → WordsAreFinite t → (u : List ℕ) → IsWord t u → (s p q : Standing) → 0 < s.left → t.bound u < s.found.value
     → p ≡ after_word t s u → q ≡ children_explored t u p (t.letters u) → q ≡ explored t (t.depth - length u) u s
 explored_step t finite u w s p q l under visited searched =

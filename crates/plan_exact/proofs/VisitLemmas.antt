@@ -1,4 +1,4 @@
--- The words that a search visits, as a list that it makes itself, and the visited words by their definition.
+-- The words that a search visits, as a list defined by the search, and the visited words by their definition.
 use Rattle.std.proofs.Common.{◌≡◌, ℕ, zero, suc, ◌<◌, ◌≤◌, ◌⊎◌, inl, inr, true, false, cond, ◌&&◌, nat_lt, nat_le, List, [], ◌∷◌, ◌++◌, map, filter, Contains, Some, refl, sym, ap, ◌∙◌, subst, append_assoc, append-nil, arith}
 use Rattle.std.proofs.lemmas.List.{map-append}
 use Rattle.std.proofs.lemmas.List.Folds.{list_all-append}
@@ -12,12 +12,12 @@ use Rattle.plan_exact.specs.Visited.{Found, initial_found, better, best, least, 
 use Rattle.plan_exact.proofs.OrderLemmas.{Ordered, earlier, filter_none, each_weaker}
 use Rattle.plan_exact.proofs.WordLemmas.{IsBelow, IsProperlyBelow, Follow, all_follow, members, proper_members, words_by, word_push, in_order}
 
--- the words visited by letters of a list, from what was found before them
+-- the words visited by the letters of a list, from the result before them
 abbrev pub visit_by : WordTree → (List ℕ → Found → List (List ℕ)) → List ℕ → Found → List ℕ → List (List ℕ)
 visit_by t go u f [] = []
 visit_by t go u f (a ∷ letters) = go (u ++ a ∷ []) f ++ visit_by t go u (best t f (go (u ++ a ∷ []) f)) letters
 
--- the visited words that begin with u and have at most n letters more, from what was found before u
+-- the visited words that begin with u and have at most n more letters, from the result before u
 abbrev pub visit : WordTree → ℕ → List ℕ → Found → List (List ℕ)
 visit t zero u f = u ∷ []
 visit t (suc n) u f = u ∷ cond (nat_le f.value (t.bound u)) [] (visit_by t (visit t n) u (better t f u) (t.letters u))
@@ -34,7 +34,7 @@ better_stays t f w high = by_full (cases_Bool (t.full w))
         cond-false (t.full w && nat_lt (t.makespan w) f.value) (record { value = t.makespan w; word = Some w }) f
         (and_left (t.full w) (nat_lt (t.makespan w) f.value) part)
 
--- below a word whose bound reaches what was found there is nothing better
+-- below a word whose bound is at least the best makespan there is nothing better
 best_pruned : (t : WordTree) → BoundHolds t → (u : List ℕ) (f : Found) → f.value ≤ t.bound u → (ws : List (List ℕ)) → AllByRecursion (IsBelow t u) ws → best t f ws ≡ f
 unfolding BoundHolds
 best_pruned t bounded u f high [] below = refl
@@ -48,7 +48,7 @@ best_pruned t bounded u f high (w ∷ ws) below =
         let e : t.makespan w ≡ t.makespan (u ++ b.rest) = ap t.makespan b.is in
         omega (arith, k, e, high)
 
--- the same best is found by letters where it is by each letter
+-- the best result by letters is the same if it is for each letter
 best_visit_by : (t : WordTree) (go : List ℕ → Found → List (List ℕ)) (n : ℕ) (u letters : List ℕ) → Follow t u letters
     → ((a : ℕ) (f : Found) → Contains (t.letters u) a → best t f (go (u ++ a ∷ []) f) ≡ best t f (words_from t n (u ++ a ∷ [])))
     → (f : Found) → best t f (visit_by t go u f letters) ≡ best t f (words_by t n u letters)
@@ -61,7 +61,7 @@ best_visit_by t go n u (a ∷ letters) follow same f =
     ∙ ap (λ g. best t g (words_by t n u letters)) (same a f follow.0)
     ∙ sym (fold-append (better t) f all (words_by t n u letters))
 
--- leaving words out changes nothing of what is found
+-- leaving out words doesn't change the result
 pub best_visit : (t : WordTree) → BoundHolds t → (n : ℕ) (u : List ℕ) (f : Found) → IsWord t u → best t f (visit t n u f) ≡ best t f (words_from t n u)
 best_visit t bounded zero u f w = refl
 best_visit t bounded (suc n) u f w = by_bound (cases_Bool (nat_le f.value (t.bound u)))
@@ -113,11 +113,11 @@ closed_below t initial u w closed b =
     ∙ list_all-append (is_open t initial) (proper_prefixes u) (u ∷ r.0)
     ∙ and_right (list_all (is_open t initial) (proper_prefixes u)) (is_open t initial u && list_all (is_open t initial) r.0) (and_left (is_open t initial u) (list_all (is_open t initial) r.0) closed)
 
--- where u stands in the list of all words
+-- the position of u in the list of all words
 abbrev Stands : WordTree → List (List ℕ) → List (List ℕ) → List (List ℕ) → Type 0
 Stands t pre ws post = words t ≡ pre ++ ws ++ post
 
--- the least before a word is the best of the words that stand before it
+-- the least before a word is the best of the words before it
 least_is : (t : WordTree) (initial : ℕ) → LettersRise t →
     (pre : List (List ℕ)) (u : List ℕ) (post : List (List ℕ)) → words t ≡ pre ++ u ∷ post →
     least t initial u ≡ (best t (initial_found initial) pre).value
@@ -127,7 +127,7 @@ least_is t initial rise pre u post e =
     ap (λ ws. (best t (initial_found initial) (filter (λ w. is_before w u) ws)).value) e
     ∙ ap (λ ws. (best t (initial_found initial) ws).value) (earlier pre u post o)
 
--- by letters: what is visited of the words that stand there is what the search makes
+-- by letters: the visited words there are those that the search visits
 visited_by : (t : WordTree) (initial : ℕ) → BoundHolds t → (n : ℕ) (u letters : List ℕ) (pre post : List (List ℕ)) → IsWord t u → Follow t u letters
     → words t ≡ pre ++ (words_by t n u letters ++ post)
     → ((a : ℕ) (front back : List (List ℕ)) → Contains (t.letters u) a →
@@ -153,7 +153,7 @@ visited_by t initial bounded n u (a ∷ letters) pre post w follow e go =
     ∙ ap (λ ws. ws ++ filter (is_visited t initial) rest) first
     ∙ ap (λ ws. visit t n (u ++ a ∷ []) f ++ ws) (later ∙ ap (λ g. visit_by t (visit t n) u g letters) same)
 
--- the words by letters: none is visited where u is closed, else those that the search makes
+-- the words by letters: none is visited if u is closed, otherwise those that the search visits
 by_bound : (t : WordTree) (initial n : ℕ) (u : List ℕ) (f : Found) → IsWord t u → least t initial u ≡ f.value
     → (is_open t initial u ≡ true → filter (is_visited t initial) (words_by t n u (t.letters u)) ≡ visit_by t (visit t n) u (better t f u) (t.letters u))
     → filter (is_visited t initial) (words_by t n u (t.letters u)) ≡ cond (nat_le f.value (t.bound u)) [] (visit_by t (visit t n) u (better t f u) (t.letters u))
@@ -177,7 +177,7 @@ by_bound t initial n u f w low opened = by_test (cases_Bool (nat_le f.value (t.b
         opened (lt-ltb (t.bound u) (least t initial u) (omega (arith, h, low)))
         ∙ sym (cond-false (nat_le f.value (t.bound u)) [] made under)
 
--- the visited words that begin with a visited word are those that the search makes
+-- the visited words that begin with a visited word are those of the search
 visited_below : (t : WordTree) (initial : ℕ) → KeepsLaws t → (n : ℕ) (u : List ℕ) (pre post : List (List ℕ)) → IsWord t u → is_visited t initial u ≡ true
     → words t ≡ pre ++ (words_from t n u ++ post) → filter (is_visited t initial) (words_from t n u) ≡ visit t n u (best t (initial_found initial) pre)
 visited_below t initial k zero u pre post w v e = cond-true (is_visited t initial u) (u ∷ []) [] v
@@ -194,7 +194,7 @@ visited_below t initial k (suc n) u pre post w v e =
     (λ a before after l s. visited_below t initial k n (u ++ a ∷ []) before after (word_push t u a w l) (child_visited t initial u a v opened) s)
     ∙ ap (λ g. visit_by t (visit t n) u g (t.letters u)) found))
 
--- `visited_words` are the words that the search makes
+-- `visited_words` are the words of the search
 pub visited_is : (t : WordTree) (initial : ℕ) → KeepsLaws t → visited_words t initial ≡ visit t t.depth [] (initial_found initial)
 unfolding visited_words words is_visited
 visited_is t initial k = visited_below t initial k t.depth [] [] [] tt refl (sym (append-nil (words_from t t.depth [])))

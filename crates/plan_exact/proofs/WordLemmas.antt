@@ -23,7 +23,7 @@ pub record IsBelow (t : WordTree) (u w : List ℕ) : Type 0 where
   pub is : w ≡ u ++ rest
   pub word : IsWord t w
 
--- below the word with a letter more is below the word
+-- a word that begins with u and a letter begins with u
 pub below_child : (t : WordTree) (u : List ℕ) (a : ℕ) (w : List ℕ) → IsBelow t (u ++ a ∷ []) w → IsBelow t u w
 below_child t u a w b = record { rest = a ∷ b.rest; is = b.is ∙ append_assoc u (a ∷ []) b.rest; word = b.word }
 
@@ -45,7 +45,7 @@ each_by P t n u [] f go = tt
 each_by P t n u (a ∷ letters) f go =
     each_append P (words_from t n (u ++ a ∷ [])) (words_by t n u letters) (go a f.0) (each_by P t n u letters f.1 go)
 
--- the list has words that begin with u alone
+-- the list contains only words that begin with u
 pub members : (t : WordTree) (n : ℕ) (u : List ℕ) → IsWord t u → AllByRecursion (IsBelow t u) (words_from t n u)
 members t zero u w = (record { rest = []; is = sym (append-nil u); word = w }, tt)
 members t (suc n) u w = (
@@ -99,7 +99,7 @@ crosses t u a x y b c =
     first_below : (i j : ℕ) (v w : List ℕ) → i < j → is_before (i ∷ v) (j ∷ w) ≡ true
     first_below i j v w l = ap (λ q. q || (nat_eq i j && is_before v w)) (lt-ltb i j l)
 
--- the words by rising letters are in order where those by each letter are
+-- the words by rising letters are in order if those by each letter are
 in_order_by : (t : WordTree) (n : ℕ) (u letters : List ℕ) → IsWord t u → Follow t u letters → Rising letters
     → ((a : ℕ) → Contains (t.letters u) a → Ordered (words_from t n (u ++ a ∷ []))) → Ordered (words_by t n u letters)
 in_order_by t n u [] w f r go = tt
@@ -123,7 +123,7 @@ in_order t rise (suc n) u w = (
     prefix_first x b =
         ap₂ is_before (sym (append-nil u)) b.is ∙ is_before-append u [] (b.letter ∷ b.rest)
 
--- an element of a list, said by recursion on the list
+-- an element of a list, by recursion on the list
 Among : {X : Type 0} → List X → X → Type 0
 Among [] x = ⊥
 Among (y ∷ ys) x = (y ≡ x) ⊎ Among ys x
@@ -157,7 +157,7 @@ among_flat_map f [] x y m n = absurd m
 among_flat_map {Y = Y} f (z ∷ xs) x y (inl e) n = among_left (f z) (flat_map f xs) y (subst (λ v. Among (f v) y) (sym e) n)
 among_flat_map f (z ∷ xs) x y (inr m) n = among_right (f z) (flat_map f xs) y (among_flat_map f xs x y m n)
 
--- each list of letters that continues u, of at most n letters, is listed
+-- each list of at most n letters that continues u is listed
 listed : (t : WordTree) (n : ℕ) (u v : List ℕ) → Continues t u v → length v ≤ n → Among (words_from t n u) (u ++ v)
 unfolding Among
 listed t zero u [] c l = inl (sym (append-nil u))
@@ -168,7 +168,7 @@ listed t (suc n) u (a ∷ v) c l =
     inr (among_flat_map (λ b. words_from t n (u ++ b ∷ [])) (t.letters u) a (u ++ a ∷ v) (to_among (t.letters u) a c.0)
     (subst (λ w. Among (words_from t n (u ++ a ∷ [])) w) (append_assoc u (a ∷ []) v) below))
 
--- `words` has the words and nothing else, in order
+-- `words` contains exactly the words, in order
 pub words_listed : (t : WordTree) → KeepsLaws t → ListsWords t (words t)
 unfolding words WordsAreFinite
 words_listed t k = record {

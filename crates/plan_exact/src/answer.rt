@@ -1,6 +1,6 @@
 //! Answer of a search.
 
-/// Tells whether the value of an answer is known to be the least.
+/// Whether the value of an answer is known to be the least.
 #[derive(Clone, Copy, Debug, PartialEq, Eq)]
 pub enum Kind {
     /// No schedule of the tree has a smaller makespan.

@@ -1,4 +1,4 @@
--- A cell of a chart by its instants is the same as by comparing bounds.
+-- The cells of a chart, defined by instants, agree with a comparison of bounds.
 use Rattle.std.proofs.Common.{◌≡◌, ℕ, zero, suc, ◌+◌, ◌*◌, ◌<◌, Bool, true, false, ◌&&◌, ◌||◌, nat_lt, nat_le, List, [], ◌∷◌, length, get_or, ◌++◌, refl, sym, ap, ◌∙◌, arith}
 use Rattle.std.specs.List.{list_any, range_with_len}
 use Rattle.std.proofs.lemmas.Bool.Decides.{nat_tests}
@@ -26,12 +26,12 @@ any_false (t ∷ ts) = any_false ts
 one_more : (s d from count : ℕ) → (nat_le s from && nat_lt from (s + d)) || have_common s d (from + 1) count ≡ have_common s d from (suc count)
 one_more s d from count = grind (arith, nat_tests)
 
--- some instant from one on, so many of them, lies in the interval just where the bounds say so
+-- one of the `count` instants from `from` on is in the interval exactly if the bounds overlap
 one_interval : (v : Interval) (from count : ℕ) → list_any (λ t. covers v t) (range_with_len from count) ≡ overlaps v from count
 one_interval v from zero = refl
 one_interval v from (suc count) = ap (λ b. covers v from || b) (one_interval v (from + 1) count) ∙ one_more v.start v.duration from count
 
--- a cell is marked just where one of the intervals overlaps it
+-- a cell is marked exactly if one of the intervals overlaps it
 pub marked_by_bounds : (unit : ℕ) (intervals : List Interval) (cell : ℕ) → is_marked unit intervals cell ≡ list_any (λ v. overlaps v (cell * unit) unit) intervals
 unfolding is_marked
 marked_by_bounds unit [] cell = any_false (range_with_len (cell * unit) unit)
@@ -44,13 +44,13 @@ or_true : (b : Bool) → (b || true) ≡ true
 or_true false = refl
 or_true true = refl
 
--- where an entry passes, some entry does
+-- if an entry passes, some entry does
 pub found_any : (test : Interval → Bool) (vs : List Interval) (i : ℕ) (d : Interval) → i < length vs → test (get_or vs i d) ≡ true → list_any test vs ≡ true
 found_any test [] i d inside e = absurd (omega (arith, inside))
 found_any test (v ∷ vs) zero d inside e = ap (λ b. b || list_any test vs) e
 found_any test (v ∷ vs) (suc i) d inside e = ap (λ b. test v || b) (found_any test vs i d (omega (arith, inside)) e) ∙ or_true (test v)
 
--- behind the cells so far stands the next one
+-- the next cell follows the cells so far
 pub next_cell : (before : List ℕ) (cell : ℕ → List ℕ) (k : ℕ) (old next new : List ℕ) →
     old ≡ before ++ lines_from cell 0 k → next ≡ cell k → new ≡ old ++ next →
     new ≡ before ++ lines_from cell 0 (k + 1)

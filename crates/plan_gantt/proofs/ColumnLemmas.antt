@@ -1,4 +1,4 @@
--- What `{n:>8}` writes is the number in its column.
+-- `{n:>8}` writes the number in its column.
 use Rattle.std.proofs.Common.{◌≡◌, ℕ, zero, suc, ◌+◌, ◌-◌, ◌^◌, false, List, [], ◌∷◌, ◌++◌, length, replicate, refl, sym, ◌∙◌, ap, arith}
 use Rattle.std.specs.List.{repeat}
 use Rattle.std.specs.Char.{encode_utf8}
@@ -18,11 +18,11 @@ styled_column places n =
     let none : (m : ℕ) → m - m ≡ 0 = λ m. omega arith in
     simp (gap, none, repeat_one, append-nil)
 
--- at 4 places
+-- in 4 characters
 pub styled_first : (n : ℕ) → styled_decimal (format_spec 32 3 0 4 (2 ^ 64 - 1)) n ≡ number_column 4 n
 styled_first n = styled_column 4 n
 
--- at 8 places
+-- in 8 characters
 pub styled_further : (n : ℕ) → styled_decimal (format_spec 32 3 0 8 (2 ^ 64 - 1)) n ≡ number_column 8 n
 styled_further n = styled_column 8 n
 
@@ -35,7 +35,7 @@ one_more line first (suc n) =
     ap (λ rest. line first ++ rest) (one_more line (first + 1) n ∙ ap (λ k. lines_from line (first + 1) n ++ line k) e)
     ∙ sym (append_assoc (line first) (lines_from line (first + 1) n) (line (first + suc n)))
 
--- one line more
+-- one more line
 pub lines_more : (line : ℕ → List ℕ) (first n : ℕ) → lines_from line first (n + 1) ≡ lines_from line first n ++ line (first + n)
 lines_more line first n =
     let e : n + 1 ≡ suc n = omega arith in

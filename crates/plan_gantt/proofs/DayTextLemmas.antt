@@ -5,7 +5,7 @@ use Rattle.plan_gantt.specs.CalendarTable.{IsDayText, IsDaysText, IsDaysLine, Ar
 use Rattle.plan_gantt.specs.declared.interval.Interval.{Interval}
 use Rattle.plan_calendar.specs.WorkingDay.{Workdays, IsBeyond}
 
--- what was put behind a text: something of which P holds
+-- a text with P was appended
 abbrev pub Appended : (List ℕ → Type 0) → List ℕ → List ℕ → Type 0
 Appended P old new = (part : List ℕ) × P part × (new ≡ old ++ part)
 
@@ -18,7 +18,7 @@ both_days calendar start (suc n) last old mid new some is (first, a, e) (second,
     let place : last ≡ start + n = omega (arith, is) in
     (first ++ second, (first, second, a, subst (λ t. IsDayText calendar t second) place b, refl), f ∙ ap (λ bytes. bytes ++ second) e ∙ append_assoc old first second)
 
--- a line behind its front
+-- a line after its front
 pub fronted_line : (calendar : Workdays) (front : List ℕ) (same interval : Interval)
     (old fronted new : List ℕ) → fronted ≡ old ++ front → same ≡ interval →
     Appended (IsDaysLine calendar [] same) fronted new → Appended (IsDaysLine calendar front interval) old new

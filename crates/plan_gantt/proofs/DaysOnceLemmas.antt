@@ -1,4 +1,4 @@
--- Calendars that go alike show one table of working days, or a day beyond.
+-- Equivalent calendars give one table of working days, or a day beyond.
 use Rattle.std.proofs.Common.{ℕ, zero, suc, ◌≡◌, ◌+◌, ◌-◌, ◌≤◌, inl, inr, List, [], ◌∷◌, ◌++◌, refl, sym, ◌∙◌, ap, subst, arith, ℤ}
 use Rattle.std.proofs.lemmas.Bool.{cases_eq}
 use Rattle.jiff_core.specs.Date.{epoch_day}
@@ -17,7 +17,7 @@ use Rattle.plan_gantt.specs.ShopCharts.{IsShopCalendarTable, HasStepBeyond, step
 use Rattle.plan_gantt.specs.CalendarTable.{IsDayText, IsDaysText, IsDaysLine, AreDaysLines, IsDaysTable, IsCalendarTable, ShowsBeyond, HasDayBeyond, HasActivityBeyond, activity_days_heading}
 use Rattle.plan_gantt.specs.declared.interval.Interval.{Interval}
 
--- days with one number are written alike
+-- days with the same number have the same text
 day_written : (a b : Date) → epoch_day a ≡ epoch_day b → date_text a ≡ date_text b
 day_written a b same =
     let parts = epoch_day_injective a b same in
@@ -52,7 +52,7 @@ table_once : (c d : Workdays) (heading : List ℕ) (front : ℕ → List ℕ) (v
 table_once c d heading front v n x y same (a, are_a, is_x) (b, are_b, is_y) =
     is_x ∙ ap (λ (text : List ℕ). heading ++ text) (lines_once c d front v n a b same are_a are_b) ∙ sym is_y
 
--- a schedule of a project has one table of working days by calendars that go alike
+-- a schedule of a project has one table of working days by equivalent calendars
 pub project_days_once : (c d : Workdays) (net : Net) (starts x y : List ℕ) → GoAlike c d → IsCalendarTable c net starts x → IsCalendarTable d net starts y → x ≡ y
 project_days_once c d net starts x y same first second =
     table_once c d activity_days_heading (λ j. number_column 4 j) (activity_interval net starts) (count_of net) x y same first second
@@ -78,12 +78,12 @@ lines_apart c d front v (suc n) x same (a, k, are, (days, here, e), is) j low hi
   | inr other ↦ lines_apart c d front v n a same are j low (omega (arith, high, other)) beyond
 ]
 
--- where a table shows the days of a project no shown day is beyond
+-- if a table shows the days of a project, no shown day is beyond
 pub project_days_apart : (c d : Workdays) (net : Net) (starts x : List ℕ) → GoAlike c d → IsCalendarTable c net starts x → HasActivityBeyond d net starts → ⊥
 project_days_apart c d net starts x same (lines, are, is) (j, activity, beyond) =
     lines_apart c d (λ j. number_column 4 j) (activity_interval net starts) (count_of net) lines same are j activity.0 activity.1 beyond
 
--- and so of a shop
+-- and so for a shop
 pub shop_days_apart : (c d : Workdays) (s : JobShop) (starts x : List ℕ) → GoAlike c d → IsShopCalendarTable c s starts x → HasStepBeyond d s starts → ⊥
 shop_days_apart c d s starts x same (lines, are, is) (k, inside, beyond) =
     let place : k ≡ k + 1 - 1 = omega arith in

@@ -39,7 +39,7 @@ use Rattle.plan_gantt.specs.BestText.{kind_line, best_text_of}
 use Rattle.plan_gantt.specs.ExactFaultText.{exact_fault_text_of}
 use Rattle.plan_gantt.specs.ShopBestText.{IsBestBy, IsBestTextOf, RefusesBest, TellsBestRefusal}
 
--- faults that read alike have one line
+-- equal faults have equal lines
 pub fault_line_once : (f g : FileFault) → ReadAlike f g → file_fault_text_of f ≡ file_fault_text_of g
 fault_line_once f g same =
     ap (λ (c : FileCode). fault_text_by c f.line f.cycle.items) same.code
@@ -51,7 +51,7 @@ pub first_failing_once : (file x y : List ℕ) → TellsFirstFailing file x → 
 first_failing_once file x y (f, first, is_x) (g, second, is_y) =
     is_x ∙ fault_line_once f g (failing_once file f g first second) ∙ sym is_y
 
--- and none where it says a project
+-- a file that describes a project has no such line
 pub first_failing_apart : (file line : List ℕ) (p : Project) → SaysProject file p → TellsFirstFailing file line → ⊥
 first_failing_apart file line p says (f, failing, is) = said_fails_none file p f says failing
 
@@ -60,7 +60,7 @@ pub first_shop_fault_once : (instance file x y : List ℕ) → TellsFirstShopFau
 first_shop_fault_once instance file x y (f, first, is_x) (g, second, is_y) =
     is_x ∙ fault_line_once f g (shop_once.failing_once (shop instance file) f g first second) ∙ sym is_y
 
--- and none where it says a shop of that name
+-- a file that describes a shop of that name has no such line
 pub first_shop_fault_apart : (instance file line : List ℕ) (doc : docs.Shop) → shop_texts.Says instance file doc → TellsFirstShopFault instance file line → ⊥
 first_shop_fault_apart instance file line doc says (f, failing, is) = shop_once.said_fails_none instance file doc f says failing
 
@@ -88,7 +88,7 @@ refused_once name i f g (inl first) (inr second) = absurd (fit_not_refused i f s
 refused_once name i f g (inr first) (inl second) = absurd (fit_not_refused i g first.0 second)
 refused_once name i f g (inr first) (inr second) = first.1.0 ∙ sym second.1.0
 
--- a project and capacities have one line that tells what they are refused for
+-- a project with capacities has at most one error line
 pub schedule_refusal_once : (name : List ℕ) (i : Planned) (x y : List ℕ) → TellsRefusal name i x → TellsRefusal name i y → x ≡ y
 schedule_refusal_once name i x y (f, first, is_x) (g, second, is_y) =
     is_x ∙ ap schedule_fault_text_of (refused_once name i f g first second) ∙ sym is_y
@@ -111,11 +111,11 @@ shop_text_once name s x y (r, named, first) (q, also, second) = shop_table_once 
 pub no_rule_once : (name x y : List ℕ) → TellsNoRule name x → TellsNoRule name y → x ≡ y
 no_rule_once name x y (f, first, is_x) (g, second, is_y) = is_x ∙ ap shop_fault_text_of (first.0 ∙ sym second.0) ∙ sym is_y
 
--- and none where a rule has it
+-- if a rule has the name, there is no such line
 pub no_rule_apart : (name : List ℕ) (s : shops.JobShop) (line text : List ℕ) → IsShopTextOf name s text → TellsNoRule name line → ⊥
 no_rule_apart name s line text (r, named, table) (f, none, is) = none.1 r named
 
--- answers that say the same have one text
+-- equal answers have equal texts
 pub best_line_once : (s : shops.JobShop) (a b : Solved) → SolvedAlike a b → best_text_of s a ≡ best_text_of s b
 best_line_once s a b same =
     ap (λ (k : Kind). kind_line k a.schedule.makespan ++ shop_table_text s a.schedule.starts.items a.schedule.makespan) same.kind
@@ -140,7 +140,7 @@ not_solved_once word s exact.BadBudget exact.NoMemory first second = absurd seco
 not_solved_once word s exact.BadBudget exact.TooLarge first second = let few = first.0 in absurd (omega (arith, second, few))
 not_solved_once word s exact.BadBudget exact.BadBudget first second = refl
 
--- it has one line that tells what a search is refused for
+-- it has at most one error line of the search
 pub best_refusal_once : (word : List ℕ) (s : shops.JobShop) (x y : List ℕ) → TellsBestRefusal word s x → TellsBestRefusal word s y → x ≡ y
 best_refusal_once word s x y (f, first, is_x) (g, second, is_y) = is_x ∙ not_solved_once word s f g first second ∙ sym is_y
 
@@ -149,6 +149,6 @@ not_both word s exact.NoMemory budget text spelled best refused = refused
 not_both word s exact.TooLarge budget text spelled best refused = let few = best.solution.few_steps in omega (arith, few, refused)
 not_both word s exact.BadBudget budget text spelled best refused = refused.1 budget spelled
 
--- and none where it has a best text
+-- if it has a best text, it has no such line
 pub best_refusal_apart : (word : List ℕ) (s : shops.JobShop) (line text : List ℕ) → IsBestTextOf word s text → TellsBestRefusal word s line → ⊥
 best_refusal_apart word s line text (budget, spelled, best) (f, refused, is) = not_both word s f budget text spelled best refused

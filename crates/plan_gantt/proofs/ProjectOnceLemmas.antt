@@ -15,7 +15,7 @@ use Rattle.plan_gantt.specs.BestText.{kind_line}
 use Rattle.plan_gantt.specs.ExactFaultText.{exact_fault_text_of}
 use Rattle.plan_gantt.specs.ProjectBestText.{best_project_text_of, IsBestProjectBy, IsBestProjectTextOf, RefusesBestProject, TellsBestProjectRefusal}
 
--- answers that say the same have one text
+-- equal answers have equal texts
 best_project_line_once : (i : Planned) (a b : Solved) → SolvedAlike a b → best_project_text_of i a ≡ best_project_text_of i b
 best_project_line_once i a b same =
     ap (λ (k : Kind). kind_line k a.schedule.makespan ++ schedule_table_text i.project.network a.schedule.starts.items a.schedule.makespan) same.kind
@@ -41,7 +41,7 @@ not_solved_once word i exact.BadBudget exact.NoMemory first second = absurd seco
 not_solved_once word i exact.BadBudget exact.TooLarge first second = let few = first.0 in absurd (omega (arith, second, few))
 not_solved_once word i exact.BadBudget exact.BadBudget first second = refl
 
--- it has one line that tells what it is refused for
+-- it has at most one error line
 pub best_project_refusal_once : (word : List ℕ) (i : Planned) (x y : List ℕ) → TellsBestProjectRefusal word i x → TellsBestProjectRefusal word i y → x ≡ y
 best_project_refusal_once word i x y (inl (f, first, is_x)) (inl (g, second, is_y)) =
     is_x ∙ ap schedule_fault_text_of (refusal_once i f g first second) ∙ sym is_y
@@ -55,7 +55,7 @@ not_both word i exact.NoMemory budget text spelled best refused = refused
 not_both word i exact.TooLarge budget text spelled best refused = let few = best.solution.few_activities in omega (arith, few, refused)
 not_both word i exact.BadBudget budget text spelled best refused = refused.1 budget spelled
 
--- and none where it has a best text
+-- if it has a best text, it has no such line
 pub best_project_refusal_apart : (word : List ℕ) (i : Planned) (line text : List ℕ) → IsBestProjectTextOf word i text → TellsBestProjectRefusal word i line → ⊥
 best_project_refusal_apart word i line text (budget, spelled, best) (inl (f, refused, is)) =
     fit_not_refused i f (feasible_fits (problem_of i) best.solved.schedule.starts.items best.active.feasible) refused

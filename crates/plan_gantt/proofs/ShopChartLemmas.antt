@@ -16,7 +16,7 @@ equal a b e = grind (arith, nat_tests)
 unequal : (a b : ℕ) → (a ≡ b → ⊥) → nat_eq a b ≡ false
 unequal a b n = grind (arith, nat_tests)
 
--- one place more
+-- one more index
 next_place : (s : JobShop) (starts : List ℕ) (m n : ℕ) →
     first_intervals s starts m (n + 1) ≡ first_intervals s starts m n
     ++ map (step_interval s starts) (cond (nat_eq (machine_of s n) m) (n ∷ []) [])

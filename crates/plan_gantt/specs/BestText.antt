@@ -7,12 +7,12 @@ use Rattle.plan_exact.specs.declared.answer.Kind.TheVariants as kind
 use Rattle.plan_exact.specs.declared.shop_solution.Solved.{Solved}
 use Rattle.plan_gantt.specs.ShopTable.{shop_table_text}
 
--- what is known of the makespan, in a word
+-- the word of a kind
 abbrev pub kind_text : Kind → List ℕ
 kind_text kind.Optimal = codes "optimal"
 kind_text kind.Budget = codes "budget"
 
--- the line of what is known
+-- the line of a kind and a makespan
 abbrev pub kind_line : Kind → ℕ → List ℕ
 kind_line found makespan = kind_text found ++ codes " " ++ decimal makespan ++ codes "\n"
 

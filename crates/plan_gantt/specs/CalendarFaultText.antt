@@ -9,6 +9,6 @@ calendar_fault_text_of fault.BadDate = codes "G1 date"
 calendar_fault_text_of fault.BadDays = codes "G2 days"
 calendar_fault_text_of fault.BeyondCalendar = codes "G3 beyond calendar"
 
--- the text of what is refused where no calendar was given
+-- the error line if no calendar was given
 abbrev pub missing_calendar_text : List ℕ
 missing_calendar_text = codes "G4 no calendar"

@@ -1,4 +1,4 @@
--- What stands in a chart of activities, and in one of machines (docs/definitions.md, "Texts").
+-- The intervals in a chart of activities (docs/definitions.md, "Texts").
 use Rattle.std.specs.Prelude.{ℕ, ◌-◌, List, [], ◌∷◌, slice_index}
 use Rattle.plan_net.specs.Network.{Net, duration_of}
 use Rattle.plan_gantt.specs.declared.interval.Interval.{Interval}
@@ -7,6 +7,6 @@ use Rattle.plan_gantt.specs.declared.interval.Interval.{Interval}
 abbrev pub activity_interval : Net → List ℕ → ℕ → Interval
 activity_interval net starts j = record { start = slice_index starts (j - 1); duration = duration_of net j }
 
--- what stands in the line of activity j
+-- the intervals in the line of activity j
 abbrev pub activity_intervals : Net → List ℕ → ℕ → List Interval
 activity_intervals net starts j = activity_interval net starts j ∷ []

@@ -18,11 +18,11 @@ dates_of net dates j = duration_of net j ∷ early_start_of dates j ∷ early_fi
 abbrev pub line_end : Bool → List ℕ
 line_end critical = if critical then codes " *\n" else codes "\n"
 
--- the line of activity j, which is critical where it has no total float
+-- the line of activity j, which is critical if its total float is 0
 unfoldable pub date_line : Net → DateTable → ℕ → List ℕ
 date_line net dates j = number_column 4 j ++ number_columns (dates_of net dates j) ++ line_end (total_float_of dates j == 0)
 
--- the last line: T and the duration of the whole
+-- the last line: T and the project duration
 abbrev pub duration_line : ℕ → List ℕ
 duration_line duration = codes "T " ++ decimal duration ++ codes "\n"
 

@@ -1,4 +1,4 @@
--- What texts of schedules are asked to show at most, in whole time units (docs/definitions.md, "Texts").
+-- The greatest times in texts of schedules, in whole time units (docs/definitions.md, "Texts").
 use Rattle.std.specs.Prelude.{ℕ}
 
 -- the latest start

@@ -1,4 +1,4 @@
--- The best text of a project within the budget that a word spells, or why there is none
+-- The text of the best schedule of a project within the budget that a word spells, or its error line
 -- (docs/definitions.md, "Texts").
 use Rattle.std.specs.Prelude.{◌≡◌, ◌<◌, ◌⊎◌, ℕ, List, ◌++◌}
 use Rattle.plan_net.specs.Network.{count_of}
@@ -16,14 +16,14 @@ use Rattle.plan_gantt.specs.ScheduleTable.{schedule_table_text}
 use Rattle.plan_gantt.specs.ScheduleFaultText.{schedule_fault_text_of}
 use Rattle.plan_gantt.specs.ExactFaultText.{exact_fault_text_of}
 
--- the line of what is known, and then the table of the schedule
+-- the line of the kind and the makespan, then the table of the schedule
 abbrev pub best_project_text_of : Planned → Solved → List ℕ
 best_project_text_of i solved =
     kind_line solved.kind solved.schedule.makespan
     ++ schedule_table_text i.project.network solved.schedule.starts.items solved.schedule.makespan
 
--- a text tells what a search of a project's words within a budget answers: an active schedule, and
--- where it is called optimal one of least makespan among all feasible ones
+-- a text shows the result of a search of a project's words within a budget: an active schedule, which has the
+-- least makespan of all feasible ones if it is called optimal
 pub record IsBestProjectBy (budget : ℕ) (i : Planned) (text : List ℕ) : Type 0 where
   pub solved : Solved
   pub solution : IsProjectSolution i budget solved
@@ -32,11 +32,11 @@ pub record IsBestProjectBy (budget : ℕ) (i : Planned) (text : List ℕ) : Type
   pub makespan : solved.schedule.makespan ≡ makespan (problem_of i) solved.schedule.starts.items
   pub shown : text ≡ best_project_text_of i solved
 
--- a text tells the best schedule of an instance within the budget that a word spells
+-- a text shows the best schedule of an instance within the budget that a word spells
 abbrev pub IsBestProjectTextOf : List ℕ → Planned → List ℕ → Type 0
 IsBestProjectTextOf word i text = (budget : ℕ) × IsBudgetText word budget × IsBestProjectBy budget i text
 
--- an instance is refused for its size, or else since a word spells no budget
+-- the error of an instance: its size, or else a word that spells no budget
 abbrev pub RefusesBestProject : List ℕ → Planned → ExactFault → Type 0
 RefusesBestProject word i exact.NoMemory = ⊥
 RefusesBestProject word i exact.TooLarge = 40 < count_of i.project.network
@@ -47,7 +47,7 @@ abbrev pub TellsNoBestProject : List ℕ → Planned → List ℕ → Type 0
 TellsNoBestProject word i line =
     (first : ExactFault) × RefusesBestProject word i first × (line ≡ exact_fault_text_of first)
 
--- a line tells the first need that is too much, or else what the instance is refused for
+-- a line reports the first need that exceeds a capacity, or else the error of the search
 abbrev pub TellsBestProjectRefusal : List ℕ → Planned → List ℕ → Type 0
 TellsBestProjectRefusal word i line =
     ((first : SgsFault) × RefusesInstance i first × (line ≡ schedule_fault_text_of first))

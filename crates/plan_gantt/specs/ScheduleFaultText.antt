@@ -4,7 +4,7 @@ use Rattle.std.specs.Fmt.{decimal}
 use Rattle.plan_sgs.specs.declared.fault.SgsFault.{SgsFault}
 use Rattle.plan_sgs.specs.declared.fault.SgsFault.TheVariants as fault
 
--- an activity that needs more of a resource than there is
+-- an activity that needs more of a resource than its capacity
 abbrev pub need_text : ℕ → ℕ → List ℕ
 need_text activity resource = codes "S1 activity " ++ decimal activity ++ codes " resource " ++ decimal resource
 

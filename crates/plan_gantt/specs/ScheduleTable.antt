@@ -8,7 +8,7 @@ use Rattle.plan_gantt.specs.Column.{number_row, lines_from}
 abbrev pub schedule_heading : List ℕ
 schedule_heading = codes " act       d   start     end\n"
 
--- when activity j starts
+-- the start of activity j
 abbrev pub start_of : List ℕ → ℕ → ℕ
 start_of starts j = slice_index starts (j - 1)
 
@@ -16,7 +16,7 @@ start_of starts j = slice_index starts (j - 1)
 unfoldable pub schedule_line : Net → List ℕ → ℕ → List ℕ
 schedule_line net starts j = number_row j (duration_of net j ∷ start_of starts j ∷ (start_of starts j + duration_of net j) ∷ [])
 
--- the last line: when all activities have ended
+-- the last line: the makespan
 abbrev pub makespan_line : ℕ → List ℕ
 makespan_line makespan = codes "makespan " ++ decimal makespan ++ codes "\n"
 

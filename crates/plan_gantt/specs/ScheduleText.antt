@@ -1,5 +1,4 @@
--- The text of an instance's schedule by the rule of a name, or why there is none
--- (docs/definitions.md, "Texts").
+-- The text of an instance's schedule by the rule of a name, or its error line (docs/definitions.md, "Texts").
 use Rattle.std.specs.Prelude.{◌≡◌, ◌⊎◌, ℕ, List}
 use Rattle.plan_sgs.specs.Problem.{IsActive, NeedsFit, makespan}
 use Rattle.plan_sgs.specs.Instances.{Planned, problem_of, RefusesInstance}
@@ -24,13 +23,13 @@ pub record IsTableOf (i : Planned) (rule : Rule) (text : List ℕ) : Type 0 wher
 abbrev pub IsScheduleTextOf : List ℕ → Planned → List ℕ → Type 0
 IsScheduleTextOf name i text = (rule : Rule) × (name ≡ rule_text rule) × IsTableOf i rule text
 
--- a project and capacities are refused for the first need that is too much, or else since no
--- rule has the name
+-- the error of a project with capacities: the first need that exceeds a capacity, or else that no rule has
+-- the name
 abbrev pub RefusesSchedule : List ℕ → Planned → SgsFault → Type 0
 RefusesSchedule name i first =
     RefusesInstance i first ⊎ (NeedsFit (problem_of i) × RefusesWord name first)
 
--- a line tells what a project and capacities are refused for
+-- a line reports the error of a project with capacities
 abbrev pub TellsRefusal : List ℕ → Planned → List ℕ → Type 0
 TellsRefusal name i line =
     (first : SgsFault) × RefusesSchedule name i first × (line ≡ schedule_fault_text_of first)

@@ -1,4 +1,4 @@
--- The best text of a job shop within the budget that a word spells, or why there is none
+-- The text of the best schedule of a job shop within the budget that a word spells, or its error line
 -- (docs/definitions.md, "Texts").
 use Rattle.std.specs.Prelude.{◌≡◌, ◌<◌, ℕ, List}
 use Rattle.plan_sgs.specs.Problem.{IsActive, IsShortest, makespan}
@@ -12,8 +12,8 @@ use Rattle.plan_exact.specs.declared.fault.ExactFault.TheVariants as exact
 use Rattle.plan_gantt.specs.BestText.{best_text_of}
 use Rattle.plan_gantt.specs.ExactFaultText.{exact_fault_text_of}
 
--- a text tells what a search of a shop's words within a budget answers: an active schedule, and
--- where it is called optimal one of least makespan among all feasible ones
+-- a text shows the result of a search of a shop's words within a budget: an active schedule, which has the
+-- least makespan of all feasible ones if it is called optimal
 pub record IsBestBy (budget : ℕ) (s : JobShop) (text : List ℕ) : Type 0 where
   pub solved : Solved
   pub solution : IsSolution s budget solved
@@ -22,11 +22,11 @@ pub record IsBestBy (budget : ℕ) (s : JobShop) (text : List ℕ) : Type 0 wher
   pub makespan : solved.schedule.makespan ≡ makespan (problem_of s) solved.schedule.starts.items
   pub shown : text ≡ best_text_of s solved
 
--- a text tells the best schedule of a shop within the budget that a word spells
+-- a text shows the best schedule of a shop within the budget that a word spells
 abbrev pub IsBestTextOf : List ℕ → JobShop → List ℕ → Type 0
 IsBestTextOf word s text = (budget : ℕ) × IsBudgetText word budget × IsBestBy budget s text
 
--- a shop is refused for its size, or else since a word spells no budget
+-- the error of a shop: its size, or else a word that spells no budget
 abbrev pub RefusesBest : List ℕ → JobShop → ExactFault → Type 0
 RefusesBest word s exact.NoMemory = ⊥
 RefusesBest word s exact.TooLarge = 100 < count_steps s

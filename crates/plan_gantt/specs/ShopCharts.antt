@@ -1,4 +1,5 @@
--- What stands in the chart of a job shop, and in its table of working days (docs/definitions.md, "Texts").
+-- The intervals in the chart of a job shop, and the lines of its table of working days (docs/definitions.md,
+-- "Texts").
 use Rattle.std.specs.Prelude.{ℕ, ◌-◌, ◌<◌, List, ◌++◌, map, nat_eq, slice_index, codes}
 use Rattle.plan_shop.specs.Shop.{JobShop, count_steps, time_of, machine_of, those_below}
 use Rattle.plan_gantt.specs.Column.{number_column}
@@ -19,7 +20,7 @@ machine_intervals s starts m = map (step_interval s starts) (those_below (count_
 abbrev pub step_days_heading : List ℕ
 step_days_heading = codes " job    step       first        last\n"
 
--- what stands in front of a step's days: its job, and its number in the job
+-- the part of a line before a step's days: its job, and its number in the job
 abbrev pub step_front : JobShop → ℕ → List ℕ
 step_front s x = number_column 4 (job_number s x) ++ number_column 8 (step_number s x)
 
@@ -28,6 +29,6 @@ abbrev pub IsShopCalendarTable : Workdays → JobShop → List ℕ → List ℕ 
 IsShopCalendarTable calendar s starts text =
     IsDaysTable calendar step_days_heading (λ n. step_front s (n - 1)) (λ n. step_interval s starts (n - 1)) (count_steps s) text
 
--- a day that is shown of some step would come after the last date
+-- a day that is shown for some step would be after the last date
 abbrev pub HasStepBeyond : Workdays → JobShop → List ℕ → Type 0
 HasStepBeyond calendar s starts = (x : ℕ) × (x < count_steps s) × HasDayBeyond calendar (step_interval s starts x)

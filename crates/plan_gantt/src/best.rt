@@ -1,4 +1,4 @@
-//! The best text of a shop, and of a project.
+//! Texts of the best schedules of shops and projects.
 
 ghost use Rattle.std.specs.Prelude.{◌≡◌, ◌≤◌, length, slice_index, EachIndex, IfOk, string_bytes};
 ghost use Rattle.plan_net.specs.Network.{count_of};
@@ -15,7 +15,7 @@ use plan_shop::Shop;
 use std::alloc::{AllocError, Global};
 use std::fmt::Write;
 
-// What is known of the makespan, in a word.
+// Returns the word of a kind: `optimal` or `budget`.
 fn kind_word(kind: Kind) -> &'static str
     ensures { result.now ≡ kind_text kind }
 {
@@ -25,7 +25,8 @@ fn kind_word(kind: Kind) -> &'static str
     }
 }
 
-/// The text of what was found for a shop: a line with `optimal` or `budget` and the makespan, and then the table of the schedule.
+/// Returns the text of the best schedule of a shop: a line with `optimal` or `budget` and the makespan, then
+/// the table of the schedule.
 pub fn best_text(alloc: Global, shop: &Shop, solved: &Solved) -> Result<String, AllocError>
     requires starts { length solved.now.schedule.starts.items ≡ count_steps shop.now }
     requires limit { EachIndex solved.now.schedule.starts.items
@@ -40,7 +41,8 @@ pub fn best_text(alloc: Global, shop: &Shop, solved: &Solved) -> Result<String, 
     Ok(text)
 }
 
-/// The text of what was found for a project: a line with `optimal` or `budget` and the makespan, and then the table of the schedule.
+/// Returns the text of the best schedule of a project: a line with `optimal` or `budget` and the makespan,
+/// then the table of the schedule.
 pub fn best_project_text(
     alloc: Global,
     instance: &Instance,

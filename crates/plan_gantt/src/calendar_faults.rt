@@ -1,12 +1,12 @@
-//! The error lines of working days that are rejected.
+//! Error lines of calendars and working days.
 
 ghost use Rattle.std.specs.Prelude.{◌≡◌};
 ghost use Rattle.plan_gantt.specs.CalendarFaultText.{calendar_fault_text_of, missing_calendar_text};
 
 use plan_calendar::CalendarFault;
 
-/// The text of what a calendar, or a day of it, is refused for, as `G1 date`, without an end of
-/// line. Allocates nothing.
+/// Returns the error line of a calendar or of a working day, such as `G1 date`, without a line feed.
+/// Allocates nothing.
 pub fn calendar_fault_text(fault: CalendarFault) -> &'static str
     ensures text { result.now ≡ calendar_fault_text_of fault }
 {
@@ -17,8 +17,8 @@ pub fn calendar_fault_text(fault: CalendarFault) -> &'static str
     }
 }
 
-/// The text of what is refused where working days are asked for and no calendar was given, without
-/// an end of line. Allocates nothing.
+/// Returns the error line of a request for working days without a calendar, without a line feed. Allocates
+/// nothing.
 pub fn missing_calendar() -> &'static str
     ensures text { result.now ≡ missing_calendar_text }
 {

@@ -12,7 +12,7 @@ use plan_net::{Network, index_of};
 use std::alloc::{AllocError, Global};
 use std::fmt::Write;
 
-// How many instants a cell has.
+// Returns the number of instants in a cell.
 fn chart_unit(makespan: u64) -> u64
     requires { makespan ≤ latest_end }
     ensures unit { result ≡ spec.chart_unit makespan }
@@ -26,7 +26,7 @@ fn chart_unit(makespan: u64) -> u64
     }
 }
 
-// How many cells a line has.
+// Returns the number of cells in a line.
 fn chart_cells(makespan: u64) -> u64
     requires { makespan ≤ latest_end }
     ensures cells { result ≡ spec.chart_cells makespan }
@@ -63,7 +63,7 @@ fn push_cells(text: &mut String, makespan: u64, intervals: &[Interval]) -> Resul
     Ok(())
 }
 
-// A line: its number, and the cells between bars.
+// Appends a line: its number, and the cells between bars.
 #[tactic(auto, unfolding(crate::specs::Chart::chart_line))]
 pub(crate) fn push_line(
     text: &mut String,
@@ -83,7 +83,7 @@ pub(crate) fn push_line(
     text.push_str("|\n")
 }
 
-// The first line: how many instants a cell has.
+// Appends the first line: the number of instants in a cell.
 pub(crate) fn push_unit(text: &mut String, makespan: u64) -> Result<(), AllocError>
     requires { makespan ≤ latest_end }
     ensures { OnOk result
@@ -126,8 +126,9 @@ fn push_activity(
     push_line(text, makespan, j, &[interval_of(network, starts, j)])
 }
 
-/// The Gantt chart of a schedule: the unit, which is how many instants a cell has, and a line of cells for each activity, with
-/// `#` if some instant of the cell lies in its interval. The start at place `k` is that of activity `k + 1`.
+/// Returns the Gantt chart of a schedule (Gantt 1910, Clark 1922): the unit, which is the number of instants
+/// in a cell, and a line of cells for each activity. A cell is `#` if one of its instants is in the interval
+/// of the activity, else `.`. The start at index `k` is that of activity `k + 1`.
 pub fn chart(
     alloc: Global,
     network: &Network,

@@ -1,4 +1,4 @@
-//! Numbers right in their columns, and lines of them.
+//! Texts and numbers, aligned right in columns.
 
 ghost use Rattle.std.specs.Prelude.{◌≡◌, ◌++◌, OnOk, replicate, string_bytes};
 ghost use Rattle.plan_gantt.specs.Column.{column, number_column, number_columns, number_row};
@@ -6,7 +6,7 @@ ghost use Rattle.plan_gantt.specs.Column.{column, number_column, number_columns,
 use std::alloc::AllocError;
 use std::fmt::Write;
 
-// The number of a line, right in its column of 4 places.
+// Appends the number of a line, aligned right in 4 characters.
 #[tactic(auto, using(crate::proofs::ColumnLemmas::styled_first))]
 pub fn push_first(text: &mut String, n: u32) -> Result<(), AllocError>
     ensures { OnOk result (string_bytes text.new ≡ string_bytes text.old ++ number_column 4 n) }
@@ -14,7 +14,7 @@ pub fn push_first(text: &mut String, n: u32) -> Result<(), AllocError>
     write!(text, "{n:>4}")
 }
 
-// A number, right in its column of 8 places.
+// Appends a number, aligned right in 8 characters.
 #[tactic(auto, using(crate::proofs::ColumnLemmas::styled_further))]
 pub fn push_number(text: &mut String, n: u64) -> Result<(), AllocError>
     ensures { OnOk result (string_bytes text.new ≡ string_bytes text.old ++ number_column 8 n) }
@@ -22,7 +22,7 @@ pub fn push_number(text: &mut String, n: u64) -> Result<(), AllocError>
     write!(text, "{n:>8}")
 }
 
-// Numbers, each right in its column of 8 places.
+// Appends numbers, each aligned right in 8 characters.
 pub fn push_numbers(text: &mut String, numbers: &[u64]) -> Result<(), AllocError>
     ensures { OnOk result
         (string_bytes text.new ≡ string_bytes text.old ++ number_columns numbers.now) }
@@ -33,7 +33,7 @@ pub fn push_numbers(text: &mut String, numbers: &[u64]) -> Result<(), AllocError
     Ok(())
 }
 
-// A line of numbers: the first right in its column of 4 places, each other one in its column of 8.
+// Appends a line of numbers: the first aligned right in 4 characters, the others in 8.
 pub fn push_row(text: &mut String, first: u32, numbers: &[u64]) -> Result<(), AllocError>
     ensures { OnOk result
         (string_bytes text.new ≡ string_bytes text.old ++ number_row first numbers.now) }
@@ -43,7 +43,7 @@ pub fn push_row(text: &mut String, first: u32, numbers: &[u64]) -> Result<(), Al
     text.push_str("\n")
 }
 
-// So many spaces.
+// Appends `count` spaces.
 fn push_spaces(text: &mut String, count: usize) -> Result<(), AllocError>
     ensures { OnOk result (string_bytes text.new ≡ string_bytes text.old ++ replicate count 32) }
 {
@@ -53,7 +53,7 @@ fn push_spaces(text: &mut String, count: usize) -> Result<(), AllocError>
     Ok(())
 }
 
-// A text, right in its column of so many places.
+// Appends a text, aligned right in `places` characters. A longer text isn't cut.
 pub fn push_right(text: &mut String, places: usize, word: &str) -> Result<(), AllocError>
     ensures { OnOk result
         (string_bytes text.new ≡ string_bytes text.old ++ column places word.now) }

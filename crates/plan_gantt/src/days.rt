@@ -17,13 +17,13 @@ use plan_net::Network;
 use std::alloc::{AllocError, Global};
 use thiserror::Error;
 
-/// Why there is no table of working days.
+/// An error of a table of working days.
 #[derive(Clone, Copy, Debug, PartialEq, Eq, Error)]
 pub enum DaysFault {
     /// Memory ran out.
     #[error("no memory")]
     NoMemory,
-    /// The day of the first or of the last instant of some interval would come after 9999-12-31.
+    /// The day of the first or of the last instant of some interval would be after 9999-12-31.
     #[error("G3 beyond calendar")]
     BeyondCalendar,
 }
@@ -106,9 +106,9 @@ fn push_line(
     push_days_line(text, calendar, interval_of(network, starts, j))
 }
 
-/// The working days of a schedule: a line for each activity with the days of the first and of the last instant at which it goes
-/// on, or hyphens if it takes no time. The start at place `k` is that of activity `k + 1`. Refused with
-/// [`DaysFault::BeyondCalendar`] if one of these days would come after 9999-12-31.
+/// Returns the table of working days of a schedule: a line for each activity with the days of its first and
+/// last instants, or hyphens if its duration is 0. The start at index `k` is that of activity `k + 1`. Fails
+/// with [`DaysFault::BeyondCalendar`] if one of these days would be after 9999-12-31.
 pub fn calendar_table(
     alloc: Global,
     network: &Network,

@@ -7,7 +7,7 @@ use plan_psplib::{FileCode, FileFault};
 use std::alloc::{AllocError, Global};
 use std::fmt::Write;
 
-// The name that texts give a check.
+// Returns the code of a check in messages.
 fn code_name(code: FileCode) -> &'static str
     ensures { result.now ≡ code_name_of code }
 {
@@ -38,7 +38,7 @@ fn push_place(text: &mut String, code: FileCode, line: u64) -> Result<(), AllocE
     write!(text, "{name} line {line}")
 }
 
-// Numbers, a space before each.
+// Appends numbers, a space before each.
 fn push_spaced(text: &mut String, numbers: &[u32]) -> Result<(), AllocError>
     ensures { OnOk result
         (string_bytes text.new ≡ string_bytes text.old ++ spaced_numbers numbers.now) }
@@ -49,8 +49,8 @@ fn push_spaced(text: &mut String, numbers: &[u32]) -> Result<(), AllocError>
     Ok(())
 }
 
-/// The text of a file fault, as `F9 line 31`, without an end of line. That of a cycle goes on with the activities of the
-/// cycle, as `F12 line 17 cycle 3 4`; out of memory is `E90 memory`.
+/// Returns the error line of a file, such as `F9 line 31`, without a line feed. For a cycle it also lists the
+/// activities of the cycle, as in `F12 line 17 cycle 3 4`. Out of memory is `E90 memory`.
 pub fn file_fault_text(alloc: Global, fault: &FileFault) -> Result<String, AllocError>
     ensures text { IfOk result (λ text. string_bytes text ≡ file_fault_text_of fault.now) }
 {

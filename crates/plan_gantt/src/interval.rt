@@ -1,18 +1,18 @@
-//! Intervals, and whether one has an instant of a cell.
+//! Intervals, and the test whether one contains an instant of a cell.
 
 ghost use Rattle.std.specs.Prelude.{◌≡◌, ◌+◌, ◌*◌, ◌≤◌, All};
 ghost use Rattle.plan_gantt.specs.Limits.{latest_end};
 ghost use Rattle.plan_gantt.specs.Chart as spec;
 ghost use Rattle.plan_gantt.specs.Overlaps.{overlaps};
 
-/// From an instant on, for so many instants.
+/// An interval: `duration` instants from `start` on, in whole time units.
 #[derive(Clone, Copy, Debug, PartialEq, Eq)]
 pub struct Interval {
     pub start: u64,
     pub duration: u64,
 }
 
-// Whether an interval has one of the instants from one on, so many of them.
+// Tests whether an interval contains one of the `count` instants from `from` on.
 fn overlaps(interval: Interval, from: u64, count: u64) -> bool
     requires instants { from + count ≤ 2 * latest_end }
     requires end { interval.start + interval.duration ≤ latest_end }
@@ -24,7 +24,7 @@ fn overlaps(interval: Interval, from: u64, count: u64) -> bool
         && from < interval.start + interval.duration
 }
 
-/// Whether some instant of a cell lies in one of the intervals.
+/// Tests whether some instant of a cell is in one of the intervals. A cell contains `unit` instants.
 #[tactic(auto, using(crate::proofs::CellLemmas::marked_by_bounds))]
 pub fn is_marked(unit: u64, intervals: &[Interval], cell: u64) -> bool
     requires instants { cell * unit + unit ≤ 2 * latest_end }

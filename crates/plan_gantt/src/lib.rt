@@ -1,4 +1,4 @@
-//! The exact texts that people read: tables and fault texts, each a function of the values that it shows.
+//! The exact texts of tables, charts and errors, defined by the values that they show.
 #![tactic(auto)]
 
 mod best;

@@ -32,7 +32,7 @@ pub(crate) fn push_makespan(text: &mut String, makespan: u64) -> Result<(), Allo
     writeln!(text, "makespan {makespan}")
 }
 
-// The table of a schedule, behind what the text has.
+// Appends the table of a schedule.
 pub(crate) fn push_schedule_table(
     text: &mut String,
     network: &Network,
@@ -52,8 +52,8 @@ pub(crate) fn push_schedule_table(
     push_makespan(text, makespan)
 }
 
-/// The table of a schedule: a line for each activity with its duration, start and end, and the makespan in the last line.
-/// The start at place `k` is that of activity `k + 1`.
+/// Returns the table of a schedule: a line for each activity with its duration, start and end, and the
+/// makespan in the last line. The start at index `k` is that of activity `k + 1`.
 pub fn schedule_table(
     alloc: Global,
     network: &Network,

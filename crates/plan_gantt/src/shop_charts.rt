@@ -20,7 +20,7 @@ pub(crate) fn step_interval(shop: &Shop, starts: &[u64], x: u32) -> Interval
     ensures interval { result ≡ spec.step_interval shop.now starts.now x }
     ensures end { result.start + result.duration ≤ latest_end }
 {
-    // the shop's facts, on which the proof rests
+    // The proof needs the facts of the shop, which this call states.
     let _machines = shop.machines();
     Interval {
         start: starts[x as usize],
@@ -59,8 +59,9 @@ fn machine_intervals(
     Ok(intervals)
 }
 
-/// The Gantt chart of a shop's schedule: the unit, which is how many instants a cell has, and a line of cells for each machine, with
-/// `#` if some instant of the cell lies in the interval of a step on it. The start at place `x` is that of flat step `x`.
+/// Returns the Gantt chart of a shop's schedule (Gantt 1910, Clark 1922): the unit, which is the number of
+/// instants in a cell, and a line of cells for each machine. A cell is `#` if one of its instants is in the
+/// interval of a step on the machine, else `.`. The start at index `x` is that of flat step `x`.
 pub fn shop_chart(
     alloc: Global,
     shop: &Shop,

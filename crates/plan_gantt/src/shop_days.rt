@@ -14,7 +14,7 @@ use plan_calendar::Calendar;
 use plan_shop::Shop;
 use std::alloc::{AllocError, Global};
 
-// What stands in front of the days of step `x`: its job, and its number in the job.
+// Appends the part of a line before the days of step `x`: its job, and its number in the job.
 fn push_front(text: &mut String, shop: &Shop, x: u32) -> Result<(), AllocError>
     requires { x < count_steps shop.now }
     ensures { OnOk result
@@ -46,9 +46,10 @@ fn push_line(
     push_days_line(text, calendar, step_interval(shop, starts, x))
 }
 
-/// The working days of a shop's schedule: a line for each step in flat order with its job and its number in the job, and the days of
-/// the first and of the last instant at which it goes on, or hyphens if it takes no time. The start at place `x` is that of flat
-/// step `x`. Returns the error [`DaysFault::BeyondCalendar`] if one of these days would come after 9999-12-31.
+/// Returns the table of working days of a shop's schedule: a line for each step in flat order. A line
+/// contains the job, the step's number in it, and the days of the first and last instants, or hyphens if the
+/// time is 0. The start at index `x` is that of flat step `x`. Fails with [`DaysFault::BeyondCalendar`] if
+/// one of these days would be after 9999-12-31.
 pub fn shop_calendar_table(
     alloc: Global,
     shop: &Shop,

@@ -10,7 +10,7 @@ use crate::schedules::push_makespan;
 use plan_shop::Shop;
 use std::alloc::{AllocError, Global};
 
-// How many steps a shop has.
+// Returns the number of steps of a shop.
 pub(crate) fn step_count(shop: &Shop) -> u32
     ensures { result ≡ count_steps shop.now }
 {
@@ -38,7 +38,7 @@ fn push_line(text: &mut String, shop: &Shop, starts: &[u64], x: u32) -> Result<(
     push_row(text, x / machines + 1, &others)
 }
 
-// The table of a schedule, behind what the text has.
+// Appends the table of a shop's schedule.
 pub(crate) fn push_shop_table(
     text: &mut String,
     shop: &Shop,
@@ -58,8 +58,9 @@ pub(crate) fn push_shop_table(
     push_makespan(text, makespan)
 }
 
-/// The table of a shop's schedule: a line for each step in flat order with its job and its number in the job (from 1), its machine
-/// (from 0), its time, its start and its end, and the makespan in the last line. The start at place `x` is that of flat step `x`.
+/// Returns the table of a shop's schedule: a line for each step in flat order, and the makespan in the last
+/// line. A line contains the job and the step's number in it (from 1), the machine (from 0), the time, the
+/// start and the end. The start at index `x` is that of flat step `x`.
 pub fn shop_table(
     alloc: Global,
     shop: &Shop,

@@ -1,4 +1,4 @@
--- What the walks over `src/tally.rt` share: at run time a tally is a struct without fields.
+-- Shared lemmas of the proofs about `src/tally.rt`. At run time a tally is a struct without fields.
 use Rattle.std.proofs.Common.{List, [], ◌∷◌, refl}
 use seplogic.Ra.Ura.{Ura}
 use mir.Val.{Val, vstruct, vnil}
@@ -8,11 +8,11 @@ use denote.RattleType.{Valss}
 use denote.Steps.{nothing}
 use denote.Struct.Struct.{Struct, within}
 
--- what the machine stores
+-- the stored value of a tally
 abbrev pub bare : Val
 bare = vstruct vnil
 
--- what it owns is nothing, and can be added anywhere
+-- that value owns nothing, so its ownership can be added anywhere
 pub owns_bare : {M : Type 1} {𝓤 : Ura M} {𝓛 : Logic 𝓤} {K : Type 0} {Γ : List (Item 𝓤)} {G : Goal 𝓤 𝓛.H} → K →
     Step K 𝓛 (‵ ((Struct (record { name = []; args = []; types = []; fields = [] })).own_val tt (bare ∷ []))
     ∷ Γ) G Γ G

@@ -5,7 +5,7 @@ ghost use Rattle.std.specs.Prelude.{◌≡◌, Some};
 use crate::tally::Tally;
 use crate::traits::{DeviceFault, Sink, Source};
 
-/// A source that gives bytes of memory, as many as fit, and never fails.
+/// A source over bytes in memory. A read copies as many bytes as fit into its buffer and never fails.
 #[derive(Drop)]
 pub struct MemSource<'a> {
     rest: &'a [u8],
@@ -48,7 +48,7 @@ pub struct MemSink {
 }
 
 impl MemSink {
-    /// A sink that has taken these bytes, and adds to them.
+    /// Returns a sink that appends to these bytes.
     pub fn new(bytes: Vec<u8>) -> MemSink
         ensures calls { ⟦<MemSink as Sink>⟧.calls result ≡ 0 }
         ensures faults { ⟦<MemSink as Sink>⟧.faults result ≡ 0 }
@@ -60,7 +60,7 @@ impl MemSink {
         }
     }
 
-    /// All bytes that it has taken.
+    /// Returns all bytes of the sink, those from `new` first.
     pub fn into_bytes(self) -> Vec<u8>
         ensures { ⟦<MemSink as Sink>⟧.taken self ≡ Some result.items }
     {

@@ -1,4 +1,4 @@
-//! A writer of std as a sink.
+//! A sink over a writer of std.
 
 ghost use Rattle.std.specs.Prelude.{◌≡◌};
 
@@ -6,8 +6,8 @@ use crate::tally::Tally;
 use crate::traits::{DeviceFault, Sink};
 use std::io::Write;
 
-/// A sink over a writer of std. Each error of the writer is a fault. A `Sink` isn't flushed, so the
-/// writer should keep no bytes back.
+/// A sink over a writer of std. Each error of the writer is a fault. A `Sink` isn't flushed, so the writer
+/// should not buffer.
 #[derive(Drop)]
 pub struct StdSink<W: Write + Drop> {
     inner: W,

@@ -1,4 +1,4 @@
-//! A reader of std as a source.
+//! A source over a reader of std.
 
 ghost use Rattle.std.specs.Prelude.{◌≡◌};
 

@@ -1,4 +1,4 @@
-//! How often a device was called, and how often it failed.
+//! Counters of the calls and the failures of a device.
 
 ghost use Rattle.std.specs.Prelude.{◌≡◌, ◌+◌, ℕ, Ok, IsErr, MatchResult, if◌then◌else◌};
 ghost use Rattle.std.specs.Borrow.{ftrue};
@@ -7,8 +7,8 @@ ghost use Rattle.plan_io.specs.Devices.{IsCounted};
 use crate::traits::DeviceFault;
 use std::marker::Model;
 
-/// The calls of one reader or writer, and those of them that failed. Only contracts
-/// see these numbers: a `Tally` takes no bytes at run time, and nothing can overflow.
+/// The numbers of calls and of failed calls of one reader or writer. Only contracts see these numbers: a
+/// `Tally` takes no bytes at run time, and nothing can overflow.
 ///
 /// They bind code that is generic over a [`Source`](crate::Source) or a [`Sink`](crate::Sink): it can
 /// raise them only by calling the device.

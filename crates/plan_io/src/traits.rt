@@ -1,4 +1,4 @@
-//! Where bytes come from and where they go.
+//! The traits of byte sources and byte sinks.
 
 ghost use Rattle.std.specs.Prelude.{ℕ, ◌≤◌, List, Option, length, IfOk};
 ghost use Rattle.std.specs.Io.KnownBytes.{ReadConsumes, WriteAppends};

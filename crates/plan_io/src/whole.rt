@@ -1,4 +1,4 @@
-//! Reading all bytes of a source, and writing all of some to a sink.
+//! Whole reads of a source and whole writes to a sink.
 
 ghost use Rattle.std.specs.Prelude.{◌≡◌, ◌+◌, ◌≤◌, ◌<◌, ◌++◌, ℕ, List, length, take, vec_len, IfOk, OnOk, IfErr, IfSome, IsErrOf};
 ghost use Rattle.std.specs.Io.KnownBytes.{Consumes, Appends, IsAtEnd};
@@ -45,12 +45,12 @@ impl From<DeviceFault> for InputError {
 #[derive(Clone, Copy, Debug, PartialEq, Eq, Error)]
 #[error("the output failed after {sent} bytes")]
 pub struct OutputError {
-    /// The number of bytes that were written, from the front.
+    /// The number of bytes, from the front, that were written.
     pub sent: usize,
 }
 
-/// Reads all bytes of a source, but at most one more than a limit: a caller with a limit on texts can
-/// judge by that one byte. With a limit that one byte a call can reach, a failure means a fault.
+/// Reads all bytes of a source, but at most `limit + 1`. A result longer than `limit` shows that the input is
+/// too long. If `limit + 2` is at most [`MOST_CALLS`], the error `Failed` means that exactly one read failed.
 pub fn read_beyond<R: Source>(
     alloc: Global,
     reader: &mut R,
@@ -84,7 +84,7 @@ pub fn read_beyond<R: Source>(
     Err(InputError::Failed)
 }
 
-// One read, through a buffer, behind the bytes that were read before.
+// Appends the bytes of one read to `bytes` and returns their number; 0 means the end of the input.
 fn read_more<R: Source>(
     reader: &mut R,
     bytes: &mut Vec<u8>,
@@ -108,7 +108,7 @@ fn read_more<R: Source>(
     Ok(n)
 }
 
-/// Writes all bytes. A write that takes none is repeated.
+/// Writes all bytes in at most [`MOST_CALLS`] writes. A write that takes no bytes is repeated.
 pub fn write_whole<W: Sink>(writer: &mut W, bytes: &[u8]) -> Result<(), OutputError>
     ensures calls { W.calls writer.new ≤ W.calls writer.old + most_calls }
     ensures written { OnOk result (Appends (W.taken writer.old) (W.taken writer.new) bytes.now) }
@@ -123,10 +123,9 @@ pub fn write_whole<W: Sink>(writer: &mut W, bytes: &[u8]) -> Result<(), OutputEr
         if sent == bytes.len() {
             return Ok(());
         }
-        match writer.write(&bytes[sent..]) {
-            Ok(n) => sent += n,
-            Err(_) => return Err(OutputError { sent }),
-        }
+        sent += writer
+            .write(&bytes[sent..])
+            .map_err(|_| OutputError { sent })?;
     }
     if sent == bytes.len() {
         return Ok(());

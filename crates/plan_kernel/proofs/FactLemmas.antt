@@ -1,13 +1,14 @@
 -- Facts: the latest starts below an upper bound, and the ends that are reached.
 use Rattle.std.proofs.Common.{◌≡◌, ℕ, ◌+◌, ◌-◌, ◌*◌, ◌≤◌, ◌<◌, ◌⊎◌, inl, inr, List, suc, min, max, length, get_or, ap, arith}
+use Rattle.std.proofs.lemmas.Bool.{cases_eq}
 use Rattle.plan_sgs.specs.Problem.{count, duration, makespan, greatest_below}
 use Rattle.plan_sgs.proofs.TotalLemmas.{greatest_above}
 use Rattle.plan_kernel.specs.declared.literal.TheConstants.{LIMIT}
 use Rattle.plan_kernel.specs.declared.input.Input.{Input}
 use Rattle.plan_kernel.specs.Inputs.{problem_of}
 use Rattle.plan_kernel.specs.Literals.{at, level}
-use Rattle.plan_kernel.specs.Clauses.{AreFacts, IsRaisedTo}
-use Rattle.plan_kernel.specs.Kernels.{IsEndReached}
+use Rattle.plan_kernel.specs.Clauses.{AreFacts, IsRaisedTo, IsRaised}
+use Rattle.plan_kernel.specs.Kernels.{IsEndReached, AreLatest}
 use Rattle.plan_kernel.proofs.InputLemmas.{count_is, duration_is}
 use Rattle.plan_kernel.proofs.LevelLemmas.{ends_before, quantity_start, level_even, level_odd}
 
@@ -49,3 +50,18 @@ pub end_more : (f : ℕ → ℕ) (n greatest here new limit : ℕ) → greatest 
 end_more f n greatest here new limit before is most =
     let next : greatest_below (n + 1) f ≡ max (greatest_below n f) (f n) = let same : n + 1 ≡ suc n = omega arith in ap (λ (m : ℕ). greatest_below m f) same in
     omega (arith, before, is, most, next)
+
+-- the fact of one activity more
+pub latest_more : (input : Input) (upper place value : ℕ) (old new : List ℕ) → value ≡ min (LIMIT - upper + 1 + at input.durations.items place) 4294967295
+    → length new ≡ length old → AreLatest input upper old place → (2 * place + 1 < length new → value ≤ at new (2 * place + 1)) → IsRaised old new
+    → AreLatest input upper new (place + 1)
+latest_more input upper place value old new is same before risen raised i below inside = elim (cases_eq i place) [
+  | inl here ↦
+      let there : value ≤ at new (2 * place + 1) = risen (omega (arith, inside, here)) in
+      omega (arith, there, is, ap (λ (j : ℕ). at new (2 * j + 1)) here, ap (at input.durations.items) here)
+  | inr apart ↦ omega (arith, before i (omega (arith, below, apart)) (omega (arith, inside, same)), raised (2 * i + 1))
+]
+
+-- those of all
+pub latest_all : (input : Input) (upper : ℕ) (facts : List ℕ) (n count : ℕ) → count ≤ n → AreLatest input upper facts n → AreLatest input upper facts count
+latest_all input upper facts n count most are i below inside = are i (omega (arith, below, most)) inside

@@ -1,12 +1,14 @@
 -- The check of a list of starts.
-use Rattle.std.proofs.Common.{◌≡◌, ◌∙◌, ℕ, ◌+◌, ◌≤◌, ◌<◌, List, take, length, get_or, ap, subst, arith}
+use Rattle.std.proofs.Common.{◌≡◌, ◌∙◌, ℕ, ◌+◌, ◌-◌, ◌≤◌, ◌<◌, List, take, length, get_or, ap, subst, sym, arith}
 use Rattle.std.specs.List.{All}
 use Rattle.std.proofs.lemmas.List.Elements.{All-more}
-use Rattle.plan_sgs.specs.Problem.{Problem, count, capacity, usage, all_placed, total, greatest_below, makespan, KeepsCapacities}
+use Rattle.plan_sgs.specs.Problem.{Problem, count, capacity, usage, all_placed, total, greatest_below, makespan, KeepsArcs, KeepsCapacities}
 use Rattle.plan_sgs.proofs.Findings.{keeps_at_starts}
-use Rattle.plan_sgs.proofs.StartLemmas.{usage_is}
+use Rattle.plan_sgs.proofs.StartLemmas.{usage_is, total_next, total_longer}
 use Rattle.plan_kernel.specs.declared.input.Arc.{Arc}
-use Rattle.plan_kernel.specs.Inputs.{FitsAt, KeepsArc, amount_at, end_of}
+use Rattle.plan_kernel.specs.declared.input.Input.{Input}
+use Rattle.plan_kernel.proofs.InputLemmas.{arc_kept}
+use Rattle.plan_kernel.specs.Inputs.{problem_of, FitsAt, KeepsArc, amount_at, end_of}
 
 -- no arc in particular
 abbrev pub no_arc : Arc
@@ -36,3 +38,19 @@ pub arc_more : (p : Problem) (starts : List ℕ) (items all : List Arc) (i end s
 arc_more p starts items all i end start same inside before is_end is_start kept =
     subst (λ (xs : List Arc). All (KeepsArc p starts) (take i xs) → All (KeepsArc p starts) (take (i + 1) xs)) same
     (λ held. All-more (KeepsArc p starts) items i no_arc inside held (omega (arith, is_end, is_start, kept))) before
+
+-- what one activity more needs isn't there
+pub over_with : (p : Problem) (starts : List ℕ) (t k i used more : ℕ) → length starts ≡ count p → i < count p → used ≡ total i (amount_at p starts t k)
+    → more ≡ amount_at p starts t k i → used ≤ capacity p k → capacity p k - used < more → usage p (all_placed starts) t k ≤ capacity p k → ⊥
+over_with p starts t k i used more whole inside sum is most over fits =
+    omega (arith, sum, is, most, over, fits, usage_is p starts t k whole, total_next i (amount_at p starts t k), total_longer (i + 1) (count p) (amount_at p starts t k) (omega (arith, inside)))
+
+-- an arc that isn't kept
+pub arc_broken : (input : Input) (starts : List ℕ) (items : List Arc) (i end start : ℕ) → items ≡ input.arcs.items → i < length items
+    → end ≡ end_of (problem_of input) starts (get_or items i no_arc).from → start ≡ get_or starts (get_or items i no_arc).to 0
+    → start < end + (get_or items i no_arc).lag → KeepsArcs (problem_of input) starts → ⊥
+arc_broken input starts items i end start same inside is_end is_start broken kept =
+    let within : i < length input.arcs.items = omega (arith, inside, ap length same) in
+    let held : KeepsArc (problem_of input) starts (get_or items i no_arc) =
+    subst (λ (xs : List Arc). KeepsArc (problem_of input) starts (get_or xs i no_arc)) (sym same) (arc_kept input starts i no_arc kept within) in
+    omega (arith, held, is_end, is_start, broken)

@@ -29,10 +29,13 @@ amount_at p starts t k i = amount_of p t k i (Some (get_or starts i 0))
 abbrev pub KeepsArc : Problem → List ℕ → Arc → Type 0
 KeepsArc p starts arc = end_of p starts arc.from + arc.lag ≤ get_or starts arc.to 0
 
--- no resource is overloaded at an instant
+-- a resource isn't overloaded at an instant
+abbrev pub FitsFor : Problem → List ℕ → ℕ → ℕ → Type 0
+FitsFor p starts t k = usage p (all_placed starts) t k ≤ capacity p k
+
+-- no resource is
 abbrev pub FitsAt : Problem → List ℕ → ℕ → Type 0
-FitsAt p starts t =
-    (k : ℕ) → k < length p.capacities → usage p (all_placed starts) t k ≤ capacity p k
+FitsAt p starts t = (k : ℕ) → k < length p.capacities → FitsFor p starts t k
 
 -- a list of starts is feasible, and has this makespan
 pub record IsMakespanOf (input : Input) (starts : List ℕ) (end : ℕ) : Type 0 where

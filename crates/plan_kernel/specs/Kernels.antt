@@ -1,5 +1,5 @@
 -- What a kernel knows of a problem (docs/definitions.md, "Clauses").
-use Rattle.std.specs.Prelude.{◌≡◌, ℕ, ◌+◌, ◌*◌, ◌≤◌, ◌<◌, ◌⊎◌, true, List, [], Vec, Option, Some, None, ◌∷◌, All, Contains, length, get_or}
+use Rattle.std.specs.Prelude.{◌≡◌, ℕ, ◌+◌, ◌-◌, ◌*◌, min, ◌≤◌, ◌<◌, ◌⊎◌, true, List, [], Vec, Option, Some, None, ◌∷◌, All, Contains, length, get_or}
 use Rattle.std.specs.declared.alloc.Global.{Global}
 use Rattle.std.specs.List.Sorted.{IsPermutation}
 use Rattle.plan_sgs.specs.Problem.{IsFeasible, makespan, greatest_below}
@@ -39,8 +39,9 @@ abbrev pub IsKept : Input → ℕ → Kept → Type 0
 IsKept input upper None = Unit {0}
 IsKept input upper (Some clause) = IsConsequence input upper clause.items
 
--- What is known is true: facts and clauses hold in each shorter list of starts. If the upper bound is refuted there is no such list. The best list, if one was
--- found, is feasible, and its makespan is the upper bound.
+-- What is known is true: facts and clauses hold in each shorter list of starts. If the upper bound
+-- is refuted, there is no such list. The best list, if one was found, is feasible, and its makespan
+-- is the upper bound.
 pub record AreKnown (known : Known) : Type 0 where
   pub limit : known.upper ≤ LIMIT
   pub best : known.found ≡ true → IsBest known.input known.best.items known.upper
@@ -66,6 +67,16 @@ pub record IsTrueOf (known : Known) (conflict : Conflict) : Type 0 where
   pub holds : AreKnown known
   pub apart : conflict.open ≡ true → IsConflict known.input known.upper conflict.values.items
   pub listed : IsListed conflict.values.items conflict.touched.items
+
+-- how many halves there are: two for each activity and for each order
+abbrev pub count_halves : Input → ℕ
+count_halves input = 2 * (length input.durations.items + length input.orders.items)
+
+-- the facts say of the first n activities that they end before the upper bound, as far as numbers go
+abbrev pub AreLatest : Input → ℕ → List ℕ → ℕ → Type 0
+AreLatest input upper facts n =
+    (i : ℕ) → i < n → 2 * i + 1 < length facts
+    → min (LIMIT - upper + 1 + at input.durations.items i) 4294967295 ≤ at facts (2 * i + 1)
 
 -- the greatest known start with its duration
 abbrev pub end_in : Input → List ℕ → ℕ

@@ -1,6 +1,6 @@
 //! The conflict: literals that don't all hold together.
 
-ghost use Rattle.std.specs.Prelude.{◌≡◌, ◌≤◌, All, true, false, filter, IfOk, IfSome, IsTrue};
+ghost use Rattle.std.specs.Prelude.{◌≡◌, ◌≤◌, All, true, false, filter, IfOk, IfSome, IsTrue, length};
 ghost use Rattle.plan_kernel.specs.Clauses as spec;
 ghost use Rattle.plan_kernel.specs.Kernels.{AreKnown, IsTrueOf};
 
@@ -24,6 +24,7 @@ pub struct Conflict {
 /// No conflict, with room for literals of so many halves.
 pub fn no_conflict(alloc: Global, halves: usize) -> Result<Conflict, AllocError>
     ensures closed { IfOk result (λ conflict. conflict.open ≡ false) }
+    ensures size { IfOk result (λ conflict. length conflict.values.items ≡ halves) }
     ensures listed { IfOk result (λ conflict.
         spec.IsListed conflict.values.items conflict.touched.items) }
 {
@@ -40,7 +41,7 @@ fn clear(values: &mut Vec<u32>, touched: &mut Vec<u32>)
     requires { spec.IsListed values.old.items touched.old.items }
     ensures { spec.IsListed values.new.items touched.new.items }
 {
-    'halves: for &half in touched.iter() {
+    for &half in touched.iter() {
         if (half as usize) < values.len() {
             values[half as usize] = 0;
         }
@@ -114,7 +115,7 @@ fn add_clause(
     ensures raised { spec.IsRaised values.old.items values.new.items }
     ensures covered { IsTrue result → spec.AreCovered facts.now values.new.items pivot clause.now }
 {
-    'literals: for &literal in clause {
+    for &literal in clause {
         if !implies(literal, pivot) && !add(values, touched, facts, negated(literal)) {
             return false;
         }
@@ -187,7 +188,7 @@ pub fn learned(alloc: Global, conflict: &Conflict) -> Result<Vec<Literal>, Alloc
     ensures { IfOk result (λ clause. spec.IsNegated conflict.now.values.items clause.items) }
 {
     let mut clause = Vec::with_capacity(alloc, conflict.touched.len())?;
-    'halves: for &half in &conflict.touched {
+    for &half in &conflict.touched {
         let value = at(&conflict.values, half as usize);
         if value > 0 {
             clause.push(negated(Literal { half, value }))?;

@@ -14,6 +14,7 @@ pub fn raise(facts: &mut Vec<u32>, half: usize, value: u32)
     ensures most { spec.IsRaisedTo facts.old.items facts.new.items half value }
     ensures risen { half < length facts.new.items → value ≤ literals.at facts.new.items half }
     ensures others { spec.IsRaised facts.old.items facts.new.items }
+    ensures size { length facts.new.items ≡ length facts.old.items }
 {
     if half < facts.len() && facts[half] < value {
         facts[half] = value;
@@ -25,10 +26,13 @@ pub fn raise(facts: &mut Vec<u32>, half: usize, value: u32)
 pub fn raise_latest(facts: &mut Vec<u32>, input: &Input, upper: u32)
     requires limit { upper ≤ LIMIT }
     requires facts { spec.AreFacts input.now upper facts.old.items }
-    ensures { spec.AreFacts input.now upper facts.new.items }
+    ensures facts { spec.AreFacts input.now upper facts.new.items }
+    ensures latest { kernels.AreLatest input.now upper facts.new.items
+        (length input.now.durations.items) }
+    ensures size { length facts.new.items ≡ length facts.old.items }
 {
     let left = LIMIT - upper + 1;
-    'activities: for (place, &duration) in input.durations.iter().enumerate() {
+    for (place, &duration) in input.durations.iter().enumerate() {
         let half = 2 * place + 1;
         raise(facts, half, left.saturating_add(duration));
     }
@@ -36,10 +40,12 @@ pub fn raise_latest(facts: &mut Vec<u32>, input: &Input, upper: u32)
 
 // The facts of a problem of which nothing is known but that all makespans are below the limit.
 pub fn first_facts(alloc: Global, input: &Input) -> Result<Vec<u32>, AllocError>
-    ensures { IfOk result (λ facts. spec.AreFacts input.now LIMIT facts.items) }
+    ensures facts { IfOk result (λ facts. spec.AreFacts input.now LIMIT facts.items) }
+    ensures size { IfOk result (λ facts. length facts.items ≡ kernels.count_halves input.now) }
 {
-    let quantities = input.durations.len().saturating_add(input.orders.len());
-    let mut facts = vec![in alloc; 0u32; quantities.saturating_mul(2)]?;
+    let (durations, orders) = (input.durations.as_slice(), input.orders.as_slice());
+    let halves = 2 * (durations.len() + orders.len());
+    let mut facts = vec![in alloc; 0u32; halves]?;
     raise_latest(&mut facts, input, LIMIT);
     Ok(facts)
 }
@@ -52,7 +58,7 @@ pub fn greatest_end(facts: &[u32], input: &Input, upper: u32) -> u32
     ensures value { result ≡ min (kernels.end_in input.now facts.now) 4294967295 }
 {
     let mut greatest = 0;
-    'activities: for (place, &duration) in input.durations.iter().enumerate() {
+    for (place, &duration) in input.durations.iter().enumerate() {
         let half = 2 * place;
         greatest = greatest.max(at(facts, half).saturating_add(duration));
     }

@@ -1,14 +1,11 @@
 //! The check of a list of starts.
 
-ghost use Rattle.std.specs.Prelude.{◌≡◌, ◌≤◌, ◌<◌, ◌^◌, ℕ, length, IfSome, IsTrue};
+ghost use Rattle.std.specs.Prelude.{◌≡◌, ◌≤◌, ◌<◌, ◌^◌, ℕ, length, IfSome, IfNone, IsTrue, IsFalse};
 ghost use Rattle.plan_sgs.specs.Problem.{IsFeasible, KeepsArcs, KeepsCapacities, all_placed, usage, capacity, makespan};
-ghost use Rattle.plan_kernel.specs.Inputs.{problem_of, end_of, FitsAt, IsMakespanOf, amount_at};
+ghost use Rattle.plan_kernel.specs.Inputs.{problem_of, end_of, FitsFor, FitsAt, IsMakespanOf, amount_at};
 
 use crate::input::{Input, capacity, need};
 use crate::literal::at;
-
-/// The most of a resource that a list of starts may use at once.
-const MOST_USED: u64 = 1 << 62;
 
 // The end of an activity.
 fn end(input: &Input, starts: &[u32], activity: usize) -> u64
@@ -20,9 +17,10 @@ fn end(input: &Input, starts: &[u32], activity: usize) -> u64
 
 // Whether all arcs are kept.
 fn keeps_arcs(input: &Input, starts: &[u32]) -> bool
-    ensures { IsTrue result → KeepsArcs (problem_of input.now) starts.now }
+    ensures yes { IsTrue result → KeepsArcs (problem_of input.now) starts.now }
+    ensures no { IsFalse result → KeepsArcs (problem_of input.now) starts.now → ⊥ }
 {
-    'arcs: for arc in &input.arcs {
+    for arc in &input.arcs {
         if end(input, starts, arc.from as usize) + arc.lag as u64
             > at(starts, arc.to as usize) as u64
         {
@@ -48,16 +46,18 @@ fn amount(input: &Input, starts: &[u32], instant: u32, resource: usize, activity
 // Whether the activities that run at an instant need no more of a resource than there is.
 fn fits(input: &Input, starts: &[u32], instant: u32, resource: usize) -> bool
     requires { length starts.now ≡ length input.now.durations.items }
-    ensures { IsTrue result → usage (problem_of input.now) (all_placed starts.now) instant resource
-        ≤ capacity (problem_of input.now) resource }
+    ensures yes { IsTrue result → FitsFor (problem_of input.now) starts.now instant resource }
+    ensures no { IsFalse result
+        → FitsFor (problem_of input.now) starts.now instant resource → ⊥ }
 {
-    let capacity = capacity(input, resource).min(MOST_USED);
+    let capacity = capacity(input, resource);
     let mut used: u64 = 0;
-    'activities: for place in 0..input.durations.len() {
-        used += amount(input, starts, instant, resource, place);
-        if used > capacity {
+    for place in 0..input.durations.len() {
+        let amount = amount(input, starts, instant, resource, place);
+        if amount > capacity - used {
             return false;
         }
+        used += amount;
     }
     true
 }
@@ -65,9 +65,10 @@ fn fits(input: &Input, starts: &[u32], instant: u32, resource: usize) -> bool
 // Whether this is so of each resource.
 fn fits_all(input: &Input, starts: &[u32], instant: u32) -> bool
     requires { length starts.now ≡ length input.now.durations.items }
-    ensures { IsTrue result → FitsAt (problem_of input.now) starts.now instant }
+    ensures yes { IsTrue result → FitsAt (problem_of input.now) starts.now instant }
+    ensures no { IsFalse result → FitsAt (problem_of input.now) starts.now instant → ⊥ }
 {
-    'resources: for resource in 0..input.capacities.len() {
+    for resource in 0..input.capacities.len() {
         if !fits(input, starts, instant, resource) {
             return false;
         }
@@ -81,7 +82,7 @@ fn greatest_end(input: &Input, starts: &[u32]) -> u64
     ensures { result ≡ makespan (problem_of input.now) starts.now }
 {
     let mut greatest = 0;
-    'activities: for place in 0..input.durations.len() {
+    for place in 0..input.durations.len() {
         greatest = greatest.max(end(input, starts, place));
     }
     greatest
@@ -90,9 +91,11 @@ fn greatest_end(input: &Input, starts: &[u32]) -> u64
 // Whether each start leaves each resource within its capacity: usage rises nowhere else.
 fn keeps_capacities(input: &Input, starts: &[u32]) -> bool
     requires { length starts.now ≡ length input.now.durations.items }
-    ensures { IsTrue result → KeepsCapacities (problem_of input.now) (all_placed starts.now) }
+    ensures yes { IsTrue result → KeepsCapacities (problem_of input.now) (all_placed starts.now) }
+    ensures no { IsFalse result
+        → KeepsCapacities (problem_of input.now) (all_placed starts.now) → ⊥ }
 {
-    'starts: for &start in starts {
+    for &start in starts {
         if !fits_all(input, starts, start) {
             return false;
         }
@@ -102,12 +105,16 @@ fn keeps_capacities(input: &Input, starts: &[u32]) -> bool
 
 /// The makespan of a list of starts, if it is feasible.
 pub fn makespan_of(input: &Input, starts: &[u32]) -> Option<u64>
-    ensures { IfSome result (IsMakespanOf input.now starts.now) }
+    ensures some { IfSome result (IsMakespanOf input.now starts.now) }
+    ensures none { IfNone result (IsFeasible (problem_of input.now) starts.now → ⊥) }
 {
-    if starts.len() != input.durations.len()
-        || !keeps_arcs(input, starts)
-        || !keeps_capacities(input, starts)
-    {
+    if starts.len() != input.durations.len() {
+        return None;
+    }
+    if !keeps_arcs(input, starts) {
+        return None;
+    }
+    if !keeps_capacities(input, starts) {
         return None;
     }
     Some(greatest_end(input, starts))

@@ -69,7 +69,7 @@ fn narrow(alloc: Global, list: &[u64]) -> Result<Vec<u32>, AllocError>
     ensures { IfOk result (λ narrowed. narrowed.items ≡ list.now) }
 {
     let mut narrowed = Vec::new(alloc);
-    'numbers: for &number in list {
+    for &number in list {
         narrowed.push(number as u32)?;
     }
     Ok(narrowed)
@@ -81,7 +81,7 @@ fn durations_of(alloc: Global, instance: &Instance) -> Result<Vec<u32>, AllocErr
 {
     let network = instance.network();
     let mut durations = Vec::new(alloc);
-    'activities: for place in 0..network.len() {
+    for place in 0..network.len() {
         durations.push(network.duration(place as u32 + 1) as u32)?;
     }
     Ok(durations)
@@ -94,7 +94,7 @@ fn arcs_of(alloc: Global, instance: &Instance) -> Result<Vec<Arc>, AllocError>
 {
     let network = instance.network();
     let mut arcs = Vec::new(alloc);
-    'arcs: for &(from, to) in network.arcs() {
+    for &(from, to) in network.arcs() {
         arcs.push(Arc {
             from: from - 1,
             to: to - 1,
@@ -109,7 +109,7 @@ fn needs_of(alloc: Global, instance: &Instance) -> Result<Vec<Vec<u32>>, AllocEr
     ensures { IfOk result (λ rows. map (λ row. row.items) rows.items ≡ instance.now.project.needs) }
 {
     let mut needs = Vec::new(alloc);
-    'activities: for place in 0..instance.network().len() {
+    for place in 0..instance.network().len() {
         needs.push(narrow(alloc, instance.needs(place as u32 + 1))?)?;
     }
     Ok(needs)

@@ -46,6 +46,10 @@ impl Kernel {
     /// A kernel of a problem, with no list of starts yet: its upper bound is [`LIMIT`].
     pub fn new(alloc: Global, input: Input) -> Result<Kernel, AllocError>
         ensures input { IfOk result (λ kernel. kernel.known.input ≡ input) }
+        ensures halves { IfOk result (λ kernel.
+            length kernel.known.facts.items ≡ spec.count_halves input) }
+        ensures values { IfOk result (λ kernel.
+            length kernel.conflict.values.items ≡ spec.count_halves input) }
     {
         let known = first_known(alloc, input)?;
         let conflict = no_conflict(alloc, known.facts.len())?;
@@ -212,7 +216,9 @@ impl Kernel {
         ensures taken { IsTrue result
             → spec.IsBest self.new.known.input starts.items self.new.known.upper }
         ensures less { IsTrue result → self.new.known.upper < self.old.known.upper }
-        ensures refused { IsFalse result → self.new ≡ self.old }
+        ensures refused { IsFalse result
+            → clauses.IsShorter self.old.known.input self.old.known.upper starts.items → ⊥ }
+        ensures unchanged { IsFalse result → self.new ≡ self.old }
     {
         lower(&mut self.known, starts)
     }

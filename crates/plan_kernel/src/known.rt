@@ -1,7 +1,7 @@
 //! What a kernel knows of a problem.
 
 ghost use Rattle.std.specs.Prelude.{◌≡◌, ◌≤◌, ◌<◌, ◌^◌, true, false, length, get_or, min, IfErr, Some, None, IfOk, IsTrue, IsFalse, OnOk, OnErr};
-ghost use Rattle.plan_kernel.specs.Clauses.{IsConsequence};
+ghost use Rattle.plan_kernel.specs.Clauses.{IsShorter, IsConsequence};
 ghost use Rattle.plan_kernel.specs.Kernels as spec;
 ghost use Rattle.plan_kernel.specs.declared.fault.KernelFault.TheVariants.{NoConflict};
 
@@ -55,6 +55,8 @@ pub struct Known {
 pub fn first_known(alloc: Global, input: Input) -> Result<Known, AllocError>
     ensures input { IfOk result (λ known. known.input ≡ input) }
     ensures holds { IfOk result spec.AreKnown }
+    ensures size { IfOk result (λ known.
+        length known.facts.items ≡ spec.count_halves known.input) }
 {
     let facts = first_facts(alloc, &input)?;
     Ok(Known {
@@ -107,7 +109,9 @@ pub fn lower(known: &mut Known, starts: Vec<u32>) -> bool
     ensures upper { known.new.upper ≤ known.old.upper }
     ensures taken { IsTrue result → spec.IsBest known.new.input starts.items known.new.upper }
     ensures less { IsTrue result → known.new.upper < known.old.upper }
-    ensures refused { IsFalse result → known.new ≡ known.old }
+    ensures refused { IsFalse result
+        → IsShorter known.old.input known.old.upper starts.items → ⊥ }
+    ensures unchanged { IsFalse result → known.new ≡ known.old }
 {
     let Some(makespan) = makespan_of(&known.input, &starts) else {
         return false;

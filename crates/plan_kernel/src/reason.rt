@@ -116,7 +116,7 @@ fn are_apart(input: &Input, first: u32, second: u32) -> bool
     {
         return false;
     }
-    'resources: for resource in 0..input.capacities.len() {
+    for resource in 0..input.capacities.len() {
         let one = need(input, first as usize, resource) as u64;
         if one + need(input, second as usize, resource) as u64 > capacity(input, resource) {
             return true;
@@ -212,7 +212,7 @@ fn are_members(input: &Input, from: u32, until: u32, members: &[Member]) -> bool
     requires { from ≤ until }
     ensures { IsTrue result → spec.AreMembers input.now from until members.now }
 {
-    'members: for (place, &member) in members.iter().enumerate() {
+    for (place, &member) in members.iter().enumerate() {
         let falls = place > 0 && members[place - 1].activity >= member.activity;
         if falls || !is_member(input, from, until, member) {
             return false;
@@ -226,7 +226,7 @@ fn energy(input: &Input, resource: u32, members: &[Member]) -> u64
     ensures { result ≤ spec.energy_of (problem_of input.now) resource members.now }
 {
     let mut sum: u64 = 0;
-    'members: for member in members {
+    for member in members {
         let each = need(input, member.activity as usize, resource as usize) as u64;
         sum = sum.saturating_add(each.saturating_mul(member.time as u64));
     }
@@ -282,7 +282,7 @@ fn fill_energy(
         return Ok(false);
     }
     clause.clear();
-    'members: for &member in members {
+    for &member in members {
         fill_member(input, from, until, member, clause)?;
     }
     Ok(true)

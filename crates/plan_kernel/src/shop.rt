@@ -24,7 +24,7 @@ fn times_of(alloc: Global, shop: &Shop) -> Result<Vec<u32>, AllocError>
     ensures { IfOk result (λ times. times.items ≡ map (λ w. w.time) shop.now.steps) }
 {
     let mut times = Vec::new(alloc);
-    'steps: for x in 0..count(shop) {
+    for x in 0..count(shop) {
         times.push(shop.step(x).time as u32)?;
     }
     Ok(times)
@@ -37,7 +37,7 @@ fn arcs_of(alloc: Global, shop: &Shop) -> Result<Vec<Arc>, AllocError>
 {
     let machines = shop.machines();
     let mut arcs = Vec::new(alloc);
-    'steps: for x in 0..count(shop) {
+    for x in 0..count(shop) {
         if (x + 1) / machines == x / machines {
             arcs.push(Arc {
                 from: x,
@@ -65,7 +65,7 @@ fn rows_of(alloc: Global, shop: &Shop) -> Result<Vec<Vec<u32>>, AllocError>
         map (λ row. row.items) rows.items ≡ map (needs_of_step shop.now) shop.now.steps) }
 {
     let mut rows = Vec::new(alloc);
-    'steps: for x in 0..count(shop) {
+    for x in 0..count(shop) {
         rows.push(row_of(alloc, shop.machines(), shop.step(x).machine)?)?;
     }
     Ok(rows)

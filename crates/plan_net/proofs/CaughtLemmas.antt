@@ -1,4 +1,5 @@
--- Where an order is whole there is no cycle; what is left open is the largest set in which each has a predecessor.
+-- If an order contains all activities, there is no cycle; otherwise the open activities are the largest set
+-- in which each has a predecessor.
 use Rattle.std.proofs.Common.{ℕ, suc, zero, Bool, true, false, not, ◌≡◌, ◌+◌, ◌-◌, ◌≤◌, ◌<◌, ◌⊎◌, inl, inr, List, [], ◌∷◌, length, take, get_or, sym, ◌∙◌, ap, subst, arith}
 use Rattle.std.proofs.lemmas.List.{length-take, get_or-take, get_or_past, get_or_default}
 use Rattle.std.proofs.lemmas.Bool.{cases_Bool, cases_lt, false≢true}
@@ -17,7 +18,7 @@ use Rattle.plan_net.proofs.TurnLemmas.{all_set}
 abbrev Comes_least : Net → List ℕ → Type 0
 Comes_least net order = (k : ℕ) → k < length order → IsLeast (CanCome net (take k order)) (get_or order k 0)
 
--- a predecessor stands earlier
+-- a predecessor is earlier in the order
 pub earlier : (net : Net) (order : List ℕ) → Comes_least net order → (i j p : ℕ) → IsArc net i j → p < length order → get_or order p 0 ≡ j → (q : ℕ) × (q < p) × (get_or order q 0 ≡ i)
 earlier net order least i j p arc within is =
     let arc' : IsArc net i (get_or order p 0) = subst (IsArc net i) (sym is) arc in
@@ -25,13 +26,13 @@ earlier net order least i j p arc within is =
     let before : place.0 < p = omega (arith, place.1, length-take p order) in
     (place.0, before, sym (get_or-take p order place.0 0 before) ∙ place.2)
 
--- no activity stands twice
+-- no activity occurs twice
 pub once_in : (net : Net) (order : List ℕ) → Comes_least net order → (p q : ℕ) → q < p → p < length order → get_or order q 0 ≡ get_or order p 0 → ⊥
 once_in net order least p q before within same =
     let inside : q < length (take p order) = omega (arith, length-take p order) in
     (least p within).0.1 (stands_in (take p order) (get_or order p 0) q inside (get_or-take p order q 0 before ∙ same))
 
--- along a walk the places in the order rise
+-- along a walk the indices in the order rise
 walk_later : (net : Net) (order : List ℕ) → Comes_least net order → (i : ℕ) (others : List ℕ) (p : ℕ) →
     IsWalk net i others → p < length order → get_or order p 0 ≡ last_of i others →
     (q : ℕ) × (q + length others ≤ p) × (get_or order q 0 ≡ i)
@@ -41,7 +42,7 @@ walk_later net order least i (j ∷ others) p (arc, walk) within is =
     let here = earlier net order least i j there.0 arc (omega (arith, there.1)) there.2 in
     (here.0, omega (arith, here.1, there.1), here.2)
 
--- a network whose order is whole has no cycle
+-- a network whose order contains all activities has no cycle
 pub IsAcyclic-from_order : (net : Net) (order : List ℕ) → IsLeastOrder net order → IsAcyclic net
 IsAcyclic-from_order net order whole i others (path, some, ends) =
     let place = place_in order i (whole.each i path.0) in
@@ -49,7 +50,7 @@ IsAcyclic-from_order net order whole i others (path, some, ends) =
     let lower : back.0 < place.0 = omega (arith, back.1, some) in
     once_in net order whole.least place.0 back.0 lower place.1 (back.2 ∙ sym place.2)
 
--- where no mark is left to set, the order is whole
+-- if no mark is left to set, the order contains all activities
 pub IsLeastOrder-from_turns : (net : Net) (order : List ℕ) (placed : List Bool) → IsPlacedOrder net order placed → ((j : ℕ) → IsActivity net j → IsPlaced placed j) → IsLeastOrder net order
 IsLeastOrder-from_turns net order placed turns each = record {
   whole = omega (arith, turns.counted, all_set placed marked);
@@ -62,7 +63,7 @@ IsLeastOrder-from_turns net order placed turns each = record {
       let same : i + 1 - 1 ≡ i = omega arith in
       subst (λ (k : ℕ). get_or placed k false ≡ true) same (each (i + 1) (omega arith, omega (arith, whole)))
 
--- no member of a set in which each has a predecessor stands in an order
+-- no order contains a member of a set in which each member has a predecessor
 never_at : (net : Net) (order : List ℕ) → Comes_least net order → (set : ℕ → Bool) → IsFed net set → (bound p j : ℕ) → p < bound → set j ≡ true → p < length order → get_or order p 0 ≡ j → ⊥
 never_at net order least set fed zero p j lower member within is = absurd (omega arith)
 never_at net order least set fed (suc bound) p j lower member within is =
@@ -95,7 +96,7 @@ passes_open net placed whole (suc k) passes = by_case (cases_lt k (length placed
       let same : k ≡ suc k - 1 = omega arith in
       ((omega arith, omega (arith, whole)), subst (λ (x : ℕ). get_or placed x false ≡ false) same (get_or_default placed k false true within ∙ unmarked))
 
--- where no activity can come, the open ones are those caught
+-- if no activity can come, the open activities are those of the largest set
 pub IsCaughtOpen-from_turns : (net : Net) (order : List ℕ) (placed : List Bool) → IsWithinLimits net → IsPlacedOrder net order placed → IsStuck net placed → IsCaughtOpen net placed
 IsCaughtOpen-from_turns net order placed limits turns stuck j = (left_open, caught) where
   left_open : IsCaught net j → IsActivity net j × IsOpen placed j

@@ -1,4 +1,4 @@
--- The rows beside the arcs: what they say of an arc and of its lag, and what a change of one lag keeps.
+-- The tables beside the arcs: the arc and the lag at an index, and the tables after a change of one lag.
 use Rattle.std.proofs.Common.{ℕ, ◌≡◌, ◌≢◌, ◌+◌, ◌-◌, ◌≤◌, ◌<◌, ◌↔◌, ◌⊎◌, inl, inr, List, [], length, get_or, set, map, refl, sym, ◌∙◌, ap, subst, arith, Vec}
 use Rattle.std.specs.declared.alloc.Global.{Global}
 use Rattle.std.specs.List.{Contains, All}
@@ -24,14 +24,14 @@ use Rattle.plan_net.proofs.SuccessorLemmas.{IsWithinLimits-rows, AreBeginnings-r
 use Rattle.plan_net.proofs.RisingLemmas.{ListsRising-same}
 use Rattle.plan_net.proofs.LagLemmas.{lag_of-limit, lag_beside-map, beside-at, lags-none, lags-set, length-lags_with, All-lags_with}
 
--- an arc as it stands in the rows of the predecessors
+-- the row and the index of an arc in the rows of predecessors
 pub record IsPlaceOf (a : Inside) (i j row place : ℕ) : Type 0 where
   pub of_end : row + 1 ≡ j
   pub row_within : row < length a.preds.items
   pub within : place < length (row_at a.preds.items row)
   pub stands : get_or (row_at a.preds.items row) place 0 ≡ i
 
--- what a search in the rows of the predecessors finds
+-- the result of a search in the rows of predecessors
 pub placed_in : (a : Inside) (rows : List (Vec ℕ Global)) (i j row place : ℕ) → rows ≡ a.preds.items →
     (row + 1 ≡ j) × (row < length rows) × (place < length (row_at rows row))
     × (get_or (row_at rows row) place 0 ≡ i) → IsPlaceOf a i j row place
@@ -45,7 +45,7 @@ rows_rise a rows ok same =
     subst (λ (rs : List (Vec ℕ Global)). (k : ℕ) → k < length rs → IsStrictlyIncreasing (row_at rs k)) (sym same)
     (λ k within. (ok.preds k (omega (arith, ok.preds_count, within))).rising)
 
--- what stands in a row is an arc
+-- each entry of a row is an arc
 arc_placed : (a : Inside) (i j row place : ℕ) → IsIndexed a → IsPlaceOf a i j row place → IsArc (net_of a) i j
 arc_placed a i j row place ok at =
     let inside : row < count_of (net_of a) = omega (arith, ok.preds_count, at.row_within) in
@@ -55,7 +55,7 @@ arc_placed a i j row place ok at =
 pub arc_at : (a : Inside) (net : Net) (i j row place : ℕ) → IsIndexed a → net_of a ≡ net → IsPlaceOf a i j row place → IsArc net i j
 arc_at a net i j row place ok same at = subst (λ (n : Net). IsArc n i j) same (arc_placed a i j row place ok at)
 
--- what stands in no row is no arc
+-- a pair that is in no row isn't an arc
 pub no_arc : (a : Inside) (net : Net) (i j : ℕ) → IsIndexed a → net_of a ≡ net → (1 ≤ j → j ≤ length a.preds.items → Contains (row_at a.preds.items (j - 1)) i → ⊥) → IsArc net i j → ⊥
 no_arc a net i j ok same misses = subst (λ (n : Net). IsArc n i j → ⊥) same absent where
   absent : IsArc (net_of a) i j → ⊥
@@ -65,7 +65,7 @@ no_arc a net i j ok same misses = subst (λ (n : Net). IsArc n i j → ⊥) same
       let arc' : IsArc (net_of a) i (j - 1 + 1) = subst (λ (k : ℕ). IsArc (net_of a) i k) back arc in
       misses ends.1.0 (omega (arith, ok.preds_count, ends.1.1)) (((ok.preds (j - 1) (omega (arith, ends.1))).exact i).1 arc')
 
--- beside an arc stands its lag
+-- the lag at the index of an arc is the lag of the arc
 pub lag_at : (a : Inside) (net : Net) (i j row place : ℕ) → IsIndexed a → net_of a ≡ net → IsPlaceOf a i j row place → get_or (row_at a.lags.items row) place 0 ≡ lag_of net i j
 unfolding lag_of
 lag_at a net i j row place ok same at = subst (λ (n : Net). get_or (row_at a.lags.items row) place 0 ≡ lag_of n i j) same here where
@@ -74,14 +74,14 @@ lag_at a net i j row place ok same at = subst (λ (n : Net). get_or (row_at a.la
       let inside : row < count_of (net_of a) = omega (arith, ok.preds_count, at.row_within) in
       let back : j - 1 ≡ row = omega (arith, at.of_end) in
       let first : (m : ℕ) → m < place → get_or (row_at a.preds.items row) m 0 ≢ i = λ m lower is.
-          let up : get_or (row_at a.preds.items row) m 0 < get_or (row_at a.preds.items row) place 0 =
-          rising_later (row_at a.preds.items row) (ok.preds row inside).rising m place lower at.within in
-          absurd (omega (arith, up, is, at.stands)) in
+      let up : get_or (row_at a.preds.items row) m 0 < get_or (row_at a.preds.items row) place 0 =
+      rising_later (row_at a.preds.items row) (ok.preds row inside).rising m place lower at.within in
+      absurd (omega (arith, up, is, at.stands)) in
       sym (lag_beside-map (lag_in a.preds.items a.lags.items) a.arcs.items i j (arc_placed a i j row place ok at)
       ∙ ap (λ (k : ℕ). beside (row_at a.preds.items k) (row_at a.lags.items k) i) back
       ∙ beside-at (row_at a.preds.items row) (row_at a.lags.items row) place i at.within at.stands first)
 
--- in the row of lags of j stand those of the arcs to j
+-- the row of lags of j contains the lags of the arcs to j
 row_of_lags : (a : Inside) (net : Net) (row j : ℕ) → IsIndexed a → net_of a ≡ net → row + 1 ≡ j →
     row < length a.preds.items → row_at a.lags.items row ≡ map (λ i. lag_of net i j)
     (row_at a.preds.items row)
@@ -96,7 +96,7 @@ row_of_lags a net row j ok same of_end within =
           lag_at a net (get_or (row_at a.preds.items row) k 0) j row k ok same (record { of_end = of_end; row_within = within; within = inside; stands = refl })
           ∙ sym (get_or-map (λ i. lag_of net i j) (row_at a.preds.items row) k 0 0 inside)
 
--- which an index reads
+-- the row of lags that an index reads contains them
 lags_read : (a : Inside) (net : Net) (j : ℕ) (lags : Vec ℕ Global) → IsIndexed a → net_of a ≡ net →
     IsActivity net j → lags ≡ get_or a.lags.items (j - 1) lags →
     lags.items ≡ map (λ i. lag_of net i j) (row_at a.preds.items (j - 1))
@@ -105,7 +105,7 @@ lags_read a net j lags ok same activity is =
     sym (row_at-read a.lags.items (j - 1) lags (omega (arith, ok.lags_count, counted, activity)) is)
     ∙ row_of_lags a net (j - 1) j ok same (omega (arith, activity)) (omega (arith, ok.preds_count, counted, activity))
 
--- they stand beside each rising list of the predecessors of j
+-- they are the lags in the order of each rising list of the predecessors of j
 pub lags_listed : (a : Inside) (net : Net) (j : ℕ) (lags : Vec ℕ Global) → IsIndexed a → net_of a ≡ net →
     IsActivity net j → lags ≡ get_or a.lags.items (j - 1) lags → (row : List ℕ) →
     ListsRising (λ i. IsArc net i j) row → lags.items ≡ map (λ i. lag_of net i j) row
@@ -136,7 +136,7 @@ lag_within a i j row place ok at =
     let inside : row < count_of (net_of a) = omega (arith, ok.preds_count, at.row_within) in
     (omega (arith, ok.lags_count, inside), omega (arith, ok.lags row inside, at.within))
 
--- the network with one lag changed in the rows
+-- the network after one lag is changed in the rows
 pub net_of-set_lag : (a : Inside) (i j row place w : ℕ) (before : Vec ℕ Global) → IsIndexed a →
     IsPlaceOf a i j row place → before ≡ get_or a.lags.items row before →
     net_of (record a { lags = with_item a.lags row (with_item before place w) }) ≡ with_lag (net_of a) i j w
@@ -146,12 +146,12 @@ net_of-set_lag a i j row place w before ok at is =
     let items : row_at a.lags.items row ≡ before.items = row_at-read a.lags.items row before within.0 is in
     let within' : place < length before.items = subst (λ (xs : List ℕ). place < length xs) items within.1 in
     let first : (m : ℕ) → m < place → get_or (row_at a.preds.items row) m 0 ≢ i = λ m lower same.
-        let up : get_or (row_at a.preds.items row) m 0 < get_or (row_at a.preds.items row) place 0 =
-        rising_later (row_at a.preds.items row) (ok.preds row inside).rising m place lower at.within in
-        absurd (omega (arith, up, same, at.stands)) in
+    let up : get_or (row_at a.preds.items row) m 0 < get_or (row_at a.preds.items row) place 0 =
+    rising_later (row_at a.preds.items row) (ok.preds row inside).rising m place lower at.within in
+    absurd (omega (arith, up, same, at.stands)) in
     let ends : All (λ arc. 1 ≤ arc.1) a.arcs.items = All-weaker (IsGoodArc (net_of a)) (λ arc. 1 ≤ arc.1) (λ arc good. good.1.0) a.arcs.items ok.limits.arcs in
     let changed : map (lag_in a.preds.items (set a.lags.items row (with_item before place w))) a.arcs.items ≡
-        lags_with a.arcs.items (map (lag_in a.preds.items a.lags.items) a.arcs.items) i (row + 1) w =
+    lags_with a.arcs.items (map (lag_in a.preds.items a.lags.items) a.arcs.items) i (row + 1) w =
     lags-set a.preds.items a.lags.items a.arcs.items row place i w before ok.limits.new_arcs ends within.0 is at.within within' at.stands first in
     let net : List ℕ → Net = λ lags. record { durations = a.durations.items; arcs = a.arcs.items; lags = lags } in
     ap net (changed ∙ ap (λ (k : ℕ). lags_with a.arcs.items (map (lag_in a.preds.items a.lags.items) a.arcs.items) i k w) at.of_end)
@@ -224,7 +224,7 @@ IsWithinLimits-unlagged durations arcs size good inside new_arcs = record {
   lags = (length-replicate (length arcs) 0, All-replicate (λ w. w ≤ LONGEST_LAG) (length arcs) 0 (omega arith));
 }
 
--- rows of the beginnings of arcs, turned once and turned twice, are in step with the arcs
+-- rows of the first activities of arcs, transposed once and twice, are in step with the arcs
 pub IsIndexed-made : (a : Inside) (rows : List (Vec ℕ Global)) →
     HasGoodSize (unlagged a.durations.items a.arcs.items) →
     HasGoodDurations (unlagged a.durations.items a.arcs.items) →
@@ -235,15 +235,15 @@ pub IsIndexed-made : (a : Inside) (rows : List (Vec ℕ Global)) →
     IsIndexed a
 IsIndexed-made a rows size durations arcs new_arcs beginnings succs preds none =
     IsIndexed-listed a (IsWithinLimits-unlagged a.durations.items a.arcs.items size durations arcs new_arcs)
-        (preds.whole ∙ whole) (preds_turned (net_of a) a.succs.items a.preds.items arcs whole listed preds)
-        whole listed none where
+    (preds.whole ∙ whole) (preds_turned (net_of a) a.succs.items a.preds.items arcs whole listed preds)
+    whole listed none where
       whole : length a.succs.items ≡ count_of (net_of a)
       whole = succs.whole ∙ beginnings.whole
 
       listed : (k : ℕ) → ListsRising (IsArc (net_of a) (k + 1)) (row_at a.succs.items k)
       listed = succs_turned (net_of a) rows a.succs.items arcs beginnings succs
 
--- rows of successors, turned once and turned twice, are in step with their arcs
+-- rows of successors, transposed once and twice, are in step with their arcs
 pub IsIndexed-rows : (a : Inside) (lists : List (Vec ℕ Global)) →
     HasGoodSize (unlagged a.durations.items []) → HasGoodDurations (unlagged a.durations.items []) →
     AreRows (length a.durations.items) (rows_in lists) → a.arcs.items ≡ arcs_of_rows 1 (rows_in lists)
@@ -260,5 +260,5 @@ IsIndexed-rows a lists size durations are same preds succs none =
       listed k = ListsRising-same (λ i. (1 ≤ i) × (i ≤ length lists)
           × Contains (row_at lists (i - 1)) (k + 1)) (λ i. IsArc (net_of a) i (k + 1))
           (row_at a.preds.items k) (same_arcs k) (preds.each k) where
-        same_arcs : (k : ℕ) (i : ℕ) → ((1 ≤ i) × (i ≤ length lists) × Contains (row_at lists (i - 1)) (k + 1)) ↔ IsArc (net_of a) i (k + 1)
-        same_arcs k i = (λ here. (beginnings.each k i).0 (((preds.each k).exact i).1 here), λ arc. ((preds.each k).exact i).0 ((beginnings.each k i).1 arc))
+            same_arcs : (k : ℕ) (i : ℕ) → ((1 ≤ i) × (i ≤ length lists) × Contains (row_at lists (i - 1)) (k + 1)) ↔ IsArc (net_of a) i (k + 1)
+            same_arcs k i = (λ here. (beginnings.each k i).0 (((preds.each k).exact i).1 here), λ arc. ((preds.each k).exact i).0 ((beginnings.each k i).1 arc))

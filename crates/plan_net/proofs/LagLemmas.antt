@@ -1,4 +1,4 @@
--- Lags beside arcs: where they stand in the rows, and what changing one changes.
+-- Lags beside arcs: their indices in the rows, and the effect of changing one.
 use Rattle.std.proofs.Common.{ℕ, suc, zero, Bool, true, false, cond, nat_eq, ◌&&◌, ◌≡◌, ◌≢◌, ◌+◌, ◌-◌, ◌≤◌, ◌<◌, ◌⊎◌, inl, inr, List, [], ◌∷◌, length, get_or, set, map, take, drop, replicate, refl, sym, ◌∙◌, ap, subst, arith, Some, Vec, get_or-set_same}
 use Rattle.std.specs.declared.alloc.Global.{Global}
 use Rattle.std.specs.List.{Contains, All, slice_get}
@@ -16,7 +16,7 @@ use Rattle.plan_net.specs.Marks.{AreNoLags}
 use Rattle.plan_net.proofs.MarkLemmas.{row_at-set_same, row_at-set_other, row_at-past}
 use Rattle.plan_net.proofs.RowLemmas.{row_at-read}
 
--- what a test on two equal numbers chooses, and on two others
+-- the choice of a test on two equal numbers, and on two others
 cond-same : {X : Type 0} (a b : ℕ) (x y : X) → a ≡ b → cond (nat_eq a b) x y ≡ x
 cond-same a b x y same = ap (λ (t : Bool). cond t x y) (eq-eqb a b same)
 
@@ -26,7 +26,7 @@ cond-other a b x y other = by_case (cases_Bool (nat_eq a b)) where
   by_case (inl is) = absurd (other (eqb-true a b is))
   by_case (inr isnt) = ap (λ (t : Bool). cond t x y) isnt
 
--- an arc joins its own ends alone
+-- an arc joins only its own ends
 joins-same : (arc : ℕ × ℕ) (i j : ℕ) → arc ≡ (i, j) → joins arc i j ≡ true
 joins-same arc i j same =
     let from : nat_eq arc.0 i ≡ true = eq-eqb arc.0 i (ap (λ (a : ℕ × ℕ). a.0) same) in
@@ -54,7 +54,7 @@ joins-other arc i j other = by_case (cases_Bool (joins arc i j)) where
   by_case (inl is) = absurd (other (joins-is arc i j is))
   by_case (inr isnt) = isnt
 
--- a list that has the element has it in front or behind
+-- an element of a list is its head or in its tail
 pub Contains-cons_cases : {X : Type 0} (x y : X) (xs : List X) → Contains (x ∷ xs) y → (x ≡ y) ⊎ Contains xs y
 Contains-cons_cases x y xs (zero, within, is) = inl is
 Contains-cons_cases x y xs (suc k, within, is) = inr (k, omega arith, is)
@@ -65,7 +65,7 @@ Contains-behind x y xs (k, within, is) = (suc k, omega arith, is)
 pub Contains-front : {X : Type 0} (x : X) (xs : List X) → Contains (x ∷ xs) x
 Contains-front x xs = (zero, omega arith, refl)
 
--- the lag beside an arc, where the lags are what a function gives of the arcs
+-- the lag beside an arc, if the lags are the values of a function of the arcs
 pub lag_beside-map : (f : ℕ × ℕ → ℕ) (arcs : List (ℕ × ℕ)) (i j : ℕ) → Contains arcs (i, j) → lag_beside arcs (map f arcs) i j ≡ f (i, j)
 lag_beside-map f [] i j has = absurd (empty has.1) where
   empty : {k : ℕ} → k < 0 → ⊥
@@ -79,14 +79,14 @@ lag_beside-map f (arc ∷ arcs) i j has =
       ]
     ]
 
--- no lag beside what is no arc
+-- the lag beside a pair that isn't an arc is 0
 pub lag_beside-none : (arcs : List (ℕ × ℕ)) (lags : List ℕ) (i j : ℕ) → (Contains arcs (i, j) → ⊥) → lag_beside arcs lags i j ≡ 0
 lag_beside-none [] lags i j misses = refl
 lag_beside-none (arc ∷ arcs) lags i j misses =
     let isnt : joins arc i j ≡ false = joins-other arc i j (λ same. misses (subst (Contains (arc ∷ arcs)) same (Contains-front arc arcs))) in
     ap (λ (t : Bool). cond t (get_or lags 0 0) (lag_beside arcs (drop 1 lags) i j)) isnt ∙ lag_beside-none arcs (drop 1 lags) i j (λ has. misses (Contains-behind arc (i, j) arcs has))
 
--- as many lags as before
+-- the number of lags stays the same
 pub length-lags_with : (arcs : List (ℕ × ℕ)) (lags : List ℕ) (i j w : ℕ) → length (lags_with arcs lags i j w) ≡ length lags
 length-lags_with arcs [] i j w = refl
 length-lags_with [] (lag ∷ lags) i j w = refl
@@ -96,7 +96,7 @@ length-lags_with (arc ∷ arcs) (lag ∷ lags) i j w =
       | inr isnt ↦ ap (λ (t : Bool). length (cond t (w ∷ lags) (lag ∷ lags_with arcs lags i j w))) isnt ∙ ap suc (length-lags_with arcs lags i j w)
     ]
 
--- what each lag has, each has afterwards
+-- a fact of each lag remains one if it is a fact of the new lag
 pub All-lags_with : (P : ℕ → Type 0) (arcs : List (ℕ × ℕ)) (lags : List ℕ) (i j w : ℕ) → P w → All P lags → All P (lags_with arcs lags i j w)
 All-lags_with P arcs [] i j w holds all = all
 All-lags_with P [] (lag ∷ lags) i j w holds all = all
@@ -150,7 +150,7 @@ map-agree f g [] agree = refl
 map-agree f g (arc ∷ arcs) agree =
     ap (λ (x : ℕ). x ∷ map g arcs) (agree arc (Contains-front arc arcs)) ∙ ap (λ (xs : List ℕ). f arc ∷ xs) (map-agree f g arcs (λ a has. agree a (Contains-behind arc a arcs has)))
 
--- no arc stands again behind itself
+-- no arc occurs again after itself
 AreApart : List (ℕ × ℕ) → Type 0
 AreApart [] = Unit {0}
 AreApart (arc ∷ arcs) = (Contains arcs arc → ⊥) × AreApart arcs
@@ -162,7 +162,7 @@ AreApart-from_new (arc ∷ arcs) new_arcs = (again, AreApart-from_new arcs (λ k
   again : Contains arcs arc → ⊥
   again (k, within, is) = new_arcs (suc k) (omega arith) arc (slice_get-get_or arcs k arc within ∙ ap (λ a. Some a) is) (Contains-front arc (take k arcs))
 
--- a function that differs at one arc alone gives the lags with that one replaced
+-- if two functions differ at one arc only, the lags of one are those of the other with one replaced
 map-lags_with : (f g : ℕ × ℕ → ℕ) (arcs : List (ℕ × ℕ)) (i j w : ℕ) → g (i, j) ≡ w →
     ((arc : ℕ × ℕ) → Contains arcs arc → (arc ≡ (i, j) → ⊥) → g arc ≡ f arc) → AreApart arcs →
     map g arcs ≡ lags_with arcs (map f arcs) i j w
@@ -182,7 +182,7 @@ map-lags_with f g (arc ∷ arcs) i j w here agree apart =
           ∙ sym (ap (λ (t : Bool). cond t (w ∷ map f arcs) (f arc ∷ lags_with arcs (map f arcs) i j w)) isnt)
     ]
 
--- what stands beside the first i
+-- the value beside the first i
 pub beside-at : (js values : List ℕ) (k i : ℕ) → k < length js → get_or js k 0 ≡ i → ((m : ℕ) → m < k → get_or js m 0 ≢ i) → beside js values i ≡ get_or values k 0
 beside-at [] values k i within is first = absurd (omega arith)
 beside-at (j ∷ js) values zero i within is first = cond-same j i (get_or values 0 0) (beside js (drop 1 values) i) is
@@ -193,7 +193,7 @@ beside-at (j ∷ js) values (suc k) i within is first =
     ∙ get_or-drop 1 values k 0
     ∙ ap (λ (x : ℕ). get_or values x 0) next
 
--- a change beside one number changes nothing beside another
+-- a change beside one number doesn't affect another
 beside-set_other : (js values : List ℕ) (k h w : ℕ) → get_or js k 0 ≢ h → beside js (set values k w) h ≡ beside js values h
 beside-set_other [] values k h w other = refl
 beside-set_other (j ∷ js) [] k h w other = refl
@@ -201,7 +201,7 @@ beside-set_other (j ∷ js) (value ∷ values) zero h w other =
     cond-other j h w (beside js values h) other ∙ sym (cond-other j h value (beside js values h) other)
 beside-set_other (j ∷ js) (value ∷ values) (suc k) h w other = ap (λ (rest : ℕ). cond (nat_eq j h) value rest) (beside-set_other js values k h w other)
 
--- where all values are 0
+-- the value beside i if all values are 0
 beside-zeros : (js : List ℕ) (n i : ℕ) → beside js (replicate n 0) i ≡ 0
 beside-zeros [] n i = refl
 beside-zeros (j ∷ js) zero i = chosen (nat_eq j i) (beside js [] i) (beside-zeros js zero i) where
@@ -217,7 +217,7 @@ map-zeros : (f : ℕ × ℕ → ℕ) (arcs : List (ℕ × ℕ)) → ((arc : ℕ 
 map-zeros f [] zeros = refl
 map-zeros f (arc ∷ arcs) zeros = ap (λ (x : ℕ). x ∷ map f arcs) (zeros arc) ∙ ap (λ (xs : List ℕ). 0 ∷ xs) (map-zeros f arcs zeros)
 
--- rows without lags give no arc a lag
+-- rows of zero lags give each arc the lag 0
 pub lags-none : (preds lags : List (Vec ℕ Global)) (arcs : List (ℕ × ℕ)) → AreNoLags preds lags → map (lag_in preds lags) arcs ≡ replicate (length arcs) 0
 lags-none preds lags arcs none = map-zeros (lag_in preds lags) arcs (λ arc. at arc (cases_lt (arc.1 - 1) (length lags))) where
   at : (arc : ℕ × ℕ) → (arc.1 - 1 < length lags) ⊎ (length lags ≤ arc.1 - 1) → lag_in preds lags arc ≡ 0
@@ -236,8 +236,8 @@ pub lags-set : (preds lags : List (Vec ℕ Global)) (arcs : List (ℕ × ℕ)) (
     (map (lag_in preds lags) arcs) i (row + 1) w
 lags-set preds lags arcs row place i w before new_arcs ends within is inside inside' here first =
     map-lags_with (lag_in preds lags) (lag_in preds (set lags row (with_item before place w))) arcs i
-        (row + 1) w changed (λ arc has other. kept arc (ends_low arc has) other (cases_eq (arc.1 - 1) row))
-        (AreApart-from_new arcs new_arcs) where
+    (row + 1) w changed (λ arc has other. kept arc (ends_low arc has) other (cases_eq (arc.1 - 1) row))
+    (AreApart-from_new arcs new_arcs) where
       ends_low : (arc : ℕ × ℕ) → Contains arcs arc → 1 ≤ arc.1
       ends_low arc has = All-contains (λ (a : ℕ × ℕ). 1 ≤ a.1) arcs arc ends has
 
@@ -263,7 +263,7 @@ lags-set preds lags arcs row place i w before new_arcs ends within is inside ins
           ∙ ap (λ (values : List ℕ). beside (row_at preds row) values arc.0) (sym (row_at-read lags row before within is))
           ∙ sym (ap (λ (k : ℕ). beside (row_at preds k) (row_at lags k) arc.0) same)
 
--- no lag is above the limit of all
+-- no lag is above the limit
 lag_beside-limit : (arcs : List (ℕ × ℕ)) (lags : List ℕ) (most i j : ℕ) → All (λ w. w ≤ most) lags → lag_beside arcs lags i j ≤ most
 lag_beside-limit [] lags most i j all = omega arith
 lag_beside-limit (arc ∷ arcs) [] most i j all =
@@ -281,7 +281,7 @@ pub lag_of-limit : (net : Net) (i j : ℕ) → HasGoodLags net → lag_of net i 
 unfolding lag_of
 lag_of-limit net i j good = lag_beside-limit net.arcs net.lags LONGEST_LAG i j good.1
 
--- what stands in a list of lags beside the predecessors of j
+-- an entry of a list of lags beside the predecessors of j
 pub lag_in_place : (net : Net) (j : ℕ) (preds lags : List ℕ) (k : ℕ) →
     lags ≡ map (λ i. lag_of net i j) preds → k < length preds →
     (k < length lags) × (get_or lags k 0 ≡ lag_of net (get_or preds k 0) j)
@@ -312,7 +312,7 @@ lag_beside-zeros (arc ∷ arcs) (suc n) i j =
       | inr isnt ↦ ap (λ (t : Bool). cond t 0 (lag_beside arcs (replicate n 0) i j)) isnt ∙ lag_beside-zeros arcs n i j
     ]
 
--- the lags of a network whose lags are what a function gives of its arcs
+-- the lags of a network whose lags are the values of a function of its arcs
 lags_by : (net : Net) (f : ℕ × ℕ → ℕ) → net.lags ≡ map f net.arcs → net.lags ≡ map (λ arc. lag_of net arc.0 arc.1) net.arcs
 unfolding lag_of
 lags_by net f by =
@@ -320,6 +320,6 @@ lags_by net f by =
     map-agree f (λ arc. lag_beside net.arcs net.lags arc.0 arc.1) net.arcs (λ arc has. ap (λ (lags : List ℕ). lag_beside net.arcs lags arc.0 arc.1) by ∙ lag_beside-map f net.arcs arc.0 arc.1 has) in
     by ∙ sym each
 
--- the lags beside the arcs are those that are told arc by arc
+-- the lags beside the arcs are those that `lag_of` gives
 pub lags_told : (a : Inside) (net : Net) → net_of a ≡ net → net.lags ≡ map (λ arc. lag_of net arc.0 arc.1) net.arcs
 lags_told a net is = subst (λ (n : Net). n.lags ≡ map (λ arc. lag_of n arc.0 arc.1) n.arcs) is (lags_by (net_of a) (lag_in a.preds.items a.lags.items) refl)

@@ -1,4 +1,4 @@
--- Marks in rows: what setting one changes.
+-- Marks in rows: the effect of setting one.
 use Rattle.std.proofs.Common.{ℕ, suc, zero, Bool, true, false, ◌≡◌, ◌≢◌, ◌+◌, ◌-◌, ◌≤◌, ◌<◌, ◌↔◌, ◌⊎◌, inl, inr, List, [], ◌∷◌, ◌++◌, length, take, get_or, set, replicate, refl, sym, ◌∙◌, ap, subst, arith, Some, Vec, get_or-set_same, get_or-set_other}
 use Rattle.std.specs.declared.alloc.Global.{Global}
 use Rattle.std.specs.List.{Contains}
@@ -39,13 +39,13 @@ pub row_at-push_last : {T : Type 0} (rows : List (Vec T Global)) (row : Vec T Gl
 row_at-push_last [] row = refl
 row_at-push_last (r ∷ rows) row = row_at-push_last rows row
 
--- no row stands behind the last
+-- there is no row after the last
 pub row_at-past : {T : Type 0} (rows : List (Vec T Global)) (k : ℕ) → length rows ≤ k → row_at rows k ≡ []
 row_at-past [] k past = refl
 row_at-past (r ∷ rows) zero past = absurd (omega arith)
 row_at-past (r ∷ rows) (suc k) past = row_at-past rows k (omega arith)
 
--- what a pushed row adds to what holds of each row
+-- a fact of each row, with a pushed row
 pub rows_push : {T : Type 0} (P : ℕ → List T → Type 0) (rows : List (Vec T Global)) (row : Vec T Global) →
     ((k : ℕ) → k < length rows → P k (row_at rows k)) → P (length rows) row.items → (k : ℕ) →
     k < length (rows ++ row ∷ []) → P k (row_at (rows ++ row ∷ []) k)
@@ -123,7 +123,7 @@ arc_of_place arc low high =
     let to : arc.1 ≡ arc.1 - 1 + 1 = omega arith in
     ap (λ (i : ℕ). (i, arc.1)) from ∙ ap (λ (j : ℕ). (arc.0 - 1 + 1, j)) to
 
--- the arc at k is new where its mark is not set
+-- the arc at k is new if its mark is not set
 pub IsNewArc-unmarked : (durations : List ℕ) (arcs : List (ℕ × ℕ)) (k : ℕ) (marks : List (Vec Bool Global)) →
     k < length arcs → HasGoodArcs (unlagged durations arcs) → AreMarks (take k arcs) marks →
     mark_at marks ((get_or arcs k (0, 0)).1 - 1) ((get_or arcs k (0, 0)).0 - 1) ≡ false →
@@ -161,9 +161,9 @@ AreMarks-push done arc row column marks before within inside is here known r k =
       let same : arc ≡ (k + 1, r + 1) = here ∙ (ap (λ (x : ℕ). (x, row + 1)) e0 ∙ ap (λ (x : ℕ). (k + 1, x)) e1) in
       let marked : mark_at (set marks row (with_item before column true)) row column ≡ true = mark_at-set_here marks row column before within is inside in
       let marked' : mark_at (set marks row (with_item before column true)) r k ≡ true =
-          subst (λ (x : ℕ). mark_at (set marks row (with_item before column true)) x k ≡ true) (sym same_row)
-          (subst (λ (x : ℕ). mark_at (set marks row (with_item before column true)) row x ≡ true)
-          (sym same_column) marked) in
+      subst (λ (x : ℕ). mark_at (set marks row (with_item before column true)) x k ≡ true) (sym same_row)
+      (subst (λ (x : ℕ). mark_at (set marks row (with_item before column true)) row x ≡ true)
+      (sym same_column) marked) in
       ((λ _. subst (Contains (done ++ arc ∷ [])) same (Contains-push done arc)), (λ _. marked'))
   by_case (inl same) (inr apart) = elsewhere (inr apart)
   by_case (inr apart) w = elsewhere (inl apart)
@@ -191,5 +191,5 @@ AreMarks-more durations arcs k marks before within good square is known =
     let place = place_within durations arcs k marks within good square in
     subst (λ (done : List (ℕ × ℕ)). AreMarks done (set marks ((get_or arcs k (0, 0)).1 - 1) (with_item before ((get_or arcs k (0, 0)).0 - 1) true))) (sym (take_more arcs k (0, 0) within))
     (AreMarks-push (take k arcs) (get_or arcs k (0, 0)) ((get_or arcs k (0, 0)).1 - 1)
-        ((get_or arcs k (0, 0)).0 - 1) marks before place.0 place.1 is
-        (arc_of_place (get_or arcs k (0, 0)) ends.0.0 ends.1.0) known)
+    ((get_or arcs k (0, 0)).0 - 1) marks before place.0 place.1 is
+    (arc_of_place (get_or arcs k (0, 0)) ends.0.0 ends.1.0) known)

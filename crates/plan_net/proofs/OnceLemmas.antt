@@ -1,4 +1,4 @@
--- Of each of these there is only one: greatest numbers, rising lists of the same members, the named cycle.
+-- Unique things: greatest numbers, rising lists of the same members, the named cycle.
 use Rattle.std.proofs.Common.{ℕ, suc, zero, ◌≡◌, ◌+◌, ◌-◌, ◌≤◌, ◌<◌, ◌⊎◌, inl, inr, List, [], ◌∷◌, length, get_or, sym, ◌∙◌, ap, subst, arith}
 use Rattle.std.specs.List.{Contains}
 use Rattle.std.proofs.lemmas.List.{get_or_default, same_lists}
@@ -10,16 +10,16 @@ use Rattle.plan_net.specs.Limits.{IsSound}
 use Rattle.plan_net.proofs.RisingLemmas.{least_once, place_in, rising_later, rising_at_most}
 use Rattle.plan_net.proofs.PathLemmas.{IsCycle-from_named}
 
--- two numbers that are the greatest with P are one
+-- the greatest number with P is unique
 pub greatest_once : (P : ℕ → Type 0) (a b : ℕ) → IsGreatest P a → IsGreatest P b → a ≡ b
 greatest_once P a b first second = let low : b ≤ a = first.1 b second.0 in let high : a ≤ b = second.1 a first.0 in omega arith
 
--- lists of numbers that are equally long and agree at each place are one
+-- lists of equal length that agree at each index are equal
 pub same_entries : (xs ys : List ℕ) → length xs ≡ length ys → ((k : ℕ) → k < length xs → get_or xs k 0 ≡ get_or ys k 0) → xs ≡ ys
 same_entries xs ys long same =
     same_lists xs ys long (λ k d within. get_or_default xs k d 0 within ∙ same k within ∙ get_or_default ys k 0 d (omega (arith, long)))
 
--- what a rising list has at a place the other has there, where the lists agree at all places before
+-- if two rising lists agree before an index, they agree at the index
 same_place : (xs ys : List ℕ) (P : ℕ → Type 0) → ListsRising P xs → ListsRising P ys → (k : ℕ) → k < length xs
     → ((j : ℕ) → j < k → j < length xs → (j < length ys) × (get_or ys j 0 ≡ get_or xs j 0))
     → (m : ℕ) → m < length ys → get_or ys m 0 ≡ get_or xs k 0 → (k < length ys) × (get_or ys k 0 ≡ get_or xs k 0)
@@ -78,7 +78,7 @@ rising_once P xs ys first second =
     let back = not_longer P ys xs second first in
     same_entries xs ys (omega (arith, there, back)) (λ k within. sym (agree P xs ys first second (length xs) k within within).1)
 
--- some arc of a list leads on from j, or none does
+-- a list contains an arc from j, or none
 arc_or_none : (arcs : List (ℕ × ℕ)) (j : ℕ) → ((k : ℕ) × Contains arcs (j, k)) ⊎ ((k : ℕ) → Contains arcs (j, k) → ⊥)
 arc_or_none [] j = inr (λ k has. absurd (omega (arith, has.1)))
 arc_or_none ((a, b) ∷ arcs) j = by_first (cases_eq a j) (arc_or_none arcs j) where
@@ -101,7 +101,7 @@ arc_or_none ((a, b) ∷ arcs) j = by_first (cases_eq a j) (arc_or_none arcs j) w
 pub next_or_none : (net : Net) (j : ℕ) → ((k : ℕ) × IsArc net j k) ⊎ ((k : ℕ) → IsArc net j k → ⊥)
 next_or_none net j = arc_or_none net.arcs j
 
--- of one activity there is one least predecessor in the largest set
+-- an activity has at most one least predecessor in the largest set
 before_once : (net : Net) (a b i j : ℕ) → IsLeastCaughtBefore net a i → IsLeastCaughtBefore net b j → a ≡ b → i ≡ j
 before_once net a b i j first second same =
     least_once (λ h. IsCaught net h × IsArc net h b) i j (subst (λ (k : ℕ). IsLeastCaughtBefore net k i) same first) second
@@ -129,7 +129,7 @@ back_once net xs ys first second (suc k) p q here there =
     let next = back_once net xs ys first second k (p + 1) (q + 1) (omega (arith, here)) (omega (arith, there)) in
     before_once net (get_or xs (p + 1) 0) (get_or ys (q + 1) 0) (get_or xs p 0) (get_or ys q 0) (first.along p (omega (arith, here))) (second.along q (omega (arith, there))) next
 
--- so the longer one is no longer: its first member would stand in it twice
+-- so the longer one isn't longer: otherwise it would contain its first member twice
 as_long : (net : Net) (xs ys : List ℕ) → IsNamedCycle net xs → IsNamedCycle net ys → length xs ≤ length ys → length xs ≡ length ys
 as_long net xs ys first second order = by_order (cases_lt (length xs) (length ys)) where
   by_order : (length xs < length ys) ⊎ (length ys ≤ length xs) → length xs ≡ length ys

@@ -11,7 +11,7 @@ use Rattle.plan_net.specs.Trails.{IsTrail, IsBackRing}
 use Rattle.plan_net.proofs.RisingLemmas.{stands_in, place_in, least_once}
 use Rattle.plan_net.proofs.TrailLemmas.{comes_once, step_from}
 
--- on a ring one comes to each member after any number of steps
+-- a walk on a ring reaches each member again after any number of steps
 again : (net : Net) (ring : List ℕ) (from : ℕ) → 1 ≤ length ring → Comes net from (get_or ring 0 0) →
     ((k : ℕ) → k + 1 < length ring → IsLeastCaughtBefore net (get_or ring k 0) (get_or ring (k + 1) 0)) →
     IsLeastCaughtBefore net (get_or ring (length ring - 1) 0) (get_or ring 0 0) → (steps k : ℕ) →
@@ -29,7 +29,7 @@ again net ring from some start along around (suc steps) (suc k) within =
     let same : k + 1 ≡ suc k = omega arith in
     (suc before.0, omega (arith, before.1), (get_or ring k 0, before.2, subst (λ (x : ℕ). IsLeastCaughtBefore net (get_or ring k 0) (get_or ring x 0)) same (along k (omega arith))))
 
--- from a ring no step leads away
+-- each step from a member of a ring leads to a member
 stays : (net : Net) (ring : List ℕ) (from : ℕ) → 1 ≤ length ring → Comes net from (get_or ring 0 0) →
     ((k : ℕ) → k + 1 < length ring → IsLeastCaughtBefore net (get_or ring k 0) (get_or ring (k + 1) 0)) →
     IsLeastCaughtBefore net (get_or ring (length ring - 1) 0) (get_or ring 0 0) → (more j : ℕ) →
@@ -50,7 +50,7 @@ stays net ring from some start along around (suc more) j comes =
           (0, omega arith, least_once (λ g. IsCaught net g × IsArc net g (get_or ring (length ring - 1) 0)) (get_or ring 0 0) j around before')
     ]
 
--- the trail from the activity that is met again closes to a ring
+-- the trail from the activity that recurs closes to a ring
 pub IsBackRing-from_trail : (net : Net) (trail : List ℕ) (at from : ℕ) → IsTrail net trail at → from < length trail → get_or trail from 0 ≡ at → IsBackRing net (drop from trail)
 IsBackRing-from_trail net trail at from walked within is = record {
   some = some;
@@ -87,8 +87,8 @@ IsBackRing-from_trail net trail at from walked within is = record {
       let first : from + 0 ≡ from = omega arith in
       let comes : Comes net (suc (length trail - 1)) at = subst (λ (n : ℕ). Comes net n at) whole walked.next in
       let step : IsLeastCaughtBefore net (get_or trail (length trail - 1) 0) at =
-          step_from net (length trail - 1) (get_or trail (length trail - 1) 0) at
-          (walked.steps (length trail - 1) (omega (arith, within))) comes in
+      step_from net (length trail - 1) (get_or trail (length trail - 1) 0) at
+      (walked.steps (length trail - 1) (omega (arith, within))) comes in
       subst (λ (x : ℕ). IsLeastCaughtBefore net x (get_or (drop from trail) 0 0)) (sym (get_or-drop from trail (length (drop from trail) - 1) 0 ∙ ap (λ (k : ℕ). get_or trail k 0) last))
       (subst (λ (x : ℕ). IsLeastCaughtBefore net (get_or trail (length trail - 1) 0) x) (sym (get_or-drop from trail 0 0 ∙ ap (λ (k : ℕ). get_or trail k 0) first ∙ is)) step)
 
@@ -109,7 +109,7 @@ record IsRing (net : Net) (ring : List ℕ) : Type 0 where
   once : (a b : ℕ) → a < b → b < length ring → get_or ring a 0 ≢ get_or ring b 0
   recurring : (j : ℕ) → Contains ring j ↔ Recurs net j
 
--- against the arcs from its end on, a ring goes along them
+-- a ring against the arcs, reversed, is along the arcs
 IsRing-reverse : (net : Net) (ring : List ℕ) → IsBackRing net ring → IsRing net (reverse ring)
 IsRing-reverse net ring back = record {
   some = omega (arith, back.some, whole);
@@ -118,9 +118,12 @@ IsRing-reverse net ring back = record {
   once = λ a b lower within same. back.once (length ring - 1 - b) (length ring - 1 - a)
       (omega (arith, whole, within, lower)) (omega (arith, whole, within, lower))
       (sym (at b (omega (arith, whole, within))) ∙ sym same ∙ at a (omega (arith, whole, within, lower)));
-  recurring = λ j. (λ has. (back.recurring j).0 (Contains-permutation (reverse ring) ring j
-      (IsPermutation-sym ring (reverse ring) (IsPermutation-reverse ring)) has), λ always.
-      Contains-permutation ring (reverse ring) j (IsPermutation-reverse ring) ((back.recurring j).1 always));
+  recurring = λ j. (
+    λ has. (back.recurring j).0 (Contains-permutation (reverse ring) ring j
+        (IsPermutation-sym ring (reverse ring) (IsPermutation-reverse ring)) has),
+    λ always.
+        Contains-permutation ring (reverse ring) j (IsPermutation-reverse ring) ((back.recurring j).1 always),
+  );
 } where
   whole : length (reverse ring) ≡ length ring
   whole = length-reverse ring
@@ -171,15 +174,15 @@ turned_to : (ring : List ℕ) (m j : ℕ) → Contains ring j → Contains (turn
 unfolding turned
 turned_to ring m j has =
     Contains-permutation (take m ring ++ drop m ring) (drop m ring ++ take m ring) j
-        (IsPermutation-append_comm (take m ring) (drop m ring))
-        (subst (λ (list : List ℕ). Contains list j) (sym (take-append-drop m ring)) has)
+    (IsPermutation-append_comm (take m ring) (drop m ring))
+    (subst (λ (list : List ℕ). Contains list j) (sym (take-append-drop m ring)) has)
 
 turned_from : (ring : List ℕ) (m j : ℕ) → Contains (turned ring m) j → Contains ring j
 unfolding turned
 turned_from ring m j has =
     subst (λ (list : List ℕ). Contains list j) (take-append-drop m ring)
-        (Contains-permutation (drop m ring ++ take m ring) (take m ring ++ drop m ring) j
-        (IsPermutation-append_comm (drop m ring) (take m ring)) has)
+    (Contains-permutation (drop m ring ++ take m ring) (take m ring ++ drop m ring) j
+    (IsPermutation-append_comm (drop m ring) (take m ring)) has)
 
 -- a ring along the arcs, from its least member on, is the named cycle
 IsNamedCycle-turned : (net : Net) (ring : List ℕ) (m : ℕ) → IsRing net ring → m < length ring → ((k : ℕ) → k < length ring → get_or ring m 0 ≤ get_or ring k 0) → IsNamedCycle net (turned ring m)
@@ -203,20 +206,20 @@ IsNamedCycle-turned net ring m closed within lowest = record {
   along k lower (inl low) w =
       let next : k + m + 1 ≡ k + 1 + m = omega arith in
       joined (get_or ring (k + m + 1) 0) (get_or ring (k + m) 0) _ _
-          (turned-low ring m (k + 1) low ∙ ap (λ (x : ℕ). get_or ring x 0) (sym next))
-          (turned-low ring m k (omega arith)) (closed.along (k + m) (omega arith))
+      (turned-low ring m (k + 1) low ∙ ap (λ (x : ℕ). get_or ring x 0) (sym next))
+      (turned-low ring m k (omega arith)) (closed.along (k + m) (omega arith))
   along k lower (inr high) (inl low) =
       let first : k + 1 + m - length ring ≡ 0 = omega arith in
       let last : k + m ≡ length ring - 1 = omega arith in
       joined (get_or ring 0 0) (get_or ring (length ring - 1) 0) _ _
-          (turned-high ring m (k + 1) within lower high ∙ ap (λ (x : ℕ). get_or ring x 0) first)
-          (turned-low ring m k low ∙ ap (λ (x : ℕ). get_or ring x 0) last) closed.around
+      (turned-high ring m (k + 1) within lower high ∙ ap (λ (x : ℕ). get_or ring x 0) first)
+      (turned-low ring m k low ∙ ap (λ (x : ℕ). get_or ring x 0) last) closed.around
   along k lower (inr high) (inr higher) =
       let next : k + m - length ring + 1 ≡ k + 1 + m - length ring = omega arith in
       joined (get_or ring (k + m - length ring + 1) 0) (get_or ring (k + m - length ring) 0) _ _
-          (turned-high ring m (k + 1) within lower high ∙ ap (λ (x : ℕ). get_or ring x 0) (sym next))
-          (turned-high ring m k within (omega arith) higher)
-          (closed.along (k + m - length ring) (omega arith))
+      (turned-high ring m (k + 1) within lower high ∙ ap (λ (x : ℕ). get_or ring x 0) (sym next))
+      (turned-high ring m k within (omega arith) higher)
+      (closed.along (k + m - length ring) (omega arith))
 
   first_is : get_or (turned ring m) 0 0 ≡ get_or ring m 0
   first_is = let same : 0 + m ≡ m = omega arith in turned-low ring m 0 (omega arith) ∙ ap (λ (x : ℕ). get_or ring x 0) same
@@ -225,17 +228,17 @@ IsNamedCycle-turned net ring m closed within lowest = record {
   around (inl none) =
       let last : length (turned ring m) - 1 + m ≡ length ring - 1 = omega (arith, whole) in
       joined (get_or ring 0 0) (get_or ring (length ring - 1) 0) _ _
-          (first_is ∙ ap (λ (x : ℕ). get_or ring x 0) none)
-          (turned-low ring m (length (turned ring m) - 1) (omega (arith, whole, within))
-          ∙ ap (λ (x : ℕ). get_or ring x 0) last) closed.around
+      (first_is ∙ ap (λ (x : ℕ). get_or ring x 0) none)
+      (turned-low ring m (length (turned ring m) - 1) (omega (arith, whole, within))
+      ∙ ap (λ (x : ℕ). get_or ring x 0) last) closed.around
   around (inr some) =
       let next : m - 1 + 1 ≡ m = omega (arith, some) in
       let last : length (turned ring m) - 1 + m - length ring ≡ m - 1 = omega (arith, whole, within, some) in
       joined (get_or ring (m - 1 + 1) 0) (get_or ring (m - 1) 0) _ _
-          (first_is ∙ ap (λ (x : ℕ). get_or ring x 0) (sym next))
-          (turned-high ring m (length (turned ring m) - 1) within (omega (arith, whole, within))
-          (omega (arith, whole, within, some)) ∙ ap (λ (x : ℕ). get_or ring x 0) last)
-          (closed.along (m - 1) (omega (arith, within, some)))
+      (first_is ∙ ap (λ (x : ℕ). get_or ring x 0) (sym next))
+      (turned-high ring m (length (turned ring m) - 1) within (omega (arith, whole, within))
+      (omega (arith, whole, within, some)) ∙ ap (λ (x : ℕ). get_or ring x 0) last)
+      (closed.along (m - 1) (omega (arith, within, some)))
 
   from : (j : ℕ) → Contains (turned ring m) j → Contains ring j
   from j has = turned_from ring m j has
@@ -261,7 +264,7 @@ IsNamedCycle-turned net ring m closed within lowest = record {
       (sym (turned-high ring m a within (omega arith) high_a) ∙ same
       ∙ turned-high ring m b within inside high_b)
 
--- what the reversal and the turn make of the ring
+-- the result of the reversal and the rotation of the ring
 pub IsNamedCycle-from_back_ring : (net : Net) (ring : List ℕ) (m : ℕ) → IsBackRing net ring →
     m < length (reverse ring) → ((k : ℕ) → k < length (reverse ring) →
     get_or (reverse ring) m 0 ≤ get_or (reverse ring) k 0) →

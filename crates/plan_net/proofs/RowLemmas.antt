@@ -1,4 +1,4 @@
--- The rows of a network's tables, as they are read.
+-- The rows of a network's tables, as code reads them.
 use Rattle.std.proofs.Common.{ℕ, ◌≡◌, ◌+◌, ◌-◌, ◌≤◌, ◌<◌, List, length, get_or, refl, ap, subst, arith, Vec}
 use Rattle.std.specs.declared.alloc.Global.{Global}
 use Rattle.std.proofs.lemmas.Option.{slice_get_read}
@@ -12,7 +12,7 @@ use Rattle.plan_net.specs.declared.arcs.Arcs.TheInside.{Inside}
 pub row_at-read : {T : Type 0} (rows : List (Vec T Global)) (k : ℕ) (row : Vec T Global) → k < length rows → row ≡ get_or rows k row → row_at rows k ≡ row.items
 row_at-read rows k row within is = ap row_items (slice_get_read rows (length rows) k row refl within is)
 
--- each entry of a rising list of the numbers with P has what P gives
+-- each entry of a rising list of the numbers with P has the consequences of P
 pub entries_have : (P Q : ℕ → Type 0) (list : List ℕ) → ListsRising P list → ((i : ℕ) → P i → Q i) → (k : ℕ) → k < length list → Q (get_or list k 0)
 entries_have P Q list listed gives k within =
     gives (get_or list k 0) ((listed.exact (get_or list k 0)).0 (Contains-get_or list k 0 within))
@@ -21,7 +21,7 @@ entries_have P Q list listed gives k within =
 pub arc_ends : (net : Net) (i j : ℕ) → IsWithinLimits net → IsArc net i j → IsGoodArc net (i, j)
 arc_ends net i j ok arc = All-contains (IsGoodArc net) net.arcs (i, j) ok.arcs arc
 
--- the row at j - 1, where that at k lists what P says of k + 1
+-- the row at j - 1, if the row at k lists the numbers with P (k + 1)
 shifted : (count : ℕ) (P : ℕ → ℕ → Type 0) (rows : List (Vec ℕ Global)) → length rows ≡ count →
     ((k : ℕ) → k < count → ListsRising (P (k + 1)) (row_at rows k)) → (j : ℕ) (row : Vec ℕ Global) → 1 ≤ j →
     j ≤ count → row ≡ get_or rows (j - 1) row → ListsRising (P j) row.items

@@ -1,4 +1,4 @@
--- What can be decided: the least number with a property, an arc with one, the place of the least number.
+-- Decidable facts: the least number with a property, an arc with one, the index of the least number.
 use Rattle.std.proofs.Common.{ℕ, suc, zero, ◌≡◌, ◌≤◌, ◌<◌, ◌⊎◌, inl, inr, List, [], ◌∷◌, length, get_or, refl, sym, subst, arith}
 use Rattle.std.specs.List.{Contains}
 use Rattle.std.proofs.lemmas.List.Elements.{Contains-push_cases, Contains-append_cases, Contains-append_right}
@@ -38,7 +38,7 @@ least_below P decide (suc limit) = by_rest (least_below P decide limit) (decide 
         at n lower holds (inr (inl below)) = none n below holds
         at n lower holds (inr (inr above)) = absurd (omega (arith, lower, above))
 
--- what is in a list is its head or in its tail
+-- an element of a list is its head or in its tail
 pub in_cons : {A : Type 0} (x : A) (xs : List A) (y : A) → Contains (x ∷ xs) y → (x ≡ y) ⊎ Contains xs y
 in_cons x xs y has = elim (Contains-append_cases (x ∷ []) xs y has) [
   | inl here ↦ elim (Contains-push_cases [] x y here) [
@@ -64,7 +64,7 @@ some_element {A = A} P decide (y ∷ xs) = by_first (decide y) (some_element P d
         at x holds (inl same) = fails (subst P (sym same) holds)
         at x holds (inr later) = none x later holds
 
--- where the least number of a list stands
+-- the index of the least number of a list
 pub place_of_least : (first : ℕ) (others : List ℕ) → (m : ℕ) × (m < length (first ∷ others)) × ((k : ℕ) → k < length (first ∷ others) → get_or (first ∷ others) m 0 ≤ get_or (first ∷ others) k 0)
 place_of_least first [] = (0, omega arith, λ k within. only k within)
   where

@@ -19,7 +19,7 @@ use Rattle.plan_net.proofs.CaughtLemmas.{IsCaughtOpen-from_turns}
 use Rattle.plan_net.proofs.PathLemmas.{IsCycle-from_named}
 use Rattle.plan_net.proofs.SoundLemmas.{sound_from_turns, least_caught}
 
--- ---- what marks and arcs decide
+-- ---- decisions by marks and arcs
 
 -- an activity is one of the network's, or not
 pub decide_activity : (net : Net) (j : ℕ) → Decided (IsActivity net j)
@@ -77,14 +77,14 @@ decide_ready net placed j = by_parts (decide_activity net j) (decide_open placed
 
 -- ---- the search for an order
 
--- an order, its marks, and that no activity can come behind it
+-- an order, its marks, and the fact that no further activity can come
 record Turns (net : Net) : Type 0 where
   order : List ℕ
   placed : List Bool
   turns : IsPlacedOrder net order placed
   stuck : IsStuck net placed
 
--- where no activity is ready, each open one has an open predecessor
+-- if no activity is ready, each open one has an open predecessor
 stuck_at : (net : Net) (placed : List Bool) → ((n : ℕ) → n < suc (count_of net) → IsReady net placed n → ⊥) → IsStuck net placed
 stuck_at net placed none j activity is_open = by_before (open_before net placed j)
   where
@@ -92,7 +92,7 @@ stuck_at net placed none j activity is_open = by_before (open_before net placed 
     by_before (inl waits) = waits
     by_before (inr all) = absurd (none j (omega (arith, activity)) (activity, is_open, all))
 
--- where an activity is ready it is placed, and else the search ends
+-- if an activity is ready it is placed, otherwise the search ends
 next_turn : (net : Net) (order : List ℕ) (placed : List Bool) → IsPlacedOrder net order placed → ((j : ℕ) → IsLeast (IsReady net placed) j → Turns net) → Turns net
 next_turn net order placed so_far place = by_search (least_below (IsReady net placed) (decide_ready net placed) (suc (count_of net)))
   where
@@ -105,7 +105,7 @@ ready_within : (net : Net) (order : List ℕ) (placed : List Bool) (j : ℕ) →
 ready_within net order placed j so_far ready =
     let whole : length placed ≡ count_of net = so_far.whole in omega (arith, ready.0, whole)
 
--- at most so many open activities are placed one after another
+-- at most n open activities are placed, one after another
 turns_from : (net : Net) → IsWithinLimits net → (n : ℕ) (order : List ℕ) (placed : List Bool) → IsPlacedOrder net order placed → open_count placed ≤ n → Turns net
 turns_from net limits zero order placed so_far few =
     next_turn net order placed so_far (λ j ready.
@@ -121,7 +121,7 @@ some_turns net limits =
 
 -- ---- the walk back
 
--- a trail, the activity that is met again, and where it stands
+-- a trail, the activity that recurs, and its index
 record Loop (net : Net) : Type 0 where
   trail : List ℕ
   at : ℕ
@@ -154,7 +154,7 @@ module _ (net : Net) (limits : IsWithinLimits net) (placed : List Bool) (caught 
           let pred = stuck at here.0 here.1 in
           absurd (none pred.0 (omega (arith, (arc_ends net pred.0 at limits pred.1).0)) (pred.1, pred.2))
 
-  -- the walk ends where an activity is met again, and else it goes on
+  -- if an activity recurs the walk ends, otherwise it continues
   next_step : (trail : List ℕ) (at : ℕ) (met : List Bool) → IsTrail net trail at → IsCaught net at → AreMet net trail met
       → (get_or met (at - 1) false ≡ false → Loop net) → Loop net
   next_step trail at met walked is are go_on = by_mark (cases_Bool (get_or met (at - 1) false))
@@ -168,7 +168,7 @@ module _ (net : Net) (limits : IsWithinLimits net) (placed : List Bool) (caught 
   met_within : (trail : List ℕ) (at : ℕ) (met : List Bool) → IsCaught net at → AreMet net trail met → at - 1 < length met
   met_within trail at met is are = omega (arith, ((caught at).0 is).0, are.whole)
 
-  -- with at most so many activities left to meet
+  -- with at most n activities that the walk hasn't reached
   loop_from : (n : ℕ) (trail : List ℕ) (at : ℕ) (met : List Bool) → IsTrail net trail at → IsCaught net at → AreMet net trail met → open_count met ≤ n → Loop net
   loop_from zero trail at met walked is are few =
       next_step trail at met walked is are (λ fresh.
@@ -218,9 +218,17 @@ named_of net loop = by_ring (reverse (drop loop.place loop.trail)) refl
         let least' = subst (λ (xs : List ℕ). (least.0 < length xs) × ((k : ℕ) → k < length xs → get_or xs least.0 0 ≤ get_or xs k 0)) (sym is) (least.1, least.2) in (
           drop least.0 (reverse ring) ++ take least.0 (reverse ring),
           IsNamedCycle-from_back_ring net ring least.0 (IsBackRing-from_trail net loop.trail loop.at loop.place loop.walked loop.within loop.found) least'.0 least'.1,
-          omega (arith, length-append (drop least.0 (reverse ring))
-              (take least.0 (reverse ring)), length-drop least.0 (reverse ring), length-take least.0
-              (reverse ring), length-reverse ring, length-drop loop.place loop.trail, loop.short),
+          omega (
+            arith,
+            length-append (drop least.0 (reverse ring))
+                (take least.0 (reverse ring)),
+            length-drop least.0 (reverse ring),
+            length-take least.0
+                (reverse ring),
+            length-reverse ring,
+            length-drop loop.place loop.trail,
+            loop.short,
+          ),
         )
 
 -- a network within the limits is sound and has a least order, or it has a named cycle

@@ -1,4 +1,4 @@
--- A network is sound where its order is whole, and stays so where one lag is changed.
+-- A network is sound if its order contains all activities, and remains sound after a change of a lag.
 use Rattle.std.proofs.Common.{ℕ, Bool, ◌≡◌, ◌≤◌, List, [], ◌∷◌, length, Result, Ok, Err, sym, ◌∙◌, ap, subst, arith}
 use Rattle.std.specs.Result.{OnOk, OnErr}
 use Rattle.plan_net.specs.Network.{Net, count_of, IsArc, IsLeast, lag_of, with_lag}
@@ -14,7 +14,7 @@ use Rattle.plan_net.proofs.IndexLemmas.{IsWithinLimits-with_lag}
 use Rattle.plan_net.proofs.LagLemmas.{lag_of-with_lag, lag_of-with_lag_other}
 use Rattle.plan_net.proofs.CaughtLemmas.{IsLeastOrder-from_turns, IsAcyclic-from_order}
 
--- lags bar no walk
+-- lags don't affect walks
 IsWalk-without_lag : (net : Net) (i j w h : ℕ) (others : List ℕ) → IsWalk (with_lag net i j w) h others → IsWalk net h others
 IsWalk-without_lag net i j w h [] walk = tt
 IsWalk-without_lag net i j w h (k ∷ others) (arc, walk) = (arc, IsWalk-without_lag net i j w k others walk)
@@ -37,7 +37,7 @@ sound_after net after order i j w (Ok done) ok err sound =
     subst (λ (n : Net). IsSound n × IsLeastOrder n order) (sym ok.2) (IsSound-with_lag net i j w ok.1 sound.0, IsLeastOrder-with_lag net i j w order sound.1)
 sound_after net after order i j w (Err fault) ok err sound = subst (λ (n : Net). IsSound n × IsLeastOrder n order) (sym err) sound
 
--- a lag that was changed is the one that was handed in
+-- the lag after a change is the one that was set
 pub lag_after : (net after : Net) (i j w : ℕ) (result : Result (Unit {0}) NetFault) → IsSound net →
     OnOk result (IsArc net i j × (w ≤ LONGEST_LAG) × (after ≡ with_lag net i j w)) →
     OnOk result (lag_of after i j ≡ w)
@@ -51,7 +51,7 @@ pub lags_after : (net after : Net) (i j w : ℕ) (result : Result (Unit {0}) Net
 lags_after net after i j w (Ok done) ok = λ h k other. ap (λ (n : Net). lag_of n h k) ok.2 ∙ lag_of-with_lag_other net i j w h k other
 lags_after net after i j w (Err fault) ok = ok
 
--- what an order of which no mark is left gives
+-- an order without a mark left shows that the network is sound
 pub sound_from_turns : (net : Net) (order : List ℕ) (placed : List Bool) → IsWithinLimits net →
     IsPlacedOrder net order placed → ((j : ℕ) → 1 ≤ j → j ≤ length placed → IsPlaced placed j) →
     IsSound net × IsLeastOrder net order

@@ -1,4 +1,4 @@
--- The arcs of rows of successors: they are within the limits, none stands twice, and they are those that the rows name.
+-- The arcs of rows of successors: they are within the limits, all different, and those that the rows contain.
 use Rattle.std.proofs.Common.{◌≡◌, ◌≢◌, ℕ, zero, suc, ◌+◌, ◌-◌, ◌≤◌, ◌<◌, ◌⊎◌, inl, inr, Bool, true, false, List, [], ◌∷◌, ◌++◌, Some, length, take, get_or, refl, sym, ap, ◌∙◌, subst, append_assoc, arith, Vec}
 use Rattle.std.specs.Prelude.{nat_eq, slice_get, Contains}
 use Rattle.std.specs.List.{AllByRecursion, IsDistinct}
@@ -28,7 +28,7 @@ all_get P [] k x h e = absurd (cc)
 all_get P (y ∷ xs) zero x h e = let same : y ≡ x = cc in subst P same h.0
 all_get P (y ∷ xs) (suc k) x h e = all_get P xs k x h.1 e
 
--- ---- no arc stands twice
+-- ---- no arc occurs twice
 
 abbrev NoRepeat : List (ℕ × ℕ) → Type 0
 NoRepeat [] = Unit {0}
@@ -68,17 +68,17 @@ later_sources : (low i : ℕ) (rows : List (List ℕ)) → low ≤ i → AllByRe
 later_sources low i [] below = tt
 later_sources low i (row ∷ rows) below =
     all_append (λ (arc : ℕ × ℕ). low ≤ arc.0) (arcs_from i row) (arcs_of_rows (i + 1) rows)
-        (all_from (λ (arc : ℕ × ℕ). low ≤ arc.0) i (λ j. below) row)
-        (later_sources low (i + 1) rows (omega (arith, below)))
+    (all_from (λ (arc : ℕ × ℕ). low ≤ arc.0) i (λ j. below) row)
+    (later_sources low (i + 1) rows (omega (arith, below)))
 
 rows_repeat_none : (n i : ℕ) (rows : List (List ℕ)) → AllByRecursion (IsRow n) rows → NoRepeat (arcs_of_rows i rows)
 rows_repeat_none n i [] h = tt
 rows_repeat_none n i (row ∷ rows) h =
     let later = later_sources (i + 1) (i + 1) rows (omega arith) in
     let apart : (j : ℕ) → AllByRecursion (λ (y : ℕ × ℕ). y ≢ (i, j)) (arcs_of_rows (i + 1) rows) =
-        λ j. all_along (λ (y : ℕ × ℕ). i + 1 ≤ y.0) (λ (y : ℕ × ℕ). y ≢ (i, j)) (λ y from e.
-        let same = ap (λ (arc : ℕ × ℕ). arc.0) e in
-        absurd (omega (arith, from, same))) (arcs_of_rows (i + 1) rows) later in
+    λ j. all_along (λ (y : ℕ × ℕ). i + 1 ≤ y.0) (λ (y : ℕ × ℕ). y ≢ (i, j)) (λ y from e.
+    let same = ap (λ (arc : ℕ × ℕ). arc.0) e in
+    absurd (omega (arith, from, same))) (arcs_of_rows (i + 1) rows) later in
     no_repeat-append (arcs_from i row) (arcs_of_rows (i + 1) rows) (row_repeats_none i row h.0.1) (rows_repeat_none n (i + 1) rows h.1)
     (all_from (λ (x : ℕ × ℕ). AllByRecursion (λ (y : ℕ × ℕ). y ≢ x) (arcs_of_rows (i + 1) rows)) i apart row)
 
@@ -95,8 +95,8 @@ rows_inside : (n i : ℕ) (rows : List (List ℕ)) → 1 ≤ i → i + length ro
 rows_inside n i [] low high h = tt
 rows_inside n i (row ∷ rows) low high h =
     all_append (IsInside n) (arcs_from i row) (arcs_of_rows (i + 1) rows)
-        (row_inside n i row low (omega (arith, high)) h.0.0)
-        (rows_inside n (i + 1) rows (omega (arith, low)) (omega (arith, high)) h.1)
+    (row_inside n i row low (omega (arith, high)) h.0.0)
+    (rows_inside n (i + 1) rows (omega (arith, low)) (omega (arith, high)) h.1)
 
 -- the network of good durations and of rows is within the limits
 pub IsWithinLimits-rows : (durations : List ℕ) (rows : List (List ℕ)) → HasGoodSize (unlagged durations []) →
@@ -132,7 +132,7 @@ in_row i (x ∷ row) j has = by_case (λ behind. in_row i row j behind) (Contain
   by_case others (inl same) = subst (λ (y : ℕ). Contains (arcs_from i (x ∷ row)) (i, y)) same (Contains-front (i, x) (arcs_from i row))
   by_case others (inr behind) = Contains-behind (i, x) (i, j) (arcs_from i row) (others behind)
 
--- an arc of the rows from i on stands in the row of its beginning
+-- an arc of the rows from i on is in the row of its first activity
 pub arc_in_row : (i : ℕ) (lists : List (Vec ℕ Global)) (h j : ℕ) → Contains (arcs_of_rows i (rows_in lists)) (h, j) → (i ≤ h) × (h < i + length lists) × Contains (row_at lists (h - i)) j
 arc_in_row i [] h j has = absurd (let none : has.0 < 0 = has.1 in omega (arith, none))
 arc_in_row i (list ∷ lists) h j has = by_case (λ later. arc_in_row (i + 1) lists h j later) (Contains-append_cases (arcs_from i list.items) (arcs_of_rows (i + 1) (rows_in lists)) (h, j) has) where
@@ -147,7 +147,7 @@ arc_in_row i (list ∷ lists) h j has = by_case (λ later. arc_in_row (i + 1) li
       let next : suc (h - (i + 1)) ≡ h - i = omega (arith, found.0) in
       (omega (arith, found.0), omega (arith, found.1), subst (λ (k : ℕ). Contains (row_at (list ∷ lists) k) j) next found.2)
 
--- what stands in a row is an arc
+-- each entry of a row is an arc
 pub row_in_arcs : (i : ℕ) (lists : List (Vec ℕ Global)) (k j : ℕ) → Contains (row_at lists k) j → Contains (arcs_of_rows i (rows_in lists)) (i + k, j)
 row_in_arcs i [] k j has = absurd (let none : has.0 < 0 = has.1 in omega (arith, none))
 row_in_arcs i (list ∷ lists) zero j has =
@@ -156,8 +156,8 @@ row_in_arcs i (list ∷ lists) zero j has =
 row_in_arcs i (list ∷ lists) (suc k) j has =
     let same : i + 1 + k ≡ i + suc k = omega arith in
     Contains-append_right (arcs_from i list.items) (arcs_of_rows (i + 1) (rows_in lists)) (i + suc k, j)
-        (subst (λ (h : ℕ). Contains (arcs_of_rows (i + 1) (rows_in lists)) (h, j)) same
-        (row_in_arcs (i + 1) lists k j has))
+    (subst (λ (h : ℕ). Contains (arcs_of_rows (i + 1) (rows_in lists)) (h, j)) same
+    (row_in_arcs (i + 1) lists k j has))
 
 -- ---- the rows as numbers of rows
 
@@ -191,7 +191,7 @@ AreNumbersOfRows-rows n lists are = record {
   count_rows : (ls : List (Vec ℕ Global)) → length (rows_in ls) ≡ length ls
   count_rows ls = length-map ls (λ l. l.items)
 
--- rows of successors, turned, are the beginnings of their arcs
+-- rows of successors, transposed, are the first activities of their arcs
 pub AreBeginnings-rows : (n : ℕ) (lists made : List (Vec ℕ Global)) → AreRows n (rows_in lists) → AreTurned lists (length lists) made → AreBeginnings n (arcs_of_rows 1 (rows_in lists)) made
 AreBeginnings-rows n lists made are turned = record {
   whole = turned.whole ∙ sym (length-map lists (λ l. l.items)) ∙ are.whole;
@@ -215,7 +215,7 @@ nothing_behind : (arcs : List (ℕ × ℕ)) → arcs ++ [] ≡ arcs
 nothing_behind [] = refl
 nothing_behind (arc ∷ arcs) = ap (λ (rest : List (ℕ × ℕ)). arc ∷ rest) (nothing_behind arcs)
 
--- a row that is put behind the rows
+-- a row that is appended to the rows
 pub arcs_of_rows-push : (i : ℕ) (lists : List (Vec ℕ Global)) (list : Vec ℕ Global) →
     arcs_of_rows i (rows_in (lists ++ list ∷ [])) ≡ arcs_of_rows i (rows_in lists)
     ++ arcs_from (i + length lists) list.items
@@ -226,8 +226,8 @@ arcs_of_rows-push i (first ∷ lists) list =
     let same : i + 1 + length lists ≡ i + suc (length lists) = omega arith in
     let rest = subst (λ (h : ℕ). arcs_of_rows (i + 1) (rows_in (lists ++ list ∷ [])) ≡ arcs_of_rows (i + 1) (rows_in lists) ++ arcs_from h list.items) same (arcs_of_rows-push (i + 1) lists list) in
     ap (λ (arcs : List (ℕ × ℕ)). arcs_from i first.items ++ arcs) rest
-        ∙ sym (append_assoc (arcs_from i first.items) (arcs_of_rows (i + 1) (rows_in lists))
-        (arcs_from (i + suc (length lists)) list.items))
+    ∙ sym (append_assoc (arcs_from i first.items) (arcs_of_rows (i + 1) (rows_in lists))
+    (arcs_from (i + suc (length lists)) list.items))
 
 -- the first rows and the next one
 pub arcs_of_rows-more : (lists : List (Vec ℕ Global)) (k : ℕ) (list : Vec ℕ Global) → k < length lists →

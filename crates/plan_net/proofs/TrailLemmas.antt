@@ -1,4 +1,4 @@
--- The walk from predecessor to predecessor: what one step adds.
+-- The walk from predecessor to predecessor: one step.
 use Rattle.std.proofs.Common.{ℕ, suc, zero, Bool, ◌≡◌, ◌≤◌, ◌<◌, ◌⊎◌, inl, inr, List, [], ◌∷◌, ◌++◌, length, get_or, sym, subst, arith}
 use Rattle.std.specs.List.{Contains}
 use Rattle.std.proofs.lemmas.List.{length_push, get_or_append_left, get_or_push}
@@ -11,7 +11,7 @@ use Rattle.plan_net.specs.Trails.{IsCaughtOpen, IsTrail}
 use Rattle.plan_net.proofs.RowLemmas.{arc_ends}
 use Rattle.plan_net.proofs.RisingLemmas.{HoldsOnce-push, least_once}
 
--- an activity before which is none caught but the open ones
+-- the least open predecessor is the least one in the largest set, if that set is the open activities
 pub least_before : (net : Net) (placed : List Bool) (at i : ℕ) → IsWithinLimits net → IsCaughtOpen net placed → IsLeast (λ h. IsArc net h at × IsOpen placed h) i → IsLeastCaughtBefore net at i
 least_before net placed at i limits open_ones least =
     (((open_ones i).1 ((arc_ends net i at limits least.0.0).0, least.0.1), least.0.0), λ v both. least.1 v (both.1, ((open_ones v).0 both.0).1))
@@ -31,7 +31,7 @@ IsTrail-push net trail at i walked fresh before = record {
   steps k within (inr higher) =
       subst (Comes net k) (sym (get_or_push trail at 0 k (last k higher within))) (subst (λ (n : ℕ). Comes net n at) (last k higher within) walked.next)
 
--- by so many steps one comes to one activity
+-- the walk reaches exactly one activity by a number of steps
 pub comes_once : (net : Net) (steps a b : ℕ) → Comes net steps a → Comes net steps b → a ≡ b
 comes_once net zero a b first second = least_once (IsCaught net) a b first second
 comes_once net (suc steps) a b (h, comes_h, before_a) (k, comes_k, before_b) =
@@ -39,6 +39,6 @@ comes_once net (suc steps) a b (h, comes_h, before_a) (k, comes_k, before_b) =
     let before_a' : IsLeastCaughtBefore net k a = subst (λ (x : ℕ). IsLeastCaughtBefore net x a) same before_a in
     least_once (λ g. IsCaught net g × IsArc net g k) a b before_a' before_b
 
--- the step that leads on from where one comes
+-- one more step of the walk
 pub step_from : (net : Net) (steps k j : ℕ) → Comes net steps k → Comes net (suc steps) j → IsLeastCaughtBefore net k j
 step_from net steps k j comes (h, comes_h, before) = subst (λ (x : ℕ). IsLeastCaughtBefore net x j) (comes_once net steps h k comes_h comes) before

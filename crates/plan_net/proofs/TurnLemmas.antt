@@ -1,4 +1,4 @@
--- The search for an order: what one turn adds, and what is left where it ends.
+-- The search for an order: one step, and the state at its end.
 use Rattle.std.proofs.Common.{ℕ, suc, zero, Bool, true, false, ◌≡◌, ◌≢◌, ◌+◌, ◌-◌, ◌≤◌, ◌<◌, ◌↔◌, ◌⊎◌, inl, inr, List, [], ◌∷◌, ◌++◌, length, take, get_or, set, replicate, refl, sym, ◌∙◌, subst, arith, get_or-set_same, get_or-set_other}
 use Rattle.std.specs.List.{Contains}
 use Rattle.std.proofs.lemmas.List.{length-set, length_push, length-replicate, get_or_append_left, get_or_push, get_or-replicate, take-append-le, take_all}
@@ -11,7 +11,7 @@ use Rattle.plan_net.specs.Placed.{IsPlaced, IsOpen, IsReady, open_count, IsPlace
 use Rattle.plan_net.proofs.RowLemmas.{arc_ends}
 use Rattle.plan_net.proofs.RisingLemmas.{place_in, rising_at_most}
 
--- marks none of which is set
+-- marks of which none is set
 pub open_count-replicate : (n : ℕ) → open_count (replicate n false) ≡ n
 open_count-replicate zero = refl
 open_count-replicate (suc n) = omega (arith, open_count-replicate n)
@@ -24,14 +24,14 @@ open_count-set (false ∷ marks) zero within is = omega arith
 open_count-set (true ∷ marks) (suc i) within is = open_count-set marks i (omega arith) is
 open_count-set (false ∷ marks) (suc i) within is = omega (arith, open_count-set marks i (omega arith) is)
 
--- where no mark is left to set, each is set
+-- if no mark is left to set, each is set
 pub none_open : (marks : List Bool) → open_count marks ≡ 0 → (i : ℕ) → i < length marks → get_or marks i false ≡ true
 none_open [] none i within = absurd (omega arith)
 none_open (true ∷ marks) none zero within = refl
 none_open (true ∷ marks) none (suc i) within = none_open marks none i (omega arith)
 none_open (false ∷ marks) none i within = absurd (omega arith)
 
--- where each mark is set, none is left
+-- if each mark is set, none is left
 pub all_set : (marks : List Bool) → ((i : ℕ) → i < length marks → get_or marks i false ≡ true) → open_count marks ≡ 0
 all_set [] each = refl
 all_set (true ∷ marks) each = all_set marks (λ i within. each (suc i) (omega arith))
@@ -69,7 +69,7 @@ pub comes_ready : (net : Net) (order : List ℕ) (placed : List Bool) → IsWith
 comes_ready net order placed limits turns j (activity, misses, before) =
     (activity, still_open net order placed turns j activity misses, λ i arc. (turns.marks i (arc_ends net i j limits arc).0).1 (before i arc))
 
--- the mark of one more activity is set, which goes to the end of the list
+-- one more activity is marked and appended to the list
 pub marks_push : (net : Net) (list : List ℕ) (marks : List Bool) (j : ℕ) → IsActivity net j →
     j - 1 < length marks → ((h : ℕ) → IsActivity net h → IsPlaced marks h ↔ Contains list h) → (h : ℕ) →
     IsActivity net h → IsPlaced (set marks (j - 1) true) h ↔ Contains (list ++ j ∷ []) h
@@ -144,7 +144,7 @@ IsStuckBelowBut-placed net placed j limits activity below h activity' lower is_o
   by_case (inl same) = inl (subst (λ (i : ℕ). IsArc net i h) same pred.1)
   by_case (inr other) = inr (pred.0, pred.1, kept pred.0 (arc_ends net pred.0 h limits pred.1).0.0 other ∙ pred.2)
 
--- none can come up to where the successors of j have an open predecessor
+-- none can come up to an activity if the successors of j up to it have an open predecessor
 IsStuckBelow-succs : (net : Net) (placed : List Bool) (j first : ℕ) (succs : List ℕ) → ListsRising (IsArc net j) succs → IsStuckBelowBut net placed j → first ≤ j
     → ((m : ℕ) → m < length succs → get_or succs m 0 < first → (i : ℕ) × IsArc net i (get_or succs m 0) × IsOpen placed i) → IsStuckBelow net placed first
 IsStuckBelow-succs net placed j first succs listed below low held h activity lower is_open = by_case (below h activity (omega arith) is_open) where
@@ -155,17 +155,17 @@ IsStuckBelow-succs net placed j first succs listed below low held h activity low
       let below' : get_or succs place.0 0 < first = omega (arith, place.2, lower) in
       subst (λ (k : ℕ). (i : ℕ) × IsArc net i k × IsOpen placed i) place.2 (held place.0 place.1 below')
 
--- up to one of them, where those before it do
+-- up to one of them, if those before it have one
 pub IsStuckBelow-at : (net : Net) (placed : List Bool) (j at : ℕ) (succs : List ℕ) → ListsRising (IsArc net j) succs → IsStuckBelowBut net placed j → at < length succs → get_or succs at 0 < j
     → ((m : ℕ) → m < at → get_or succs m 0 < j → (i : ℕ) × IsArc net i (get_or succs m 0) × IsOpen placed i) → IsStuckBelow net placed (get_or succs at 0)
 IsStuckBelow-at net placed j at succs listed below within low held =
     IsStuckBelow-succs net placed j (get_or succs at 0) succs listed below (omega (arith, low))
     (λ m inside lower. before m inside lower (cases_lt m at)) where
-  before : (m : ℕ) → m < length succs → get_or succs m 0 < get_or succs at 0 → (m < at) ⊎ (at ≤ m) → (i : ℕ) × IsArc net i (get_or succs m 0) × IsOpen placed i
-  before m inside lower (inl earlier) = held m earlier (omega (arith, lower, low))
-  before m inside lower (inr later) = let up : get_or succs at 0 ≤ get_or succs m 0 = rising_at_most succs listed.rising at m later inside in absurd (omega (arith, up, lower))
+      before : (m : ℕ) → m < length succs → get_or succs m 0 < get_or succs at 0 → (m < at) ⊎ (at ≤ m) → (i : ℕ) × IsArc net i (get_or succs m 0) × IsOpen placed i
+      before m inside lower (inl earlier) = held m earlier (omega (arith, lower, low))
+      before m inside lower (inr later) = let up : get_or succs at 0 ≤ get_or succs m 0 = rising_at_most succs listed.rising at m later inside in absurd (omega (arith, up, lower))
 
--- up to the one behind j, where all below j do
+-- up to the one after j, if all below j have one
 pub IsStuckBelow-behind : (net : Net) (placed : List Bool) (j : ℕ) (succs : List ℕ) → ListsRising (IsArc net j) succs → IsStuckBelowBut net placed j → IsPlaced placed j
     → ((m : ℕ) → m < length succs → get_or succs m 0 < j → (i : ℕ) × IsArc net i (get_or succs m 0) × IsOpen placed i) → IsStuckBelow net placed (j + 1)
 IsStuckBelow-behind net placed j succs listed below marked held h activity lower is_open = by_case (cases_lt h j) where

@@ -1,8 +1,8 @@
--- The cycle that is named where a network has one (docs/definitions.md, "Networks").
+-- The cycle that the error of a network names (docs/definitions.md, "Networks").
 use Rattle.std.specs.Prelude.{ℕ, suc, zero, Bool, true, ◌≡◌, ◌≢◌, ◌+◌, ◌-◌, ◌≤◌, ◌<◌, ◌↔◌, List, length, slice_index, Contains}
 use Rattle.plan_net.specs.Network.{Net, IsArc, IsLeast}
 
--- each member of the set, which is given by its test, has a predecessor in it
+-- each member of a set, given as a test, has a predecessor in it
 abbrev pub IsFed : Net → (ℕ → Bool) → Type 0
 IsFed net set = (j : ℕ) → set j ≡ true → (i : ℕ) × (set i ≡ true) × IsArc net i j
 
@@ -14,12 +14,12 @@ IsCaught net j = (set : ℕ → Bool) × IsFed net set × (set j ≡ true)
 abbrev pub IsLeastCaughtBefore : Net → ℕ → ℕ → Type 0
 IsLeastCaughtBefore net j i = IsLeast (λ h. IsCaught net h × IsArc net h j) i
 
--- from the least member of that set one comes to j by so many steps, each to the least predecessor in it
+-- a walk of so many steps from the least member of that set, each to the least predecessor in it, ends at j
 abbrev pub Comes : Net → ℕ → ℕ → Type 0
 Comes net zero j = IsLeast (IsCaught net) j
 Comes net (suc steps) j = (k : ℕ) × Comes net steps k × IsLeastCaughtBefore net k j
 
--- one comes to j again and again
+-- the walk reaches j again after every number of steps
 abbrev pub Recurs : Net → ℕ → Type 0
 Recurs net j = (steps : ℕ) → (later : ℕ) × (steps ≤ later) × Comes net later j
 

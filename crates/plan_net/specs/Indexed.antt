@@ -5,16 +5,16 @@ use Rattle.plan_net.specs.Network.{Net, count_of, IsArc, ListsRising}
 use Rattle.plan_net.specs.Limits.{IsWithinLimits}
 use Rattle.plan_net.specs.declared.arcs.Arcs.TheInside.{Inside}
 
--- the elements of the row that there may be
+-- the elements of a row, none if there is no row
 abbrev pub row_items : {T : Type 0} → Option (Vec T Global) → List T
 row_items None = []
 row_items (Some row) = row.items
 
--- the row at the place k
+-- the row at index k
 abbrev pub row_at : {T : Type 0} → List (Vec T Global) → ℕ → List T
 row_at rows k = row_items (slice_get rows k)
 
--- the number that stands beside the first i
+-- the value at the index of the first i, 0 if there is none
 abbrev pub beside : List ℕ → List ℕ → ℕ → ℕ
 beside [] values i = 0
 beside (j ∷ js) values i = cond (nat_eq j i) (slice_index values 0) (beside js (drop 1 values) i)
@@ -31,7 +31,7 @@ net_of a = record {
   lags = map (lag_in a.preds.items a.lags.items) a.arcs.items;
 }
 
--- the network is within the limits, and the rows beside it are those of its arcs
+-- the network is within the limits, and the tables are those of its arcs
 pub record IsIndexed (a : Inside) : Type 0 where
   pub limits : IsWithinLimits (net_of a)
   pub preds_count : length a.preds.items ≡ count_of (net_of a)

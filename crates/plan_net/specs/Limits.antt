@@ -1,4 +1,5 @@
--- The limits of a network, in numbers, so that they hold the program's constants to them (docs/definitions.md, "Networks").
+-- The limits of a network as numbers; proofs compare the program's constants with them (docs/definitions.md,
+-- "Networks").
 use Rattle.std.specs.Prelude.{ℕ, ◌≡◌, ◌-◌, ◌≤◌, ◌<◌, length, take, slice_index, slice_get, Some, Contains, All, sum}
 use Rattle.plan_net.specs.Network.{Net, count_of, IsActivity}
 use Rattle.plan_net.specs.Path.{IsAcyclic}
@@ -11,7 +12,7 @@ fewest_activities = 2
 abbrev pub most_activities : ℕ
 most_activities = 502
 
--- the longest that one activity lasts
+-- the greatest duration of one activity
 abbrev pub longest_duration : ℕ
 longest_duration = 10000
 
@@ -23,11 +24,11 @@ longest_sum = 1000000
 abbrev pub longest_lag : ℕ
 longest_lag = 10000
 
--- not too few activities and not too many
+-- the number of activities is within the limits
 abbrev pub HasGoodSize : Net → Type 0
 HasGoodSize net = (fewest_activities ≤ count_of net) × (count_of net ≤ most_activities)
 
--- j doesn't last too long, and neither do 1 to j one after another
+-- the duration of j and the sum of the durations of 1 to j are within the limits
 abbrev pub IsGoodDuration : Net → ℕ → Type 0
 IsGoodDuration net j =
     (slice_index net.durations (j - 1) ≤ longest_duration) × (sum (take j net.durations) ≤ longest_sum)
@@ -49,7 +50,7 @@ IsNewArc net k = (arc : ℕ × ℕ) → slice_get net.arcs k ≡ Some arc → Co
 abbrev pub HasNewArcs : Net → Type 0
 HasNewArcs net = (k : ℕ) → k < length net.arcs → IsNewArc net k
 
--- each arc has a lag beside it, not too long
+-- each arc has a lag within the limit
 abbrev pub HasGoodLags : Net → Type 0
 HasGoodLags net = (length net.lags ≡ length net.arcs) × All (λ w. w ≤ longest_lag) net.lags
 

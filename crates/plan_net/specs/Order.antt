@@ -13,11 +13,11 @@ pub record IsLeastOrder (net : Net) (order : List ℕ) : Type 0 where
   pub each : (j : ℕ) → IsActivity net j → Contains order j
   pub least : (k : ℕ) → k < length order → IsLeast (CanCome net (take k order)) (slice_index order k)
 
--- i stands in the list before the place k
+-- i is in the list before index k
 abbrev pub StandsBefore : List ℕ → ℕ → ℕ → Type 0
 StandsBefore order k i = Contains (take k order) i
 
--- each predecessor of an activity stands earlier in the order
+-- each predecessor of an activity is earlier in the order
 abbrev pub IsTopological : Net → List ℕ → Type 0
 IsTopological net order =
     (k i : ℕ) → k < length order → IsArc net i (slice_index order k) → StandsBefore order k i

@@ -2,12 +2,12 @@
 use Rattle.std.specs.Prelude.{ℕ, ◌≡◌, ◌+◌, ◌≤◌, List, [], ◌∷◌, length}
 use Rattle.plan_net.specs.Network.{Net, IsActivity, IsArc, duration_of, lag_of}
 
--- from i the arcs lead through the activities of `others`, one after another
+-- from i, the arcs lead through the activities of `others` in order
 abbrev pub IsWalk : Net → ℕ → List ℕ → Type 0
 IsWalk net i [] = Unit {0}
 IsWalk net i (j ∷ others) = IsArc net i j × IsWalk net j others
 
--- a path, a nonempty list of activities whose neighbours are arcs: its first activity, and the others
+-- a path: its first activity and the others; each two neighbours are an arc
 abbrev pub IsPath : Net → ℕ → List ℕ → Type 0
 IsPath net i others = IsActivity net i × IsWalk net i others
 
@@ -16,7 +16,7 @@ abbrev pub last_of : ℕ → List ℕ → ℕ
 last_of i [] = i
 last_of i (j ∷ others) = last_of j others
 
--- what a path takes after the end of its first activity
+-- the time from the end of the first activity to the end of the path
 abbrev pub length_after : Net → ℕ → List ℕ → ℕ
 length_after net i [] = 0
 length_after net i (j ∷ others) = lag_of net i j + duration_of net j + length_after net j others

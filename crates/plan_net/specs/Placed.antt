@@ -1,4 +1,4 @@
--- Marks on the activities, and the order in which they were set: what the search for an order keeps.
+-- Marks on the activities, and the order in which they were set, as the search for an order keeps them.
 use Rattle.std.specs.Prelude.{ℕ, Bool, true, false, ◌≡◌, ◌+◌, ◌-◌, ◌<◌, ◌↔◌, ◌⊎◌, List, [], ◌∷◌, length, take, slice_index, slice_index_or, Contains}
 use Rattle.plan_net.specs.Network.{Net, count_of, IsActivity, IsArc, IsLeast}
 use Rattle.plan_net.specs.Order.{CanCome}
@@ -15,7 +15,7 @@ IsOpen placed j = slice_index_or placed (j - 1) false ≡ false
 abbrev pub IsReady : Net → List Bool → ℕ → Type 0
 IsReady net placed j = IsActivity net j × IsOpen placed j × ((i : ℕ) → IsArc net i j → IsPlaced placed i)
 
--- how many marks are not set
+-- the number of marks that are not set
 abbrev pub open_count : List Bool → ℕ
 open_count [] = 0
 open_count (true ∷ marks) = open_count marks

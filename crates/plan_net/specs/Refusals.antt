@@ -22,7 +22,7 @@ abbrev pub IsFirstDoubleArc : Net → ℕ × ℕ → Type 0
 IsFirstDoubleArc net arc =
     (k : ℕ) × (slice_get net.arcs k ≡ Some arc) × Contains (take k net.arcs) arc × ((m : ℕ) → m < k → IsNewArc net m)
 
--- the fault is the first one that the network has
+-- the error is the first one of the network
 abbrev pub IsFirstFault : Net → NetFault → Type 0
 IsFirstFault net NoMemory = Unit {0}
 IsFirstFault net Size = HasGoodSize net → ⊥
@@ -40,7 +40,7 @@ IsCycleOrMemory (Cycle members) = Unit {0}
 IsCycleOrMemory NoMemory = Unit {0}
 IsCycleOrMemory _ = ⊥
 
--- the fault is the first one of a change of the lag from i to j to w
+-- the error is the first one of setting the lag from i to j to w
 abbrev pub IsLagFault : Net → ℕ → ℕ → ℕ → NetFault → Type 0
 IsLagFault net i j w NoMemory = ⊥
 IsLagFault net i j w Size = ⊥
@@ -51,7 +51,7 @@ IsLagFault net i j w (Cycle members) = ⊥
 IsLagFault net i j w (NoArc h k) = (h ≡ i) × (k ≡ j) × (IsArc net i j → ⊥)
 IsLagFault net i j w (BadLag h k) = (h ≡ i) × (k ≡ j) × IsArc net i j × (longest_lag < w)
 
--- a fault that names a cycle names one of the network
+-- an error that names a cycle names a cycle of the network
 abbrev pub NamesCycle : Net → NetFault → Type 0
 NamesCycle net NoMemory = Unit {0}
 NamesCycle net Size = Unit {0}

@@ -1,4 +1,4 @@
--- The walk from predecessor to predecessor that meets the named cycle: what the search for it keeps.
+-- The walk from predecessor to predecessor that finds the named cycle.
 use Rattle.std.specs.Prelude.{ℕ, Bool, ◌≢◌, ◌↔◌, ◌+◌, ◌-◌, ◌≤◌, ◌<◌, List, length, slice_index, Contains}
 use Rattle.plan_net.specs.Network.{Net, IsActivity}
 use Rattle.plan_net.specs.Cycle.{IsCaught, IsLeastCaughtBefore, Comes, Recurs}
@@ -8,7 +8,7 @@ use Rattle.plan_net.specs.Placed.{IsOpen}
 abbrev pub IsCaughtOpen : Net → List Bool → Type 0
 IsCaughtOpen net placed = (j : ℕ) → IsCaught net j ↔ (IsActivity net j × IsOpen placed j)
 
--- the activities to which one comes, up to `at`
+-- a walk without a repeated activity, and `at`, the activity after its last
 pub record IsTrail (net : Net) (trail : List ℕ) (at : ℕ) : Type 0 where
   pub once : (a b : ℕ) → a < b → b < length trail → slice_index trail a ≢ slice_index trail b
   pub steps : (k : ℕ) → k < length trail → Comes net k (slice_index trail k)

@@ -22,7 +22,7 @@ pub struct Arcs {
     arcs: Vec<(u32, u32)>,
     preds: Vec<Vec<u32>>,
     succs: Vec<Vec<u32>>,
-    // beside each predecessor the lag of its arc
+    // for each entry of `preds` the lag of its arc
     lags: Vec<Vec<u64>>,
 }
 
@@ -38,7 +38,7 @@ impl Model for Arcs {
     ghost invariant = { IsIndexed };
 }
 
-// The first fault of a network that shows without a table.
+// Returns the first error of a network that needs no table: its size, a duration or an end of an arc.
 fn plain_fault(durations: &[u64], arcs: &[(u32, u32)]) -> Option<NetFault>
     ensures some { IfSome result (IsFirstFault (unlagged durations.now arcs.now)) }
     ensures cycle { IfSome result (NamesCycle (unlagged durations.now arcs.now)) }
@@ -59,7 +59,8 @@ fn plain_fault(durations: &[u64], arcs: &[(u32, u32)]) -> Option<NetFault>
 }
 
 impl Arcs {
-    /// The network of these durations and arcs without lags, or the first fault that it has but for a cycle.
+    /// Returns the network of these durations and arcs, all lags 0, or its first error. Doesn't test for a
+    /// cycle.
     pub fn new(alloc: Global, durations: Vec<u64>, arcs: Vec<(u32, u32)>) -> Result<Self, NetFault>
         ensures accepted { IfOk result (λ made. (made ≡ unlagged durations.items arcs.items)
             × IsWithinLimits made) }
@@ -86,7 +87,7 @@ impl Arcs {
         })
     }
 
-    /// The network without lags of these durations and of the arcs of these rows of successors.
+    /// Returns the network of these durations and of the arcs of these rows of successors, all lags 0.
     pub fn of_rows(
         alloc: Global,
         durations: Vec<u64>,
@@ -128,7 +129,7 @@ impl Arcs {
         self.durations[j as usize - 1]
     }
 
-    /// The arcs, as they were handed in.
+    /// Returns the arcs in the order of the input.
     pub fn arcs(&self) -> &[(u32, u32)]
         ensures value { result.now ≡ self.now.arcs }
         ensures lags { self.now.lags ≡ map (λ arc. lag_of self.now arc.0 arc.1) self.now.arcs }
@@ -136,7 +137,7 @@ impl Arcs {
         self.arcs.as_slice()
     }
 
-    /// The predecessors, rising.
+    /// Returns the predecessors of activity `j` in rising order.
     pub fn preds(&self, j: u32) -> &[u32]
         requires { IsActivity self.now j }
         ensures exact { ListsRising (λ i. IsArc self.now i j) result.now }
@@ -146,7 +147,7 @@ impl Arcs {
         self.preds[j as usize - 1].as_slice()
     }
 
-    /// The successors, rising.
+    /// Returns the successors of activity `j` in rising order.
     pub fn succs(&self, j: u32) -> &[u32]
         requires { IsActivity self.now j }
         ensures exact { ListsRising (IsArc self.now j) result.now }
@@ -156,7 +157,7 @@ impl Arcs {
         self.succs[j as usize - 1].as_slice()
     }
 
-    /// The lag of the arc from `i` to `j`, if there is one.
+    /// Returns the lag of the arc from `i` to `j`, or `None` if there is no such arc.
     pub fn lag(&self, i: u32, j: u32) -> Option<u64>
         ensures some { IfSome result (λ w. IsArc self.now i j × (w ≡ lag_of self.now i j)) }
         ensures none { IfNone result (IsArc self.now i j → ⊥) }
@@ -167,7 +168,7 @@ impl Arcs {
         }
     }
 
-    /// The lags of the arcs to `j`, each at the place of its predecessor.
+    /// Returns the lags of the arcs to activity `j`, in the order of `preds(j)`.
     pub fn lags_into(&self, j: u32) -> &[u64]
         requires { IsActivity self.now j }
         ensures value { (row : List ℕ) → ListsRising (λ i. IsArc self.now i j) row →
@@ -177,7 +178,7 @@ impl Arcs {
         self.lags[j as usize - 1].as_slice()
     }
 
-    /// Gives the arc from `i` to `j` the lag.
+    /// Sets the lag of the arc from `i` to `j`.
     pub fn set_lag(&mut self, i: u32, j: u32, lag: u64) -> Result<(), NetFault>
         ensures ok { OnOk result (IsArc self.old i j × (lag ≤ LONGEST_LAG) ×
             (self.new ≡ with_lag self.old i j lag)) }

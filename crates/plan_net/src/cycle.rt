@@ -1,4 +1,5 @@
-//! The named cycle: the walk from predecessor to predecessor, the ring that it closes.
+//! The search for the cycle that an error names: a walk from predecessor to predecessor until an activity
+//! recurs.
 
 ghost use Rattle.std.specs.Prelude.{◌≡◌, length, IfOk, Contains, ◌<◌, ◌≤◌, slice_index, EachIndex};
 ghost use Rattle.plan_net.specs.Network.{IsLeast, count_of};
@@ -10,7 +11,8 @@ use super::arcs::Arcs;
 use super::order::open_pred;
 use std::alloc::{AllocError, Global};
 
-// The activities met from `first` on, each the least open predecessor of the one before, and the first that is met again.
+// Returns a walk from `first`, on which each activity is the least open predecessor of the one before it, and
+// the first activity that recurs.
 fn trail_from(
     alloc: Global,
     arcs: &Arcs,
@@ -38,7 +40,7 @@ fn trail_from(
     Ok((trail, at))
 }
 
-// Where the least member stands.
+// Returns the index of the least member.
 fn place_of_least(members: &[u32]) -> usize
     requires { 0 < length members.now }
     ensures within { result < length members.now }
@@ -54,7 +56,7 @@ fn place_of_least(members: &[u32]) -> usize
     place
 }
 
-// Where the activity stands that is met again.
+// Returns an index of activity `at` in the trail.
 fn place_of_met(trail: &[u32], at: u32) -> usize
     requires { Contains trail.now at }
     ensures within { result < length trail.now }
@@ -69,7 +71,8 @@ fn place_of_met(trail: &[u32], at: u32) -> usize
     place
 }
 
-/// The named cycle, where no more activity can come.
+/// Returns the named cycle of a network in which every open activity has an open predecessor. `first` is the
+/// least open activity.
 pub fn named_cycle(
     alloc: Global,
     arcs: &Arcs,

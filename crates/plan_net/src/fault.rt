@@ -1,9 +1,9 @@
-//! `NetFault`.
+//! The errors of this crate.
 
 use std::alloc::{AllocError, AllocFailed};
 use thiserror::Error;
 
-/// Why a network was refused, or a change of a lag.
+/// An error of a network or of a change of a lag.
 #[derive(Debug, Drop, Error)]
 pub enum NetFault {
     /// Memory ran out.
@@ -15,13 +15,13 @@ pub enum NetFault {
     /// The duration of this activity is above 10,000, or those up to it add up to more than 1,000,000.
     #[error("the duration of activity {0} is above a limit")]
     BadDuration(u32),
-    /// An end of this arc is no activity.
+    /// An end of this arc isn't an activity.
     #[error("an end of the arc from {0} to {1} is no activity")]
     BadArc(u32, u32),
     /// This arc was given before.
     #[error("the arc from {0} to {1} was given before")]
     DoubleArc(u32, u32),
-    /// These activities form a cycle: along the arcs, from the least of them.
+    /// These activities form a cycle, listed along the arcs from the least of them.
     #[error("a cycle")]
     Cycle(Vec<u32>),
     /// There is no arc between these two.

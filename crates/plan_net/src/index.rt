@@ -1,4 +1,4 @@
-//! From the number of an activity to its index in a list.
+//! The index of an activity in a list.
 
 ghost use Rattle.std.specs.Prelude.{◌≡◌, ◌-◌, ◌≤◌};
 

@@ -1,4 +1,4 @@
-//! `Network`, its facts, and all public calls with their contracts. Begin here.
+//! The type `Network` and its public functions.
 
 ghost use Rattle.std.specs.Prelude.{◌≡◌, ℕ, List, ◌≤◌, [], length, map, IfOk, IfErr, OnOk, OnErr, IfSome, IfNone, slice_index, EachIndex};
 ghost use Rattle.plan_net.specs.Network.{IsActivity, IsArc, ListsRising, duration_of, count_of, lag_of, unlagged, with_lag};
@@ -37,7 +37,7 @@ impl Model for Network {
     ghost invariant = { λ a. IsSound a.arcs × IsLeastOrder a.arcs a.order.items };
 }
 
-// The network of these arcs, unless they have a cycle.
+// Returns the network of these arcs, or an error that names their cycle.
 fn ordered(alloc: Global, arcs: Arcs) -> Result<Network, NetFault>
     requires { IsWithinLimits arcs }
     ensures accepted { IfOk result (λ net. (net ≡ arcs) × IsSound net) }
@@ -53,27 +53,28 @@ fn ordered(alloc: Global, arcs: Arcs) -> Result<Network, NetFault>
 }
 
 impl Network {
-    /// The network of these durations and arcs, all lags 0.
+    /// Returns the network of these durations and arcs, all lags 0.
     ///
-    /// The duration at place `k` is that of activity `k + 1`; an arc is the pair of its ends. The faults are
-    /// looked for in this order: [`NetFault::Size`], [`NetFault::BadDuration`], [`NetFault::BadArc`],
-    /// [`NetFault::DoubleArc`], [`NetFault::Cycle`]; [`NetFault::NoMemory`] can replace any result.
+    /// The duration at index `k` is that of activity `k + 1`. An arc is a pair of predecessor and successor.
+    /// The errors are tested in this order: [`NetFault::Size`], [`NetFault::BadDuration`],
+    /// [`NetFault::BadArc`], [`NetFault::DoubleArc`], [`NetFault::Cycle`]. Any call can fail with
+    /// [`NetFault::NoMemory`].
     pub fn new(alloc: Global, durations: Vec<u64>, arcs: Vec<(u32, u32)>) -> Result<Self, NetFault>
         ensures accepted { IfOk result (λ net. (net ≡ unlagged durations.items arcs.items)
             × IsSound net) }
         ensures refused { IfErr result (IsFirstFault (unlagged durations.items arcs.items)) }
-        // the members of a named cycle, closed by the first of them, are a cycle
+        // the members of the named cycle, followed by the first of them, form a cycle
         ensures cycle { IfErr result (NamesCycle (unlagged durations.items arcs.items)) }
     {
         let arcs = Arcs::new(alloc, durations, arcs)?;
         ordered(alloc, arcs)
     }
 
-    /// The network of these durations and rows of successors, all lags 0: the row at place `k` has the
-    /// successors of activity `k + 1`. The arcs are those of the rows, one row after another.
+    /// Returns the network of these durations and rows of successors, all lags 0. The row at index `k`
+    /// contains the successors of activity `k + 1`. The arcs are those of the rows, one row after another.
     ///
-    /// The limits are the caller's, so it is refused with [`NetFault::Cycle`] alone, or with
-    /// [`NetFault::NoMemory`] in place of any answer.
+    /// The caller must keep the limits, so the only errors are [`NetFault::Cycle`] and
+    /// [`NetFault::NoMemory`].
     pub fn of_rows(alloc: Global, durations: Vec<u64>, rows: &[Vec<u32>]) -> Result<Self, NetFault>
         requires size { HasGoodSize (unlagged durations.items []) }
         requires durations { HasGoodDurations (unlagged durations.items []) }
@@ -90,7 +91,7 @@ impl Network {
         ordered(alloc, arcs)
     }
 
-    /// How many activities there are, from 2 to 502.
+    /// Returns the number of activities, 2–502.
     pub fn len(&self) -> usize
         ensures count { result ≡ count_of self.now }
         ensures sound { IsSound self.now }
@@ -98,7 +99,7 @@ impl Network {
         self.arcs.len()
     }
 
-    /// How long activity `j` lasts.
+    /// Returns the duration of activity `j` in whole time units.
     pub fn duration(&self, j: u32) -> u64
         requires { IsActivity self.now j }
         ensures value { result ≡ duration_of self.now j }
@@ -107,16 +108,16 @@ impl Network {
         self.arcs.duration(j)
     }
 
-    /// The arcs, each as the pair of its ends, in the order in which they were handed in.
+    /// Returns the arcs in the order of the input, each as a pair of predecessor and successor.
     pub fn arcs(&self) -> &[(u32, u32)]
         ensures value { result.now ≡ self.now.arcs }
-        // the lags are told by `lag`, arc by arc
+        // the lags beside the arcs are those that `lag` returns
         ensures lags { self.now.lags ≡ map (λ arc. lag_of self.now arc.0 arc.1) self.now.arcs }
     {
         self.arcs.arcs()
     }
 
-    /// The predecessors of activity `j`, rising.
+    /// Returns the predecessors of activity `j` in rising order.
     pub fn preds(&self, j: u32) -> &[u32]
         requires { IsActivity self.now j }
         ensures exact { ListsRising (λ i. IsArc self.now i j) result.now }
@@ -126,7 +127,7 @@ impl Network {
         self.arcs.preds(j)
     }
 
-    /// The successors of activity `j`, rising.
+    /// Returns the successors of activity `j` in rising order.
     pub fn succs(&self, j: u32) -> &[u32]
         requires { IsActivity self.now j }
         ensures exact { ListsRising (IsArc self.now j) result.now }
@@ -136,7 +137,8 @@ impl Network {
         self.arcs.succs(j)
     }
 
-    /// All activities, each after its predecessors, always the least one that can come.
+    /// Returns all activities, each after its predecessors. Each entry is the least activity that can come
+    /// next.
     pub fn order(&self) -> &[u32]
         ensures least { IsLeastOrder self.now result.now }
         ensures topological { IsTopological self.now result.now }
@@ -146,7 +148,7 @@ impl Network {
         self.order.as_slice()
     }
 
-    /// The lag of the arc from `i` to `j`; `None` if there is no such arc.
+    /// Returns the lag of the arc from `i` to `j`, or `None` if there is no such arc.
     pub fn lag(&self, i: u32, j: u32) -> Option<u64>
         ensures some { IfSome result (λ w. IsArc self.now i j × (w ≡ lag_of self.now i j)) }
         ensures none { IfNone result (IsArc self.now i j → ⊥) }
@@ -155,7 +157,7 @@ impl Network {
         self.arcs.lag(i, j)
     }
 
-    /// The lag of the arc from `i` to `j`, of which the caller knows.
+    /// Returns the lag of the arc from `i` to `j`, which must exist.
     pub fn lag_between(&self, i: u32, j: u32) -> u64
         requires { IsArc self.now i j }
         ensures value { result ≡ lag_of self.now i j }
@@ -167,7 +169,7 @@ impl Network {
         }
     }
 
-    /// The lags of the arcs to `j`, each at the place that its predecessor has in `preds`.
+    /// Returns the lags of the arcs to activity `j`, in the order of `preds(j)`.
     pub fn lags_into(&self, j: u32) -> &[u64]
         requires { IsActivity self.now j }
         ensures value { (row : List ℕ) → ListsRising (λ i. IsArc self.now i j) row →
@@ -177,7 +179,7 @@ impl Network {
         self.arcs.lags_into(j)
     }
 
-    /// Gives the arc from `i` to `j` the lag. Allocates nothing.
+    /// Sets the lag of the arc from `i` to `j`, in whole time units. Allocates nothing.
     ///
     /// Returns the error [`NetFault::NoArc`] if there is no such arc, then [`NetFault::BadLag`] if the lag
     /// is above 10,000.

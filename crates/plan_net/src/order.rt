@@ -1,4 +1,4 @@
-//! The least order, and the least activity that is left open.
+//! The least topological order, and the least activity that it leaves open.
 
 ghost use Rattle.std.specs.Prelude.{◌≡◌, ℕ, ◌≤◌, length, IfOk, IfSome, IfNone};
 ghost use Rattle.plan_net.specs.Network.{IsActivity, IsArc, IsLeast, count_of};
@@ -8,7 +8,7 @@ use super::arcs::Arcs;
 use super::limits::MOST_ACTIVITIES;
 use std::alloc::{AllocError, Global};
 
-/// The least open predecessor of `j`, if there is one.
+/// Returns the least open predecessor of activity `j`, if there is one.
 pub fn open_pred(arcs: &Arcs, j: u32, placed: &[bool]) -> Option<u32>
     requires activity { IsActivity arcs.now j }
     requires whole { length placed.now ≡ count_of arcs.now }
@@ -23,7 +23,7 @@ pub fn open_pred(arcs: &Arcs, j: u32, placed: &[bool]) -> Option<u32>
     None
 }
 
-// The least activity that can come, if any can; none below `first` can.
+// Returns the least activity that can come, if there is one. No activity below `first` can come.
 fn least_ready(arcs: &Arcs, placed: &[bool], first: u32) -> Option<u32>
     requires whole { length placed.now ≡ count_of arcs.now }
     requires first { 1 ≤ first }
@@ -44,7 +44,8 @@ fn least_ready(arcs: &Arcs, placed: &[bool], first: u32) -> Option<u32>
     None
 }
 
-// Where to go on once `j` is placed: at the least of its successors below it that can come now, else behind it.
+// Returns the activity at which the search continues after `j`: the least successor below `j` that can come
+// now, or else `j + 1`.
 fn next_from(arcs: &Arcs, j: u32, placed: &[bool]) -> u32
     requires activity { IsActivity arcs.now j }
     requires whole { length placed.now ≡ count_of arcs.now }
@@ -62,7 +63,7 @@ fn next_from(arcs: &Arcs, j: u32, placed: &[bool]) -> u32
     j + 1
 }
 
-/// The activities that can come, in the order in which they come, and their marks.
+/// Returns the activities that can come, in the least order, and the marks of all activities.
 pub fn least_order(alloc: Global, arcs: &Arcs) -> Result<(Vec<u32>, Vec<bool>), AllocError>
     ensures order { IfOk result (λ found. IsPlacedOrder arcs.now found.0.items found.1.items) }
     ensures stuck { IfOk result (λ found. IsStuck arcs.now found.1.items) }
@@ -78,7 +79,7 @@ pub fn least_order(alloc: Global, arcs: &Arcs) -> Result<(Vec<u32>, Vec<bool>), 
     Ok((order, placed))
 }
 
-/// The least open activity, if there is one.
+/// Returns the least open activity, if there is one.
 pub fn first_open(placed: &[bool]) -> Option<u32>
     requires { length placed.now ≤ MOST_ACTIVITIES }
     ensures some { IfSome result (λ j. IsLeast

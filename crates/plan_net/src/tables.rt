@@ -10,7 +10,7 @@ ghost use Rattle.plan_net.specs.Indexed.{row_at};
 
 use std::alloc::{AllocError, Global};
 
-/// A table with a row for each activity and a mark in each row for each activity, none set.
+/// Returns a table of marks with a row and a column for each activity, none of them set.
 pub fn no_marks(alloc: Global, count: usize) -> Result<Vec<Vec<bool>>, AllocError>
     ensures square { IfOk result (λ marks. IsSquare count marks.items) }
     ensures empty { IfOk result (λ marks. HasNoMark marks.items) }
@@ -22,7 +22,8 @@ pub fn no_marks(alloc: Global, count: usize) -> Result<Vec<Vec<bool>>, AllocErro
     Ok(marks)
 }
 
-/// The first arc that equals an earlier one; without one, the mark of each arc is set, in the row of its end.
+/// Returns the first arc that equals an earlier one, if there is one. The marks must all be unset, and are
+/// changed.
 pub fn first_double_arc(
     durations: &[u64],
     arcs: &[(u32, u32)],
@@ -45,7 +46,7 @@ pub fn first_double_arc(
     None
 }
 
-/// A row of lags 0 beside each row.
+/// Returns a row of zero lags for each row, of the same length.
 pub fn no_lags(alloc: Global, rows: &[Vec<u32>]) -> Result<Vec<Vec<u64>>, AllocError>
     ensures { IfOk result (λ lags. AreNoLags rows.now lags.items) }
 {
@@ -56,7 +57,8 @@ pub fn no_lags(alloc: Global, rows: &[Vec<u32>]) -> Result<Vec<Vec<u64>>, AllocE
     Ok(lags)
 }
 
-// Where a number stands in a rising row. In one that has all numbers from 1 on, each stands at its own place.
+// Returns the index of a number in a rising row. Tries the index `i - 1` first, where a row of all numbers
+// from 1 contains `i`.
 fn place_in_row(row: &[u32], i: u32) -> Option<usize>
     requires { IsStrictlyIncreasing row.now }
     ensures some { IfSome result (λ place. (place < length row.now) ×
@@ -72,7 +74,7 @@ fn place_in_row(row: &[u32], i: u32) -> Option<usize>
     }
 }
 
-/// The row and the place in it of the arc from `i` to `j`, in the rows of the predecessors.
+/// Returns the index of the row and the index in it of the arc from `i` to `j`, in the rows of predecessors.
 pub fn place_in(rows: &[Vec<u32>], i: u32, j: u32) -> Option<(usize, usize)>
     requires { (k : ℕ) → k < length rows.now → IsStrictlyIncreasing (row_at rows.now k) }
     ensures some { IfSome result (λ place. (place.0 + 1 ≡ j) × (place.0 < length rows.now) ×

@@ -98,7 +98,7 @@ stream_listed name text s e = by_form (is_bare text) e
     by_form true e = by_name (bytes_eq name bare_name) refl e
     by_form false e = block_listed name (lines text) s e
 
--- one that isn't found isn't listed
+-- an instance that isn't found isn't listed
 pub stream_unlisted : (name text : List ℕ) → stream_of name text ≡ None → Contains (names_of text) name → ⊥
 stream_unlisted name text e h = by_form (is_bare text) e h
   where
@@ -116,7 +116,7 @@ stream_unlisted name text e h = by_form (is_bare text) e h
     by_form true e h = by_name (bytes_eq name bare_name) refl e h
     by_form false e h = block_unlisted name (lines text) e h
 
--- ---- no other check tells that an instance is missing
+-- ---- no other check reports a missing instance
 
 abbrev Avoids : {A : Type 0} → Result A Fault → Type 0
 Avoids read = (f : Fault) → read ≡ Err f → f.code ≢ code.NoInstance
@@ -228,12 +228,12 @@ located_unlisted name text good unlisted = ap (λ read. read >>= λ _. found_str
     by_stream None is = refl
     by_stream (Some s) is = absurd (unlisted (stream_listed name text s is))
 
--- the same of what a file isn't read for
+-- the same for the errors of a file
 pub missing_unlisted : (name text : List ℕ) (e : ReadError) (fault : FileFault) → Fails e (shop name text) → TellsError e fault → fault.code ≡ code.NoInstance → Contains (names_of text) name → ⊥
 missing_unlisted name text errors.Memory fault fails tells missing listed = let both : code.Memory ≡ code.NoInstance = sym tells.0 ∙ missing in absurd (cc)
 missing_unlisted name text (errors.Fault f) fault fails tells missing listed = shop_missing name text f fails (sym tells.0 ∙ missing) listed
 
--- a name that isn't listed is missing, whatever memory there is
+-- a name that isn't listed is missing, even if memory runs out
 pub unlisted_missing : (name text : List ℕ) (e : ReadError) (fault : FileFault) →
     ((f : Fault) → located name text ≡ Err f → e ≡ errors.Fault f) → TellsError e fault → plain text ≡ Ok tt →
     (Contains (names_of text) name → ⊥) → (fault.code ≡ code.NoInstance) × (fault.line ≡ last_line text)

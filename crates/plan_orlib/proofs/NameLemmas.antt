@@ -1,5 +1,6 @@
--- What a text isn't read for, and the names of a text that is.
-use Rattle.std.proofs.Common.{◌≡◌, ℕ, List, Result, Ok, Err, refl, sym, ◌∙◌, ◌⊎◌, inl, inr}
+-- The errors of a text, and the names of a text without errors.
+use Rattle.std.specs.Prelude.{MatchResult, IsErrAnd}
+use Rattle.std.proofs.Common.{◌≡◌, ℕ, List, Result, Ok, Err, refl, sym, subst, ◌∙◌, ◌⊎◌, inl, inr}
 use Rattle.plan_psplib.specs.declared.text.fault.Fault.{Fault}
 use Rattle.plan_psplib.specs.declared.text.fault.FileFault.{FileFault}
 use Rattle.plan_psplib.specs.declared.text.fault.ReadError.{ReadError}
@@ -11,17 +12,25 @@ use Rattle.plan_psplib.proofs.GoesLemmas.{then_ok, same_ok}
 use Rattle.plan_orlib.specs.Instances.{names_of}
 use Rattle.plan_orlib.specs.ShopText.{FailsWith, names}
 
--- a file isn't read for what its reading ends with
+-- the error of a file is that of its reading
 pub told : {A : Type 0} (read : Result A Fault) (e : ReadError) (fault : FileFault) → Fails e read → TellsError e fault → IsWantOfMemory fault ⊎ FailsWith read fault
 told read errors.Memory fault fails tells = inl tells
 told read (errors.Fault f) fault fails tells = inr (fails ∙ rw (tells.0, tells.1) refl, tells.2)
+
+-- the two outcomes of a result whose error is mapped
+pub mapped : {X E D : Type 0} (read : Result X E) (told : Result X D) (Post : E → D → Type 0) (P : Result X D → Type 0) →
+    MatchResult read (λ x. told ≡ Ok x) (λ e. IsErrAnd told (Post e)) →
+    ((x : X) → read ≡ Ok x → P (Ok x)) → ((e : E) (d : D) → read ≡ Err e → Post e d → P (Err d)) → P told
+mapped (Ok x) told Post P same ok err = subst P (sym same) (ok x refl)
+mapped (Err e) (Err d) Post P post ok err = err e d refl post
+mapped (Err e) (Ok x) Post P post ok err = absurd post
 
 -- the names that are read are all names of a text that can be read
 pub names_read : (text : List ℕ) (given : List (List ℕ)) → names text ≡ Ok given → (plain text ≡ Ok tt) × (given ≡ names_of text)
 unfolding names
 names_read text given e = then_ok (plain text) _ given e (λ u good e. (good, sym (same_ok (names_of text) given e)))
 
--- names aren't read for what the text isn't fit for
+-- the error of reading names is that of the text
 pub names_fail : (text : List ℕ) (e : ReadError) → Fails e (names text) → Fails e (plain text)
 unfolding names
 names_fail text errors.Memory fails = tt

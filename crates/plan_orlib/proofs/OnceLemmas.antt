@@ -1,4 +1,4 @@
--- Of each of these a text and a name have only one: the shop that is said, the first check that fails.
+-- For a text and a name there is at most one shop and one first check that fails.
 use Rattle.std.proofs.Common.{◌≡◌, ℕ, List, Result, sym, ap, ◌∙◌}
 use Rattle.plan_psplib.specs.declared.text.fault.Fault.{Fault}
 use Rattle.plan_psplib.specs.declared.text.fault.FileFault.{FileFault}
@@ -9,7 +9,7 @@ use Rattle.plan_orlib.specs.ShopText.{shop, FailsWith}
 use Rattle.plan_orlib.specs.Says.{Says}
 use Rattle.plan_orlib.proofs.TextLemmas.{said_shop}
 
--- a text says one shop of a name
+-- a text describes at most one shop of a name
 pub shop_once : (name text : List ℕ) (a b : Shop) → Says name text a → Says name text b → a ≡ b
 shop_once name text a b first second = same_ok a b (sym (said_shop name text a first) ∙ said_shop name text b second)
 
@@ -23,6 +23,6 @@ failing_once read f g first second =
       cycle = first.1 ∙ sym second.1;
     }
 
--- a text that says a shop of a name fails none
+-- a text that describes a shop of a name fails no check for it
 pub said_fails_none : (name text : List ℕ) (s : Shop) (f : FileFault) → Says name text s → FailsWith (shop name text) f → ⊥
 said_fails_none name text s f says failing = never_both (shop name text) s _ (said_shop name text s says) failing.0

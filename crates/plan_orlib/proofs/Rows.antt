@@ -114,7 +114,7 @@ empty : shop (codes "a") (codes "") ≡ Err (record { code = code.NoInstance; li
 unfolding shop plain shop_at limited_at limited number_at jobs_at steps_at step_at machine_at duration_at
 empty = refl
 
--- a carriage return ends no line
+-- a carriage return doesn't end a line
 one_line : shop (codes "a") (codes "instance a\rd\r1 1\r0 1") ≡ Err (record { code = code.NoInstance; line = 1 })
 unfolding shop plain shop_at limited_at limited number_at jobs_at steps_at step_at machine_at duration_at
 one_line = refl
@@ -132,7 +132,7 @@ bare_plus : shop (codes "-") (codes "1 1\n+\n0 1\n") ≡ Err (record { code = co
 unfolding shop plain shop_at limited_at limited number_at jobs_at steps_at step_at machine_at duration_at
 bare_plus = refl
 
--- what follows the bare form is skipped, and found by no name
+-- words after the bare form are skipped, and no name finds them
 abbrev bare_first : List ℕ
 bare_first = codes "1 1\n0 5\n+++\ninstance a\nd\n1 1\n0 6\n"
 
@@ -160,17 +160,17 @@ hyphen_read = refl
 hyphen_names : names_of hyphen ≡ codes "-" ∷ []
 hyphen_names = refl
 
--- without a description the sizes are taken for one
+-- without a description the line of sizes is taken for one
 size_lost : shop (codes "a") (codes "instance a\n+++\n1 1\n0 4\n") ≡ Err (record { code = code.Limit; line = 4 })
 unfolding shop plain shop_at limited_at limited number_at jobs_at steps_at step_at machine_at duration_at
 size_lost = refl
 
--- a plus line behind the description ends the words
+-- a plus line after the description ends the words
 plus_ends : shop (codes "a") (codes "instance a\nd\n1 2\n0 4\n+\n1 5\n") ≡ Err (record { code = code.Count; line = 4 })
 unfolding shop plain shop_at limited_at limited number_at jobs_at steps_at step_at machine_at duration_at
 plus_ends = refl
 
--- a blank line doesn't
+-- a blank line isn't taken for one
 abbrev blank_inside : List ℕ
 blank_inside = codes "instance a\n\nd\n1 2\n\n0 4\n1 5 x\n"
 

@@ -1,4 +1,4 @@
--- Shops that streams begin with: what is read is spelled so, and what is spelled so is read.
+-- Shops at the front of streams: reading succeeds exactly for the words that begin with the shop's numbers.
 use Rattle.std.proofs.Common.{◌≡◌, ℕ, zero, suc, ◌+◌, ◌≤◌, ◌<◌, List, [], ◌∷◌, ◌++◌, Some, Ok, length, map, get_or, refl, sym, ap, ◌∙◌, subst, append_assoc, append-nil, arith}
 use Rattle.std.specs.Prelude.{nat_lt, All}
 use Rattle.std.specs.List.{AllByRecursion, flat_map}
@@ -77,7 +77,7 @@ goes_step machines total step s t p is fits =
 
 -- ---- jobs
 
--- what the steps of a job say behind others of it, where the times before the job add up to a total
+-- the steps of a job after other steps of it; earlier is the sum of the times of the jobs before
 record AreSteps (machines more earlier : ℕ) (before new : List Step) (s t : Stream) : Type 0 where
   count : length new ≡ more
   goes : Goes s (job_numbers new) t
@@ -120,7 +120,7 @@ goes_steps machines total before (step ∷ steps) s t p each fits =
     ok_bind (step_at machines (total + time_of before) s) _ (step, a.0) (before ++ step ∷ steps, t) (goes_step machines (total + time_of before) step s a.0 a.1 each.0 (omega (arith, sums, fits)))
     (goes_steps machines total (before ++ step ∷ []) steps a.0 t a.2 each.1 (omega (arith, pushed, sums, fits)) ∙ ap (λ (xs : List Step). Ok (xs, t)) (append_assoc before (step ∷ []) steps))
 
--- what jobs say behind others
+-- the jobs after other jobs
 record AreJobs (machines more : ℕ) (before new : List (List Step)) (s t : Stream) : Type 0 where
   count : length new ≡ more
   goes : Goes s (flat_map job_numbers new) t
@@ -173,7 +173,7 @@ goes_jobs machines before (job ∷ jobs) s t p each fits =
 
 -- ---- shops
 
--- what is read is spelled so
+-- the words that were read begin with the numbers of the result
 pub shop_spelled : (s : Stream) (d : Shop) → shop_at s ≡ Ok d → BeginsWith s.words (shop_numbers d) × IsShop d
 unfolding shop_at
 shop_spelled s d e =
@@ -201,7 +201,7 @@ shop_spelled s d e =
       },
     ))))
 
--- what is spelled so is read
+-- words that begin with the numbers of a shop are read as that shop
 pub shop_read : (s : Stream) (d : Shop) → BeginsWith s.words (shop_numbers d) → IsShop d → shop_at s ≡ Ok d
 unfolding shop_at
 shop_read s d begins is =
@@ -215,7 +215,7 @@ shop_read s d begins is =
     (goes_jobs d.machines [] d.jobs b.0 all.0 b.2 (recursion_from_All (IsJob d.machines) d.jobs is.steps)
     (omega (arith, total))) refl))
 
--- what holds of all jobs holds of the one at k
+-- a fact of all jobs is a fact of the job at k
 pub job_at_good : {X : Type 0} (P : List Step → Type 0) (items : X → List Step) (rows : List X) (k : ℕ)
     (row : X) → row ≡ get_or rows k row → k < length (map items rows) → All P (map items rows) → P (items row)
 job_at_good P items rows k row is below all =

@@ -9,7 +9,7 @@ use Rattle.plan_orlib.specs.declared.steps.Step.{Step}
 use Rattle.plan_orlib.specs.Shop.{time_of, total_time}
 use Rattle.plan_orlib.specs.ShopText.{step_at, steps_at, jobs_at}
 
--- the state of the loop over steps: those so far, and what is left to read
+-- the state of the loop over steps: the steps so far, and the rest of the stream
 abbrev Steps : Type 0
 Steps = List Step × Stream
 
@@ -46,7 +46,7 @@ module _ (machines total : ℕ) where
   unfolding steps_at
   steps_done count i before s whole past is = sym (is_done other_steps one_step behind_step steps-suc count i (before, s) whole past is)
 
--- the state of the loop over jobs: those so far, and what is left to read
+-- the state of the loop over jobs: the jobs so far, and the rest of the stream
 abbrev Jobs : Type 0
 Jobs = List (List Step) × Stream
 

@@ -1,4 +1,4 @@
--- The whole text: what is read is what the text says, and what a text says is read.
+-- The whole text: reading succeeds exactly for the shop that the text describes.
 use Rattle.std.proofs.Common.{◌≡◌, ℕ, List, Option, Some, None, Result, Ok, Err, ap, subst}
 use Rattle.std.specs.Prelude.{IfOk}
 use Rattle.plan_psplib.specs.declared.text.fault.Fault.{Fault}
@@ -19,7 +19,7 @@ pub stream_is : (last : ℕ) (o : Option Stream) (s : Stream) → found_stream l
 stream_is last None s e = absurd (cc)
 stream_is last (Some t) s e = ap (λ (x : Stream). Some x) (same_ok t s e)
 
--- what is read is what the text says
+-- the shop that was read is the one that the text describes
 shop_said : (name text : List ℕ) (d : Shop) → shop name text ≡ Ok d → Says name text d
 unfolding shop
 shop_said name text d e =
@@ -28,7 +28,7 @@ shop_said name text d e =
     let spelled = shop_spelled s d e in
     record { readable = good; stream = (s, stream_is (last_line text) (stream_of name text) s found, spelled.0); limits = spelled.1 }))
 
--- what a text says is read
+-- the shop that a text describes is read
 pub said_shop : (name text : List ℕ) (d : Shop) → Says name text d → shop name text ≡ Ok d
 unfolding shop
 said_shop name text d h =
@@ -36,7 +36,7 @@ said_shop name text d h =
     ok_bind (plain text) _ tt d h.readable
     (ok_bind (found_stream (last_line text) (stream_of name text)) _ at.0 d (ap (found_stream (last_line text)) at.1) (shop_read at.0 d at.2 h.limits))
 
--- the same of an answer that the reading gives
+-- the same for a result that the reading gives
 pub read_is_said : (name text : List ℕ) (r : Result declared.Listing ReadError) → Gives shop_of r (shop name text) → IfOk r (λ l. Says name text (shop_of l))
 read_is_said name text (Ok l) e = shop_said name text (shop_of l) e
 read_is_said name text (Err f) e = tt

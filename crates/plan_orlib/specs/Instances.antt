@@ -15,27 +15,28 @@ abbrev pub name_of_words : List (List ℕ) → Option (List ℕ)
 name_of_words (first ∷ name ∷ []) = if bytes_eq first (codes "instance") then Some name else None
 name_of_words _ = None
 
--- the name that an instance line gives: it has exactly two words, of which the first is `instance`
+-- the name on an instance line: a line of exactly two words, the first of them `instance`
 abbrev pub instance_name : List ℕ → Option (List ℕ)
 instance_name text = name_of_words (words text)
 
 abbrev pub is_instance : List ℕ → Bool
 is_instance text = is_some (instance_name text)
 
--- a line that may stand before a description: a blank line or a plus line
+-- a line that may precede a description: a blank line or a plus line
 abbrev pub is_before_description : List ℕ → Bool
 is_before_description text = not (is_nonempty text) || is_plus text
 
--- the lines behind the description, which is the first line that is neither blank nor a plus line
+-- the lines after the description, which is the first line that is neither blank nor a plus line
 abbrev pub behind_description : List NumberedLine → List NumberedLine
 behind_description [] = []
 behind_description (line ∷ others) = if is_before_description line.text then behind_description others else others
 
--- the lines of a block: those behind its instance line, up to the next instance line
+-- the lines of a block: those after its instance line, up to the next instance line
 abbrev pub block_lines : List NumberedLine → List NumberedLine
 block_lines behind = before_end is_instance behind
 
--- the stream of the block behind an instance line of this number: the words behind the description up to the next plus line
+-- the stream of the block after an instance line of this number: the words after the description up to the
+-- next plus line
 abbrev pub block_from : ℕ → List NumberedLine → Stream
 block_from n behind = record { last = n; words = words_of (before_end is_plus (behind_description (block_lines behind))) }
 

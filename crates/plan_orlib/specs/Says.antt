@@ -1,4 +1,5 @@
--- What a job shop text says, apart from the order in which it is read (docs/definitions.md, "Job shop files").
+-- The shop of a job shop text, independent of the order in which it is read (docs/definitions.md, "Job shop
+-- files").
 use Rattle.std.specs.Prelude.{◌≡◌, ℕ, List, [], ◌∷◌, ◌++◌, Some, Ok, length}
 use Rattle.std.specs.List.{flat_map}
 use Rattle.plan_psplib.specs.Streams.{LineWord, Stream}
@@ -12,16 +13,16 @@ use Rattle.plan_orlib.specs.Shop.{Shop, IsShop}
 abbrev pub job_numbers : List Step → List ℕ
 job_numbers steps = flat_map (λ step. step.machine ∷ step.time ∷ []) steps
 
--- the numbers of a shop: how many jobs, how many machines, and those of each job
+-- the numbers of a shop: the count of jobs, the count of machines, and the numbers of each job
 abbrev pub shop_numbers : Shop → List ℕ
 shop_numbers shop = length shop.jobs ∷ shop.machines ∷ flat_map job_numbers shop.jobs
 
--- the first of the words are these numbers, one each; others may follow
+-- the words begin with these numbers, one each; others may follow
 abbrev pub BeginsWith : List LineWord → List ℕ → Type 0
 BeginsWith words numbers = (front rest : List LineWord) × (words ≡ front ++ rest) × Spells front numbers
 
--- a text says a shop of a name: the stream of the first instance of that name begins with the shop's numbers, and the
--- shop keeps the limits
+-- a text describes the shop of a name: the stream of the first instance of that name begins with the shop's
+-- numbers, and the shop keeps the limits
 pub record Says (name text : List ℕ) (shop : Shop) : Type 0 where
   pub readable : plain text ≡ Ok tt
   pub stream : (s : Stream) × (stream_of name text ≡ Some s) × BeginsWith s.words (shop_numbers shop)

@@ -1,4 +1,4 @@
--- A job shop as a file gives it (docs/definitions.md, "Job shop files").
+-- The job shop of a file (docs/definitions.md, "Job shop files").
 use Rattle.std.specs.Prelude.{◌≡◌, ℕ, ◌≤◌, ◌<◌, List, All, length, map}
 use Rattle.std.specs.List.{sum_by}
 use Rattle.plan_psplib.specs.Tokens.{greatest, greatest_total}
@@ -11,7 +11,7 @@ most_jobs = 50
 abbrev pub most_machines : ℕ
 most_machines = 20
 
--- a shop: how many machines it has, and the steps of each job in their order
+-- a shop: the number of machines, and the steps of each job in order
 pub record Shop : Type 0 where
   pub machines : ℕ
   pub jobs : List (List Step)
@@ -20,15 +20,15 @@ pub record Shop : Type 0 where
 abbrev pub shop_of : declared.Listing → Shop
 shop_of l = record { machines = l.machines; jobs = map (λ job. job.items) l.jobs.items }
 
--- what the times of steps add up to
+-- the total time of steps
 abbrev pub time_of : List Step → ℕ
 time_of steps = sum_by (λ step. step.time) steps
 
--- what the times of all steps of some jobs add up to
+-- the total time of all steps of jobs
 abbrev pub total_time : List (List Step) → ℕ
 total_time jobs = sum_by time_of jobs
 
--- a step takes one of the machines, for a time within its limit
+-- a step is on one of the machines, for a time within the limit
 abbrev pub IsStep : ℕ → Step → Type 0
 IsStep machines step = (step.machine < machines) × (step.time ≤ greatest)
 
@@ -36,7 +36,7 @@ IsStep machines step = (step.machine < machines) × (step.time ≤ greatest)
 abbrev pub IsJob : ℕ → List Step → Type 0
 IsJob machines steps = (length steps ≡ machines) × All (IsStep machines) steps
 
--- 1 to 50 jobs, 1 to 20 machines, a job's steps as many as the machines, all times within the limits
+-- 1–50 jobs, 1–20 machines, as many steps in each job as machines, all times within the limits
 pub record IsShop (shop : Shop) : Type 0 where
   pub jobs : (1 ≤ length shop.jobs) × (length shop.jobs ≤ most_jobs)
   pub machines : (1 ≤ shop.machines) × (shop.machines ≤ most_machines)

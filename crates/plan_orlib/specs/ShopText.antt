@@ -1,4 +1,5 @@
--- Reading a job shop text in order: its shop, or the first check that fails (docs/definitions.md, "Job shop files").
+-- Reading of a job shop text in order: its shop, or the first check that fails (docs/definitions.md, "Job
+-- shop files").
 use Rattle.std.specs.Prelude.{◌≡◌, ℕ, zero, suc, ◌+◌, List, [], ◌∷◌, ◌++◌, Option, Some, None, Result, Ok, Err, nat_lt}
 use Rattle.plan_psplib.specs.declared.text.fault.FileCode.TheVariants as code
 use Rattle.plan_psplib.specs.declared.text.fault.Fault.{Fault}
@@ -18,28 +19,28 @@ machine_at machines s = do
   known ← check (nat_lt n.0.value machines) code.BadMachine n.0.line
   Ok (n.0.value, n.1)
 
--- a machine and a time, where the times before add up to this total
+-- a machine and a time; total is the sum of the times before
 unfoldable pub step_at : ℕ → ℕ → Stream → Result (Step × Stream) Fault
 step_at machines total s = do
   machine ← machine_at machines s
   time ← duration_at total machine.1
   Ok (record { machine = machine.0; time = time.0 }, time.1)
 
--- so many steps more of a job, behind those before; the times of earlier jobs add up to this total
+-- as many more steps of a job, after those before; total is the sum of the times of earlier jobs
 unfoldable pub steps_at : ℕ → ℕ → ℕ → List Step → Stream → Result (List Step × Stream) Fault
 steps_at machines total zero before s = Ok (before, s)
 steps_at machines total (suc more) before s = do
   step ← step_at machines (total + time_of before) s
   steps_at machines total more (before ++ step.0 ∷ []) step.1
 
--- so many jobs more, behind those before: of each as many steps as there are machines
+-- as many more jobs, after those before, each with as many steps as there are machines
 unfoldable pub jobs_at : ℕ → ℕ → List (List Step) → Stream → Result (List (List Step) × Stream) Fault
 jobs_at machines zero before s = Ok (before, s)
 jobs_at machines (suc more) before s = do
   job ← steps_at machines (total_time before) machines [] s
   jobs_at machines more (before ++ job.0 ∷ []) job.1
 
--- how many jobs, how many machines, and the steps; what stands behind the last step isn't read
+-- the number of jobs, the number of machines, and the steps; words after the last step aren't read
 unfoldable pub shop_at : Stream → Result Shop Fault
 shop_at s = do
   jobs ← limited_at 1 most_jobs s

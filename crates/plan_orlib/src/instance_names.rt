@@ -15,32 +15,28 @@ use crate::instances::{instance_name, is_bare};
 use plan_psplib::{FileFault, Lines, ReadError, check_text};
 use std::alloc::{AllocError, Global};
 
-/// The names of all instances of a text, in order, those that come twice included; `-` for the one of
-/// the bare form. `TooLong` (F1, line 0) and `NotText` (F2) are the only faults; out of memory may come
-/// in place of any answer.
+/// Returns the names of all instances of a text, in order and with duplicates. The one instance of the bare
+/// form is named `-`. The only errors are `TooLong` (F1, line 0), `NotText` (F2) and out of memory.
 ///
 /// The format is that of `jobshop1` (J. E. Beasley, "OR-Library: distributing test problems by
 /// electronic mail", Journal of the Operational Research Society 41, 1990).
 pub fn names(alloc: Global, text: &[u8]) -> Result<Vec<Vec<u8>>, FileFault>
-    // What is given are the names of a text that is short enough and has no zero byte.
+    // The result is the list of names, and the text is short enough and has no zero byte.
     ensures found { IfOk result (λ names. (plain text.now ≡ Ok tt) ×
         (map (λ name. name.items) names.items ≡ spec.names_of text.now)) }
-    // Of such a text they are given, unless memory runs out.
+    // For such a text the only error is out of memory.
     ensures only { plain text.now ≡ Ok tt → IfErr result IsWantOfMemory }
-    // Which check is the first that fails.
+    // The error is out of memory, or the first check that fails.
     ensures refused { IfErr result (λ fault. IsWantOfMemory fault ⊎ reading.FailsWith
         (plain text.now) fault) }
-    // A text that is too long or has a zero byte is refused for that, whatever memory there is.
+    // The error of a text that is too long or has a zero byte is returned even if memory runs out.
     ensures early { (f : Fault) → plain text.now ≡ Err f →
         MatchResult result (λ _. ⊥) (TellsError (errors.Fault f)) }
 {
-    match checked_names(alloc, text) {
-        Ok(names) => Ok(names),
-        Err(error) => Err(FileFault::of(alloc, error)),
-    }
+    checked_names(alloc, text).map_err(|error| FileFault::of(alloc, error))
 }
 
-// The names of a text, or the first check that fails.
+// Returns the names of a text, or the first check that fails.
 #[tactic(auto, unfolding(crate::specs::ShopText::names))]
 fn checked_names(alloc: Global, text: &[u8]) -> Result<Vec<Vec<u8>>, ReadError>
     ensures exact { Gives (λ names. map (λ name. name.items) names.items) result

@@ -6,7 +6,7 @@ ghost use Rattle.plan_orlib.specs.Instances as spec;
 
 use plan_psplib::{Layout, Lines, StreamWords, Words, is_number};
 
-/// The lines of a block behind its description: up to the next plus line or instance line.
+/// The lines of a block after its description, up to the next plus line or instance line.
 #[derive(Drop)]
 pub struct Block;
 
@@ -49,7 +49,7 @@ fn is_plus(line: &[u8]) -> bool
     line.first() == Some(&b'+')
 }
 
-/// The name that a line gives, where it is an instance line.
+/// Returns the name on an instance line, or `None` for any other line.
 pub fn instance_name(line: &[u8]) -> Option<&[u8]>
     ensures { MatchOption result (spec.instance_name line.now ≡ None)
         (λ name. spec.instance_name line.now ≡ Some name.now) }
@@ -96,7 +96,7 @@ pub fn bare_words(text: &[u8]) -> StreamWords<'_, Bare>
     StreamWords::new(0, Lines::new(text))
 }
 
-/// What one walk over a text finds: the number of its last line, and the words of the first block of a
+/// The results of one walk over a text: the number of its last line, and the words of the first block with a
 /// name.
 #[derive(Drop)]
 pub struct Found<'a> {
@@ -133,7 +133,7 @@ fn is_instance_of(line: &[u8], name: &[u8]) -> bool
     }
 }
 
-// The words of the block behind an instance line.
+// Returns the words of the block after an instance line.
 #[tactic(auto, using(crate::proofs::BlockLemmas::rows_before_both))]
 fn block_words(instance: u64, behind: Lines<'_>) -> StreamWords<'_, Block>
     ensures { result ≡ spec.block_from instance behind.entry }
@@ -143,7 +143,7 @@ fn block_words(instance: u64, behind: Lines<'_>) -> StreamWords<'_, Block>
     StreamWords::new(instance, lines)
 }
 
-// Goes behind the description of a block; leaves no line if the block has none.
+// Skips the lines of a block up to the end of its description. Leaves no line if it has none.
 fn skip_description(lines: &mut Lines<'_>)
     ensures { spec.block_lines lines.new ≡ spec.behind_description (spec.block_lines lines.old) }
 {
@@ -158,7 +158,7 @@ fn skip_description(lines: &mut Lines<'_>)
     }
 }
 
-// Whether a line may stand before a description.
+// Tests whether a line may precede a description.
 fn is_before_description(line: &[u8]) -> bool
     ensures { result ≡ spec.is_before_description line.now }
 {

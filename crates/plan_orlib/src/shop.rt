@@ -1,4 +1,4 @@
-//! Shops out of job shop files.
+//! Shops from job shop files.
 
 ghost use Rattle.std.specs.Prelude.{◌≡◌, ◌≤◌, ◌-◌, ◌⊎◌, Some, Ok, Err, IfOk, IfErr, MatchResult, Contains, length, map, slice_get};
 ghost use Rattle.plan_psplib.specs.Plain.{plain};
@@ -19,9 +19,9 @@ use plan_psplib::{Fault, FileCode, FileFault, ReadError, check_text};
 use std::alloc::Global;
 use std::marker::Model;
 
-/// A job shop: how many machines it has, and the steps of each job in their order. Jobs are numbered
-/// from 1, machines from 0. Each job has as many steps as there are machines, so that the steps of all
-/// jobs, one job after another, are numbered by job and place with no gap.
+/// A job shop: the number of machines, and the steps of each job in order. Jobs are numbered from 1, machines
+/// from 0. Each job has as many steps as there are machines, so the flat order of steps, one job after
+/// another, has no gaps.
 #[derive(Drop)]
 pub struct ShopDoc {
     machines: u32,
@@ -60,7 +60,7 @@ impl ShopDoc {
         self.jobs.len() as u32
     }
 
-    /// The steps of a job, in order.
+    /// Returns the steps of a job, in order.
     pub fn steps(&self, job: u32) -> &[Step]
         requires first { 1 ≤ job }
         requires last { job ≤ length self.now.jobs }
@@ -80,48 +80,53 @@ impl ShopDoc {
     }
 }
 
-/// Reads a job shop text: the shop of the first instance of a name, or the first check that fails, with
-/// its line. The name of the one instance of the bare form is `-`. The checks in order: `TooLong` (F1,
-/// line 0), `NotText` (F2, the line of the first zero byte), `NoInstance` (F13, the last line), and then
-/// word by word `BadNumber` (F6), `Limit` (F10: 1 to 50 jobs, 1 to 20 machines, a time up to 10,000
-/// units, all times together up to 1,000,000), `BadMachine` (F14) and `Count` (F9: a word is missing;
-/// the line of the last word, or of the instance line if there is none). Words behind the last step
-/// are skipped. Out of memory can replace any result but a refusal before the words are read.
+/// Reads a job shop text. Returns the shop of the first instance with a name, or the first check that fails,
+/// with its line. The one instance of the bare form is named `-`. Words after the last step are skipped.
+///
+/// The checks, in this order:
+///
+/// - `TooLong` (F1, line 0).
+/// - `NotText` (F2, the line of the first zero byte).
+/// - `NoInstance` (F13, the last line).
+/// - For each word `BadNumber` (F6), `Limit` (F10: 1–50 jobs, 1–20 machines, a time up to 10,000 units, all
+///   times together up to 1,000,000), `BadMachine` (F14) and `Count` (F9, a word is missing: the line of the
+///   last word, or of the instance line if there is none).
+///
+/// Any call can run out of memory, except one that fails before the words are read.
 ///
 /// The format is that of `jobshop1` (J. E. Beasley, "OR-Library: distributing test problems by
 /// electronic mail", Journal of the Operational Research Society 41, 1990).
 pub fn read_shop(alloc: Global, text: &[u8], name: &[u8]) -> Result<ShopDoc, FileFault>
-    // What is read is what the text says.
+    // The result is the shop that the text describes.
     ensures found { IfOk result (λ shop. Says name.now text.now shop) }
-    // What the text says is read, unless memory runs out.
+    // If the text describes a shop, the result is that shop, or out of memory.
     ensures only { (shop : spec.Shop) → Says name.now text.now shop →
         MatchResult result (λ read. read ≡ shop) IsWantOfMemory }
-    // Which check is the first that fails.
+    // The error is out of memory, or the first check that fails.
     ensures refused { IfErr result (λ fault. IsWantOfMemory fault ⊎ reading.FailsWith
         (reading.shop name.now text.now) fault) }
-    // What fails before the stream is read is refused for that, whatever memory there is.
+    // An error before the words are read is returned even if memory runs out.
     ensures early { (f : Fault) → reading.located name.now text.now ≡ Err f →
         MatchResult result (λ _. ⊥) (TellsError (errors.Fault f)) }
-    // What is found has one of the names that `names` gives.
+    // Only names that `names` returns have a shop.
     ensures named { IfOk result (λ _. Contains (names_of text.now) name.now) }
-    // Of a text that is fit to be read, any other name is missing, told at the last line, whatever memory there is.
+    // If the text passes the first two checks, any other name is missing, which is reported at the last line
+    // even if memory runs out.
     ensures unnamed { plain text.now ≡ Ok tt → ¬ (Contains (names_of text.now) name.now) →
         MatchResult result (λ _. ⊥)
         (λ fault. (fault.code ≡ code.NoInstance) × (fault.line ≡ last_line text.now)) }
-    // No name is missing that `names` gives.
+    // A name that `names` returns is never missing.
     ensures missing { IfErr result (λ fault. fault.code ≡ code.NoInstance → ¬
         (Contains (names_of text.now) name.now)) }
 {
-    match named_listing(alloc, text, name) {
-        Ok(listing) => Ok(ShopDoc {
-            machines: listing.machines,
-            jobs: listing.jobs,
-        }),
-        Err(error) => Err(FileFault::of(alloc, error)),
-    }
+    let listing = named_listing(alloc, text, name).map_err(|error| FileFault::of(alloc, error))?;
+    Ok(ShopDoc {
+        machines: listing.machines,
+        jobs: listing.jobs,
+    })
 }
 
-// The shop of a name, as it is read.
+// Reads the shop of the first instance with a name.
 fn named_listing(alloc: Global, text: &[u8], name: &[u8]) -> Result<Listing, ReadError>
     ensures exact { Gives spec.shop_of result (reading.shop name.now text.now) }
     ensures found { IfOk result (λ l. Says name.now text.now (spec.shop_of l)) }
@@ -133,7 +138,7 @@ fn named_listing(alloc: Global, text: &[u8], name: &[u8]) -> Result<Listing, Rea
     instance_listing(alloc, text, name)
 }
 
-// The shop of an instance, after the checks of the text.
+// Reads the shop of an instance, after the checks of the text.
 #[tactic(auto, unfolding(crate::specs::ShopText::shop, crate::specs::ShopText::located))]
 fn instance_listing(alloc: Global, text: &[u8], name: &[u8]) -> Result<Listing, ReadError>
     ensures exact { Gives spec.shop_of result (reading.shop name.now text.now) }
@@ -154,7 +159,7 @@ fn instance_listing(alloc: Global, text: &[u8], name: &[u8]) -> Result<Listing, 
     read_listing(alloc, &mut words)
 }
 
-// No instance has the name.
+// Returns the error that no instance has the name.
 fn no_instance(last: u64) -> ReadError
     ensures { result ≡ errors.Fault (record { code = code.NoInstance; line = last }) }
 {

@@ -1,4 +1,4 @@
-//! The numbers of a shop: how many jobs and machines, and the steps of each job.
+//! The numbers of a shop: its jobs, its machines and the steps of each job.
 
 ghost use Rattle.std.specs.Prelude.{◌≡◌, ◌≤◌, ◌+◌, [], IfOk, map};
 ghost use Rattle.plan_psplib.specs.Tokens.{Gives, Reads, greatest_total};
@@ -15,28 +15,28 @@ const MOST_JOBS: u32 = 50;
 
 const MOST_MACHINES: u32 = 20;
 
-/// A step of a job: its machine, counted from 0, and for how many time units it takes it.
+/// A step of a job: its machine, numbered from 0, and its processing time in time units.
 #[derive(Clone, Copy, Debug, PartialEq, Eq, Hash)]
 pub struct Step {
     pub machine: u32,
     pub time: u64,
 }
 
-/// How many machines a shop has, and the steps of each job.
+/// The number of machines of a shop, and the steps of each job.
 #[derive(Drop)]
 pub struct Listing {
     pub machines: u32,
     pub jobs: Vec<Vec<Step>>,
 }
 
-// The steps of a job, and what all times up to its end add up to.
+// The steps of a job, and the sum of all times up to its last step.
 #[derive(Drop)]
 struct Row {
     steps: Vec<Step>,
     total: u64,
 }
 
-/// The shop at the front of some words.
+/// Reads the shop at the front of the words.
 #[tactic(auto, unfolding(crate::specs::ShopText::shop_at))]
 pub fn read_listing<L: Layout>(
     alloc: Global,
@@ -70,7 +70,7 @@ fn all_jobs<L: Layout>(
     Ok(rows)
 }
 
-// The steps of a job, where the times before it add up to a total.
+// Reads the steps of a job. `before` is the sum of the times before it.
 fn next_job<L: Layout>(
     alloc: Global,
     words: &mut StreamWords<'_, L>,
@@ -93,7 +93,7 @@ fn next_job<L: Layout>(
     Ok(Row { steps, total })
 }
 
-// A step, where the times before it add up to a total.
+// Reads a step. `total` is the sum of the times before it.
 #[tactic(auto, unfolding(crate::specs::ShopText::step_at))]
 fn next_step<L: Layout>(
     words: &mut StreamWords<'_, L>,
@@ -110,7 +110,7 @@ fn next_step<L: Layout>(
     Ok(Step { machine, time })
 }
 
-// The number of one of the machines.
+// Reads the number of one of the machines.
 #[tactic(auto, unfolding(crate::specs::ShopText::machine_at))]
 fn machine<L: Layout>(words: &mut StreamWords<'_, L>, machines: u32) -> Result<u32, Fault>
     ensures { Reads (λ n. (n, words.new)) result (spec.machine_at machines words.old) }

@@ -8,7 +8,7 @@ use Rattle.plan_profile.specs.Steps.{changes_until, lists, amount_at, amount, Is
 use Rattle.plan_profile.proofs.SegmentLemmas.{within, until_within, until_mono, until_above, there_at}
 use Rattle.plan_profile.proofs.StepLemmas.{amount_is, amount_row}
 
--- where not all numbers below n agree, some of them does not
+-- if not all numbers below n agree, some number differs
 pub some_differs : (n : ℕ) (f g : ℕ → ℕ) → (((k : ℕ) → k < n → f k ≡ g k) → ⊥) → (k : ℕ) × (k < n) × (f k ≢ g k)
 some_differs zero f g differ = absurd (differ (λ k below. absurd (omega arith)))
 some_differs (suc n) f g differ =
@@ -23,7 +23,7 @@ some_differs (suc n) f g differ =
           (rest.0, omega arith, rest.2))
     ]
 
--- past the resources there is no amount
+-- beyond the resources there is no amount
 pub amount_past : (changes : List ℕ) (rows : List (List ℕ)) (t k : ℕ) → IsSteps changes rows → length (get_or rows 0 []) ≤ k → amount changes rows t k ≡ 0
 amount_past changes rows t k steps past =
     let most = until_within changes t in
@@ -43,7 +43,7 @@ change_from_there changes rows n t steps wide true_changes there =
       | inr past ↦ amount_past changes rows t k steps (omega arith) ∙ sym (before_past changes rows t k steps (omega arith))
     ]))
 
--- an instant that is not there has the amounts of the instant before
+-- an instant that isn't a change has the amounts of the instant before
 unchanged : (changes : List ℕ) (rows : List (List ℕ)) (t k : ℕ) → IsSteps changes rows → ((i : ℕ) → i < changes_until changes t → get_or changes i 0 < t)
     → amount changes rows t k ≡ used_before (amount changes rows) t k
 unchanged changes rows zero k steps before =
@@ -107,14 +107,14 @@ zero_steps width = record {
   none_first = zero_row-get_or width;
 }
 
--- rows of which there is one
+-- the list of one zero row
 pub zero_lists : (width : ℕ) → lists width [] (zero_row width) ≡ zero_row width ∷ []
 unfolding lists
 zero_lists width =
     let none : 0 * width ≡ 0 = omega arith in
     ap (λ (n : ℕ). take width (drop n (zero_row width)) ∷ []) none
-        ∙ ap (λ (r : List ℕ). r ∷ []) (take_all width (zero_row width)
-        (let size : length (zero_row width) ≡ width = length-replicate width 0 in omega arith))
+    ∙ ap (λ (r : List ℕ). r ∷ []) (take_all width (zero_row width)
+    (let size : length (zero_row width) ≡ width = length-replicate width 0 in omega arith))
 
 pub none_change : (changes : List ℕ) (used : ℕ → ℕ → ℕ) → changes ≡ [] → AreChanges changes used
 none_change changes used none c there = let inside = there.1 in let size = ap length none in absurd (omega arith)

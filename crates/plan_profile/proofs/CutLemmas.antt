@@ -1,4 +1,4 @@
--- Steps after an instant is cut in, or merged away.
+-- Steps after an instant is inserted or removed.
 use Rattle.std.proofs.Common.{◌≡◌, ◌≢◌, ℕ, ◌+◌, ◌-◌, ◌≤◌, ◌<◌, List, [], length, get_or, refl, sym, ◌∙◌, ap, inl, inr, arith}
 use Rattle.std.specs.Prelude.{Contains, insert, remove}
 use Rattle.std.proofs.lemmas.List.{ext_get_or}
@@ -10,7 +10,7 @@ use Rattle.plan_profile.proofs.SegmentLemmas.{come, come_yes, come_no, within, b
 use Rattle.plan_profile.proofs.EditLemmas.{insert_cases, remove_cases, rising_insert, rising_remove, contains_insert, inserted_there, insert_keeps, contains_remove, remove_keeps, removed_gone}
 use Rattle.plan_profile.proofs.StepLemmas.{amount_is, before_change, from_change}
 
--- the amounts after a row is put in behind row i, with the amounts of row i
+-- the amounts after a copy of row i is inserted after it
 inserted_amounts : (changes : List ℕ) (rows : List (List ℕ)) (at i t k : ℕ) (row : List ℕ) → IsSteps changes rows → IsRowOf changes rows at row → i ≡ changes_until changes at
     → amount (insert changes i at) (insert rows (i + 1) row) t k ≡ amount changes rows t k
 inserted_amounts changes rows at i t k row steps copy is =
@@ -91,7 +91,7 @@ cut_new changes rows at i row steps copy is new =
       only = λ c there. contains_insert changes i at c within_changes there;
     }
 
--- an instant at which the rows differ stays
+-- an instant at which the rows differ is kept
 pub merge_stay : (changes : List ℕ) (rows : List (List ℕ)) (at i : ℕ) → IsSteps changes rows → Contains changes at → i ≡ changes_until changes at
     → get_or rows (i - 1) [] ≢ get_or rows i [] → IsMerged changes rows at changes rows
 merge_stay changes rows at i steps there is differ =
@@ -113,7 +113,7 @@ merge_stay changes rows at i steps there is differ =
           ∙ (let e : i - 1 + 1 ≡ i = omega arith in ap (λ n. amount_at rows n k) e)));
     }
 
--- the amounts after a row that is like the one in front of it goes away
+-- the amounts after a row that equals the row before it is removed
 removed_amounts : (changes : List ℕ) (rows : List (List ℕ)) (at i t k : ℕ) → IsSteps changes rows → i + 1 ≡ changes_until changes at → i < length changes → get_or changes i 0 ≡ at
     → get_or rows i [] ≡ get_or rows (i + 1) [] → amount (remove changes i) (remove rows (i + 1)) t k ≡ amount changes rows t k
 removed_amounts changes rows at i t k steps is inside last alike =
@@ -161,7 +161,7 @@ even_remove rows i w within even j inside =
       | inr (f, e) ↦ ap length e ∙ even (j + 1) (omega arith)
     ]
 
--- an instant at which the rows are alike goes away
+-- an instant at which the rows are equal is removed
 pub merge_away : (changes : List ℕ) (rows : List (List ℕ)) (at i : ℕ) → IsSteps changes rows → Contains changes at → i ≡ changes_until changes at
     → get_or rows (i - 1) [] ≡ get_or rows i [] → IsMerged changes rows at (remove changes (i - 1)) (remove rows i)
 merge_away changes rows at i steps there is alike =

@@ -1,4 +1,4 @@
--- Rising lists after an instant is put in or taken out.
+-- Rising lists after an instant is inserted or removed.
 use Rattle.std.proofs.Common.{◌≡◌, ◌≢◌, ℕ, ◌+◌, ◌-◌, ◌≤◌, ◌<◌, ◌⊎◌, List, length, get_or, sym, ◌∙◌, ap, inl, inr, arith}
 use Rattle.std.specs.Prelude.{Contains, insert, remove}
 use Rattle.std.proofs.lemmas.List.Edits.{length-insert, get_or-insert_below, get_or-insert_at, get_or-insert_above, length-remove, get_or-remove_below, get_or-remove_above}
@@ -6,7 +6,8 @@ use Rattle.std.proofs.lemmas.Bool.{cases_lt, cases_order}
 use Rattle.plan_profile.specs.Usage.{IsRising}
 use Rattle.plan_profile.proofs.SegmentLemmas.{place_of, there_at}
 
--- what stands at a place after an insert: what stood there, what was put in, or what stood one place before
+-- the entry at an index after an insert: the old entry there, the inserted one, or the old entry one index
+-- before
 pub insert_cases : {X : Type 0} (xs : List X) (i : ℕ) (y d : X) (j : ℕ) → i ≤ length xs
     → ((j < i) × (get_or (insert xs i y) j d ≡ get_or xs j d))
     ⊎ (((j ≡ i) × (get_or (insert xs i y) j d ≡ y))
@@ -18,7 +19,7 @@ insert_cases xs i y d j within =
       | inr (inr behind) ↦ inr (inr (behind, (let e : j - 1 + 1 ≡ j = omega arith in ap (λ n. get_or (insert xs i y) n d) (sym e) ∙ get_or-insert_above xs i y d (j - 1) (omega arith) within)))
     ]
 
--- what stands at a place after a removal: what stood there, or one place behind
+-- the entry at an index after a removal: the old entry there, or the old one at the next index
 pub remove_cases : {X : Type 0} (xs : List X) (i : ℕ) (d : X) (j : ℕ) → i < length xs
     → ((j < i) × (get_or (remove xs i) j d ≡ get_or xs j d))
     ⊎ ((i ≤ j) × (get_or (remove xs i) j d ≡ get_or xs (j + 1) d))
@@ -115,7 +116,7 @@ remove_keeps xs i c within there other =
           ∙ (let e : at.0 - 1 + 1 ≡ at.0 = omega arith in ap (λ n. get_or xs n 0) e) ∙ at.2)
     ]
 
--- what is taken out of a rising list is there no more
+-- a number that was removed from a rising list is no longer in it
 pub removed_gone : (xs : List ℕ) (i : ℕ) → IsRising xs → i < length xs → Contains (remove xs i) (get_or xs i 0) → ⊥
 removed_gone xs i rising within there =
     let at = place_of (remove xs i) (get_or xs i 0) there in

@@ -1,4 +1,4 @@
--- Rows that stand one after another in one list: where they are, and the rows after an edit of the list.
+-- Rows in one list, one after another: their positions, and the rows after an edit of the list.
 use Rattle.std.proofs.Common.{◌≡◌, ℕ, zero, suc, ◌+◌, ◌-◌, ◌*◌, ◌≤◌, ◌<◌, List, [], ◌++◌, length, get_or, take, drop, sym, ◌∙◌, ap, inl, inr, arith}
 use Rattle.std.specs.Prelude.{insert, remove}
 use Rattle.std.proofs.lemmas.List.{ext_get_or, get_or-take, get_or-drop, get_or_append_left, get_or-append_right, get_or_past, length-take-le, length-drop, length-append}
@@ -29,7 +29,7 @@ length-row_at width amounts i within = length-take-le width (drop (i * width) am
 pub get_or-row_at : (width : ℕ) (amounts : List ℕ) (i k : ℕ) → k < width → get_or (row_at width amounts i) k 0 ≡ get_or amounts (i * width + k) 0
 get_or-row_at width amounts i k inside = get_or-take width (drop (i * width) amounts) k 0 inside ∙ get_or-drop (i * width) amounts k 0
 
--- an amount of a row, and none beside it
+-- an amount of a row, by its index in the list
 pub amount_there : (width : ℕ) (changes amounts : List ℕ) (i k : ℕ) → i ≤ length changes → k < width → amount_at (lists width changes amounts) i k ≡ get_or amounts (i * width + k) 0
 amount_there width changes amounts i k inside below = ap (λ r. get_or r k 0) (list_at width changes amounts i inside) ∙ get_or-row_at width amounts i k below
 
@@ -47,7 +47,7 @@ same_rows width xs i ys j here there same =
     ext_get_or 0 (row_at width xs i) (row_at width ys j) (first ∙ sym second)
     (λ k inside. get_or-row_at width xs i k (omega arith) ∙ same k (omega arith) ∙ sym (get_or-row_at width ys j k (omega arith)))
 
--- the front of one list and the back of another
+-- the front of one list and the end of another
 joined_front : (xs ys : List ℕ) (m k : ℕ) → m ≤ length xs → k < m → get_or (take m xs ++ ys) k 0 ≡ get_or xs k 0
 joined_front xs ys m k within before =
     get_or_append_left (take m xs) ys 0 k (let e = length-take-le m xs within in omega arith) ∙ get_or-take m xs k 0 before
@@ -76,12 +76,12 @@ joined_row_back width xs m n j l within behind moved inside =
     same_rows width (take m xs ++ drop n xs) j xs l (omega arith) inside
     (λ k below. joined_back xs m n (j * width + k) within (omega arith) ∙ (let e : n + (j * width + k - m) ≡ l * width + k = omega arith in ap (λ p. get_or xs p 0) e))
 
--- the row in front of a row ends where that begins
+-- a row ends where the next one begins
 row_before : (j w : ℕ) → 0 < j → (j - 1) * w + w ≡ j * w
 row_before zero w some = absurd (omega arith)
 row_before (suc j) w some = let e : suc j - 1 ≡ j = omega arith in rw e (omega arith)
 
--- what stands at a place once row i is put in once more behind itself
+-- the entry at an index after a copy of row i is inserted after it
 repeated_at : (width : ℕ) (changes amounts : List ℕ) (i j : ℕ) → AreRows width changes amounts → i ≤ length changes → j ≤ length changes + 1
     → row_at width (take (i * width + width) amounts ++ drop (i * width) amounts) j ≡ get_or (insert (lists width changes amounts) (i + 1) (row_at width amounts i)) j []
 repeated_at width changes amounts i j whole inside below =
@@ -101,7 +101,7 @@ repeated_at width changes amounts i j whole inside below =
           joined_row_back width amounts (i * width + width) (i * width) j (j - 1) within (omega arith) (omega arith) last ∙ sym (is ∙ list_at width changes amounts (j - 1) (omega arith)))
     ]
 
--- the rows once row i is put in once more behind itself
+-- the rows after a copy of row i is inserted after it
 pub lists_repeated : (width : ℕ) (changes changes2 amounts : List ℕ) (i : ℕ) → AreRows width changes amounts → i ≤ length changes → length changes2 ≡ length changes + 1
     → lists width changes2 (take (i * width + width) amounts ++ drop (i * width) amounts) ≡ insert (lists width changes amounts) (i + 1) (row_at width amounts i)
 lists_repeated width changes changes2 amounts i whole inside more =
@@ -119,7 +119,7 @@ whole_repeated width changes changes2 amounts i whole inside more =
     let size = length-joined amounts (i * width + width) (i * width) within in
     rw more (omega arith)
 
--- what stands at a place once row i is taken out
+-- the entry at an index after row i is removed
 removed_at : (width : ℕ) (changes amounts : List ℕ) (i j : ℕ) → AreRows width changes amounts → i ≤ length changes → j < length changes
     → row_at width (take (i * width) amounts ++ drop (i * width + width) amounts) j ≡ get_or (remove (lists width changes amounts) i) j []
 removed_at width changes amounts i j whole inside below =
@@ -135,7 +135,7 @@ removed_at width changes amounts i j whole inside below =
           joined_row_back width amounts (i * width) (i * width + width) j (j + 1) (omega arith) f (omega arith) last ∙ sym (is ∙ list_at width changes amounts (j + 1) (omega arith)))
     ]
 
--- the rows once row i is taken out
+-- the rows after row i is removed
 pub lists_removed : (width : ℕ) (changes changes2 amounts : List ℕ) (i : ℕ) → AreRows width changes amounts → i ≤ length changes → length changes2 + 1 ≡ length changes
     → lists width changes2 (take (i * width) amounts ++ drop (i * width + width) amounts) ≡ remove (lists width changes amounts) i
 lists_removed width changes changes2 amounts i whole inside fewer =

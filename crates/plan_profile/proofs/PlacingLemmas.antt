@@ -10,11 +10,11 @@ use Rattle.plan_profile.proofs.SegmentLemmas.{until_mono, until_from, until_ther
 use Rattle.plan_profile.proofs.StepLemmas.{amount_is, amount_row}
 use Rattle.plan_profile.proofs.RowLemmas.{inside_yes, inside_before, inside_after}
 
--- what is added at an instant of an interval
+-- the amount that is added at an instant of an interval
 abbrev pub added : ℕ → ℕ → ℕ → ℕ → ℕ
 added start end t n = cond (nat_le start t && nat_lt t end) n 0
 
--- rows fit into the machine's numbers where their instants do
+-- the sums of rows fit into 64 bits if those of their instants do
 pub sums_of_rows : (changes : List ℕ) (rows : List (List ℕ)) (start end : ℕ) (needs : List ℕ) → IsSteps changes rows → Contains changes start → Contains changes end
     → HasSumsBetween changes rows start end needs → HasSums rows (changes_until changes start) (changes_until changes end) needs
 sums_of_rows changes rows start end needs steps start_there end_there sums i k from below inside =
@@ -38,7 +38,7 @@ sums_same changes rows changes2 rows2 start end needs usage sums t k since befor
     let same = usage.same t k in
     omega arith
 
--- the row before all changes stays
+-- the row before all changes is kept
 pub raised_first : (rows : List (List ℕ)) (from to : ℕ) (needs : List ℕ) (rows2 : List (List ℕ)) → 0 < from → IsRaised rows from to needs rows2 → get_or rows2 0 [] ≡ get_or rows 0 []
 raised_first rows from to needs rows2 some raised =
     ext_get_or 0 (get_or rows2 0 []) (get_or rows 0 []) (raised.even 0)
@@ -54,7 +54,7 @@ raised_steps changes rows from to needs rows2 steps some raised = record {
   none_first = λ k. ap (λ r. get_or r k 0) (raised_first rows from to needs rows2 some raised) ∙ steps.none_first k;
 }
 
--- the instants of an interval are those of the rows from its start's to before its end's
+-- the instants of an interval are those of the rows from that of its start to before that of its end
 added_rows : (changes : List ℕ) (rows : List (List ℕ)) (start end t n : ℕ) → IsSteps changes rows → Contains changes start → Contains changes end
     → added (changes_until changes start) (changes_until changes end) (changes_until changes t) n ≡ added start end t n
 added_rows changes rows start end t n steps start_there end_there =
@@ -76,8 +76,8 @@ added_rows changes rows start end t n steps start_there end_there =
                 inside_yes (changes_until changes start) (changes_until changes end) (changes_until changes t) n no_fewer fewer ∙ sym (inside_yes start end t n since early))
             | inr late ↦
                 (inside_after (changes_until changes start) (changes_until changes end)
-                    (changes_until changes t) n (until_mono changes end t steps.rising late)
-                    ∙ sym (inside_after start end t n late))
+                (changes_until changes t) n (until_mono changes end t steps.rising late)
+                ∙ sym (inside_after start end t n late))
           ])
     ]
 
@@ -95,7 +95,7 @@ pub before_same : (f g : ℕ → ℕ → ℕ) → ((t k : ℕ) → f t k ≡ g t
 before_same f g same zero k = refl
 before_same f g same (suc t) k = same t k
 
--- at an instant that is neither the start nor the end as much is added as at the instant before
+-- at an instant that is neither the start nor the end, the added amount is that of the instant before
 unadded : (f g : ℕ → ℕ → ℕ) (start end : ℕ) (needs : List ℕ) → ((t k : ℕ) → g t k ≡ f t k + added start end t (get_or needs k 0))
     → (t k : ℕ) → t ≢ start → t ≢ end → g t k ≡ used_before g t k → f t k ≡ used_before f t k
 unadded f g start end needs sum zero k no_start no_end same =
@@ -137,7 +137,7 @@ pub placed : (changes : List ℕ) (rows : List (List ℕ)) (start end : ℕ) (ne
     (rows1 : List (List ℕ)) (changes2 : List ℕ) (rows2 rows3 : List (List ℕ)) (changes4 : List ℕ)
     (rows4 : List (List ℕ)) (changes5 : List ℕ) (rows5 : List (List ℕ))
     → AreChanges changes (amount changes rows) → IsStaged changes rows start end needs changes1 rows1 changes2
-        rows2 rows3 changes4 rows4 changes5 rows5 → IsPlaced changes rows start end needs changes5 rows5
+    rows2 rows3 changes4 rows4 changes5 rows5 → IsPlaced changes rows start end needs changes5 rows5
 placed changes rows start end needs changes1 rows1 changes2 rows2 rows3 changes4 rows4 changes5 rows5 true_changes s =
     let steps2 = s.closed.usage.steps in
     let start_there = s.closed.kept start s.opened.there in

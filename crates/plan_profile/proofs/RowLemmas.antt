@@ -30,7 +30,7 @@ inside_before from to i n before = cond-false _ _ _ (and_left _ _ (lt-leb from i
 pub inside_after : (from to i n : ℕ) → to ≤ i → cond (nat_le from i && nat_lt i to) n 0 ≡ 0
 inside_after from to i n after = cond-false _ _ _ (and_right _ _ (le-ltb i to after))
 
--- the row that is next to be raised is still as it was
+-- the next row to be raised is unchanged so far
 pub raised_next : (amounts : List ℕ) (from i : ℕ) (needs amounts2 : List ℕ) (k : ℕ) → AreRaised amounts from i needs amounts2 → k < length needs
     → get_or amounts2 (i * length needs + k) 0 ≡ get_or amounts (i * length needs + k) 0
 raised_next amounts from i needs amounts2 k raised below =
@@ -38,7 +38,7 @@ raised_next amounts from i needs amounts2 k raised below =
     let old = raised.each i k below in
     omega arith
 
--- amounts of which only those of row i have changed, to other amounts
+-- amounts in which only those of row i changed
 pub record IsWithRow (amounts : List ℕ) (i : ℕ) (row amounts2 : List ℕ) : Type 0 where
   pub size : length amounts2 ≡ length amounts
   pub here : (k : ℕ) → k < length row → get_or amounts2 (i * length row + k) 0 ≡ get_or row k 0
@@ -75,8 +75,8 @@ with_row xs i w ys wide fits =
 -- one more row is raised
 pub raised_more : (amounts : List ℕ) (from i : ℕ) (needs amounts2 row sums amounts3 : List ℕ) → from ≤ i → length row ≡ length needs → AreRaised amounts from i needs amounts2
     → ((k : ℕ) → k < length needs → get_or row k 0 ≡ get_or amounts2 (i * length needs + k) 0) →
-        IsRowWith row needs sums → IsWithRow amounts2 i sums amounts3 →
-        AreRaised amounts from (i + 1) needs amounts3
+    IsRowWith row needs sums → IsWithRow amounts2 i sums amounts3 →
+    AreRaised amounts from (i + 1) needs amounts3
 raised_more amounts from i needs amounts2 row sums amounts3 first even raised is with put =
     let wide : length sums ≡ length needs = with.even ∙ even in
     record {
@@ -151,7 +151,7 @@ raised_rows changes amounts from to needs amounts2 whole within raised = record 
   ];
 }
 
--- amounts fit where the rows do
+-- the sums of amounts fit into 64 bits if those of the rows do
 pub sums_flat : (changes amounts : List ℕ) (from to : ℕ) (needs : List ℕ) → to ≤ length changes + 1 → HasSums (lists (length needs) changes amounts) from to needs → HaveSums amounts from to needs
 sums_flat changes amounts from to needs within sums i k first last below =
     let there = amount_there (length needs) changes amounts i k (omega arith) below in

@@ -6,14 +6,14 @@ use Rattle.plan_profile.specs.Steps.{changes_until, amount_at, amount, IsEndedBy
 use Rattle.plan_profile.proofs.SegmentLemmas.{until_within, until_mono, until_above, until_before, until_change, rising_order}
 use Rattle.plan_profile.proofs.StepLemmas.{amount_is}
 
--- what fits keeps the capacities at an instant of its interval
+-- an interval that fits keeps the capacities at each of its instants
 pub fits_at : (caps : List ℕ) (used : ℕ → ℕ → ℕ) (start d : ℕ) (needs : List ℕ) (t k : ℕ) → Fits caps used start d needs → start ≤ t → t < start + d → k < length caps
     → used t k + get_or needs k 0 ≤ get_or caps k 0
 fits_at caps used start d needs t k fits since before inside =
     let e : start + (t - start) ≡ t = omega arith in
     subst (λ u. used u k + get_or needs k 0 ≤ get_or caps k 0) e (fits (t - start) k (omega arith) inside)
 
--- needs keep the capacities from t on, as far as the rows in front of row n reach
+-- needs keep the capacities from t on, up to the end of the rows before row n
 abbrev pub HasRoomUntil : List ℕ → List ℕ → List (List ℕ) → List ℕ → ℕ → ℕ → Type 0
 HasRoomUntil caps changes rows needs t n =
     (u k : ℕ) → t ≤ u → changes_until changes u < n → k < length caps → amount changes rows u k + get_or needs k 0 ≤ get_or caps k 0
@@ -30,20 +30,20 @@ room_more caps changes rows needs t i room here u k since before inside =
       | inr other ↦ room u k since (omega arith) inside
     ]
 
--- an interval that ends by the change in front of row i fits
+-- an interval that ends by the change before row i fits
 pub fits_before : (caps changes : List ℕ) (rows : List (List ℕ)) (needs : List ℕ) (t d i : ℕ) → IsRising changes → HasRoomUntil caps changes rows needs t i → 0 < i → i ≤ length changes
     → t + d ≤ get_or changes (i - 1) 0 → Fits caps (amount changes rows) t d needs
 fits_before caps changes rows needs t d i rising room some last ends x k below inside =
     let fewer = until_before changes (t + x) (i - 1) rising (omega arith) (omega arith) in
     room (t + x) k (omega arith) (omega arith) inside
 
--- where all rows from t on have room, each interval from t on fits
+-- if all rows from t on have room, each interval from t on fits
 pub fits_all : (caps changes : List ℕ) (rows : List (List ℕ)) (needs : List ℕ) (t d i : ℕ) → HasRoomUntil caps changes rows needs t i → length changes < i → Fits caps (amount changes rows) t d needs
 fits_all caps changes rows needs t d i room all x k below inside =
     let most = until_within changes (t + x) in
     room (t + x) k (omega arith) (omega arith) inside
 
--- an interval that has begun before row i ends and lasts until row i begins does not fit where row i has no room
+-- an interval that begins before the end of row i and lasts past its start doesn't fit if row i has no room
 pub stuck : (caps changes : List ℕ) (rows : List (List ℕ)) (needs : List ℕ) (from d u i : ℕ) → IsRising changes → changes_until changes from ≤ i → i ≤ length changes
     → from ≤ u → 0 < d → (i < length changes → u < get_or changes i 0) → (changes_until changes from < i → get_or changes (i - 1) 0 < u + d)
     → (HasRoomAt caps rows needs i → ⊥) → Fits caps (amount changes rows) u d needs → ⊥
@@ -68,7 +68,7 @@ stuck caps changes rows needs from d u i rising first last since long before rea
           met t later (reaches (omega arith)) came)
     ]
 
--- how far the search has come: t is sought from one instant on, and all rows in front of row i are looked at
+-- the state of the search: t is sought from an instant on, and all rows before row i were tested
 pub record IsSought (caps changes : List ℕ) (rows : List (List ℕ)) (needs : List ℕ) (from d first t i : ℕ) : Type 0 where
   pub since : from ≤ t
   pub later : (j : ℕ) → first ≤ j → i ≤ j + 1 → j < length changes → t ≤ get_or changes j 0
@@ -125,7 +125,7 @@ sought_found caps changes rows needs from d first t i sought fits = record {
   ]);
 }
 
--- behind the last change nothing is in use
+-- after the last change nothing is in use
 pub last_empty : (last : ℕ) (changes : List ℕ) (rows : List (List ℕ)) (k : ℕ) → IsRising changes → IsEndedBy last changes rows → amount_at rows (length changes) k ≡ 0
 last_empty last changes rows k rising ended =
     let t = last + get_or changes (length changes - 1) 0 in
@@ -135,7 +135,7 @@ last_empty last changes rows k rising ended =
     omega arith) in
     sym (amount_is changes rows t k (length changes) all) ∙ ended t k (omega arith)
 
--- behind the last change there is room for what fits at all
+-- after the last change, needs within the capacities have room
 pub last_room : (last : ℕ) (caps changes : List ℕ) (rows : List (List ℕ)) (needs : List ℕ) →
     IsRising changes → IsEndedBy last changes rows → FitsEmpty caps needs →
     HasRoomAt caps rows needs (length changes)
@@ -144,7 +144,7 @@ last_room last caps changes rows needs rising ended empty k inside =
     let fits = empty k inside in
     omega arith
 
--- a row without room is not the last
+-- a row without room isn't the last
 pub not_last : (last : ℕ) (caps changes : List ℕ) (rows : List (List ℕ)) (needs : List ℕ) (i : ℕ) → IsRising changes → IsEndedBy last changes rows → FitsEmpty caps needs → i ≤ length changes
     → (HasRoomAt caps rows needs i → ⊥) → i < length changes
 not_last last caps changes rows needs i rising ended empty within full =

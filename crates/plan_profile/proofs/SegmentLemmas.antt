@@ -1,4 +1,4 @@
--- How many of the changes come by an instant, in a rising list.
+-- The number of changes up to an instant, in a rising list.
 use Rattle.std.proofs.Common.{◌≡◌, ℕ, zero, suc, ◌+◌, ◌-◌, ◌≤◌, ◌<◌, cond, List, [], ◌∷◌, length, get_or, take, drop, nat_le, ◌∙◌, ap, inl, inr, add-one, arith}
 use Rattle.std.specs.Prelude.{Contains, insert, remove}
 use Rattle.std.proofs.lemmas.List.{get_or_default}
@@ -7,7 +7,7 @@ use Rattle.std.proofs.lemmas.Bool.{cases_lt, cases_order, le-leb, lt-leb, cond-t
 use Rattle.plan_profile.specs.Usage.{IsRising}
 use Rattle.plan_profile.specs.Steps.{changes_until}
 
--- 1 for a change that came by t
+-- 1 for a change up to t
 abbrev pub come : ℕ → ℕ → ℕ
 come t c = cond (nat_le c t) 1 0
 
@@ -23,7 +23,7 @@ until_cons x xs t = sum_by-cons (come t) x xs
 pub until_within : (xs : List ℕ) (t : ℕ) → changes_until xs t ≤ length xs
 until_within xs t = count_by-le-length (λ c. nat_le c t) xs
 
--- where the first n come by t, n of them or more do
+-- if the first n changes are at most t, at least n changes are at most t
 pub until_above : (xs : List ℕ) (t n : ℕ) → n ≤ length xs → ((i : ℕ) → i < n → get_or xs i 0 ≤ t) → n ≤ changes_until xs t
 until_above [] t n le h = le
 until_above (x ∷ xs) t zero le h = omega arith
@@ -33,7 +33,7 @@ until_above (x ∷ xs) t (suc n) le h =
     let step : changes_until (x ∷ xs) t ≡ come t x + changes_until xs t = until_cons x xs t in
     omega arith
 
--- where those from n on come after t, at most n come by t
+-- if the changes from index n on are after t, at most n changes are at most t
 pub until_below : (xs : List ℕ) (t n : ℕ) → ((i : ℕ) → n ≤ i → i < length xs → t < get_or xs i 0) → changes_until xs t ≤ n
 until_below [] t n h = omega arith
 until_below (x ∷ xs) t zero h =
@@ -47,7 +47,7 @@ until_below (x ∷ xs) t (suc n) h =
     let step : changes_until (x ∷ xs) t ≡ come t x + changes_until xs t = until_cons x xs t in
     omega arith
 
--- a change among the first that came, came
+-- each of the first changes up to t is at most t
 pub within : (xs : List ℕ) (t i : ℕ) → IsRising xs → i < changes_until xs t → get_or xs i 0 ≤ t
 within xs t i rising below =
     elim (cases_lt t (get_or xs i 0)) [
@@ -61,7 +61,7 @@ within xs t i rising below =
           absurd (omega arith))
     ]
 
--- a change behind those that came, comes later
+-- a change at an index from the number of changes up to t on is after t
 pub beyond : (xs : List ℕ) (t i : ℕ) → IsRising xs → changes_until xs t ≤ i → i < length xs → t < get_or xs i 0
 beyond xs t i rising from inside =
     elim (cases_lt t (get_or xs i 0)) [
@@ -85,13 +85,13 @@ until_change xs i rising inside =
     let most : changes_until xs (get_or xs i 0) ≤ i + 1 = until_below xs (get_or xs i 0) (i + 1) (λ j from below. rising i j (omega arith) below) in
     omega arith
 
--- no fewer come by a later instant
+-- there are no fewer changes up to a later instant
 pub until_mono : (xs : List ℕ) (s t : ℕ) → IsRising xs → s ≤ t → changes_until xs s ≤ changes_until xs t
 until_mono xs s t rising le =
     let inside = until_within xs s in
     until_above xs t (changes_until xs s) inside (λ i below. let e = within xs s i rising below in omega arith)
 
--- fewer come before a change than by it
+-- there are fewer changes before a change than up to it
 pub until_before : (xs : List ℕ) (t i : ℕ) → IsRising xs → i < length xs → t < get_or xs i 0 → changes_until xs t ≤ i
 until_before xs t i rising inside before =
     elim (cases_lt i (changes_until xs t)) [
@@ -99,14 +99,14 @@ until_before xs t i rising inside before =
       | inr below ↦ below
     ]
 
--- a change that is there, with its place
+-- a change that is in the list, with its index
 pub place_of : (xs : List ℕ) (c : ℕ) → Contains xs c → (i : ℕ) × (i < length xs) × (get_or xs i 0 ≡ c)
 place_of xs c (i, inside, is) = (i, inside, get_or_default xs i 0 c inside ∙ is)
 
 pub there_at : (xs : List ℕ) (i c : ℕ) → i < length xs → get_or xs i 0 ≡ c → Contains xs c
 there_at xs i c inside is = (i, inside, get_or_default xs i c 0 inside ∙ is)
 
--- as many come until t as until a change or more exactly from the change on
+-- a change is at most t if there are at least as many changes up to t as up to the change
 pub until_from : (xs : List ℕ) (c t : ℕ) → IsRising xs → Contains xs c → changes_until xs c ≤ changes_until xs t → c ≤ t
 until_from xs c t rising there more =
     let at = place_of xs c there in
@@ -126,7 +126,7 @@ until_there xs c rising there =
     let m = ap (changes_until xs) at.2 in
     omega arith
 
--- the last change that came by c is c, where it is there
+-- the last change up to c is c, if c is a change
 pub last_there : (xs : List ℕ) (c : ℕ) → IsRising xs → Contains xs c → get_or xs (changes_until xs c - 1) 0 ≡ c
 last_there xs c rising there =
     let at = place_of xs c there in
@@ -149,7 +149,7 @@ until_remove xs i t inside =
     let parts = sum_by-take-drop (come t) xs i in
     omega arith
 
--- a later place has no earlier instant
+-- the instant at a later index isn't earlier
 pub rising_order : (xs : List ℕ) → IsRising xs → (i j : ℕ) → i ≤ j → j < length xs → get_or xs i 0 ≤ get_or xs j 0
 rising_order xs rising i j le inside =
     elim (cases_order i j) [

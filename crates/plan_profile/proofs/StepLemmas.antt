@@ -8,11 +8,11 @@ pub amount_row : (changes : List ℕ) (rows : List (List ℕ)) (t k : ℕ) → a
 unfolding amount
 amount_row changes rows t k = refl
 
--- the amounts at an instant by which i changes came are those of row i
+-- the amounts at an instant with i changes up to it are those of row i
 pub amount_is : (changes : List ℕ) (rows : List (List ℕ)) (t k i : ℕ) → changes_until changes t ≡ i → amount changes rows t k ≡ amount_at rows i k
 amount_is changes rows t k i e = amount_row changes rows t k ∙ ap (λ n. amount_at rows n k) e
 
--- the changes that came before change i are those in front of it
+-- the changes before change i are those with lower indices
 pub until_just_before : (changes : List ℕ) (i t : ℕ) → IsRising changes → i < length changes → t + 1 ≡ get_or changes i 0 → changes_until changes t ≡ i
 until_just_before changes i t rising inside e =
     let most : changes_until changes t ≤ i = until_before changes t i rising inside (omega arith) in

@@ -1,5 +1,5 @@
--- How steps change while an interval is placed: an instant is cut in, needs are added to rows, and
--- a change that turns out to be none goes away. No public contract uses these definitions.
+-- Changes of steps while an interval is placed: an instant is inserted, needs are added to rows, and an
+-- instant at which no amount changes is removed. No public contract uses these definitions.
 use Rattle.std.specs.Prelude.{◌≡◌, ◌≢◌, ℕ, ◌+◌, ◌*◌, ◌^◌, ◌≤◌, ◌<◌, ◌&&◌, ◌⊎◌, if◌then◌else◌}
 use Rattle.std.specs.Prelude.{nat_le, nat_lt, List, [], length}
 use Rattle.std.specs.Prelude.{slice_index, slice_index_or, Contains}
@@ -40,7 +40,7 @@ pub record IsRowWith (row needs sums : List ℕ) : Type 0 where
   pub even : length sums ≡ length row
   pub each : (k : ℕ) → slice_index sums k ≡ slice_index row k + slice_index needs k
 
--- rows with needs added from one place to before another
+-- rows with needs added from one index to before another
 pub record IsRaised (rows : List (List ℕ)) (from to : ℕ) (needs : List ℕ)
     (rows2 : List (List ℕ)) : Type 0 where
   pub size : length rows2 ≡ length rows
@@ -55,25 +55,25 @@ pub record AreRaised (amounts : List ℕ) (from to : ℕ) (needs amounts2 : List
       ≡ slice_index amounts (i * length needs + k)
       + (if nat_le from i && nat_lt i to then slice_index needs k else 0)
 
--- needs fit into the machine's numbers beside the amounts, from one row to before another
+-- the sums of needs and amounts fit into 64 bits, from one row to before another
 abbrev pub HaveSums : List ℕ → ℕ → ℕ → List ℕ → Type 0
 HaveSums amounts from to needs =
     (i k : ℕ) → from ≤ i → i < to → k < length needs
     → slice_index amounts (i * length needs + k) + slice_index needs k < 2 ^ 64
 
--- needs fit into the machine's numbers beside the rows from one place to before another
+-- the sums of needs and rows fit into 64 bits, from one index to before another
 abbrev pub HasSums : List (List ℕ) → ℕ → ℕ → List ℕ → Type 0
 HasSums rows from to needs =
     (i k : ℕ) → from ≤ i → i < to → k < length needs
     → amount_at rows i k + slice_index needs k < 2 ^ 64
 
--- needs fit into the machine's numbers beside the amounts from one instant to before another
+-- the sums of needs and amounts fit into 64 bits, from one instant to before another
 abbrev pub HasSumsBetween : List ℕ → List (List ℕ) → ℕ → ℕ → List ℕ → Type 0
 HasSumsBetween changes rows start end needs =
     (t k : ℕ) → start ≤ t → t < end → k < length needs
     → amount changes rows t k + slice_index needs k < 2 ^ 64
 
--- steps with needs added from one instant to before another, each change a true one
+-- steps with needs added from one instant to before another; at each change some amount changes
 pub record IsPlaced (changes : List ℕ) (rows : List (List ℕ)) (start end : ℕ) (needs : List ℕ)
     (changes2 : List ℕ) (rows2 : List (List ℕ)) : Type 0 where
   pub steps : IsSteps changes2 rows2

@@ -1,5 +1,4 @@
-//! What is in use of resources of constant capacity over time, and where an interval fits beside
-//! it.
+//! Usage of resources with constant capacities over time, and the earliest instant at which an interval fits.
 #![tactic(auto)]
 
 mod profile;

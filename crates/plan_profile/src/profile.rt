@@ -1,4 +1,4 @@
-//! Capacity in time.
+//! Resource profiles.
 #![tactic(auto, unfolding(crate::specs::InUse::in_use, crate::specs::InUse::capacities))]
 
 ghost use Rattle.std.specs.Prelude.{◌≡◌, ℕ, ◌^◌, ◌<◌, length, slice_index};
@@ -10,13 +10,13 @@ use crate::rows::{copy_with_room, row};
 use crate::steps::{place_between, segment};
 use std::alloc::{AllocError, Global};
 
-/// The end of time: what is placed ends by this instant, in whole time units.
+/// The end of time, in whole time units: every interval that is placed ends by this instant.
 pub const END: u64 = 10_000_000;
 
-/// How much of each resource is in use at each instant, beside the constant capacities of the
-/// resources. Resources are numbered from 1, instants are whole time units from 0 on. Each call
-/// goes from change to change of the usage, so that long intervals cost no more than short ones.
-/// Only `new`, `place` and `copy` allocate; their only error is out of memory.
+/// The amount of each resource in use at each instant, with the constant capacities of the resources (the
+/// resource profiles of Kolisch and Hartmann 1999). Resources are numbered from 1; instants are whole time
+/// units from 0 on. The cost of a call depends on the number of changes of usage, not on the length of an
+/// interval. Only `new`, `place` and `copy` allocate; their only error is out of memory.
 #[derive(Debug, Drop)]
 pub struct Profile {
     caps: Vec<u64>,
@@ -52,14 +52,14 @@ impl Profile {
         })
     }
 
-    // The place of the row that is in force at an instant.
+    // Returns the index of the row that is in force at an instant.
     fn row_in_force(&self, t: u64) -> usize
         ensures { result ≡ changes_until self.now.changes.items t }
     {
         segment(&self.changes, t)
     }
 
-    // Whether needs keep the capacities beside the amounts of a row.
+    // Tests whether needs, added to the amounts of a row, keep the capacities.
     fn row_has_room(&self, i: usize, needs: &[u64]) -> bool
         requires row { i ≤ vec_len self.now.changes }
         requires needs { length needs.now ≡ length (capacities self.now) }
@@ -81,8 +81,8 @@ impl Profile {
         row(&self.rows, self.caps.len(), i)[k as usize - 1]
     }
 
-    /// The instants at which the usage of some resource differs from that of the instant before,
-    /// if nothing is in use before instant 0.
+    /// Returns in rising order the instants at which the usage of some resource differs from that at the
+    /// instant before. Before instant 0 nothing is in use.
     pub fn changes(&self) -> &[u64]
         ensures rising { IsRising result.now }
         ensures exact { (t : ℕ) → Contains result.now t
@@ -92,7 +92,7 @@ impl Profile {
         &self.changes
     }
 
-    /// Whether no need is above its capacity. `needs` has an amount for each resource.
+    /// Tests whether each need is at most its capacity. `needs` contains an amount for each resource.
     pub fn fits_empty(&self, needs: &[u64]) -> bool
         requires { length needs.now ≡ length (capacities self.now) }
         ensures { IsTrue result ↔ FitsEmpty (capacities self.now) needs.now }
@@ -100,8 +100,8 @@ impl Profile {
         row_is_within(&self.caps, needs)
     }
 
-    /// Whether the needs of an interval of `d` instants from `start` on keep the capacities at each
-    /// of its instants.
+    /// Tests whether the needs of an interval of `d` instants from `start` on, added to the usage, keep the
+    /// capacities at each of these instants.
     pub fn fits(&self, start: u64, d: u64, needs: &[u64]) -> bool
         requires { length needs.now ≡ length (capacities self.now) }
         ensures { IsTrue result ↔ Fits (capacities self.now) (in_use self.now) start d needs.now }

@@ -6,7 +6,7 @@ ghost use Rattle.plan_profile.specs.Changes.{IsRowWith};
 
 use std::alloc::{AllocError, Global};
 
-// A row of as many amounts as there are capacities, all of them 0.
+// Returns a row with the amount 0 for each capacity.
 pub(crate) fn zeros(alloc: Global, caps: &[u64]) -> Result<Vec<u64>, AllocError>
     ensures zeros { IfOk result (λ row. row.items ≡ replicate (length caps.now) 0) }
     ensures small { (k : ℕ) → slice_index caps.now k < 2 ^ 64 }
@@ -14,7 +14,7 @@ pub(crate) fn zeros(alloc: Global, caps: &[u64]) -> Result<Vec<u64>, AllocError>
     vec![in alloc; 0; caps.len()]
 }
 
-// Whether no need is above its capacity.
+// Tests whether each need is at most its capacity.
 pub(crate) fn row_is_within(caps: &[u64], needs: &[u64]) -> bool
     requires { length needs.now ≡ length caps.now }
     ensures { IsTrue result ↔ FitsEmpty caps.now needs.now }
@@ -22,7 +22,7 @@ pub(crate) fn row_is_within(caps: &[u64], needs: &[u64]) -> bool
     caps.iter().zip(needs).all(|(cap, need)| need <= cap)
 }
 
-// Whether needs keep the capacities beside the amounts of a row.
+// Tests whether needs, added to the amounts of a row, keep the capacities.
 pub(crate) fn has_room(caps: &[u64], row: &[u64], needs: &[u64]) -> bool
     requires row { length row.now ≡ length caps.now }
     requires needs { length needs.now ≡ length caps.now }

@@ -1,4 +1,4 @@
-//! Rows of amounts that stand one after another in one list, each as wide as there are resources.
+//! Rows of amounts, one after another in one list. Each row contains an amount for each resource.
 ghost use Rattle.std.specs.Prelude.{◌≡◌, ℕ, ◌+◌, ◌*◌, ◌^◌, ◌≤◌, ◌<◌, ◌++◌, length, take, drop};
 ghost use Rattle.std.specs.Prelude.{vec_len, vec_capacity, IfOk};
 ghost use Rattle.plan_profile.specs.Steps.{row_at};
@@ -7,7 +7,7 @@ ghost use Rattle.plan_profile.specs.Changes.{AreRaised, HaveSums};
 use crate::row::add_needs;
 use std::alloc::{AllocError, Global};
 
-// The row at a place.
+// Returns the row at an index.
 pub(crate) fn row(rows: &[u64], width: usize, i: usize) -> &[u64]
     requires { i * width + width ≤ length rows.now }
     ensures { result.now ≡ row_at width rows.now i }
@@ -16,7 +16,7 @@ pub(crate) fn row(rows: &[u64], width: usize, i: usize) -> &[u64]
     &rows[at..at + width]
 }
 
-// A copy with room for more numbers behind it, which then need no memory.
+// Returns a copy with spare capacity for `more` further numbers.
 pub(crate) fn copy_with_room(
     alloc: Global,
     items: &[u64],
@@ -30,7 +30,7 @@ pub(crate) fn copy_with_room(
     Ok(copy)
 }
 
-// Puts a row in once more behind itself, if there is spare capacity.
+// Inserts a copy of a row after it. The spare capacity must suffice.
 pub(crate) fn repeat_row(rows: &mut Vec<u64>, width: usize, i: usize)
     requires within { i * width + width ≤ vec_len rows.old }
     requires room { vec_len rows.old + width ≤ vec_capacity rows.old }
@@ -45,7 +45,7 @@ pub(crate) fn repeat_row(rows: &mut Vec<u64>, width: usize, i: usize)
     rows.copy_within(at..len, at + width);
 }
 
-// Takes a row out.
+// Removes a row.
 pub(crate) fn remove_row(rows: &mut Vec<u64>, width: usize, i: usize)
     requires { i * width + width ≤ vec_len rows.old }
     ensures { rows.new.items
@@ -57,7 +57,7 @@ pub(crate) fn remove_row(rows: &mut Vec<u64>, width: usize, i: usize)
     rows.truncate(len - width);
 }
 
-// Adds needs to the rows from one place to before another.
+// Adds needs to the rows with indices from `from` to before `to`.
 pub(crate) fn raise(rows: &mut [u64], from: usize, to: usize, needs: &[u64])
     requires order { from ≤ to }
     requires within { to * length needs.now ≤ length rows.old }

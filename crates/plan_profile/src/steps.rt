@@ -9,7 +9,7 @@ ghost use Rattle.plan_profile.specs.Changes.{IsCut, IsMerged, IsPlaced, HasSumsB
 use crate::rows::{raise, remove_row, repeat_row, row};
 use std::alloc::AllocError;
 
-// How many of the changes come no later than t, which is the place of the row in force at t.
+// Returns the number of changes up to instant `t`, which is the index of the row in force at `t`.
 pub(crate) fn segment(changes: &[u64], t: u64) -> usize
     requires { IsRising changes.now }
     ensures { result ≡ changes_until changes.now t }
@@ -17,7 +17,7 @@ pub(crate) fn segment(changes: &[u64], t: u64) -> usize
     changes.partition_point(|change| *change <= t)
 }
 
-// Inserts if there is spare capacity, so that it allocates nothing.
+// Inserts an item without allocation. The spare capacity must suffice.
 fn insert_reserved(items: &mut Vec<u64>, i: usize, item: u64)
     requires within { i ≤ vec_len items.old }
     requires room { vec_len items.old < vec_capacity items.old }
@@ -28,7 +28,7 @@ fn insert_reserved(items: &mut Vec<u64>, i: usize, item: u64)
     let _ = items.insert(i, item);
 }
 
-// Has an instant among the changes.
+// Inserts an instant into the changes unless it is one of them. The amounts stay the same.
 fn cut(changes: &mut Vec<u64>, rows: &mut Vec<u64>, width: usize, at: u64)
     requires whole { AreRows width changes.old.items rows.old.items }
     requires steps { IsSteps changes.old.items (lists width changes.old.items rows.old.items) }
@@ -50,7 +50,7 @@ fn cut(changes: &mut Vec<u64>, rows: &mut Vec<u64>, width: usize, at: u64)
     repeat_row(rows, width, i);
 }
 
-// Takes an instant out of the changes where the amounts do not change.
+// Removes an instant from the changes if no amount changes there.
 fn merge(changes: &mut Vec<u64>, rows: &mut Vec<u64>, width: usize, at: u64)
     requires whole { AreRows width changes.old.items rows.old.items }
     requires steps { IsSteps changes.old.items (lists width changes.old.items rows.old.items) }
@@ -66,8 +66,7 @@ fn merge(changes: &mut Vec<u64>, rows: &mut Vec<u64>, width: usize, at: u64)
     }
 }
 
-// Adds needs at the instants from start to before end. Where it finds no memory, it changes
-// nothing.
+// Adds needs at the instants from `start` to before `end`. If memory runs out, it changes nothing.
 pub(crate) fn place_between(
     changes: &mut Vec<u64>,
     rows: &mut Vec<u64>,

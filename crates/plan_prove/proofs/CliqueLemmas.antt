@@ -1,5 +1,5 @@
--- Steps of one machine take turns, so that their times lie between the least head and the end by
--- the least tail.
+-- Steps of one machine don't overlap, so their times are between the least head and the end by the least
+-- tail.
 use Rattle.std.proofs.Common.{◌≡◌, ◌∙◌, ℕ, suc, ◌+◌, ◌-◌, ◌≤◌, ◌<◌, ◌⊎◌, inl, inr, List, Vec, [], ◌∷◌, true, ◌&&◌, not, nat_le, nat_eq, length, get_or, Contains, refl, sym, subst, arith}
 use Rattle.std.specs.List.{All, AllByRecursion, sum_by}
 use Rattle.std.specs.declared.alloc.Global.{Global}
@@ -17,7 +17,7 @@ use Rattle.plan_prove.specs.declared.state.End.TheVariants.{Start, Finish}
 use Rattle.plan_prove.specs.declared.state.State.{State}
 use Rattle.plan_prove.specs.declared.edges.Others.{Others}
 
--- what it is to be one of the others
+-- a step is one of the others
 pub record IsOther (state : State) (others : Others) (x : ℕ) : Type 0 where
   pub another : x ≡ others.but → ⊥
   pub head : others.head ≤ get_or state.heads.items x 0
@@ -56,7 +56,7 @@ each_other P state others clique each k d below =
     (All-filter (is_other state others) (Contains clique.items) clique.items (All-contains_itself clique.items) k d below)
     (filter_passes (is_other state others) clique.items k d below)
 
--- of two steps of a clique one ends before the other starts
+-- for two steps of a clique, one ends before the other starts
 pub either_first : (g : Graph) (starts : List ℕ) (clique : Vec ℕ Global) (x y : ℕ) →
     KeepsClique g starts clique → Contains clique.items x → Contains clique.items y → (x ≡ y → ⊥) →
     IsBefore g starts x y ⊎ IsBefore g starts y x
@@ -68,7 +68,7 @@ either_first g starts clique x y kept in_x in_y unlike = elim (cases_lt x y) [
   ]
 ]
 
--- the others of a clique take turns
+-- the others of a clique don't overlap
 others_in_order : (g : Graph) (state : State) (others : Others) (clique : Vec ℕ Global) (starts : List ℕ) → KeepsClique g starts clique
     → InOrder (IsClear (λ x. get_or starts x 0) (time_in g)) (others_of state others clique.items)
 others_in_order g state others clique starts kept =
@@ -76,7 +76,7 @@ others_in_order g state others clique starts kept =
     (AllPairs-filter (λ x y. x < y) (is_other state others) clique.items kept.rising)
     (All-filter (is_other state others) (Contains clique.items) clique.items (All-contains_itself clique.items))
 
--- where the others and the step beside them all start late and end early they don't fill the time
+-- if the others and the left-out step all start late and end early, they don't fill the time
 filled : (g : Graph) (limit start rest : ℕ) (state : State) (others : Others) (clique : Vec ℕ Global) (starts : List ℕ) → KeepsClique g starts clique → Contains clique.items others.but
     → Fill g limit state clique others start rest
     → start ≤ get_or starts others.but 0 → get_or starts others.but 0 + time_in g others.but + rest < limit
@@ -101,7 +101,7 @@ filled g limit start rest state others clique starts kept there fill late early 
     span (λ x. get_or starts x 0) (time_in g) start (limit - suc rest) (but ∷ zs) (omega (arith, late, early)) order from until in
     absurd (omega (arith, all, early, fill, sum_by-cons (time_in g) but zs))
 
--- steps of a clique that fill the time between their least head and their least tail refute
+-- a state is refuted if steps of a clique fill the time between their least head and their least tail
 pub fill_refutes : (g : Graph) (limit start rest : ℕ) (state : State) (others : Others) (clique : Vec ℕ Global) → IsClique g clique → Contains clique.items others.but
     → start ≤ others.head → start ≤ get_or state.heads.items others.but 0 → rest ≤ others.tail → rest ≤ get_or state.tails.items others.but 0
     → Fill g limit state clique others start rest → IsRefuted g limit state
@@ -111,7 +111,7 @@ fill_refutes g limit start rest state others clique is there low early short lon
     (λ z passes. omega (arith, low, (other_parts state others z passes).head, h.heads z))
     (λ z passes. omega (arith, short, (other_parts state others z passes).tail, h.tails z))
 
--- where they fill it up to the least tail of the others, none of these is the last
+-- if they fill it up to the least tail of the others, none of the others is the last
 pub fill_behind : (g : Graph) (limit start : ℕ) (state : State) (others : Others) (clique : Vec ℕ Global) → IsClique g clique → Contains clique.items others.but
     → start ≤ others.head → start ≤ get_or state.heads.items others.but 0 → Fill g limit state clique others start others.tail → IsBehind g limit state clique others
 fill_behind g limit start state others clique is there low early fill x in_x other starts h =
@@ -123,7 +123,7 @@ fill_behind g limit start state others clique is there low early fill x in_x oth
           (λ z passes. omega (arith, (other_parts state others z passes).tail, h.tails z)))
     ]
 
--- where they fill it from the least head of the others on, none of these is the first
+-- if they fill it from the least head of the others on, none of the others is the first
 pub fill_ahead : (g : Graph) (limit rest : ℕ) (state : State) (others : Others) (clique : Vec ℕ Global) → IsClique g clique → Contains clique.items others.but
     → rest ≤ others.tail → rest ≤ get_or state.tails.items others.but 0 → Fill g limit state clique others others.head rest → IsAhead g limit state clique others
 fill_ahead g limit rest state others clique is there short long fill x in_x other starts h =
@@ -135,7 +135,7 @@ fill_ahead g limit rest state others clique is there short long fill x in_x othe
           (λ z passes. omega (arith, short, (other_parts state others z passes).tail, h.tails z)))
     ]
 
--- steps that take turns last no longer together than from a start to an end between which they are
+-- steps that don't overlap, all between a start and an end, together last at most the time between
 between : (g : Graph) (starts : List ℕ) (start end : ℕ) (zs : List ℕ) → InOrder (IsClear (λ x. get_or starts x 0) (time_in g)) zs → All (λ z. start ≤ get_or starts z 0) zs
     → All (λ z. get_or starts z 0 + time_in g z ≤ end) zs → 0 < sum_by (time_in g) zs → start + sum_by (time_in g) zs ≤ end
 between g starts start end [] order late early some = absurd (omega (arith, some))
@@ -166,7 +166,7 @@ behind_starts g limit times value state others last clique is behind same later 
     (λ z in_z passes. behind z in_z (other_of_more state others last z same later longer passes) starts h) in
     omega (arith, small, most, between g starts last.head (get_or starts others.but 0) zs (others_in_order g state last clique starts (is starts h.kept)) late early (omega (arith, most, some)))
 
--- a step that goes ahead of others leaves what they take up to the limit, or more
+-- a step that goes ahead of others leaves at least their time up to the limit
 pub ahead_leaves : (g : Graph) (limit times value : ℕ) (state : State) (others last : Others) (clique : Vec ℕ Global) → IsClique g clique → IsAhead g limit state clique others
     → last.but ≡ others.but → others.head ≤ last.head → others.tail ≤ last.tail → times ≤ sum_by (time_in g) (others_of state last clique.items) → 0 < times
     → value ≤ last.tail + times → Leaves g limit state others.but value
@@ -187,7 +187,7 @@ ahead_leaves g limit times value state others last clique is ahead same later lo
           (omega (arith, most, some)),
     )
 
--- what goes behind others goes beyond them from the start, and what goes ahead of them from the finish
+-- behind others is beyond them from the start; ahead of others is beyond them from the finish
 pub beyond_from_start : (g : Graph) (limit : ℕ) (state : State) (clique : Vec ℕ Global) (end : End)
     (others : Others) → end ≡ Start → IsBehind g limit state clique others →
     GoesBeyond g limit state clique end others
@@ -198,7 +198,7 @@ pub beyond_from_finish : (g : Graph) (limit : ℕ) (state : State) (clique : Vec
     GoesBeyond g limit state clique end others
 beyond_from_finish g limit state clique end others is ahead = subst (λ (e : End). GoesBeyond g limit state clique e others) (sym is) ahead
 
--- a step that goes beyond others stays as far away from an end as the others take it
+-- a step that goes beyond others stays away from the end by at least their time
 pub beyond_away : (g : Graph) (limit : ℕ) (end : End) (near far from but times value : ℕ) (state : State) (clique : Vec ℕ Global) → IsClique g clique
     → GoesBeyond g limit state clique end (others_from end near far but) → near ≤ from → times ≤ sum_by (time_in g) (others_of state (others_from end from far but) clique.items) → 0 < times
     → value ≤ from + times → StaysAway g limit state end but value

@@ -1,4 +1,4 @@
--- The graph of a shop is kept by all its feasible starts, so what is refuted of the graph is of the shop.
+-- All feasible starts of a shop keep its graph, so a refutation for the graph is one for the shop.
 use Rattle.std.proofs.Common.{◌≡◌, ℕ, suc, ◌+◌, ◌≤◌, ◌<◌, inl, inr, List, [], ◌∷◌, ◌++◌, Some, Vec, true, false, nat_eq, nat_lt, add-one, Contains, length, get_or, map, take, ap, sym, ◌∙◌, subst, arith}
 use Rattle.std.specs.List.{All, AllPairs}
 use Rattle.std.specs.declared.alloc.Global.{Global}
@@ -28,7 +28,7 @@ time_is s g is x = ap (λ xs. get_or xs x 0) is.times ∙ elim (cases_lt x (leng
       ∙ sym (ap (λ (w : Step). w.time) (get_or_past s.steps x idle past))
 ]
 
--- the times of one step more
+-- the times with one more step
 pub times_more : (s : JobShop) (i : ℕ) (step : Step) (times new : List ℕ) → times ≡ map (λ (w : Step). w.time) (take i s.steps) → slice_get s.steps i ≡ Some step
     → new ≡ times ++ step.time ∷ [] → new ≡ map (λ (w : Step). w.time) (take (i + 1) s.steps)
 times_more s i step times new before there is =
@@ -83,7 +83,7 @@ kept_in s g starts is feasible =
           | inr after ↦ inr (omega (arith, after, time_is s g is second))
         ]
 
--- starts of a makespan below a limit end before it
+-- starts with a makespan below a limit end before the limit
 pub below_limit : (s : JobShop) (g : Graph) (limit : ℕ) (starts : List ℕ) → IsGraphOf s g → IsFeasible (problem_of s) starts → makespan (problem_of s) starts < limit → IsBelow g limit starts
 below_limit s g limit starts is feasible below x = elim (cases_lt x (count_steps s)) [
   | inl inside ↦
@@ -95,24 +95,24 @@ below_limit s g limit starts is feasible below x = elim (cases_lt x (count_steps
       omega (arith, below, no_start, no_time, time_is s g is x)
 ]
 
--- what is refuted of the graph is a lower bound of the shop
+-- a limit that is refuted for the graph is a lower bound for the shop
 pub refuted_bound : (s : JobShop) (g : Graph) (limit : ℕ) → IsGraphOf s g → NoneIsBelow g limit → IsLowerBound s limit
 refuted_bound s g limit is none starts feasible = elim (cases_lt (makespan (problem_of s) starts) limit) [
   | inl below ↦ absurd (none starts (kept_in s g starts is feasible) (below_limit s g limit starts is feasible below))
   | inr least ↦ least
 ]
 
--- the lasting steps of a machine with one more, where it is one
+-- the steps of positive time of a machine with one more step, if it is one of them
 pub lasting_more : (s : JobShop) (m x : ℕ) (before new : List ℕ) → before ≡ those_below x (lasts_on s m) → lasts_on s m x ≡ true → new ≡ before ++ x ∷ [] → new ≡ those_below (x + 1) (lasts_on s m)
 lasting_more s m x before new is lasts pushed = rw add-one
     (pushed ∙ ap (λ (xs : List ℕ). xs ++ x ∷ []) is ∙ ap (λ (xs : List ℕ). those_below x (lasts_on s m) ++ xs) (sym (cond-true (lasts_on s m x) (x ∷ []) [] lasts)))
 
--- and where it is none
+-- and if it isn't
 pub lasting_same : (s : JobShop) (m x : ℕ) (before new : List ℕ) → before ≡ those_below x (lasts_on s m) → lasts_on s m x ≡ false → new ≡ before → new ≡ those_below (x + 1) (lasts_on s m)
 lasting_same s m x before new is lasts same = rw add-one
     (same ∙ is ∙ sym (ap (λ (xs : List ℕ). those_below x (lasts_on s m) ++ xs) (cond-false (lasts_on s m x) (x ∷ []) [] lasts) ∙ append-nil (those_below x (lasts_on s m))))
 
--- a search that has taken nodes is one of the same shop
+-- a search that has used nodes is a search of the same shop
 pub same_search : (s : JobShop) (old new : Search) → HasTaken old new → IsSearchOf s old → IsSearchOf s new
 same_search s old new taken is = record {
   graph = subst (λ (g : Graph). IsGraphOf s g) (sym taken.graph) is.graph;

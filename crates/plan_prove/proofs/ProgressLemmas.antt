@@ -1,4 +1,4 @@
--- What a watcher hears in several calls, and that it is true of the shop.
+-- The reports to a watcher in several calls are true of the shop.
 use Rattle.std.proofs.Common.{ℕ, inl, inr, List, ap, sym, ◌∙◌, subst, arith}
 use Rattle.plan_prove.specs.Proofs.{HasTaken}
 use Rattle.plan_prove.specs.States.{AreRefuted}
@@ -13,7 +13,7 @@ known_twice search before between after first second p was = elim (second p was)
   | inr known ↦ inr known
 ]
 
--- what a search knows that has taken nodes, it knew before
+-- a report with the data of a search after it used nodes has its data before
 pub known_before : (old new : Search) (before after : Progress → Type 0) → HasTaken old new → HearsKnown new before after → HearsKnown old before after
 known_before old new before after taken heard p was = elim (heard p was) [
   | inl earlier ↦ inl earlier
@@ -24,7 +24,7 @@ known_before old new before after taken heard p was = elim (heard p was) [
   })
 ]
 
--- nodes are taken, and then more
+-- nodes are used, and then more
 pub taken_twice : (old mid new : Search) → HasTaken old mid → HasTaken mid new → HasTaken old new
 taken_twice old mid new first second = record {
   graph = second.graph ∙ first.graph;
@@ -33,7 +33,7 @@ taken_twice old mid new first second = record {
   left = omega (arith, first.left, second.left);
 }
 
--- states that are refuted are so before nodes are taken, and behind
+-- states that are refuted after nodes were used are refuted before
 pub refuted_before : (old new : Search) (limit : ℕ) (states : List State) → HasTaken old new → AreRefuted new.graph limit states → AreRefuted old.graph limit states
 refuted_before old new limit states taken all = subst (λ (g : Graph). AreRefuted g limit states) taken.graph all
 

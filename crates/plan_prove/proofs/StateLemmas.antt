@@ -1,4 +1,4 @@
--- What holds of a state when a side of a pair is taken, and how states that are refuted refute others.
+-- The facts of a state with a side of a pair taken, and refutations of states by those of others.
 use Rattle.std.proofs.Common.{◌≡◌, ℕ, Bool, Option, Some, None, ◌+◌, ◌-◌, ◌≤◌, ◌<◌, inl, inr, List, [], ◌∷◌, ◌++◌, length, get_or, ap, sym, ◌∙◌, refl, subst, arith}
 use Rattle.std.specs.List.{All}
 use Rattle.std.specs.Prelude.{IfNone}
@@ -36,7 +36,7 @@ side_taken g limit old new k p side starts below there is keeps h = record {
   ];
 }
 
--- where one step goes before another, the head of the other and the tail of the one may be raised
+-- if one step goes before another, the head of the other and the tail of the one may be raised
 pub followed : (g : Graph) (limit : ℕ) (old new : State) (x y head tail : ℕ) → GoesBefore g limit old x y
     → head ≡ get_or old.heads.items x 0 + time_in g x → tail ≡ time_in g y + get_or old.tails.items y 0
     → IsRaised old.heads.items new.heads.items y head → IsRaised old.tails.items new.tails.items x tail → new.sides.items ≡ old.sides.items → Follows g limit old new
@@ -55,48 +55,48 @@ followed g limit old new x y head tail before head_is tail_is heads tails sides 
       sides = λ k p inside. subst (λ (vs : List Side). KeepsSide g starts (get_or g.pairs.items k p) (get_or vs k Open)) (sym sides) (h.sides k p inside);
     }
 
--- where a state is refuted that follows from another, so is the other
+-- if a state that follows from another is refuted, so is the other
 pub none_left : (g : Graph) (limit : ℕ) (old mid new : State) (answer : Option Bool) → answer ≡ None → Follows g limit old mid → IsRefuted g limit mid → Deduces g limit old new answer
 none_left g limit old mid new answer none follows refuted =
     subst (λ (o : Option Bool). Deduces g limit old new o) (sym none) (λ starts h. refuted starts (follows starts h))
 
--- what follows from a state and then refutes, refutes the state
+-- a deduction that refutes a state that follows from another refutes the other
 pub none_after : (g : Graph) (limit : ℕ) (old mid new : State) (given answer : Option Bool) → given ≡ None →
     answer ≡ None → Follows g limit old mid → Deduces g limit mid new given → Deduces g limit old new answer
 none_after g limit old mid new given answer was none follows deduces =
     let refuted : IsRefuted g limit mid = subst (λ (o : Option Bool). Deduces g limit mid new o) was deduces in
     none_left g limit old mid new answer none follows refuted
 
--- what covers a state covers those from which it follows
+-- states that cover a state cover those from which it follows
 pub cover_before : (g : Graph) (limit : ℕ) (new old : List State) (state later : State) → Follows g limit state later → Covers g limit new old later → Covers g limit new old state
 cover_before g limit new old state later follows cover all = let h = cover all in (h.0, λ starts holds. h.1 starts (follows starts holds))
 
--- the same where that is said of no leaf
+-- the same if it is stated for no leaf
 pub leaf_before : {X : Type 0} (g : Graph) (limit : ℕ) (new old : List State) (state later : State) (leaf : Option X) → Follows g limit state later
     → IfNone leaf (Covers g limit new old later) → IfNone leaf (Covers g limit new old state)
 leaf_before g limit new old state later None follows cover = cover_before g limit new old state later follows cover
 leaf_before g limit new old state later (Some x) follows cover = tt
 
--- what is said of no leaf, where there is none
+-- a fact that is stated for no leaf, if there is none
 pub at_none : {X : Type 0} (leaf : Option X) (P : Type 0) → leaf ≡ None → IfNone leaf P → P
 at_none leaf P none said = subst (λ o. IfNone o P) none said
 
--- states that wait are refuted where those are that are left of them, with those that cover one of them
+-- waiting states are refuted if the rest of them and the states that cover the removed one are refuted
 pub cover_rest : (g : Graph) (limit : ℕ) (before rest new : List State) (state : State) → before ≡ rest ++ state ∷ [] → Covers g limit new rest state
     → AreRefuted g limit new → AreRefuted g limit before
 cover_rest g limit before rest new state is cover all =
     let h = cover all in
     subst (λ (xs : List State). All (IsRefuted g limit) xs) (sym is) (All-push (IsRefuted g limit) rest state h.0 h.1)
 
--- none wait
+-- no state waits
 pub none_wait : (g : Graph) (limit : ℕ) (states : List State) → length states ≡ 0 → AreRefuted g limit states
 none_wait g limit states none k d below = absurd (omega (arith, below, none))
 
--- where one side of a pair can't be kept, the other is
+-- if one side of a pair can't be kept, the other is kept
 pub other_side : (g : Graph) (starts : List ℕ) (k : ℕ) (p : Pair) → k < length g.pairs.items → p ≡ get_or g.pairs.items k p → IsKept g starts → KeepsApart g starts p
 other_side g starts k p below there kept = subst (λ (q : Pair). KeepsApart g starts q) (sym there) (kept.pairs k p below)
 
--- a state is refuted where both sides of a pair are
+-- a state is refuted if both sides of a pair are
 pub both_refuted : (g : Graph) (limit : ℕ) (state forth back : State) (k : ℕ) → k < length g.pairs.items → IsWithSide state forth k First → IsWithSide state back k Second
     → IsRefuted g limit forth → IsRefuted g limit back → IsRefuted g limit state
 both_refuted g limit state forth back k below first second no_forth no_back starts h =
@@ -108,7 +108,7 @@ both_refuted g limit state forth back k below first second no_forth no_back star
       | inr after ↦ no_back starts (side_taken g limit state back k p Second starts below there second after h)
     ]
 
--- what holds of all but the last of a list, and of the last
+-- a fact of all but the last of a list, and of the last
 pub all_but_last : {X : Type 0} (P : X → Type 0) (xs ys : List X) (y : X) → ys ≡ xs ++ y ∷ [] → All P ys → All P xs × P y
 all_but_last P xs ys y is all =
     let both : All P (xs ++ y ∷ []) = subst (λ zs. All P zs) is all in (
@@ -124,7 +124,7 @@ two_cover g limit state one other old between new first second both all =
     let inner = all_but_last (IsRefuted g limit) old between one first outer.0 in
     (inner.0, both inner.1 outer.1)
 
--- where the root is refuted no starts stay below the limit
+-- if the root is refuted, no starts are below the limit
 pub root_refuted : (g : Graph) (limit : ℕ) (root : State) → IsRoot root → IsRefuted g limit root → NoneIsBelow g limit
 root_refuted g limit root is refuted starts kept below = refuted starts (record {
   kept = kept;
@@ -133,7 +133,7 @@ root_refuted g limit root is refuted starts kept below = refuted starts (record 
   sides = λ k p inside. subst (λ (v : Side). KeepsSide g starts (get_or g.pairs.items k p) v) (sym (is.sides k)) tt;
 })
 
--- the root alone waits at first
+-- only the root waits at first
 pub root_waits : (g : Graph) (states : List State) (root : State) → states ≡ [] ++ root ∷ [] → IsRoot root → AreFirstStates g states
 root_waits g states root is nothing limit all = root_refuted g limit root nothing (all_but_last (IsRefuted g limit) [] states root is all).1
 
@@ -150,7 +150,7 @@ head_raised g limit old new x head late heads tails sides starts h = record {
   sides = λ k p inside. subst (λ (vs : List Side). KeepsSide g starts (get_or g.pairs.items k p) (get_or vs k Open)) (sym sides) (h.sides k p inside);
 }
 
--- and the tail of one that leaves that much or more
+-- and the tail of a step that leaves at least this much time
 pub tail_raised : (g : Graph) (limit : ℕ) (old new : State) (x tail : ℕ) → Leaves g limit old x tail
     → IsRaised old.tails.items new.tails.items x tail → new.heads.items ≡ old.heads.items → new.sides.items ≡ old.sides.items → Follows g limit old new
 tail_raised g limit old new x tail leaves tails heads sides starts h = record {
@@ -168,18 +168,18 @@ pub end_raised : (g : Graph) (limit : ℕ) (old new : State) (end : End) (x valu
 end_raised g limit old new Start x value away rises = head_raised g limit old new x value away rises.raised rises.tails rises.sides
 end_raised g limit old new Finish x value away rises = tail_raised g limit old new x value away rises.raised rises.heads rises.sides
 
--- no step stays away from an end by the limit
+-- no step stays away from an end by the limit or more
 pub end_refuted : (g : Graph) (limit : ℕ) (state : State) (end : End) (x value : ℕ) → StaysAway g limit state end x value → limit ≤ value → IsRefuted g limit state
 end_refuted g limit state Start x value away great starts h = absurd (omega (arith, great, away starts h, h.tails x))
 end_refuted g limit state Finish x value away great starts h = absurd (omega (arith, great, away starts h))
 
--- where there is no room for one step before another, it doesn't go before it
+-- if there is no room for one step before another, it doesn't go before it
 pub no_room : (g : Graph) (limit : ℕ) (state : State) (x y : ℕ) (one other : Known) → IsKnown g state x one → IsKnown g state y other
     → limit - (one.head + one.time + (other.time + other.tail)) ≤ 0 → NotBefore g limit state x y
 no_room g limit state x y one other is_one is_other none starts h before =
     absurd (omega (arith, none, before, is_one.head, is_one.time, is_other.time, is_other.tail, h.heads x, h.tails y))
 
--- where one step of a pair doesn't go before the other, this goes before it
+-- if one step of a pair doesn't go before the other, the other goes before it
 pub first_goes : (g : Graph) (limit : ℕ) (state : State) (k : ℕ) (p : Pair) → k < length g.pairs.items →
     p ≡ get_or g.pairs.items k p → NotBefore g limit state p.second p.first →
     GoesBefore g limit state p.first p.second
@@ -196,7 +196,7 @@ second_goes g limit state k p below there never starts h = elim (other_side g st
   | inr after ↦ after
 ]
 
--- a side that is kept by all that a state holds of may be taken after a deduction
+-- a side that all starts of a state keep may be taken after a deduction
 pub side_follows : (g : Graph) (limit : ℕ) (old mid new : State) (k : ℕ) (p : Pair) (side : Side) → k < length g.pairs.items → p ≡ get_or g.pairs.items k p
     → ((starts : List ℕ) → Holds g limit old starts → KeepsSide g starts p side) → Follows g limit old mid → IsWithSide mid new k side → Follows g limit old new
 side_follows g limit old mid new k p side below there keeps follows is starts h = side_taken g limit mid new k p side starts below there is (keeps starts h) (follows starts h)

@@ -19,8 +19,8 @@ KeepsSide g starts p Open = Unit {0}
 KeepsSide g starts p First = IsBefore g starts p.first p.second
 KeepsSide g starts p Second = IsBefore g starts p.second p.first
 
--- a state holds of starts: they keep the graph, each step starts at its head or later and ends at
--- least its tail before the limit, and each decided pair keeps its side
+-- a state holds for starts: they keep the graph, each step starts at its head or later and ends at least its
+-- tail before the limit, and each decided pair keeps its side
 pub record Holds (g : Graph) (limit : ℕ) (state : State) (starts : List ℕ) : Type 0 where
   pub kept : IsKept g starts
   pub heads : (x : ℕ) → get_or state.heads.items x 0 ≤ get_or starts x 0
@@ -28,11 +28,11 @@ pub record Holds (g : Graph) (limit : ℕ) (state : State) (starts : List ℕ) :
   pub sides : (k : ℕ) (p : Pair) → k < length g.pairs.items
       → KeepsSide g starts (get_or g.pairs.items k p) (get_or state.sides.items k Open)
 
--- a state is refuted: it holds of no starts
+-- a state is refuted: it holds for no starts
 abbrev pub IsRefuted : Graph → ℕ → State → Type 0
 IsRefuted g limit state = (starts : List ℕ) → Holds g limit state starts → ⊥
 
--- the new state holds of all starts of which the old one holds
+-- the new state holds for all starts for which the old one holds
 abbrev pub Follows : Graph → ℕ → State → State → Type 0
 Follows g limit old new = (starts : List ℕ) → Holds g limit old starts → Holds g limit new starts
 
@@ -41,12 +41,12 @@ abbrev pub Deduces : Graph → ℕ → State → State → Option Bool → Type 
 Deduces g limit old new None = IsRefuted g limit old
 Deduces g limit old new (Some _) = Follows g limit old new
 
--- one step goes before another in all starts of which the state holds
+-- one step goes before another in all starts for which the state holds
 abbrev pub GoesBefore : Graph → ℕ → State → ℕ → ℕ → Type 0
 GoesBefore g limit state x y =
     (starts : List ℕ) → Holds g limit state starts → IsBefore g starts x y
 
--- one step goes before another in no starts of which the state holds
+-- one step goes before another in no starts for which the state holds
 abbrev pub NotBefore : Graph → ℕ → State → ℕ → ℕ → Type 0
 NotBefore g limit state x y =
     (starts : List ℕ) → Holds g limit state starts → IsBefore g starts x y → ⊥
@@ -113,12 +113,12 @@ AreFirstStates g states = (limit : ℕ) → AreRefuted g limit states → NoneIs
 abbrev pub IsClique : Graph → Vec ℕ Global → Type 0
 IsClique g clique = (starts : List ℕ) → IsKept g starts → KeepsClique g starts clique
 
--- a step starts at `head` or later in all starts of which the state holds
+-- a step starts at `head` or later in all starts for which the state holds
 abbrev pub StartsFrom : Graph → ℕ → State → ℕ → ℕ → Type 0
 StartsFrom g limit state x head =
     (starts : List ℕ) → Holds g limit state starts → head ≤ get_or starts x 0
 
--- a step ends more than `tail` before the limit in all starts of which the state holds
+-- a step ends more than `tail` before the limit in all starts for which the state holds
 abbrev pub Leaves : Graph → ℕ → State → ℕ → ℕ → Type 0
 Leaves g limit state x tail =
     (starts : List ℕ) → Holds g limit state starts → get_or starts x 0 + time_in g x + tail < limit

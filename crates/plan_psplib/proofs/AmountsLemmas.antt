@@ -1,4 +1,4 @@
--- The requests section and the availabilities: what is read is spelled so, and what is spelled so is read.
+-- The requests section and the availabilities: reading succeeds exactly for the words that spell the result.
 use Rattle.std.proofs.Common.{◌≡◌, ℕ, zero, suc, ◌+◌, ◌≤◌, ◌&&◌, List, [], ◌∷◌, ◌++◌, Ok, length, sum, refl, sym, ap, ◌∙◌, subst, append_assoc, append-nil, arith}
 use Rattle.std.specs.Prelude.{nat_le}
 use Rattle.std.specs.List.{AllByRecursion}
@@ -84,14 +84,14 @@ goes_request k job total r s t p small fits needs =
     (ok_bind (duration_at total b.0) _ (r.duration, d.0) (r, t) (goes_duration total r.duration b.0 d.0 d.1 small fits)
     (ok_bind (amounts_at k [] d.0) _ (r.needs, t) (r, t) amounts refl)))
 
--- rows, and behind them others
+-- rows followed by other rows
 abbrev behind : Requests → List ℕ → List (List ℕ) → Requests
 behind rows durations needs = record { durations = rows.durations ++ durations; needs = rows.needs ++ needs }
 
 sum_behind : (before : List ℕ) (d : ℕ) (ds : List ℕ) → sum (before ++ d ∷ []) + sum ds ≡ sum before + sum (d ∷ ds)
 sum_behind before d ds = let a = sum_by_push (λ n. n) before d in let b = sum_by-cons (λ n. n) d ds in omega (arith, a, b)
 
--- what rows say, behind rows before them
+-- the requests of rows after earlier rows
 record AreRows (k more job : ℕ) (rows : Requests) (durations : List ℕ) (needs : List (List ℕ)) (s t : Stream) : Type 0 where
   durations_count : length durations ≡ more
   needs_count : length needs ≡ more
@@ -155,7 +155,7 @@ goes_requests k job rows (d ∷ ds) (ns ∷ nss) s t same p small fits each =
     (goes_requests k (job + 1) (with_row rows row) ds nss a.0 t (omega (arith, same)) a.2 small.1 (omega (arith, sums, fits)) each.1
     ∙ ap (λ (r : Requests). Ok (r, t)) (behind-with_row rows row ds nss))
 
--- what n jobs take of k resources, and the words that spell it
+-- the words spell the requests of n jobs for k resources
 pub record SpellsRequests (n k : ℕ) (s : Stream) (r : Requests) : Type 0 where
   pub spelled : Spells s.words (request_numbers 1 r.durations r.needs)
   pub durations_count : length r.durations ≡ n
@@ -167,7 +167,7 @@ pub record SpellsRequests (n k : ℕ) (s : Stream) (r : Requests) : Type 0 where
 abbrev none : Requests
 none = record { durations = []; needs = [] }
 
--- what is read is spelled so
+-- the words that were read spell the result
 pub requests_spelled : (n k : ℕ) (s : Stream) (r : Requests) → requests n k s ≡ Ok r → SpellsRequests n k s r
 unfolding requests
 requests_spelled n k s r e =
@@ -185,7 +185,7 @@ requests_spelled n k s r e =
       each = rows.3.each;
     })))
 
--- what is spelled so is read
+-- words that spell a result are read as that result
 pub requests_read : (n k : ℕ) (s : Stream) (r : Requests) → SpellsRequests n k s r → requests n k s ≡ Ok r
 unfolding requests
 requests_read n k s r h =
@@ -198,7 +198,7 @@ requests_read n k s r h =
     ok_bind (request_rows_at k n 1 none s) _ (r, a.0) r read
     (ok_bind (end_at a.0) _ tt r (none_end a.0 a.2) refl)
 
--- what is read is spelled so
+-- the words that were read spell the result
 pub availabilities_spelled : (k : ℕ) (s : Stream) (amounts : List ℕ) → availabilities k s ≡ Ok amounts → (length amounts ≡ k) × Spells s.words amounts × AllByRecursion (λ n. n ≤ greatest) amounts
 unfolding availabilities
 availabilities_spelled k s amounts e =
@@ -209,7 +209,7 @@ availabilities_spelled k s amounts e =
     let P : List ℕ → Type 0 = λ ns. (length ns ≡ k) × Spells s.words ns × AreAmounts ns in
     subst P same (all.2, goes_spells s x.1 all.0 all.3 (end_none x.1 u nothing_left), all.4)))
 
--- what is spelled so is read
+-- words that spell a result are read as that result
 pub availabilities_read : (s : Stream) (amounts : List ℕ) → Spells s.words amounts → AllByRecursion (λ n. n ≤ greatest) amounts → availabilities (length amounts) s ≡ Ok amounts
 unfolding availabilities
 availabilities_read s amounts h small =

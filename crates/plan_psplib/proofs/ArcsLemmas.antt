@@ -1,4 +1,4 @@
--- The precedence section: what is read is spelled so, and what is spelled so is read.
+-- The precedence section: reading succeeds exactly for the words that spell the result.
 use Rattle.std.proofs.Common.{◌≡◌, ℕ, zero, suc, ◌+◌, ◌≤◌, ◌&&◌, ◌||◌, Bool, true, false, List, [], ◌∷◌, ◌++◌, Ok, length, refl, sym, ap, ◌∙◌, subst, append_assoc, append-nil}
 use Rattle.std.specs.Prelude.{nat_le, nat_eq, not}
 use Rattle.std.specs.List.{AllByRecursion, IsDistinct}
@@ -46,7 +46,7 @@ goes_successor n j before s t p low high new =
     ok_bind (job_at n s) _ (record { value = j; line = t.last }, t) (j, t) (goes_job n j s t p low high)
     (ok_bind (check (not (is_among before j)) code.Double t.last) _ tt (j, t) (ok_check _ code.Double t.last (ap not new)) refl)
 
--- jobs of 1 to n, each of them new behind those before
+-- jobs of 1 to n, none of which is among the jobs before it
 abbrev AreNew : ℕ → List ℕ → List ℕ → Type 0
 AreNew n before [] = Unit {0}
 AreNew n before (j ∷ js) = (1 ≤ j) × (j ≤ n) × (is_among before j ≡ false) × AreNew n (before ++ j ∷ []) js
@@ -128,9 +128,9 @@ goes_rows n job arcs (row ∷ rows) s t p are =
     ok_bind (precedence_row_at n job s) _ (row, a.0) (arcs ++ (arcs_from job row ++ arcs_of_rows (job + 1) rows), t) (goes_row n job row s a.0 a.1 are.0)
     (goes_rows n (job + 1) (arcs ++ arcs_from job row) rows a.0 t a.2 are.1 ∙ ap (λ (xs : List (ℕ × ℕ)). Ok (xs, t)) (append_assoc arcs (arcs_from job row) (arcs_of_rows (job + 1) rows)))
 
--- ---- jobs that are new behind those before, and jobs that are distinct
+-- ---- jobs that aren't among those before them, and distinct jobs
 
--- each of the jobs is new behind those before
+-- none of the jobs is among those before it
 abbrev AllNew : List ℕ → List ℕ → Type 0
 AllNew before js = AllByRecursion (λ j. is_among before j ≡ false) js
 
@@ -153,7 +153,7 @@ false_or false b e = (refl, e)
 or_both_false : (a b : Bool) → a ≡ false → b ≡ false → (a || b) ≡ false
 or_both_false a b p q = ap (λ c. c || b) p ∙ q
 
--- new behind some and one more: new behind the some, and apart from the one
+-- jobs that aren't among a list with one more: they aren't in the list, and differ from the one
 AllNew-push : (before : List ℕ) (j : ℕ) (js : List ℕ) → AllNew (before ++ j ∷ []) js → AllNew before js × AllByRecursion (λ y. nat_eq j y ≡ false) js
 AllNew-push before j [] h = (tt, tt)
 AllNew-push before j (y ∷ js) h =
@@ -190,7 +190,7 @@ are_rows : (n : ℕ) (rows : List (List ℕ)) → AllByRecursion (IsRow n) rows 
 are_rows n [] h = tt
 are_rows n (row ∷ rows) h = (row_is_new n [] row (nothing_before row) h.0, are_rows n rows h.1)
 
--- what is read is spelled so
+-- the words that were read spell the result
 pub precedence_spelled : (n : ℕ) (s : Stream) (arcs : List (ℕ × ℕ)) → precedence n s ≡ Ok arcs → SpellsArcs n s.words arcs
 unfolding precedence
 precedence_spelled n s arcs e =
@@ -199,7 +199,7 @@ precedence_spelled n s arcs e =
     let rows = rows_goes n n 1 [] s x read in
     (rows.0, rows.1, rows_are n rows.0 rows.2, goes_spells s x.1 (precedence_numbers 1 rows.0) rows.3 (end_none x.1 u nothing_left), sym (same_ok x.0 arcs e) ∙ rows.4)))
 
--- what is spelled so is read
+-- words that spell a result are read as that result
 pub precedence_read : (n : ℕ) (s : Stream) (arcs : List (ℕ × ℕ)) → SpellsArcs n s.words arcs → precedence n s ≡ Ok arcs
 unfolding precedence
 precedence_read n s arcs h =
@@ -209,6 +209,6 @@ precedence_read n s arcs h =
     ok_bind (precedence_rows_at n n 1 [] s) _ (arcs_of_rows 1 rows, a.0) arcs read
     (ok_bind (end_at a.0) _ tt arcs (none_end a.0 a.2) (ap (λ (xs : List (ℕ × ℕ)). Ok xs) (sym h.4)))
 
--- the row that is read of a job is a row
+-- the row of a job that was read is valid
 pub row_is_row : (n job : ℕ) (s t : Stream) (row : List ℕ) → precedence_row_at n job s ≡ Ok (row, t) → IsRow n row
 row_is_row n job s t row e = (new_is_row n [] row (row_goes n job s (row, t) e).1).1

@@ -3,7 +3,7 @@ use Rattle.std.proofs.Common.{◌≡◌, ◌<◌, ◌-◌, ℕ, true, false, Lis
 use Rattle.std.proofs.lemmas.Grind.{common_steps}
 use Rattle.plan_psplib.specs.Lines.{is_blank, before_trimmed, trim_end}
 
--- a blank at the end goes
+-- a blank at the end is removed
 trim_end-push_blank : (text : List ℕ) (last : ℕ) → is_blank last ≡ true → trim_end (text ++ last ∷ []) ≡ trim_end text
 trim_end-push_blank [] last e = ap (λ b. cond b [] (last ∷ [])) e
 trim_end-push_blank (byte ∷ text) last e = ap (before_trimmed byte) (trim_end-push_blank text last e)
@@ -12,12 +12,12 @@ before_some : (byte : ℕ) (text : List ℕ) (last : ℕ) → before_trimmed byt
 before_some byte [] last = refl
 before_some byte (next ∷ text) last = refl
 
--- what ends with another byte stays
+-- a text that ends with another byte than a blank isn't trimmed
 trim_end-push_other : (text : List ℕ) (last : ℕ) → is_blank last ≡ false → trim_end (text ++ last ∷ []) ≡ text ++ last ∷ []
 trim_end-push_other [] last e = ap (λ b. cond b [] (last ∷ [])) e
 trim_end-push_other (byte ∷ text) last e = ap (before_trimmed byte) (trim_end-push_other text last e) ∙ before_some byte text last
 
--- a text is what stands before its last byte, and that byte
+-- a text consists of the bytes before its last one, and the last one
 before_last : (text : List ℕ) → 0 < length text → take (length text - 1) text ++ get_or text (length text - 1) 0 ∷ [] ≡ text
 before_last text l = grind (arith, common_steps)
 

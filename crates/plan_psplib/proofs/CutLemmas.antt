@@ -20,14 +20,14 @@ module _ (p : ℕ → Bool) where
   pub position-long : (xs : List ℕ) → position p xs ≡ None → length xs ≤ position_or_len p xs
   position-long xs e = ltb-false _ _ (none_of _ _ e)
 
-  -- the first piece ends where the first element passes
+  -- the first piece ends at the first element that passes
   pub slice_split-Some : (xs : List ℕ) (i : ℕ) → position p xs ≡ Some i → slice_split p xs ≡ take i xs ∷ slice_split p (drop (i + 1) xs)
   slice_split-Some xs i e =
       let at = position-short xs i e in
       let P : ℕ → Type 0 = λ n. slice_split p xs ≡ take n xs ∷ slice_split p (drop (n + 1) xs) in
       subst P at.0 (slice_split_first p xs 0 at.1)
 
-  -- where no element passes, there is one piece
+  -- if no element passes, there is one piece
   pub slice_split-None : (xs : List ℕ) → position p xs ≡ None → slice_split p xs ≡ xs ∷ []
   slice_split-None xs e =
       let long = position-long xs e in
@@ -59,7 +59,7 @@ kept_piece : (piece : List ℕ) (pieces : List (List ℕ)) → 0 < length piece 
 kept_piece [] pieces l = absurd (omega (arith, l))
 kept_piece (byte ∷ piece) pieces l = refl
 
--- the words behind a blank
+-- the words after a blank
 words-blank : (byte : ℕ) (text : List ℕ) → is_blank byte ≡ true → words (byte ∷ text) ≡ words text
 words-blank byte text e = ap (filter is_nonempty) (slice_split-cons_yes is_blank byte text e)
 
@@ -104,7 +104,7 @@ first_kept byte text = by_byte (is_blank byte)
     by_byte true e = let n = ap length e in let m = length-trim_start text in absurd (omega (arith, n, m))
     by_byte false e = refl
 
--- the first blank of a trimmed text stands behind its first byte
+-- the first blank of a trimmed text is after its first byte
 after_first_byte : (text : List ℕ) (i : ℕ) → trim_start text ≡ text → position is_blank text ≡ Some i → 0 < i
 after_first_byte text zero t e =
     let at = position-short is_blank text 0 e in

@@ -1,4 +1,4 @@
--- Streams that begin with some numbers, and what reading them gives.
+-- Streams that begin with numbers, and the result of reading them.
 use Rattle.std.proofs.Common.{◌≡◌, ℕ, ◌≤◌, ◌==◌, ◌&&◌, Bool, true, false, List, [], ◌∷◌, ◌++◌, Option, Some, None, Result, Ok, Err, map, refl, sym, ap, ◌∙◌, subst}
 use Rattle.std.proofs.lemmas.Bool.{leb-true, le-leb, eqb-true, eq-eqb}
 use Rattle.std.specs.Prelude.{nat_le}
@@ -11,7 +11,7 @@ use Rattle.plan_psplib.specs.Tokens.{◌>>=◌, LineNumber, check, as_number, nu
 use Rattle.plan_psplib.specs.Says.{Spells}
 use Rattle.plan_psplib.specs.Causes.{BeginsWith}
 
--- what is read in two steps: both are read
+-- a reading in two steps succeeds if both steps do
 pub then_ok : {A B P : Type 0} (r : Result A Fault) (f : A → Result B Fault) (y : B) → (r >>= f) ≡ Ok y → ((x : A) → r ≡ Ok x → f x ≡ Ok y → P) → P
 then_ok (Ok x) f y e go = go x refl e
 then_ok (Err g) f y e go = absurd (cc)
@@ -42,7 +42,7 @@ between_true a b n e = let both = both_true (nat_le a n) (nat_le n b) e in (leb-
 pub true_between : (a b n : ℕ) → a ≤ n → n ≤ b → (nat_le a n && nat_le n b) ≡ true
 true_between a b n p q = true_both (nat_le a n) (nat_le n b) (le-leb a n p) (le-leb n b q)
 
--- a stream begins with these numbers, and then goes on as the other
+-- a stream begins with these numbers, and then continues as the other
 abbrev pub Goes : Stream → List ℕ → Stream → Type 0
 Goes s ns t = BeginsWith s ns t
 
@@ -68,11 +68,11 @@ spelled last (word ∷ words) (n ∷ ns) e =
     let rest = spelled word.line words ns (same_rest (number word.text) (Some n) (map (λ w. number w.text) words) (map Some ns) e) in
     (rest.0, (word, words, refl, same_first (number word.text) (Some n) (map (λ w. number w.text) words) (map Some ns) e, rest.1), rest.2)
 
--- a stream that is spelled by numbers begins with them, and nothing is left
+-- a stream that these numbers spell begins with them, and no word is left
 pub spells_goes : (s : Stream) (ns : List ℕ) → Spells s.words ns → (t : Stream) × Goes s ns t × (t.words ≡ [])
 spells_goes s ns e = spelled s.last s.words ns e
 
--- if nothing is left behind some numbers, they spell the stream
+-- if no word is left after the numbers, they spell the stream
 pub goes_spells : (s t : Stream) (ns : List ℕ) → Goes s ns t → t.words ≡ [] → Spells s.words ns
 goes_spells s t [] p e = ap (map (λ w. number w.text)) (sym (ap (λ u. u.words) p) ∙ e)
 goes_spells s t (n ∷ ns) p e =

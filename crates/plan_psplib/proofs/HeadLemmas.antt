@@ -1,4 +1,4 @@
--- The head: what is read is spelled so, and what is spelled so is read.
+-- The head: reading succeeds exactly for the words that spell the result.
 use Rattle.std.proofs.Common.{◌≡◌, ℕ, ◌≤◌, ◌==◌, List, Option, Some, None, Ok, codes, refl, sym, ap, ◌∙◌, subst, arith}
 use Rattle.std.proofs.lemmas.Bool.{eqb-true, eq-eqb}
 use Rattle.plan_psplib.specs.declared.text.fault.FileCode.TheVariants as code
@@ -50,7 +50,7 @@ are_found_lines last os lines h =
     (ok_bind (found_line last os.nonrenewable) _ lines.nonrenewable lines (is_found last os.nonrenewable lines.nonrenewable h.nonrenewable)
     (ok_bind (found_line last os.doubly_constrained) _ lines.doubly_constrained lines (is_found last os.doubly_constrained lines.doubly_constrained h.doubly_constrained) refl))))
 
--- the number behind the colon of a line
+-- the number after the colon of a line
 abbrev pub HasNumber : NumberedLine → LineNumber → Type 0
 HasNumber line v = (word : List ℕ) × (value_word line.text ≡ Some word) × (number word ≡ Some v.value) × (v.line ≡ line.number)
 
@@ -155,11 +155,11 @@ are_sizes_in vs z h =
     (ok_bind (limited 1 16 vs.renewable) _ vs.renewable.value z (is_limited 1 16 vs.renewable (omega (arith, resources, resources_fit.0)) (omega (arith, resources, resources_fit.1)))
     (ap (λ n. let y : Sizes = record { jobs = n; resources = vs.renewable.value } in Ok y) jobs ∙ ap (λ n. let y : Sizes = record { jobs = z.jobs; resources = n } in Ok y) resources)))))
 
--- the head gives a key this number
+-- the value of a key in the head is this number
 abbrev pub GivesValue : List NumberedLine → List ℕ → ℕ → Type 0
 GivesValue head key n = (line : NumberedLine) × (word : List ℕ) × (key_line key head ≡ Some line) × (value_word line.text ≡ Some word) × (number word ≡ Some n)
 
--- the head gives what is read of it
+-- the sizes that were read are those in the head
 pub record SpellsSizes (head : List NumberedLine) (z : Sizes) : Type 0 where
   pub projects : GivesValue head (codes "projects") 1
   pub jobs : GivesValue head (codes "jobs") z.jobs
@@ -172,7 +172,7 @@ pub record SpellsSizes (head : List NumberedLine) (z : Sizes) : Type 0 where
 gives : (head : List NumberedLine) (key : List ℕ) (line : NumberedLine) (v : LineNumber) (n : ℕ) → key_line key head ≡ Some line → HasNumber line v → v.value ≡ n → GivesValue head key n
 gives head key line v n found has same = (line, has.0, found, has.1, has.2 ∙ ap (λ (m : ℕ). Some m) same)
 
--- what is read is spelled so
+-- the words that were read spell the result
 pub sizes_spelled : (last : ℕ) (head : List NumberedLine) (z : Sizes) → sizes last head ≡ Ok z → SpellsSizes head z
 unfolding sizes
 sizes_spelled last head z e =
@@ -194,7 +194,7 @@ sizes_spelled last head z e =
 value_given : (head : List NumberedLine) (key : List ℕ) (n : ℕ) → GivesValue head key n → LineNumber
 value_given head key n g = record { value = n; line = g.0.number }
 
--- what is spelled so is read
+-- words that spell a result are read as that result
 pub sizes_read : (last : ℕ) (head : List NumberedLine) (z : Sizes) → SpellsSizes head z → sizes last head ≡ Ok z
 unfolding sizes value_given
 sizes_read last head z h =

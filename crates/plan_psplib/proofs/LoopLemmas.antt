@@ -5,23 +5,23 @@ use Rattle.plan_psplib.specs.declared.text.fault.ReadError.{ReadError}
 use Rattle.plan_psplib.specs.declared.text.fault.ReadError.TheVariants as errors
 use Rattle.plan_psplib.specs.Tokens.{◌>>=◌, Fails}
 
--- what fails first fails the whole
+-- an error of the first part is the error of the total
 pub fails_first : {A B : Type 0} (e : ReadError) (first : Result A Fault) (next : A → Result B Fault) (total : Result B Fault) → Fails e first → (first >>= next) ≡ total → Fails e total
 fails_first errors.Memory first next total fails is = tt
 fails_first (errors.Fault f) first next total fails is = sym is ∙ ap (λ r. r >>= next) fails
 
--- read k s reads k parts from the state s: one by step, which leads on to the state next, and then the others
+-- read k s reads k parts from the state s: one by step, which returns the state next, and then the others
 module _ {S V R : Type 0} (read : ℕ → S → Result R Fault) (step : S → Result V Fault) (next : S → V → S) (more : (k : ℕ) (s : S) → read (suc k) s ≡ (step s >>= λ v. read k (next s v))) where
   one_more : (count i : ℕ) (s : S) → i < count → read (count - i) s ≡ (step s >>= λ v. read (count - (i + 1)) (next s v))
   one_more count i s below = let left : count - i ≡ suc (count - (i + 1)) = omega (arith, below) in ap (λ k. read k s) left ∙ more (count - (i + 1)) s
 
-  -- behind a part that is read, the whole is what the others give
+  -- after a part that is read, the total is the result of the rest
   pub goes_on : (count i : ℕ) (s : S) (v : V) (total : Result R Fault) → i < count → step s ≡ Ok v → read (count - i) s ≡ total → read (count - (i + 1)) (next s v) ≡ total
   goes_on count i s v total below is whole =
       let rest : V → Result R Fault = λ v. read (count - (i + 1)) (next s v) in
       sym (one_more count i s below ∙ ap (λ r. r >>= rest) is) ∙ whole
 
-  -- a part that fails fails the whole
+  -- an error of a part is an error of the total
   pub fails : (e : ReadError) (count i : ℕ) (s : S) (total : Result R Fault) → i < count → Fails e (step s) → read (count - i) s ≡ total → Fails e total
   fails e count i s total below is whole = fails_first e (step s) (λ v. read (count - (i + 1)) (next s v)) total is (sym (one_more count i s below) ∙ whole)
 

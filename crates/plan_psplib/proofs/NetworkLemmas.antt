@@ -1,4 +1,4 @@
--- A document that a text says: what its network is refused for, and its project.
+-- A document that a text describes: the errors of its network, and its project.
 use Rattle.std.proofs.Common.{◌≡◌, ℕ, zero, suc, ◌-◌, ◌≤◌, ◌<◌, List, [], ◌∷◌, Some, length, map, get_or, slice_index, refl, sym, ap, ◌∙◌, subst, ◌⊎◌, inl, inr, arith}
 use Rattle.std.specs.Prelude.{slice_get, All}
 use Rattle.std.specs.List.{AllByRecursion}
@@ -81,7 +81,7 @@ rows_count : {X Y : Type 0} (f : X → Y) (xs : List X) → length (map f xs) �
 rows_count f [] = refl
 rows_count f (x ∷ xs) = ap suc (rows_count f xs)
 
--- what holds of all rows holds of the one at k
+-- a fact of all rows is a fact of the row at k
 pub row_good : {X : Type 0} (P : List ℕ → Type 0) (items : X → List ℕ) (rows : List X) (k : ℕ) (row : X)
     (n : ℕ) → length (map items rows) ≡ n → k < n → row ≡ get_or rows k row → All P (map items rows) →
     P (items row)
@@ -91,14 +91,14 @@ row_good P items rows k row n count below is all =
 
 -- ---- its order, or its cycle
 
--- the network of a document that a text says is within the limits
+-- the network of a document that a text describes is within the limits
 pub network_within_limits : (text : List ℕ) (d : Document) → Says text d → IsWithinLimits (network_of d)
 network_within_limits text d says =
     let rows = says.precedence.3 in
     let within = IsWithinLimits-rows d.requests.durations rows.0 (size_good text d says) (durations_good text d says) (record { whole = rows.1; each = rows.2 }) in
     subst (λ (arcs : List (ℕ × ℕ)). IsWithinLimits (unlagged d.requests.durations arcs)) (sym rows.4) within
 
--- a text that says a document says its project, or a cycle of it is named
+-- a text that describes a document describes its project, or the error names a cycle of it
 pub project_or_cycle : (text : List ℕ) (d : Document) → Says text d → SaysProject text (project_of d) ⊎ SomeCycle (network_of d)
 project_or_cycle text d says = by_order (some_order (network_of d) (network_within_limits text d says))
   where

@@ -1,4 +1,4 @@
--- What a walk notes, value after value.
+-- The note of a walk, value after value.
 use Rattle.std.proofs.Common.{◌≡◌, Bool, true, false, Option, Some, None, refl, cond}
 use Rattle.plan_psplib.specs.Noted.{noted, noted_or}
 
@@ -9,7 +9,7 @@ noted_or-noted true None value later = refl
 noted_or-noted false (Some first) value later = refl
 noted_or-noted false None value later = refl
 
--- if none is to come, the note stands
+-- if no value is left, the note is final
 pub noted_or-None : {A : Type 0} (note : Option A) → noted_or note None ≡ note
 noted_or-None (Some first) = refl
 noted_or-None None = refl

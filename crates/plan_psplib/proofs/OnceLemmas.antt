@@ -1,4 +1,4 @@
--- Of each of these a text has only one: its document, its project, the first check that it fails.
+-- A text has at most one document, one project and one first check that it fails.
 use Rattle.std.proofs.Common.{◌≡◌, ℕ, inl, inr, List, Result, Ok, Err, sym, ap, ◌∙◌, subst}
 use Rattle.plan_net.specs.Limits.{IsSound}
 use Rattle.plan_net.specs.Cycle.{IsNamedCycle}
@@ -11,7 +11,7 @@ use Rattle.plan_psplib.specs.Project.{Project, SaysProject, IsFirstFailing, Name
 use Rattle.plan_psplib.proofs.GoesLemmas.{same_ok}
 use Rattle.plan_psplib.proofs.SaysLemmas.{said_document}
 
--- two faults that read alike: of one check, at one line, with one cycle
+-- two equal faults: of one check, at one line, with one cycle
 pub record ReadAlike (a b : FileFault) : Type 0 where
   pub code : a.code ≡ b.code
   pub line : a.line ≡ b.line
@@ -25,7 +25,7 @@ never_both {A = A} r x f good bad = let both : Path (Result A Fault) (Ok x) (Err
 pub fault_once : {A : Type 0} (r : Result A Fault) (f g : Fault) → r ≡ Err f → r ≡ Err g → f ≡ g
 fault_once {A = A} r f g first second = let both : Path (Result A Fault) (Err f) (Err g) = sym first ∙ second in cc
 
--- a text says one document
+-- a text describes at most one document
 pub document_once : (text : List ℕ) (a b : Document) → Says text a → Says text b → a ≡ b
 document_once text a b first second = same_ok a b (sym (said_document text a first) ∙ said_document text b second)
 
@@ -58,7 +58,7 @@ failing_once text f g (inr (d, first, names)) (inl (second, none)) = absurd (nev
 failing_once text f g (inr (a, first, names_a)) (inr (b, second, names_b)) =
     cycles_alike a b f g (same_ok a b (sym first ∙ second)) names_a names_b
 
--- a text that says a project fails none
+-- a text that describes a project fails no check
 pub said_fails_none : (text : List ℕ) (p : Project) (f : FileFault) → SaysProject text p → IsFirstFailing text f → ⊥
 said_fails_none text p f (d, says, is, good) (inl (failing, none)) = never_both (document text) d _ (said_document text d says) failing
 said_fails_none text p f (d, says, is, good) (inr (other, read, names)) =

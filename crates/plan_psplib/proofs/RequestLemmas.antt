@@ -7,7 +7,7 @@ use Rattle.plan_psplib.specs.Tokens.{◌>>=◌, Fails, within_at, greatest}
 use Rattle.plan_psplib.specs.Requests.{Request, Requests, amounts_at, request_row_at, request_rows_at, with_row}
 use Rattle.plan_psplib.proofs.LoopLemmas.{goes_on, fails, is_done}
 
--- the state of the loop over amounts: those so far, and what is left to read
+-- the state of the loop over amounts: the amounts so far, and the rest of the stream
 abbrev Amounts : Type 0
 Amounts = List ℕ × Stream
 
@@ -39,7 +39,7 @@ pub amounts_done : (count i : ℕ) (before : List ℕ) (s : Stream) (total : Res
 unfolding amounts_at
 amounts_done count i before s total past whole = sym (is_done others one behind amounts-suc count i (before, s) total past whole)
 
--- the state of the loop over rows: the job whose row comes next, the rows so far, and what is left to read
+-- the state of the loop over rows: the job of the next row, the rows so far, and the rest of the stream
 abbrev Rows : Type 0
 Rows = ℕ × Requests × Stream
 

@@ -12,7 +12,7 @@ use Rattle.plan_net.specs.Successors.{arcs_from, arcs_of_rows, IsRow, rows_in}
 use Rattle.plan_net.proofs.SuccessorLemmas.{arcs_of_rows-push}
 use Rattle.plan_psplib.proofs.LoopLemmas.{goes_on, fails, is_done}
 
--- a slice that a `Vec` lent whole comes back whole
+-- a slice of a whole `Vec` is returned unchanged
 pub written_back : (new old : List Bool) (n : ℕ) → length new ≡ n → take n (new ++ drop (length new) old) ≡ new
 written_back new old n e = grind (arith, common_steps)
 
@@ -48,7 +48,7 @@ module _ (n : ℕ) where
   unfolding successors_at
   successors_done count i found s total past whole = sym (is_done others one behind successors-suc count i (found, s) total past whole)
 
--- the state of the loop over rows: the job whose row comes next, the arcs so far, and what is left to read
+-- the state of the loop over rows: the job of the next row, the arcs so far, and the rest of the stream
 module _ (n : ℕ) where
   abbrev Rows : Type 0
   Rows = ℕ × List (ℕ × ℕ) × Stream
@@ -83,7 +83,7 @@ module _ (n : ℕ) where
   unfolding precedence_rows_at
   rows_done count i job arcs s total past whole = sym (is_done other_rows one_row behind_row rows-suc count i (job, arcs, s) total past whole)
 
--- of what is read behind a row
+-- the result of reading after a row
 pub rows_behind : (n : ℕ) (done : ℕ) (lists : List (Vec ℕ Global)) (list : Vec ℕ Global) (s : Stream)
     (total : Result (List (ℕ × ℕ) × Stream) Fault) (more : ℕ) → length lists ≡ done →
     precedence_rows_at n more (done + 1 + 1) (arcs_of_rows 1 (rows_in lists)
@@ -94,7 +94,7 @@ rows_behind n done lists list s total more count e =
     let same = arcs_of_rows-push 1 lists list ∙ ap (λ (job : ℕ). arcs_of_rows 1 (rows_in lists) ++ arcs_from job list.items) next in
     ap (λ (arcs : List (ℕ × ℕ)). precedence_rows_at n more (done + 1 + 1) arcs s) same ∙ e
 
--- one row more, of rows that are rows
+-- one more row of successors, which is valid like those before it
 pub each_push : (n : ℕ) (lists : List (Vec ℕ Global)) (list : Vec ℕ Global) → AllByRecursion (IsRow n) (rows_in lists) → IsRow n list.items → AllByRecursion (IsRow n) (rows_in (lists ++ list ∷ []))
 each_push n [] list h row = (row, tt)
 each_push n (first ∷ lists) list h row = (h.0, each_push n lists list h.1 row)

@@ -1,4 +1,4 @@
--- The whole text: what is read is what the text says, and what a text says is read.
+-- The whole text: reading succeeds exactly for the document that the text describes.
 use Rattle.std.proofs.Common.{◌≡◌, ◌≢◌, ℕ, ◌+◌, ◌≤◌, true, false, List, Option, Some, None, Result, Ok, Err, length, take, get_or, codes, refl, sym, ap, ◌∙◌, subst, arith}
 use Rattle.std.specs.Prelude.{nat_le, All, IfOk}
 use Rattle.std.specs.Prelude.{count_by}
@@ -65,7 +65,7 @@ section_is : (last : ℕ) (o : Option Stream) (s : Stream) → found_section las
 section_is last None s e = absurd (cc)
 section_is last (Some t) s e = ap (λ (x : Stream). Some x) (same_ok t s e)
 
--- what is read is what the text says
+-- the document that was read is the one that the text describes
 pub document_said : (text : List ℕ) (d : Document) → document text ≡ Ok d → Says text d
 unfolding document
 document_said text d e =
@@ -111,7 +111,7 @@ document_said text d e =
       available_fit = amounts.2;
     })))))))))
 
--- what a text says is read
+-- the document that a text describes is read
 pub said_document : (text : List ℕ) (d : Document) → Says text d → document text ≡ Ok d
 unfolding document
 said_document text d h =
@@ -151,7 +151,7 @@ said_document text d h =
     (ok_bind (availabilities z.resources c.0) _ d.available d (availabilities_read c.0 d.available c.2 h.available_fit)
     (ap (λ n. let e : Document = record { requests = d.requests; arcs = d.arcs; available = d.available; precedence_line = n } in Ok e) a.2))))))))
 
--- the same of an answer that the reading gives
+-- the same for a result that the reading gives
 pub read_is_said : (text : List ℕ) (r : Result declared.Document ReadError) → Gives document_of r (document text) → IfOk r (λ d. Says text (document_of d))
 read_is_said text (Ok d) e = document_said text (document_of d) e
 read_is_said text (Err f) e = tt

@@ -25,7 +25,7 @@ opened text = do
   first ← found_section (last_line text) (section precedence_title (kept_lines text))
   Ok (size, first)
 
--- what a text says of a project, whether its arcs have a cycle or not
+-- the contents of a project file; its arcs may have a cycle
 pub record Document : Type 0 where
   pub requests : Requests
   pub arcs : List (ℕ × ℕ)

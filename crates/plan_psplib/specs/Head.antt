@@ -1,4 +1,4 @@
--- What the head of an `.sm` text says (docs/definitions.md, "Files").
+-- The sizes in the head of an `.sm` text (docs/definitions.md, "Files").
 use Rattle.std.specs.Prelude.{ℕ, ◌==◌, List, Option, Some, None, Result, Ok, codes}
 use Rattle.plan_net.specs.Limits.{fewest_activities, most_activities}
 use Rattle.plan_psplib.specs.declared.text.fault.FileCode.TheVariants as code
@@ -11,7 +11,7 @@ use Rattle.plan_psplib.specs.Numbers.{number}
 use Rattle.plan_psplib.specs.Sections.{key_line, value_word}
 use Rattle.plan_psplib.specs.Tokens.{◌>>=◌, LineNumber, fault, check, limited}
 
--- something for each of the five keys
+-- a value for each of the five keys
 pub record Keys (A : Type 0) : Type 0 where
   pub projects : A
   pub jobs : A
@@ -19,7 +19,7 @@ pub record Keys (A : Type 0) : Type 0 where
   pub nonrenewable : A
   pub doubly_constrained : A
 
--- how many jobs and renewable resources there are
+-- the numbers of jobs and of renewable resources
 pub record Sizes : Type 0 where
   pub jobs : ℕ
   pub resources : ℕ
@@ -86,7 +86,7 @@ values lines = do
   doubly_constrained ← key_value lines.doubly_constrained
   Ok (record { projects = projects; jobs = jobs; renewable = renewable; nonrenewable = nonrenewable; doubly_constrained = doubly_constrained })
 
--- the one value that is read
+-- a key has the only supported value
 abbrev pub supported : ℕ → LineNumber → Result (Unit {0}) Fault
 supported only v = check (v.value == only) code.Unsupported v.line
 
@@ -94,7 +94,8 @@ supported only v = check (v.value == only) code.Unsupported v.line
 abbrev pub most_resources : ℕ
 most_resources = 16
 
--- one project, no nonrenewable and no doubly constrained resources, as many jobs as a network may have, and some renewable resources
+-- one project, no nonrenewable and no doubly constrained resources, as many jobs as a network may have, and
+-- some renewable resources
 unfoldable pub sizes_in : Keys LineNumber → Result Sizes Fault
 sizes_in v = do
   one_project ← supported 1 v.projects
@@ -104,7 +105,7 @@ sizes_in v = do
   resources ← limited 1 most_resources v.renewable
   Ok (record { jobs = jobs; resources = resources })
 
--- the sizes that the head gives; last is the last line of the text
+-- the sizes in the head; last is the last line of the text
 unfoldable pub sizes : ℕ → List NumberedLine → Result Sizes Fault
 sizes last head = do
   lines ← found_lines last (key_lines head)

@@ -19,7 +19,7 @@ without_empty_end [] = []
 without_empty_end (piece ∷ []) = if is_nonempty piece then piece ∷ [] else []
 without_empty_end (piece ∷ next ∷ pieces) = piece ∷ without_empty_end (next ∷ pieces)
 
--- what a text is cut into at each line feed; an empty piece after the last one is no line
+-- the pieces of a text between line feeds; an empty piece at the end is no line
 abbrev pub raw_lines : List ℕ → List (List ℕ)
 raw_lines text = without_empty_end (slice_split is_line_feed text)
 
@@ -28,7 +28,7 @@ abbrev pub trim_start : List ℕ → List ℕ
 trim_start [] = []
 trim_start (byte ∷ text) = if is_blank byte then trim_start text else byte ∷ text
 
--- a byte in front of a text whose end is trimmed: a blank stays only if something stands behind it
+-- a byte before a text whose end is trimmed: a blank is kept only if another byte follows
 abbrev pub before_trimmed : ℕ → List ℕ → List ℕ
 before_trimmed byte [] = if is_blank byte then [] else byte ∷ []
 before_trimmed byte (next ∷ text) = byte ∷ next ∷ text
@@ -47,7 +47,7 @@ pub record NumberedLine : Type 0 where
   pub number : ℕ
   pub text : List ℕ
 
--- raw lines as lines, of which the first has this number
+-- raw lines as numbered lines; the first has the number n
 abbrev pub numbered_from : ℕ → List (List ℕ) → List NumberedLine
 numbered_from n [] = []
 numbered_from n (text ∷ texts) = record { number = n; text = trim text } ∷ numbered_from (n + 1) texts

@@ -1,4 +1,5 @@
--- A text that is short enough and has no zero byte: the first two checks of each reader (docs/definitions.md, "Files").
+-- A text that is short enough and contains no zero byte: the first two checks of each reader
+-- (docs/definitions.md, "Files").
 use Rattle.std.specs.Prelude.{ℕ, ◌+◌, ◌==◌, Bool, List, take, Option, Some, None, Result, Ok, length, nat_le, count_by}
 use Rattle.std.specs.List.{position}
 use Rattle.std.specs.Option.{option_map}

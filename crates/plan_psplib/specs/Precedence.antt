@@ -7,32 +7,32 @@ use Rattle.plan_psplib.specs.declared.text.fault.Fault.{Fault}
 use Rattle.plan_psplib.specs.Streams.{Stream}
 use Rattle.plan_psplib.specs.Tokens.{◌>>=◌, LineNumber, check, number_at, expect_at, end_at}
 
--- the next word, which must be a job of n
+-- the next word, which must be the number of one of n jobs
 unfoldable pub job_at : ℕ → Stream → Result (LineNumber × Stream) Fault
 job_at n s = do
   job ← number_at s
   inside ← check (nat_le 1 job.0.value && nat_le job.0.value n) code.JobOrder job.0.line
   Ok job
 
--- whether a job is among some
+-- the job is in the list
 abbrev pub is_among : List ℕ → ℕ → Bool
 is_among jobs job = list_any (λ other. other == job) jobs
 
--- a successor of n jobs that its row hasn't named before
+-- the next word, which must be one of n jobs that the row hasn't named before
 unfoldable pub successor_at : ℕ → List ℕ → Stream → Result (ℕ × Stream) Fault
 successor_at n before s = do
   job ← job_at n s
   new ← check (not (is_among before job.0.value)) code.Double job.0.line
   Ok (job.0.value, job.1)
 
--- so many successors more, behind those that their row has named before
+-- as many more successors, after those that the row has named before
 unfoldable pub successors_at : ℕ → ℕ → List ℕ → Stream → Result (List ℕ × Stream) Fault
 successors_at n zero before s = Ok (before, s)
 successors_at n (suc more) before s = do
   next ← successor_at n before s
   successors_at n more (before ++ next.0 ∷ []) next.1
 
--- the row of a job: its number, one mode, how many successors, the successors
+-- the row of a job: its number, the number of modes (1), the number of successors, the successors
 unfoldable pub precedence_row_at : ℕ → ℕ → Stream → Result (List ℕ × Stream) Fault
 precedence_row_at n job s = do
   modes ← expect_at job code.JobOrder s
@@ -40,7 +40,7 @@ precedence_row_at n job s = do
   successors ← number_at count
   successors_at n successors.0.value [] successors.1
 
--- the rows of so many jobs from one on, behind the arcs of the rows before
+-- the rows of as many jobs, from one job on, after the arcs of the rows before
 unfoldable pub precedence_rows_at : ℕ → ℕ → ℕ → List (ℕ × ℕ) → Stream → Result (List (ℕ × ℕ) × Stream) Fault
 precedence_rows_at n zero job arcs s = Ok (arcs, s)
 precedence_rows_at n (suc more) job arcs s = do

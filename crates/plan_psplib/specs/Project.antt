@@ -1,4 +1,4 @@
--- A project that a file gives, and what a file is refused for (docs/definitions.md, "Files").
+-- The project of a file, and the errors of a file (docs/definitions.md, "Files").
 use Rattle.std.specs.Prelude.{◌≡◌, ℕ, ◌≤◌, ◌⊎◌, List, [], All, Ok, Err, length}
 use Rattle.plan_net.specs.Network.{Net, count_of, with_lag, unlagged}
 use Rattle.plan_net.specs.Limits.{IsSound}
@@ -12,13 +12,13 @@ use Rattle.plan_psplib.specs.Tokens.{greatest}
 use Rattle.plan_psplib.specs.Document.{Document, document}
 use Rattle.plan_psplib.specs.Says.{Says}
 
--- a project: its network, what each activity needs of each resource, and how much there is of each
+-- a project: its network, the needs of each activity, and the availability of each resource
 pub record Project : Type 0 where
   pub network : Net
   pub needs : List (List ℕ)
   pub available : List ℕ
 
--- amounts of so many resources, each within its limit
+-- amounts of k resources, each within the limit
 abbrev pub AreAmounts : ℕ → List ℕ → Type 0
 AreAmounts k amounts = (length amounts ≡ k) × All (λ amount. amount ≤ greatest) amounts
 
@@ -42,25 +42,25 @@ network_of d = unlagged d.requests.durations d.arcs
 abbrev pub project_of : Document → Project
 project_of d = record { network = network_of d; needs = d.requests.needs; available = d.available }
 
--- a project is the one that a text says
+-- the project is the one that a text describes
 abbrev pub SaysProject : List ℕ → Project → Type 0
 SaysProject text p = (d : Document) × Says text d × (p ≡ project_of d) × IsProject p
 
--- a document whose arcs have a cycle: it is named, at the line of the precedence title
+-- the error of a document whose arcs have a cycle: it names the cycle, at the line of the precedence title
 abbrev pub NamesCycleOf : Document → FileFault → Type 0
 NamesCycleOf d fault = (fault.code ≡ code.Cycle) × (fault.line ≡ d.precedence_line) × IsNamedCycle (network_of d) fault.cycle.items
 
--- the first check that a text fails: one of those that its document takes, or else the test for a cycle
+-- the error is the first check that a text fails: one of those of its document, or else the test for a cycle
 abbrev pub IsFirstFailing : List ℕ → FileFault → Type 0
 IsFirstFailing text fault =
     ((document text ≡ Err (record { code = fault.code; line = fault.line })) × (fault.cycle.items ≡ []))
     ⊎ ((d : Document) × (document text ≡ Ok d) × NamesCycleOf d fault)
 
--- a document that some text says
+-- some text describes the document
 abbrev pub IsSaid : Document → Type 0
 IsSaid d = (text : List ℕ) × Says text d
 
--- a text is refused for what its network is refused for; a cycle is told at this line
+-- the error of a text for an error of its network; a cycle is reported at this line
 abbrev pub TellsOf : NetFault → ℕ → FileFault → Type 0
 TellsOf (nets.Cycle members) line fault = (fault.code ≡ code.Cycle) × (fault.line ≡ line) × (fault.cycle.items ≡ members.items)
 TellsOf nets.NoMemory line fault = IsWantOfMemory fault

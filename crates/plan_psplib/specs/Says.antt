@@ -1,4 +1,4 @@
--- What an `.sm` text says, apart from the order in which it is read (docs/definitions.md, "Files").
+-- The document of an `.sm` text, independent of the order in which it is read (docs/definitions.md, "Files").
 use Rattle.std.specs.Prelude.{◌≡◌, ◌≢◌, ℕ, ◌+◌, ◌≤◌, List, [], ◌∷◌, ◌++◌, Some, All, codes, length, map, sum}
 use Rattle.std.specs.List.{AllByRecursion}
 use Rattle.plan_psplib.specs.Lines.{NumberedLine}
@@ -12,16 +12,17 @@ use Rattle.plan_psplib.specs.Head.{most_resources}
 use Rattle.plan_psplib.specs.Document.{Document}
 use Rattle.plan_psplib.specs.Plain.{longest_text}
 
--- the words are these numbers, one each
+-- the words spell these numbers, one each
 abbrev pub Spells : List LineWord → List ℕ → Type 0
 Spells words numbers = map (λ word. number word.text) words ≡ map Some numbers
 
--- the numbers of the rows from a job on: the job, one mode, how many successors, the successors
+-- the numbers of the rows from a job on: the job, the number of modes (1), the number of successors, the
+-- successors
 abbrev pub precedence_numbers : ℕ → List (List ℕ) → List ℕ
 precedence_numbers job [] = []
 precedence_numbers job (row ∷ rows) = (job ∷ 1 ∷ length row ∷ row) ++ precedence_numbers (job + 1) rows
 
--- the words are the rows of n jobs, which give these arcs
+-- the words spell the rows of n jobs, and these are their arcs
 abbrev pub SpellsArcs : ℕ → List LineWord → List (ℕ × ℕ) → Type 0
 SpellsArcs n words arcs = (rows : List (List ℕ)) × (length rows ≡ n) × AllByRecursion (IsRow n) rows × Spells words (precedence_numbers 1 rows) × (arcs ≡ arcs_of_rows 1 rows)
 
@@ -34,15 +35,15 @@ request_numbers job _ _ = []
 abbrev pub IsNeeds : ℕ → List ℕ → Type 0
 IsNeeds k needs = (length needs ≡ k) × AllByRecursion (λ amount. amount ≤ greatest) needs
 
--- the head gives a key this number
+-- the value of a key in the head is this number
 abbrev pub HasValue : List ℕ → List ℕ → ℕ → Type 0
 HasValue text key n = (line : NumberedLine) × (word : List ℕ) × (key_line key (head_of text) ≡ Some line) × (value_word line.text ≡ Some word) × (number word ≡ Some n)
 
--- the section of a title is spelled by these numbers
+-- the section of a title spells these numbers
 abbrev pub SectionSpells : List ℕ → List ℕ → List ℕ → Type 0
 SectionSpells text title numbers = (s : Stream) × (section title (kept_lines text) ≡ Some s) × Spells s.words numbers
 
--- a text says a document: its head and its three sections are spelled by it, and it keeps the limits
+-- a text describes a document: its head and its three sections spell it, and it keeps the limits
 pub record Says (text : List ℕ) (d : Document) : Type 0 where
   pub short : length text ≤ longest_text
   pub plain : All (λ byte. byte ≢ 0) text

@@ -8,7 +8,7 @@ pub record LineWord : Type 0 where
   pub line : ℕ
   pub text : List ℕ
 
--- words that stand in one line
+-- the words of one line
 abbrev pub words_at : ℕ → List (List ℕ) → List LineWord
 words_at n texts = map (λ text. record { line = n; text = text }) texts
 
@@ -21,12 +21,12 @@ abbrev pub before_end : (List ℕ → Bool) → List NumberedLine → List Numbe
 before_end ends [] = []
 before_end ends (line ∷ lines) = if ends line.text then [] else line ∷ before_end ends lines
 
--- the lines that count, up to the first of them that ends them
+-- the lines that count, up to the first of them that is an end
 abbrev pub rows : (List ℕ → Bool) → (List ℕ → Bool) → List NumberedLine → List NumberedLine
 rows takes ends lines = before_end ends (filter (λ line. takes line.text) lines)
 
--- a stream: its words that are left, and the line of the last word that was read, before the first word
--- the line of its title
+-- a stream: its remaining words, and the line of the last word that was read; before the first word, the line
+-- of its title
 pub record Stream : Type 0 where
   pub last : ℕ
   pub words : List LineWord

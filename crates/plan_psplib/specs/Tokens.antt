@@ -10,23 +10,23 @@ use Rattle.plan_psplib.specs.declared.text.tokens.LineNumber as declared
 use Rattle.plan_psplib.specs.Numbers.{number}
 use Rattle.plan_psplib.specs.Streams.{LineWord, Stream}
 
--- what is read first, and then what is read from there; or the first fault
+-- one reading after another, up to the first error
 infixl 10 ◌>>=◌
 abbrev pub ◌>>=◌ : {A B : Type 0} → Result A Fault → (A → Result B Fault) → Result B Fault
 (Ok x) >>= f = f x
 (Err e) >>= f = Err e
 
--- a refusal that the reading gives; out of memory may come at any time
+-- an error of the reading, or out of memory, which is possible at any time
 abbrev pub Fails : {Y : Type 0} → ReadError → Result Y Fault → Type 0
 Fails errors.Memory read = Unit {0}
 Fails (errors.Fault f) read = read ≡ Err f
 
--- what a function answers, seen by view, is what the reading gives
+-- the result of a function, under `view`, is that of the reading, or out of memory
 abbrev pub Gives : {X Y : Type 0} → (X → Y) → Result X ReadError → Result Y Fault → Type 0
 Gives view (Ok x) read = read ≡ Ok (view x)
 Gives view (Err e) read = Fails e read
 
--- the same of a function that allocates nothing: it answers just what the reading gives
+-- the same for a function that allocates nothing: the result is exactly that of the reading
 abbrev pub Reads : {X Y : Type 0} → (X → Y) → Result X Fault → Result Y Fault → Type 0
 Reads view (Ok x) read = read ≡ Ok (view x)
 Reads view (Err f) read = read ≡ Err f
@@ -93,7 +93,7 @@ greatest = longest_duration
 abbrev pub greatest_total : ℕ
 greatest_total = longest_sum
 
--- a duration, where those before it add up to this total
+-- a duration; total is the sum of the durations before it
 unfoldable pub duration_at : ℕ → Stream → Result (ℕ × Stream) Fault
 duration_at total s = do
   duration ← number_at s

@@ -1,4 +1,4 @@
-//! The `.sm` format of PSPLIB: the head, the sections, and the project that they say.
+//! The `.sm` format of PSPLIB: the head, the sections and their project.
 
 mod document;
 mod head;

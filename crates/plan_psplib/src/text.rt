@@ -1,4 +1,4 @@
-//! Texts of any format: lines, words and numbers, streams of words, and why a file can't be read.
+//! Texts of any format: lines, words, numbers, streams of words, and the errors of a file.
 
 mod fault;
 mod lines;

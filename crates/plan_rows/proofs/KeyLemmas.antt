@@ -1,11 +1,11 @@
--- Rows that have the key of a search are alike: what makes a row the only one of its key.
+-- Rows with the key of a search are alike, so a row is the only one with its key.
 use Rattle.std.proofs.Common.{◌≡◌, true, ℕ, sym, ◌∙◌, subst}
 use Rattle.std.specs.Prelude.{◌&&◌, ◌==◌}
 use Rattle.std.proofs.lemmas.Bool.{and_parts, and_from, eqb-true, eq-eqb}
 use Rattle.plan_rows.specs.World.{Text, Published, Desk, Plan, Bind, Lag, same_text, is_code, is_desk, is_plan, is_bind, is_lag}
 use Rattle.plan_rows.proofs.OwnerLemmas.{text_from_same, same_text_refl}
 
--- texts that are one with a third are one
+-- texts that equal a third text are equal
 pub one_text : (t s u : Text) → same_text s t ≡ true → same_text u t ≡ true → same_text s u ≡ true
 one_text t s u a b =
     subst (λ z. same_text s z ≡ true) (text_from_same s t a ∙ sym (text_from_same u t b)) (same_text_refl s)

@@ -65,7 +65,7 @@ module _ {R : Type 0} (key : R → RowKey) where
   any_more p (row ∷ rows) zero d low = grind (arith, cases_Bool (p row))
   any_more p (row ∷ rows) (suc i) d low = any_more p rows i d (omega (arith, low))
 
-  -- a key that was seen is that of a later row
+  -- a key in the set is that of a later row
   pub seen_at : (rows : List R) (i : ℕ) (row : R) (k : HeldKey) (seen : List HeldKey) → 0 < i → i ≤ length rows → row ≡ get_or rows (i - 1) row → shown_key k ≡ key row
       → HasSeen key seen (drop i rows) → {b : Bool} → b ≡ not (list_any (λ q. same_key (shown_key k) (shown_key q)) seen) → b ≡ false
       → AllDiffer (λ a b. same_key (key a) (key b)) rows → ⊥
@@ -77,7 +77,7 @@ module _ {R : Type 0} (key : R → RowKey) where
       not_differ rows i row (omega (arith, low))
       (ap (λ r. list_any (λ y. same_key (key r) (key y)) (drop (suc i) rows)) (sym there) ∙ ap (λ t. list_any (λ y. same_key t (key y)) (drop (suc i) rows)) (sym is) ∙ sym (has k) ∙ was) apart
 
-  -- a new one
+  -- a new key
   pub new_at : (rows : List R) (i : ℕ) (row : R) (k : HeldKey) (seen : List HeldKey) → 0 < i → i ≤ length rows → row ≡ get_or rows (i - 1) row → shown_key k ≡ key row
       → HasSeen key seen (drop i rows) → {b : Bool} → b ≡ not (list_any (λ q. same_key (shown_key k) (shown_key q)) seen) → b ≡ true
       → AllDiffer (λ a b. same_key (key a) (key b)) (drop i rows) → AllDiffer (λ a b. same_key (key a) (key b)) (drop (i - 1) rows)
@@ -90,7 +90,7 @@ module _ {R : Type 0} (key : R → RowKey) where
       (differ_more rows i row (omega (arith, low))
       (ap (λ r. list_any (λ y. same_key (key r) (key y)) (drop (suc i) rows)) (sym there) ∙ ap (λ t. list_any (λ y. same_key t (key y)) (drop (suc i) rows)) (sym is) ∙ sym (has k) ∙ was) apart)
 
-  -- the keys after it was put among them
+  -- the keys after it is inserted
   pub seen_more : (rows : List R) (i : ℕ) (row : R) (k : HeldKey) (seen now : List HeldKey) → 0 < i → i ≤ length rows → row ≡ get_or rows (i - 1) row → shown_key k ≡ key row
       → ((q : HeldKey) → list_any (λ t. same_key (shown_key q) (shown_key t)) now ≡ cond (same_key (shown_key k) (shown_key q)) true (list_any (λ t. same_key (shown_key q) (shown_key t)) seen))
       → HasSeen key seen (drop i rows) → HasSeen key now (drop (i - 1) rows)
@@ -117,7 +117,7 @@ and_assoc false b c = refl
 pub text_key : (t u : Text) → same_key (t, 0, 0, 0) (u, 0, 0, 0) ≡ same_text t u
 text_key t u = and_true ((same_text t u && true) && true) ∙ and_true (same_text t u && true) ∙ and_true (same_text t u)
 
--- of a desk and a number
+-- the key of a desk and a number
 pub plan_key : (t u : Text) (m n : ℕ) → same_key (t, m, 0, 0) (u, n, 0, 0) ≡ (same_text u t && (n == m))
 plan_key t u m n =
     same_key_swap (t, m, 0, 0) (u, n, 0, 0) ∙ and_true ((same_text u t && (n == m)) && true) ∙ and_true (same_text u t && (n == m))
@@ -130,9 +130,9 @@ bind_key t u m n p q = same_key_swap (t, m, p, 0) (u, n, q, 0) ∙ and_true ((sa
 pub lag_key : (t u : Text) (m n p q x y : ℕ) → same_key (t, m, p, x) (u, n, q, y) ≡ ((same_text u t && (n == m)) && ((q == p) && (y == x)))
 lag_key t u m n p q x y = same_key_swap (t, m, p, x) (u, n, q, y) ∙ and_assoc (same_text u t && (n == m)) (q == p) (y == x)
 
--- ---- what keys tell of the rows that have them
+-- ---- facts of rows from their keys
 
--- tests that agree tell rows apart alike
+-- equal tests separate rows alike
 all_as : {A : Type 0} (p q : A → Bool) → ((a : A) → p a ≡ q a) → (xs : List A) → AllByRecursion (λ y. p y ≡ false) xs → AllByRecursion (λ y. q y ≡ false) xs
 all_as p q agree [] all = tt
 all_as p q agree (x ∷ xs) all = (sym (agree x) ∙ all.0, all_as p q agree xs all.1)
@@ -141,7 +141,7 @@ differ_as : {A : Type 0} (p q : A → A → Bool) → ((a b : A) → p a b ≡ q
 differ_as p q agree [] apart = tt
 differ_as p q agree (x ∷ xs) apart = (all_as (p x) (q x) (agree x) xs apart.0, differ_as p q agree xs apart.1)
 
--- keys differ where what the rows stand for does
+-- keys differ exactly if the rows that they stand for do
 pub tells_keys : {R A : Type 0} (g : R → A) (alike : A → A → Bool) (key : R → RowKey) → ((a b : R) → same_key (key a) (key b) ≡ alike (g a) (g b))
     → (rows : List R) {read : List R} → read ≡ rows → (b : Bool) → Tells b (AllDiffer (λ x y. same_key (key x) (key y)) read) → Tells b (AllDiffer alike (map g rows))
 tells_keys g alike key agree rows e b t =
@@ -149,7 +149,7 @@ tells_keys g alike key agree rows e b t =
     (λ apart. differ_as (λ x y. alike (g x) (g y)) (λ x y. same_key (key x) (key y)) (λ x y. sym (agree x y)) rows (differ_under g alike rows apart))
     b (subst (λ l. Tells b (AllDiffer (λ x y. same_key (key x) (key y)) l)) e t)
 
--- what is told where there is memory, in other words
+-- a fact of a result for the case without an error, in other words
 pub told_as : {E : Type 0} {P Q : Bool → Type 0} → ((b : Bool) → P b → Q b) → (r : Result Bool E) → IfOk r P → IfOk r Q
 told_as to (Ok b) told = to b told
 told_as to (Err e) told = tt

@@ -1,4 +1,4 @@
--- Rows that are found by their keys: maps of keys to places, and of desks to how many plans they have.
+-- Rows found by their keys: maps from keys to indices, and from desks to numbers of plans.
 use Rattle.std.proofs.Common.{◌≡◌, ◌⊎◌, inl, inr, ℕ, zero, suc, ◌<◌, ◌≤◌, ◌-◌, ◌+◌, Bool, true, false, List, [], ◌∷◌, length, length-drop, drop, get_or, Some, None, refl, sym, ap, ◌∙◌, arith, Bor}
 use Rattle.std.specs.Prelude.{not, cond, nat_lt, unwrap_or, filter, string_bytes}
 use Rattle.std.specs.List.{position_from, position, prefix_len}
@@ -11,13 +11,13 @@ use Rattle.plan_rows.specs.RowTests.{RowKey, HeldKey, shown_key, same_key, AreCo
 use Rattle.plan_rows.proofs.KeyedLemmas.{same_key_swap, text_key}
 
 module _ {R : Type 0} (key : R → RowKey) where
-  -- the first place among the rows from i on, and one row more
+  -- the first index among the rows from i on, and one more row
   place_more : (p : R → Bool) (rows : List R) (i j : ℕ) (d : R) → i < length rows → position_from p j (drop i rows) ≡ cond (p (get_or rows i d)) (Some j) (position_from p (j + 1) (drop (suc i) rows))
   place_more p [] i j d low = absurd (omega (arith, low))
   place_more p (row ∷ rows) zero j d low = refl
   place_more p (row ∷ rows) (suc i) j d low = place_more p rows i j d (omega (arith, low))
 
-  -- the first places after a key was put among them
+  -- the first indices after a key is inserted
   pub placed_more : {S : Type 0} (rows : List R) (i : ℕ) (row : R) (k : HeldKey) (places now : HashMap HeldKey ℕ S) → 0 < i → i ≤ length rows → row ≡ get_or rows (i - 1) row → shown_key k ≡ key row
       → ((q : HeldKey) → get_by (λ t. same_key (shown_key q) (shown_key t)) now ≡ cond
       (same_key (shown_key k) (shown_key q)) (Some (i - 1))
@@ -38,7 +38,7 @@ module _ {R : Type 0} (key : R → RowKey) where
 
 -- ---- tests that agree
 
--- a key of a text alone, the other way round
+-- a key of a text alone, in reverse
 pub key_text : (t u : Text) → same_key (t, 0, 0, 0) (u, 0, 0, 0) ≡ same_text u t
 key_text t u = same_key_swap (t, 0, 0, 0) (u, 0, 0, 0) ∙ text_key u t
 
@@ -46,7 +46,7 @@ prefix_as : {A : Type 0} (p q : A → Bool) → ((a : A) → p a ≡ q a) → (x
 prefix_as p q agree [] = refl
 prefix_as p q agree (x ∷ xs) = ap (λ b. cond b (1 + prefix_len p xs) 0) (agree x) ∙ ap (λ n. cond (q x) (1 + n) 0) (prefix_as p q agree xs)
 
--- the first place by tests that agree
+-- the first index by tests that agree
 pub position_as : {A : Type 0} (p q : A → Bool) → ((a : A) → p a ≡ q a) → (xs : List A) → position p xs ≡ position q xs
 position_as p q agree xs = ap (λ n. cond (nat_lt n (length xs)) (Some n) None) (prefix_as (λ x. not (p x)) (λ x. not (q x)) (λ x. ap not (agree x)) xs)
 
@@ -62,7 +62,7 @@ filter_more p [] i d low = absurd (omega (arith, low))
 filter_more p (x ∷ xs) zero d low = grind (arith, cases_Bool (p x))
 filter_more p (x ∷ xs) (suc i) d low = filter_more p xs i d (omega (arith, low))
 
--- one more fits, since there are no more than the rows behind it
+-- one more can be counted, since at most the rows after it remain
 pub count_low : {A : Type 0} (p : A → Bool) (xs : List A) (i count : ℕ) → 0 < i → i ≤ length xs → count ≡ length (filter p (drop i xs)) → count + 1 ≤ length xs
 count_low p xs i count some low e = omega (arith, some, low, e, filter_low p (drop i xs), length-drop i xs)
 

@@ -1,4 +1,4 @@
--- Rows that have owners: what an owner sees of a change of the rows of one owner.
+-- Rows with owners: the effect on an owner of a change of one owner's rows.
 use Rattle.std.proofs.Common.{◌≡◌, ◌⊎◌, inl, inr, Bool, true, false, not, List, [], ◌∷◌, ◌++◌, filter, refl, sym, ap, ◌∙◌, subst, append-nil}
 use Rattle.std.specs.List.{list_any, AllByRecursion}
 use Rattle.std.proofs.lemmas.Bool.{cases_Bool, cond-true, cond-false, both_ways, false_from_ne_true}
@@ -8,7 +8,7 @@ use Rattle.plan_rows.specs.World.{Text, same_text}
 use Rattle.plan_rows.specs.Changes.{changed, put, without}
 use Rattle.plan_rows.proofs.RowLemmas.{filter_again, filter_swap, filter_all, filter-changed, changed_none, all_filtered, all_weaker, list_any-filter}
 
--- equal texts are one
+-- equal texts are the same text
 pub text_from_same : (a b : Text) → same_text a b ≡ true → a ≡ b
 text_from_same a b e = (bytes_eq-Decides a b).0 e
 
@@ -23,7 +23,7 @@ module _ {A : Type 0} (owner : A → Text) where
   abbrev pub is_of : Text → A → Bool
   is_of d row = same_text (owner row) d
 
-  -- what passes is a row of this owner
+  -- the rows that pass belong to this owner
   abbrev pub IsWithin : Text → (A → Bool) → Type 0
   IsWithin s q = (row : A) → q row ≡ true → is_of s row ≡ true
 
@@ -31,7 +31,7 @@ module _ {A : Type 0} (owner : A → Text) where
   abbrev pub KeepsOwner : (A → A) → Type 0
   KeepsOwner f = (row : A) → owner (f row) ≡ owner row
 
-  -- to another owner a row is what its owner is
+  -- a row of one owner belongs to another exactly if the two are equal
   of_other : (d s : Text) (row : A) → is_of s row ≡ true → is_of d row ≡ same_text s d
   of_other d s row e = ap (λ t. same_text t d) (text_from_same (owner row) s e)
 

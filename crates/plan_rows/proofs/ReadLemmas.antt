@@ -1,4 +1,4 @@
--- What a desk sees of the rows, by one test of the whole key.
+-- The rows that a desk sees, found by one test of the whole key.
 use Rattle.std.proofs.Common.{◌≡◌, ℕ, Bool, true, List, [], ◌∷◌, map, filter, Some, None, refl, sym, ap, ◌∙◌, arith}
 use Rattle.std.specs.Prelude.{◌&&◌, ◌==◌, ◌<◌, nat_le, find, string_bytes, Option, IfSome}
 use Rattle.std.proofs.lemmas.Bool.{cases_Bool, and_parts, leb-true}
@@ -33,7 +33,7 @@ pub record IsCopy (w : World) (desk : Text) (n : ℕ) (row : Plan) (answer : Pla
   pub binds_are : map bind_in answer.binds.items ≡ map place_of (in_order bind_before (filter (is_bind_of desk n) w.binds))
   pub lags_are : map lag_in answer.lags.items ≡ map arc_of (in_order lag_before (filter (is_lag_of desk n) w.lags))
 
--- an answer with these parts is the one that is due
+-- an answer with these parts is the expected one
 pub copy_answers : (w : World) (desk : Text) (n : ℕ) (row : Plan) (answer : PlanRow) → IsCopy w desk n row answer → IsPlanAnswer (view desk w) row answer
 copy_answers w desk n row answer copy = record {
   kind = copy.kind;

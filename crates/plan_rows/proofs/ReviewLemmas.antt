@@ -1,4 +1,4 @@
--- Plans that are tested one at a time: the keys of lags that are on no arc so far, and one plan more.
+-- Plans that are tested one at a time: the keys of lags that are on no arc so far, and one more plan.
 use Rattle.std.proofs.Common.{◌≡◌, ◌+◌, filter, ◌⊎◌, inl, inr, ℕ, zero, suc, ◌<◌, ◌≤◌, Bool, true, false, ◌&&◌, ◌||◌, ◌==◌, List, [], ◌∷◌, ◌++◌, length, map, take, get_or, Option, Some, None, refl, sym, ap, ap₂, ◌∙◌, subst, arith}
 use Rattle.std.specs.Prelude.{not, cond, find, nat_lt}
 use Rattle.std.specs.Bool.{MatchBool}
@@ -36,7 +36,7 @@ and_true : (b : Bool) → (b && true) ≡ b
 and_true true = refl
 and_true false = refl
 
--- a key is taken out
+-- a key is removed
 struck_step : (a b c : Bool) → cond c false (a && not b) ≡ (a && not (b || c))
 struck_step true true true = refl
 struck_step true true false = refl
@@ -62,7 +62,7 @@ any_as : {A : Type 0} (p q : A → Bool) → ((a : A) → p a ≡ q a) → (xs :
 any_as p q agree [] = refl
 any_as p q agree (x ∷ xs) = grind (arith, agree x, any_as p q agree xs)
 
--- one arc more is taken out
+-- one more arc is removed
 pub arcs_step : (desk : Text) (n : ℕ) (arcs : List (ℕ × ℕ)) (i j : ℕ) (d : ℕ × ℕ) (k q : HeldKey)
     (old mid new : List HeldKey) → i < length arcs → j ≡ suc i → shown_key k ≡ key_at desk n (get_or arcs i d)
     → holds_key mid q ≡ (holds_key old q && not (is_arc_key desk n (take i arcs) q)) → holds_key new q ≡ cond (same_key (shown_key k) (shown_key q)) false (holds_key mid q)
@@ -74,7 +74,7 @@ arcs_step desk n arcs i j d k q old mid new low next key was now =
     ∙ ap (λ b. holds_key old q && not (list_any p (take i arcs) || b)) here
     ∙ ap (λ b. holds_key old q && not b) (sym (any_take p arcs i d low)) ∙ ap (λ m. holds_key old q && not (list_any p (take m arcs))) (sym next)
 
--- nothing is taken out
+-- nothing is removed
 pub none_struck : (keys : List HeldKey) (q : HeldKey) → holds_key keys q ≡ (holds_key keys q && true)
 none_struck keys q = sym (and_true (holds_key keys q))
 
@@ -130,7 +130,7 @@ walk_owner plan q has (row ∷ rows) all some = by_test (cases_Bool (same_key (s
     by_test (inl in_) rest = both_ways (is_owner plan row) all.0 (owned_here plan row (shown_key q) in_ has.0)
     by_test (inr out_) rest = rest (ap (λ b. b || has_row lag_key_of rows q) (sym out_) ∙ some)
 
--- a plan of which there are no lags
+-- a plan without lags
 pub no_owner : (plan : Plan) (rows : List LagRecord) (q : HeldKey) → position (is_owner plan) rows ≡ None → has_row lag_key_of rows q ≡ true → HasArc plan (shown_key q) → ⊥
 no_owner plan rows q none some has = walk_owner plan q has rows (none_at lag_kept (λ lag. same_key (plan.desk, plan.n, 0, 0) (lag.desk, lag.n, 0, 0)) rows none) some
 
@@ -143,7 +143,7 @@ owner_name plan rows i row e is =
     let parts = and_parts (same_text l.desk plan.desk) (l.n == plan.n) (sym (plan_key plan.desk l.desk plan.n l.n) ∙ yes) in
     text_from_same l.desk plan.desk parts.0
 
--- what is found is there
+-- an index that is found is within the rows
 pub found_below : {R : Type 0} (p : R → Bool) (rows : List R) (i : ℕ) → position p rows ≡ Some i → i < length rows
 found_below p [] i e = absurd (none_found e)
   where
@@ -154,7 +154,7 @@ found_below p (row ∷ rows) i e = (position-Some p (row ∷ rows) i row e).0
 pub owner_below : (plan : Plan) (rows : List LagRecord) (i : ℕ) → position (is_owner plan) rows ≡ Some i → i < length rows
 owner_below plan = found_below (is_owner plan)
 
--- ---- one plan more
+-- ---- one more plan
 
 some_more : (plans : List Plan) (plan : Plan) (key : RowKey) → SomeHasArc plans key ⊎ HasArc plan key → SomeHasArc (plans ++ plan ∷ []) key
 some_more [] plan key (inl none) = absurd none
@@ -193,7 +193,7 @@ take_step g [] i d low = absurd (omega (arith, low))
 take_step g (r ∷ rows) zero d low = refl
 take_step g (r ∷ rows) (suc i) d low = ap (λ l. g r ∷ l) (take_step g rows i d (omega (arith, low)))
 
--- one plan more of a list of rows
+-- one more plan of a list of rows
 pub take_more : {R A : Type 0} (g : R → A) (rows : List R) (i j : ℕ) (d : R) → i < length rows → j ≡ suc i → map g (take i rows) ++ g (get_or rows i d) ∷ [] ≡ map g (take j rows)
 take_more g rows i j d low next = take_step g rows i d low ∙ ap (λ k. map g (take k rows)) (sym next)
 
@@ -217,7 +217,7 @@ get_same [] i d e low = absurd (omega (arith, low))
 get_same (x ∷ xs) zero d e low = refl
 get_same (x ∷ xs) (suc i) d e low = get_same xs i d e (omega (arith, low))
 
--- one row more whose key is taken out
+-- one more row whose key is removed
 pub struck_more : (keys : List HeldKey) (rows : List LagRecord) (i j : ℕ) (row : LagRecord) (q : HeldKey) → i < length rows → row ≡ get_or rows i row → j ≡ suc i → shown_key q ≡ lag_key_of row
     → (holds_key keys q ≡ true → ⊥) → ((k : ℕ) (d : LagRecord) → k < i → IsStruck keys (lag_key_of (get_or rows k d))) → (k : ℕ) (d : LagRecord) → k < j → IsStruck keys (lag_key_of (get_or rows k d))
 struck_more keys rows i j row q low is next key gone before k d less = by_test (cases_Bool (nat_lt k i))
@@ -229,7 +229,7 @@ struck_more keys rows i j row q low is next key gone before k d less = by_test (
         let here : k ≡ i = omega (arith, less, next, most) in
         (q, key ∙ ap lag_key_of (is ∙ get_same rows i row d low) ∙ ap (λ n. lag_key_of (get_or rows n d)) (sym here), gone)
 
--- what a test tells
+-- the result of a test
 pub match_true : {b : Bool} (P Q : Type 0) → b ≡ true → MatchBool b P Q → P
 match_true P Q e t = subst (λ b. MatchBool b P Q) e t
 
@@ -260,7 +260,7 @@ module _ (plans : List Plan) (keys : List HeldKey) where
   off_arcs (row ∷ rows) told (inl here) on = subst (λ b. Tells (not b) (SomeHasArc plans (lag_key_of row))) here.2 (told_here row rows here.0 told here.1) on.0
   off_arcs (row ∷ rows) told (inr there) on = off_arcs rows (told_tail row rows told) there on.1
 
--- ---- what is kept of plans
+-- ---- tested plans
 
 -- each keeps the rules of rows
 pub seen_good : (plans : List Plan) (seen : List PlanSeen) → AreSeen plans seen → AllByRecursion IsPlanRow plans
@@ -274,7 +274,7 @@ heads [] (one ∷ seen) are = absurd are
 heads (plan ∷ plans) [] are = absurd are
 heads (plan ∷ plans) (one ∷ seen) are = ap₂ ◌∷◌ are.0.head (heads plans seen are.1)
 
--- plans differ where what is kept of them does
+-- plans differ exactly if their tested rows do
 pub seen_apart : (plans : List Plan) (seen : List PlanSeen) → AreSeen plans seen → (b : Bool) →
     Tells b (AllDiffer (λ x y. is_plan x.desk x.n y) (map head_seen seen)) →
     Tells b (AllDiffer (λ x y. is_plan x.desk x.n y) plans)
@@ -282,12 +282,12 @@ seen_apart plans seen are b t =
     tells_same (differ_under head_of (λ x y. is_plan x.desk x.n y) plans) (differ_seen head_of (λ x y. is_plan x.desk x.n y) plans) b
     (subst (λ l. Tells b (AllDiffer (λ x y. is_plan x.desk x.n y) l)) (heads plans seen are) t)
 
--- a desk has as many plans as are kept of it
+-- a desk has as many plans as tested rows
 pub seen_count : (desk : Text) (plans : List Plan) (seen : List PlanSeen) → AreSeen plans seen → length (filter (λ row. is_plan_of desk (head_seen row)) seen) ≡ length (filter (is_plan_of desk) plans)
 seen_count desk plans seen are =
     sym (length-filter-map head_seen (is_plan_of desk) seen) ∙ ap (λ l. length (filter (is_plan_of desk) l)) (heads plans seen are) ∙ length-filter-map head_of (is_plan_of desk) plans
 
--- a rule of keys holds of plans where it holds of what is kept of them
+-- a rule of keys is a fact of plans if it is one of their tested rows
 pub seen_owned : (w : World) (plans : List Plan) (seen : List PlanSeen) → AreSeen plans seen → (b : Bool) →
     Tells b (AllByRecursion (λ row. IsOwned w (head_seen row)) seen) →
     Tells b (AllByRecursion (IsOwned w) plans)
@@ -296,7 +296,7 @@ seen_owned w plans seen are b t =
     (subst (λ l. Tells b (AllByRecursion (IsOwned w) l)) (heads plans seen are)
     (tells_same (all_map head_seen (IsOwned w) seen) (map_all head_seen (IsOwned w) seen) b t))
 
--- they stand at the same places
+-- they have the same indices
 seen_from : (desk : Text) (n j : ℕ) (plans : List Plan) (seen : List PlanSeen) → AreSeen plans seen →
     position_from (λ row. is_plan desk n (head_seen row)) j seen ≡ position_from (is_plan desk n) j plans
 seen_from desk n j [] [] are = refl
@@ -308,7 +308,7 @@ seen_place : (desk : Text) (n : ℕ) (plans : List Plan) (seen : List PlanSeen) 
 seen_place desk n plans seen are =
     position_from-zero (λ row. is_plan desk n (head_seen row)) seen ∙ seen_from desk n 0 plans seen are ∙ sym (position_from-zero (is_plan desk n) plans)
 
--- where none is kept there is none
+-- if no tested row has the key, no plan has
 pub none_seen : (desk : Text) (n : ℕ) (plans : List Plan) (seen : List PlanSeen) → AreSeen plans seen →
     position (λ row. is_plan desk n (head_seen row)) seen ≡ None → find (is_plan desk n) plans ≡ None
 none_seen desk n plans seen are e = subst (λ l. find (is_plan desk n) l ≡ None) (map-id plans) (find_none_at (λ x. x) (is_plan desk n) plans (sym (seen_place desk n plans seen are) ∙ e))
@@ -320,7 +320,7 @@ seen_at (plan ∷ plans) [] i d e are low = absurd are
 seen_at (plan ∷ plans) (one ∷ seen) zero d e are low = are.0
 seen_at (plan ∷ plans) (one ∷ seen) (suc i) d e are low = seen_at plans seen i d e are.1 (omega (arith, low))
 
--- and where one is kept there is its plan
+-- and if a tested row has it, its plan has
 pub one_seen : (desk : Text) (n : ℕ) (plans : List Plan) (seen : List PlanSeen) (i : ℕ) (row : PlanSeen) →
     AreSeen plans seen → position (λ r. is_plan desk n (head_seen r)) seen ≡ Some i → row ≡ get_or seen i row
     → (plan : Plan) × (find (is_plan desk n) plans ≡ Some plan) × IsSeen plan row
@@ -343,7 +343,7 @@ all_unit : (xs : List Plan) → AllByRecursion (λ x. Unit {0}) xs
 all_unit [] = tt
 all_unit (x ∷ xs) = (tt, all_unit xs)
 
--- the plan that has the arc is the one that is found
+-- the plan with the arc is the one that is found
 found_arc : (plans : List Plan) (key : RowKey) → AllDiffer (λ a b. is_plan a.desk a.n b) plans → SomeHasArc plans key → (plan : Plan) × (find (is_plan key.0 key.1) plans ≡ Some plan) × HasArc plan key
 found_arc [] key apart none = absurd none
 found_arc (p ∷ ps) key apart (inl has) = (p, grind (arith, has.0), has)
@@ -389,7 +389,8 @@ lags_kept : (w : World) (rows : List Lag) → AllDiffer (λ a b. is_plan a.desk 
 lags_kept w [] apart on low = tt
 lags_kept w (row ∷ rows) apart on low = (lag_kept_rule w row apart on.0 low.0, lags_kept w rows apart on.1 low.1)
 
--- the tables keep the rules of rows where keys differ, the plans and the rows are good and each lag is on an arc
+-- the tables keep the rules of rows if keys differ, the plans and the rows are good, and each lag is on an
+-- arc
 pub world_of_parts : (w : World) → is_digest w.office ≡ true → KeysDiffer w → AllByRecursion IsPlanRow w.plans → AreOnArcs w.plans w.lags → RowsAreGood w → IsWorld w
 world_of_parts w office keys plans on good = record {
   office = office;
@@ -407,7 +408,7 @@ world_of_parts w office keys plans on good = record {
   lagged = lags_kept w w.lags keys.plans on good.lags;
 }
 
--- and the other way round
+-- and the reverse
 pub parts_of_world : (w : World) → IsWorld w → RowsAreGood w
 parts_of_world w k = record {
   published = k.published;

@@ -1,4 +1,4 @@
--- Lists of rows: what a filter and a search see of a changed list.
+-- Lists of rows: filters and searches of a changed list.
 use Rattle.std.proofs.Common.{◌≡◌, ◌⊎◌, inl, inr, Bool, true, false, List, [], ◌∷◌, ◌++◌, filter, Some, None, refl, arith}
 use Rattle.std.specs.Prelude.{find, option_map, option_to_list, if◌then◌else◌}
 use Rattle.std.specs.List.{list_any, AllByRecursion}
@@ -6,7 +6,7 @@ use Rattle.std.proofs.lemmas.Bool.{cases_Bool, cond-true, cond-false}
 use Rattle.plan_rows.specs.Changes.{changed}
 
 module _ {A : Type 0} where
-  -- what a filter keeps, it keeps again
+  -- filtering twice is filtering once
   pub filter_again : (p : A → Bool) (xs : List A) → filter p (filter p xs) ≡ filter p xs
   filter_again p [] = refl
   filter_again p (x ∷ xs) = grind (arith, cases_Bool (p x), filter_again p xs)
@@ -27,11 +27,11 @@ module _ {A : Type 0} where
   find_again p [] = refl
   find_again p (x ∷ xs) = grind (arith, cases_Bool (p x), find_again p xs)
 
-  -- a row as it is changed
+  -- the change of a row
   abbrev pub change_of : (A → Bool) → (A → A) → A → A
   change_of q f x = if q x then f x else x
 
-  -- a change that leaves a test as it was can come before or after a filter
+  -- a change that doesn't affect a test commutes with the filter
   pub filter-changed : (p q : A → Bool) (f : A → A) → ((x : A) → p (f x) ≡ p x) → (xs : List A)
       → filter p (changed q f xs) ≡ changed q f (filter p xs)
   filter-changed p q f same [] = refl
@@ -50,7 +50,7 @@ module _ {A : Type 0} where
   changed_none q f [] none = refl
   changed_none q f (x ∷ xs) none = grind (arith, none.0, changed_none q f xs none.1)
 
-  -- what a filter keeps passes it
+  -- the rows of a filtered list pass
   pub all_filtered : (p : A → Bool) (xs : List A) → AllByRecursion (λ x. p x ≡ true) (filter p xs)
   all_filtered p [] = tt
   all_filtered p (x ∷ xs) = by_test (cases_Bool (p x)) (all_filtered p xs)
@@ -64,12 +64,12 @@ module _ {A : Type 0} where
   all_weaker weaker [] all = tt
   all_weaker weaker (x ∷ xs) all = (weaker x all.0, all_weaker weaker xs all.1)
 
-  -- none passes where each fails
+  -- none passes if each fails
   pub list_any_none : (q : A → Bool) (xs : List A) → AllByRecursion (λ x. q x ≡ false) xs → list_any q xs ≡ false
   list_any_none q [] none = refl
   list_any_none q (x ∷ xs) none = grind (arith, none.0, list_any_none q xs none.1)
 
-  -- where what passes q passes p, a filter by p leaves it to be seen whether one passes q
+  -- if rows that pass q pass p, a filter by p doesn't change whether one passes q
   pub list_any-filter : (p q : A → Bool) → ((x : A) → q x ≡ true → p x ≡ true) → (xs : List A)
       → list_any q (filter p xs) ≡ list_any q xs
   list_any-filter p q inside [] = refl
@@ -81,14 +81,14 @@ module _ {A : Type 0} where
   filter_all p [] all = refl
   filter_all p (x ∷ xs) all = grind (arith, all.0, filter_all p xs all.1)
 
-  -- a change of none that passes hides nothing of what is found
+  -- a change of rows that don't pass doesn't affect the search
   pub find_hidden : (p q : A → Bool) (f : A → A) → ((x : A) → p (f x) ≡ p x) → ((x : A) → p x ≡ true → q x ≡ false)
       → (xs : List A) → find p (changed q f xs) ≡ find p xs
   find_hidden p q f same apart [] = refl
   find_hidden p q f same apart (x ∷ xs) =
       grind (arith, cases_Bool (p x), cases_Bool (q x), same x, apart x, find_hidden p q f same apart xs)
 
-  -- one that doesn't pass hides nothing behind the others
+  -- a row that doesn't pass doesn't affect the search after the others
   pub find_past_new : (p : A → Bool) (new : A) → p new ≡ false → (xs : List A) → find p (xs ++ new ∷ []) ≡ find p xs
   find_past_new p new out_ [] = cond-false (p new) (Some new) None out_
   find_past_new p new out_ (x ∷ xs) = grind (arith, cases_Bool (p x), find_past_new p new out_ xs)

@@ -1,4 +1,4 @@
--- Tests of rows: what a walk over rows says of all of them, and what the file of a plan decides.
+-- Tests of rows: walks over all rows, and the file of a plan.
 use Rattle.std.proofs.Common.{◌≡◌, ◌⊎◌, inl, inr, ℕ, zero, suc, ◌≤◌, Bool, true, false, List, [], ◌∷◌, length, map, take, Option, Some, None, Result, Ok, Err, refl, ap, subst, arith}
 use Rattle.std.specs.Option.{MatchOption}
 use Rattle.std.specs.Prelude.{is_ok, IfOk, IfErr}
@@ -29,12 +29,12 @@ module _ {R A : Type 0} (g : R → A) (alike : A → A → Bool) where
   all_under x [] all = tt
   all_under x (y ∷ ys) all = (all.0, all_under x ys all.1)
 
-  -- rows differ as what they stand for does
+  -- rows differ if the rows that they stand for do
   pub differ_seen : (rows : List R) → AllDiffer (λ a b. alike (g a) (g b)) rows → AllDiffer alike (map g rows)
   differ_seen [] apart = tt
   differ_seen (x ∷ xs) apart = (all_seen x xs apart.0, differ_seen xs apart.1)
 
-  -- and what they stand for as they do
+  -- and the reverse
   pub differ_under : (rows : List R) → AllDiffer alike (map g rows) → AllDiffer (λ a b. alike (g a) (g b)) rows
   differ_under [] apart = tt
   differ_under (x ∷ xs) apart = (all_under x xs apart.0, differ_under xs apart.1)
@@ -45,7 +45,7 @@ pub tells_same : {P Q : Type 0} → (P → Q) → (Q → P) → (b : Bool) → T
 tells_same to back true p = to p
 tells_same to back false none = λ q. none (back q)
 
--- a calendar is refused for what no calendar has
+-- a calendar is rejected only if no calendar has its texts
 pub tells_calendar : (start days : Text) (r : Result Workdays CalendarFault) → ¬ (start ≡ [])
     → IfOk r (IsCalendar start days) → IfErr r (RefusesTexts start days) → Tells (is_ok r) (HasCalendar start days)
 tells_calendar start days (Ok c) some good refused = inr (c, good)
@@ -55,7 +55,7 @@ tells_calendar start days (Err fault) some good refused = never
     never (inl both) = some both.0
     never (inr cal) = texts_apart start days cal.0 fault cal.1 refused
 
--- a project file that fails, and not for want of memory
+-- a project file that fails, but not for lack of memory
 pub project_unsaid : (text : Text) (fault : FileFault) → IsWantOfMemory fault ⊎ IsFirstFailing text fault → ¬ (fault.code ≡ code.Memory)
     → (p : Project) → SaysProject text p → ⊥
 project_unsaid text fault (inl want) other p said = other want.0
@@ -65,7 +65,7 @@ no_places : (kind : PlanKind) (name body : Text) (count : ℕ) → GivesNone kin
 no_places kinds.Project name body count none has = none has.0 has.1
 no_places kinds.Shop name body count none has = none has.0 has.1
 
--- a file that is given has its places
+-- the places of a file that is given
 pub has_places : (kind : PlanKind) (name body : Text) (file : PlanFile) → GivesFile kind name body file → HasPlaces kind name body file.places
 has_places kinds.Project name body file (p, said, count, network) = (p, said, count)
 has_places kinds.Shop name body file (doc, said, count, network) = (doc, said, count)
@@ -77,15 +77,15 @@ plan_told plan None head none = λ row. no_places plan.kind plan.name plan.body 
 plan_told plan (Some file) head gives =
     (record { number = head.0; name = head.1; reads = (file.places, has_places plan.kind plan.name plan.body file gives); calendar = head.2 }, gives)
 
--- what a test tells by true
+-- the fact that a test shows by true
 pub tells_true : {b : Bool} (P : Type 0) → b ≡ true → Tells b P → P
 tells_true P e t = subst (λ b. Tells b P) e t
 
--- what a test tells by false
+-- the fact that a test shows by false
 pub tells_false : {b : Bool} (P : Type 0) → b ≡ false → Tells b P → P → ⊥
 tells_false P e t = subst (λ b. Tells b P) e t
 
--- the same of a reading that may want memory
+-- the same for a reading that may run out of memory
 pub plan_read : {E : Type 0} (plan : Plan) (r : Result (Option PlanFile) E) → HasHead plan
     → IfOk r (λ file. MatchOption file (GivesNone plan.kind plan.name plan.body) (GivesFile plan.kind plan.name plan.body)) → IfOk r (PlanTold plan)
 plan_read plan (Ok file) head told = plan_told plan file head told

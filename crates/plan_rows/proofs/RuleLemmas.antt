@@ -1,4 +1,4 @@
--- Rules over lists of rows: what holds of each row, and that keys are there once, after rows were changed, added or dropped.
+-- Rules over lists of rows: facts of each row and distinct keys, after rows were changed, added or removed.
 use Rattle.std.proofs.Common.{◌≡◌, ◌⊎◌, inl, inr, Bool, true, false, List, [], ◌∷◌, ◌++◌, filter, length, Option, Some, None, refl, sym, ◌∙◌, subst, arith}
 use Rattle.std.specs.Prelude.{find, option_map, ◌≤◌}
 use Rattle.std.specs.List.{list_any, AllByRecursion}
@@ -12,7 +12,7 @@ module _ {A : Type 0} where
   all_append P [] new all one = (one, tt)
   all_append P (x ∷ xs) new all one = (all.0, all_append P xs new all.1 one)
 
-  -- of rows that are dropped nothing is asked
+  -- rows that are removed need no fact
   pub all_filter : (P Q : A → Type 0) (p : A → Bool) → ((x : A) → p x ≡ true → P x → Q x) → (xs : List A) → AllByRecursion P xs → AllByRecursion Q (filter p xs)
   all_filter P Q p keeps [] all = tt
   all_filter P Q p keeps (x ∷ xs) all = by_test (cases_Bool (p x)) (all_filter P Q p keeps xs all.1)
@@ -21,7 +21,7 @@ module _ {A : Type 0} where
       by_test (inl in_) rest = rw (cond-true (p x) (x ∷ filter p xs) (filter p xs) in_) (keeps x in_ all.0, rest)
       by_test (inr out_) rest = rw (cond-false (p x) (x ∷ filter p xs) (filter p xs) out_) rest
 
-  -- a row that is changed keeps Q, and so does one that isn't
+  -- a changed row has Q, and so has an unchanged one
   pub all_changed : (P Q : A → Type 0) (q : A → Bool) (f : A → A) → ((x : A) → q x ≡ true → P x → Q (f x)) → ((x : A) → P x → Q x)
       → (xs : List A) → AllByRecursion P xs → AllByRecursion Q (changed q f xs)
   all_changed P Q q f new old [] all = tt
@@ -73,7 +73,7 @@ module _ {A : Type 0} where
   none_passes q [] none = tt
   none_passes q (x ∷ xs) none = let parts = or_parts (q x) (list_any q xs) none in (parts.0, none_passes q xs parts.1)
 
-  -- where the test is whether a row has the key of a new one
+  -- if the test is whether a row has the key of a new one
   pub differ_put : (alike : A → A → Bool) (q : A → Bool) (f : A → A) (new : A) → ((x y : A) → (alike (f x) y ≡ alike x y) × (alike x (f y) ≡ alike x y))
       → ((x : A) → alike x new ≡ q x) → (xs : List A) → AllDiffer alike xs → AllDiffer alike (put q f new xs)
   differ_put alike q f new keeps key xs apart = by_any (cases_Bool (list_any q xs))
@@ -87,7 +87,7 @@ module _ {A : Type 0} where
       by_any (inr e) =
           rw (cond-false (list_any q xs) (changed q f xs) (xs ++ new ∷ []) e) (differ_append alike new xs apart (unlike xs (none_passes q xs e)))
 
-  -- what holds of the first row that passes
+  -- a fact of the first row that passes
   pub found_has : (P : A → Type 0) (p : A → Bool) (xs : List A) (x : A) → find p xs ≡ Some x → AllByRecursion P xs → P x × (p x ≡ true)
   found_has P p [] x e all = grind (arith, e)
   found_has P p (y ∷ ys) x e all = by_test (cases_Bool (p y)) (λ rest. found_has P p ys x rest all.1)
@@ -98,7 +98,7 @@ module _ {A : Type 0} where
           (subst P same all.0, subst (λ z. p z ≡ true) same in_)
       by_test (inr out_) rest = rest (grind (arith, e, out_))
 
-  -- a row that is found stays found behind a new one
+  -- a row that is found is found after a new one is added
   pub there_append : (Q : A → Type 0) (p : A → Bool) (new : A) (xs : List A) → IsThereAnd (find p xs) Q → IsThereAnd (find p (xs ++ new ∷ [])) Q
   there_append Q p new [] h = absurd h
   there_append Q p new (x ∷ xs) h = by_test (cases_Bool (p x)) (there_append Q p new xs)
@@ -109,7 +109,7 @@ module _ {A : Type 0} where
       by_test (inr out_) rest =
           rw (cond-false (p x) (Some x) (find p (xs ++ new ∷ [])) out_) (rest (subst (λ o. IsThereAnd o Q) (cond-false (p x) (Some x) (find p xs) out_) h))
 
-  -- and behind one that is changed, where the change keeps what holds of it
+  -- and after one is changed, if the change keeps its facts
   pub there_changed : (Q R : A → Type 0) (p q : A → Bool) (f : A → A) → ((x : A) → p (f x) ≡ p x) → ((x : A) → Q x → R (change_of q f x))
       → (xs : List A) → IsThereAnd (find p xs) Q → IsThereAnd (find p (changed q f xs)) R
   there_changed Q R p q f same keeps xs h = rw (find-changed p q f same xs) (at_found (find p xs) h)
@@ -118,7 +118,7 @@ module _ {A : Type 0} where
       at_found None h = absurd h
       at_found (Some x) h = keeps x h
 
-  -- and among those that are kept, where it is kept itself
+  -- and among the filtered rows, if it is one of them
   pub find_kept : (p keep : A → Bool) → ((x : A) → p x ≡ true → keep x ≡ true) → (xs : List A) → find p (filter keep xs) ≡ find p xs
   find_kept p keep kept [] = refl
   find_kept p keep kept (x ∷ xs) = grind (arith, cases_Bool (p x), cases_Bool (keep x), kept x, find_kept p keep kept xs)
@@ -135,7 +135,7 @@ module _ {A : Type 0} where
   there_map Q R weaker None h = absurd h
   there_map Q R weaker (Some x) h = weaker x h
 
-  -- what isn't found isn't there
+  -- if no row is found, none passes
   pub find_none : (p : A → Bool) (xs : List A) → find p xs ≡ None → AllByRecursion (λ x. p x ≡ false) xs
   find_none p [] e = tt
   find_none p (x ∷ xs) e = by_test (cases_Bool (p x)) (λ rest. find_none p xs rest)
@@ -144,7 +144,7 @@ module _ {A : Type 0} where
       by_test (inl in_) rest = absurd (grind (arith, e, in_))
       by_test (inr out_) rest = (out_, rest (grind (arith, e, out_)))
 
-  -- where rows that pass are alike, and rows differ, the one that is found is the only one that passes
+  -- if rows that pass are alike, and rows differ, the one that is found is the only one that passes
   pub all_found : (alike : A → A → Bool) (p : A → Bool) (row : A) → ((x y : A) → p x ≡ true → p y ≡ true → alike x y ≡ true) → (xs : List A)
       → AllDiffer alike xs → find p xs ≡ Some row → AllByRecursion (λ x. p x ≡ true → x ≡ row) xs
   all_found alike p row pass [] apart e = tt
@@ -163,7 +163,7 @@ module _ {A : Type 0} where
   all_both P Q [] h k = tt
   all_both P Q (x ∷ xs) h k = ((h.0, k.0), all_both P Q xs h.1 k.1)
 
-  -- what a filter keeps of fewer rows isn't more
+  -- a stricter filter leaves at most as many rows
   pub length_fewer : (p q : A → Bool) (xs : List A) → length (filter p (filter q xs)) ≤ length (filter p xs)
   length_fewer p q [] = omega arith
   length_fewer p q (x ∷ xs) = grind (arith, cases_Bool (p x), cases_Bool (q x), length_fewer p q xs)

@@ -1,4 +1,4 @@
--- Rows as code keeps them: what a search by place, a write at a place and a push say of the rows that they stand for.
+-- Rows in code: a search by index, a write at an index and a push, for the rows that they stand for.
 use Rattle.std.proofs.Common.{◌≡◌, ◌⊎◌, inl, inr, ℕ, zero, suc, ◌+◌, ◌<◌, ◌≤◌, Bool, true, false, List, [], ◌∷◌, ◌++◌, length, map, filter, set, get_or, Some, None, refl, sym, ap, ◌∙◌, subst, arith}
 use Rattle.std.specs.Prelude.{find, not, nat_lt}
 use Rattle.std.specs.List.{list_any, list_all, position, position_or_len, AllByRecursion}
@@ -8,7 +8,7 @@ use Rattle.plan_rows.specs.Changes.{changed, put, without}
 use Rattle.plan_rows.specs.Rules.{AllDiffer}
 use Rattle.plan_rows.proofs.RowLemmas.{changed_none, list_any_none}
 
--- no place is found only where all are passed
+-- no index is found only if all rows were passed
 place_none : {R : Type 0} (p : R → Bool) (rows : List R) → position p rows ≡ None → length rows ≤ position_or_len p rows
 place_none p rows e = by_test (cases_Bool (nat_lt (position_or_len p rows) (length rows)))
   where
@@ -26,11 +26,11 @@ module _ {R A : Type 0} (g : R → A) (p : A → Bool) where
       by_test (inl in_) rest = absurd (omega (arith, more, cond-false (not (p (g row))) (1 + position_or_len (λ row. p (g row)) rows) 0 (not_from_true (p (g row)) in_)))
       by_test (inr out_) rest = (out_, rest (omega (arith, more, cond-true (not (p (g row))) (1 + position_or_len (λ row. p (g row)) rows) 0 (not_from_false (p (g row)) out_))))
 
-  -- no row passes where no place is found
+  -- no row passes if no index is found
   pub none_at : (rows : List R) → position (λ row. p (g row)) rows ≡ None → AllByRecursion (λ x. p x ≡ false) (map g rows)
   none_at rows e = passed rows (place_none (λ row. p (g row)) rows e)
 
-  -- where no place is found, one more row is put
+  -- if no index is found, a new row is appended
   pub put_none : (f : A → A) (new : A) (rows : List R) → position (λ row. p (g row)) rows ≡ None → put p f new (map g rows) ≡ map g rows ++ new ∷ []
   put_none f new rows e =
       cond-false (list_any p (map g rows)) (changed p f (map g rows)) (map g rows ++ new ∷ []) (list_any_none p (map g rows) (none_at rows e))
@@ -65,7 +65,7 @@ module _ {R A : Type 0} (g : R → A) (p : A → Bool) where
           (not_from_false (p (g row)) out_) ∙ (omega arith) in
           rw (cond-false (p (g row)) (Some (g row)) (find p (map g rows)) out_, is) (rest (omega (arith, less, is)))
 
-  -- the row that is found stands at the place that is found
+  -- the row that is found is at the index that is found
   pub find_at_place : (rows : List R) (i : ℕ) (d : R) → position (λ row. p (g row)) rows ≡ Some i → find p (map g rows) ≡ Some (g (get_or rows i d))
   find_at_place rows i d e = by_test (cases_Bool (nat_lt (position_or_len (λ row. p (g row)) rows) (length rows)))
     where
@@ -91,7 +91,7 @@ module _ {R A : Type 0} (g : R → A) (p : A → Bool) where
     later x (y ∷ ys) zero d low none = none.0
     later x (y ∷ ys) (suc k) d low none = later x ys k d (omega (arith, low)) none.1
 
-    -- the one row that passes, changed where it stands
+    -- the one row that passes is changed in place
     changed_place : (f : A → A) (rows : List R) (i : ℕ) (d new : R) → AllDiffer alike (map g rows) → i < length rows → p (g (get_or rows i d)) ≡ true
         → g new ≡ f (g (get_or rows i d)) → map g (set rows i new) ≡ changed p f (map g rows)
     changed_place f [] i d new apart less in_ is = absurd (omega (arith, less))
@@ -125,12 +125,12 @@ module _ {R A : Type 0} (g : R → A) (p : A → Bool) where
         changed_at f rows i d new apart e is
         ∙ sym (cond-true (list_any p (map g rows)) (changed p f (map g rows)) (map g rows ++ other ∷ []) (any_at rows i d found.0 found.1))
 
--- rows that are kept by a test of what they stand for
+-- rows that are filtered by a test of the rows that they stand for
 pub map-without : {R A : Type 0} (g : R → A) (p : A → Bool) (rows : List R) → map g (filter (λ row. not (p (g row))) rows) ≡ without p (map g rows)
 map-without g p [] = refl
 map-without g p (row ∷ rows) = grind (arith, cases_Bool (p (g row)), map-without g p rows)
 
--- where each byte fits, all do
+-- if each byte is below 256, all are
 pub all_fit : (bytes : List ℕ) → ((i : ℕ) → get_or bytes i 0 < 256) → list_all (λ b. nat_lt b 256) bytes ≡ true
 all_fit [] fits = refl
 all_fit (b ∷ bytes) fits = and_from (nat_lt b 256) (list_all (λ b. nat_lt b 256) bytes) (lt-ltb b 256 (fits 0)) (all_fit bytes (λ i. fits (suc i)))

@@ -1,4 +1,4 @@
--- Rows tested beside the other tables: what a search and the file of a plan tell of them.
+-- Rows tested together with the other tables: the results of searches and of the file of a plan.
 use Rattle.std.proofs.Common.{◌≡◌, ℕ, zero, suc, ◌<◌, ◌≤◌, Bool, true, false, List, [], ◌∷◌, length, map, filter, get_or, Option, Some, None, refl, sym, ap, ◌∙◌, subst, arith}
 use Rattle.std.specs.Prelude.{nat_lt, nat_le}
 use Rattle.std.specs.List.{AllByRecursion}
@@ -31,7 +31,7 @@ tells_less a b = tells_same (ltb-true a b) (lt-ltb a b) (nat_lt a b) (tells_of (
 pub tells_most : (a b : ℕ) → Tells (nat_le a b) (a ≤ b)
 tells_most a b = tells_same (leb-true a b) (le-leb a b) (nat_le a b) (tells_of (nat_le a b) (nat_le a b) refl)
 
--- of no row nothing holds
+-- an absent row has no property
 pub there_none : {A : Type 0} (o : Option A) (P : A → Type 0) → o ≡ None → IsThereAnd o P → ⊥
 there_none o P e h = subst (λ x. IsThereAnd x P) e h
 
@@ -39,36 +39,36 @@ there_none o P e h = subst (λ x. IsThereAnd x P) e h
 pub tells_there : {A : Type 0} {o : Option A} {x : A} (P : A → Type 0) (b : Bool) → o ≡ Some x → Tells b (P x) → Tells b (IsThereAnd o P)
 tells_there P b e t = subst (λ o. Tells b (IsThereAnd o P)) (sym e) t
 
--- what fails of a row that is there
+-- a fact that a present row lacks
 pub there_untold : {A : Type 0} {o : Option A} {x : A} (P : A → Type 0) → o ≡ Some x → (P x → ⊥) → IsThereAnd o P → ⊥
 there_untold P e never h = never (subst (λ o. IsThereAnd o P) e h)
 
 -- ---- lists
 
 module _ {A : Type 0} where
-  -- what holds at each place holds of all
+  -- a fact at each index is a fact of all
   pub all_from_index : (P : A → Type 0) (xs : List A) → ((k : ℕ) (d : A) → k < length xs → P (get_or xs k d)) → AllByRecursion P xs
   all_from_index P [] all = tt
   all_from_index P (x ∷ xs) all = (all 0 x (omega arith), all_from_index P xs (λ k d low. all (suc k) d (omega (arith, low))))
 
-  -- and the other way round
+  -- and the reverse
   pub all_at : (P : A → Type 0) (xs : List A) (k : ℕ) (d : A) → k < length xs → AllByRecursion P xs → P (get_or xs k d)
   all_at P [] k d low all = absurd (omega (arith, low))
   all_at P (x ∷ xs) zero d low all = all.0
   all_at P (x ∷ xs) (suc k) d low all = all_at P xs k d (omega (arith, low)) all.1
 
 module _ {R A : Type 0} (g : R → A) where
-  -- how many are kept of what rows stand for
+  -- the number of rows that pass, for the rows that they stand for
   pub length-filter-map : (p : A → Bool) (rows : List R) → length (filter p (map g rows)) ≡ length (filter (λ row. p (g row)) rows)
   length-filter-map p [] = refl
   length-filter-map p (row ∷ rows) = grind (arith, cases_Bool (p (g row)), length-filter-map p rows)
 
-  -- what holds of what rows stand for
+  -- a fact of all rows that they stand for
   pub all_map : (P : A → Type 0) (rows : List R) → AllByRecursion (λ row. P (g row)) rows → AllByRecursion P (map g rows)
   all_map P [] all = tt
   all_map P (row ∷ rows) all = (all.0, all_map P rows all.1)
 
-  -- and the other way round
+  -- and the reverse
   pub map_all : (P : A → Type 0) (rows : List R) → AllByRecursion P (map g rows) → AllByRecursion (λ row. P (g row)) rows
   map_all P [] all = tt
   map_all P (row ∷ rows) all = (all.0, map_all P rows all.1)
@@ -121,7 +121,7 @@ module _ {R A : Type 0} (g : R → A) (P : A → Type 0) where
   good_told rows e t in_ =
       all_map g P rows (subst (AllByRecursion (λ row. P (g row))) e (tells_true (AllByRecursion (λ row. P (g row)) _) in_ t))
 
-  -- rows of which one does not
+  -- rows of which one isn't good
   pub good_untold : (rows : List R) {read : List R} {b : Bool} → read ≡ rows → Tells b (AllByRecursion (λ row. P (g row)) read) → b ≡ false → AllByRecursion P (map g rows) → ⊥
   good_untold rows e t out_ all =
       tells_false (AllByRecursion (λ row. P (g row)) _) out_ t (subst (AllByRecursion (λ row. P (g row))) (sym e) (map_all g P rows all))

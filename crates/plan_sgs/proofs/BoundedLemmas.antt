@@ -1,4 +1,4 @@
--- What the limits of a project give its scheduling problem, and its links by the arcs of the network.
+-- Bounds of a scheduling problem from the limits of its project, and its links from the arcs of the network.
 use Rattle.std.proofs.Common.{ℕ, zero, suc, ◌≡◌, ◌+◌, ◌-◌, ◌≤◌, ◌<◌, ◌⊎◌, inl, inr, List, length, get_or, map, take, sum, Option, refl, sym, ◌∙◌, ap, subst, arith}
 use Rattle.std.specs.List.{All}
 use Rattle.std.proofs.lemmas.List.{length-map, get_or-map, get_or_past, take_more, take_all}
@@ -15,14 +15,14 @@ use Rattle.plan_sgs.specs.Instances.{Planned, IsInstance, problem_of, link_of}
 use Rattle.plan_sgs.proofs.Bounds.{IsBounded}
 use Rattle.plan_sgs.proofs.PlacingLemmas.{release_above, release_least}
 
--- what holds of each arc's link holds of all links
+-- a fact of each arc's link is a fact of all links
 pub links_from : (i : Planned) (P : Link → Type 0) → ((a b : ℕ) → IsArc i.project.network a b → P (link_of i.project.network (a, b))) → All P (problem_of i).links
 unfolding problem_of
 links_from i P each = All-map P (link_of i.project.network) i.project.network.arcs
     (λ k d within. each (get_or i.project.network.arcs k d).0 (get_or i.project.network.arcs k d).1
     (Contains-get_or i.project.network.arcs k d within))
 
--- what holds of all links holds of each arc's
+-- a fact of all links is a fact of each arc's
 pub link_at : (i : Planned) (P : Link → Type 0) → All P (problem_of i).links → (a b : ℕ) → IsArc i.project.network a b → P (link_of i.project.network (a, b))
 unfolding problem_of
 link_at i P all a b (k, within, is) =
@@ -36,8 +36,8 @@ total_take xs zero within = refl
 total_take xs (suc n) within =
     let next : n + 1 ≡ suc n = omega arith in
     let pushed : sum (take (suc n) xs) ≡ sum (take n xs) + get_or xs n 0 =
-        ap (λ (k : ℕ). sum (take k xs)) (sym next) ∙ ap sum (take_more xs n 0 (omega (arith, within)))
-        ∙ sum_by_push (λ y. y) (take n xs) (get_or xs n 0) in
+    ap (λ (k : ℕ). sum (take k xs)) (sym next) ∙ ap sum (take_more xs n 0 (omega (arith, within)))
+    ∙ sum_by_push (λ y. y) (take n xs) (get_or xs n 0) in
     omega (arith, pushed, total_take xs n (omega (arith, within)))
 
 pub bounded : (i : Planned) → IsInstance i → IsBounded (problem_of i)
@@ -60,13 +60,13 @@ bounded i instance = record {
       let size = instance.project.network.limits.size in
       let whole : take (count_of i.project.network) i.project.network.durations ≡ i.project.network.durations = take_all (count_of i.project.network) i.project.network.durations (omega arith) in
       let limit : sum (take (count_of i.project.network) i.project.network.durations) ≤ 1000000 =
-          (instance.project.network.limits.durations (count_of i.project.network)
-          (omega (arith, size.0), omega arith)).1 in
+      (instance.project.network.limits.durations (count_of i.project.network)
+      (omega (arith, size.0), omega arith)).1 in
       omega (arith, limit, total_take i.project.network.durations (count_of i.project.network) (omega arith));
   few = instance.project.network.limits.size.1;
 }
 
--- the least start that is no less than each predecessor's end and lag, and is one of these or 0, is the release
+-- the least start that is at least each predecessor's end plus lag, and is one of these or 0, is the release
 pub release_is : (i : Planned) (placed : List (Option ℕ)) (j from : ℕ) → IsSound i.project.network →
     IsActivity i.project.network j → ((h : ℕ) → IsArc i.project.network h j →
     end_of (problem_of i) placed (h - 1) + lag_of i.project.network h j ≤ from)

@@ -1,10 +1,10 @@
--- The limits of the problem of an instance, and by when the activities of a list have ended.
+-- The limits of the problem of an instance, and the instant by which the activities of a list have ended.
 use Rattle.std.proofs.Common.{ℕ, ◌+◌, ◌*◌, ◌≡◌, ◌≤◌, List, length, cond}
 use Rattle.std.specs.List.{All}
 use Rattle.plan_sgs.specs.Problem.{Problem, count, duration, total, LinksInside, NeedsFit}
 use Rattle.plan_sgs.specs.Rules.{is_member}
 
--- what holds of the problem of every instance
+-- facts of the problem of every instance
 pub record IsBounded (p : Problem) : Type 0 where
   pub inside : LinksInside p
   pub fit : NeedsFit p

@@ -21,7 +21,7 @@ use Rattle.plan_sgs.proofs.PlacingLemmas.{end_of-placed, release_above, release_
 use Rattle.plan_sgs.proofs.Shifts.{IsRelease, IsAskedFor}
 use Rattle.plan_sgs.proofs.InstanceLemmas.{count-problem, duration-problem, need-problem}
 
--- what holds of each arc's link holds of each link
+-- a fact of each arc's link is a fact of each link
 pub links_have : (i : Planned) (P : Link → Type 0) → ((h j : ℕ) → IsArc i.project.network h j → P (link_of i.project.network (h, j))) → All P (problem_of i).links
 unfolding problem_of
 links_have i P each =
@@ -132,7 +132,7 @@ release_whole i s j instance size = record {
       let inside : h < length s = omega (arith, ((bounded i instance).inside k d within).0, size) in
       end_of-placed p placed h (get_or s h 0) (placed_start s h inside)
 
--- a profile that holds all needs before an instant is what an activity that starts by then asks for
+-- a profile that holds all needs before an instant answers the query for an activity that starts by then
 pub asked_at : (i : Planned) (net : Net) (s : List ℕ) (j end d : ℕ) (profile : Profile) (row : List ℕ) →
     net ≡ i.project.network → IsActivity i.project.network j → HoldsBefore end (problem_of i) s profile →
     get_or s (j - 1) 0 ≤ end
@@ -146,7 +146,7 @@ asked_at i net s j end d profile row is activity holds ends lasts here = record 
   place : j ≡ j - 1 + 1
   place = omega (arith, activity.0)
 
--- an activity that lasts some time needs no more than there is
+-- an activity of positive duration needs at most the capacities
 pub needs_room : (i : Planned) (net : Net) (j d : ℕ) (caps row : List ℕ) → net ≡ i.project.network →
     IsActivity i.project.network j → NeedsFit (problem_of i) → caps ≡ (problem_of i).capacities →
     d ≡ duration_of net j → slice_get i.project.needs (j - 1) ≡ Some row
@@ -155,6 +155,6 @@ needs_room i net j d caps row is activity fit same lasts here some k within =
     let place : j ≡ j - 1 + 1 = omega (arith, activity.0) in
     let long : duration_of net j ≡ duration (problem_of i) (j - 1) = ap (λ (n : Net). duration_of n j) is ∙ sym (duration-problem i (j - 1) j place) in
     let room : need (problem_of i) (j - 1) k ≤ capacity (problem_of i) k =
-        fit (j - 1) k (omega (arith, activity.0, activity.1, count-problem i))
-        (omega (arith, some, lasts, long)) (omega (arith, within, ap length same)) in
+    fit (j - 1) k (omega (arith, activity.0, activity.1, count-problem i))
+    (omega (arith, some, lasts, long)) (omega (arith, within, ap length same)) in
     omega (arith, room, need-problem i (j - 1) j row place here k, ap (λ (xs : List ℕ). get_or xs k 0) same)

@@ -1,4 +1,5 @@
--- Verdicts on worked examples: six activities on one resource, with a lag on the third link, and two activities at the last start.
+-- Verdicts on worked examples: six activities on one resource, with a lag on the third link, and two
+-- activities at the last start.
 use Rattle.std.proofs.Common.{ℕ, zero, suc, ◌≡◌, ◌≢◌, ◌+◌, ◌≤◌, ◌<◌, inl, inr, List, [], ◌∷◌, get_or, refl, subst, arith}
 use Rattle.std.proofs.lemmas.Bool.{cases_lt}
 use Rattle.std.proofs.lemmas.List.Elements.{All-from_recursion}
@@ -11,7 +12,7 @@ use Rattle.plan_sgs.proofs.Shifts.{CanStartAt, shift_from_start, start_from_shif
 abbrev link : ℕ → ℕ → ℕ → Link
 link from to lag = record { from = from; to = to; lag = lag }
 
--- six activities of durations 0 3 2 4 5 0, of which the four in the middle need 1
+-- six activities of durations 0 3 2 4 5 0; the four in the middle need 1
 abbrev six : ℕ → ℕ → Problem
 six lag capacity = record {
   durations = 0 ∷ 3 ∷ 2 ∷ 4 ∷ 5 ∷ 0 ∷ [];
@@ -20,7 +21,7 @@ six lag capacity = record {
   capacities = capacity ∷ [];
 }
 
--- two activities of duration 1 that need all there is
+-- two activities of duration 1 that need the whole capacity
 abbrev pair : Problem
 pair = record { durations = 1 ∷ 1 ∷ []; links = []; needs = (1 ∷ []) ∷ (1 ∷ []) ∷ []; capacities = 1 ∷ [] }
 
@@ -37,10 +38,19 @@ arc_row = (
   omega arith,
   record {
     broken = (link 1 3 0, (2, omega arith, refl), omega arith, refl, refl);
-    first = All-from_recursion (first_of (six 0 2) (0 ∷ 0 ∷ 0 ∷ 2 ∷ 2 ∷ 7 ∷ []) 1 3) (six 0 2).links
-        (λ b. absurd (omega (arith, b)), (λ b. absurd (omega (arith, b)),
-            (λ b. inr (refl, omega arith), (λ b. absurd (omega (arith, b)),
-            (λ b. absurd (omega (arith, b)), (λ b. inl (omega arith), (λ b. inl (omega arith), tt)))))));
+    first = All-from_recursion (first_of (six 0 2) (0 ∷ 0 ∷ 0 ∷ 2 ∷ 2 ∷ 7 ∷ []) 1 3) (six 0 2).links (
+      λ b. absurd (omega (arith, b)),
+      (
+        λ b. absurd (omega (arith, b)),
+        (
+          λ b. inr (refl, omega arith),
+          (
+            λ b. absurd (omega (arith, b)),
+            (λ b. absurd (omega (arith, b)), (λ b. inl (omega arith), (λ b. inl (omega arith), tt))),
+          ),
+        ),
+      ),
+    );
   },
 )
 
@@ -51,10 +61,19 @@ lag_row = (
   omega arith,
   record {
     broken = (link 1 3 2, (2, omega arith, refl), omega arith, refl, refl);
-    first = All-from_recursion (first_of (six 2 2) (0 ∷ 0 ∷ 0 ∷ 4 ∷ 2 ∷ 9 ∷ []) 1 3) (six 2 2).links
-        (λ b. absurd (omega (arith, b)), (λ b. absurd (omega (arith, b)),
-            (λ b. inr (refl, omega arith), (λ b. absurd (omega (arith, b)),
-            (λ b. absurd (omega (arith, b)), (λ b. inl (omega arith), (λ b. inl (omega arith), tt)))))));
+    first = All-from_recursion (first_of (six 2 2) (0 ∷ 0 ∷ 0 ∷ 4 ∷ 2 ∷ 9 ∷ []) 1 3) (six 2 2).links (
+      λ b. absurd (omega (arith, b)),
+      (
+        λ b. absurd (omega (arith, b)),
+        (
+          λ b. inr (refl, omega arith),
+          (
+            λ b. absurd (omega (arith, b)),
+            (λ b. absurd (omega (arith, b)), (λ b. inl (omega arith), (λ b. inl (omega arith), tt))),
+          ),
+        ),
+      ),
+    );
   },
 )
 
@@ -122,18 +141,32 @@ shift_row = (
     feasible = late_feasible;
     shift = shift_from_start (six 0 2) late 4 2 late_feasible (omega arith) (record {
       earlier = omega arith;
-      released = All-from_recursion (released (six 0 2) late 4 2) (six 0 2).links
-          (λ e _. absurd (omega (arith, e)), (λ e _. absurd (omega (arith, e)),
-              (λ e _. absurd (omega (arith, e)), (λ e _. absurd (omega (arith, e)),
-              (λ e _. omega arith, (λ e _. absurd (omega (arith, e)),
-              (λ e _. absurd (omega (arith, e)), tt)))))));
+      released = All-from_recursion (released (six 0 2) late 4 2) (six 0 2).links (
+        λ e _. absurd (omega (arith, e)),
+        (
+          λ e _. absurd (omega (arith, e)),
+          (
+            λ e _. absurd (omega (arith, e)),
+            (
+              λ e _. absurd (omega (arith, e)),
+              (
+                λ e _. omega arith,
+                (
+                  λ e _. absurd (omega (arith, e)),
+                  (λ e _. absurd (omega (arith, e)), tt),
+                ),
+              ),
+            ),
+          ),
+        ),
+      );
       fits = λ u k since lasts before within.
           let at : 2 ≡ u = omega (arith, since, before) in
           let of : 0 ≡ k = omega (arith, within) in
           let room : usage (six 0 2) (all_placed late) 2 0 + need (six 0 2) 4 0 ≤ capacity (six 0 2) 0 = omega arith in
           subst (λ (x : ℕ). usage (six 0 2) (all_placed late) x k + need (six 0 2) 4 k ≤ capacity (six 0 2) k)
-              at (subst (λ (x : ℕ). usage (six 0 2) (all_placed late) 2 x + need (six 0 2) 4 x ≤ capacity
-              (six 0 2) x) of room);
+          at (subst (λ (x : ℕ). usage (six 0 2) (all_placed late) 2 x + need (six 0 2) 4 x ≤ capacity
+          (six 0 2) x) of room);
     });
     first = λ i has. let start = start_from_shift (six 0 2) late i late_feasible has in by i start.0 start.1;
   },

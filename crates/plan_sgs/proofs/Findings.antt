@@ -1,4 +1,4 @@
--- What is found wrong with a list of starts: the first overload is at a start, and there is at most one verdict.
+-- The faults of a list of starts: the first overload is at a start, and there is at most one verdict.
 use Rattle.std.proofs.Common.{ℕ, zero, suc, ◌≡◌, ◌+◌, ◌-◌, ◌≤◌, ◌<◌, ◌⊎◌, inl, inr, List, length, get_or, Option, Some, None, refl, sym, subst, below_more, arith}
 use Rattle.std.proofs.lemmas.Bool.{cases_lt}
 use Rattle.std.proofs.lemmas.List.Elements.{All-contains}
@@ -39,42 +39,58 @@ keeps_at_starts p s whole none t k inside = elim (cases_lt (capacity p k) (usage
   | inr within ↦ within
 ]
 
--- an overload is more than a list that keeps the capacities has
+-- a list that keeps the capacities has no overload
 pub over_is_more : (p : Problem) (s : List ℕ) (t k : ℕ) → KeepsCapacities p (all_placed s) → IsOver p s t k → ⊥
 over_is_more p s t k kept over =
     let more : capacity p k < usage p (all_placed s) t k = over.more in
     omega (arith, more, kept t k over.inside)
 
--- the least of the first starts is the least of one more where no resource is overloaded there
+-- the least overload of the first starts is that of one more if no resource is overloaded at the new start
 pub over_among_none : (p : Problem) (s : List ℕ) (n : ℕ) (least : Option (ℕ × ℕ)) → IsOverAmong p s n least → ((k : ℕ) → IsOver p s (get_or s n 0) k → ⊥) → IsOverAmong p s (n + 1) least
 over_among_none p s n None among none = λ i k below. below_more (λ h. (q : ℕ) → IsOver p s (get_or s h 0) q → ⊥) n (λ h lower q. among h q lower) none i below k
-over_among_none p s n (Some over) among none =
-    (among.0, among.1, among.2, λ i k below. below_more
-        (λ h. (q : ℕ) → IsOver p s (get_or s h 0) q → over.0 ≤ get_or s h 0) n
-        (λ h lower q. among.3 h q lower) (λ q here. absurd (none q here)) i below k)
+over_among_none p s n (Some over) among none = (
+  among.0,
+  among.1,
+  among.2,
+  λ i k below. below_more
+      (λ h. (q : ℕ) → IsOver p s (get_or s h 0) q → over.0 ≤ get_or s h 0) n
+      (λ h lower q. among.3 h q lower) (λ q here. absurd (none q here)) i below k,
+)
 
--- it is so where that start isn't before it
+-- it is the same if the new start isn't before it
 pub over_among_later : (p : Problem) (s : List ℕ) (n : ℕ) (least : Option (ℕ × ℕ)) → IsOverAmong p s n least → (IsBefore (get_or s n 0) least → ⊥) → IsOverAmong p s (n + 1) least
 over_among_later p s n None among later = absurd (later tt)
-over_among_later p s n (Some over) among later =
-    (among.0, among.1, among.2, λ i k below. below_more
-        (λ h. (q : ℕ) → IsOver p s (get_or s h 0) q → over.0 ≤ get_or s h 0) n
-        (λ h lower q. among.3 h q lower) (λ q here. at_most (cases_lt (get_or s n 0) over.0)) i below k) where
-      at_most : (get_or s n 0 < over.0) ⊎ (over.0 ≤ get_or s n 0) → over.0 ≤ get_or s n 0
-      at_most (inl before) = absurd (later before)
-      at_most (inr order) = order
+over_among_later p s n (Some over) among later = (
+  among.0,
+  among.1,
+  among.2,
+  λ i k below. below_more
+      (λ h. (q : ℕ) → IsOver p s (get_or s h 0) q → over.0 ≤ get_or s h 0) n
+      (λ h lower q. among.3 h q lower) (λ q here. at_most (cases_lt (get_or s n 0) over.0)) i below k,
+) where
+  at_most : (get_or s n 0 < over.0) ⊎ (over.0 ≤ get_or s n 0) → over.0 ≤ get_or s n 0
+  at_most (inl before) = absurd (later before)
+  at_most (inr order) = order
 
 -- a start before it at which a resource is overloaded is the least
 pub over_among_here : (p : Problem) (s : List ℕ) (n k : ℕ) (least : Option (ℕ × ℕ)) → IsOverAmong p s n least → IsBefore (get_or s n 0) least
     → 0 < k → IsOver p s (get_or s n 0) (k - 1) → ((l : ℕ) → IsOver p s (get_or s n 0) l → k - 1 ≤ l) → IsOverAmong p s (n + 1) (Some (get_or s n 0, k))
-over_among_here p s n k None among before some over first =
-    (some, over, first, λ i q below. below_more (λ h. (l : ℕ) → IsOver p s (get_or s h 0) l →
-        get_or s n 0 ≤ get_or s h 0) n (λ h lower l here. absurd (among h l lower here))
-        (λ l here. omega arith) i below q)
-over_among_here p s n k (Some other) among before some over first =
-    (some, over, first, λ i q below. below_more (λ h. (l : ℕ) → IsOver p s (get_or s h 0) l →
-        get_or s n 0 ≤ get_or s h 0) n (λ h lower l here. omega (arith, before, among.3 h l lower here))
-        (λ l here. omega arith) i below q)
+over_among_here p s n k None among before some over first = (
+  some,
+  over,
+  first,
+  λ i q below. below_more (λ h. (l : ℕ) → IsOver p s (get_or s h 0) l →
+      get_or s n 0 ≤ get_or s h 0) n (λ h lower l here. absurd (among h l lower here))
+      (λ l here. omega arith) i below q,
+)
+over_among_here p s n k (Some other) among before some over first = (
+  some,
+  over,
+  first,
+  λ i q below. below_more (λ h. (l : ℕ) → IsOver p s (get_or s h 0) l →
+      get_or s n 0 ≤ get_or s h 0) n (λ h lower l here. omega (arith, before, among.3 h l lower here))
+      (λ l here. omega arith) i below q,
+)
 
 -- the least overloaded start is the least overloaded instant
 pub over_answer : (p : Problem) (s : List ℕ) (least : Option (ℕ × ℕ)) → length s ≡ count p → KeepsArcs p s → IsOverAmong p s (count p) least → IsOverAnswer p s least
@@ -91,7 +107,7 @@ over_answer p s (Some over) whole arcs among = (among.0, record { arcs = arcs; o
             inr (same, among.2 l (subst (λ (x : ℕ). IsOver p s x l) (sym same) other))
       ]
 
--- of two pairs each no later than the other both are one
+-- two pairs, each no later than the other, are equal
 pub no_later_once : (i j x y : ℕ) → IsNoLater i j x y → IsNoLater x y i j → (i ≡ x) × (j ≡ y)
 no_later_once i j x y (inl a) (inl b) = absurd (omega (arith, a, b))
 no_later_once i j x y (inl a) (inr b) = absurd (omega (arith, a, b.0))
@@ -104,8 +120,8 @@ broken_not_kept p s i j first kept =
     let a = first.broken.0 in
     let breaks : get_or s a.to 0 < get_or s a.from 0 + duration p a.from + a.lag = first.broken.2 in
     let keeps : get_or s a.from 0 + duration p a.from + a.lag ≤ get_or s a.to 0 =
-        All-contains (λ (b : Link). get_or s b.from 0 + duration p b.from + b.lag ≤ get_or s b.to 0) p.links a
-        kept first.broken.1 in
+    All-contains (λ (b : Link). get_or s b.from 0 + duration p b.from + b.lag ≤ get_or s b.to 0) p.links a
+    kept first.broken.1 in
     omega (arith, breaks, keeps)
 
 -- the first broken link is no later than any other broken one

@@ -56,7 +56,7 @@ pub words_are_finite : ProjectWordsAreFinite
 unfolding ProjectWordsAreFinite
 words_are_finite i w word = words_most i w word
 
--- a word is full just where it is as long as there are activities
+-- a word is full exactly if it has as many letters as there are activities
 pub full_long : (i : Planned) (w : List ℕ) → IsWord i w → is_full i w ≡ true → length w ≡ depth_of i
 unfolding is_full
 full_long i w word full =
@@ -82,7 +82,7 @@ full_list i w (word, full) =
     let long : length (places w) ≡ count (problem_of i) = omega (arith, full_long i w word full, length-places w) in
     and_from (nat_eq (length (places w)) (count (problem_of i))) (takes_in_turn (problem_of i) [] (places w)) (eq-eqb (length (places w)) (count (problem_of i)) long) (word_turns i [] w word).turns
 
--- and the other way round
+-- and the reverse
 pub list_full : (i : Planned) (w : List ℕ) → All (λ a. 1 ≤ a) w → is_activity_list (problem_of i) (places w) ≡ true → IsFullWord i w
 list_full i w from_one list =
     let parts = list_parts (problem_of i) (places w) list in
@@ -126,11 +126,11 @@ unfolding WordsGoOn is_full
 words_go_on i w instance word open_word =
     let missing = all_below_not (depth_of i) (λ j. is_member j (places w)) open_word in
     let next = some_eligible (problem_of i) (rank_by i.project.network) (λ _. 0) (places w)
-        (bounded i instance).inside (ranked i instance.project.network) (λ k d within. omega arith)
-        (suc (rank_by i.project.network missing.0)) missing.0 (omega arith) missing.1 missing.2 in
+    (bounded i instance).inside (ranked i instance.project.network) (λ k d within. omega arith)
+    (suc (rank_by i.project.network missing.0)) missing.0 (omega arith) missing.1 missing.2 in
     (suc next.0, letter_from i w next.0 next.1 next.2)
 
--- each feasible list has a full word that is no longer
+-- for each feasible list there is a full word that is no longer
 pub words_reach : ProjectWordsReach
 unfolding ProjectWordsReach makespan_by
 words_reach i starts instance feasible = record {
@@ -142,10 +142,10 @@ words_reach i starts instance feasible = record {
       let low : makespan (problem_of i) (serial (problem_of i) (by_starts (problem_of i) starts)) ≤ makespan (problem_of i) starts =
       by_starts_least (problem_of i) (rank_by i.project.network) starts (bounded i instance).inside instance.fit (ranked i instance.project.network) feasible in
       let same : makespan (problem_of i) (serial (problem_of i)
-          (places (map suc (by_starts (problem_of i) starts)))) ≡ makespan (problem_of i)
-          (serial (problem_of i) (by_starts (problem_of i) starts)) =
-          ap (λ (js : List ℕ). makespan (problem_of i) (serial (problem_of i) js))
-          (places_suc (by_starts (problem_of i) starts)) in
+      (places (map suc (by_starts (problem_of i) starts)))) ≡ makespan (problem_of i)
+      (serial (problem_of i) (by_starts (problem_of i) starts)) =
+      ap (λ (js : List ℕ). makespan (problem_of i) (serial (problem_of i) js))
+      (places_suc (by_starts (problem_of i) starts)) in
       omega (arith, low, same);
 }
 
@@ -154,8 +154,8 @@ pub least_is_shortest : LeastProjectWordIsShortest
 unfolding LeastProjectWordIsShortest makespan_by
 least_is_shortest i w instance full least =
     least_shortest (problem_of i) (rank_by i.project.network) (places w)
-        (bounded i instance).inside instance.fit (ranked i instance.project.network)
-        (told_by_places (problem_of i) (places w) (full_list i w full)) (λ other list.
+    (bounded i instance).inside instance.fit (ranked i instance.project.network)
+    (told_by_places (problem_of i) (places w) (full_list i w full)) (λ other list.
     let numbered = list_word i other (told_by_entries (problem_of i) other (bounded i instance).inside list) in
     let low : makespan (problem_of i) (serial (problem_of i) (places w)) ≤ makespan (problem_of i) (serial (problem_of i) (places (map suc other))) = least (map suc other) numbered in
     omega (arith, low, ap (λ (js : List ℕ). makespan (problem_of i) (serial (problem_of i) js)) (places_suc other)))

@@ -1,4 +1,4 @@
--- What a scheduling problem takes from its project.
+-- The parts of a scheduling problem that come from its project.
 use Rattle.std.proofs.Common.{ℕ, ◌≡◌, ◌+◌, ◌-◌, ◌≤◌, ◌<◌, ◌⊎◌, inl, inr, List, [], get_or, Some, refl, sym, ◌∙◌, ap, subst, arith}
 use Rattle.std.specs.List.{slice_get, EachIndex}
 use Rattle.std.proofs.lemmas.Bool.{cases_lt, cases_eq, cases_order}
@@ -34,9 +34,14 @@ pub too_much_here : (i : Planned) (h k act res : ℕ) (row : List ℕ) → act �
     slice_get i.project.needs (act - 1) ≡ Some row → IsFirstAbove row i.capacities k
     → ((g q : ℕ) → g < h → IsTooMuch (problem_of i) g q → ⊥) → IsFirstTooMuch (problem_of i) act res
 unfolding problem_of
-too_much_here i h k act res row act_is res_is inside lasts here (within, above, first) none =
-    (h, k, omega (arith, act_is), omega (arith, res_is),
-    (inside, within, omega (arith, lasts, duration-problem i h act act_is), too_much), least) where
+too_much_here i h k act res row act_is res_is inside lasts here (within, above, first) none = (
+  h,
+  k,
+  omega (arith, act_is),
+  omega (arith, res_is),
+  (inside, within, omega (arith, lasts, duration-problem i h act act_is), too_much),
+  least,
+) where
   too_much : capacity (problem_of i) k < need (problem_of i) h k
   too_much = rw (need-problem i h act row act_is here k) above
 
@@ -53,7 +58,7 @@ too_much_here i h k act res row act_is res_is inside lasts here (within, above, 
     ]
   ]
 
--- one more activity needs nothing too much, where all its needs are within the capacities
+-- one more activity doesn't need too much, if all its needs are within the capacities
 pub none_more : (i : Planned) (h act : ℕ) (row : List ℕ) → act ≡ h + 1 → slice_get i.project.needs (act - 1) ≡ Some row → EachIndex i.capacities (λ k. get_or row k 0 ≤ get_or i.capacities k 0)
     → ((g q : ℕ) → g < h → IsTooMuch (problem_of i) g q → ⊥) → (g q : ℕ) → g < h + 1 → IsTooMuch (problem_of i) g q → ⊥
 unfolding problem_of
@@ -65,7 +70,7 @@ none_more i h act row act_is here within none g q low more = elim (cases_eq g h)
       omega (arith, much, few, need-problem i h act row act_is here q)
 ]
 
--- or where it has no duration
+-- or if its duration is 0
 pub none_more_short : (i : Planned) (h act : ℕ) → act ≡ h + 1 → duration_of i.project.network act ≤ 0 →
     ((g q : ℕ) → g < h → IsTooMuch (problem_of i) g q → ⊥) → (g q : ℕ) → g < h + 1 →
     IsTooMuch (problem_of i) g q → ⊥
@@ -76,7 +81,7 @@ none_more_short i h act act_is short none g q low more = elim (cases_eq g h) [
       omega (arith, lasts, short, duration-problem i h act act_is)
 ]
 
--- where no activity needs too much the needs fit
+-- if no activity needs too much, the needs fit
 pub fit_from_none : (i : Planned) (n : ℕ) → count_of i.project.network ≤ n → ((g q : ℕ) → g < n → IsTooMuch (problem_of i) g q → ⊥) → NeedsFit (problem_of i)
 fit_from_none i n all none h k inside lasts within = elim (cases_lt (capacity (problem_of i) k) (need (problem_of i) h k)) [
   | inl much ↦ absurd (none h k (omega (arith, all, inside, count-problem i)) (inside, within, lasts, much))

@@ -21,14 +21,14 @@ values_push f keys after n v are pushed is = subst (λ (xs : List ℕ). AreValue
   ];
 })
 
--- a list told entry by entry is one told by places, by numbers from 1 on
+-- a list that is valid entry by entry is valid as a whole, by numbers from 1 on
 pub numbered_from : (p : Problem) (list : List ℕ) → IsTurnList p list → IsNumberedList p list
 numbered_from p list (from_one, order) = (from_one, told_by_places p (places list) order)
 
 pub turns_of : (p : Problem) (list : List ℕ) → LinksInside p → IsNumberedList p list → IsTurnList p list
 turns_of p list inside (from_one, order) = (from_one, told_by_entries p (places list) inside order)
 
--- keys that make one sum with the numbers fall as these rise
+-- if keys and numbers have constant sums, the keys fall as the numbers rise
 pub record MakeSum (most : ℕ) (totals keys : List ℕ) (n : ℕ) : Type 0 where
   pub size : length keys ≡ n
   pub each : (h : ℕ) → h < n → get_or keys h 0 + get_or totals h 0 ≡ most

@@ -22,7 +22,8 @@ amount_left p t k i s r left late = elim (cases_lt t (s + duration p i)) [
   | inr ended ↦ omega (arith, amount_ended p t k i (Some s) (λ x is. omega (arith, same_Some s x is, ended)))
 ]
 
--- the next activity is placed no later than it stands in a feasible list, where what is placed starts no later than there, and no later there than it does
+-- the next activity is placed no later than in a feasible list, if there each placed activity starts no
+-- earlier than it was placed and no later than the next activity
 earliest_left : (p : Problem) (starts : List ℕ) (placed : List (Option ℕ)) (j : ℕ) → NeedsFit p →
     IsFeasible p starts → length placed ≡ count p → j < count p → IsReady p placed j →
     get_or placed j None ≡ None
@@ -34,13 +35,13 @@ earliest_left p starts placed j fit feasible size inside ready open_place left =
     let here = left i s is in
     amount_left p t k i s (get_or starts i 0) here.0 (omega (arith, here.1, late))))
 
--- all along a list in the order of the starts
+-- the same after each entry of a list in the order of the starts
 left_after : (p : Problem) (starts : List ℕ) → NeedsFit p → IsFeasible p starts →
     (js taken : List ℕ) (placed : List (Option ℕ)) → IsPartial p placed → TakenIs placed taken →
     takes_in_turn p taken js ≡ true → RisesBy (λ i. get_or starts i 0) js
     → ((i s : ℕ) → get_or placed i None ≡ Some s →
-        (s ≤ get_or starts i 0) × AllByRecursion (λ j. get_or starts i 0 ≤ get_or starts j 0) js) →
-        (i s : ℕ) → get_or (serial_from p placed js) i None ≡ Some s → s ≤ get_or starts i 0
+    (s ≤ get_or starts i 0) × AllByRecursion (λ j. get_or starts i 0 ≤ get_or starts j 0) js) →
+    (i s : ℕ) → get_or (serial_from p placed js) i None ≡ Some s → s ≤ get_or starts i 0
 left_after p starts fit feasible [] taken placed partial is turns rises left i s at = (left i s at).0
 left_after p starts fit feasible (j ∷ js) taken placed partial is turns rises left i s at =
     let turn = turn_parts p taken j js turns in
@@ -48,17 +49,17 @@ left_after p starts fit feasible (j ∷ js) taken placed partial is turns rises 
     let ready = ready_from p placed taken j is turn.1 in
     let within : j < length placed = omega (arith, turn.0, partial.size) in
     let low : earliest p placed j ≤ get_or starts j 0 =
-        earliest_left p starts placed j fit feasible partial.size turn.0 ready open_place (λ h r there.
-        let here = left h r there in (here.0, here.1.0)) in
+    earliest_left p starts placed j fit feasible partial.size turn.0 ready open_place (λ h r there.
+    let here = left h r there in (here.0, here.1.0)) in
     left_after p starts fit feasible js (taken ++ j ∷ []) (set placed j (Some (earliest p placed j)))
-        (partial_set p placed j fit partial turn.0 open_place ready)
-        (taken_set placed taken j (earliest p placed j) within is) turn.2 rises.1
+    (partial_set p placed j fit partial turn.0 open_place ready)
+    (taken_set placed taken j (earliest p placed j) within is) turn.2 rises.1
     (λ h r there. elim (set_cases placed j (earliest p placed j) h r within there) [
       | inl here ↦ (omega (arith, low, here.1, ap (λ (x : ℕ). get_or starts x 0) here.0), subst (λ (x : ℕ). AllByRecursion (λ k. get_or starts x 0 ≤ get_or starts k 0) js) (sym here.0) rises.0)
       | inr before ↦ let old = left h r before.1 in (old.0, old.1.1)
     ]) i s at
 
--- the serial schedule of an order that rises by the starts of a feasible list starts nothing later
+-- if an order is sorted by the starts of a feasible list, its serial schedule starts nothing later
 pub serial_no_later : (p : Problem) (starts js : List ℕ) → NeedsFit p → IsFeasible p starts →
     is_activity_list p js ≡ true → RisesBy (λ i. get_or starts i 0) js → (i : ℕ) → i < count p →
     get_or (serial p js) i 0 ≤ get_or starts i 0
@@ -82,12 +83,12 @@ pub by_starts_least : (p : Problem) (rank : ℕ → ℕ) (starts : List ℕ) →
 by_starts_least p rank starts inside fit ranked feasible =
     greatest_grows (count p) (λ i. get_or (serial p (by_starts p starts)) i 0 + duration p i) (λ i. get_or starts i 0 + duration p i) (λ i below.
     let low : get_or (serial p (by_starts p starts)) i 0 ≤ get_or starts i 0 =
-        serial_no_later p starts (by_starts p starts) fit feasible
-        (rule_list_is p rank (λ h. get_or starts h 0) inside ranked)
-        (by_starts_rises p rank starts inside ranked feasible) i below in
+    serial_no_later p starts (by_starts p starts) fit feasible
+    (rule_list_is p rank (λ h. get_or starts h 0) inside ranked)
+    (by_starts_rises p rank starts inside ranked feasible) i below in
     omega (arith, low))
 
--- a serial schedule that none is shorter than is shortest
+-- a serial schedule of least makespan among serial schedules is shortest
 pub least_shortest : (p : Problem) (rank : ℕ → ℕ) (js : List ℕ) → LinksInside p → NeedsFit p →
     IsRanked p rank → IsActivityList p js → ((other : List ℕ) → IsActivityList p other →
     makespan p (serial p js) ≤ makespan p (serial p other)) → IsShortest p (serial p js)
@@ -95,21 +96,21 @@ least_shortest p rank js inside fit ranked list least = record {
   feasible = (serial_active p js inside fit (told_by_entries p js inside list)).feasible;
   least = λ other feasible.
       let order : makespan p (serial p js) ≤ makespan p (serial p (by_starts p other)) =
-          least (by_starts p other) (told_by_places p (by_starts p other)
-          (rule_list_is p rank (λ h. get_or other h 0) inside ranked)) in
+      least (by_starts p other) (told_by_places p (by_starts p other)
+      (rule_list_is p rank (λ h. get_or other h 0) inside ranked)) in
       omega (arith, order, by_starts_least p rank other inside fit ranked feasible);
 }
 
--- each entry that a rule takes comes first of what may come
+-- each entry that a rule takes is the first of the eligible activities
 first_by : (p : Problem) (key : ℕ → ℕ) (taken : List ℕ) (j : ℕ) → IsFirstBelow p key taken (count p) j → IsFirstBy p key taken j
 first_by p key taken j first = record { inside = first.inside; eligible = first.eligible; first = first.first }
 
--- each entry of a list that takes what comes first, in its turn
+-- each entry of a list is the first of the eligible activities in its turn
 abbrev pub TakesFirst : Problem → (ℕ → ℕ) → List ℕ → List ℕ → Type 0
 TakesFirst p key taken [] = Unit {0}
 TakesFirst p key taken (j ∷ js) = IsFirstBy p key taken j × TakesFirst p key (taken ++ j ∷ []) js
 
--- what a rule takes after what is taken
+-- the entries that a rule takes after those already taken
 takes_first : (p : Problem) (rank key : ℕ → ℕ) → LinksInside p → IsRanked p rank → (n : ℕ) (taken : List ℕ) →
     taken_count p taken + n ≡ count p → (js : List ℕ) × (rule_list_from p key taken n ≡ taken ++ js)
     × TakesFirst p key taken js × (length js ≡ n)
@@ -117,8 +118,8 @@ takes_first p rank key inside ranked zero taken counted = ([], sym (append-nil t
 takes_first p rank key inside ranked (suc n) taken counted =
     let next = next_there p rank key taken inside ranked (omega (arith, counted)) in
     let one : taken_count p taken + 1 ≡ taken_count p (taken ++ next_of p key taken ∷ []) =
-        taken_more p taken (next_of p key taken) next.first.inside
-        (eligible_not p taken (next_of p key taken) next.first.eligible) in
+    taken_more p taken (next_of p key taken) next.first.inside
+    (eligible_not p taken (next_of p key taken) next.first.eligible) in
     let rest = takes_first p rank key inside ranked n (taken ++ next_of p key taken ∷ []) (omega (arith, counted, one)) in
     (next_of p key taken ∷ rest.0, rest.1 ∙ append_assoc taken (next_of p key taken ∷ []) rest.0, (first_by p key taken (next_of p key taken) next.first, rest.2), omega (arith, rest.3))
 
@@ -129,7 +130,7 @@ entry_first p key (j ∷ js) taken (suc k) first below =
     subst (λ (xs : List ℕ). IsFirstBy p key xs (get_or js k 0)) (append_assoc taken (j ∷ []) (take k js))
     (entry_first p key js (taken ++ j ∷ []) k first.1 (omega (arith, below)))
 
--- each entry of a rule's list comes first in its turn
+-- each entry of a rule's list is the first of the eligible activities in its turn
 pub rule_entry_first : (p : Problem) (rank key : ℕ → ℕ) → LinksInside p → IsRanked p rank → (k : ℕ) → k < count p → IsFirstBy p key (take k (rule_list p key)) (get_or (rule_list p key) k 0)
 unfolding rule_list
 rule_entry_first p rank key inside ranked k below =

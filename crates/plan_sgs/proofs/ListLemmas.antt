@@ -1,4 +1,4 @@
--- Orders of all activities, told by places and told entry by entry.
+-- Orders of all activities, defined as a whole and entry by entry.
 use Rattle.std.proofs.Common.{ℕ, zero, suc, true, false, ◌||◌, nat_eq, ◌≡◌, ◌+◌, ◌≤◌, ◌<◌, inl, inr, List, [], ◌∷◌, ◌++◌, length, get_or, take, drop, refl, sym, ◌∙◌, ap, subst, arith}
 use Rattle.std.specs.List.{Contains}
 use Rattle.std.proofs.lemmas.List.{append-nil, append_assoc, length-take-le, length-drop, get_or-take, take-append-drop, take_more, get_or_default}
@@ -10,7 +10,7 @@ use Rattle.plan_sgs.specs.Rules.{is_member, is_eligible, takes_in_turn, is_activ
 use Rattle.plan_sgs.proofs.TotalLemmas.{total_same}
 use Rattle.plan_sgs.proofs.SerialLemmas.{eligible_not, eligible_preds, eligible_from, member_push, member_other, turn_parts, turn_from, one_if, taken_count, taken_none, taken_more, list_parts, takes_each}
 
--- a member stands at a place
+-- a member has an index
 pub member_place : (j : ℕ) (js : List ℕ) → is_member j js ≡ true → (k : ℕ) × (k < length js) × (get_or js k 0 ≡ j)
 member_place j [] has = absurd (false≢true has)
 member_place j (x ∷ js) has = elim (or_cases (nat_eq x j) (is_member j js) has) [
@@ -18,7 +18,7 @@ member_place j (x ∷ js) has = elim (or_cases (nat_eq x j) (is_member j js) has
   | inr there ↦ let rest = member_place j js there in (suc rest.0, omega (arith, rest.1), rest.2)
 ]
 
--- what stands at a place is a member
+-- the entry at an index is a member
 pub place_member : (js : List ℕ) (k j : ℕ) → k < length js → get_or js k 0 ≡ j → is_member j js ≡ true
 place_member js k j within is = list_any_at (λ i. nat_eq i j) js k 0 within (eq-eqb (get_or js k 0) j is)
 
@@ -52,7 +52,7 @@ turns_push p (i ∷ js) taken j turns inside eligible =
     turn_from p taken i (js ++ j ∷ []) turn.0 turn.1
     (turns_push p js (taken ++ i ∷ []) j turn.2 inside (subst (λ (xs : List ℕ). is_eligible p xs j ≡ true) (sym (append_assoc taken (i ∷ []) js)) eligible))
 
--- an order told entry by entry is one told by places
+-- an order defined entry by entry is one defined as a whole
 pub told_by_places : (p : Problem) (js : List ℕ) → is_activity_list p js ≡ true → IsActivityList p js
 told_by_places p js list = record {
   each_once = (list_parts p js list).0;
@@ -79,11 +79,11 @@ told_by_places p js list = record {
             absurd (both_ways (is_member (get_or js a 0) (take a js)) new old)
       ]
 
--- who is in a list is in it with one more at its end
+-- a member of a list is a member with one more entry at the end
 member_stays : (i j : ℕ) (js : List ℕ) → is_member i js ≡ true → is_member i (js ++ j ∷ []) ≡ true
 member_stays i j js has = member_push i j js ∙ or_left (is_member i js) (nat_eq j i || false) has
 
--- an entry that was there doesn't count again
+-- an entry that was in the list isn't counted again
 count_again : (p : Problem) (j : ℕ) (js : List ℕ) → is_member j js ≡ true → taken_count p (js ++ j ∷ []) ≡ taken_count p js
 count_again p j js has = total_same (count p) (λ i. one_if (is_member i (js ++ j ∷ []))) (λ i. one_if (is_member i js)) (λ i below. elim (cases_eq i j) [
   | inl same ↦
@@ -92,7 +92,7 @@ count_again p j js has = total_same (count p) (λ i. one_if (is_member i (js ++ 
   | inr other ↦ ap one_if (member_other i j js other)
 ])
 
--- one more entry counts once at most
+-- one more entry is counted at most once
 count_push : (p : Problem) (j : ℕ) (js : List ℕ) → taken_count p (js ++ j ∷ []) ≤ taken_count p js + 1
 count_push p j js = elim (cases_Bool (is_member j js)) [
   | inl has ↦ omega (arith, count_again p j js has)
@@ -100,25 +100,25 @@ count_push p j js = elim (cases_Bool (is_member j js)) [
     | inl inside ↦ omega (arith, taken_more p js j inside new)
     | inr outside ↦
         let same : taken_count p (js ++ j ∷ []) ≡ taken_count p js =
-            total_same (count p) (λ i. one_if (is_member i (js ++ j ∷ []))) (λ i. one_if (is_member i js))
-            (λ i below. ap one_if (member_other i j js (λ e. omega (arith, e, below, outside)))) in
+        total_same (count p) (λ i. one_if (is_member i (js ++ j ∷ []))) (λ i. one_if (is_member i js))
+        (λ i below. ap one_if (member_other i j js (λ e. omega (arith, e, below, outside)))) in
         omega (arith, same)
   ]
 ]
 
--- so entries count no more than they are
+-- so the count is at most the number of entries
 count_append : (p : Problem) (ys xs : List ℕ) → taken_count p (xs ++ ys) ≤ taken_count p xs + length ys
 count_append p [] xs = let same : taken_count p (xs ++ []) ≡ taken_count p xs = ap (taken_count p) (append-nil xs) in omega (arith, same)
 count_append p (y ∷ ys) xs =
     let same : taken_count p ((xs ++ y ∷ []) ++ ys) ≡ taken_count p (xs ++ y ∷ ys) = ap (taken_count p) (append_assoc xs (y ∷ []) ys) in
     omega (arith, same, count_push p y xs, count_append p ys (xs ++ y ∷ []))
 
--- ones below n make n
+-- n ones add up to n
 pub total_ones : (n : ℕ) (f : ℕ → ℕ) → ((i : ℕ) → i < n → f i ≡ 1) → total n f ≡ n
 total_ones zero f each = refl
 total_ones (suc n) f each = omega (arith, total_ones n f (λ i below. each i (omega (arith, below))), each n (omega arith))
 
--- in a list of as many entries as there are activities, all of which are there, none comes again
+-- in a list with as many entries as activities, which contains all of them, no entry recurs
 none_again : (p : Problem) (js : List ℕ) (k : ℕ) → length js ≡ count p → ((j : ℕ) → j < count p → is_member j js ≡ true) → k < length js → is_member (get_or js k 0) (take k js) ≡ true → ⊥
 none_again p js k size all within again =
     let counted : taken_count p js ≡ count p = total_ones (count p) (λ i. one_if (is_member i js)) (λ i below. ap one_if (all i below)) in
@@ -128,20 +128,20 @@ none_again p js k size all within again =
     let few : taken_count p (take k js) ≤ taken_count p [] + length (take k js) = count_append p (take k js) [] in
     omega (arith, counted, split, front, same, few, taken_none p, length-take-le k js (omega (arith, within)), length-drop (k + 1) js, size, within, count_append p (drop (k + 1) js) (take (k + 1) js))
 
--- an order told by places is one told entry by entry
+-- an order defined as a whole is one defined entry by entry
 pub told_by_entries : (p : Problem) (js : List ℕ) → LinksInside p → IsActivityList p js → is_activity_list p js ≡ true
 told_by_entries p js inside list = and_from (nat_eq (length js) (count p)) (takes_in_turn p [] js)
     (eq-eqb (length js) (count p) list.each_once) (turns_from p js []
     (λ k within. (list.none_else k 0 within, eligible k within))) where
-  there : (j : ℕ) → j < count p → (k : ℕ) × (k < length js) × (get_or js k 0 ≡ j)
-  there j below = let has = list.all_there j below in (has.0, has.1, get_or_default js has.0 0 j has.1 ∙ has.2)
+      there : (j : ℕ) → j < count p → (k : ℕ) × (k < length js) × (get_or js k 0 ≡ j)
+      there j below = let has = list.all_there j below in (has.0, has.1, get_or_default js has.0 0 j has.1 ∙ has.2)
 
-  all : (j : ℕ) → j < count p → is_member j js ≡ true
-  all j below = let place = there j below in place_member js place.0 j place.1 place.2
+      all : (j : ℕ) → j < count p → is_member j js ≡ true
+      all j below = let place = there j below in place_member js place.0 j place.1 place.2
 
-  eligible : (k : ℕ) → k < length js → is_eligible p (take k js) (get_or js k 0) ≡ true
-  eligible k within =
-      eligible_from p (take k js) (get_or js k 0) (false_from_ne_true (is_member (get_or js k 0) (take k js)) (none_again p js k list.each_once all within)) (λ l d low to.
-      let place = there (get_or p.links l d).from (inside l d low).0 in
-      let early : place.0 < k = list.after place.0 k place.1 within l d low (sym place.2) to in
-      place_member (take k js) place.0 (get_or p.links l d).from (omega (arith, early, length-take-le k js (omega (arith, within)))) (get_or-take k js place.0 0 early ∙ place.2))
+      eligible : (k : ℕ) → k < length js → is_eligible p (take k js) (get_or js k 0) ≡ true
+      eligible k within =
+          eligible_from p (take k js) (get_or js k 0) (false_from_ne_true (is_member (get_or js k 0) (take k js)) (none_again p js k list.each_once all within)) (λ l d low to.
+          let place = there (get_or p.links l d).from (inside l d low).0 in
+          let early : place.0 < k = list.after place.0 k place.1 within l d low (sym place.2) to in
+          place_member (take k js) place.0 (get_or p.links l d).from (omega (arith, early, length-take-le k js (omega (arith, within)))) (get_or-take k js place.0 0 early ∙ place.2))

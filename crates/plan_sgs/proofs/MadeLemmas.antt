@@ -1,4 +1,4 @@
--- What the starts are once all entries of a list are placed.
+-- The starts after all entries of a list are placed.
 use Rattle.std.proofs.Common.{ℕ, ◌≡◌, ◌≤◌, List, length, map, Option, sym, ◌∙◌, ap, subst, arith}
 use Rattle.std.proofs.lemmas.List.{length-map}
 use Rattle.plan_sgs.specs.Problem.{Problem, count, duration, IsActive}

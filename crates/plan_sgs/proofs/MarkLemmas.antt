@@ -1,4 +1,4 @@
--- Marks on activities against lists of places: what may come next by either.
+-- Marks on activities and lists of indices: the activities that may come next by either.
 use Rattle.std.proofs.Common.{ℕ, suc, zero, Bool, true, false, cond, ◌≡◌, ◌+◌, ◌-◌, ◌≤◌, ◌<◌, inl, inr, List, [], ◌∷◌, ◌++◌, length, get_or, set, take, replicate, nat_eq, refl, sym, ◌∙◌, ap, subst, arith, get_or-set_same, get_or-set_other}
 use Rattle.std.specs.List.{All}
 use Rattle.std.proofs.lemmas.List.{length-set, length-replicate, get_or-replicate, length-take-le, get_or-take}
@@ -16,7 +16,7 @@ use Rattle.plan_sgs.proofs.InstanceLemmas.{count-problem}
 use Rattle.plan_sgs.proofs.SerialLemmas.{eligible_not, eligible_preds, eligible_from, member_last, member_other}
 use Rattle.plan_sgs.proofs.BoundedLemmas.{links_from, link_at}
 
--- no mark is set where nothing is taken
+-- no mark is set if nothing is taken
 pub marks_first : (n : ℕ) → AreMarksOf n (replicate n false) []
 marks_first n = record { size = length-replicate n false; each = λ i inside. get_or-replicate n i false false inside }
 
@@ -52,28 +52,33 @@ taken_released i marks taken j sound are all a arc =
     let has : is_member (a - 1) taken ≡ true = link_at i (λ b. b.to ≡ j - 1 → is_member b.from taken ≡ true) all a j arc refl in
     are.each (a - 1) (omega (arith, ends.0)) ∙ has
 
--- what may come by the marks may come by the list
+-- an activity that may come by the marks is eligible by the list
 pub can_come_eligible : (i : Planned) (marks : List Bool) (taken : List ℕ) (j : ℕ) →
     IsSound i.project.network → AreMarksOf (count_of i.project.network) marks taken →
     CanCome i.project.network marks j → (j - 1 < count (problem_of i))
     × (is_eligible (problem_of i) taken (j - 1) ≡ true)
-can_come_eligible i marks taken j sound are (activity, open_now, released) =
-    (omega (arith, activity, count-problem i), eligible_from (problem_of i) taken (j - 1)
-    (sym (are.each (j - 1) (omega (arith, activity))) ∙ open_now)
-    (released_taken i marks taken j sound are activity.0 released))
+can_come_eligible i marks taken j sound are (activity, open_now, released) = (
+  omega (arith, activity, count-problem i),
+  eligible_from (problem_of i) taken (j - 1)
+      (sym (are.each (j - 1) (omega (arith, activity))) ∙ open_now)
+      (released_taken i marks taken j sound are activity.0 released),
+)
 
--- and the other way round
+-- and the reverse
 pub eligible_can_come : (i : Planned) (marks : List Bool) (taken : List ℕ) (j : ℕ) →
     IsSound i.project.network → AreMarksOf (count_of i.project.network) marks taken → 1 ≤ j →
     j - 1 < count (problem_of i) → is_eligible (problem_of i) taken (j - 1) ≡ true →
     CanCome i.project.network marks j
 eligible_can_come i marks taken j sound are low inside eligible =
-    let within : j - 1 < count_of i.project.network = omega (arith, inside, count-problem i) in
-    ((low, omega (arith, low, within)), are.each (j - 1) within
-        ∙ eligible_not (problem_of i) taken (j - 1) eligible, taken_released i marks taken j sound are
-        (eligible_preds (problem_of i) taken (j - 1) eligible))
+    let within : j - 1 < count_of i.project.network = omega (arith, inside, count-problem i) in (
+      (low, omega (arith, low, within)),
+      are.each (j - 1) within
+          ∙ eligible_not (problem_of i) taken (j - 1) eligible,
+      taken_released i marks taken j sound are
+          (eligible_preds (problem_of i) taken (j - 1) eligible),
+    )
 
--- the place of a number in a list, where it first stands
+-- the index of the first occurrence of a number in a list
 pub place_of : List ℕ → ℕ → ℕ
 place_of [] j = 0
 place_of (x ∷ xs) j = cond (nat_eq x j) 0 (suc (place_of xs j))

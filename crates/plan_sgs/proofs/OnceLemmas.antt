@@ -1,4 +1,5 @@
--- Of each of these there is only one: the list of a rule, its schedule, the first need that is too much, the rule of a name.
+-- There is at most one list of a rule, one schedule of it, one first need that is too much, and one rule of a
+-- name.
 use Rattle.std.proofs.Common.{ℕ, zero, suc, true, nat_eq, cond, ◌≡◌, ◌+◌, ◌≤◌, ◌<◌, ◌⊎◌, ◌↔◌, inl, inr, List, [], ◌∷◌, ◌++◌, get_or, refl, sym, ◌∙◌, ap, subst, arith}
 use Rattle.std.proofs.lemmas.Bool.{cases_lt}
 use Rattle.plan_net.specs.Network.{Net, count_of}
@@ -23,7 +24,7 @@ use Rattle.plan_sgs.proofs.RuleLemmas.{IsFirstBelow, IsChosenBelow, chosen_below
 abbrev pub OrderAlike : ℕ → (ℕ → ℕ) → (ℕ → ℕ) → Type 0
 OrderAlike n key other = (i j : ℕ) → i < n → j < n → (key i ≤ key j) ↔ (other i ≤ other j)
 
--- what comes first by one of them comes first by the other
+-- the first activity by one of two equal keys is the first by the other
 first_alike : (p : Problem) (key other : ℕ → ℕ) (taken : List ℕ) (n i : ℕ) → OrderAlike n key other → IsFirstBelow p key taken n i → IsFirstBelow p other taken n i
 first_alike p key other taken n i alike first = record { inside = first.inside; eligible = first.eligible; first = before } where
   before : (h : ℕ) → h < n → is_eligible p taken h ≡ true → (other i < other h) ⊎ ((other i ≡ other h) × (i ≤ h))
@@ -44,14 +45,14 @@ next_alike p key other taken alike = by_choice (chosen_below p key taken (count 
   by_choice (inr one) (inl two) = absurd (two.1 _ one.1.inside one.1.eligible)
   by_choice (inr one) (inr two) = first_once p other taken (count p) (next_of p key taken) (next_of p other taken) (first_alike p key other taken (count p) (next_of p key taken) alike one.1) two.1
 
--- and make one list
+-- and make equal lists
 from_alike : (p : Problem) (key other : ℕ → ℕ) (taken : List ℕ) (n : ℕ) → OrderAlike (count p) key other → rule_list_from p key taken n ≡ rule_list_from p other taken n
 from_alike p key other taken zero alike = refl
 from_alike p key other taken (suc n) alike =
     from_alike p key other (taken ++ next_of p key taken ∷ []) n alike
     ∙ ap (λ (j : ℕ). rule_list_from p other (taken ++ j ∷ []) n) (next_alike p key other taken alike)
 
--- keys that order the activities alike make one list
+-- keys that order the activities alike make equal lists
 pub list_alike : (p : Problem) (key other : ℕ → ℕ) → OrderAlike (count p) key other → rule_list p key ≡ rule_list p other
 unfolding rule_list
 list_alike p key other alike = from_alike p key other [] (count p) alike
@@ -92,11 +93,11 @@ too_much_once p a k b q (i, x, is_a, is_k, much, first) (j, y, is_b, is_q, other
   by_order (inr level) (inl down) = absurd (omega (arith, level.0, down))
   by_order (inr level) (inr back) = (omega (arith, is_a, is_b, level.0), omega (arith, is_k, is_q, level.1, back.1))
 
--- and none where the needs fit
+-- and none if the needs fit
 pub fits_not : (p : Problem) (a k : ℕ) → NeedsFit p → IsFirstTooMuch p a k → ⊥
 fits_not p a k fit (i, x, is_a, is_k, much, first) = let low = fit i x much.0 much.2 much.1 in omega (arith, low, much.3)
 
--- the needs fit where some list of starts is feasible: an activity is in use at its own start
+-- the needs fit if some list of starts is feasible: an activity is in use at its own start
 pub feasible_fits : (p : Problem) (s : List ℕ) → IsFeasible p s → NeedsFit p
 feasible_fits p s feasible i k below positive inside =
     let start = get_or s i 0 in
@@ -106,7 +107,7 @@ feasible_fits p s feasible i k below positive inside =
     let within = feasible.capacities start k inside in
     omega (arith, needs, part, used, within)
 
--- a project and capacities are refused for one fault
+-- a project with capacities has at most one error
 pub refusal_once : (i : Planned) (f g : SgsFault) → RefusesInstance i f → RefusesInstance i g → f ≡ g
 refusal_once i (fault.NeedsTooMuch a k) (fault.NeedsTooMuch b q) first second =
     let same = too_much_once (problem_of i) a k b q first second in
@@ -118,14 +119,14 @@ refusal_once i fault.NoMemory g first second = absurd first
 refusal_once i fault.NotAList g first second = absurd first
 refusal_once i fault.UnknownRule g first second = absurd first
 
--- and for none where the needs fit
+-- and none if the needs fit
 pub fit_not_refused : (i : Planned) (f : SgsFault) → NeedsFit (problem_of i) → RefusesInstance i f → ⊥
 fit_not_refused i (fault.NeedsTooMuch a k) fit refused = fits_not (problem_of i) a k fit refused
 fit_not_refused i fault.NoMemory fit refused = refused
 fit_not_refused i fault.NotAList fit refused = refused
 fit_not_refused i fault.UnknownRule fit refused = refused
 
--- the rule that the first two letters of a name tell
+-- the rule by the first two letters of a name
 rule_told : List ℕ → Rule
 rule_told name =
     cond (nat_eq (get_or name 0 0) 108) rule.LatestFinish

@@ -1,4 +1,4 @@
--- How many links lead to an activity from those that aren't taken: none, where it may come next.
+-- The number of links to an activity from those that aren't taken: 0 if it may come next.
 use Rattle.std.proofs.Common.{ℕ, Bool, true, false, not, nat_eq, nat_lt, ◌&&◌, ◌||◌, ◌≡◌, ◌+◌, ◌-◌, ◌≤◌, inl, inr, List, [], ◌∷◌, ◌++◌, refl, sym, ◌∙◌, ap, arith}
 use Rattle.std.specs.List.{count_by}
 use Rattle.std.proofs.lemmas.Bool.{cases_eq, cases_Bool, and_parts, eqb-true, eq-eqb, ne_eqb, lt-ltb}
@@ -9,21 +9,21 @@ use Rattle.plan_sgs.specs.Eligibility.{is_open, open_links, arcs_between}
 use Rattle.plan_sgs.proofs.SerialLemmas.{eligible_not, member_last, member_other}
 use Rattle.plan_sgs.proofs.CountLemmas.{tally, all_fail, count_parted, count_images}
 
--- how many links lead from one activity to another
+-- the number of links from one activity to another
 abbrev pub links_between : Problem → ℕ → ℕ → ℕ
 links_between p g h = count_by (λ a. nat_eq a.from g && nat_eq a.to h) p.links
 
--- an activity may come where it isn't taken, and no such link leads to it
+-- an activity is eligible if it isn't taken and there is no such link to it
 pub eligible_open : (p : Problem) (taken : List ℕ) (h : ℕ) → is_eligible p taken h ≡ (not (is_member h taken) && nat_eq (open_links p taken h) 0)
 eligible_open p taken h = ap (λ (b : Bool). not (is_member h taken) && b)
     (all_fail (is_open taken h) (λ a. not (nat_eq a.to h) || is_member a.from taken)
     (λ a. turned (nat_eq a.to h) (is_member a.from taken)) p.links) where
-  turned : (to has : Bool) → (not to || has) ≡ not (to && not has)
-  turned true true = refl
-  turned true false = refl
-  turned false has = refl
+      turned : (to has : Bool) → (not to || has) ≡ not (to && not has)
+      turned true true = refl
+      turned true false = refl
+      turned false has = refl
 
--- the links from one more that is taken are no longer counted
+-- after one more is taken, its links are no longer counted
 pub open_more : (p : Problem) (taken : List ℕ) (g h : ℕ) → is_member g taken ≡ false → open_links p (taken ++ g ∷ []) h + links_between p g h ≡ open_links p taken h
 open_more p taken g h new = count_parted (is_open (taken ++ g ∷ []) h) (λ a. nat_eq a.from g && nat_eq a.to h) (is_open taken h) each p.links where
   from_it : (to : Bool) → tally (to && not true) + tally (true && to) ≡ tally (to && not false)
@@ -64,7 +64,7 @@ settled_more p taken g settled eligible h has = omega (arith, none, open_more p 
     | inr other ↦ settled h (sym (member_other h g taken other) ∙ has)
   ]
 
--- what waits for none now did so before, or was freed
+-- an activity that waits for none now did so before, or was released
 freed : (before now : ℕ) → now ≤ before → tally (nat_eq before 0) + tally (nat_lt 0 before && nat_eq now 0) ≡ tally (nat_eq now 0)
 freed before now fell = elim (cases_eq before 0) [
   | inl none ↦ let none' : now ≡ 0 = omega (arith, fell, none) in rw (none, none') refl
@@ -81,19 +81,38 @@ queued_more p taken g h times came eligible settled counted freed_now = elim (ca
       let is : tally (is_eligible p taken h) ≡ 1 = ap (λ (b : Bool). tally b) (ap (is_eligible p taken) same ∙ eligible) in
       let it : tally (nat_eq g h) ≡ 1 = ap (λ (b : Bool). tally b) (eq-eqb g h (sym same)) in
       let out : tally (is_eligible p (taken ++ g ∷ []) h) ≡ 0 =
-          ap (λ (b : Bool). tally b) (eligible_open p (taken ++ g ∷ []) h
-          ∙ ap (λ (b : Bool). not b && nat_eq now 0)
-          (ap (λ (k : ℕ). is_member k (taken ++ g ∷ [])) same ∙ member_last g taken)) in
+      ap (λ (b : Bool). tally b) (eligible_open p (taken ++ g ∷ []) h
+      ∙ ap (λ (b : Bool). not b && nat_eq now 0)
+      (ap (λ (k : ℕ). is_member k (taken ++ g ∷ [])) same ∙ member_last g taken)) in
       omega (arith, is, it, out, counted, none (ap (open_links p taken) same ∙ open_none p taken g eligible))
   | inr other ↦ elim (cases_Bool (is_member h taken)) [
-    | inl has ↦ omega (arith, apart other, counted, before, after other, none (settled has), ap
-        (λ (b : Bool). tally (not b && nat_eq (open_links p taken h) 0)) has, ap
-        (λ (b : Bool). tally (not b && nat_eq now 0)) has)
+    | inl has ↦ omega (
+      arith,
+      apart other,
+      counted,
+      before,
+      after other,
+      none (settled has),
+      ap
+          (λ (b : Bool). tally (not b && nat_eq (open_links p taken h) 0)) has,
+      ap
+          (λ (b : Bool). tally (not b && nat_eq now 0)) has,
+    )
     | inr new ↦
-        omega (arith, apart other, counted, before, after other, freed_now, ap
-            (λ (b : Bool). tally (not b && nat_eq (open_links p taken h) 0)) new, ap
-            (λ (b : Bool). tally (not b && nat_eq now 0)) new, freed (open_links p taken h) now
-            (omega (arith, open_more p taken g h (eligible_not p taken g eligible))))
+        omega (
+          arith,
+          apart other,
+          counted,
+          before,
+          after other,
+          freed_now,
+          ap
+              (λ (b : Bool). tally (not b && nat_eq (open_links p taken h) 0)) new,
+          ap
+              (λ (b : Bool). tally (not b && nat_eq now 0)) new,
+          freed (open_links p taken h) now
+              (omega (arith, open_more p taken g h (eligible_not p taken g eligible))),
+        )
   ]
 ] where
   now : ℕ

@@ -1,4 +1,5 @@
--- The listed walks are all walks, so that tails are the greatest lengths of paths; and how many arcs may follow ranks the activities.
+-- The listed walks are all walks, so tails are the greatest lengths of paths; and the greatest number of arcs
+-- after an activity ranks it.
 use Rattle.std.proofs.Common.{ℕ, zero, suc, Bool, true, false, cond, nat_eq, ◌≡◌, ◌-◌, ◌≤◌, ◌<◌, ◌⊎◌, inl, inr, List, [], ◌∷◌, ◌++◌, length, map, flat_map, refl, sym, ◌∙◌, ap, subst, arith}
 use Rattle.std.specs.List.{Contains, filter}
 use Rattle.std.proofs.lemmas.Bool.{cases_lt, cond-true, eqb-true, eq-eqb}
@@ -15,7 +16,7 @@ use Rattle.plan_sgs.specs.ProjectLaws.{TailsAreGreatest, LongestIsGreatest}
 use Rattle.plan_sgs.proofs.TotalLemmas.{greatest_above, greatest_reached}
 use Rattle.plan_sgs.proofs.BoundedLemmas.{links_from}
 
--- x stands in the list, told entry by entry
+-- x is in the list, by recursion on the list
 abbrev pub Among : {X : Type 0} → List X → X → Type 0
 Among [] x = ⊥
 Among (y ∷ ys) x = (y ≡ x) ⊎ Among ys x
@@ -103,7 +104,7 @@ walk_in net (suc n) j others (inr m) =
     let tail = among_map_in (λ rest. step.0 ∷ rest) (walks_from net n step.0) others step.2 in
     subst (IsWalk net j) tail.2 (from_among net.arcs (j, step.0) (ends_in net.arcs j step.0 step.1), walk_in net n step.0 tail.0 tail.1)
 
--- each walk with at most so many arcs is listed
+-- each walk with at most n arcs is listed
 walk_there : (net : Net) (n j : ℕ) (others : List ℕ) → IsWalk net j others → length others ≤ n → Among (walks_from net n j) others
 walk_there net zero j [] walk short = inl refl
 walk_there net zero j (k ∷ others) walk short = absurd (omega (arith, short))
@@ -165,7 +166,7 @@ longest_is_greatest net sound = (
       let path = (tail (suc top.0) (omega arith, omega (arith, top.1))).0 in
       (suc top.0, path.0, path.1, path.2 ∙ sym top.2)
 
--- how many arcs can follow an activity, by its place
+-- the greatest number of arcs after an activity, by its index
 arcs_after : Net → ℕ → ℕ
 arcs_after net j = greatest_of (λ others. length others) (walks_from net (count_of net) j)
 

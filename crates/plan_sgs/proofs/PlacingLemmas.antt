@@ -1,4 +1,4 @@
--- One more activity is placed at its earliest start: what this keeps.
+-- Placement of one more activity at its earliest start, and the facts that it keeps.
 use Rattle.std.proofs.Common.{ℕ, max, true, cond, nat_eq, ◌≡◌, ◌≢◌, ◌+◌, ◌-◌, ◌≤◌, ◌<◌, ◌⊎◌, inl, inr, List, [], ◌∷◌, length, get_or, set, Option, Some, None, refl, sym, ◌∙◌, ap, subst, arith, get_or-set_same, get_or-set_other}
 use Rattle.std.specs.List.{All, fold}
 use Rattle.std.proofs.lemmas.List.{length-set, get_or-map}
@@ -10,7 +10,7 @@ use Rattle.plan_sgs.specs.Serial.{release, end_of, end_from, fits, earliest, IsE
 use Rattle.plan_sgs.proofs.TotalLemmas.{total_grows, total_changed}
 use Rattle.plan_sgs.proofs.AmountLemmas.{fits_at, fits_from, amount_ended, amount_before, amount_during, earliest_is}
 
--- what a link makes of the least start so far
+-- the least start so far, raised by a link
 abbrev pub later : Problem → List (Option ℕ) → ℕ → ℕ → Link → ℕ
 later p placed j m a = cond (nat_eq a.to j) (max m (end_of p placed a.from + a.lag)) m
 
@@ -38,8 +38,12 @@ fold_least p placed j u m [] low all = low
 fold_least p placed j u m (a ∷ links) low all =
     fold_least p placed j u (later p placed j m a) links
     (cond_both (nat_eq a.to j) (max m (end_of p placed a.from + a.lag)) m (λ x. x ≤ u)
-        (λ yes. omega (arith, low, All-head (λ b. b.to ≡ j → end_of p placed b.from + b.lag ≤ u) a links all
-        (eqb-true a.to j yes))) (λ no. low))
+    (λ yes. omega (
+      arith,
+      low,
+      All-head (λ b. b.to ≡ j → end_of p placed b.from + b.lag ≤ u) a links all
+          (eqb-true a.to j yes),
+    )) (λ no. low))
     (All-tail (λ b. b.to ≡ j → end_of p placed b.from + b.lag ≤ u) a links all)
 
 -- a release is no earlier than each predecessor's end and lag, and is the least such
@@ -49,7 +53,7 @@ release_above p placed j = fold_above p placed j 0 p.links
 pub release_least : (p : Problem) (placed : List (Option ℕ)) (j u : ℕ) → All (λ a. a.to ≡ j → end_of p placed a.from + a.lag ≤ u) p.links → release p placed j ≤ u
 release_least p placed j u all = fold_least p placed j u 0 p.links (omega arith) all
 
--- the end of what is placed
+-- the end of a placed activity
 pub end_of-placed : (p : Problem) (placed : List (Option ℕ)) (i s : ℕ) → get_or placed i None ≡ Some s → end_of p placed i ≡ s + duration p i
 end_of-placed p placed i s is = ap (end_from (duration p i)) is
 
@@ -63,10 +67,10 @@ usage_set p placed j t u k size inside open_place =
     (λ i below other. ap (amount_of p u k i) (sym (get_or-set_other placed j i (Some t) None other)))
     (let before : amount_of p u k j (get_or placed j None) ≡ 0 = ap (amount_of p u k j) open_place in
     let after : amount_of p u k j (get_or (set placed j (Some t)) j None) ≡ amount_of p u k j (Some t) =
-        ap (amount_of p u k j) (get_or-set_same placed j (Some t) None (omega (arith, size, inside))) in
+    ap (amount_of p u k j) (get_or-set_same placed j (Some t) None (omega (arith, size, inside))) in
     omega (arith, before, after))
 
--- what fits keeps the capacities
+-- placing an activity where it fits keeps the capacities
 pub keeps_set : (p : Problem) (placed : List (Option ℕ)) (j t : ℕ) → length placed ≡ count p → j < count p →
     get_or placed j None ≡ None → KeepsCapacities p placed → fits p placed j t ≡ true →
     KeepsCapacities p (set placed j (Some t))
@@ -87,8 +91,8 @@ keeps_set p placed j t size inside open_place keeps fit u k within = by_time (ca
 abbrev pub IsReady : Problem → List (Option ℕ) → ℕ → Type 0
 IsReady p placed j = All (λ a. a.to ≡ j → (s : ℕ) × (get_or placed a.from None ≡ Some s)) p.links
 
--- What is placed so far keeps capacities and links, predecessors are placed first, and in no feasible list does one of the placed
--- activities start earlier where the other placed ones stand as here.
+-- The placed activities keep capacities and links, predecessors are placed first, and in no feasible list
+-- does one of them start earlier if the others start as here.
 pub record IsPartial (p : Problem) (placed : List (Option ℕ)) : Type 0 where
   pub size : length placed ≡ count p
   pub capacities : KeepsCapacities p placed
@@ -96,7 +100,7 @@ pub record IsPartial (p : Problem) (placed : List (Option ℕ)) : Type 0 where
   pub before : All (λ a. (t : ℕ) → get_or placed a.to None ≡ Some t → (s : ℕ) × (get_or placed a.from None ≡ Some s)) p.links
   pub left : (j t : ℕ) → get_or placed j None ≡ Some t → (other : List ℕ) → IsFeasible p other → ((i s : ℕ) → i ≢ j → get_or placed i None ≡ Some s → get_or other i 0 ≡ s) → t ≤ get_or other j 0
 
--- what stands at a place after another was written
+-- the entry at an index after another one was written
 pub set_cases : (placed : List (Option ℕ)) (j t i s : ℕ) → j < length placed → get_or (set placed j (Some t)) i None ≡ Some s → ((i ≡ j) × (t ≡ s)) ⊎ ((i ≢ j) × (get_or placed i None ≡ Some s))
 set_cases placed j t i s inside is = elim (cases_eq i j) [
   | inl same ↦
@@ -105,13 +109,13 @@ set_cases placed j t i s inside is = elim (cases_eq i j) [
   | inr other ↦ inr (other, sym (get_or-set_other placed j i (Some t) None other) ∙ is)
 ]
 
--- no more than a limit is needed, where it isn't once something is placed
+-- the need is at most a limit if it is so whenever the activity is placed
 amount_least : (p : Problem) (t k i most : ℕ) (start : Option ℕ) → ((s : ℕ) → start ≡ Some s → amount_of p t k i (Some s) ≤ most) → amount_of p t k i start ≤ most
 amount_least p t k i most None limit = omega arith
 amount_least p t k i most (Some s) limit = limit s refl
 
--- Beside activities that need no more from then on than in a list of starts that keeps the capacities, one more fits where it starts in
--- that list.
+-- One more activity fits at its start in a list of starts that keeps the capacities, if the placed activities
+-- need no more from that instant on than in the list.
 pub fits_beside : (p : Problem) (placed : List (Option ℕ)) (other : List ℕ) (j : ℕ) →
     length placed ≡ count p → length other ≡ count p → j < count p → get_or placed j None ≡ None →
     KeepsCapacities p (all_placed other)
@@ -119,9 +123,9 @@ pub fits_beside : (p : Problem) (placed : List (Option ℕ)) (other : List ℕ) 
 unfolding usage
 fits_beside p placed other j size other_size inside open_place keeps less = fits_from p placed j (get_or other j 0) (λ x k low within.
     let more : usage p placed (get_or other j 0 + x) k + amount_of p (get_or other j 0 + x) k j
-        (Some (get_or other j 0)) ≡ usage p (set placed j (Some (get_or other j 0)))
-        (get_or other j 0 + x) k = usage_set p placed j (get_or other j 0)
-        (get_or other j 0 + x) k size inside open_place in
+    (Some (get_or other j 0)) ≡ usage p (set placed j (Some (get_or other j 0)))
+    (get_or other j 0 + x) k = usage_set p placed j (get_or other j 0)
+    (get_or other j 0 + x) k size inside open_place in
     let all : usage p (set placed j (Some (get_or other j 0))) (get_or other j 0 + x) k ≤ usage p (all_placed other) (get_or other j 0 + x) k = grows (get_or other j 0 + x) k (omega arith) in
     let runs : amount_of p (get_or other j 0 + x) k j (Some (get_or other j 0)) ≡ need p j k = amount_during p (get_or other j 0 + x) k j (get_or other j 0) (omega arith) (omega (arith, low)) in
     omega (arith, more, all, runs, keeps (get_or other j 0 + x) k within)) where
@@ -133,8 +137,8 @@ fits_beside p placed other j size other_size inside open_place keeps less = fits
         | inl same ↦
             let here : get_or (set placed j (Some (get_or other j 0))) i None ≡ Some (get_or other i 0) =
             subst (λ (x : ℕ). get_or (set placed j (Some (get_or other j 0))) x None ≡ Some
-                (get_or other x 0)) (sym same) (get_or-set_same placed j (Some (get_or other j 0)) None
-                (omega (arith, size, inside))) in
+            (get_or other x 0)) (sym same) (get_or-set_same placed j (Some (get_or other j 0)) None
+            (omega (arith, size, inside))) in
             let equal : amount_of p t k i (get_or (set placed j (Some (get_or other j 0))) i None) ≡ amount_of p t k i (Some (get_or other i 0)) = ap (amount_of p t k i) here in
             omega (arith, equal)
       ]
@@ -145,7 +149,8 @@ fits_beside p placed other j size other_size inside open_place keeps less = fits
           let equal : amount_of p t k i (get_or (all_placed other) i None) ≡ amount_of p t k i (Some (get_or other i 0)) = ap (amount_of p t k i) there in
           omega (arith, equal, each t k i late below))
 
--- a list of starts that keeps the links starts no activity before its release, where its predecessors are placed no later than there
+-- in a list of starts that keeps the links, no activity starts before its release, if its predecessors are
+-- placed no later than there
 pub release_beside : (p : Problem) (placed : List (Option ℕ)) (other : List ℕ) (j : ℕ) → All (λ a. get_or other a.from 0 + duration p a.from + a.lag ≤ get_or other a.to 0) p.links → IsReady p placed j
     → ((i s : ℕ) → get_or placed i None ≡ Some s → s ≤ get_or other i 0) → release p placed j ≤ get_or other j 0
 release_beside p placed other j keeps ready early = release_least p placed j (get_or other j 0) (λ k d within to.
@@ -155,7 +160,7 @@ release_beside p placed other j keeps ready early = release_least p placed j (ge
     let same : get_or other (get_or p.links k d).to 0 ≡ get_or other j 0 = ap (λ (x : ℕ). get_or other x 0) to in
     omega (arith, end_of-placed p placed (get_or p.links k d).from from.0 from.1, start, same, keeps k d within))
 
--- what one placement keeps
+-- the facts that one placement keeps
 pub partial_set : (p : Problem) (placed : List (Option ℕ)) (j : ℕ) → NeedsFit p → IsPartial p placed →
     j < count p → get_or placed j None ≡ None → IsReady p placed j →
     IsPartial p (set placed j (Some (earliest p placed j)))
@@ -172,7 +177,7 @@ partial_set p placed j fit partial inside open_place ready = record {
   within : j < length placed
   within = omega (arith, partial.size, inside)
 
-  -- what is placed isn't the activity that isn't
+  -- a placed activity differs from one that isn't placed
   apart : (i s : ℕ) → get_or placed i None ≡ Some s → i ≢ j
   apart i s is same = none-some s (sym open_place ∙ (ap (λ (x : ℕ). get_or placed x None) (sym same) ∙ is))
 

@@ -1,4 +1,5 @@
--- What the calls of a project's tree read: which activities may follow, whether all are placed, starts and the makespan.
+-- The results of the calls of a project's tree: the activities that may follow, the test for full words,
+-- starts and the makespan.
 use Rattle.std.proofs.Common.{ℕ, suc, Bool, true, false, cond, nat_eq, ◌≡◌, ◌+◌, ◌-◌, ◌≤◌, ◌<◌, List, [], ◌∷◌, ◌++◌, length, get_or, map, Option, Some, None, sym, ◌∙◌, ap, arith}
 use Rattle.std.specs.List.{Contains}
 use Rattle.std.proofs.lemmas.List.{append-nil, append_assoc, map-append, get_or_default}
@@ -51,8 +52,8 @@ pub makespan_is : (v : Standing) (placed : List (Option ℕ)) → TreeFacts v pl
 unfolding makespan_by is_full serial
 makespan_is v placed facts full =
     greatest_same (depth_of v.instance) (end_of (problem_of v.instance) (placed_by v.instance v.word))
-        (λ h. get_or (map start_or_zero (placed_by v.instance v.word)) h 0 + duration
-        (problem_of v.instance) h) (λ h below.
+    (λ h. get_or (map start_or_zero (placed_by v.instance v.word)) h 0 + duration
+    (problem_of v.instance) h) (λ h below.
     let member : is_member h (places v.word) ≡ true = all_below_at (depth_of v.instance) (λ j. is_member j (places v.word)) h full below in
     let start = taken_placed placed (places v.word) h facts.taken member in
     let there : get_or (placed_by v.instance v.word) h None ≡ Some start.0 = sym (ap (λ (xs : List (Option ℕ)). get_or xs h None) facts.placed_are) ∙ start.1 in
@@ -67,7 +68,7 @@ starts_are v placed facts = ap (map start_or_zero) facts.placed_are
 pub starts_end : (v : Standing) (placed : List (Option ℕ)) → TreeFacts v placed → AllEndBy (problem_of v.instance) (map start_or_zero placed) 6020000
 starts_end v placed facts = all_end (problem_of v.instance) placed 6020000 facts.size facts.ends (λ h. omega (arith, (bounded v.instance facts.instance).lasting h))
 
--- a word is full where it has as many turns as there are activities
+-- a word is full if it has as many turns as there are activities
 pub full_by : (v : Standing) (placed : List (Option ℕ)) (n m : ℕ) → TreeFacts v placed → n ≡ length v.word → m ≡ length placed → nat_eq n m ≡ is_full v.instance v.word
 full_by v placed n m facts word size =
     ap (λ (x : ℕ). nat_eq x m) word ∙ ap (λ (x : ℕ). nat_eq (length v.word) x) (size ∙ facts.size) ∙ full_exactly v.instance v.word facts.word

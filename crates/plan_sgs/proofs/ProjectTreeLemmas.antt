@@ -1,4 +1,4 @@
--- What a tree of a project keeps, and what its turns read and write.
+-- The data of the tree of a project, as its turns read and write them.
 use Rattle.std.proofs.Common.{ℕ, suc, max, ◌≡◌, ◌+◌, ◌-◌, ◌*◌, ◌≤◌, ◌<◌, List, get_or, take, sum, Some, refl, sym, ◌∙◌, ap, arith}
 use Rattle.std.specs.List.{slice_get}
 use Rattle.std.proofs.lemmas.List.{take_all}
@@ -35,7 +35,7 @@ tail_read net tails h sound are inside =
     let high = defined.1 (get_or tails (suc h - 1) 0) read.0 in
     omega (arith, low, high, ap (λ (x : ℕ). get_or tails x 0) place)
 
--- and none is long
+-- and all are bounded
 pub tail_short : (net : Net) (j : ℕ) → IsSound net → IsActivity net j → tail_of net j ≤ 6010000
 unfolding TailsAreGreatest
 tail_short net j sound activity =

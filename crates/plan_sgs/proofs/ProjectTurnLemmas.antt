@@ -1,4 +1,4 @@
--- What the tree of a project keeps gives what its calls read, and each push and pop keeps it.
+-- The invariant of the tree of a project gives the results of its calls, and each push and pop keeps it.
 use Rattle.std.proofs.Common.{ℕ, zero, suc, max, true, ◌≡◌, ◌≢◌, ◌+◌, ◌-◌, ◌≤◌, ◌<◌, inl, inr, List, [], ◌∷◌, ◌++◌, length, get_or, set, take, Option, Some, None, refl, sym, ◌∙◌, ap, subst, arith, length-append, get_or-set_same, get_or-set_other}
 use Rattle.std.specs.List.{Contains, slice_get}
 use Rattle.std.proofs.lemmas.Bool.{cases_eq}
@@ -31,7 +31,7 @@ use Rattle.plan_sgs.proofs.WordBoundLemmas.{word_partial, placed_append}
 use Rattle.plan_sgs.proofs.ProjectTreeLemmas.{tail_read, tail_short}
 use Rattle.plan_sgs.proofs.ProjectWaitLemmas.{waits_push, waits_pop}
 
--- by when what is placed in turn has ended
+-- the instant by which activities that are placed in turn have ended
 ends_after : (p : Problem) (js taken : List ℕ) (placed : List (Option ℕ)) → IsBounded p → length placed ≡ count p → takes_in_turn p taken js ≡ true → EndsBy p placed (bound_of p taken)
     → EndsBy p (serial_from p placed js) (bound_of p (taken ++ js))
 ends_after p [] taken placed limits size turns ends h s is = let same : bound_of p (taken ++ []) ≡ bound_of p taken = ap (bound_of p) (append-nil taken) in omega (arith, same, ends h s is)
@@ -44,18 +44,18 @@ ends_after p (j ∷ js) taken placed limits size turns ends h s is =
     let same : bound_of p ((taken ++ j ∷ []) ++ js) ≡ bound_of p (taken ++ j ∷ js) = ap (bound_of p) (append_assoc taken (j ∷ []) js) in
     omega (arith, rest, same)
 
--- what a word places ends in time
+-- the activities of a word end in time
 pub word_ends : (i : Planned) (w : List ℕ) → IsInstance i → IsWord i w → EndsBy (problem_of i) (placed_by i w) 6020000
 word_ends i w instance word h s is =
     let limits = bounded i instance in
     let partial = word_partial i [] instance tt in
     let all = ends_after (problem_of i) (places w) [] (unplaced (depth_of i)) limits partial.0.size
-        (word_turns i [] w word).turns (λ g r there. absurd
-        (none-some r (sym (unplaced_at (depth_of i) g) ∙ there))) h s is in
+    (word_turns i [] w word).turns (λ g r there. absurd
+    (none-some r (sym (unplaced_at (depth_of i) g) ∙ there))) h s is in
     let most : bound_of (problem_of i) (places w) ≤ 6020000 = bound_within (problem_of i) (places w) limits (omega (arith, words_most i w word, length-places w)) in
     omega (arith, all, most)
 
--- what a tree's calls may count on
+-- facts for the calls of a tree
 pub record TreeFacts (v : Standing) (placed : List (Option ℕ)) : Type 0 where
   pub instance : IsInstance v.instance
   pub word : IsWord v.instance v.word
@@ -108,7 +108,7 @@ no_turn i turns ys v is same none = ap (standing i) (sym (empty turns (sym (none
       let place : length (t ∷ ts) - 1 < length (t ∷ ts) = omega arith in
       absurd (none-some (get_or (t ∷ ts) (length (t ∷ ts) - 1) t) (sym e ∙ slice_get-get_or (t ∷ ts) (length (t ∷ ts) - 1) t place))
 
--- the greatest of nothing
+-- the greatest of no numbers is 0
 none_greatest : (n : ℕ) (f : ℕ → ℕ) → ((h : ℕ) → f h ≡ 0) → 0 ≡ greatest_below n f
 none_greatest n f none = let low : greatest_below n f ≤ 0 = greatest_least n f 0 (λ h below. omega (arith, none h)) in omega (arith, low)
 
@@ -127,7 +127,7 @@ pub end_limit : (v : Standing) (placed : List (Option ℕ)) → TreeFacts v plac
 end_limit v placed facts = greatest_least (depth_of v.instance) (end_of (problem_of v.instance) (placed_by v.instance v.word)) 6020000 (λ h below.
     end_of-limit (problem_of v.instance) (placed_by v.instance v.word) h 6020000 (word_ends v.instance v.word facts.instance facts.word))
 
--- what a letter that may follow may count on
+-- facts for a letter that may follow
 pub record CanPlace (v : Standing) (placed : List (Option ℕ)) (a : ℕ) : Type 0 where
   pub activity : IsActivity v.instance.project.network a
   pub inside : a - 1 < length placed
@@ -146,11 +146,11 @@ can_place v placed a facts may =
 pub may_inside : (i : Planned) (w : List ℕ) (v : Standing) (a : ℕ) → standing i w ≡ v → Contains (letters_after v.instance v.word) a → Contains (letters_after i w) a
 may_inside i w v a is = subst (λ (x : Standing). Contains (letters_after x.instance x.word) a) (sym is)
 
--- what one letter more places
+-- the placed activities with one more letter
 pub placed_push : (i : Planned) (w : List ℕ) (a : ℕ) → placed_by i (w ++ a ∷ []) ≡ set (placed_by i w) (a - 1) (Some (earliest (problem_of i) (placed_by i w) (a - 1)))
 placed_push i w a = placed_append i w (a ∷ [])
 
--- the greatest where one number rises
+-- the greatest value if one value rises
 greatest_changed : (n : ℕ) (f g : ℕ → ℕ) (j : ℕ) → j < n → f j ≤ g j → ((h : ℕ) → h ≢ j → f h ≡ g h) → max (greatest_below n f) (g j) ≡ greatest_below n g
 greatest_changed n f g j inside rise rest =
     let low : greatest_below n f ≤ greatest_below n g = greatest_least n f (greatest_below n g) (λ h below. elim (cases_eq h j) [
@@ -163,15 +163,15 @@ greatest_changed n f g j inside rise rest =
     ]) in
     omega (arith, low, high, greatest_above n g j inside)
 
--- the same where one more is placed
+-- the same if one more activity is placed
 greatest_placed : (n : ℕ) (length_of : ℕ → ℕ) (placed : List (Option ℕ)) (j s : ℕ) → j < n → j < length placed → get_or placed j None ≡ None
     → max (greatest_below n (λ h. end_from (length_of h) (get_or placed h None))) (s + length_of j) ≡ greatest_below n (λ h. end_from (length_of h) (get_or (set placed j (Some s)) h None))
 greatest_placed n length_of placed j s inside within none =
     let here : end_from (length_of j) (get_or (set placed j (Some s)) j None) ≡ s + length_of j = ap (end_from (length_of j)) (get_or-set_same placed j (Some s) None within) in
     let before : end_from (length_of j) (get_or placed j None) ≡ 0 = ap (end_from (length_of j)) none in
     let all = greatest_changed n (λ h. end_from (length_of h) (get_or placed h None))
-        (λ h. end_from (length_of h) (get_or (set placed j (Some s)) h None)) j inside
-        (omega (arith, here, before)) (λ h other.
+    (λ h. end_from (length_of h) (get_or (set placed j (Some s)) h None)) j inside
+    (omega (arith, here, before)) (λ h other.
     ap (end_from (length_of h)) (sym (get_or-set_other placed j h (Some s) None other))) in
     omega (arith, all, here)
 
@@ -180,12 +180,24 @@ pub next_turn : (v : Standing) (placed : List (Option ℕ)) (a start end reach :
     → end ≡ max (end_by v.instance v.word) (start + duration (problem_of v.instance) (a - 1)) → reach ≡ max (reach_by v.instance v.word) (start + tail_of v.instance.project.network (suc (a - 1)))
     → IsTurn v.instance (v.word ++ a ∷ []) (record { letter = a; end = end; reach = reach })
 next_turn v placed a start end reach facts can is ends reaches = record {
-  latest = omega (arith, ends, before_end, greatest_placed (depth_of v.instance)
-      (duration (problem_of v.instance)) placed (a - 1) start
-      (omega (arith, can.inside, facts.size)) can.inside can.none, after_end);
-  farthest = omega (arith, reaches, before_reach, greatest_placed (depth_of v.instance)
-      (λ h. tail_of v.instance.project.network (suc h)) placed (a - 1) start
-      (omega (arith, can.inside, facts.size)) can.inside can.none, after_reach);
+  latest = omega (
+    arith,
+    ends,
+    before_end,
+    greatest_placed (depth_of v.instance)
+        (duration (problem_of v.instance)) placed (a - 1) start
+        (omega (arith, can.inside, facts.size)) can.inside can.none,
+    after_end,
+  );
+  farthest = omega (
+    arith,
+    reaches,
+    before_reach,
+    greatest_placed (depth_of v.instance)
+        (λ h. tail_of v.instance.project.network (suc h)) placed (a - 1) start
+        (omega (arith, can.inside, facts.size)) can.inside can.none,
+    after_reach,
+  );
 } where
   after : set placed (a - 1) (Some start) ≡ placed_by v.instance (v.word ++ a ∷ [])
   after = ap (λ (t : ℕ). set placed (a - 1) (Some t)) is
@@ -210,9 +222,12 @@ word_of-push turns turn = map_push (λ (t : Turn). t.letter) turns turn
 
 turns_push : (i : Planned) (u : List ℕ) (turns : List Turn) (turn : Turn) → AreTurns i u turns → IsTurn i (u ++ word_of turns ++ turn.letter ∷ []) turn → AreTurns i u (turns ++ turn ∷ [])
 turns_push i u [] turn are is = (subst (λ (xs : List ℕ). IsTurn i (xs ++ turn.letter ∷ []) turn) (append-nil u) is, tt)
-turns_push i u (t ∷ ts) turn are is = (are.0, turns_push i (u ++ t.letter ∷ []) ts turn are.1
-    (subst (λ (xs : List ℕ). IsTurn i (xs ++ turn.letter ∷ []) turn)
-    (sym (append_assoc u (t.letter ∷ []) (word_of ts))) is))
+turns_push i u (t ∷ ts) turn are is = (
+  are.0,
+  turns_push i (u ++ t.letter ∷ []) ts turn are.1
+      (subst (λ (xs : List ℕ). IsTurn i (xs ++ turn.letter ∷ []) turn)
+      (sym (append_assoc u (t.letter ∷ []) (word_of ts))) is),
+)
 
 turns_front : (i : Planned) (u : List ℕ) (turns : List Turn) (turn : Turn) → AreTurns i u (turns ++ turn ∷ []) → AreTurns i u turns
 turns_front i u [] turn are = tt
@@ -227,7 +242,7 @@ profiles_push i w a profiles are made = record {
   held = λ k profile within is. subst (λ (xs : List ℕ). Holds profile (problem_of i) (placed_by i xs)) (sym (take-append-le k w (a ∷ []) (omega (arith, within, made)))) (are.held k profile within is);
 }
 
--- one letter less leaves those that there are room for
+-- with one letter less, the profiles up to the shorter word remain
 profiles_pop : (i : Planned) (w : List ℕ) (a n : ℕ) (profiles after : List Profile) → AreProfiles i (w ++ a ∷ []) profiles → n ≡ length w + 1 → after ≡ take n profiles → AreProfiles i w after
 profiles_pop i w a n profiles after are size cut = subst (AreProfiles i w) (sym cut) (record {
   some = omega (arith, long, size);
@@ -261,7 +276,7 @@ tree_push i tails least placed profiles made turns after turn a start waits lowe
   word : word_of after ≡ word_of turns ++ a ∷ []
   word = ap (λ (xs : List Turn). word_of xs) all ∙ word_of-push turns turn ∙ ap (λ (b : ℕ). word_of turns ++ b ∷ []) letter
 
--- what the last letter of a word may count on, and the word before it
+-- facts of the last letter of a word, and of the word before it
 pub record IsLast (i : Planned) (u : List ℕ) (placed : List (Option ℕ)) (a : ℕ) : Type 0 where
   pub activity : IsActivity i.project.network a
   pub inside : a - 1 < length placed
@@ -301,7 +316,7 @@ last_is i w u placed a instance is_word are word = record {
   undone = ap (λ (xs : List (Option ℕ)). set xs (a - 1) None) pushed ∙ set-set (placed_by i u) (a - 1) (Some (earliest (problem_of i) (placed_by i u) (a - 1))) None
       ∙ ap (λ (o : Option ℕ). set (placed_by i u) (a - 1) o) (sym none) ∙ set-get_or (placed_by i u) (a - 1) None
 
--- what a pop may count on
+-- facts for a pop
 pub can_pop : (i : Planned) (tails : List ℕ) (least : ℕ) (placed : List (Option ℕ)) (profiles : List Profile) (turns whole : List Turn) (turn : Turn)
     → {waits : List ℕ} → IsTree i tails least placed waits profiles whole → whole ≡ turns ++ turn ∷ [] → IsLast i (word_of turns) placed turn.letter
 can_pop i tails least placed profiles turns whole turn tree all =
@@ -349,7 +364,7 @@ pub held_here : (i : Planned) (w : List ℕ) (at : ℕ) (profiles : List Profile
 held_here i w at profiles profile are size within is =
     subst (λ (xs : List ℕ). Holds profile (problem_of i) (placed_by i xs)) (take_all at w (omega (arith, size))) (are.held at profile within is)
 
--- what stands behind a word where its own profile isn't there yet
+-- the values for a word whose own profile is missing
 abbrev pub no_turn_yet : Turn
 no_turn_yet = record { letter = 0; end = 0; reach = 0 }
 
@@ -403,8 +418,8 @@ profiles_more i w profiles after made are size held more = subst (AreProfiles i 
     | inl last ↦
         let same : profile ≡ made = is ∙ get_or_push profiles made profile k (sym last) in
         subst (λ (x : Profile). Holds x (problem_of i) (placed_by i (take k w))) (sym same)
-            (subst (λ (xs : List ℕ). Holds made (problem_of i) (placed_by i xs))
-            (sym (take_all k w (omega (arith, last, size)))) held)
+        (subst (λ (xs : List ℕ). Holds made (problem_of i) (placed_by i xs))
+        (sym (take_all k w (omega (arith, last, size)))) held)
     | inr other ↦
         let before : k < length profiles = omega (arith, within, other, length_push profiles made) in
         are.held k profile before (is ∙ get_or_append_left profiles (made ∷ []) profile k before)

@@ -1,4 +1,5 @@
--- For how many predecessors the activities wait beside the word of a project's tree, and with one letter more or less.
+-- The number of predecessors that activities wait for at the word of a project's tree, and with one letter
+-- more or less.
 use Rattle.std.proofs.Common.{ℕ, Bool, not, nat_eq, ◌&&◌, ◌≡◌, ◌+◌, ◌-◌, ◌≤◌, ◌<◌, List, [], ◌∷◌, ◌++◌, length, get_or, sym, ◌∙◌, ap, arith}
 use Rattle.std.specs.List.{Contains}
 use Rattle.std.proofs.lemmas.List.{length-map, map_push}
@@ -23,7 +24,7 @@ waits_first i waits degrees = record {
   each = λ h inside. degrees.each h inside ∙ sym (open_first i h);
 }
 
--- what one letter more leaves
+-- the counts after one more letter
 open_letter : (i : Planned) (w : List ℕ) (a h : ℕ) → Contains (letters_after i w) a
     → open_links (problem_of i) (places (w ++ a ∷ [])) h + arcs_between i.project.network.arcs (a - 1) h ≡ open_links (problem_of i) (places w) h
 open_letter i w a h may =
@@ -45,20 +46,20 @@ waits_pop i w a waits raised are may lowers = record {
   each = λ h inside. omega (arith, lowers.each h (omega (arith, inside, are.size, lowers.size)), are.each h inside, open_letter i w a h may);
 }
 
--- the successors of a letter wait for one at least
+-- each successor of a letter waits for at least one
 pub letter_waits : (i : Planned) (w : List ℕ) (a : ℕ) (waits : List ℕ) → IsSound i.project.network → AreWaits i w waits → Contains (letters_after i w) a
     → (h : ℕ) → IsArc i.project.network a h → 1 ≤ get_or waits (h - 1) 0
 letter_waits i w a waits sound are may h arc =
     let ends = arc_ends i.project.network a h sound.limits arc in
     omega (arith, are.each (h - 1) (omega (arith, ends.1)), open_letter i w a (h - 1) may, between_some i.project.network a h arc)
 
--- none waits for more than there are arcs
+-- none waits for more than the number of arcs
 pub waits_limit : (i : Planned) (w waits : List ℕ) → AreWaits i w waits → (h : ℕ) → h < length waits → get_or waits h 0 ≤ length i.project.network.arcs
 unfolding problem_of
 waits_limit i w waits are h inside =
     omega (arith, are.each h (omega (arith, inside, are.size)), count_by-le-length (is_open (places w) h) (problem_of i).links, length-map i.project.network.arcs (link_of i.project.network))
 
--- what isn't placed and waits for none is eligible, and nothing else
+-- exactly the activities that aren't placed and wait for none are eligible
 pub eligible_by : (i : Planned) (w waits : List ℕ) (h : ℕ) (taken : Bool) → AreWaits i w waits → h < count_of i.project.network → taken ≡ is_member h (places w)
     → (not taken && nat_eq (get_or waits h 0) 0) ≡ is_eligible (problem_of i) (places w) h
 eligible_by i w waits h taken are inside is =

@@ -1,4 +1,4 @@
--- Queues of activities by their keys: what comes in, and what comes out first.
+-- Queues of activities by their keys: what is added, and the entry that comes out first.
 use Rattle.std.proofs.Common.{ℕ, Bool, true, false, cond, nat_eq, nat_lt, ◌&&◌, ◌≡◌, ◌+◌, ◌-◌, ◌≤◌, ◌<◌, ◌⊎◌, inl, inr, List, [], ◌∷◌, length, get_or, set, take, refl, sym, ◌∙◌, ap, subst, arith, get_or-set_same, get_or-set_other}
 use Rattle.std.specs.List.{All}
 use Rattle.std.specs.List.Sorted.{IsPermutation, IsStrictlyIncreasing}
@@ -18,7 +18,7 @@ use Rattle.plan_net.specs.Limits.{IsWithinLimits}
 use Rattle.plan_sgs.specs.Eligibility.{Entry, by_key, IsKeyed, IsQueue, times_in, QueuesFree, Joins, Lowers}
 use Rattle.plan_sgs.proofs.CountLemmas.{tally, times_in_row, row_once, row_not_before, row_as_arcs}
 
--- one more comes into a queue
+-- one entry is added to a queue
 pub queue_pushed : (keys : List ℕ) (e : Entry) (old new : List Entry) → IsQueue keys old → IsKeyed keys e → IsPermutation (e ∷ old) new → KeepsHeap by_key old new → IsQueue keys new
 queue_pushed keys e old new queue keyed same kept = record {
   ordered = kept queue.ordered;
@@ -28,7 +28,7 @@ queue_pushed keys e old new queue keyed same kept = record {
 pub times_pushed : (e : Entry) (old new : List Entry) → IsPermutation (e ∷ old) new → (h : ℕ) → times_in new h ≡ times_in old h + tally (nat_eq (e.0.1 - 1) h)
 times_pushed e old new same h = omega (arith, sum_by_pushed (λ (x : Entry). tally (nat_eq (x.0.1 - 1) h)) e old new same)
 
--- one goes out of a queue
+-- one entry is removed from a queue
 pub queue_popped : (keys : List ℕ) (e : Entry) (old new : List Entry) → IsQueue keys old → IsPermutation old (e ∷ new) → PopsGreatest by_key old e new → IsQueue keys new
 queue_popped keys e old new queue same pops = record {
   ordered = (pops queue.ordered).0;
@@ -41,7 +41,7 @@ popped_keyed keys e old new queue same = All-permutation (IsKeyed keys) old (e �
 pub times_popped : (e : Entry) (old new : List Entry) → IsPermutation old (e ∷ new) → (h : ℕ) → times_in new h + tally (nat_eq (e.0.1 - 1) h) ≡ times_in old h
 times_popped e old new same h = sum_by_popped (λ (x : Entry). tally (nat_eq (x.0.1 - 1) h)) e old new same
 
--- of the first n activities those that wait for none stand in the queue once, and no others
+-- exactly those of the first n activities that wait for none are in the queue, each once
 pub record AreQueued (keys waits : List ℕ) (n : ℕ) (entries : List Entry) : Type 0 where
   pub queue : IsQueue keys entries
   pub free : (h : ℕ) → times_in entries h ≡ tally (nat_lt h n && nat_eq (get_or waits h 0) 0)
@@ -73,7 +73,7 @@ queued_skip keys waits n entries are some = record {
     | inr other ↦ ap tally (and_left (nat_eq n h) (nat_eq (get_or waits h 0) 0) (ne_eqb n h other))
   ]
 
--- the next activity waits for none, and comes in
+-- the next activity waits for none, and is queued
 pub queued_push : (keys waits : List ℕ) (n : ℕ) (e : Entry) (old new : List Entry) →
     AreQueued keys waits n old → get_or waits n 0 ≡ 0 → IsKeyed keys e → e.0.1 - 1 ≡ n →
     IsPermutation (e ∷ old) new → KeepsHeap by_key old new → AreQueued keys waits (n + 1) new
@@ -87,11 +87,11 @@ queued_push keys waits n e old new are none keyed place same kept = record {
     | inr other ↦ rw (ne_eqb n h other) refl
   ]
 
--- once all were looked at
+-- once all were tested
 pub queued_all : (keys waits : List ℕ) (n : ℕ) (entries : List Entry) → AreQueued keys waits n entries → length waits ≤ n → QueuesFree waits entries
 queued_all keys waits n entries are all h below = are.free h ∙ ap (λ (b : Bool). tally (b && nat_eq (get_or waits h 0) 0)) (lt-ltb h n (omega (arith, below, all)))
 
--- what two comparisons say, the first before the second
+-- the order by two comparisons, the first before the second
 not_less : (o r : Ordering) (a b c d : ℕ) → MatchOrdering o (a < b) (a ≡ b) (b < a) → MatchOrdering r (c < d) (c ≡ d) (d < c) → is_lt (ordering_then o r) ≡ false → (b < a) ⊎ ((b ≡ a) × (d ≤ c))
 not_less Less r a b c d one two is = absurd (true≢false is)
 not_less Equal Less a b c d one two is = absurd (true≢false is)
@@ -99,7 +99,7 @@ not_less Equal Equal a b c d one two is = inr (sym one, omega (arith, two))
 not_less Equal Greater a b c d one two is = inr (sym one, omega (arith, two))
 not_less Greater r a b c d one two is = inl one
 
--- what goes out has the least key, and of those with that key the least number
+-- the entry that comes out has the least key, and among those with that key the least number
 pub popped_first : (keys : List ℕ) (e : Entry) (old new : List Entry) → IsQueue keys old →
     PopsGreatest by_key old e new → (k : ℕ) → k < length old →
     (e.0.0 < (get_or old k e).0.0) ⊎ ((e.0.0 ≡ (get_or old k e).0.0) × (e.0.1 ≤ (get_or old k e).0.1))
@@ -108,7 +108,7 @@ popped_first keys e old new queue pops k within =
     let least : is_lt (by_key e x) ≡ false = All-get_or (λ (y : Entry). is_lt (by_key e y) ≡ false) old k e within (pops queue.ordered).1 in
     not_less (nat_cmp x.0.0 e.0.0) (nat_cmp x.0.1 e.0.1) x.0.0 e.0.0 x.0.1 e.0.1 (ranked x.0.0 e.0.0 (nat_cmp x.0.0 e.0.0) refl) (ranked x.0.1 e.0.1 (nat_cmp x.0.1 e.0.1) refl) least
 
--- what activities wait for, once it was lowered for the first k of a row
+-- the counts of predecessors after they were lowered for the first k entries of a row
 pub record AreLowered (row : List ℕ) (k : ℕ) (old now : List ℕ) : Type 0 where
   pub size : length now ≡ length old
   pub each : (h : ℕ) → h < length old → get_or now h 0 + times_in_row (take k row) h ≡ get_or old h 0
@@ -129,8 +129,8 @@ lowered_more row k old now within inside waits lowered = record {
       elim (cases_eq i h) [
         | inl same ↦
             let here : get_or (set now i (get_or now i 0 - 1)) h 0 ≡ get_or now i 0 - 1 =
-                subst (λ (m : ℕ). get_or (set now i (get_or now i 0 - 1)) m 0 ≡ get_or now i 0 - 1) same
-                (get_or-set_same now i (get_or now i 0 - 1) 0 (omega (arith, inside, lowered.size))) in
+            subst (λ (m : ℕ). get_or (set now i (get_or now i 0 - 1)) m 0 ≡ get_or now i 0 - 1) same
+            (get_or-set_same now i (get_or now i 0 - 1) 0 (omega (arith, inside, lowered.size))) in
             let one : tally (nat_eq i h) ≡ 1 = ap tally (eq-eqb i h same) in
             omega (arith, here, more, one, waits, lowered.each h below, ap (λ (m : ℕ). get_or now m 0) same)
         | inr other ↦
@@ -141,7 +141,7 @@ lowered_more row k old now within inside waits lowered = record {
   i : ℕ
   i = get_or row k 0 - 1
 
--- the next of the row has what it had, and is raised next
+-- the next of the row is unchanged, and is raised next
 pub raised_more : (row : List ℕ) (k : ℕ) (old now : List ℕ) → IsStrictlyIncreasing row →
     ((m : ℕ) → m < length row → 1 ≤ get_or row m 0) → k < length row → get_or row k 0 - 1 < length old →
     AreLowered row k now old
@@ -156,8 +156,8 @@ raised_more row k old now rising from_one within inside raised = (
         elim (cases_eq i h) [
           | inl same ↦
               let here : get_or (set now i (get_or now i 0 + 1)) h 0 ≡ get_or now i 0 + 1 =
-                  subst (λ (m : ℕ). get_or (set now i (get_or now i 0 + 1)) m 0 ≡ get_or now i 0 + 1) same
-                  (get_or-set_same now i (get_or now i 0 + 1) 0 inside') in
+              subst (λ (m : ℕ). get_or (set now i (get_or now i 0 + 1)) m 0 ≡ get_or now i 0 + 1) same
+              (get_or-set_same now i (get_or now i 0 + 1) 0 inside') in
               let one : tally (nat_eq i h) ≡ 1 = ap tally (eq-eqb i h same) in
               omega (arith, here, more, one, before, ap (λ (m : ℕ). get_or now m 0) same)
           | inr other ↦
@@ -193,7 +193,7 @@ one_more true false n = refl
 one_more false true n = refl
 one_more false false n = refl
 
--- the next of the row comes into the queue if it waits for none
+-- the next of the row is queued if it waits for none
 joining_more : (row : List ℕ) (k : ℕ) (now keys : List ℕ) (first before after : List Entry) → k < length row → AreJoining row k now keys first before → IsQueue keys after
     → ((h : ℕ) → times_in after h ≡ times_in before h + tally (nat_eq (get_or row k 0 - 1) h && nat_eq (get_or now (get_or row k 0 - 1) 0) 0)) → AreJoining row (k + 1) now keys first after
 joining_more row k now keys first before after within joining queue comes = record {
@@ -220,7 +220,7 @@ and_true : (a b : Bool) → b ≡ true → (a && b) ≡ a
 and_true true b is = is
 and_true false b is = refl
 
--- the next waits for none, and comes into the queue
+-- the next waits for none, and is queued
 pub joining_push : (row : List ℕ) (k : ℕ) (now keys : List ℕ) (first before after : List Entry) (e : Entry) →
     k < length row → AreJoining row k now keys first before → get_or now (get_or row k 0 - 1) 0 ≡ 0 →
     IsKeyed keys e → e.0.1 ≡ get_or row k 0
@@ -245,7 +245,7 @@ joining_skip row k now keys first before within joining some = joining_more row 
     let none : tally (nat_eq i h && nat_eq (get_or now i 0) 0) ≡ 0 = ap tally (and_right (nat_eq i h) (nat_eq (get_or now i 0) 0) (ne_eqb (get_or now i 0) 0 some)) in
     omega (arith, none))
 
--- once the whole row was looked at, those have come in that wait for none now and did for some before
+-- once the whole row was tested, those are queued that wait for none now and did for some before
 pub joined_all : (net : Net) (j : ℕ) (row : List ℕ) (k : ℕ) (old now keys : List ℕ)
     (first entries : List Entry) → IsWithinLimits net → IsActivity net j → ListsRising (IsArc net j) row →
     ((m : ℕ) → m < length row → IsActivity net (get_or row m 0)) → length row ≤ k
@@ -267,19 +267,22 @@ joined_all net j row k old now keys first entries limits activity listed activit
           let came : times_in entries h ≡ times_in first h + 0 =
           joining.free h ∙ ap (λ (b : Bool). times_in first h + cond b (times_in_row (take k row) h) 0) (ne_eqb (get_or now h 0) 0 some) in
           let none : tally (nat_lt 0 (get_or old h 0) && nat_eq (get_or now h 0) 0) ≡ 0 =
-              ap tally (and_right (nat_lt 0 (get_or old h 0)) (nat_eq (get_or now h 0) 0)
-              (ne_eqb (get_or now h 0) 0 some)) in
+          ap tally (and_right (nat_lt 0 (get_or old h 0)) (nat_eq (get_or now h 0) 0)
+          (ne_eqb (get_or now h 0) 0 some)) in
           omega (arith, came, none)
     ]
 
--- the next of the successors is an activity, and waits for one at least
+-- the next of the successors is an activity, and waits for at least one
 pub next_known : (net : Net) (j : ℕ) (row : List ℕ) (k : ℕ) (old now : List ℕ) → length old ≡ count_of net →
     ListsRising (IsArc net j) row → ((m : ℕ) → m < length row → IsActivity net (get_or row m 0)) →
     ((h : ℕ) → IsArc net j h → 1 ≤ get_or old (h - 1) 0) → k < length row
     → AreLowered row k old now → IsActivity net (get_or row k 0) × (get_or row k 0 - 1 < length old) × (1 ≤ get_or now (get_or row k 0 - 1) 0)
-next_known net j row k old now size listed activities waiting within lowered =
-    (activities k within, inside, next_waits row k old now listed.rising
-    (λ m low. (activities m low).0) within inside lowered waits) where
+next_known net j row k old now size listed activities waiting within lowered = (
+  activities k within,
+  inside,
+  next_waits row k old now listed.rising
+      (λ m low. (activities m low).0) within inside lowered waits,
+) where
   inside : get_or row k 0 - 1 < length old
   inside = omega (arith, activities k within, size)
 

@@ -1,4 +1,4 @@
--- The list of a rule is an order of all activities that has each after its predecessors.
+-- The list of a rule is an activity list.
 use Rattle.std.proofs.Common.{ℕ, zero, suc, Bool, true, false, cond, not, nat_eq, nat_lt, ◌||◌, ◌≡◌, ◌+◌, ◌≤◌, ◌<◌, ◌⊎◌, inl, inr, List, [], ◌∷◌, ◌++◌, length, get_or, refl, sym, ◌∙◌, ap, subst, arith}
 use Rattle.std.specs.List.{All, list_all, fold, AllByRecursion}
 use Rattle.std.proofs.lemmas.List.{append-nil, append_assoc}
@@ -23,12 +23,12 @@ fold-push : (key : ℕ → ℕ) (b : ℕ) (js : List ℕ) (x : ℕ) → fold (le
 fold-push key b [] x = refl
 fold-push key b (j ∷ js) x = fold-push key (lesser key b j) js x
 
--- what is chosen from a list with one more at its end
+-- the choice from a list with one more entry at the end
 least_key-push : (key : ℕ → ℕ) (other : ℕ) (js : List ℕ) (x : ℕ) → 0 < length js → least_key key other (js ++ x ∷ []) ≡ lesser key (least_key key other js) x
 least_key-push key other [] x some = absurd (omega (arith, some))
 least_key-push key other (j ∷ js) x some = fold-push key j js x
 
--- there is no eligible activity below n, or one is chosen that comes first of all
+-- there is no eligible activity below n, or the first of all is chosen
 abbrev pub IsChosenBelow : Problem → (ℕ → ℕ) → List ℕ → ℕ → ℕ → Type 0
 IsChosenBelow p key taken other n =
     ((eligible p taken n ≡ []) × ((h : ℕ) → h < n → is_eligible p taken h ≡ true → ⊥))
@@ -81,11 +81,13 @@ chosen_first p key taken other n is none misses = inr (
 chosen_more : (p : Problem) (key : ℕ → ℕ) (taken : List ℕ) (other n : ℕ) → is_eligible p taken n ≡ true →
     0 < length (eligible p taken n) → IsFirstBelow p key taken n (least_key key other (eligible p taken n)) →
     IsChosenBelow p key taken other (suc n)
-chosen_more p key taken other n is some before = inr
-    (let long : length (eligible p taken (suc n)) ≡ length (eligible p taken n ++ n ∷ []) =
-    ap (λ (xs : List ℕ). length xs) pushed in
-    omega (arith, long, more (eligible p taken n)), subst (IsFirstBelow p key taken (suc n)) (sym chosen)
-    (by_key (cases_lt (key n) (key (least_key key other (eligible p taken n)))))) where
+chosen_more p key taken other n is some before = inr (
+  let long : length (eligible p taken (suc n)) ≡ length (eligible p taken n ++ n ∷ []) =
+      ap (λ (xs : List ℕ). length xs) pushed in
+      omega (arith, long, more (eligible p taken n)),
+  subst (IsFirstBelow p key taken (suc n)) (sym chosen)
+      (by_key (cases_lt (key n) (key (least_key key other (eligible p taken n))))),
+) where
   pushed : eligible p taken (suc n) ≡ eligible p taken n ++ n ∷ []
   pushed = ap (λ (b : Bool). eligible p taken n ++ cond b (n ∷ []) []) is
 
@@ -103,30 +105,30 @@ chosen_more p key taken other n is some before = inr
       (sym (cond-true (nat_lt (key n) (key (least_key key other (eligible p taken n)))) n
       (least_key key other (eligible p taken n)) (lt-ltb (key n)
       (key (least_key key other (eligible p taken n))) less))) (record {
-    inside = omega arith;
-    eligible = is;
-    first = λ h below passes. elim (cases_eq h n) [
-      | inl here ↦ inr (ap key (sym here), omega (arith, here))
-      | inr apart ↦ elim (before.first h (omega (arith, below, apart)) passes) [
-        | inl up ↦ inl (omega (arith, less, up))
-        | inr level ↦ inl (omega (arith, less, level.0))
-      ]
-    ];
-  })
+        inside = omega arith;
+        eligible = is;
+        first = λ h below passes. elim (cases_eq h n) [
+          | inl here ↦ inr (ap key (sym here), omega (arith, here))
+          | inr apart ↦ elim (before.first h (omega (arith, below, apart)) passes) [
+            | inl up ↦ inl (omega (arith, less, up))
+            | inr level ↦ inl (omega (arith, less, level.0))
+          ]
+        ];
+      })
   by_key (inr level) = subst (IsFirstBelow p key taken (suc n))
       (sym (cond-false (nat_lt (key n) (key (least_key key other (eligible p taken n)))) n
       (least_key key other (eligible p taken n)) (le-ltb (key n)
       (key (least_key key other (eligible p taken n))) level))) (record {
-    inside = omega (arith, before.inside);
-    eligible = before.eligible;
-    first = λ h below passes. elim (cases_eq h n) [
-      | inr apart ↦ before.first h (omega (arith, below, apart)) passes
-      | inl here ↦ elim (cases_eq (key (least_key key other (eligible p taken n))) (key n)) [
-        | inl equal ↦ inr (equal ∙ ap key (sym here), omega (arith, before.inside, here))
-        | inr unequal ↦ let up : key (least_key key other (eligible p taken n)) < key n = omega (arith, level, unequal) in inl (omega (arith, up, ap key here))
-      ]
-    ];
-  })
+        inside = omega (arith, before.inside);
+        eligible = before.eligible;
+        first = λ h below passes. elim (cases_eq h n) [
+          | inr apart ↦ before.first h (omega (arith, below, apart)) passes
+          | inl here ↦ elim (cases_eq (key (least_key key other (eligible p taken n))) (key n)) [
+            | inl equal ↦ inr (equal ∙ ap key (sym here), omega (arith, before.inside, here))
+            | inr unequal ↦ let up : key (least_key key other (eligible p taken n)) < key n = omega (arith, level, unequal) in inl (omega (arith, up, ap key here))
+          ]
+        ];
+      })
 
 pub chosen_below : (p : Problem) (key : ℕ → ℕ) (taken : List ℕ) (other n : ℕ) → IsChosenBelow p key taken other n
 chosen_below p key taken other zero = inl (refl, λ h below is. omega (arith, below))
@@ -142,14 +144,14 @@ chosen_below p key taken other (suc n) = elim (cases_Bool (is_eligible p taken n
 abbrev pub next_of : Problem → (ℕ → ℕ) → List ℕ → ℕ
 next_of p key taken = least_key key (count p) (eligible p taken (count p))
 
--- it comes first of the eligible ones, where there are some
+-- it is the first of the eligible activities, if there are any
 pub next_first : (p : Problem) (key : ℕ → ℕ) (taken : List ℕ) (i : ℕ) → i < count p → is_eligible p taken i ≡ true → IsFirstBelow p key taken (count p) (next_of p key taken)
 next_first p key taken i inside is = elim (chosen_below p key taken (count p) (count p)) [
   | inl none ↦ absurd (none.1 i inside is)
   | inr some ↦ some.1
 ]
 
--- two that come first are one
+-- the first activity is unique
 pub first_once : (p : Problem) (key : ℕ → ℕ) (taken : List ℕ) (n i j : ℕ) → IsFirstBelow p key taken n i → IsFirstBelow p key taken n j → i ≡ j
 first_once p key taken n i j one two = elim (one.first j two.inside two.eligible) [
   | inl up ↦ elim (two.first i one.inside one.eligible) [ inl down ↦ absurd (omega (arith, up, down)) | inr level ↦ absurd (omega (arith, up, level.0)) ]
@@ -171,7 +173,8 @@ some_link p k within = first p.links k within where
   first (a ∷ links) zero within = (a, λ d. refl)
   first (a ∷ links) (suc k) within = first links k (omega (arith, within))
 
--- below each activity that isn't taken there is an eligible one, of no greater level, where the levels don't fall along the links
+-- for each activity that isn't taken there is an eligible one of no greater level, if levels don't fall along
+-- links
 pub some_eligible : (p : Problem) (rank level : ℕ → ℕ) (taken : List ℕ) → LinksInside p → IsRanked p rank →
     All (λ a. level a.from ≤ level a.to) p.links → (bound j : ℕ) → rank j < bound → j < count p →
     is_member j taken ≡ false
@@ -203,7 +206,7 @@ some_untaken p taken few =
     let rise = total_rise (count p) (λ i. one_if (is_member i taken)) (λ _. 1) (omega (arith, few, all)) in
     (rise.0, rise.1, count_none (is_member rise.0 taken) rise.2)
 
--- what a rule takes next
+-- the next entry that a rule takes
 pub record IsNext (p : Problem) (key : ℕ → ℕ) (taken : List ℕ) : Type 0 where
   pub first : IsFirstBelow p key taken (count p) (next_of p key taken)
   pub least : All (λ a. key a.from ≤ key a.to) p.links → (i : ℕ) → i < count p → is_member i taken ≡ false → key (next_of p key taken) ≤ key i
@@ -221,7 +224,7 @@ next_there p rank key taken inside ranked few =
           elim (next.first low.0 low.1 low.2) [ inl up ↦ omega (arith, up, low.3) | inr level ↦ omega (arith, level.0, low.3) ];
     }
 
--- what is taken in turn wasn't taken before
+-- an activity taken in turn wasn't taken before
 pub turns_untaken : (p : Problem) (js taken : List ℕ) → takes_in_turn p taken js ≡ true → AllByRecursion (λ i. (i < count p) × (is_member i taken ≡ false)) js
 turns_untaken p [] taken turns = tt
 turns_untaken p (j ∷ js) taken turns =
@@ -233,7 +236,7 @@ turns_untaken p (j ∷ js) taken turns =
       weaker p [] taken j all = tt
       weaker p (i ∷ js) taken j (here, all) = ((here.0, (or_parts (is_member i taken) (nat_eq j i || false) (sym (member_push i j taken) ∙ here.1)).0), weaker p js taken j all)
 
--- what a rule takes after what is taken
+-- the entries that a rule takes after those taken
 pub record Continues (p : Problem) (key : ℕ → ℕ) (taken : List ℕ) (n : ℕ) (js : List ℕ) : Type 0 where
   pub list : rule_list_from p key taken n ≡ taken ++ js
   pub turns : takes_in_turn p taken js ≡ true
@@ -263,8 +266,8 @@ rule_continues p rank key inside ranked zero taken counted = ([], record { list 
 rule_continues p rank key inside ranked (suc n) taken counted =
     let next = next_there p rank key taken inside ranked (omega (arith, counted)) in
     let one : taken_count p taken + 1 ≡ taken_count p (taken ++ next_of p key taken ∷ []) =
-        taken_more p taken (next_of p key taken) next.first.inside
-        (eligible_not p taken (next_of p key taken) next.first.eligible) in
+    taken_more p taken (next_of p key taken) next.first.inside
+    (eligible_not p taken (next_of p key taken) next.first.eligible) in
     let rest = rule_continues p rank key inside ranked n (taken ++ next_of p key taken ∷ []) (omega (arith, counted, one)) in
     (next_of p key taken ∷ rest.0, continues_more p key taken n rest.0 next rest.1)
 
@@ -275,7 +278,7 @@ rule_parts p rank key inside ranked =
     let all = rule_continues p rank key inside ranked (count p) [] (omega (arith, taken_none p)) in
     subst (Continues p key [] (count p)) (sym all.1.list) all.1
 
--- the list of any rule is an order of all activities, predecessors first
+-- the list of any rule is an activity list
 pub rule_list_is : (p : Problem) (rank key : ℕ → ℕ) → LinksInside p → IsRanked p rank → is_activity_list p (rule_list p key) ≡ true
 rule_list_is p rank key inside ranked =
     let parts = rule_parts p rank key inside ranked in

@@ -27,7 +27,7 @@ run_starts p js placed list none = subst (IsRun p js 0) (sym none) (record {
   ends = λ i s is. absurd (none-some s (sym (unplaced_at (count p) i) ∙ is));
 })
 
--- what the next entry may count on
+-- facts for the next entry
 pub record IsOpenFor (p : Problem) (placed : List (Option ℕ)) (j : ℕ) : Type 0 where
   pub inside : j < count p
   pub none : get_or placed j None ≡ None

@@ -1,4 +1,4 @@
--- Serial schedules of orders that have each activity after its predecessors are active.
+-- Serial schedules of activity lists are active.
 use Rattle.std.proofs.Common.{ℕ, zero, suc, Bool, true, false, not, nat_eq, nat_lt, ◌&&◌, ◌||◌, ◌≡◌, ◌≢◌, ◌+◌, ◌≤◌, ◌<◌, inl, inr, List, [], ◌∷◌, ◌++◌, length, get_or, set, map, Option, Some, None, refl, sym, ◌∙◌, ap, subst, arith, get_or-set_same, get_or-set_other}
 use Rattle.std.specs.List.{All, list_all}
 use Rattle.std.specs.Option.{is_some}
@@ -14,7 +14,7 @@ use Rattle.plan_sgs.proofs.TotalLemmas.{total_none, total_changed, total_full}
 use Rattle.plan_sgs.proofs.AmountLemmas.{usage_ended}
 use Rattle.plan_sgs.proofs.PlacingLemmas.{IsPartial, IsReady, partial_set}
 
--- what a test says of all links
+-- the result of a test of all links
 all_pass : (f : Link → Bool) (links : List Link) → list_all f links ≡ true → All (λ a. f a ≡ true) links
 all_pass f [] pass = All-nil (λ a. f a ≡ true)
 all_pass f (a ∷ links) pass = let parts = and_parts (f a) (list_all f links) pass in All-cons (λ a. f a ≡ true) a links parts.0 (all_pass f links parts.1)
@@ -23,15 +23,15 @@ pass_all : (f : Link → Bool) (links : List Link) → All (λ a. f a ≡ true) 
 pass_all f [] all = refl
 pass_all f (a ∷ links) all = and_from (f a) (list_all f links) (All-head (λ a. f a ≡ true) a links all) (pass_all f links (All-tail (λ a. f a ≡ true) a links all))
 
--- what eligible says
+-- the facts of an eligible activity
 pub eligible_not : (p : Problem) (taken : List ℕ) (j : ℕ) → is_eligible p taken j ≡ true → is_member j taken ≡ false
 eligible_not p taken j is = not-true (is_member j taken) (and_parts (not (is_member j taken)) (list_all (λ a. not (nat_eq a.to j) || is_member a.from taken) p.links) is).0
 
 pub eligible_preds : (p : Problem) (taken : List ℕ) (j : ℕ) → is_eligible p taken j ≡ true → All (λ a. a.to ≡ j → is_member a.from taken ≡ true) p.links
 eligible_preds p taken j is k d within to =
     let passes = all_pass (λ a. not (nat_eq a.to j) || is_member a.from taken) p.links
-        (and_parts (not (is_member j taken)) (list_all
-        (λ a. not (nat_eq a.to j) || is_member a.from taken) p.links) is).1 k d within in
+    (and_parts (not (is_member j taken)) (list_all
+    (λ a. not (nat_eq a.to j) || is_member a.from taken) p.links) is).1 k d within in
     elim (or_cases (not (nat_eq (get_or p.links k d).to j)) (is_member (get_or p.links k d).from taken) passes) [
       | inl other ↦ absurd (both_ways (nat_eq (get_or p.links k d).to j) (not-true (nat_eq (get_or p.links k d).to j) other) (eq-eqb (get_or p.links k d).to j to))
       | inr has ↦ has
@@ -48,7 +48,7 @@ eligible_from p taken j new preds =
           (not_from_false (nat_eq (get_or p.links k d).to j) (ne_eqb (get_or p.links k d).to j other))
     ]))
 
--- who is in a list with one more at its end
+-- the members of a list with one more entry at the end
 pub member_push : (i j : ℕ) (taken : List ℕ) → is_member i (taken ++ j ∷ []) ≡ (is_member i taken || (nat_eq j i || false))
 member_push i j taken = list_any-append (λ x. nat_eq x i) taken (j ∷ [])
 
@@ -64,7 +64,7 @@ member_other i j taken other = member_push i j taken ∙ by_case (is_member i ta
   by_case true = refl
   by_case false = apart
 
--- the list has what is placed
+-- the list contains the placed activities
 abbrev pub TakenIs : List (Option ℕ) → List ℕ → Type 0
 TakenIs placed taken = (i : ℕ) → is_some (get_or placed i None) ≡ is_member i taken
 
@@ -107,7 +107,7 @@ turn_from p taken j js inside eligible rest =
 pub ready_from : (p : Problem) (placed : List (Option ℕ)) (taken : List ℕ) (j : ℕ) → TakenIs placed taken → is_eligible p taken j ≡ true → IsReady p placed j
 ready_from p placed taken j is eligible k d within to = taken_placed placed taken (get_or p.links k d).from is (eligible_preds p taken j eligible k d within to)
 
--- what is kept all along a list
+-- the facts that hold after each entry of a list
 pub partial_after : (p : Problem) (js taken : List ℕ) (placed : List (Option ℕ)) → NeedsFit p →
     IsPartial p placed → TakenIs placed taken → takes_in_turn p taken js ≡ true →
     IsPartial p (serial_from p placed js) × TakenIs (serial_from p placed js) (taken ++ js)
@@ -140,12 +140,12 @@ partial_first p = record {
 pub taken_first : (n : ℕ) → TakenIs (unplaced n) []
 taken_first n i = ap is_some (unplaced_at n i)
 
--- 1 where the test passes
+-- 1 if the test passes
 abbrev pub one_if : Bool → ℕ
 one_if true = 1
 one_if false = 0
 
--- how many of the activities a list has
+-- the number of activities in a list
 abbrev pub taken_count : Problem → List ℕ → ℕ
 taken_count p taken = total (count p) (λ i. one_if (is_member i taken))
 
@@ -173,7 +173,7 @@ count_limit : (b : Bool) → one_if b ≤ 1
 count_limit true = omega arith
 count_limit false = omega arith
 
--- a list that has as many of the activities as there are has each
+-- a list with as many of the activities as there are contains each
 pub full_has : (p : Problem) (js : List ℕ) (i : ℕ) → count p ≤ taken_count p js → i < count p → is_member i js ≡ true
 full_has p js i all inside = count_one (is_member i js) (total_full (count p) (λ i. one_if (is_member i js)) i (λ i. count_limit (is_member i js)) all inside)
 
@@ -184,7 +184,7 @@ taken_none p = total_none (count p) (λ i. one_if (is_member i [])) (λ i below.
 pub list_parts : (p : Problem) (js : List ℕ) → is_activity_list p js ≡ true → (length js ≡ count p) × (takes_in_turn p [] js ≡ true)
 list_parts p js list = let parts = and_parts (nat_eq (length js) (count p)) (takes_in_turn p [] js) list in (eqb-true (length js) (count p) parts.0, parts.1)
 
--- a list that takes in turn as many as there are takes each
+-- a list that takes as many in turn as there are takes each
 pub takes_each : (p : Problem) (js : List ℕ) (i : ℕ) → is_activity_list p js ≡ true → i < count p → is_member i js ≡ true
 takes_each p js i list inside =
     let parts = list_parts p js list in
@@ -194,14 +194,14 @@ takes_each p js i list inside =
 abbrev pub IsWhole : Problem → List (Option ℕ) → Type 0
 IsWhole p placed = (i : ℕ) → i < count p → (s : ℕ) × (get_or placed i None ≡ Some s)
 
--- what is placed is inside the list
+-- a placed activity has an index within the list
 pub placed_inside : (placed : List (Option ℕ)) (i s : ℕ) → get_or placed i None ≡ Some s → i < length placed
 placed_inside placed i s is = elim (cases_lt i (length placed)) [
   | inl inside ↦ inside
   | inr past ↦ absurd (none-some s (sym (get_or_past placed i None past) ∙ is))
 ]
 
--- the start of what is placed
+-- the start of a placed activity
 pub start_at : (placed : List (Option ℕ)) (i s : ℕ) → get_or placed i None ≡ Some s → get_or (map start_or_zero placed) i 0 ≡ s
 start_at placed i s is = get_or-map start_or_zero placed i None 0 (placed_inside placed i s is) ∙ ap start_or_zero is
 
@@ -245,7 +245,7 @@ placed_by_serial p js fit list =
     let after = partial_after p js [] (unplaced (count p)) fit (partial_first p) (taken_first (count p)) parts.1 in
     (after.0, λ i inside. taken_placed (serial_from p (unplaced (count p)) js) js i after.1 (takes_each p js i list inside))
 
--- the serial schedule of an order of all activities, predecessors first, is active
+-- the serial schedule of an activity list is active
 pub serial_active : (p : Problem) (js : List ℕ) → LinksInside p → NeedsFit p → is_activity_list p js ≡ true → IsActive p (serial p js)
 unfolding serial
 serial_active p js inside fit list =

@@ -1,4 +1,4 @@
--- When an activity of a feasible list can start earlier with all others where they are.
+-- Activities of a feasible list that can start earlier while all others keep their starts.
 use Rattle.std.proofs.Common.{ℕ, ◌≡◌, ◌≢◌, ◌+◌, ◌-◌, ◌≤◌, ◌<◌, ◌⊎◌, inl, inr, List, length, get_or, set, Some, sym, ◌∙◌, ap, arith}
 use Rattle.std.specs.List.{All}
 use Rattle.std.proofs.lemmas.Bool.{cases_lt, cases_eq}
@@ -19,7 +19,7 @@ abbrev pub FitsBeforeStart : Problem → List ℕ → ℕ → ℕ → Type 0
 FitsBeforeStart p s j t =
     (u k : ℕ) → t ≤ u → u < t + duration p j → u < get_or s j 0 → k < length p.capacities → usage p (all_placed s) u k + need p j k ≤ capacity p k
 
--- an activity can start at an earlier instant with all others where they are
+-- an activity can start at an earlier instant while all others keep their starts
 pub record CanStartAt (p : Problem) (s : List ℕ) (j t : ℕ) : Type 0 where
   pub earlier : t < get_or s j 0
   pub released : IsReleasedBy p s j t
@@ -48,7 +48,7 @@ link_moved p s other j t a here rest earlier released kept = elim (cases_eq a.fr
   ]
 ]
 
--- before the old start usage grows by what the moved activity needs
+-- before the old start, usage grows by the needs of the moved activity
 usage_before : (p : Problem) (s other : List ℕ) (j u k : ℕ) → length s ≡ count p → length other ≡ count p → j < count p → ((i : ℕ) → i ≢ j → get_or other i 0 ≡ get_or s i 0) → u < get_or s j 0
     → usage p (all_placed s) u k + amount_at p other u k j ≡ usage p (all_placed other) u k
 usage_before p s other j u k whole whole' inside rest early =
@@ -87,7 +87,7 @@ capacities_moved p s other j t feasible whole inside here rest can u k within =
           ]
     ]
 
--- what can start at an earlier instant has a left shift
+-- an activity that can start at an earlier instant has a left shift
 pub shift_from_start : (p : Problem) (s : List ℕ) (j t : ℕ) → IsFeasible p s → j < count p → CanStartAt p s j t → HasShift p s j
 shift_from_start p s j t feasible inside can = record {
   other = set s j t;
@@ -108,7 +108,7 @@ shift_from_start p s j t feasible inside can = record {
   rest : (i : ℕ) → i ≢ j → get_or (set s j t) i 0 ≡ get_or s i 0
   rest i apart = get_or-set_other s j i t 0 apart
 
--- what has a left shift can start at an earlier instant
+-- an activity with a left shift can start at an earlier instant
 pub start_from_shift : (p : Problem) (s : List ℕ) (j : ℕ) → IsFeasible p s → HasShift p s j → (t : ℕ) × CanStartAt p s j t
 start_from_shift p s j feasible has =
     let other = has.other in (
@@ -120,9 +120,14 @@ start_from_shift p s j feasible has =
             let to_is : get_or other a.to 0 ≡ get_or other j 0 = ap (λ (i : ℕ). get_or other i 0) to in
             omega (arith, has.feasible.arcs n d within, has.shift.rest a.from from, to_is);
         fits = λ u k since lasts before within.
-            omega (arith, usage_before p s other j u k feasible.each_started has.feasible.each_started
-                has.inside has.shift.rest before, amount_during p u k j
-                (get_or other j 0) since lasts, has.feasible.capacities u k within);
+            omega (
+              arith,
+              usage_before p s other j u k feasible.each_started has.feasible.each_started
+                  has.inside has.shift.rest before,
+              amount_during p u k j
+                  (get_or other j 0) since lasts,
+              has.feasible.capacities u k within,
+            );
       },
     )
 
@@ -131,14 +136,15 @@ pub record IsRelease (p : Problem) (s : List ℕ) (j r : ℕ) : Type 0 where
   pub released : IsReleasedBy p s j r
   pub least : (t : ℕ) → IsReleasedBy p s j t → r ≤ t
 
--- a profile that holds what is in use before an activity's start, and what it is asked of that activity
+-- a profile that holds the usage before an activity's start, and the query for that activity
 pub record IsAskedFor (p : Problem) (s : List ℕ) (j : ℕ) (caps : List ℕ) (used : ℕ → ℕ → ℕ) (d : ℕ) (needs : List ℕ) : Type 0 where
   pub capacities : caps ≡ p.capacities
   pub held : (t k : ℕ) → t < get_or s j 0 → k < length p.capacities → used t k ≡ usage p (all_placed s) t k
   pub lasts : d ≡ duration p j
   pub each : (k : ℕ) → need p j k ≡ get_or needs k 0
 
--- an interval that fits in the profile and ends by the start, or what of it comes before, is room for the activity
+-- an interval that fits in the profile and ends by the start, or its part before the start, is room for the
+-- activity
 fits_to : (p : Problem) (s : List ℕ) (j t d : ℕ) (caps : List ℕ) (used : ℕ → ℕ → ℕ) (length_of : ℕ)
     (needs : List ℕ) → IsAskedFor p s j caps used length_of needs → Fits caps used t d needs → (u k : ℕ) →
     t ≤ u → u < t + d → u < get_or s j 0 → k < length p.capacities →
@@ -148,7 +154,7 @@ fits_to p s j t d caps used length_of needs asked fits u k since before early wi
     let room : used (t + (u - t)) k + get_or needs k 0 ≤ get_or caps k 0 = fits (u - t) k (omega (arith, since, before)) (omega (arith, within, ap length asked.capacities)) in
     omega (arith, room, ap (λ (x : ℕ). used x k) at, asked.held u k early within, asked.each k, ap (λ (xs : List ℕ). get_or xs k 0) asked.capacities)
 
--- and the other way round
+-- and the reverse
 fits_from : (p : Problem) (s : List ℕ) (j t d : ℕ) (caps : List ℕ) (used : ℕ → ℕ → ℕ) (length_of : ℕ) (needs : List ℕ) → IsAskedFor p s j caps used length_of needs → t + d ≤ get_or s j 0
     → ((u k : ℕ) → t ≤ u → u < t + d → u < get_or s j 0 → k < length p.capacities → usage p (all_placed s) u k + need p j k ≤ capacity p k) → Fits caps used t d needs
 fits_from p s j t d caps used length_of needs asked ends room x k below within =
@@ -162,7 +168,7 @@ shift_after_release p s j r feasible release has =
     let start = start_from_shift p s j feasible has in
     omega (arith, start.1.earlier, release.least start.0 start.1.released)
 
--- what fits beside all and ends by the old start is a left shift
+-- an interval that fits beside all activities and ends by the old start is a left shift
 pub shift_by_earliest : (p : Problem) (s : List ℕ) (j r : ℕ) (caps : List ℕ) (used : ℕ → ℕ → ℕ) (d : ℕ)
     (needs : List ℕ) (t : ℕ) → IsFeasible p s → j < count p → IsRelease p s j r → r < get_or s j 0 →
     IsAskedFor p s j caps used d needs
@@ -189,7 +195,8 @@ shift_by_last p s j r caps used d needs feasible inside release late asked fits 
   fits = λ u k since lasts early within. fits_to p s j (get_or s j 0 - 1) 1 caps used d needs asked fits u k since (omega (arith, early)) early within;
 })
 
--- and there is no other left shift: an interval that doesn't end by the old start lies over the last instant before it
+-- and there is no other left shift: an interval that doesn't end by the old start contains the last instant
+-- before it
 pub shift_found : (p : Problem) (s : List ℕ) (j r : ℕ) (caps : List ℕ) (used : ℕ → ℕ → ℕ) (d : ℕ)
     (needs : List ℕ) (t : ℕ) → IsFeasible p s → IsRelease p s j r → IsAskedFor p s j caps used d needs →
     IsEarliest caps used r d needs t
@@ -202,11 +209,11 @@ shift_found p s j r caps used d needs t feasible release asked earliest has =
     elim (cases_lt (get_or s j 0) (at + d)) [
       | inr ends ↦
           let fits : Fits caps used at d needs = fits_from p s j at d caps used d needs asked ends
-              (λ u k since lasts early within. can.fits u k since
-              (omega (arith, lasts, asked.lasts)) early within) in
+          (λ u k since lasts early within. can.fits u k since
+          (omega (arith, lasts, asked.lasts)) early within) in
           inl (omega (arith, ends, earliest.least at (release.least at can.released) fits))
       | inl over ↦
           inr (fits_from p s j (get_or s j 0 - 1) 1 caps used d needs asked (omega (arith, before))
-              (λ u k since lasts early within. can.fits u k (omega (arith, since, before))
-              (omega (arith, early, over, asked.lasts)) early within))
+          (λ u k since lasts early within. can.fits u k (omega (arith, since, before))
+          (omega (arith, early, over, asked.lasts)) early within))
     ]

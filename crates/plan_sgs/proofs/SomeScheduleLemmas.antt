@@ -1,4 +1,5 @@
--- An instance has a schedule by each rule, or a need is too much; and the schedule of each full word ends in time.
+-- An instance has a schedule by each rule, or a need is too much; and the schedule of each full word ends in
+-- time.
 use Rattle.std.proofs.Common.{ℕ, suc, ◌≡◌, ◌+◌, ◌-◌, ◌≤◌, ◌<◌, ◌⊎◌, inl, inr, List, length, get_or, refl, sym, subst, arith}
 use Rattle.std.proofs.lemmas.Bool.{cases_lt, cases_order}
 use Rattle.plan_net.specs.Network.{Net, count_of, duration_of, IsLeast}
@@ -41,7 +42,7 @@ decide_too_much p i k = by_tests (cases_lt i (count p)) (cases_lt k (length p.ca
     by_tests (inl a) (inl b) (inl c) (inr few) = inr (λ more. omega (arith, few, more.3))
     by_tests (inl a) (inl b) (inl c) (inl d) = inl (a, b, c, d)
 
--- the least resource of which an activity needs too much, or none
+-- the least resource of which an activity needs too much, if there is one
 too_much_of : (p : Problem) (i : ℕ) → ((k : ℕ) × IsLeast (IsTooMuch p i) k) ⊎ ((k : ℕ) → IsTooMuch p i k → ⊥)
 too_much_of p i = by_search (least_below (IsTooMuch p i) (decide_too_much p i) (length p.capacities))
   where
@@ -84,7 +85,7 @@ some_too_much p = by_activity (least_below (NeedsTooMuch p) (decide_needs p) (co
     by_activity (inl (i, least)) = inl (first_of i least (too_much_of p i))
     by_activity (inr none) = inr (fits none)
 
--- a project and capacities are refused, or no activity needs too much
+-- a project with capacities has an error, or no activity needs too much
 pub refused_or_fit : (i : Planned) → ((first : SgsFault) × RefusesInstance i first) ⊎ NeedsFit (problem_of i)
 refused_or_fit i = by_needs (some_too_much (problem_of i))
   where
@@ -140,5 +141,5 @@ pub full_word_ends : (i : Planned) (w : List ℕ) → IsInstance i → IsFullWor
 unfolding serial
 full_word_ends i w instance full =
     (made (problem_of i) w (starts_by i w) (unplaced (count (problem_of i))) (placed_by i w)
-        (bounded i instance) ((word_turns i _ w full.0).from_one, full_list i w full) refl refl
-        (word_ends i w instance full.0) refl).ends
+    (bounded i instance) ((word_turns i _ w full.0).from_one, full_list i w full) refl refl
+    (word_ends i w instance full.0) refl).ends

@@ -1,4 +1,4 @@
--- What is in use where all activities have a start.
+-- The usage if all activities have a start.
 use Rattle.std.proofs.Common.{ℕ, zero, suc, ◌≡◌, ◌+◌, ◌*◌, ◌≤◌, ◌<◌, ◌⊎◌, inl, inr, ◌&&◌, cond, nat_le, nat_lt, List, length, get_or, Some, None, sym, ◌∙◌, ap, arith}
 use Rattle.std.proofs.lemmas.Bool.{cases_lt, cond-true, cond-false, and_from, and_left, and_right, le-leb, lt-leb, lt-ltb, le-ltb}
 use Rattle.std.proofs.lemmas.List.{get_or-map}
@@ -8,17 +8,17 @@ use Rattle.plan_profile.specs.Usage.{Fits, used_with}
 use Rattle.plan_sgs.proofs.AmountLemmas.{amount_during, amount_before}
 use Rattle.plan_sgs.proofs.TotalLemmas.{total_same}
 
--- what an activity of a list of starts needs at an instant
+-- the need of an activity of a list of starts at an instant
 abbrev pub amount_at : Problem → List ℕ → ℕ → ℕ → ℕ → ℕ
 amount_at p s t k i = amount_of p t k i (Some (get_or s i 0))
 
--- from its end on it needs nothing
+-- from its end on its need is 0
 pub amount_late : (p : Problem) (t k i start : ℕ) → start + duration p i ≤ t → amount_of p t k i (Some start) ≡ 0
 amount_late p t k i start late =
     cond-false (nat_le start t && nat_lt t (start + duration p i)) (need p i k) 0
     (and_right (nat_le start t) (nat_lt t (start + duration p i)) (le-ltb t (start + duration p i) late))
 
--- it never needs more
+-- its need at an instant is at most its need while it lasts
 pub amount_most : (p : Problem) (t k i start : ℕ) → amount_of p t k i (Some start) ≤ need p i k
 amount_most p t k i start = elim (cases_lt t start) [
   | inl early ↦ omega (arith, amount_before p t k i start early)
@@ -41,7 +41,7 @@ amount_rise p t k i start rise = elim (cases_lt t start) [
   ]
 ]
 
--- where it needs something at the first instant it starts there
+-- if it needs something at instant 0, it starts there
 pub amount_first : (p : Problem) (k i start : ℕ) → 0 < amount_of p 0 k i (Some start) → start ≡ 0
 amount_first p k i start some = elim (cases_lt 0 start) [
   | inl early ↦ absurd (omega (arith, some, amount_before p 0 k i start early))
@@ -55,7 +55,7 @@ amount_left p t k i start later order since = elim (cases_lt t (start + duration
   | inr late ↦ omega (arith, amount_late p t k i start late)
 ]
 
--- what is in use where all are placed
+-- the usage if all activities are placed
 pub usage_is : (p : Problem) (s : List ℕ) (t k : ℕ) → length s ≡ count p → usage p (all_placed s) t k ≡ total (count p) (amount_at p s t k)
 unfolding usage
 usage_is p s t k whole =
@@ -83,8 +83,8 @@ pub record AreSums (p : Problem) (s : List ℕ) (t n : ℕ) (sums : List ℕ) : 
 -- the needs of one activity more
 pub sums_with : (p : Problem) (s : List ℕ) (t n : ℕ) (sums row new : List ℕ) → AreSums p s t n sums → get_or s n 0 ≤ t → t < get_or s n 0 + duration p n
     → ((k : ℕ) → need p n k ≡ get_or row k 0) → ((k : ℕ) → get_or row k 0 ≤ 10000) →
-        length new ≡ length sums → ((k : ℕ) → get_or new k 0 ≡ get_or sums k 0 + get_or row k 0) →
-        AreSums p s t (n + 1) new
+    length new ≡ length sums → ((k : ℕ) → get_or new k 0 ≡ get_or sums k 0 + get_or row k 0) →
+    AreSums p s t (n + 1) new
 sums_with p s t n sums row new are since before needs small wide each = record {
   wide = wide ∙ are.wide;
   each = λ k within. omega (arith, each k, are.each k within, needs k, amount_during p t k n (get_or s n 0) since before, total_next n (amount_at p s t k));
@@ -109,11 +109,12 @@ sums_whole p s t n sums whole all are = record {
   each = λ k within. are.each k within ∙ ap (λ (m : ℕ). total m (amount_at p s t k)) all ∙ sym (usage_is p s t k whole);
 }
 
--- what a usage holds before an instant is what the first n activities need
+-- before an instant, a usage is the sum of the needs of the first n activities
 abbrev pub IsUsedByFirst : ℕ → Problem → List ℕ → ℕ → (ℕ → ℕ → ℕ) → Type 0
 IsUsedByFirst end p s n used = (t k : ℕ) → t < end → k < length p.capacities → used t k ≡ total n (amount_at p s t k)
 
--- where all needs keep the capacities, those of one more activity fit beside those of the first n before an instant
+-- if all needs keep the capacities, those of one more activity fit beside those of the first n before an
+-- instant
 pub next_fits : (end : ℕ) (p : Problem) (s : List ℕ) (n d : ℕ) (row caps : List ℕ) (used : ℕ → ℕ → ℕ) →
     length s ≡ count p → n < count p → caps ≡ p.capacities → ((k : ℕ) → need p n k ≡ get_or row k 0) →
     d ≤ duration p n → get_or s n 0 + d ≤ end
@@ -123,11 +124,21 @@ next_fits end p s n d row caps used whole inside caps_are needs lasts ends kept 
     let within' : k < length p.capacities = omega (arith, within, ap length caps_are) in
     let here : amount_at p s t k n ≡ need p n k = amount_during p t k n (get_or s n 0) (omega arith) (omega (arith, below, lasts)) in
     let longer : total (n + 1) (amount_at p s t k) ≤ total (count p) (amount_at p s t k) = total_longer (n + 1) (count p) (amount_at p s t k) (omega (arith, inside)) in
-    omega (arith, first t k (omega (arith, below, ends)) within', needs k, here, total_next n
-        (amount_at p s t k), longer, usage_is p s t k whole, kept t k within', ap
-        (λ (xs : List ℕ). get_or xs k 0) caps_are)
+    omega (
+      arith,
+      first t k (omega (arith, below, ends)) within',
+      needs k,
+      here,
+      total_next n
+          (amount_at p s t k),
+      longer,
+      usage_is p s t k whole,
+      kept t k within',
+      ap
+          (λ (xs : List ℕ). get_or xs k 0) caps_are,
+    )
 
--- an interval that is cut at an instant adds before it what the activity needs
+-- an interval that is cut off at an instant adds before it the needs of the activity
 pub next_used : (end : ℕ) (p : Problem) (s : List ℕ) (n d : ℕ) (row : List ℕ) (used after : ℕ → ℕ → ℕ) →
     ((k : ℕ) → need p n k ≡ get_or row k 0) → d ≤ duration p n → (d ≡ duration p n) ⊎ (end ≤ get_or s n 0 + d)
     → IsUsedByFirst end p s n used → ((t k : ℕ) → after t k ≡ used_with used (get_or s n 0) d row t k) → IsUsedByFirst end p s (n + 1) after
@@ -149,7 +160,7 @@ next_used end p s n d row used after needs lasts cut first added t k before with
               ∙ (sym (needs k) ∙ sym (amount_during p t k n start since under))
           | inr late ↦
               cond-false (nat_le start t && nat_lt t (start + d)) (get_or row k 0) 0
-                  (and_right (nat_le start t) (nat_lt t (start + d))
-                  (le-ltb t (start + d) (omega (arith, late, lasts)))) ∙ sym (amount_late p t k n start late)
+              (and_right (nat_le start t) (nat_lt t (start + d))
+              (le-ltb t (start + d) (omega (arith, late, lasts)))) ∙ sym (amount_late p t k n start late)
         ]
       ]

@@ -1,4 +1,4 @@
--- One placement through a profile, and by when what is placed has ended.
+-- One placement through a profile, and the instant by which the placed activities have ended.
 use Rattle.std.proofs.Common.{ℕ, Bool, true, false, cond, nat_le, nat_lt, ◌&&◌, ◌≡◌, ◌+◌, ◌≤◌, ◌<◌, inl, inr, List, [], ◌∷◌, ◌++◌, length, get_or, set, Option, Some, None, refl, sym, ◌∙◌, ap, arith}
 use Rattle.std.proofs.lemmas.List.{length_push}
 use Rattle.std.proofs.lemmas.Bool.{cond-true, cond-false}
@@ -17,11 +17,11 @@ use Rattle.plan_sgs.proofs.SerialLemmas.{member_other, member_last}
 pub record AreNeeds (p : Problem) (j : ℕ) (needs : List ℕ) : Type 0 where
   pub each : (k : ℕ) → need p j k ≡ get_or needs k 0
 
--- usage that is that of what is placed, for each resource
+-- usage that is that of the placed activities, for each resource
 abbrev pub IsUsageOf : (ℕ → ℕ → ℕ) → Problem → List (Option ℕ) → Type 0
 IsUsageOf used p placed = (t k : ℕ) → k < length p.capacities → used t k ≡ usage p placed t k
 
--- what fits in a profile fits by the definition
+-- an interval that fits in a profile fits by the definition
 pub fits_same : (used : ℕ → ℕ → ℕ) (caps : List ℕ) (p : Problem) (placed : List (Option ℕ)) (j t d : ℕ)
     (needs : List ℕ) → caps ≡ p.capacities → d ≡ duration p j → AreNeeds p j needs → IsUsageOf used p placed →
     Fits caps used t d needs → fits p placed j t ≡ true
@@ -31,7 +31,7 @@ fits_same used caps p placed j t d needs same_caps same_d same_needs is fit = fi
     let here : used (t + x) k + get_or needs k 0 ≤ get_or caps k 0 = fit x k (omega (arith, low, same_d)) (omega (arith, within, size)) in
     omega (arith, here, cap, is (t + x) k within, same_needs.each k))
 
--- and the other way round
+-- and the reverse
 pub fits_back : (used : ℕ → ℕ → ℕ) (caps : List ℕ) (p : Problem) (placed : List (Option ℕ)) (j t d : ℕ)
     (needs : List ℕ) → caps ≡ p.capacities → d ≡ duration p j → AreNeeds p j needs → IsUsageOf used p placed →
     fits p placed j t ≡ true → Fits caps used t d needs
@@ -42,7 +42,7 @@ fits_back used caps p placed j t d needs same_caps same_d same_needs is fit x k 
     let here : usage p placed (t + x) k + need p j k ≤ capacity p k = fits_at p placed j t x k fit (omega (arith, low, same_d)) inside in
     omega (arith, here, cap, is (t + x) k inside, same_needs.each k)
 
--- what a profile answers is the earliest start of the definition
+-- the result of a profile is the earliest start of the definition
 pub found_from : (used : ℕ → ℕ → ℕ) (caps : List ℕ) (p : Problem) (placed : List (Option ℕ)) (j from d t : ℕ)
     (needs : List ℕ) → NeedsFit p → j < count p → caps ≡ p.capacities → d ≡ duration p j →
     AreNeeds p j needs → IsUsageOf used p placed → from ≡ release p placed j
@@ -51,11 +51,11 @@ found_from used caps p placed j from d t needs fit inside same_caps same_d same_
     let least : IsEarliest p placed j (earliest p placed j) = earliest_is p placed j fit inside in
     let low : earliest p placed j ≤ t = least.least t (omega (arith, released, found.since)) (fits_same used caps p placed j t d needs same_caps same_d same_needs is found.fitting) in
     let high : t ≤ earliest p placed j = found.least (earliest p placed j)
-        (omega (arith, released, least.released)) (fits_back used caps p placed j
-        (earliest p placed j) d needs same_caps same_d same_needs is least.fitting) in
+    (omega (arith, released, least.released)) (fits_back used caps p placed j
+    (earliest p placed j) d needs same_caps same_d same_needs is least.fitting) in
     omega (arith, low, high)
 
--- what is placed or not ends by an instant by which all that is placed does
+-- an activity, placed or not, ends by each instant by which all placed activities end
 pub end_of-limit : (p : Problem) (placed : List (Option ℕ)) (i last : ℕ) → EndsBy p placed last → end_of p placed i ≤ last
 end_of-limit p placed i last ends = by_start (get_or placed i None) refl where
   by_start : (start : Option ℕ) → get_or placed i None ≡ start → end_of p placed i ≤ last
@@ -66,8 +66,8 @@ end_of-limit p placed i last ends = by_start (get_or placed i None) refl where
 pub release_soon : (p : Problem) (placed : List (Option ℕ)) (j last : ℕ) → IsBounded p → EndsBy p placed last → release p placed j ≤ last + 10000
 release_soon p placed j last bounded ends =
     release_least p placed j (last + 10000) (λ k d within to.
-        let lag : (get_or p.links k d).lag ≤ 10000 = bounded.lags k d within in
-        omega (arith, end_of-limit p placed (get_or p.links k d).from last ends, lag))
+    let lag : (get_or p.links k d).lag ≤ 10000 = bounded.lags k d within in
+    omega (arith, end_of-limit p placed (get_or p.links k d).from last ends, lag))
 
 -- an activity is placed soon after the end of what is placed
 pub earliest_soon : (p : Problem) (placed : List (Option ℕ)) (j last : ℕ) → IsBounded p → j < count p → EndsBy p placed last → earliest p placed j ≤ last + 10000
@@ -116,6 +116,6 @@ cond_limit false n = omega arith
 pub bound_within : (p : Problem) (taken : List ℕ) → IsBounded p → length taken ≤ count p → bound_of p taken ≤ 6020000
 bound_within p taken bounded few =
     let sums : total (count p) (λ i. cond (is_member i taken) (duration p i) 0) ≤ total (count p)
-        (duration p) = total_grows (count p) (λ i. cond (is_member i taken) (duration p i) 0) (duration p)
-        (λ i below. cond_limit (is_member i taken) (duration p i)) in
+    (duration p) = total_grows (count p) (λ i. cond (is_member i taken) (duration p i) 0) (duration p)
+    (λ i below. cond_limit (is_member i taken) (duration p i)) in
     omega (arith, sums, bounded.work, bounded.few, few)

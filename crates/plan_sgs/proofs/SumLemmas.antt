@@ -17,7 +17,7 @@ amounts_small row small k = elim (cases_lt k (length row)) [
   | inr past ↦ omega (arith, get_or_past row k 0 past)
 ]
 
--- of no activity nothing is needed
+-- the sum of the needs of no activity is 0
 pub sums_none : (p : Problem) (s : List ℕ) (t n : ℕ) (sums : List ℕ) → sums ≡ replicate n 0 → n ≡ length p.capacities → AreSums p s t 0 sums
 sums_none p s t n sums is wide = record {
   wide = ap length is ∙ length-replicate {A = ℕ} n 0 ∙ wide;
@@ -30,7 +30,7 @@ sums_none p s t n sums is wide = record {
     | inr past ↦ ap (λ (xs : List ℕ). get_or xs k 0) is ∙ get_or_past (replicate n 0) k 0 (omega (arith, past, length-replicate {A = ℕ} n 0))
   ]
 
--- a resource of which more is needed than there is
+-- the usage of a resource exceeds its capacity
 pub over_above : (p : Problem) (s : List ℕ) (t : ℕ) (needs caps : List ℕ) (k : ℕ) → AreNeedsAt p s t needs → caps ≡ p.capacities → IsFirstAbove needs caps k → IsOver p s t (k + 1 - 1)
 over_above p s t needs caps k are same (within, above, before) =
     let inside : k < length p.capacities = omega (arith, within, ap length same) in
@@ -46,7 +46,7 @@ over_first p s t needs caps k are same (within, above, before) l over = elim (ca
       absurd (omega (arith, most, before l earlier, are.each l over.inside, ap (λ (xs : List ℕ). get_or xs l 0) same))
 ]
 
--- where there is none, none is overloaded
+-- if there is no such resource, none is overloaded
 pub over_none : (p : Problem) (s : List ℕ) (t : ℕ) (needs caps : List ℕ) → AreNeedsAt p s t needs →
     caps ≡ p.capacities → EachIndex caps (λ k. get_or needs k 0 ≤ get_or caps k 0) → (l : ℕ) →
     IsOver p s t l → ⊥

@@ -1,4 +1,4 @@
--- Entry after entry of a list is taken: one that is handed in, and one that a rule makes.
+-- Entries of a list, taken one after another: from a given list, and by a rule.
 use Rattle.std.proofs.Common.{ℕ, suc, Bool, true, false, nat_eq, nat_lt, ◌&&◌, ◌≡◌, ◌≢◌, ◌+◌, ◌-◌, ◌≤◌, ◌<◌, ◌⊎◌, inl, inr, List, [], ◌∷◌, ◌++◌, length, get_or, set, take, replicate, refl, sym, ◌∙◌, ap, subst, arith}
 use Rattle.std.specs.List.{All}
 use Rattle.std.specs.List.Sorted.{IsPermutation}
@@ -70,11 +70,11 @@ comes_in_turn i list k marks sound taken within (from_one, order) =
     let place = entry_place list k within in
     let front : take k (places list) ≡ places (take k list) = take-map (λ (j : ℕ). j - 1) k list in
     let eligible : is_eligible (problem_of i) (places (take k list)) (get_or (places list) k 0) ≡ true =
-        subst (λ (xs : List ℕ). is_eligible (problem_of i) xs (get_or (places list) k 0) ≡ true) front
-        here.1 in
+    subst (λ (xs : List ℕ). is_eligible (problem_of i) xs (get_or (places list) k 0) ≡ true) front
+    here.1 in
     eligible_can_come i marks (places (take k list)) (get_or list k 0) sound taken.marked
-        (from_one k 0 within) (omega (arith, here.0, place))
-        (subst (λ (x : ℕ). is_eligible (problem_of i) (places (take k list)) x ≡ true) place eligible)
+    (from_one k 0 within) (omega (arith, here.0, place))
+    (subst (λ (x : ℕ). is_eligible (problem_of i) (places (take k list)) x ≡ true) place eligible)
 
 -- once all have come the list is an order
 pub all_taken : (i : Planned) (list : List ℕ) (k : ℕ) (marks : List Bool) → length list ≡ count_of i.project.network → length list ≤ k → AreTaken i list k marks → IsTurnList (problem_of i) list
@@ -88,16 +88,16 @@ all_taken i list k marks size all taken =
           (subst (λ (xs : List ℕ). takes_in_turn (problem_of i) [] (places xs) ≡ true) whole taken.turns),
     )
 
--- a list of another length is none
+-- a list of another length isn't an activity list
 pub other_length : (i : Planned) (list : List ℕ) → length list ≢ count_of i.project.network → IsTurnList (problem_of i) list → ⊥
 other_length i list other (from_one, order) = other (omega (arith, (list_parts (problem_of i) (places list) order).0, length-places list, count-problem i))
 
--- what a rule takes after its entries so far makes its whole list
+-- the entries so far and those that a rule takes after them are its whole list
 pub record IsTaking (i : Planned) (keys : List ℕ) (turn : ℕ) (list waits : List ℕ) (entries : List Entry) : Type 0 where
   pub rest : rule_list_from (problem_of i) (λ h. get_or keys h 0) (places list) (count_of i.project.network - turn) ≡ rule_list (problem_of i) (λ h. get_or keys h 0)
   pub counted : taken_count (problem_of i) (places list) ≡ turn
   pub from_one : All (λ j. 1 ≤ j) list
-  -- none waits for what isn't taken, of those that are
+  -- no taken activity waits for one that isn't taken
   pub settled : (h : ℕ) → is_member h (places list) ≡ true → open_links (problem_of i) (places list) h ≡ 0
   pub size : length waits ≡ count_of i.project.network
   pub waiting : (h : ℕ) → h < count_of i.project.network → get_or waits h 0 ≡ open_links (problem_of i) (places list) h
@@ -129,8 +129,8 @@ pub taking_some : (i : Planned) (keys order : List ℕ) (turn : ℕ) (list waits
     → IsTaking i keys turn list waits entries → length entries ≡ 0 → ⊥
 taking_some i keys order turn list waits entries instance least topological some taking none =
     let next = next_there (problem_of i) (rank_in order) (λ h. get_or keys h 0) (places list)
-        (bounded i instance).inside (order_ranks i order instance.project.network least topological)
-        (omega (arith, taking.counted, some, count-problem i)) in
+    (bounded i instance).inside (order_ranks i order instance.project.network least topological)
+    (omega (arith, taking.counted, some, count-problem i)) in
     let g = next_of (problem_of i) (λ h. get_or keys h 0) (places list) in
     let once : times_in entries g ≡ 1 = taking.queued g (omega (arith, next.first.inside, count-problem i)) ∙ ap (λ (b : Bool). tally b) next.first.eligible in
     absurd (omega (arith, once, none, count_by-le-length (λ (e : Entry). nat_eq (e.0.1 - 1) g) entries))
@@ -139,7 +139,7 @@ passes : (b : Bool) → 1 ≤ tally b → b ≡ true
 passes true some = refl
 passes false some = absurd (omega (arith, some))
 
--- the one that comes out of the queue is what the rule takes next
+-- the entry that comes out of the queue is the next one that the rule takes
 pub popped_next : (i : Planned) (keys : List ℕ) (turn : ℕ) (list waits : List ℕ) (entries after : List Entry)
     (e : Entry) → length keys ≡ count_of i.project.network → IsTaking i keys turn list waits entries →
     IsPermutation entries (e ∷ after) → PopsGreatest by_key entries e after
@@ -155,8 +155,13 @@ popped_next i keys turn list waits entries after e long taking same pops = recor
   eligible =
       let one : tally (nat_eq (e.0.1 - 1) (e.0.1 - 1)) ≡ 1 = ap (λ (b : Bool). tally b) (eq-eqb (e.0.1 - 1) (e.0.1 - 1) refl) in
       passes (is_eligible (problem_of i) (places list) (e.0.1 - 1))
-          (omega (arith, one, times_popped e entries after same (e.0.1 - 1), taking.queued (e.0.1 - 1)
-          (omega (arith, inside, count-problem i))))
+      (omega (
+        arith,
+        one,
+        times_popped e entries after same (e.0.1 - 1),
+        taking.queued (e.0.1 - 1)
+            (omega (arith, inside, count-problem i)),
+      ))
 
   first : (h : ℕ) → h < count (problem_of i) → is_eligible (problem_of i) (places list) h ≡ true →
       (get_or keys (e.0.1 - 1) 0 < get_or keys h 0)
@@ -172,7 +177,7 @@ popped_next i keys turn list waits entries after e long taking same pops = recor
         | inr level ↦ inr (sym keyed.2 ∙ level.0 ∙ key, omega (arith, level.1, place))
       ]
 
--- each of its successors waits for one at least
+-- each of its successors waits for at least one
 pub successor_waits : (i : Planned) (keys : List ℕ) (turn : ℕ) (list waits : List ℕ) (entries : List Entry)
     (j : ℕ) → IsSound i.project.network → IsTaking i keys turn list waits entries →
     is_eligible (problem_of i) (places list) (j - 1) ≡ true
@@ -192,13 +197,13 @@ waiting_more i keys turn list waits new entries j h taking eligible lowers insid
     let more = open_more (problem_of i) (places list) (j - 1) h (eligible_not (problem_of i) (places list) (j - 1) eligible) in
     omega (arith, lowers.each h (omega (arith, inside, taking.size)), taking.waiting h inside, more, links_as_arcs i (j - 1) h)
 
--- what comes out of the queue is taken, and those come in that then wait for none
+-- the entry that comes out of the queue is taken, and the activities that then wait for none are queued
 pub taking_more : (i : Planned) (keys : List ℕ) (turn : ℕ) (list waits new : List ℕ)
     (entries between after : List Entry) (e : Entry) → length keys ≡ count_of i.project.network →
     turn < count_of i.project.network → IsTaking i keys turn list waits entries
     → IsPermutation entries (e ∷ between) → PopsGreatest by_key entries e between →
-        Lowers i.project.network e.0.1 waits new → IsQueue keys after → Joins waits new between after →
-        IsTaking i keys (turn + 1) (list ++ e.0.1 ∷ []) new after
+    Lowers i.project.network e.0.1 waits new → IsQueue keys after → Joins waits new between after →
+    IsTaking i keys (turn + 1) (list ++ e.0.1 ∷ []) new after
 taking_more i keys turn list waits new entries between after e long some taking same pops lowers queue joins = record {
   rest = rest;
   counted = ap (taken_count (problem_of i)) pushed
@@ -241,9 +246,9 @@ taking_more i keys turn list waits new entries between after e long some taking 
   rest =
       let left : count_of i.project.network - turn ≡ suc (count_of i.project.network - (turn + 1)) = omega (arith, some) in
       let step : rule_list_from (problem_of i) (λ k. get_or keys k 0) (places list)
-          (count_of i.project.network - turn) ≡ rule_list_from (problem_of i) (λ k. get_or keys k 0)
-          (places list ++ next_of (problem_of i) (λ k. get_or keys k 0) (places list) ∷ [])
-          (count_of i.project.network - (turn + 1)) =
+      (count_of i.project.network - turn) ≡ rule_list_from (problem_of i) (λ k. get_or keys k 0)
+      (places list ++ next_of (problem_of i) (λ k. get_or keys k 0) (places list) ∷ [])
+      (count_of i.project.network - (turn + 1)) =
       ap (rule_list_from (problem_of i) (λ k. get_or keys k 0) (places list)) left in
       let to_it : places (list ++ e.0.1 ∷ []) ≡ places list ++ next_of (problem_of i) (λ k. get_or keys k 0) (places list) ∷ [] = pushed ∙ ap (λ (x : ℕ). places list ++ x ∷ []) (sym is_next) in
       ap (λ (xs : List ℕ). rule_list_from (problem_of i) (λ k. get_or keys k 0) xs (count_of i.project.network - (turn + 1))) to_it ∙ sym step ∙ taking.rest
@@ -260,7 +265,9 @@ taking_last i keys turn list waits entries all taking =
 pub rule_turns : (i : Planned) (keys order list : List ℕ) → IsInstance i →
     IsLeastOrder i.project.network order → IsTopological i.project.network order → All (λ j. 1 ≤ j) list →
     places list ≡ rule_list (problem_of i) (λ h. get_or keys h 0) → IsTurnList (problem_of i) list
-rule_turns i keys order list instance least topological from_one is =
-    (from_one, ap (is_activity_list (problem_of i)) is
-        ∙ rule_list_is (problem_of i) (rank_in order) (λ h. get_or keys h 0) (bounded i instance).inside
-        (order_ranks i order instance.project.network least topological))
+rule_turns i keys order list instance least topological from_one is = (
+  from_one,
+  ap (is_activity_list (problem_of i)) is
+      ∙ rule_list_is (problem_of i) (rank_in order) (λ h. get_or keys h 0) (bounded i instance).inside
+      (order_ranks i order instance.project.network least topological),
+)

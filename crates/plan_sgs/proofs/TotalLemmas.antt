@@ -39,7 +39,7 @@ total_limit (suc n) f most limit =
     let more : most * suc n ≡ most * n + most = mul-suc most n in
     omega (arith, total_limit n f most (λ i below. limit i (omega (arith, below))), limit n (omega arith), more)
 
--- where one term is larger by c and all others are the same, so is the sum
+-- if one term is larger by c and all others are the same, so is the sum
 pub total_changed : (n : ℕ) (f g : ℕ → ℕ) (j c : ℕ) → j < n → ((i : ℕ) → i < n → i ≢ j → f i ≡ g i) → f j + c ≡ g j → total n f + c ≡ total n g
 total_changed zero f g j c below others more = absurd (omega arith)
 total_changed (suc n) f g j c below others more = elim (cases_eq j n) [
@@ -52,7 +52,7 @@ total_changed (suc n) f g j c below others more = elim (cases_eq j n) [
       omega (arith, rest, last)
 ]
 
--- where a sum is larger, one of its terms is
+-- if a sum is larger, one of its terms is
 pub total_rise : (n : ℕ) (f g : ℕ → ℕ) → total n f < total n g → (i : ℕ) × (i < n) × (f i < g i)
 total_rise zero f g rise = absurd (omega (arith, rise))
 total_rise (suc n) f g rise = elim (cases_lt (f n) (g n)) [
@@ -62,7 +62,7 @@ total_rise (suc n) f g rise = elim (cases_lt (f n) (g n)) [
       (before.0, omega (arith, before.1), before.2)
 ]
 
--- the sum is less than n where no term is above 1 and one is 0
+-- the sum is less than n if no term is above 1 and one is 0
 pub total_short : (n : ℕ) (f : ℕ → ℕ) (i : ℕ) → ((i : ℕ) → f i ≤ 1) → f i < 1 → i < n → total n f < n
 total_short zero f i most none below = absurd (omega arith)
 total_short (suc n) f i most none below = elim (cases_eq i n) [
@@ -79,7 +79,7 @@ total_full n f i most all below = elim (cases_lt (f i) 1) [
   | inl none ↦ absurd (omega (arith, all, total_short n f i most none below))
 ]
 
--- what is above each is above the greatest
+-- a bound of each value is a bound of the greatest
 pub greatest_least : (n : ℕ) (f : ℕ → ℕ) (most : ℕ) → ((i : ℕ) → i < n → f i ≤ most) → greatest_below n f ≤ most
 greatest_least zero f most limit = omega arith
 greatest_least (suc n) f most limit = omega (arith, greatest_least n f most (λ i below. limit i (omega (arith, below))), limit n (omega arith))

@@ -1,4 +1,4 @@
--- On each list of starts there is a verdict: whatever it speaks of can be looked for.
+-- Each list of starts has a verdict, since all its parts are decidable.
 use Rattle.std.proofs.Common.{ℕ, zero, suc, ◌≡◌, ◌≢◌, ◌+◌, ◌-◌, ◌≤◌, ◌<◌, ◌⊎◌, inl, inr, List, length, get_or, refl, sym, subst, arith}
 use Rattle.std.proofs.lemmas.Bool.{cases_lt, cases_eq}
 use Rattle.std.proofs.lemmas.List.Elements.{Contains-get_or, All-from_get_or}
@@ -33,7 +33,7 @@ decided_not : (P : Type 0) → Decided P → Decided (P → ⊥)
 decided_not P (inl p) = inr (λ not. not p)
 decided_not P (inr not) = inl not
 
--- the first number below n at which something holds, or that there is none
+-- the first number below n with P, or the fact that there is none
 pub first_below : (P : ℕ → Type 0) → ((i : ℕ) → Decided (P i)) → (n : ℕ) → ((i : ℕ) → i < n → P i → ⊥) ⊎ ((i : ℕ) × (i < n) × P i × ((h : ℕ) → h < i → P h → ⊥))
 first_below P decide zero = inl (λ i below has. omega (arith, below))
 first_below P decide (suc n) = elim (first_below P decide n) [
@@ -125,13 +125,13 @@ arcs_found p s = elim (first_below (λ m. Breaks p s (link_at p m)) (λ m. decid
   | inl none ↦ inl (All-from_get_or (λ a. get_or s a.from 0 + duration p a.from + a.lag ≤ get_or s a.to 0)
       p.links idle (λ m within. elim (cases_lt (get_or s (link_at p m).to 0)
       (get_or s (link_at p m).from 0 + duration p (link_at p m).from + (link_at p m).lag)) [
-    | inl breaks ↦ absurd (none m within breaks)
-    | inr keeps ↦ keeps
-  ]))
+        | inl breaks ↦ absurd (none m within breaks)
+        | inr keeps ↦ keeps
+      ]))
   | inr found ↦ inr (broken_at p s found.0 found.1 found.2)
 ]
 
--- more of some resource is in use than there is
+-- the usage of some resource exceeds its capacity
 abbrev IsOverAt : Problem → List ℕ → ℕ → Type 0
 IsOverAt p s t = (k : ℕ) × (k < length p.capacities) × (capacity p k < usage p (all_placed s) t k)
 
@@ -146,8 +146,8 @@ over_at p s t arcs over =
     let here = instant.1 in
     let resource = least_of (λ k. (k < length p.capacities) × (capacity p k < usage p (all_placed s) u k))
     (λ k. decided_both (k < length p.capacities) (capacity p k < usage p (all_placed s) u k)
-        (decided_lt k (length p.capacities)) (decided_lt (capacity p k) (usage p (all_placed s) u k))) here.0
-        (here.1, here.2) in (
+    (decided_lt k (length p.capacities)) (decided_lt (capacity p k) (usage p (all_placed s) u k))) here.0
+    (here.1, here.2) in (
       u,
       resource.0,
       record {
@@ -203,8 +203,8 @@ decided_fits p s j t = elim (decided_each HasRoomAt (λ u. room u) (get_or s j 0
 pub decided_shift : (p : Problem) (s : List ℕ) (j : ℕ) → IsFeasible p s → j < count p → Decided (HasShift p s j)
 decided_shift p s j feasible inside =
     elim (decided_some (λ t. IsReleasedBy p s j t × FitsBeforeStart p s j t)
-        (λ t. decided_both (IsReleasedBy p s j t) (FitsBeforeStart p s j t) (decided_released p s j t)
-        (decided_fits p s j t)) (get_or s j 0)) [
+    (λ t. decided_both (IsReleasedBy p s j t) (FitsBeforeStart p s j t) (decided_released p s j t)
+    (decided_fits p s j t)) (get_or s j 0)) [
       | inl can ↦ inl (shift_from_start p s j can.0 feasible inside (record { earlier = can.1; released = can.2.0; fits = can.2.1 }))
       | inr not ↦ inr (λ has. let start = start_from_shift p s j feasible has in not (start.0, start.1.earlier, (start.1.released, start.1.fits)))
     ]
@@ -231,9 +231,15 @@ shift_found_first p s feasible = elim (first_below (λ j. (j < count p) × HasSh
 -- on each list of one start for each activity there is a verdict
 pub verdict_there : (p : Problem) (s : List ℕ) → length s ≡ count p → (v : Verdict) × IsFirstVerdict p s v
 verdict_there p s whole = elim (arcs_found p s) [
-  | inr broken ↦ (Arc (suc broken.0) (suc broken.1),
-      (omega arith, omega arith, subst (λ (x : ℕ). IsFirstBroken p s x (suc broken.1 - 1)) (less broken.0)
-      (subst (IsFirstBroken p s broken.0) (less broken.1) broken.2)))
+  | inr broken ↦ (
+    Arc (suc broken.0) (suc broken.1),
+    (
+      omega arith,
+      omega arith,
+      subst (λ (x : ℕ). IsFirstBroken p s x (suc broken.1 - 1)) (less broken.0)
+          (subst (IsFirstBroken p s broken.0) (less broken.1) broken.2),
+    ),
+  )
   | inl arcs ↦ elim (over_found p s whole arcs) [
     | inr over ↦ (Over over.0 (suc over.1), (omega arith, subst (IsFirstOver p s over.0) (less over.1) over.2))
     | inl capacities ↦ elim (shift_found_first p s (record { each_started = whole; arcs = arcs; capacities = capacities })) [

@@ -24,7 +24,7 @@ use Rattle.plan_sgs.proofs.WorkLemmas.{busy_fits}
 use Rattle.plan_sgs.proofs.WordLemmas.{word_turns, word_split, places_append}
 use Rattle.plan_sgs.proofs.FullWordLemmas.{full_is_active}
 
--- in a feasible schedule what follows an activity on a path comes after it
+-- in a feasible schedule the activities after another one on a path start after it
 walk_fits : (i : Planned) (s : List ℕ) (j : ℕ) (others : List ℕ) → IsSound i.project.network → IsFeasible (problem_of i) s → IsActivity i.project.network j → IsWalk i.project.network j others
     → get_or s (j - 1) 0 + path_length i.project.network j others ≤ makespan (problem_of i) s
 walk_fits i s j [] sound feasible activity walk =
@@ -54,7 +54,7 @@ longest_fits i s sound feasible =
     let fits = walk_fits i s path.0 path.1 sound feasible path.2.0 path.2.1 in
     omega (arith, fits, path.3)
 
--- what no word changes
+-- the part of the bound that no word changes
 least_fits : (i : Planned) (s : List ℕ) → IsInstance i → IsFeasible (problem_of i) s → least_of_all i ≤ makespan (problem_of i) s
 unfolding least_of_all
 least_fits i s instance feasible =
@@ -63,7 +63,7 @@ least_fits i s instance feasible =
     greatest_least (length i.capacities) (busy_of (problem_of i)) (makespan (problem_of i) s) (λ k below. busy_fits (problem_of i) s k feasible (omega (arith, below, caps))) in
     omega (arith, busy, longest_fits i s instance.project.network feasible)
 
--- what is placed stays where it is while others are
+-- a placed activity stays at its start while others are placed
 placed_stays : (p : Problem) (js taken : List ℕ) (placed : List (Option ℕ)) (h s : ℕ) → takes_in_turn p taken js ≡ true → is_member h taken ≡ true → get_or placed h None ≡ Some s
     → get_or (serial_from p placed js) h None ≡ Some s
 placed_stays p [] taken placed h s turns has is = is
@@ -71,10 +71,10 @@ placed_stays p (j ∷ js) taken placed h s turns has is =
     let turn = turn_parts p taken j js turns in
     let other : h ≢ j = λ same. both_ways (is_member j taken) (eligible_not p taken j turn.1) (subst (λ (x : ℕ). is_member x taken ≡ true) same has) in
     placed_stays p js (taken ++ j ∷ []) (set placed j (Some (earliest p placed j))) h s turn.2
-        (member_other h j taken other ∙ has) (get_or-set_other placed j h
-        (Some (earliest p placed j)) None other ∙ is)
+    (member_other h j taken other ∙ has) (get_or-set_other placed j h
+    (Some (earliest p placed j)) None other ∙ is)
 
--- what a word places, and what one that goes on from it does
+-- the activities that a word places, and those of a word that continues it
 pub serial_append : (p : Problem) (placed : List (Option ℕ)) (js ks : List ℕ) → serial_from p placed (js ++ ks) ≡ serial_from p (serial_from p placed js) ks
 serial_append p placed [] ks = refl
 serial_append p placed (j ∷ js) ks = serial_append p (set placed j (Some (earliest p placed j))) js ks
@@ -82,7 +82,7 @@ serial_append p placed (j ∷ js) ks = serial_append p (set placed j (Some (earl
 pub placed_append : (i : Planned) (u v : List ℕ) → placed_by i (u ++ v) ≡ serial_from (problem_of i) (placed_by i u) (places v)
 placed_append i u v = ap (serial_from (problem_of i) (unplaced (depth_of i))) (places_append u v) ∙ serial_append (problem_of i) (unplaced (depth_of i)) (places u) (places v)
 
--- what a word places is feasible so far, and is what stands in it
+-- the activities that a word places are feasible so far, and are its letters
 pub word_partial : (i : Planned) (w : List ℕ) → IsInstance i → IsWord i w → IsPartial (problem_of i) (placed_by i w) × TakenIs (placed_by i w) (places w)
 word_partial i w instance word =
     partial_after (problem_of i) (places w) [] (unplaced (depth_of i)) instance.fit (partial_first (problem_of i)) (taken_first (depth_of i)) (word_turns i [] w word).turns
@@ -112,7 +112,7 @@ reach_fits i u v j instance full inside = by_start (get_or (placed_by i u) j Non
       let place : suc j - 1 ≡ j = omega arith in
       omega (arith, here, fits, start_stays i u v j s instance full.0 is, ap (λ (x : ℕ). get_or (starts_by i (u ++ v)) x 0) place)
 
--- the bound is one
+-- the bound is a lower bound
 pub bound_holds : ProjectBoundHolds
 unfolding ProjectBoundHolds ProjectFullIsActive bound_of makespan_by
 bound_holds i u v instance full =

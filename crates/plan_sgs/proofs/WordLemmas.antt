@@ -29,7 +29,7 @@ one_long : (b : Bool) (n : ℕ) → length (cond b (n ∷ []) []) ≤ 1
 one_long true n = omega arith
 one_long false n = omega arith
 
--- what stands among the eligible ones is eligible
+-- each listed eligible activity is eligible
 pub eligible_in : (p : Problem) (taken : List ℕ) (n x : ℕ) → Contains (eligible p taken n) x → (x < n) × (is_eligible p taken x ≡ true)
 eligible_in p taken zero x (k, l, e) = absurd (omega (arith, l))
 eligible_in p taken (suc n) x c = elim (Contains-append_cases (eligible p taken n) (cond (is_eligible p taken n) (n ∷ []) []) x c) [
@@ -39,7 +39,7 @@ eligible_in p taken (suc n) x c = elim (Contains-append_cases (eligible p taken 
       (omega (arith, o.1), ap (is_eligible p taken) (sym o.1) ∙ o.0)
 ]
 
--- what is eligible stands among them
+-- each eligible activity is listed
 pub eligible_there : (p : Problem) (taken : List ℕ) (n x : ℕ) → x < n → is_eligible p taken x ≡ true → Contains (eligible p taken n) x
 eligible_there p taken zero x l e = absurd (omega (arith, l))
 eligible_there p taken (suc n) x l e = elim (cases_eq x n) [
@@ -69,7 +69,7 @@ eligible_rise p taken (suc n) i j d l m = elim (cases_lt j (length (eligible p t
   tip : List ℕ
   tip = cond (is_eligible p taken n) (n ∷ []) []
 
--- what a letter may count on
+-- facts of a letter that may follow
 pub record IsLetter (i : Planned) (u : List ℕ) (a : ℕ) : Type 0 where
   pub from_one : 1 ≤ a
   pub inside : a - 1 < depth_of i
@@ -78,9 +78,13 @@ pub record IsLetter (i : Planned) (u : List ℕ) (a : ℕ) : Type 0 where
 -- a letter that may follow
 pub letter_is : (i : Planned) (u : List ℕ) (a : ℕ) → Contains (letters_after i u) a → IsLetter i u a
 unfolding letters_after
-letter_is i u a (k, l, e) = record { from_one = omega (arith, number); inside =
-    omega (arith, here.0, number); eligible = ap (is_eligible (problem_of i) (places u))
-    (omega (arith, number)) ∙ here.1 } where
+letter_is i u a (k, l, e) = record {
+  from_one = omega (arith, number);
+  inside =
+      omega (arith, here.0, number);
+  eligible = ap (is_eligible (problem_of i) (places u))
+      (omega (arith, number)) ∙ here.1;
+} where
   js : List ℕ
   js = eligible (problem_of i) (places u) (depth_of i)
 
@@ -93,7 +97,7 @@ letter_is i u a (k, l, e) = record { from_one = omega (arith, number); inside =
   here : (get_or js k 0 < depth_of i) × (is_eligible (problem_of i) (places u) (get_or js k 0) ≡ true)
   here = eligible_in (problem_of i) (places u) (depth_of i) (get_or js k 0) (Contains-get_or js k 0 within)
 
--- what is eligible may follow
+-- an eligible activity may follow
 pub letter_from : (i : Planned) (u : List ℕ) (j : ℕ) → j < depth_of i → is_eligible (problem_of i) (places u) j ≡ true → Contains (letters_after i u) (suc j)
 unfolding letters_after
 letter_from i u j inside is =
@@ -136,12 +140,12 @@ turns_word i u (a ∷ w) from_one turns =
       turns_word i (u ++ a ∷ []) w (All-tail (λ b. 1 ≤ b) a w from_one) (subst (λ (xs : List ℕ). takes_in_turn (problem_of i) xs (places w) ≡ true) (sym (places_push u a)) turn.2),
     )
 
--- a word goes on where its last letter may follow
+-- a word is continued by a letter that may follow
 pub word_push : (i : Planned) (u w : List ℕ) (a : ℕ) → Follows i u w → Contains (letters_after i (u ++ w)) a → Follows i u (w ++ a ∷ [])
 word_push i u [] a follows may = (subst (λ (xs : List ℕ). Contains (letters_after i xs) a) (append-nil u) may, tt)
 word_push i u (b ∷ w) a (here, there) may = (here, word_push i (u ++ b ∷ []) w a there (subst (λ (xs : List ℕ). Contains (letters_after i xs) a) (sym (append_assoc u (b ∷ []) w)) may))
 
--- what begins a word is one, and the rest follows it
+-- a prefix of a word is a word, and the rest follows it
 pub word_split : (i : Planned) (u v w : List ℕ) → Follows i u (v ++ w) → Follows i u v × Follows i (u ++ v) w
 word_split i u [] w follows = (tt, subst (λ (xs : List ℕ). Follows i xs w) (sym (append-nil u)) follows)
 word_split i u (a ∷ v) w (here, there) =

@@ -10,7 +10,7 @@ use Rattle.plan_sgs.proofs.TotalLemmas.{total_same, total_none, total_plus, tota
 use Rattle.plan_sgs.proofs.AmountLemmas.{amount_before, amount_during}
 use Rattle.plan_sgs.proofs.StartLemmas.{amount_at, amount_late, usage_is}
 
--- what q times b and a rest come to
+-- the product of the rounded quotient and b is at least q times b plus a rest
 rounded_enough : (q r b : ℕ) → r < b → q * b + r ≤ (q + min r 1) * b
 rounded_enough q zero b low = let same : q + min 0 1 ≡ q = omega arith in omega (arith, ap (λ (x : ℕ). x * b) same)
 rounded_enough q (suc r) b low = let same : q + min (suc r) 1 ≡ suc q = omega arith in omega (arith, low, ap (λ (x : ℕ). x * b) same, suc-mul q b)
@@ -39,7 +39,7 @@ rounds_up a b some =
     let low : a % b < b = omega (arith, some) in
     (omega (arith, whole, rounded_enough (a / b) (a % b) b low), λ v covers. rounds_least a b v some covers)
 
--- what one activity needs up to some instant of its own
+-- the sum of one activity's needs up to an instant within its interval
 amount_first : (p : Problem) (k i s x : ℕ) → x ≤ duration p i → total (s + x) (λ t. amount_of p t k i (Some s)) ≡ x * need p i k
 amount_first p k i s zero low = let same : s + 0 ≡ s = omega arith in
     let none : total s (λ t. amount_of p t k i (Some s)) ≡ 0 = total_none s (λ t. amount_of p t k i (Some s)) (λ t below. amount_before p t k i s below) in

@@ -62,7 +62,7 @@ usage p placed t k = total (count p) (λ i. amount_of p t k i (get_or placed i N
 abbrev pub all_placed : List ℕ → List (Option ℕ)
 all_placed starts = map Some starts
 
--- each activity starts at the earliest when the lag after the end of each predecessor is over
+-- each activity starts no earlier than the end of each predecessor plus the lag
 abbrev pub KeepsArcs : Problem → List ℕ → Type 0
 KeepsArcs p s = All (λ a. get_or s a.from 0 + duration p a.from + a.lag ≤ get_or s a.to 0) p.links
 

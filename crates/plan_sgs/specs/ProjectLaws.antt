@@ -1,5 +1,5 @@
--- Laws of the words of a project: letters rise, words are finite, full words are the activity
--- lists, and the bound is one (docs/definitions.md, "Words of a project").
+-- Laws of the words of a project: letters rise, words are finite, full words are the activity lists, and the
+-- bound is a lower bound (docs/definitions.md, "Words of a project").
 use Rattle.std.specs.Prelude.{◌≡◌, ℕ, suc, ◌≤◌, ◌<◌, ◌*◌, true, false, List, ◌++◌, length, map, All, Contains, ◌↔◌}
 use Rattle.std.specs.List.{AllPairs}
 use Rattle.plan_net.specs.Network.{Net, IsActivity, IsGreatest, IsLeast}
@@ -17,7 +17,7 @@ unfoldable pub TailsAreGreatest : Type 0
 TailsAreGreatest = (net : Net) (j : ℕ) → IsSound net → IsActivity net j
     → IsGreatest (IsLengthFrom net j) (tail_of net j)
 
--- and the greatest of all is that of all paths
+-- the greatest tail is the greatest length of a path
 unfoldable pub LongestIsGreatest : Type 0
 LongestIsGreatest = (net : Net) → IsSound net → IsGreatest (IsLength net) (longest_of net)
 
@@ -34,7 +34,7 @@ unfoldable pub LettersAreActivities : Type 0
 LettersAreActivities = (i : Planned) (w : List ℕ)
     → All (λ a. (1 ≤ a) × (a ≤ depth_of i)) (letters_after i w)
 
--- no word is longer than the activities are many
+-- no word has more letters than there are activities
 unfoldable pub ProjectWordsAreFinite : Type 0
 ProjectWordsAreFinite = (i : Planned) (w : List ℕ) → IsWord i w → length w ≤ depth_of i
 

@@ -1,4 +1,4 @@
--- What a shop's problem says of broken arcs, usage and left shifts.
+-- Broken arcs, usage and left shifts in the problem of a shop.
 use Rattle.std.proofs.Common.{◌≡◌, ◌≢◌, ℕ, suc, ◌+◌, ◌≤◌, ◌<◌, max, cond, nat_eq, ◌⊎◌, inl, inr, List, length, get_or, refl, sym, ◌∙◌, ap, arith}
 use Rattle.std.specs.List.{All, Contains}
 use Rattle.std.proofs.lemmas.Bool.{cases_lt, cases_eq, cases_order, cond-true, cond-false, eq-eqb, ne_eqb, eqb-true}
@@ -16,7 +16,7 @@ use Rattle.plan_shop.specs.Checks.{IsBrokenAfter, IsUnderWayAt, IsReleaseOf, IsI
 use Rattle.plan_shop.proofs.NumberLemmas.{there_passes, passes_there}
 use Rattle.plan_shop.proofs.ShopBasics.{arcs_are_neighbours, needs_are_machines, count_is, duration_is}
 
--- what holds of each neighbour's link holds of each link
+-- a fact of each neighbours' link is a fact of each link
 pub links_have : (s : JobShop) (P : Link → Type 0) → ((x : ℕ) → x < count_steps s → job_of s (suc x) ≡ job_of s x → P (step_link x)) → All P (problem_of s).links
 unfolding problem_of
 links_have s P each =
@@ -57,7 +57,7 @@ broken_first s starts x below broken none = record {
     | inr (inr after) ↦ absurd (none h after (same, omega (arith, breaks, duration_is s h)))
   ]
 
--- what a step needs of a machine
+-- the need of a step for a machine
 need_of : (s : JobShop) (x k : ℕ) → x < count_steps s → need (problem_of s) x k ≡ cond (nat_eq (machine_of s x) k) 1 0
 unfolding NeedsAreMachines
 need_of s x k l = needs_are_machines s x k l
@@ -68,12 +68,12 @@ need_here s x k below same = need_of s x k below ∙ cond-true (nat_eq (machine_
 need_there : (s : JobShop) (x k : ℕ) → x < count_steps s → machine_of s x ≢ k → need (problem_of s) x k ≡ 0
 need_there s x k below other = need_of s x k below ∙ cond-false (nat_eq (machine_of s x) k) 1 0 (ne_eqb (machine_of s x) k other)
 
--- a step that is under way on a machine takes 1
+-- a step that is under way on a machine uses 1
 pub under_way_one : (s : JobShop) (starts : List ℕ) (t k x : ℕ) → x < count_steps s → IsUnderWayAt s starts t k x → amount_at (problem_of s) starts t k x ≡ 1
 under_way_one s starts t k x below (same, since, before) =
     amount_during (problem_of s) t k x (get_or starts x 0) since (omega (arith, before, duration_is s x)) ∙ need_here s x k below same
 
--- any other takes nothing
+-- any other step uses 0
 pub not_under_way : (s : JobShop) (starts : List ℕ) (t k x : ℕ) → x < count_steps s → (IsUnderWayAt s starts t k x → ⊥) → amount_at (problem_of s) starts t k x ≡ 0
 not_under_way s starts t k x below not = elim (cases_lt t (get_or starts x 0)) [
   | inl early ↦ amount_before (problem_of s) t k x (get_or starts x 0) early
@@ -105,7 +105,7 @@ release_least s starts x r t below release by = least release.reached where
 pub released_later : (p : Problem) (s : List ℕ) (j t u : ℕ) → IsReleasedBy p s j t → t ≤ u → IsReleasedBy p s j u
 released_later p s j t u by later n d within to from = omega (arith, by n d within to from, later)
 
--- how much there is of each machine, and that each step is on one
+-- the capacity of each machine, and that each step is on one
 machine_count : (s : JobShop) → length (problem_of s).capacities ≡ s.machines
 unfolding problem_of
 machine_count s = length-replicate {A = ℕ} s.machines 1
@@ -117,7 +117,7 @@ one_of_each s k within = get_or-replicate s.machines k 1 0 (omega (arith, within
 on_machine : (s : JobShop) → IsShop s → (x : ℕ) → x < count_steps s → machine_of s x < length (problem_of s).capacities
 on_machine s shop x below = omega (arith, shop.on_machines x idle below, machine_count s)
 
--- several steps under way are an overload, and one is none
+-- several steps under way are an overload, and one step isn't
 pub over_from : (s : JobShop) (starts : List ℕ) (t k used : ℕ) → k < s.machines → used ≡ usage (problem_of s) (all_placed starts) t k → 1 < used → IsOver (problem_of s) starts t k
 over_from s starts t k used inside is more =
     let within : k < length (problem_of s).capacities = omega (arith, inside, machine_count s) in
@@ -132,7 +132,7 @@ not_over s starts t k used is few over =
 pub over_inside : (s : JobShop) (starts : List ℕ) (t k : ℕ) → IsOver (problem_of s) starts t k → k < s.machines
 over_inside s starts t k over = omega (arith, over.inside, machine_count s)
 
--- behind a step in the way a step can start at no instant before its end
+-- if a step is in the way, no instant before its end is a possible start
 pub behind_way : (s : JobShop) (starts : List ℕ) (x at y t : ℕ) → IsShop s → length starts ≡ count_steps s →
     x < count_steps s → y < count_steps s → IsInTheWay s starts x at y → at ≤ t →
     CanStartAt (problem_of s) starts x t → get_or starts y 0 + time_of s y ≤ t

@@ -13,12 +13,12 @@ use Rattle.plan_shop.specs.Shop.{JobShop}
 use Rattle.plan_shop.specs.Words.{Placed, letter_of, jobs_after, letters_after}
 use Rattle.plan_shop.specs.Names.{chooser_of, key_of, comes_before, letter_among, letter_by}
 
--- the one of two letters, each with its key, that a rule chooses: the first of them where the keys are equal
+-- the one of two letters, each with its key, that a rule chooses: the first one if the keys are equal
 better : ShopRule → Option (ℕ × ℕ) → ℕ → ℕ → Option (ℕ × ℕ)
 better rule None letter key = Some (letter, key)
 better rule (Some best) letter key = cond (comes_before rule key best.1) (Some (letter, key)) (Some best)
 
--- a letter that comes first, and one that does not
+-- a letter that comes first, and one that doesn't
 better-new : (rule : ShopRule) (best : Option (ℕ × ℕ)) (letter key : ℕ) (first : Bool) →
     MatchOption best (first ≡ true) (λ b. first ≡ comes_before rule key b.1) → first ≡ true →
     better rule best letter key ≡ Some (letter, key)
@@ -72,29 +72,41 @@ best-more rule s xs js (Some best) is j key key_is =
     let b : ℕ = best_of rule (key_of rule s xs) is.head is.rest in
     let list : js ++ j ∷ [] ≡ is.head ∷ (is.rest ++ j ∷ []) = ap (λ ls. ls ++ j ∷ []) is.list in
     let same : comes_before rule key best.1 ≡ comes_before rule (key_of rule s xs j) (key_of rule s xs b) =
-        ap (λ m. comes_before rule m best.1) key_is
-        ∙ ap (λ m. comes_before rule (key_of rule s xs j) m) is.key in
+    ap (λ m. comes_before rule m best.1) key_is
+    ∙ ap (λ m. comes_before rule (key_of rule s xs j) m) is.key in
     let Q : Option (ℕ × ℕ) → Type 0 = λ r. IsBestSoFar rule s xs (js ++ j ∷ []) r in
     elim (cases_Bool (comes_before rule key best.1)) [
       | inl first ↦
           let new : best_of rule (key_of rule s xs) is.head (is.rest ++ j ∷ []) ≡ j =
-              best_of-more rule (key_of rule s xs) is.head is.rest j
-              ∙ cond-true (comes_before rule (key_of rule s xs j) (key_of rule s xs b)) j b
-              (sym same ∙ first) in
+          best_of-more rule (key_of rule s xs) is.head is.rest j
+          ∙ cond-true (comes_before rule (key_of rule s xs j) (key_of rule s xs b)) j b
+          (sym same ∙ first) in
           subst Q (sym (cond-true (comes_before rule key best.1) (Some (suc j, key)) (Some best) first))
-              (record { head = is.head; rest = is.rest ++ j ∷ []; list = list; letter =
-              ap suc (sym new); key = key_is ∙ ap (key_of rule s xs) (sym new) })
+          (record {
+            head = is.head;
+            rest = is.rest ++ j ∷ [];
+            list = list;
+            letter =
+                ap suc (sym new);
+            key = key_is ∙ ap (key_of rule s xs) (sym new);
+          })
       | inr later ↦
           let new : best_of rule (key_of rule s xs) is.head (is.rest ++ j ∷ []) ≡ b =
-              best_of-more rule (key_of rule s xs) is.head is.rest j
-              ∙ cond-false (comes_before rule (key_of rule s xs j) (key_of rule s xs b)) j b
-              (sym same ∙ later) in
+          best_of-more rule (key_of rule s xs) is.head is.rest j
+          ∙ cond-false (comes_before rule (key_of rule s xs j) (key_of rule s xs b)) j b
+          (sym same ∙ later) in
           subst Q (sym (cond-false (comes_before rule key best.1) (Some (suc j, key)) (Some best) later))
-              (record { head = is.head; rest = is.rest ++ j ∷ []; list = list; letter = is.letter
-              ∙ ap suc (sym new); key = is.key ∙ ap (key_of rule s xs) (sym new) })
+          (record {
+            head = is.head;
+            rest = is.rest ++ j ∷ [];
+            list = list;
+            letter = is.letter
+                ∙ ap suc (sym new);
+            key = is.key ∙ ap (key_of rule s xs) (sym new);
+          })
     ]
 
--- one letter more of those that may follow
+-- one more letter that may follow
 best-next : (rule : ShopRule) (s : JobShop) (xs : List Placed) (letters : List ℕ) →
     letters ≡ letters_after s xs → (k l key : ℕ) → k < length letters → l ≡ get_or letters k 0 →
     key ≡ key_of rule s xs (l - 1) → (best : Option (ℕ × ℕ))
@@ -104,8 +116,8 @@ best-next rule s xs letters all k l key inside is key_is best so_far =
     let below : k < length js = omega (arith, inside, ap (λ (ls : List ℕ). length ls) all, length-map js letter_of) in
     let j : ℕ = get_or js k 0 in
     let at : l ≡ suc j = is ∙ ap (λ (ls : List ℕ). get_or ls k 0) all
-        ∙ get_or_default (map letter_of js) k 0 (letter_of 0) (omega (arith, below, length-map js letter_of))
-        ∙ get_or-map letter_of js k 0 in
+    ∙ get_or_default (map letter_of js) k 0 (letter_of 0) (omega (arith, below, length-map js letter_of))
+    ∙ get_or-map letter_of js k 0 in
     let P : ℕ → Type 0 = λ m. IsBestSoFar rule s xs (take (suc k) js) (better rule best m key) in
     let Q : List ℕ → Type 0 = λ ls. IsBestSoFar rule s xs ls (better rule best (suc j) key) in
     let place : l - 1 ≡ j = omega (arith, at) in
@@ -115,8 +127,8 @@ pub best-new : (rule : ShopRule) (s : JobShop) (xs : List Placed) (letters : Lis
     letters ≡ letters_after s xs → (k l key : ℕ) → k < length letters → l ≡ get_or letters k 0 →
     key ≡ key_of rule s xs (l - 1) → (best : Option (ℕ × ℕ))
     → IsBestSoFar rule s xs (take k (jobs_after s xs)) best → (first : Bool) →
-        MatchOption best (first ≡ true) (λ b. first ≡ comes_before rule key b.1) → first ≡ true →
-        IsBestSoFar rule s xs (take (suc k) (jobs_after s xs)) (Some (l, key))
+    MatchOption best (first ≡ true) (λ b. first ≡ comes_before rule key b.1) → first ≡ true →
+    IsBestSoFar rule s xs (take (suc k) (jobs_after s xs)) (Some (l, key))
 best-new rule s xs letters all k l key inside is key_is best so_far first tells taken =
     let Q : Option (ℕ × ℕ) → Type 0 = λ r. IsBestSoFar rule s xs (take (suc k) (jobs_after s xs)) r in
     subst Q (better-new rule best l key first tells taken) (best-next rule s xs letters all k l key inside is key_is best so_far)
@@ -125,8 +137,8 @@ pub best-old : (rule : ShopRule) (s : JobShop) (xs : List Placed) (letters : Lis
     letters ≡ letters_after s xs → (k l key : ℕ) → k < length letters → l ≡ get_or letters k 0 →
     key ≡ key_of rule s xs (l - 1) → (best : Option (ℕ × ℕ))
     → IsBestSoFar rule s xs (take k (jobs_after s xs)) best → (first : Bool) →
-        MatchOption best (first ≡ true) (λ b. first ≡ comes_before rule key b.1) → first ≡ false →
-        IsBestSoFar rule s xs (take (suc k) (jobs_after s xs)) best
+    MatchOption best (first ≡ true) (λ b. first ≡ comes_before rule key b.1) → first ≡ false →
+    IsBestSoFar rule s xs (take (suc k) (jobs_after s xs)) best
 best-old rule s xs letters all k l key inside is key_is best so_far first tells stays =
     let Q : Option (ℕ × ℕ) → Type 0 = λ r. IsBestSoFar rule s xs (take (suc k) (jobs_after s xs)) r in
     subst Q (better-old rule best l key first tells stays) (best-next rule s xs letters all k l key inside is key_is best so_far)
@@ -145,9 +157,14 @@ unfolding IsBestSoFar
 best-some rule s xs letters all k done found so_far best is =
     let Q : Option (ℕ × ℕ) → Type 0 = λ r. IsBestSoFar rule s xs (take k (jobs_after s xs)) r in
     letter-of rule s xs (take k (jobs_after s xs)) best (subst Q is so_far)
-        ∙ ap (λ (ls : List ℕ). letter_among rule s xs ls)
-        (take_all k (jobs_after s xs) (omega (arith, done, ap (λ (ls : List ℕ). length ls) all, length-map
-        (jobs_after s xs) letter_of)))
+    ∙ ap (λ (ls : List ℕ). letter_among rule s xs ls)
+    (take_all k (jobs_after s xs) (omega (
+      arith,
+      done,
+      ap (λ (ls : List ℕ). length ls) all,
+      length-map
+          (jobs_after s xs) letter_of,
+    )))
 
 pub best-empty : (rule : ShopRule) (s : JobShop) (xs : List Placed) (letters : List ℕ) →
     letters ≡ letters_after s xs → (k : ℕ) → length letters ≤ k → (found : Option (ℕ × ℕ)) →
@@ -159,7 +176,7 @@ best-empty rule s xs letters all k done found so_far is_none =
     let none : jobs_after s xs ≡ [] = sym (take_all k (jobs_after s xs) (omega (arith, done, ap (λ (ls : List ℕ). length ls) all, length-map (jobs_after s xs) letter_of))) ∙ is in
     sym (ap (λ (ls : List ℕ). letter_among rule s xs ls) none)
 
--- a letter of the list is one that may follow
+-- a letter of the list may follow
 pub letter-read : (s : JobShop) (xs : List Placed) (letters : List ℕ) → letters ≡ letters_after s xs → (k l : ℕ) → k < length letters → l ≡ get_or letters k 0 → Contains (letters_after s xs) l
 letter-read s xs letters all k l inside is =
     let Q : List ℕ → Type 0 = λ ls. Contains ls l in

@@ -9,7 +9,7 @@ use Rattle.plan_shop.specs.Laws.{IsFirstLeast, IsFirstZero, IsFirstEnd, Competes
 use Rattle.plan_shop.proofs.NumberLemmas.{there_passes, passes_there, those_rise, first_least_is}
 use Rattle.plan_shop.proofs.Reached.{is_zero, is_rival, soonest, soonest_there, soonest_least, zero_passes, all_positive, nil_has_none, jobs_by_zero, jobs_by_rivals, job_there, letter_there, next_from, has_next_from}
 
--- in a rising list a lesser number stands at a lesser place
+-- in a rising list a lesser number has a lesser index
 place_less : (ks : List ℕ) → AllPairs (λ a b. a < b) ks → (i j : ℕ) → i < length ks → j < length ks → get_or ks i 0 < get_or ks j 0 → i < j
 place_less ks rise i j l m less = elim (cases_lt i j) [
   | inl before ↦ before
@@ -127,11 +127,11 @@ rival_is_there s xs j [] (n ∷ ns) none are c =
     let machine : machine_of s (next_step s xs j) ≡ machine_of s (next_step s xs b) = c.machine ∙ ap (λ i. machine_of s (next_step s xs i)) same in
     let sooner : ready s xs j < next_end s xs b = omega (arith, c.sooner, ap (next_end s xs) same) in
     let test : is_rival s xs b j ≡ true = and_from (has_next s xs j)
-        (nat_eq (machine_of s (next_step s xs j)) (machine_of s (next_step s xs b))
-        && nat_lt (ready s xs j) (next_end s xs b)) (has_next_from s xs j c.next)
-        (and_from (nat_eq (machine_of s (next_step s xs j)) (machine_of s (next_step s xs b)))
-        (nat_lt (ready s xs j) (next_end s xs b)) (eq-eqb (machine_of s (next_step s xs j))
-        (machine_of s (next_step s xs b)) machine) (lt-ltb (ready s xs j) (next_end s xs b) sooner)) in
+    (nat_eq (machine_of s (next_step s xs j)) (machine_of s (next_step s xs b))
+    && nat_lt (ready s xs j) (next_end s xs b)) (has_next_from s xs j c.next)
+    (and_from (nat_eq (machine_of s (next_step s xs j)) (machine_of s (next_step s xs b)))
+    (nat_lt (ready s xs j) (next_end s xs b)) (eq-eqb (machine_of s (next_step s xs j))
+    (machine_of s (next_step s xs b)) machine) (lt-ltb (ready s xs j) (next_end s xs b) sooner)) in
     subst (λ (ks : List ℕ). Contains ks j) (sym (jobs_by_rivals s xs n ns none are)) (passes_there s.jobs (is_rival s xs b) j c.job test)
 
 -- the letters that may follow are those of the first next step of time 0, or of the steps that compete

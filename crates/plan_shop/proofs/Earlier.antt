@@ -1,4 +1,5 @@
--- A schedule that continues a word can be moved so that it continues the word with one letter more, and no step starts later.
+-- A schedule that continues a word can be moved so that it continues the word with one more letter, and no
+-- step starts later.
 use Rattle.std.proofs.Common.{◌≡◌, ◌≢◌, ℕ, suc, ◌+◌, ◌-◌, ◌*◌, ◌≤◌, ◌<◌, false, ◌⊎◌, inl, inr, List, [], ◌∷◌, length, set, refl, sym, ◌∙◌, ap, subst, arith}
 use Rattle.std.specs.List.{Contains}
 use Rattle.std.proofs.lemmas.Bool.{cases_lt, cases_eq}
@@ -15,7 +16,7 @@ use Rattle.plan_shop.proofs.Reached.{Reached, IsZero, IsSoonest, choice, letter_
 use Rattle.plan_shop.proofs.FullWords.{reached}
 use Rattle.plan_shop.proofs.ShopBound.{IsPending, pending_is, pending_there, placed_append}
 
--- the next step of a job moves to where it is ready, and no step that isn't placed is in its way
+-- the next step of a job is moved to its head, and no unplaced step is in its way
 pub record IsLeft (s : JobShop) (starts other : ℕ → ℕ) (xs : List Placed) (j : ℕ) : Type 0 where
   pub job : j < s.jobs
   pub next : steps_done xs j < s.machines
@@ -39,7 +40,7 @@ moved_beside : (s : JobShop) → IsShop s → (starts other : ℕ → ℕ) (xs :
     IsSound s starts → Continues s starts xs → IsLeft s starts other xs j → (x : ℕ) → x < count_steps s →
     x ≢ next_step s xs j
     → machine_of s x ≡ machine_of s (next_step s xs j) → 0 < time_of s x → 0 < time_of s (next_step s xs j) →
-        (other x + time_of s x ≤ ready s xs j) ⊎ (ready s xs j + time_of s (next_step s xs j) ≤ other x)
+    (other x + time_of s x ≤ ready s xs j) ⊎ (ready s xs j + time_of s (next_step s xs j) ≤ other x)
 moved_beside s shop starts other xs j r sound con left x l apart same tx ty = elim (cases_lt (place_of s x) (steps_done xs (job_of s x))) [
   | inl placed ↦
       inl (omega (arith, free_of s starts xs r con.placed x placed tx, ready_free s xs j ty, ap (machine_free s xs) same, left.rest x apart))
@@ -106,16 +107,24 @@ moved_continues s shop starts other xs j r sound con left = record {
 
   unplaced : (x : ℕ) → x < count_steps s → steps_done (p ∷ xs) (job_of s x) ≤ place_of s x → 0 < time_of s x → machine_free s (p ∷ xs) (machine_of s x) ≤ other x
   unplaced x l later t =
-      let distinct : x ≢ y = λ e. omega (arith, later, ap (place_of s) e, place_at s j
-          (steps_done xs j) left.next, ap (λ z. steps_done (p ∷ xs) (job_of s z)) e, ap
-          (steps_done (p ∷ xs)) job, done_same p xs j refl) in
+      let distinct : x ≢ y = λ e. omega (
+        arith,
+        later,
+        ap (place_of s) e,
+        place_at s j
+            (steps_done xs j) left.next,
+        ap (λ z. steps_done (p ∷ xs) (job_of s z)) e,
+        ap
+            (steps_done (p ∷ xs)) job,
+        done_same p xs j refl,
+      ) in
       let before : steps_done xs (job_of s x) ≤ place_of s x = omega (arith, later, done_more p xs (job_of s x)) in
       elim (free_cases s p xs (machine_of s x)) [
         | inl (same, ty, is) ↦ omega (arith, is, con.unplaced x l before t, left.room x l before distinct (sym same) t ty, left.rest x distinct)
         | inr is ↦ omega (arith, is, con.unplaced x l before t, left.rest x distinct)
       ]
 
--- a list with the next step of a job where it is ready
+-- a list with the next step of a job moved to its head
 abbrev pub moved : JobShop → List ℕ → List Placed → ℕ → List ℕ
 moved s starts xs j = set starts (next_step s xs j) (ready s xs j)
 
@@ -134,7 +143,7 @@ pub moved_feasible : (s : JobShop) → IsShop s → (starts : List ℕ) (xs : Li
 moved_feasible s shop starts xs j whole r sound con left =
     feasible_from s shop (moved s starts xs j) (length-set starts (next_step s xs j) (ready s xs j) ∙ whole) (moved_sound s shop (at starts) (at (moved s starts xs j)) xs j r sound con left)
 
--- where all next steps have positive times, a step that isn't placed and isn't a next one starts after the first end
+-- if all next steps have positive times, an unplaced step that isn't a next one starts after the first end
 later_after : (s : JobShop) → IsShop s → (starts : ℕ → ℕ) (xs : List Placed) (b : ℕ) → Reached s xs →
     IsSound s starts → Continues s starts xs → IsSoonest s xs b → (x : ℕ) → x < count_steps s →
     steps_done xs (job_of s x) < place_of s x → next_end s xs b ≤ starts x
@@ -155,7 +164,7 @@ pub record Mover (s : JobShop) (starts : List ℕ) (xs : List Placed) (j : ℕ) 
   pub there : Contains (jobs_after s xs) j
   pub left : IsLeft s (at starts) (at (moved s starts xs j)) xs j
 
--- a next step of time 0 has room where it is ready
+-- a next step of time 0 has room at its head
 zero_mover : (s : JobShop) → IsShop s → (starts : List ℕ) (xs : List Placed) (j : ℕ) → length starts ≡ count_steps s → IsZero s xs j → Mover s starts xs j
 zero_mover s shop starts xs j whole z = record {
   there = z.there;
@@ -168,7 +177,8 @@ zero_mover s shop starts xs j whole z = record {
   };
 }
 
--- of the pending steps on the machine of the first end the one that starts first moves, where it competes; else the one of the first end
+-- the pending step on the machine of the first end that starts first moves if it competes, otherwise the step
+-- of the first end
 soonest_mover : (s : JobShop) → IsShop s → (starts : List ℕ) (xs : List Placed) (b : ℕ) →
     length starts ≡ count_steps s → Reached s xs → IsSound s (at starts) → Continues s (at starts) xs →
     IsSoonest s xs b → (j : ℕ) × Mover s starts xs j
@@ -186,7 +196,7 @@ soonest_mover s shop starts xs b whole r sound con soonest = by_list (pending s 
         positive = soonest.positive b soonest.job soonest.next;
       })
 
-  -- the first end moves, where all others start after it
+  -- the step of the first end moves, if all others start after it
   by_end : ((x : ℕ) → IsPending s xs m x → next_end s xs b ≤ at starts x) → (j : ℕ) × Mover s starts xs j
   by_end late = (
     b,
@@ -202,7 +212,7 @@ soonest_mover s shop starts xs b whole r sound con soonest = by_list (pending s 
     },
   )
 
-  -- the first to start moves, where it is a next step that competes
+  -- the step that starts first moves, if it is a next step that competes
   by_first : (z : ℕ) → IsPending s xs m z → ((x : ℕ) → IsPending s xs m x → at starts z ≤ at starts x) → (j : ℕ) × Mover s starts xs j
   by_first z p first = elim (cases_lt (steps_done xs (job_of s z)) (place_of s z)) [
     | inl later ↦ by_end (λ x q. omega (arith, first x q, later_after s shop (at starts) xs b r sound con soonest z p.below later))
@@ -244,7 +254,7 @@ soonest_mover s shop starts xs b whole r sound con soonest = by_list (pending s 
       let c : Contains (pending s xs m) f = subst (λ (ks : List ℕ). Contains ks f) (sym are) (first_least_in (at starts) z zs) in
       by_first f (pending_is s xs m f c) (λ x q. first_least_below (at starts) z zs x (subst (λ (ks : List ℕ). Contains ks x) are (pending_there s xs m x q)))
 
--- where not all is placed, some next step can move to where it is ready
+-- if not all steps are placed, some next step can move to its head
 pub mover : (s : JobShop) → IsShop s → (starts : List ℕ) (xs : List Placed) → length starts ≡ count_steps s →
     Reached s xs → IsSound s (at starts) → Continues s (at starts) xs → is_full s xs ≡ false →
     (j : ℕ) × Mover s starts xs j
@@ -255,7 +265,7 @@ mover s shop starts xs whole r sound con some =
       | inr b ↦ soonest_mover s shop starts xs c.0 whole r sound con b
     ]
 
--- a word that isn't full and that a feasible list continues has a letter that leads to one in which no step starts later
+-- if a feasible list continues a word that isn't full, some letter leads to one in which no step starts later
 pub letter_is_there : (s : JobShop) → IsShop s → LetterIsThere s
 unfolding LetterIsThere
 letter_is_there s shop w starts is some c =

@@ -23,7 +23,7 @@ both : (P : Step → Type 0) (xs ys : List Step) → AllByRecursion P xs → All
 both P [] ys p q = q
 both P (x ∷ xs) ys p q = (p.0, both P xs ys p.1 q)
 
--- what holds of the steps of each job holds of all steps
+-- a fact of the steps of each job is a fact of all steps
 pub flat_steps-all : (P : Step → Type 0) (jobs : List (List Step)) → AllByRecursion (λ steps. All P steps) jobs → AllByRecursion P (flat_steps jobs)
 flat_steps-all P [] p = tt
 flat_steps-all P (row ∷ jobs) p = both P row (flat_steps jobs) (recursion_from_All P row p.0) (flat_steps-all P jobs p.1)

@@ -1,4 +1,4 @@
--- When all steps are placed, and the makespan of what is placed.
+-- The fact that all steps are placed, and the makespan of the placed steps.
 use Rattle.std.proofs.Common.{◌≡◌, ℕ, ◌+◌, ◌<◌, inl, inr, true, false, get_or, sym, ap, ◌∙◌, subst, List, [], arith}
 use Rattle.std.specs.Prelude.{not, length, Some, ◌*◌}
 use Rattle.std.specs.List.{slice_get}
@@ -45,11 +45,11 @@ held-word s tails done ends free starts turns t is kept =
     let Q : Standing → Type 0 = λ v. IsWord v.shop v.word in
     subst Q is (turns-follow s [] turns kept.turns_are)
 
--- how many steps there are, as it is read
+-- the number of steps, as code reads it
 pub count-read : (s : JobShop) (w : List ℕ) (t : Standing) → standing s w ≡ t → IsShop s → (j m : ℕ) → j ≡ s.jobs → m ≡ s.machines → count_steps t.shop ≡ j * m
 count-read s w t is shop j m jobs machines =
     ap (λ (v : Standing). length v.shop.steps) (sym is) ∙ shop.all_steps ∙ ap (λ n. n * s.machines) (sym jobs) ∙ ap (λ n. j * n) (sym machines)
 
--- the time of a step, as it is read
+-- the time of a step, as code reads it
 pub time-read : (s : JobShop) (w : List ℕ) (t : Standing) → standing s w ≡ t → (x : ℕ) (step : Step) → slice_get s.steps x ≡ Some step → time_of t.shop x ≡ step.time
 time-read s w t is x step here = ap (λ (v : Standing). time_of v.shop x) (sym is) ∙ ap (λ (v : Step). v.time) (step-is s x step here)

@@ -19,7 +19,7 @@ start_new p xs x e = cond-true (nat_eq p.step x) p.start (start_in xs x) (eq-eqb
 pub start_old : (p : Placed) (xs : List Placed) (x : ℕ) → x ≢ p.step → start_in (p ∷ xs) x ≡ start_in xs x
 start_old p xs x other = cond-false (nat_eq p.step x) p.start (start_in xs x) (ne_eqb p.step x (λ e. other (sym e)))
 
--- the starts of what is placed are those
+-- the starts of the placed steps are those
 pub agrees_start : (s : JobShop) (xs : List Placed) → Reached s xs → Agrees (start_in xs) xs
 agrees_start s [] r = tt
 agrees_start s (p ∷ xs) r = (
@@ -51,7 +51,7 @@ full_sound s shop xs r full =
 pub full_feasible : (s : JobShop) → IsShop s → (xs : List Placed) → Reached s xs → is_full s xs ≡ true → IsFeasible (problem_of s) (starts_of s xs)
 full_feasible s shop xs r full = feasible_from s shop (starts_of s xs) (length_table (count_steps s) (start_in xs)) (full_sound s shop xs r full)
 
--- a full schedule continues what it was made of: nothing is unplaced
+-- a full schedule continues the steps that it places, since none is unplaced
 pub full_continues : (s : JobShop) → IsShop s → (xs : List Placed) → Reached s xs → is_full s xs ≡ true → Continues s (at (starts_of s xs)) xs
 full_continues s shop xs r full = record {
   placed = agrees s shop xs r;
@@ -63,7 +63,7 @@ pub full_is_feasible : (s : JobShop) → IsShop s → FullIsFeasible s
 unfolding FullIsFeasible
 full_is_feasible s shop w is full = full_feasible s shop (placed_in s w) (reached s w is) full
 
--- two sound schedules, of which the other has one step earlier and is the same elsewhere
+-- two feasible schedules; the other has one step earlier and is the same elsewhere
 pub record IsMoved (s : JobShop) (starts other : ℕ → ℕ) (x : ℕ) : Type 0 where
   pub below : x < count_steps s
   pub sound : IsSound s starts
@@ -88,7 +88,8 @@ times_first : (s : JobShop) (y n : ℕ) → 0 < n → time_of s y ≤ times_from
 times_first s y zero h = absurd (omega (arith, h))
 times_first s y (suc n) h = omega arith
 
--- the next step of the moved step's job would end by the moved step's new end, where its machine is free by its new start
+-- the next step of the moved step's job would end by the moved step's new end, if its machine is free by its
+-- new start
 soon : (s : JobShop) → IsShop s → (starts other : ℕ → ℕ) (x : ℕ) → IsMoved s starts other x →
     (zs : List Placed) → Reached s zs → Continues s starts zs → steps_done zs (job_of s x) ≤ place_of s x →
     (0 < time_of s x → machine_free s zs (machine_of s x) ≤ other x)
@@ -98,9 +99,13 @@ soon s shop starts other x moved zs r con l free = elim (cases_eq (steps_done zs
       let y = next_step s zs (job_of s x) in
       let is : y ≡ x = omega (arith, number_is s x, here) in
       let early : ready s zs (job_of s x) ≤ other x =
-          ready_within s zs (job_of s x) (other x) (ended_by s shop starts other x moved zs r con.placed here)
-          (λ t. omega (arith, free (omega (arith, t, ap (time_of s) is)), ap
-          (λ z. machine_free s zs (machine_of s z)) is)) in
+      ready_within s zs (job_of s x) (other x) (ended_by s shop starts other x moved zs r con.placed here)
+      (λ t. omega (
+        arith,
+        free (omega (arith, t, ap (time_of s) is)),
+        ap
+            (λ z. machine_free s zs (machine_of s z)) is,
+      )) in
       omega (arith, early, ap (time_of s) is)
   | inr apart ↦
       let j = job_of s x in
@@ -114,8 +119,8 @@ soon s shop starts other x moved zs r con l free = elim (cases_eq (steps_done zs
       let place : place_of s y ≡ k = place_at s j k (omega (arith, low, last)) in
       let there : y + (place_of s x - k) ≡ x = omega (arith, number_is s x, low) in
       let reach : other y + times_from s y (place_of s x - k) ≤ other (y + (place_of s x - k)) =
-          chain_to s shop other moved.sound_other (place_of s x - k) y
-          (number_below s shop j k job (omega (arith, low, last))) (omega (arith, place, low, last)) in
+      chain_to s shop other moved.sound_other (place_of s x - k) y
+      (number_below s shop j k job (omega (arith, low, last))) (omega (arith, place, low, last)) in
       let first : time_of s y ≤ times_from s y (place_of s x - k) = times_first s y (place_of s x - k) (omega (arith, low)) in
       omega (arith, early, reach, first, moved.rest y before, ap other there)
 ]
@@ -145,11 +150,11 @@ free_le s shop starts other x moved (p ∷ zs) r con l t =
       late tp after end (inl none) = omega (arith, none, tp, ap (time_of s) r.2)
       late tp after end (inr rival) =
           let least : next_end s zs rival.first ≤ next_end s zs (job_of s x) =
-              rival.least (job_of s x) (job_below s shop x moved.below)
-              (omega (arith, l, done_more p zs (job_of s x), place_below s shop x)) in
+          rival.least (job_of s x) (job_below s shop x moved.below)
+          (omega (arith, l, done_more p zs (job_of s x), place_below s shop x)) in
           omega (arith, after, end, least, rival.sooner, r.3)
 
--- where a schedule continues a word, no step that the word places can move to an earlier start alone
+-- if a schedule continues a word, no step of the word can move to an earlier start alone
 pub not_moved : (s : JobShop) → IsShop s → (starts other : ℕ → ℕ) (x : ℕ) → IsMoved s starts other x →
     (zs : List Placed) → Reached s zs → Continues s starts zs → place_of s x < steps_done zs (job_of s x) → ⊥
 not_moved s shop starts other x moved [] r con l = omega (arith, l)
@@ -163,8 +168,12 @@ not_moved s shop starts other x moved (p ∷ zs) r con l = elim (placed_cases s 
       let is : next_step s zs p.job ≡ x = sym r.2 ∙ sym new in
       let ended : job_end s zs p.job ≤ other x = omega (arith, ended_by s shop starts other x moved zs r.0 con'.placed done, ap (job_end s zs) job) in
       let early : ready s zs p.job ≤ other x = ready_within s zs p.job (other x) ended
-          (λ t. omega (arith, free_le s shop starts other x moved zs r.0 con' (omega (arith, done))
-          (omega (arith, t, ap (time_of s) is)), ap (λ z. machine_free s zs (machine_of s z)) is)) in
+      (λ t. omega (
+        arith,
+        free_le s shop starts other x moved zs r.0 con' (omega (arith, done))
+            (omega (arith, t, ap (time_of s) is)),
+        ap (λ z. machine_free s zs (machine_of s z)) is,
+      )) in
       omega (arith, early, moved.less, r.3, con.placed.0, ap starts new)
 ]
 

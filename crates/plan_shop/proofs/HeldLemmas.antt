@@ -1,4 +1,4 @@
--- What a tree that stands at a word holds, told of where it stands.
+-- The data of a tree at a word, in terms of the word.
 use Rattle.std.proofs.Common.{◌≡◌, ℕ, ◌<◌, List, length, get_or, ◌∙◌, subst, arith}
 use Rattle.std.proofs.lemmas.List.{get_or_default}
 use Rattle.plan_shop.specs.declared.tree.Turn.{Turn}

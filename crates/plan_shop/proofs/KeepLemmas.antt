@@ -1,4 +1,4 @@
--- What a tree keeps goes along with each push, and comes back with each pop.
+-- The data of a tree after each push and each pop.
 use Rattle.std.proofs.Common.{◌≡◌, ◌≢◌, ℕ, suc, ◌<◌, inl, inr, cond, List, [], ◌∷◌, ◌++◌, get_or, set, refl, sym, ap, ◌∙◌, arith}
 use Rattle.std.specs.Prelude.{nat_eq, nat_lt}
 use Rattle.std.proofs.lemmas.Bool.{cases_eq, cases_lt, cond-true, cond-false, eq-eqb, ne_eqb, lt-ltb, le-ltb}
@@ -46,7 +46,7 @@ start-other s xs j x other = cond-false (nat_eq (next_step s xs j) x) (ready s x
 
 -- ---- one more step
 
--- when a machine is free behind the next step of a job, told by whether the step takes time
+-- the free instant of a machine after the next step of a job, by whether the step has positive time
 pub free-after : (s : JobShop) (xs : List Placed) (j : ℕ) →
     cond (nat_lt 0 (time_of s (next_step s xs j))) (next_end s xs j)
     (machine_free s xs (machine_of s (next_step s xs j))) ≡ machine_free s (place s xs j)
@@ -75,9 +75,16 @@ place-keeps s xs done ends free starts k j d e m f x t job machine step d_is e_i
 } where
   dones : (i : ℕ) → i < s.jobs → get_or (set done j d) i 0 ≡ steps_done (place s xs j) i
   dones i below = elim (cases_eq i j) [
-    | inl same ↦ omega (arith, ap (λ n. get_or (set done j d) n 0) same, ap
-        (λ n. steps_done (place s xs j) n) same, get_or-set_same done j d 0
-        (omega (arith, k.done_size, job)), d_is, done-same s xs j)
+    | inl same ↦ omega (
+      arith,
+      ap (λ n. get_or (set done j d) n 0) same,
+      ap
+          (λ n. steps_done (place s xs j) n) same,
+      get_or-set_same done j d 0
+          (omega (arith, k.done_size, job)),
+      d_is,
+      done-same s xs j,
+    )
     | inr other ↦ get_or-set_other done j i d 0 other ∙ k.done_is i below ∙ sym (done-other s xs j i other)
   ]
 
@@ -95,9 +102,16 @@ place-keeps s xs done ends free starts k j d e m f x t job machine step d_is e_i
 
   begins : (i : ℕ) → i < count_steps s → place_of s i < steps_done (place s xs j) (job_of s i) → get_or (set starts x t) i 0 ≡ start_in (place s xs j) i
   begins i below there = elim (cases_eq i x) [
-    | inl same ↦ omega (arith, ap (λ n. get_or (set starts x t) n 0) same, ap (λ n. start_in (place s xs j) n)
-        (same ∙ x_is), get_or-set_same starts x t 0
-        (omega (arith, k.starts_size, step)), t_is, start-same s xs j)
+    | inl same ↦ omega (
+      arith,
+      ap (λ n. get_or (set starts x t) n 0) same,
+      ap (λ n. start_in (place s xs j) n)
+          (same ∙ x_is),
+      get_or-set_same starts x t 0
+          (omega (arith, k.starts_size, step)),
+      t_is,
+      start-same s xs j,
+    )
     | inr other ↦ elim (placed_cases s (record { job = j; step = next_step s xs j; start = ready s xs j }) xs refl i there) [
       | inl before ↦ get_or-set_other starts x i t 0 other ∙ k.start_is i below before ∙ sym (start-other s xs j i (λ h. other (h ∙ sym x_is)))
       | inr last ↦ absurd (other (last ∙ sym x_is))
@@ -140,10 +154,17 @@ place-undone s xs done ends free starts j d e m f k job machine next d_is e_is m
 
   begins : (i : ℕ) → i < count_steps s → place_of s i < steps_done xs (job_of s i) → get_or starts i 0 ≡ start_in xs i
   begins i below there =
-      let other : i ≢ next_step s xs j = λ h. omega
-          (arith, there, ap (place_of s) h, ap (job_of s) h, place_at s j (steps_done xs j) next, job_at s j
-          (steps_done xs j) next, ap (λ n. steps_done xs n)
-          (ap (job_of s) h ∙ job_at s j (steps_done xs j) next)) in
+      let other : i ≢ next_step s xs j = λ h. omega (
+        arith,
+        there,
+        ap (place_of s) h,
+        ap (job_of s) h,
+        place_at s j (steps_done xs j) next,
+        job_at s j
+            (steps_done xs j) next,
+        ap (λ n. steps_done xs n)
+            (ap (job_of s) h ∙ job_at s j (steps_done xs j) next),
+      ) in
       k.start_is i below (elim (cases_eq (job_of s i) j) [
         | inl same ↦ omega (arith, there, done-same s xs j, ap (λ n. steps_done xs n) same, ap (λ n. steps_done (place s xs j) n) same)
         | inr apart ↦ omega (arith, there, done-other s xs j (job_of s i) apart)

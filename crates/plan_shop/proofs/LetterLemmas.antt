@@ -136,7 +136,7 @@ pub if-none : (t : Standing) (n : ℕ) (first : Option (ℕ × ℕ)) → IsSoFar
 if-none t n None is all = so_far-empty t n is all
 if-none t n (Some first) is all = tt
 
--- one job more among the rivals
+-- one more job among the rivals
 pub rivals-yes : (t : Standing) (machine end n : ℕ) (old list new : List ℕ) →
     list ≡ old ++ map letter_of (those_below n (is_rival t machine end)) → is_rival t machine end n ≡ true →
     new ≡ list ++ suc n ∷ [] → new ≡ old ++ map letter_of (those_below (suc n) (is_rival t machine end))

@@ -19,7 +19,7 @@ one_there : (b : Bool) (n x : ℕ) → b ≡ true → x ≡ n → Contains (cond
 one_there true n x e same = (0, omega arith, sym same)
 one_there false n x e same = absurd (false≢true e)
 
--- what is in the list is below n and passes
+-- a number in the list is below n and passes
 pub there_passes : (n : ℕ) (f : ℕ → Bool) (x : ℕ) → Contains (those_below n f) x → (x < n) × (f x ≡ true)
 there_passes zero f x (k, l, e) = absurd (omega (arith, l))
 there_passes (suc n) f x c = elim (Contains-append_cases (those_below n f) (cond (f n) (n ∷ []) []) x c) [
@@ -29,7 +29,7 @@ there_passes (suc n) f x c = elim (Contains-append_cases (those_below n f) (cond
       (omega (arith, o.1), ap f (sym o.1) ∙ o.0)
 ]
 
--- what is below n and passes is in the list
+-- a number below n that passes is in the list
 pub passes_there : (n : ℕ) (f : ℕ → Bool) (x : ℕ) → x < n → f x ≡ true → Contains (those_below n f) x
 passes_there zero f x l e = absurd (omega (arith, l))
 passes_there (suc n) f x l e = elim (cases_eq x n) [
@@ -54,7 +54,7 @@ those_rise (suc n) f i j d l m = elim (cases_lt j (length (those_below n f))) [
   | inl before ↦
       let low : get_or (those_below n f) i d < get_or (those_below n f) j d = those_rise n f i j d l before in
       let first : get_or (those_below n f ++ cond (f n) (n ∷ []) []) i d ≡ get_or (those_below n f) i d =
-          get_or_append_left (those_below n f) (cond (f n) (n ∷ []) []) d i (omega (arith, l, before)) in
+      get_or_append_left (those_below n f) (cond (f n) (n ∷ []) []) d i (omega (arith, l, before)) in
       let second : get_or (those_below n f ++ cond (f n) (n ∷ []) []) j d ≡ get_or (those_below n f) j d = get_or_append_left (those_below n f) (cond (f n) (n ∷ []) []) d j before in
       omega (arith, low, first, second)
   | inr last ↦
@@ -64,8 +64,8 @@ those_rise (suc n) f i j d l m = elim (cases_lt j (length (those_below n f))) [
       let first : get_or (those_below n f ++ cond (f n) (n ∷ []) []) i d ≡ get_or (those_below n f) i d = get_or_append_left (those_below n f) (cond (f n) (n ∷ []) []) d i inside in
       let low : get_or (those_below n f) i d < n = (there_passes n f (get_or (those_below n f) i d) (Contains-get_or (those_below n f) i d inside)).0 in
       let second : get_or (those_below n f ++ cond (f n) (n ∷ []) []) j d ≡ get_or (cond (f n) (n ∷ []) [])
-          (j - length (those_below n f)) d = get_or-append_right (those_below n f) (cond (f n) (n ∷ []) [])
-          (length (those_below n f)) j d refl last in
+      (j - length (those_below n f)) d = get_or-append_right (those_below n f) (cond (f n) (n ∷ []) [])
+      (length (those_below n f)) j d refl last in
       let is : get_or (cond (f n) (n ∷ []) []) (j - length (those_below n f)) d ≡ n = one_is (f n) n (j - length (those_below n f)) d (omega (arith, long, m, last)) in
       omega (arith, first, low, second, is)
 ]
@@ -76,7 +76,7 @@ those_each n f P each k d l =
     let t = there_passes n f (get_or (those_below n f) k d) (Contains-get_or (those_below n f) k d l) in
     each (get_or (those_below n f) k d) t.0 t.1
 
--- R holds of each element and those after it
+-- each element is in relation R to those after it
 abbrev pub InOrder : (ℕ → ℕ → Type 0) → List ℕ → Type 0
 InOrder R [] = Unit {0}
 InOrder R (x ∷ xs) = AllByRecursion (R x) xs × InOrder R xs
@@ -116,7 +116,7 @@ least_of_rest f x (y ∷ ys) = (omega (arith, least_of_first f y ys), weaker ys 
   weaker [] a = tt
   weaker (z ∷ zs) a = (omega (arith, a.0), weaker zs a.1)
 
--- the first of least key, where y comes before x in key, or doesn't
+-- the first entry of least key, if y has a lesser key than x or not
 least_skips : (key : ℕ → ℕ) (x y : ℕ) (ys : List ℕ) (r : ℕ) → key y < key x → IsFirstLeast key (y ∷ ys) r → IsFirstLeast key (x ∷ y ∷ ys) r
 least_skips key x y ys r less h = record {
   place = suc h.place;
@@ -199,17 +199,23 @@ greatest_keeps key x y ys r zero order l there greatest first = record { place =
   greatest' (suc zero) l = omega (arith, greatest 0 (omega arith), order)
   greatest' (suc (suc i)) l = greatest (suc i) (omega (arith, l))
 greatest_keeps key x y ys r (suc place) order inside there greatest first =
-    record { place = suc (suc place); inside = omega (arith, inside); there = there; greatest =
-    greatest'; first = first' } where
-  greatest' : (i : ℕ) → i < length (x ∷ y ∷ ys) → key (get_or (x ∷ y ∷ ys) i 0) ≤ key r
-  greatest' zero l = greatest 0 (omega arith)
-  greatest' (suc zero) l = omega (arith, greatest 0 (omega arith), order)
-  greatest' (suc (suc i)) l = greatest (suc i) (omega (arith, l))
+    record {
+      place = suc (suc place);
+      inside = omega (arith, inside);
+      there = there;
+      greatest =
+          greatest';
+      first = first';
+    } where
+      greatest' : (i : ℕ) → i < length (x ∷ y ∷ ys) → key (get_or (x ∷ y ∷ ys) i 0) ≤ key r
+      greatest' zero l = greatest 0 (omega arith)
+      greatest' (suc zero) l = omega (arith, greatest 0 (omega arith), order)
+      greatest' (suc (suc i)) l = greatest (suc i) (omega (arith, l))
 
-  first' : (i : ℕ) → i < suc (suc place) → key (get_or (x ∷ y ∷ ys) i 0) < key r
-  first' zero l = first 0 (omega arith)
-  first' (suc zero) l = omega (arith, first 0 (omega arith), order)
-  first' (suc (suc i)) l = first (suc i) (omega (arith, l))
+      first' : (i : ℕ) → i < suc (suc place) → key (get_or (x ∷ y ∷ ys) i 0) < key r
+      first' zero l = first 0 (omega arith)
+      first' (suc zero) l = omega (arith, first 0 (omega arith), order)
+      first' (suc (suc i)) l = first (suc i) (omega (arith, l))
 
 pub first_greatest_is : (key : ℕ → ℕ) (x : ℕ) (ys : List ℕ) → IsFirstGreatest key (x ∷ ys) (first_greatest key x ys)
 first_greatest_is key x [] = record { place = 0; inside = omega arith; there = refl; greatest = only; first = λ i l. absurd (omega (arith, l)) } where

@@ -1,4 +1,4 @@
--- Of each of these there is only one: the least closed machine in use, the rule of a name.
+-- There is at most one least closed machine in use, and a name has at most one rule.
 use Rattle.std.proofs.Common.{ℕ, nat_eq, cond, ◌≡◌, inl, inr, Bool, List, get_or, refl, sym, ◌∙◌, ap}
 use Rattle.std.proofs.lemmas.Bool.{cases_order}
 use Rattle.plan_orlib.specs.declared.steps.Step.{Step}
@@ -15,11 +15,11 @@ closed_once steps usable m n first second = elim (cases_order m n) [
   | inr (inr higher) ↦ absurd (first.1 n higher second.0)
 ]
 
--- and none where no machine in use is closed
+-- and none if no machine in use is closed
 pub none_not_closed : (steps : List Step) (usable : List Bool) (m : ℕ) → NoneIsClosed steps usable → IsFirstClosed steps usable m → ⊥
 none_not_closed steps usable m none first = none m first.0
 
--- the rule that the first letter of a name tells
+-- the rule by the first letter of a name
 rule_told : List ℕ → ShopRule
 rule_told name =
     cond (nat_eq (get_or name 0 0) 115) rule.ShortestTime

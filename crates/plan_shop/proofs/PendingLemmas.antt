@@ -1,4 +1,4 @@
--- Heads along a job, and what is pending on a machine.
+-- Heads along a job, and the pending steps of a machine.
 use Rattle.std.proofs.Common.{◌≡◌, ◌≢◌, ℕ, zero, suc, ◌+◌, ◌-◌, ◌*◌, ◌≤◌, ◌<◌, ◌&&◌, inl, inr, min, true, false, cond, List, [], ◌∷◌, ◌++◌, length, get_or, slice_index, replicate, set, Some, refl, sym, ap, ◌∙◌, subst, arith}
 use Rattle.std.specs.Prelude.{nat_eq, nat_lt, not}
 use Rattle.std.specs.List.{slice_get}
@@ -21,7 +21,7 @@ use Rattle.plan_shop.proofs.LetterLemmas.{those-yes, those-no}
 
 -- ---- heads
 
--- where the job has ended before the step k after its next one
+-- the end of the job before the step k after its next one
 abbrev pub end_at : JobShop → List Placed → ℕ → ℕ → ℕ
 end_at s xs j zero = job_end s xs j
 end_at s xs j (suc k) = head_at s xs j k + time_of s (next_step s xs j + k)
@@ -51,7 +51,7 @@ least_of-more : (f : ℕ → ℕ) (x : ℕ) (ys : List ℕ) (z : ℕ) → least_
 least_of-more f x [] z = refl
 least_of-more f x (y ∷ ys) z = omega (arith, least_of-more f y ys z)
 
--- one step more among those pending
+-- one more step among the pending ones
 pub record IsWithStep (t : Standing) (x : ℕ) (p q : OnMachine) : Type 0 where
   pub lasts : 0 < time_of t.shop x
   pub early : head_of t.shop (placed t) x ≤ 20000000
@@ -80,8 +80,12 @@ with_step t x p q (y ∷ ys) is w = (
 
 -- before the first step
 pub gathered-none : (t : Standing) (pending : Pending) → IsSmallShop t.shop →
-    pending ≡ record { heads = replicate 20 1000000000; times = replicate 20 0; tails =
-    replicate 20 1000000000 } → IsGathered t 0 pending
+    pending ≡ record {
+      heads = replicate 20 1000000000;
+      times = replicate 20 0;
+      tails =
+          replicate 20 1000000000;
+    } → IsGathered t 0 pending
 gathered-none t pending small is = record {
   heads_size = ap (λ (p : Pending). length p.heads) is ∙ length-replicate {A = ℕ} 20 1000000000;
   times_size = ap (λ (p : Pending). length p.times) is ∙ length-replicate {A = ℕ} 20 0;
@@ -94,7 +98,7 @@ gathered-none t pending small is = record {
   few = λ m below. omega (arith, ap (λ (p : Pending). slice_index p.times m) is ∙ get_or-replicate {A = ℕ} 20 m 0 0 (omega (arith, below, small.few_machines)));
 }
 
--- a step that is placed, or takes no time
+-- a step that is placed, or has time 0
 pub gathered-skips : (t : Standing) (x : ℕ) (pending : Pending) → IsGathered t x pending → ((m : ℕ) → is_pending t m x ≡ false) → IsGathered t (suc x) pending
 gathered-skips t x pending g none = record {
   heads_size = g.heads_size;
@@ -152,7 +156,7 @@ replaced-other old new m i q other r =
     let tail : get_or new.tails i 0 ≡ get_or old.tails i 0 = ap (λ (xs : List ℕ). get_or xs i 0) r.tails ∙ get_or-set_other old.tails m i q.tail 0 other in
     same_parts (on_machine new i) (on_machine old i) head time tail
 
--- an unplaced step that takes some time
+-- an unplaced step of positive time
 pub gathered-more : (t : Standing) (x : ℕ) (pending new : Pending) → IsSmallShop t.shop →
     IsGathered t x pending → is_placed t.shop (placed t) x ≡ false → (m : ℕ) → m < t.shop.machines →
     m ≡ machine_of t.shop x
@@ -199,7 +203,7 @@ pending-bound t [] p is = cond-true (nat_eq p.times 0) 0 (p.head + p.times + p.t
 pending-bound t (x ∷ zs) p is =
     omega (arith, cond-false (nat_eq p.times 0) 0 (p.head + p.times + p.tail) (ne_eqb p.times 0 (λ e. omega (arith, e, is.0))), is.1, is.2, is.3)
 
--- ---- the step at a place of a job, as it is read
+-- ---- the step at an index of a job, as code reads it
 
 pub record IsAt (t : Standing) (j i : ℕ) (step : Step) : Type 0 where
   pub machine : step.machine ≡ machine_of t.shop (j * t.shop.machines + i)
@@ -231,7 +235,7 @@ at-read s w t is small j i m step job place m_is here =
     let R : ℕ → Type 0 = λ n. slice_get s.steps (j * n + i) ≡ Some step in
     subst Q is (at-here s w j i step small (omega (arith, job, ap (λ (v : Standing). v.shop.jobs) is)) (omega (arith, place, m_is)) (subst R m_is here))
 
--- a step at or behind the next one of its job isn't placed
+-- a step from the next one of its job on isn't placed
 pub at-open : (t : Standing) (j i : ℕ) → i < t.shop.machines → steps_done (placed t) j ≤ i → is_placed t.shop (placed t) (j * t.shop.machines + i) ≡ false
 at-open t j i below since = le-ltb (place_of t.shop (j * t.shop.machines + i)) (steps_done (placed t) (job_of t.shop (j * t.shop.machines + i)))
     (omega (arith, since, place_at t.shop j i below, ap (λ k. steps_done (placed t) k) (job_at t.shop j i below)))
@@ -249,7 +253,7 @@ at-head t j i head end step at since ended is =
     ∙ ap (λ n. raised (time_of t.shop (next_step t.shop (placed t) j + k)) (end_at t.shop (placed t) j k) (machine_free t.shop (placed t) n)) machine
     ∙ sym (head_at-is t.shop (placed t) j k)
 
--- the end behind that step
+-- the end after that step
 pub at-end : (t : Standing) (j i head : ℕ) (step : Step) → IsAt t j i step → steps_done (placed t) j ≤ i → head ≡ head_at t.shop (placed t) j (i - steps_done (placed t) j)
     → head + step.time ≡ end_at t.shop (placed t) j (i + 1 - steps_done (placed t) j)
 at-end t j i head step at since is =
@@ -270,9 +274,9 @@ job_bound-next t j head time tail next head_is time_is tail_is =
     let place : place_of s (next_step s xs j) ≡ steps_done xs j = place_at s j (steps_done xs j) below in
     let count : s.machines - steps_done xs j ≡ suc (s.machines - suc (place_of s (next_step s xs j))) = omega (arith, below, place) in
     let is : job_bound s xs j ≡ ready s xs j + times_from s (next_step s xs j)
-        (s.machines - steps_done xs j) = cond-true (has_next s xs j)
-        (ready s xs j + times_from s (next_step s xs j) (s.machines - steps_done xs j))
-        (job_end s xs j) next in
+    (s.machines - steps_done xs j) = cond-true (has_next s xs j)
+    (ready s xs j + times_from s (next_step s xs j) (s.machines - steps_done xs j))
+    (job_end s xs j) next in
     omega (arith, is, head_is, time_is, tail_is, ap (λ n. times_from s (next_step s xs j) n) count)
 
 -- the bound of a machine, once all steps are gathered

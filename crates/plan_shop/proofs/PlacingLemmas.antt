@@ -1,4 +1,4 @@
--- What placing one more step does to the counts, the ends and the free machines, and limits on them.
+-- The effect of placing one more step on the counts, the ends and the free instants, and limits on them.
 use Rattle.std.proofs.Common.{◌≡◌, ◌≢◌, ℕ, suc, ◌+◌, ◌*◌, ◌≤◌, ◌<◌, ◌&&◌, inl, inr, max, true, false, List, [], ◌∷◌, length, refl, sym, ap, subst, arith}
 use Rattle.std.specs.Prelude.{nat_lt, nat_eq}
 use Rattle.std.proofs.lemmas.Bool.{cond-true, cond-false, cases_Bool, cases_eq, cases_lt, eq-eqb, ne_eqb, and_left, and_right, and_from, lt-ltb, le-ltb}
@@ -29,7 +29,7 @@ end-same s xs j = cond-true (nat_eq j j) (next_end s xs j) (job_end s xs j) (eq-
 pub end-other : (s : JobShop) (xs : List Placed) (j k : ℕ) → k ≢ j → job_end s (place s xs j) k ≡ job_end s xs k
 end-other s xs j k other = cond-false (nat_eq j k) (next_end s xs j) (job_end s xs k) (ne_eqb j k (λ e. other (sym e)))
 
--- the next step is ready when its machine is free, or later, where it takes some time
+-- the head of the next step isn't before its machine is free, if the step has positive time
 pub ready-free : (s : JobShop) (xs : List Placed) (j : ℕ) → 0 < time_of s (next_step s xs j) → machine_free s xs (machine_of s (next_step s xs j)) ≤ ready s xs j
 unfolding ready
 ready-free s xs j lasts =
@@ -42,11 +42,11 @@ pub free-same : (s : JobShop) (xs : List Placed) (j : ℕ) → 0 < time_of s (ne
 free-same s xs j lasts =
     let m : ℕ = machine_of s (next_step s xs j) in
     let here : (nat_eq m m && nat_lt 0 (time_of s (next_step s xs j))) ≡ true =
-        and_from (nat_eq m m) (nat_lt 0 (time_of s (next_step s xs j))) (eq-eqb m m refl)
-        (lt-ltb 0 (time_of s (next_step s xs j)) lasts) in
+    and_from (nat_eq m m) (nat_lt 0 (time_of s (next_step s xs j))) (eq-eqb m m refl)
+    (lt-ltb 0 (time_of s (next_step s xs j)) lasts) in
     let is : machine_free s (place s xs j) m ≡ max (next_end s xs j) (machine_free s xs m) =
-        cond-true (nat_eq m m && nat_lt 0 (time_of s (next_step s xs j)))
-        (max (next_end s xs j) (machine_free s xs m)) (machine_free s xs m) here in
+    cond-true (nat_eq m m && nat_lt 0 (time_of s (next_step s xs j)))
+    (max (next_end s xs j) (machine_free s xs m)) (machine_free s xs m) here in
     omega (arith, is, ready-free s xs j lasts)
 
 pub free-other : (s : JobShop) (xs : List Placed) (j m : ℕ) → m ≢ machine_of s (next_step s xs j) → machine_free s (place s xs j) m ≡ machine_free s xs m
@@ -71,9 +71,13 @@ pub ready-within : (s : JobShop) (xs : List Placed) (b : ℕ) → EndsWithin s x
 unfolding ready
 ready-within s xs b within j = elim (cases_Bool (nat_eq (time_of s (next_step s xs j)) 0)) [
   | inl none ↦ omega (arith, cond-true (nat_eq (time_of s (next_step s xs j)) 0) (job_end s xs j) (max (job_end s xs j) (machine_free s xs (machine_of s (next_step s xs j)))) none, within.jobs j)
-  | inr some ↦ omega (arith, cond-false (nat_eq (time_of s (next_step s xs j)) 0) (job_end s xs j)
-      (max (job_end s xs j) (machine_free s xs (machine_of s (next_step s xs j)))) some, within.jobs j,
-      within.machines (machine_of s (next_step s xs j)))
+  | inr some ↦ omega (
+    arith,
+    cond-false (nat_eq (time_of s (next_step s xs j)) 0) (job_end s xs j)
+        (max (job_end s xs j) (machine_free s xs (machine_of s (next_step s xs j)))) some,
+    within.jobs j,
+    within.machines (machine_of s (next_step s xs j)),
+  )
 ]
 
 -- no step lasts longer than 10,000
@@ -118,7 +122,7 @@ turns-within s xs (turn ∷ turns) b small within =
     let is : b + 10000 + length turns * 10000 ≡ b + length (turn ∷ turns) * 10000 = omega arith in
     subst Q is rest
 
--- no job has more steps placed than it has
+-- no job has more placed steps than steps
 pub IsWithin : JobShop → List Placed → Type 0
 IsWithin s xs = (j : ℕ) → steps_done xs j ≤ s.machines
 
@@ -145,7 +149,7 @@ turns-count s xs (turn ∷ turns) are =
     total_changed s.jobs (steps_done xs) (steps_done (place s xs j)) j 1 letter.job (λ i below other. sym (done-other s xs j i other)) (omega (arith, done-same s xs j)) in
     omega (arith, more, turns-count s (place s xs j) turns are.1)
 
--- what holds of what turns have placed
+-- facts of the steps that turns have placed
 pub record IsPlacedWithin (s : JobShop) (xs : List Placed) : Type 0 where
   pub done : (j : ℕ) → steps_done xs j ≤ s.machines
   pub ends : (j : ℕ) → job_end s xs j ≤ 10000000

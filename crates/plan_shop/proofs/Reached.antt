@@ -1,4 +1,5 @@
--- What a word places, step by step: who may follow, where steps start, and schedules that continue it.
+-- The steps that a word places, one by one: the jobs that may follow, the starts, and schedules that continue
+-- it.
 use Rattle.std.proofs.Common.{◌≡◌, ◌≢◌, ℕ, zero, suc, ◌+◌, ◌*◌, ◌≤◌, ◌<◌, max, Bool, true, false, not, ◌&&◌, nat_eq, nat_lt, ◌⊎◌, inl, inr, List, [], ◌∷◌, length, get_or, map, refl, sym, ◌∙◌, ap, subst, arith}
 use Rattle.std.specs.List.{Contains}
 use Rattle.std.proofs.lemmas.Bool.{cases_lt, cases_eq, cond-true, cond-false, and_parts, and_from, and_left, and_right, eq-eqb, ne_eqb, eqb-true, lt-ltb, le-ltb, ltb-true, not-false}
@@ -10,7 +11,7 @@ use Rattle.plan_shop.specs.Continuation.{Agrees, Continues}
 use Rattle.plan_shop.proofs.NumberLemmas.{there_passes, passes_there, first_least_in, first_least_below}
 use Rattle.plan_shop.proofs.ShopBasics.{number_is, job_at, place_at, number_below, next_place, next_below, next_job, IsSound}
 
--- what a word places: each step is the next one of a job that may follow, where it is ready
+-- the steps that a word places: each is the next one of a job that may follow, at its head
 abbrev pub Reached : JobShop → List Placed → Type 0
 Reached s [] = Unit {0}
 Reached s (p ∷ xs) = Reached s xs × Contains (jobs_after s xs) p.job × (p.step ≡ next_step s xs p.job) × (p.start ≡ ready s xs p.job)
@@ -31,14 +32,14 @@ pub record MayFollow (s : JobShop) (xs : List Placed) (j : ℕ) : Type 0 where
   pub next : steps_done xs j < s.machines
   pub choice : (time_of s (next_step s xs j) ≡ 0) ⊎ IsRival s xs j
 
--- one that follows since its next step has time 0
+-- a job that may follow because its next step has time 0
 pub record IsZero (s : JobShop) (xs : List Placed) (j : ℕ) : Type 0 where
   pub there : Contains (jobs_after s xs) j
   pub job : j < s.jobs
   pub next : steps_done xs j < s.machines
   pub none : time_of s (next_step s xs j) ≡ 0
 
--- one of the first end, where all next steps have positive times
+-- a job of the first end, if all next steps have positive times
 pub record IsSoonest (s : JobShop) (xs : List Placed) (b : ℕ) : Type 0 where
   pub positive : (k : ℕ) → k < s.jobs → steps_done xs k < s.machines → 0 < time_of s (next_step s xs k)
   pub job : b < s.jobs
@@ -56,7 +57,7 @@ job_there js a (k, l, e) =
 pub letter_there : (js : List ℕ) (j : ℕ) → Contains js j → Contains (map letter_of js) (letter_of j)
 letter_there js j (k, l, e) = (k, omega (arith, l, length-map js letter_of), get_or-map letter_of js k j (letter_of j) l ∙ ap letter_of e)
 
--- what is placed after a word that follows
+-- the steps that are placed after a word that follows
 pub reached_by : (s : JobShop) (xs : List Placed) (w : List ℕ) → Reached s xs → Follows s xs w → Reached s (placed_by s xs w)
 reached_by s xs [] r f = r
 reached_by s xs (a ∷ w) r f = reached_by s (place s xs (job_of_letter a)) w (r, job_there (jobs_after s xs) a f.0, refl, refl) f.1
@@ -77,15 +78,15 @@ has_next_from s xs j l = lt-ltb (steps_done xs j) s.machines l
 pub nil_has_none : (xs : List ℕ) (x : ℕ) → xs ≡ [] → Contains xs x → ⊥
 nil_has_none xs x e (k, l, i) = omega (arith, l, ap length e)
 
--- where no next step has time 0, all have positive times
+-- if no next step has time 0, all have positive times
 pub all_positive : (s : JobShop) (xs : List Placed) → with_zero s xs ≡ [] → (k : ℕ) → k < s.jobs → steps_done xs k < s.machines → 0 < time_of s (next_step s xs k)
 all_positive s xs none k l next = elim (cases_eq (time_of s (next_step s xs k)) 0) [
   | inr some ↦ omega (arith, some)
   | inl zero_time ↦
       absurd (nil_has_none (with_zero s xs) k none
-          (passes_there s.jobs (is_zero s xs) k l (and_from (has_next s xs k)
-          (nat_eq (time_of s (next_step s xs k)) 0) (has_next_from s xs k next)
-          (eq-eqb (time_of s (next_step s xs k)) 0 zero_time))))
+      (passes_there s.jobs (is_zero s xs) k l (and_from (has_next s xs k)
+      (nat_eq (time_of s (next_step s xs k)) 0) (has_next_from s xs k next)
+      (eq-eqb (time_of s (next_step s xs k)) 0 zero_time))))
 ]
 
 -- the first of those with a next step that has the least end
@@ -138,7 +139,7 @@ follow_by s xs j [] (n ∷ ns) none are c =
       });
     }
 
--- who may follow has a next step: of time 0, or one that competes for the machine of the first end
+-- a job that may follow has a next step: of time 0, or one that competes for the machine of the first end
 pub may_follow : (s : JobShop) (xs : List Placed) (j : ℕ) → Contains (jobs_after s xs) j → MayFollow s xs j
 unfolding jobs_after
 may_follow s xs j c = follow_by s xs j (with_zero s xs) (with_next s xs) refl refl c
@@ -167,17 +168,17 @@ choice_by s xs [] (n ∷ ns) none are i c =
         least = soonest_least s xs n ns are;
         rivals = λ k l next same sooner.
             let test : is_rival s xs b k ≡ true = and_from (has_next s xs k)
-                (nat_eq (machine_of s (next_step s xs k)) (machine_of s (next_step s xs b))
-                && nat_lt (ready s xs k) (next_end s xs b)) (has_next_from s xs k next)
-                (and_from (nat_eq (machine_of s (next_step s xs k)) (machine_of s (next_step s xs b)))
-                (nat_lt (ready s xs k) (next_end s xs b))
-                (eq-eqb (machine_of s (next_step s xs k)) (machine_of s (next_step s xs b)) same)
-                (lt-ltb (ready s xs k) (next_end s xs b) sooner)) in
+            (nat_eq (machine_of s (next_step s xs k)) (machine_of s (next_step s xs b))
+            && nat_lt (ready s xs k) (next_end s xs b)) (has_next_from s xs k next)
+            (and_from (nat_eq (machine_of s (next_step s xs k)) (machine_of s (next_step s xs b)))
+            (nat_lt (ready s xs k) (next_end s xs b))
+            (eq-eqb (machine_of s (next_step s xs k)) (machine_of s (next_step s xs b)) same)
+            (lt-ltb (ready s xs k) (next_end s xs b) sooner)) in
             subst (λ (ks : List ℕ). Contains ks k) (sym (jobs_by_rivals s xs n ns none are)) (passes_there s.jobs (is_rival s xs b) k l test);
       }),
     )
 
--- where not all is placed, some job has a next step
+-- if not all steps are placed, some job has a next step
 pub some_next : (s : JobShop) (xs : List Placed) → is_full s xs ≡ false → (i : ℕ) × (i < s.jobs) × (steps_done xs i < s.machines)
 some_next s xs e =
     let f = all_below_not s.jobs (λ j. not (has_next s xs j)) e in
@@ -223,22 +224,22 @@ pub free_new : (s : JobShop) (p : Placed) (xs : List Placed) (m : ℕ) → machi
     0 < time_of s p.step → machine_free s (p ∷ xs) m ≡ max (p.start + time_of s p.step) (machine_free s xs m)
 free_new s p xs m e t =
     cond-true (uses s p m) (max (p.start + time_of s p.step) (machine_free s xs m)) (machine_free s xs m)
-        (and_from (nat_eq (machine_of s p.step) m) (nat_lt 0 (time_of s p.step))
-        (eq-eqb (machine_of s p.step) m e) (lt-ltb 0 (time_of s p.step) t))
+    (and_from (nat_eq (machine_of s p.step) m) (nat_lt 0 (time_of s p.step))
+    (eq-eqb (machine_of s p.step) m e) (lt-ltb 0 (time_of s p.step) t))
 
 pub free_other : (s : JobShop) (p : Placed) (xs : List Placed) (m : ℕ) → (machine_of s p.step ≡ m → ⊥) → machine_free s (p ∷ xs) m ≡ machine_free s xs m
 free_other s p xs m e =
     cond-false (uses s p m) (max (p.start + time_of s p.step) (machine_free s xs m)) (machine_free s xs m)
-        (and_left (nat_eq (machine_of s p.step) m) (nat_lt 0 (time_of s p.step))
-        (ne_eqb (machine_of s p.step) m e))
+    (and_left (nat_eq (machine_of s p.step) m) (nat_lt 0 (time_of s p.step))
+    (ne_eqb (machine_of s p.step) m e))
 
 pub free_zero : (s : JobShop) (p : Placed) (xs : List Placed) (m : ℕ) → time_of s p.step ≡ 0 → machine_free s (p ∷ xs) m ≡ machine_free s xs m
 free_zero s p xs m e =
     cond-false (uses s p m) (max (p.start + time_of s p.step) (machine_free s xs m)) (machine_free s xs m)
-        (and_right (nat_eq (machine_of s p.step) m) (nat_lt 0 (time_of s p.step))
-        (le-ltb 0 (time_of s p.step) (omega (arith, e))))
+    (and_right (nat_eq (machine_of s p.step) m) (nat_lt 0 (time_of s p.step))
+    (le-ltb 0 (time_of s p.step) (omega (arith, e))))
 
--- one more step uses the machine, or leaves it as it is
+-- one more step uses the machine, or doesn't
 pub free_cases : (s : JobShop) (p : Placed) (xs : List Placed) (m : ℕ) →
     ((machine_of s p.step ≡ m) × (0 < time_of s p.step)
     × (machine_free s (p ∷ xs) m ≡ max (p.start + time_of s p.step) (machine_free s xs m)))
@@ -257,41 +258,59 @@ free_more s p xs m = elim (free_cases s p xs m) [
   | inr is ↦ omega (arith, is)
 ]
 
--- where a next step is ready
+-- the head of a next step
 pub ready_end : (s : JobShop) (xs : List Placed) (j : ℕ) → job_end s xs j ≤ ready s xs j
 unfolding ready
 ready_end s xs j = elim (cases_eq (time_of s (next_step s xs j)) 0) [
   | inl none ↦
-      omega (arith, cond-true (nat_eq (time_of s (next_step s xs j)) 0) (job_end s xs j)
-          (max (job_end s xs j) (machine_free s xs (machine_of s (next_step s xs j))))
-          (eq-eqb (time_of s (next_step s xs j)) 0 none))
+      omega (
+        arith,
+        cond-true (nat_eq (time_of s (next_step s xs j)) 0) (job_end s xs j)
+            (max (job_end s xs j) (machine_free s xs (machine_of s (next_step s xs j))))
+            (eq-eqb (time_of s (next_step s xs j)) 0 none),
+      )
   | inr some ↦
-      omega (arith, cond-false (nat_eq (time_of s (next_step s xs j)) 0) (job_end s xs j)
-          (max (job_end s xs j) (machine_free s xs (machine_of s (next_step s xs j))))
-          (ne_eqb (time_of s (next_step s xs j)) 0 some))
+      omega (
+        arith,
+        cond-false (nat_eq (time_of s (next_step s xs j)) 0) (job_end s xs j)
+            (max (job_end s xs j) (machine_free s xs (machine_of s (next_step s xs j))))
+            (ne_eqb (time_of s (next_step s xs j)) 0 some),
+      )
 ]
 
 pub ready_free : (s : JobShop) (xs : List Placed) (j : ℕ) → 0 < time_of s (next_step s xs j) → machine_free s xs (machine_of s (next_step s xs j)) ≤ ready s xs j
 unfolding ready
 ready_free s xs j some =
-    omega (arith, cond-false (nat_eq (time_of s (next_step s xs j)) 0) (job_end s xs j)
-        (max (job_end s xs j) (machine_free s xs (machine_of s (next_step s xs j))))
-        (ne_eqb (time_of s (next_step s xs j)) 0 (λ e. omega (arith, e, some))))
+    omega (
+      arith,
+      cond-false (nat_eq (time_of s (next_step s xs j)) 0) (job_end s xs j)
+          (max (job_end s xs j) (machine_free s xs (machine_of s (next_step s xs j))))
+          (ne_eqb (time_of s (next_step s xs j)) 0 (λ e. omega (arith, e, some))),
+    )
 
 pub ready_within : (s : JobShop) (xs : List Placed) (j b : ℕ) → job_end s xs j ≤ b → (0 < time_of s (next_step s xs j) → machine_free s xs (machine_of s (next_step s xs j)) ≤ b) → ready s xs j ≤ b
 unfolding ready
 ready_within s xs j b ended free = elim (cases_eq (time_of s (next_step s xs j)) 0) [
   | inl none ↦
-      omega (arith, ended, cond-true (nat_eq (time_of s (next_step s xs j)) 0) (job_end s xs j)
-          (max (job_end s xs j) (machine_free s xs (machine_of s (next_step s xs j))))
-          (eq-eqb (time_of s (next_step s xs j)) 0 none))
+      omega (
+        arith,
+        ended,
+        cond-true (nat_eq (time_of s (next_step s xs j)) 0) (job_end s xs j)
+            (max (job_end s xs j) (machine_free s xs (machine_of s (next_step s xs j))))
+            (eq-eqb (time_of s (next_step s xs j)) 0 none),
+      )
   | inr some ↦
-      omega (arith, ended, free (omega (arith, some)), cond-false (nat_eq (time_of s (next_step s xs j)) 0)
-          (job_end s xs j) (max (job_end s xs j) (machine_free s xs (machine_of s (next_step s xs j))))
-          (ne_eqb (time_of s (next_step s xs j)) 0 some))
+      omega (
+        arith,
+        ended,
+        free (omega (arith, some)),
+        cond-false (nat_eq (time_of s (next_step s xs j)) 0)
+            (job_end s xs j) (max (job_end s xs j) (machine_free s xs (machine_of s (next_step s xs j))))
+            (ne_eqb (time_of s (next_step s xs j)) 0 some),
+      )
 ]
 
--- what is placed with one more step was placed before, or is that step
+-- with one more step, a placed step was placed before or is that step
 pub placed_cases : (s : JobShop) (p : Placed) (xs : List Placed) → p.step ≡ next_step s xs p.job → (x : ℕ) →
     place_of s x < steps_done (p ∷ xs) (job_of s x) →
     (place_of s x < steps_done xs (job_of s x)) ⊎ (x ≡ p.step)
@@ -327,7 +346,7 @@ new_placed s p xs r =
     let n = new_step s p xs r in
     omega (arith, n.1, done_same p xs (job_of s p.step) (sym n.0), ap (steps_done xs) n.0)
 
--- no job has more steps placed than it has
+-- no job has more placed steps than steps
 pub done_le : (s : JobShop) (xs : List Placed) → Reached s xs → (j : ℕ) → steps_done xs j ≤ s.machines
 done_le s [] r j = omega arith
 done_le s (p ∷ xs) r j = elim (cases_eq p.job j) [
@@ -360,7 +379,7 @@ end_is s starts (p ∷ xs) r a j k e = elim (cases_eq p.job j) [
   | inr other ↦ omega (arith, end_other s p xs j other, end_is s starts xs r.0 a.1 j k (sym (done_other p xs j other) ∙ e))
 ]
 
--- and 0 where none is placed
+-- and 0 if none is placed
 pub end_none : (s : JobShop) (xs : List Placed) (j : ℕ) → steps_done xs j ≡ 0 → job_end s xs j ≡ 0
 end_none s [] j e = refl
 end_none s (p ∷ xs) j e = elim (cases_eq p.job j) [
@@ -368,7 +387,7 @@ end_none s (p ∷ xs) j e = elim (cases_eq p.job j) [
   | inr other ↦ end_other s p xs j other ∙ end_none s xs j (sym (done_other p xs j other) ∙ e)
 ]
 
--- where every number up to the job's done steps has its end by b, the job's end is by b
+-- if the last placed step of a job ends by b, the job's end is at most b
 pub end_within : (s : JobShop) (starts : ℕ → ℕ) (xs : List Placed) → Reached s xs → Agrees starts xs →
     (j b : ℕ) → ((k : ℕ) → steps_done xs j ≡ suc k →
     starts (j * s.machines + k) + time_of s (j * s.machines + k) ≤ b) → job_end s xs j ≤ b
@@ -415,7 +434,7 @@ apart_of s starts (p ∷ xs) r a x y other lx ly same tx ty = elim (placed_cases
       let free : machine_free s xs (machine_of s (next_step s xs p.job)) ≤ ready s xs p.job = ready_free s xs p.job (omega (arith, tv, ap (time_of s) step)) in
       omega (arith, free, free_of s starts xs r.0 a.1 u old tu, ap (machine_free s xs) machines, ap (λ z. machine_free s xs (machine_of s z)) step, r.3, a.0, ap starts new)
 
--- a schedule that continues a word continues what the word has without its last letter
+-- a schedule that continues a word continues the word without its last letter
 pub continues_less : (s : JobShop) (starts : ℕ → ℕ) (p : Placed) (xs : List Placed) → Reached s (p ∷ xs) → Continues s starts (p ∷ xs) → Continues s starts xs
 continues_less s starts p xs r con = record { placed = con.placed.1; unplaced = unplaced } where
   unplaced : (x : ℕ) → x < count_steps s → steps_done xs (job_of s x) ≤ place_of s x → 0 < time_of s x → machine_free s xs (machine_of s x) ≤ starts x
@@ -460,7 +479,7 @@ chain_to s shop starts sound (suc n) x l within =
     let place : suc x + n ≡ x + suc n = omega arith in
     omega (arith, rest, sound.chain x below same, ap starts place)
 
--- what is placed doesn't tell two schedules apart that differ in an unplaced step alone
+-- the placed steps agree with two schedules alike if these differ in an unplaced step only
 pub agrees_other : (s : JobShop) (f g : ℕ → ℕ) (xs : List Placed) (z : ℕ) → Reached s xs → steps_done xs (job_of s z) ≤ place_of s z → ((x : ℕ) → x ≢ z → g x ≡ f x) → Agrees f xs → Agrees g xs
 agrees_other s f g [] z r l same a = tt
 agrees_other s f g (p ∷ xs) z r l same a = (

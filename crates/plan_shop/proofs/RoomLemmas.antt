@@ -1,4 +1,4 @@
--- The memory for turns holds one more where a letter may follow.
+-- The memory for turns suffices for one more if a letter may follow.
 use Rattle.std.proofs.Common.{◌≡◌, ℕ, ◌<◌, List, [], ◌∷◌, ◌++◌, length, refl, sym, subst, arith}
 use Rattle.std.specs.Prelude.{Contains}
 use Rattle.std.proofs.lemmas.List.{length-append, length-map}
@@ -21,5 +21,12 @@ turns-room s tails done ends free starts turns capacity t is tree a follows =
     let turn : Turn = record { letter = a; end = job_end s xs (job_of_letter a); free = machine_free s xs (machine_of s (next_step s xs (job_of_letter a))) } in
     let is_turn : IsTurn s xs turn = record { follows = subst Q (sym is) follows; end = refl; free = refl } in
     let word : IsWord s (word_of (turns ++ turn ∷ [])) = turns-follow s [] (turns ++ turn ∷ []) (turns-more s [] turns turn tree.kept.turns_are is_turn) in
-    omega (arith, words_are_finite s (word_of (turns ++ turn ∷ [])) word, length-map (turns ++ turn ∷ [])
-        (λ (v : Turn). v.letter), length-append turns (turn ∷ []), tree.kept.small.shop.all_steps, tree.room)
+    omega (
+      arith,
+      words_are_finite s (word_of (turns ++ turn ∷ [])) word,
+      length-map (turns ++ turn ∷ [])
+          (λ (v : Turn). v.letter),
+      length-append turns (turn ∷ []),
+      tree.kept.small.shop.all_steps,
+      tree.room,
+    )

@@ -34,7 +34,7 @@ follows-more : (s : JobShop) (xs : List Placed) (w : List ℕ) (a : ℕ) → Fol
 follows-more s xs [] a follows next = (next, tt)
 follows-more s xs (b ∷ w) a follows next = (follows.0, follows-more s (place s xs (job_of_letter b)) w a follows.1 next)
 
--- a word that goes on to that of a rule
+-- a word that continues to that of a rule
 pub record GoesOn (rule : ShopRule) (s : JobShop) (t : Standing) (n : ℕ) : Type 0 where
   pub shop : t.shop ≡ s
   pub follows : IsWord s t.word
@@ -43,9 +43,14 @@ pub record GoesOn (rule : ShopRule) (s : JobShop) (t : Standing) (n : ℕ) : Typ
 
 pub goes-first : (rule : ShopRule) (s : JobShop) → GoesOn rule s (standing s []) 0
 unfolding giffler
-goes-first rule s = record { shop = refl; follows = tt; size = refl; rest =
-    ap (λ n. rule_word s (chooser_of rule s) n [])
-    (let is : s.jobs * s.machines - 0 ≡ s.jobs * s.machines = omega arith in is) }
+goes-first rule s = record {
+  shop = refl;
+  follows = tt;
+  size = refl;
+  rest =
+      ap (λ n. rule_word s (chooser_of rule s) n [])
+      (let is : s.jobs * s.machines - 0 ≡ s.jobs * s.machines = omega arith in is);
+}
 
 -- the letter of the rule
 pub record IsNextLetter (rule : ShopRule) (s : JobShop) (xs : List Placed) (a : ℕ) : Type 0 where

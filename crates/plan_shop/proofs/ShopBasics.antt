@@ -1,4 +1,4 @@
--- Flat numbers, and what a shop's problem says: neighbours in one job, needs of machines, steps apart.
+-- Flat numbers, and the problem of a shop: neighbours in one job, needs of machines, steps apart.
 use Rattle.std.proofs.Common.{◌≡◌, ℕ, zero, suc, ◌+◌, ◌-◌, ◌*◌, ◌≤◌, ◌<◌, max, Bool, true, cond, ◌&&◌, nat_eq, nat_le, nat_lt, ◌⊎◌, ◌≢◌, inl, inr, List, [], ◌∷◌, ◌++◌, length, get_or, map, replicate, Some, None, refl, sym, ◌∙◌, ap, subst, arith}
 use Rattle.std.specs.List.{Contains}
 use Rattle.std.proofs.lemmas.Nat.{div-add-mod', div-mul-add, mod-mul-add, mod_below, div_below, row_fits}
@@ -46,7 +46,7 @@ next_below s shop x l same =
     let below : job_of s x * s.machines + place_of s (suc x) < count_steps s = number_below s shop (job_of s x) (place_of s (suc x)) (job_below s shop x l) (place_below s shop (suc x)) in
     omega (arith, below, number_is s (suc x), ap (λ j. j * s.machines) same)
 
--- and there is a next one in the job where the place isn't the last
+-- and the job has a next step if the index isn't the last
 pub next_job : (s : JobShop) (x : ℕ) → suc (place_of s x) < s.machines → job_of s (suc x) ≡ job_of s x
 next_job s x l =
     let same : suc x ≡ job_of s x * s.machines + suc (place_of s x) = omega (arith, number_is s x) in
@@ -142,11 +142,11 @@ pub needs_are_machines : (s : JobShop) → NeedsAreMachines s
 unfolding NeedsAreMachines problem_of
 needs_are_machines s x k l =
     let row : get_or (map (λ w. machine_needs s.machines w.machine) s.steps) x [] ≡ machine_needs s.machines
-        (machine_of s x) = get_or-map (λ (w : Step). machine_needs s.machines w.machine) s.steps x idle
-        [] l in
+    (machine_of s x) = get_or-map (λ (w : Step). machine_needs s.machines w.machine) s.steps x idle
+    [] l in
     ap (λ (ns : List ℕ). get_or ns k 0) row ∙ row_at (machine_of s x) (s.machines - suc (machine_of s x)) k
 
--- what a step that starts there takes of a machine at an instant
+-- the usage of a machine at an instant by a step that starts there
 abbrev taken : JobShop → List ℕ → ℕ → ℕ → ℕ → ℕ
 taken s starts t k x = amount_of (problem_of s) t k x (Some (at starts x))
 
@@ -158,8 +158,8 @@ taken_during : (s : JobShop) (starts : List ℕ) (t k x : ℕ) → x < count_ste
 taken_during s starts t k x l same since before =
     let under : t < at starts x + duration (problem_of s) x = omega (arith, before, duration_is s x) in
     let test : (nat_le (at starts x) t && nat_lt t (at starts x + duration (problem_of s) x)) ≡ true =
-        and_from (nat_le (at starts x) t) (nat_lt t (at starts x + duration (problem_of s) x))
-        (le-leb (at starts x) t since) (lt-ltb t (at starts x + duration (problem_of s) x) under) in
+    and_from (nat_le (at starts x) t) (nat_lt t (at starts x + duration (problem_of s) x))
+    (le-leb (at starts x) t since) (lt-ltb t (at starts x + duration (problem_of s) x) under) in
     cond-true (nat_le (at starts x) t && nat_lt t (at starts x + duration (problem_of s) x)) (need (problem_of s) x k) 0 test
     ∙ need_of s x k l
     ∙ cond-true (nat_eq (machine_of s x) k) 1 0 (eq-eqb (machine_of s x) k same)
@@ -170,27 +170,27 @@ pub record IsUnderWay (s : JobShop) (starts : List ℕ) (t k x : ℕ) : Type 0 w
   pub since : at starts x ≤ t
   pub before : t < at starts x + time_of s x
 
--- a step takes nothing, or is under way on the machine and takes 1
+-- a step uses 0, or is under way on the machine and uses 1
 taken_cases : (s : JobShop) (starts : List ℕ) (t k x : ℕ) → x < count_steps s → (taken s starts t k x ≡ 0) ⊎ (IsUnderWay s starts t k x × (taken s starts t k x ≡ 1))
 taken_cases s starts t k x l = elim (cases_lt t (at starts x)) [
   | inl early ↦
       inl (cond-false (nat_le (at starts x) t && nat_lt t (at starts x + duration (problem_of s) x))
-          (need (problem_of s) x k) 0 (and_left (nat_le (at starts x) t)
-          (nat_lt t (at starts x + duration (problem_of s) x)) (lt-leb (at starts x) t early)))
+      (need (problem_of s) x k) 0 (and_left (nat_le (at starts x) t)
+      (nat_lt t (at starts x + duration (problem_of s) x)) (lt-leb (at starts x) t early)))
   | inr since ↦ elim (cases_lt t (at starts x + duration (problem_of s) x)) [
     | inr late ↦
         inl (cond-false (nat_le (at starts x) t && nat_lt t (at starts x + duration (problem_of s) x))
-            (need (problem_of s) x k) 0 (and_right (nat_le (at starts x) t)
-            (nat_lt t (at starts x + duration (problem_of s) x))
-            (le-ltb t (at starts x + duration (problem_of s) x) late)))
+        (need (problem_of s) x k) 0 (and_right (nat_le (at starts x) t)
+        (nat_lt t (at starts x + duration (problem_of s) x))
+        (le-ltb t (at starts x + duration (problem_of s) x) late)))
     | inl under ↦ elim (cases_eq (machine_of s x) k) [
       | inl same ↦
           let before : t < at starts x + time_of s x = omega (arith, under, duration_is s x) in
           inr (record { machine = same; since = since; before = before }, taken_during s starts t k x l same since before)
       | inr other ↦
           let test : (nat_le (at starts x) t && nat_lt t (at starts x + duration (problem_of s) x)) ≡ true =
-              and_from (nat_le (at starts x) t) (nat_lt t (at starts x + duration (problem_of s) x))
-              (le-leb (at starts x) t since) (lt-ltb t (at starts x + duration (problem_of s) x) under) in
+          and_from (nat_le (at starts x) t) (nat_lt t (at starts x + duration (problem_of s) x))
+          (le-leb (at starts x) t since) (lt-ltb t (at starts x + duration (problem_of s) x) under) in
           inl (cond-true (nat_le (at starts x) t && nat_lt t (at starts x + duration (problem_of s) x)) (need (problem_of s) x k) 0 test
           ∙ need_of s x k l
           ∙ cond-false (nat_eq (machine_of s x) k) 1 0 (ne_eqb (machine_of s x) k other))
@@ -212,7 +212,7 @@ total_two (suc n) f x y l m fx fy = elim (cases_eq y n) [
     | inr other ↦ omega (arith, total_one n f x (omega (arith, l, other)) e)
   ]
 
--- where no two terms are 1 and the others are 0, the sum is at most 1
+-- if at most one term is 1 and the others are 0, the sum is at most 1
 total_alone : (n : ℕ) (f : ℕ → ℕ) → ((x : ℕ) → x < n → (f x ≡ 0) ⊎ (f x ≡ 1)) → ((x y : ℕ) → x < y → y < n → f x ≡ 1 → f y ≡ 1 → ⊥) → total n f ≤ 1
 total_alone zero f each alone = omega arith
 total_alone (suc n) f each alone = elim (each n (omega arith)) [
@@ -276,7 +276,7 @@ capacities_from s starts whole apart t k within =
             | inr after ↦ omega (arith, after, uy.before, ux.since)
           ]
 
--- the capacities are kept just where no two steps on a machine overlap
+-- the capacities are kept exactly if no two steps on a machine overlap
 pub capacities_keep_apart : (s : JobShop) → IsShop s → CapacitiesKeepApart s
 unfolding CapacitiesKeepApart
 capacities_keep_apart s shop starts whole = (apart_from s shop starts whole, capacities_from s starts whole)

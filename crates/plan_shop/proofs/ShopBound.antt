@@ -53,31 +53,31 @@ head_at_le s shop starts xs r sound con j (suc k) l within =
     raised_within (time_of s x) (head_at s xs j k + time_of s (next_step s xs j + k))
     (machine_free s xs (machine_of s x)) (starts x)
     (before (head_at_le s shop starts xs r sound con j k l (omega (arith, within)))) free where
-  x : ℕ
-  x = next_step s xs j + suc k
+      x : ℕ
+      x = next_step s xs j + suc k
 
-  is : x ≡ j * s.machines + (steps_done xs j + suc k)
-  is = omega arith
+      is : x ≡ j * s.machines + (steps_done xs j + suc k)
+      is = omega arith
 
-  job : job_of s x ≡ j
-  job = ap (job_of s) is ∙ job_at s j (steps_done xs j + suc k) within
+      job : job_of s x ≡ j
+      job = ap (job_of s) is ∙ job_at s j (steps_done xs j + suc k) within
 
-  place : place_of s x ≡ steps_done xs j + suc k
-  place = ap (place_of s) is ∙ place_at s j (steps_done xs j + suc k) within
+      place : place_of s x ≡ steps_done xs j + suc k
+      place = ap (place_of s) is ∙ place_at s j (steps_done xs j + suc k) within
 
-  below : x < count_steps s
-  below = omega (arith, is, number_below s shop j (steps_done xs j + suc k) l within)
+      below : x < count_steps s
+      below = omega (arith, is, number_below s shop j (steps_done xs j + suc k) l within)
 
-  before : head_at s xs j k ≤ starts (next_step s xs j + k) → head_at s xs j k + time_of s (next_step s xs j + k) ≤ starts x
-  before early =
-      let y = next_step s xs j + k in
-      let after : suc y ≡ x = omega arith in
-      let was : y ≡ j * s.machines + (steps_done xs j + k) = omega arith in
-      let same : job_of s (suc y) ≡ job_of s y = ap (job_of s) after ∙ job ∙ sym (ap (job_of s) was ∙ job_at s j (steps_done xs j + k) (omega (arith, within))) in
-      omega (arith, early, sound.chain y (omega (arith, after, below)) same, ap starts after)
+      before : head_at s xs j k ≤ starts (next_step s xs j + k) → head_at s xs j k + time_of s (next_step s xs j + k) ≤ starts x
+      before early =
+          let y = next_step s xs j + k in
+          let after : suc y ≡ x = omega arith in
+          let was : y ≡ j * s.machines + (steps_done xs j + k) = omega arith in
+          let same : job_of s (suc y) ≡ job_of s y = ap (job_of s) after ∙ job ∙ sym (ap (job_of s) was ∙ job_at s j (steps_done xs j + k) (omega (arith, within))) in
+          omega (arith, early, sound.chain y (omega (arith, after, below)) same, ap starts after)
 
-  free : 0 < time_of s x → machine_free s xs (machine_of s x) ≤ starts x
-  free t = con.unplaced x below (omega (arith, place, ap (steps_done xs) job)) t
+      free : 0 < time_of s x → machine_free s xs (machine_of s x) ≤ starts x
+      free t = con.unplaced x below (omega (arith, place, ap (steps_done xs) job)) t
 
 -- so is the head of each unplaced step
 pub head_le : (s : JobShop) → IsShop s → (starts : ℕ → ℕ) (xs : List Placed) → Reached s xs →
@@ -102,11 +102,17 @@ job_bound_le s shop starts b xs r sound con end j l = elim (cases_lt (steps_done
       let x = next_step s xs j in
       let is : s.machines - steps_done xs j ≡ suc n = omega (arith, next) in
       let rest : starts x + times_from s x (suc n) ≤ b =
-          chain_end s shop starts b sound end n x (number_below s shop j (steps_done xs j) l next)
-          (omega (arith, place_at s j (steps_done xs j) next, next)) in
-      omega (arith, rest, ap (times_from s x) is, ready_le s shop starts xs r sound con j l next, cond-true
-          (has_next s xs j) (ready s xs j + times_from s x (s.machines - steps_done xs j)) (job_end s xs j)
-          (lt-ltb (steps_done xs j) s.machines next))
+      chain_end s shop starts b sound end n x (number_below s shop j (steps_done xs j) l next)
+      (omega (arith, place_at s j (steps_done xs j) next, next)) in
+      omega (
+        arith,
+        rest,
+        ap (times_from s x) is,
+        ready_le s shop starts xs r sound con j l next,
+        cond-true
+            (has_next s xs j) (ready s xs j + times_from s x (s.machines - steps_done xs j)) (job_end s xs j)
+            (lt-ltb (steps_done xs j) s.machines next),
+      )
   | inr all ↦
       let ended : job_end s xs j ≤ b = end_within s starts xs r con.placed j b (λ k e. end (j * s.machines + k) (number_below s shop j k l (omega (arith, e, done_le s xs r j)))) in
       omega (arith, ended, cond-false (has_next s xs j) (ready s xs j + times_from s (next_step s xs j) (s.machines - steps_done xs j)) (job_end s xs j) (le-ltb (steps_done xs j) s.machines all))
@@ -143,15 +149,15 @@ pub pending_there : (s : JobShop) (xs : List Placed) (m x : ℕ) → IsPending s
 pending_there s xs m x p =
     let open_ : not (is_placed s xs x) ≡ true = ap not (le-ltb (place_of s x) (steps_done xs (job_of s x)) p.unplaced) in
     let here : (nat_eq (machine_of s x) m && nat_lt 0 (time_of s x)) ≡ true =
-        and_from (nat_eq (machine_of s x) m) (nat_lt 0 (time_of s x)) (eq-eqb (machine_of s x) m p.machine)
-        (lt-ltb 0 (time_of s x) p.positive) in
+    and_from (nat_eq (machine_of s x) m) (nat_lt 0 (time_of s x)) (eq-eqb (machine_of s x) m p.machine)
+    (lt-ltb 0 (time_of s x) p.positive) in
     passes_there (count_steps s) (is_pending s xs m) x p.below (and_from (not (is_placed s xs x)) (nat_eq (machine_of s x) m && nat_lt 0 (time_of s x)) open_ here)
 
 pending_clear : (s : JobShop) (starts : ℕ → ℕ) (xs : List Placed) (m : ℕ) → IsSound s starts → InOrder (IsClear starts (time_of s)) (pending s xs m)
 pending_clear s starts xs m sound =
     in_order_from (IsClear starts (time_of s)) (IsPending s xs m)
-        (λ x y px py l. sound.apart x y l py.below (px.machine ∙ sym py.machine) px.positive py.positive)
-        (pending s xs m) (those_rise (count_steps s) _) (pending_are s xs m)
+    (λ x y px py l. sound.apart x y l py.below (px.machine ∙ sym py.machine) px.positive py.positive)
+    (pending s xs m) (those_rise (count_steps s) _) (pending_are s xs m)
 
 each_weaker : (P Q : ℕ → Type 0) → ((x : ℕ) → P x → Q x) → (zs : List ℕ) → AllByRecursion P zs → AllByRecursion Q zs
 each_weaker P Q f [] a = tt
@@ -171,17 +177,21 @@ pending_le s starts b xs (x ∷ zs) clear heads tails =
     let q = least_of (tail_of s) x zs in
     let first : h ≤ head_of s xs x = least_of_first (head_of s xs) x zs in
     let last : q ≤ tail_of s x = least_of_first (tail_of s) x zs in
-    let late : AllByRecursion (λ z. h ≤ starts z) (x ∷ zs) =
-        (omega (arith, first, heads.0), each_weaker (λ z. (h ≤ head_of s xs z) × (head_of s xs z ≤ starts z))
-        (λ z. h ≤ starts z) (λ z p. omega (arith, p.0, p.1)) zs
-        (each_both (λ z. h ≤ head_of s xs z) (λ z. head_of s xs z ≤ starts z) zs
-        (least_of_rest (head_of s xs) x zs) heads.1)) in
-    let early : AllByRecursion (λ z. starts z + time_of s z ≤ b - q) (x ∷ zs) =
-        (omega (arith, last, tails.0), each_weaker
-        (λ z. (q ≤ tail_of s z) × (starts z + time_of s z + tail_of s z ≤ b))
-        (λ z. starts z + time_of s z ≤ b - q) (λ z p. omega (arith, p.0, p.1)) zs
-        (each_both (λ z. q ≤ tail_of s z) (λ z. starts z + time_of s z + tail_of s z ≤ b) zs
-        (least_of_rest (tail_of s) x zs) tails.1)) in
+    let late : AllByRecursion (λ z. h ≤ starts z) (x ∷ zs) = (
+      omega (arith, first, heads.0),
+      each_weaker (λ z. (h ≤ head_of s xs z) × (head_of s xs z ≤ starts z))
+          (λ z. h ≤ starts z) (λ z p. omega (arith, p.0, p.1)) zs
+          (each_both (λ z. h ≤ head_of s xs z) (λ z. head_of s xs z ≤ starts z) zs
+          (least_of_rest (head_of s xs) x zs) heads.1),
+    ) in
+    let early : AllByRecursion (λ z. starts z + time_of s z ≤ b - q) (x ∷ zs) = (
+      omega (arith, last, tails.0),
+      each_weaker
+          (λ z. (q ≤ tail_of s z) × (starts z + time_of s z + tail_of s z ≤ b))
+          (λ z. starts z + time_of s z ≤ b - q) (λ z p. omega (arith, p.0, p.1)) zs
+          (each_both (λ z. q ≤ tail_of s z) (λ z. starts z + time_of s z + tail_of s z ≤ b) zs
+          (least_of_rest (tail_of s) x zs) tails.1),
+    ) in
     let room : h + sum_by (time_of s) (x ∷ zs) ≤ b - q = span starts (time_of s) h (b - q) (x ∷ zs) (omega (arith, first, heads.0, last, tails.0)) clear late early in
     omega (arith, room, last, tails.0)
 
@@ -198,10 +208,14 @@ machine_bound_le s shop starts b xs r sound con end m =
 pub bound_le : (s : JobShop) → IsShop s → (starts : ℕ → ℕ) (b : ℕ) (xs : List Placed) → Reached s xs → IsSound s starts → Continues s starts xs → IsEnd s starts b → bound_of s xs ≤ b
 unfolding bound_of
 bound_le s shop starts b xs r sound con end =
-    omega (arith, greatest_least s.jobs (job_bound s xs) b
-        (λ j l. job_bound_le s shop starts b xs r sound con end j l), greatest_least s.machines
-        (λ m. bound_of_pending s xs (pending s xs m)) b
-        (λ m l. machine_bound_le s shop starts b xs r sound con end m))
+    omega (
+      arith,
+      greatest_least s.jobs (job_bound s xs) b
+          (λ j l. job_bound_le s shop starts b xs r sound con end j l),
+      greatest_least s.machines
+          (λ m. bound_of_pending s xs (pending s xs m)) b
+          (λ m l. machine_bound_le s shop starts b xs r sound con end m),
+    )
 
 -- the bound of a word is at most the makespan of every feasible list that continues it
 pub bound_is_least : (s : JobShop) → IsShop s → BoundIsLeast s

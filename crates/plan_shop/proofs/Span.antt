@@ -9,12 +9,12 @@ use Rattle.plan_shop.proofs.NumberLemmas.{InOrder}
 abbrev pub IsClear : (ℕ → ℕ) → (ℕ → ℕ) → ℕ → ℕ → Type 0
 IsClear starts times x y = (starts x + times x ≤ starts y) ⊎ (starts y + times y ≤ starts x)
 
--- how much of the intervals lies before an instant
+-- the part of the intervals before an instant
 abbrev covered : (ℕ → ℕ) → (ℕ → ℕ) → ℕ → List ℕ → ℕ
 covered starts times t [] = 0
 covered starts times t (z ∷ zs) = (min t (starts z + times z) - starts z) + covered starts times t zs
 
--- of intervals that are clear of one that lasts at an instant, none grows there
+-- the parts of intervals that don't overlap one that lasts at an instant don't grow there
 covered_same : (starts times : ℕ → ℕ) (t x : ℕ) (zs : List ℕ) → starts x ≤ t → t < starts x + times x →
     AllByRecursion (IsClear starts times x) zs → covered starts times (suc t) zs ≡ covered starts times t zs
 covered_same starts times t x [] since before clear = refl
@@ -36,7 +36,7 @@ covered_next starts times t (z ∷ zs) clear = elim (cases_lt t (starts z)) [
   ]
 ]
 
--- none lies before all begin
+-- no part is before the start of all
 covered_none : (starts times : ℕ → ℕ) (h : ℕ) (zs : List ℕ) → AllByRecursion (λ z. h ≤ starts z) zs → covered starts times h zs ≡ 0
 covered_none starts times h [] late = refl
 covered_none starts times h (z ∷ zs) late = omega (arith, late.0, covered_none starts times h zs late.1)
@@ -47,12 +47,12 @@ covered_most starts times h (suc n) zs clear late =
     let next : h + suc n ≡ suc (h + n) = omega arith in
     omega (arith, covered_most starts times h n zs clear late, covered_next starts times (h + n) zs clear, ap (λ t. covered starts times t zs) next)
 
--- all lies before all end
+-- all parts are before the end of all
 covered_all : (starts times : ℕ → ℕ) (e : ℕ) (zs : List ℕ) → AllByRecursion (λ z. starts z + times z ≤ e) zs → covered starts times e zs ≡ sum_by times zs
 covered_all starts times e [] early = refl
 covered_all starts times e (z ∷ zs) early = omega (arith, early.0, covered_all starts times e zs early.1, sum_by-cons times z zs)
 
--- clear intervals between two instants last no longer together than from the one to the other
+-- intervals that don't overlap, between two instants, together last at most the time between the two
 pub span : (starts times : ℕ → ℕ) (h e : ℕ) (zs : List ℕ) → h ≤ e → InOrder (IsClear starts times) zs →
     AllByRecursion (λ z. h ≤ starts z) zs → AllByRecursion (λ z. starts z + times z ≤ e) zs →
     h + sum_by times zs ≤ e

@@ -1,4 +1,4 @@
--- A push and a pop as a whole: what the tree keeps before them, and after.
+-- A push and a pop as one step: the data of the tree before and after.
 use Rattle.std.proofs.Common.{◌≡◌, ℕ, suc, ◌-◌, ◌*◌, ◌≤◌, ◌<◌, cond, true, List, [], ◌∷◌, ◌++◌, length, get_or, set, refl, sym, ap, ◌∙◌, subst, arith}
 use Rattle.std.specs.Prelude.{Contains, nat_lt}
 use Rattle.std.proofs.Math.Nat.{mul-le-mul}
@@ -30,7 +30,7 @@ pushable s xs a follows =
     let next : steps_done xs (a - 1) < s.machines = omega (arith, letter.next, ap (λ j. steps_done xs j) same) in
     record { first = omega (arith, letter.is); same = same; job = omega (arith, letter.job, same); next = next; has = lt-ltb (steps_done xs (a - 1)) s.machines next }
 
--- what a push stores
+-- the data that a push stores
 pub record IsPush (t : Standing) (turn : Turn) (d e m f x b : ℕ) : Type 0 where
   pub follows : Contains (letters_after t.shop (placed t)) turn.letter
   pub turn_end : turn.end ≡ job_end t.shop (placed t) (turn.letter - 1)
@@ -80,7 +80,7 @@ pushed s tails done ends free starts turns whole turn d e m f x b t is k p all =
     let R : List Turn → Type 0 = λ v. IsKept s tails (set done (turn.letter - 1) d) (set ends (turn.letter - 1) e) (set free m f) (set starts x b) v in
     subst R (sym all) (pushed-here s tails done ends free starts turns turn d e m f x b k (subst P (sym is) p))
 
--- what a pop finds
+-- the data before a pop
 pub record IsPop (s : JobShop) (done ends free starts : List ℕ) (turns : List Turn) (turn : Turn) : Type 0 where
   pub first : 1 ≤ turn.letter
   pub job : turn.letter - 1 < s.jobs
@@ -148,7 +148,7 @@ pop-read s done ends free starts turns turn p r is =
     read done (turn.letter - 1) r (omega (arith, p.kept.done_size, p.job)) is
     ∙ p.kept.done_is (turn.letter - 1) p.job ∙ done-same s (placed_in s (word_of turns)) (turn.letter - 1)
 
--- what a pop leaves
+-- the data after a pop
 pub undone : (s : JobShop) (tails done ends free starts : List ℕ) (turns : List Turn) (turn : Turn)
     (whole : List Turn) → IsKept s tails done ends free starts whole →
     IsPop s done ends free starts turns turn

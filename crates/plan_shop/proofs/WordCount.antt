@@ -1,4 +1,5 @@
--- How many letters words have: no more than there are steps, and as many where all is placed; and what rules choose.
+-- The number of letters of words: at most the number of steps, and equal to it if all are placed; and the
+-- choices of rules.
 use Rattle.std.proofs.Common.{◌≡◌, ℕ, zero, suc, ◌+◌, ◌*◌, ◌≤◌, ◌<◌, true, false, inl, inr, List, [], ◌∷◌, length, get_or, map, refl, sym, ap, subst, arith}
 use Rattle.std.specs.List.{Contains, AllPairs}
 use Rattle.std.proofs.Math.Nat.{mul_comm, mul-suc}
@@ -14,22 +15,22 @@ use Rattle.plan_shop.proofs.NumberLemmas.{those_rise, first_least_is, first_grea
 use Rattle.plan_shop.proofs.Reached.{Reached, may_follow, choice, letter_there, some_next, full_done, done_same, done_other, done_le}
 use Rattle.plan_shop.proofs.FullWords.{reached, full_is_active}
 
--- as many steps are placed as the jobs have done
+-- the number of placed steps is the sum of those of the jobs
 pub placed_count : (s : JobShop) (xs : List Placed) → Reached s xs → total s.jobs (steps_done xs) ≡ length xs
 placed_count s [] r = total_none s.jobs (steps_done []) (λ j l. refl)
 placed_count s (p ∷ xs) r =
     let m = may_follow s xs p.job r.1 in
     let one : steps_done xs p.job + 1 ≡ steps_done (p ∷ xs) p.job = omega (arith, done_same p xs p.job refl) in
     let more : total s.jobs (steps_done xs) + 1 ≡ total s.jobs (steps_done (p ∷ xs)) =
-        total_changed s.jobs (steps_done xs) (steps_done (p ∷ xs)) p.job 1 m.job
-        (λ j l other. sym (done_other p xs j (λ e. other (sym e)))) one in
+    total_changed s.jobs (steps_done xs) (steps_done (p ∷ xs)) p.job 1 m.job
+    (λ j l other. sym (done_other p xs j (λ e. other (sym e)))) one in
     omega (arith, more, placed_count s xs r.0)
 
--- no more than there are
+-- it is at most the number of steps
 pub count_most : (s : JobShop) (xs : List Placed) → Reached s xs → length xs ≤ s.jobs * s.machines
 count_most s xs r = omega (arith, placed_count s xs r, total_limit s.jobs (steps_done xs) s.machines (λ j l. done_le s xs r j), mul_comm s.machines s.jobs)
 
--- a sum of terms of which one is less than the limit
+-- a sum of terms, one of which is less than the limit
 total_less : (n : ℕ) (f : ℕ → ℕ) (most i : ℕ) → ((j : ℕ) → f j ≤ most) → i < n → f i < most → total n f < most * n
 total_less zero f most i limit l less = absurd (omega (arith, l))
 total_less (suc n) f most i limit l less = elim (cases_eq i n) [
@@ -37,12 +38,12 @@ total_less (suc n) f most i limit l less = elim (cases_eq i n) [
   | inr other ↦ omega (arith, total_less n f most i limit (omega (arith, l, other)) less, mul-suc most n, limit n)
 ]
 
--- a sum of terms that are at least so much
+-- a sum of terms with a lower bound
 total_least : (n : ℕ) (f : ℕ → ℕ) (least : ℕ) → ((j : ℕ) → j < n → least ≤ f j) → least * n ≤ total n f
 total_least zero f least each = omega arith
 total_least (suc n) f least each = omega (arith, total_least n f least (λ j l. each j (omega (arith, l))), each n (omega arith), mul-suc least n)
 
--- all is placed exactly where there are as many as steps
+-- all steps are placed exactly if as many are placed as there are steps
 pub count_full : (s : JobShop) (xs : List Placed) → Reached s xs → length xs ≡ s.jobs * s.machines → is_full s xs ≡ true
 count_full s xs r e = elim (cases_Bool (is_full s xs)) [
   | inl full ↦ full
@@ -60,7 +61,7 @@ short_not_full s xs r l = elim (cases_Bool (is_full s xs)) [
   | inl full ↦ absurd (omega (arith, l, full_count s xs r full))
 ]
 
--- where not all is placed, some job may follow
+-- if not all steps are placed, some job may follow
 pub some_follows : (s : JobShop) (xs : List Placed) → is_full s xs ≡ false → (j : ℕ) × Contains (jobs_after s xs) j
 some_follows s xs e =
     let c = choice s xs e in (
@@ -76,7 +77,7 @@ pub length_placed : (s : JobShop) (xs : List Placed) (w : List ℕ) → length (
 length_placed s xs [] = omega arith
 length_placed s xs (a ∷ w) = omega (arith, length_placed s (place s xs (job_of_letter a)) w)
 
--- no word is longer than the steps are many
+-- no word has more letters than there are steps
 pub words_are_finite : (s : JobShop) → ShopWordsAreFinite s
 unfolding ShopWordsAreFinite
 words_are_finite s w is = omega (arith, length_placed s [] w, count_most s (placed_in s w) (reached s w is))
@@ -111,7 +112,7 @@ pub rules_choose : (s : JobShop) → RulesChoose s
 unfolding RulesChoose
 rules_choose s xs j js = (first_least_is (next_time s xs) j js, first_greatest_is (time_left s xs) j js, first_least_is (ready s xs) j js)
 
--- and so one of those that there are
+-- and so a rule chooses one of the given jobs
 pub spt_chooses : (s : JobShop) → Chooses (spt s)
 spt_chooses s xs j js = first_least_in (next_time s xs) j js
 
@@ -125,7 +126,7 @@ chosen_there : (rule : List Placed → List ℕ → ℕ) → Chooses rule → (x
 chosen_there rule chooses xs [] i (k, l, e) = absurd (omega (arith, l))
 chosen_there rule chooses xs (j ∷ js) i c = chooses xs j js
 
--- where not all is placed, the job that a rule chooses may follow
+-- if not all steps are placed, the job that a rule chooses may follow
 pub rule_follows : (s : JobShop) (rule : List Placed → List ℕ → ℕ) → Chooses rule → (xs : List Placed) → is_full s xs ≡ false → Contains (jobs_after s xs) (rule xs (jobs_after s xs))
 rule_follows s rule chooses xs e =
     let f = some_follows s xs e in

@@ -28,7 +28,7 @@ start_is s starts (p ∷ xs) r a x l = elim (cases_eq x p.step) [
   ]
 ]
 
--- where all is placed, the starts are those of each list that continues it
+-- if all steps are placed, the starts are those of each list that continues the word
 pub starts_are : (s : JobShop) → IsShop s → (starts : List ℕ) (xs : List Placed) → length starts ≡ count_steps s → Reached s xs → Agrees (at starts) xs → is_full s xs ≡ true → starts_of s xs ≡ starts
 starts_are s shop starts xs whole r a full =
     let long : length (starts_of s xs) ≡ count_steps s = length_table (count_steps s) (start_in xs) in
@@ -36,7 +36,7 @@ starts_are s shop starts xs whole r a full =
     let below : i < count_steps s = omega (arith, l, long) in
     get_or_table (count_steps s) (start_in xs) i below ∙ start_is s (at starts) xs r a i (all_done s shop xs full i below))
 
--- where no step starts later, the makespan is no greater
+-- if no step starts later, the makespan is no greater
 pub makespan_grows : (s : JobShop) (other starts : List ℕ) → ((x : ℕ) → at other x ≤ at starts x) → makespan (problem_of s) other ≤ makespan (problem_of s) starts
 makespan_grows s other starts earlier =
     greatest_grows (count (problem_of s)) (λ i. get_or other i 0 + duration (problem_of s) i) (λ i. get_or starts i 0 + duration (problem_of s) i) (λ i l. omega (arith, earlier i))
@@ -62,8 +62,8 @@ reach_from s shop (suc n) w starts e is c =
     let some : is_full s xs ≡ false = short_not_full s xs (reached s w is) (omega (arith, e, length_placed s [] w)) in
     let l : Letter s w starts = letter_is_there s shop w starts is some c in
     let h : Reaches s (makespan (problem_of s) l.other) =
-        reach_from s shop n (w ++ l.letter ∷ []) l.other (omega (arith, e, length_last w l.letter))
-        (follows_last s [] w l.letter is l.follows) l.continued in
+    reach_from s shop n (w ++ l.letter ∷ []) l.other (omega (arith, e, length_last w l.letter))
+    (follows_last s [] w l.letter is l.follows) l.continued in
     record { word = h.word; is_word = h.is_word; full = h.full; makespan = omega (arith, h.makespan, makespan_grows s l.other starts l.no_later) }
 
 -- every list continues the empty word
@@ -136,9 +136,9 @@ spell_from s shop (suc n) w starts e is active con =
     let con'' : Continues s (at starts) (place s xs j) = subst (λ (ts : List ℕ). Continues s (at ts) (place s xs j)) same con' in
     let next : IsWord s (w ++ letter_of j ∷ []) = follows_last s [] w (letter_of j) is (letter_there (jobs_after s xs) j m.1.there) in
     spell_from s shop n (w ++ letter_of j ∷ []) starts
-        (omega (arith, e, length_last w (letter_of j))) next active
-        (subst (λ (zs : List Placed). Continues s (at starts) zs)
-        (sym (placed_append s [] w (letter_of j ∷ []))) con'')
+    (omega (arith, e, length_last w (letter_of j))) next active
+    (subst (λ (zs : List Placed). Continues s (at starts) zs)
+    (sym (placed_append s [] w (letter_of j ∷ []))) con'')
 
 -- every active list is that of a full word
 pub active_is_spelled : (s : JobShop) → IsShop s → ActiveIsSpelled s

@@ -1,5 +1,5 @@
 -- The bound of the empty word is one of all makespans.
-use Rattle.std.proofs.Common.{◌≡◌, ℕ, ◌≤◌, List, [], ◌∙◌, ap, arith}
+use Rattle.std.proofs.Common.{◌≡◌, ℕ, ◌≤◌, [], ◌∙◌, ap, arith}
 use Rattle.plan_sgs.specs.Problem.{makespan}
 use Rattle.plan_sgs.specs.Instances.{Planned, IsInstance, problem_of}
 use Rattle.plan_sgs.specs.ProjectWords.{bound_of, makespan_by}

@@ -1,5 +1,5 @@
 -- What a watcher hears in several calls, and that it is true of a problem.
-use Rattle.std.proofs.Common.{◌≡◌, ℕ, ◌≤◌, inl, inr, List, arith}
+use Rattle.std.proofs.Common.{ℕ, inl, inr}
 use Rattle.plan_sgs.specs.Problem.{Problem}
 use Rattle.plan_solve.specs.Progress.{Progress, HearsNothing, HearsTruth}
 

@@ -3,3 +3,4 @@ pub mod Progress
 pub use Rattle.plan_sgs.specs.Problem
 pub use Rattle.plan_sgs.specs.Instances
 pub use Rattle.plan_sgs.specs.Placement
+pub use Rattle.plan_shop.specs.Shop

@@ -1,10 +1,10 @@
 -- Active schedules with lower bounds of all makespans (docs/definitions.md, "Proofs of optima").
-use Rattle.std.specs.Prelude.{◌≡◌, ℕ, ◌≤◌, ◌<◌, List}
+use Rattle.std.specs.Prelude.{◌≡◌, ℕ, ◌≤◌, ◌<◌, List, All}
 use Rattle.plan_sgs.specs.Problem.{Problem, IsFeasible, IsActive, makespan}
 use Rattle.plan_sgs.specs.Placement.{AllEndBy, latest_end}
 use Rattle.plan_sgs.specs.declared.schedule.Schedule.{Schedule}
+use Rattle.plan_shop.specs.Shop.{JobShop, problem_of}
 use Rattle.plan_solve.specs.declared.fault.SolveFault.{SolveFault}
-use Rattle.plan_solve.specs.declared.solving.Solved.{Solved}
 use Rattle.plan_solve.specs.declared.fault.SolveFault.TheVariants.{NoMemory, BadConflicts}
 
 -- no feasible list of starts has a makespan below a number
@@ -17,10 +17,11 @@ pub record IsActiveSchedule (p : Problem) (schedule : Schedule) : Type 0 where
   pub makespan_is : schedule.makespan ≡ makespan p schedule.starts.items
   pub ends : AllEndBy p schedule.starts.items latest_end
 
--- an active schedule and a lower bound
-pub record IsSolutionOf (p : Problem) (solved : Solved) : Type 0 where
-  pub schedule : IsActiveSchedule p solved.schedule
-  pub lower : IsLowerBound p solved.lower
+-- an active schedule of a shop with its makespan, no start of which is after 10,000,000
+pub record IsActiveShopSchedule (s : JobShop) (schedule : Schedule) : Type 0 where
+  pub active : IsActive (problem_of s) schedule.starts.items
+  pub makespan_is : schedule.makespan ≡ makespan (problem_of s) schedule.starts.items
+  pub within : All (λ t. t ≤ 10000000) schedule.starts.items
 
 -- how many conflicts may be allowed
 abbrev pub IsConflictLimit : ℕ → Type 0

@@ -187,8 +187,8 @@ impl Analysis {
         }
     }
 
-    /// Resolves the conflict until one literal of the last level is left. Returns its half, or none if
-    /// that could not be done.
+    /// Resolves the conflict until one literal of the last level is left. Returns its half, or none
+    /// if that could not be done.
     pub fn reduce(
         &mut self,
         model: &Model,
@@ -202,7 +202,7 @@ impl Analysis {
     {
         self.count = 0;
         self.count_all(kernel, trail, conflict);
-        'entries: for place in (0..trail.len()).rev() {
+        for place in (0..trail.len()).rev() {
             if !self.is_met(kernel, trail, place) {
                 continue;
             }

@@ -1,5 +1,5 @@
-//! Shortest schedules of projects with scarce resources, as far as a search by lazy clause generation
-//! finds and proves them.
+//! Shortest schedules of projects with scarce resources and of job shops, as far as a search by
+//! lazy clause generation finds and proves them.
 #![tactic(auto)]
 
 mod activity;
@@ -12,12 +12,15 @@ mod literals;
 mod model;
 mod orders;
 mod parts;
+mod projects;
 mod propagation;
 mod reduction;
 mod restarts;
 mod running;
 mod schedules;
 mod search;
+mod shops;
+mod solvable;
 mod solving;
 mod stop;
 mod table;
@@ -27,5 +30,7 @@ mod watches;
 mod windows;
 
 pub use fault::SolveFault;
-pub use solving::{MOST_CONFLICTS, Solved, solve, solve_watched};
+pub use projects::{solve, solve_watched};
+pub use shops::{solve_shop, solve_shop_watched};
+pub use solving::{MOST_CONFLICTS, Solved};
 pub use watcher::{Unwatched, Watcher};

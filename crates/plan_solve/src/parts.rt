@@ -7,8 +7,8 @@ use std::alloc::{AllocError, Global};
 /// The greatest number of instants, over all resources, for which use is counted.
 pub const MOST_CELLS: u64 = 4_000_000;
 
-/// How much of each resource is in use at each instant by the fixed parts of activities: those between
-/// their latest start and their earliest end.
+/// How much of each resource is in use at each instant by the fixed parts of activities: those
+/// between their latest start and their earliest end.
 #[derive(Drop)]
 pub struct Parts {
     horizon: u32,

@@ -19,8 +19,8 @@ pub struct State {
     pub watches: Watches,
     parts: Parts,
     windows: Windows,
-    // activities whose bounds have risen, those whose bounds were taken back, and unary resources of
-    // which a user has risen
+    // activities whose bounds have risen, those whose bounds were taken back, and unary resources
+    // of which a user has risen
     stale: Waiting,
     loose: Waiting,
     busy: Waiting,

@@ -21,9 +21,9 @@ const LATE: u64 = 100;
 /// The most levels that are told apart.
 const LEVELS: usize = 64;
 
-/// For each kept clause how many levels its literals were of when it was learned (Audemard and Simon,
-/// "Predicting learnt clauses quality in modern SAT solvers", 2009), and the conflict that used it
-/// last.
+/// For each kept clause how many levels its literals were of when it was learned (Audemard and
+/// Simon, "Predicting learnt clauses quality in modern SAT solvers", 2009), and the conflict that
+/// used it last.
 #[derive(Drop)]
 pub struct Clauses {
     levels: Vec<u32>,
@@ -98,7 +98,7 @@ impl Clauses {
         ensures { kernel.new.known.input ≡ kernel.old.known.input }
     {
         let limit = self.limit(kernel);
-        'clauses: for place in 0..self.levels.len() {
+        for place in 0..self.levels.len() {
             let clause = (place & 0xffff_ffff) as u32;
             if !kernel.clause(clause).is_empty() && !self.stays(place, limit, conflict) {
                 kernel.remove(clause);

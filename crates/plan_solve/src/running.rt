@@ -1,17 +1,15 @@
 //! A search from a schedule on, within a number of conflicts.
 
 ghost use Rattle.std.specs.Prelude.{◌≡◌, ◌≤◌, IfOk};
-ghost use Rattle.plan_sgs.specs.Instances.{problem_of};
 ghost use Rattle.plan_kernel.specs.Inputs as inputs;
 ghost use Rattle.plan_solve.specs.Progress.{HearsNothing, HearsTruth};
 ghost use Rattle.plan_solve.specs.Solutions.{IsLowerBound};
 
-use crate::orders::orders_of;
 use crate::search::{Advance, Search};
+use crate::solvable::Solvable;
 use crate::stop::Clash;
 use crate::watcher::Watcher;
-use plan_kernel::{Input, Kernel};
-use plan_sgs::Instance;
+use plan_kernel::Kernel;
 use std::alloc::{AllocError, Global};
 
 /// After how many conflicts a watcher is told how far the search is.
@@ -20,8 +18,8 @@ const CONFLICTS_BETWEEN: u64 = 64;
 /// After how many decisions without a conflict a watcher is asked whether the search should end.
 const DECISIONS_BETWEEN: u32 = 64;
 
-/// What a search comes to: the starts of the best schedule, a lower bound, and how many conflicts there
-/// were.
+/// What a search comes to: the starts of the best schedule, a lower bound, and how many conflicts
+/// there were.
 #[derive(Drop)]
 pub struct Found {
     pub starts: Vec<u32>,
@@ -29,13 +27,12 @@ pub struct Found {
     pub conflicts: u64,
 }
 
-// A kernel that knows a schedule of the project.
-fn kernel_of(alloc: Global, instance: &Instance, starts: &[u64]) -> Result<Kernel, AllocError>
+// A kernel that knows starts.
+fn kernel_of<S: Solvable>(alloc: Global, source: &S, starts: &[u64]) -> Result<Kernel, AllocError>
     ensures { IfOk result (λ kernel.
-        inputs.problem_of kernel.known.input ≡ problem_of instance.now) }
+        inputs.problem_of kernel.known.input ≡ S.problem source.now) }
 {
-    let orders = orders_of(alloc, instance)?;
-    let mut kernel = Kernel::new(alloc, Input::of_instance(alloc, instance, orders)?)?;
+    let mut kernel = Kernel::new(alloc, source.input(alloc)?)?;
     let mut narrowed = Vec::with_capacity(alloc, starts.len())?;
     for &start in starts {
         narrowed.push((start & 0xffff_ffff) as u32)?;
@@ -45,64 +42,65 @@ fn kernel_of(alloc: Global, instance: &Instance, starts: &[u64]) -> Result<Kerne
 }
 
 // The greater of two lower bounds: a simple one and the kernel's.
-fn lower_bound(instance: &Instance, kernel: &Kernel, simple: u64) -> u64
-    requires problem { inputs.problem_of kernel.now.known.input ≡ problem_of instance.now }
-    requires simple { IsLowerBound (problem_of instance.now) simple }
-    ensures { IsLowerBound (problem_of instance.now) result }
+fn lower_bound<S: Solvable>(source: &S, kernel: &Kernel, simple: u64) -> u64
+    requires problem { inputs.problem_of kernel.now.known.input ≡ S.problem source.now }
+    requires simple { IsLowerBound (S.problem source.now) simple }
+    ensures { IsLowerBound (S.problem source.now) result }
 {
     simple.max(kernel.lower_bound() as u64)
 }
 
 // Tells a watcher how far a search is. Returns whether the search should end.
-fn tell<W: Watcher>(
+fn tell<S: Solvable, W: Watcher>(
     watcher: &mut W,
-    instance: &Instance,
+    source: &S,
     kernel: &Kernel,
     simple: u64,
     conflicts: u64,
 ) -> bool
-    requires problem { inputs.problem_of kernel.now.known.input ≡ problem_of instance.now }
-    requires simple { IsLowerBound (problem_of instance.now) simple }
-    ensures { HearsTruth (problem_of instance.now) conflicts
+    requires problem { inputs.problem_of kernel.now.known.input ≡ S.problem source.now }
+    requires simple { IsLowerBound (S.problem source.now) simple }
+    ensures { HearsTruth (S.problem source.now) conflicts
         (W.was_told watcher.old) (W.was_told watcher.new) }
 {
     if let Some(_starts) = kernel.best() {
-        let lower = lower_bound(instance, kernel, simple);
+        let lower = lower_bound(source, kernel, simple);
         watcher.tell(kernel.upper() as u64, lower, conflicts);
     }
     watcher.is_late()
 }
 
 /// Searches from a schedule on, with at most so many conflicts.
-pub fn run<W: Watcher>(
+pub fn run<S: Solvable, W: Watcher>(
     alloc: Global,
-    instance: &Instance,
+    source: &S,
     starts: &[u64],
     simple: u64,
     conflicts: u64,
     watcher: &mut W,
 ) -> Result<Found, AllocError>
-    requires simple { IsLowerBound (problem_of instance.now) simple }
-    ensures lower { IfOk result (λ found. IsLowerBound (problem_of instance.now) found.lower) }
+    requires simple { IsLowerBound (S.problem source.now) simple }
+    ensures lower { IfOk result (λ found. IsLowerBound (S.problem source.now) found.lower) }
     ensures conflicts { IfOk result (λ found. found.conflicts ≤ conflicts) }
-    ensures told { HearsTruth (problem_of instance.now) conflicts
+    ensures told { HearsTruth (S.problem source.now) conflicts
         (W.was_told watcher.old) (W.was_told watcher.new) }
 {
-    let kernel = kernel_of(alloc, instance, starts)?;
+    let kernel = kernel_of(alloc, source, starts)?;
     let mut search = Search::new(alloc, kernel)?;
-    let used = search_all(alloc, instance, &mut search, simple, conflicts, watcher)?;
+    let used = search_all(alloc, source, &mut search, simple, conflicts, watcher)?;
     let starts = match search.kernel.best() {
         Some(starts) => Vec::from_slice(alloc, starts)?,
         None => Vec::new(alloc),
     };
     Ok(Found {
         starts,
-        lower: lower_bound(instance, &search.kernel, simple),
+        lower: lower_bound(source, &search.kernel, simple),
         conflicts: used,
     })
 }
 
-// Searches until a clause is false. `None` if nothing is left to search for, or the watcher ends it.
+// Searches until a clause is false. `None` if nothing is left to search for, or the watcher ends
+// it.
 fn next_clash<W: Watcher>(
     alloc: Global,
     search: &mut Search,
@@ -111,7 +109,7 @@ fn next_clash<W: Watcher>(
     ensures input { search.new.kernel.known.input ≡ search.old.kernel.known.input }
     ensures told { HearsNothing (W.was_told watcher.old) (W.was_told watcher.new) }
 {
-    'rounds: for _ in 0..u64::MAX {
+    for _ in 0..u64::MAX {
         match search.advance(alloc, DECISIONS_BETWEEN)? {
             Advance::Clash(clash) => return Ok(Some(clash)),
             Advance::Done => return Ok(None),
@@ -124,29 +122,29 @@ fn next_clash<W: Watcher>(
     Ok(None)
 }
 
-// Searches until nothing is left, a limit is reached or the watcher ends it. Returns how many conflicts
-// there were.
-fn search_all<W: Watcher>(
+// Searches until nothing is left, a limit is reached or the watcher ends it. Returns how many
+// conflicts there were.
+fn search_all<S: Solvable, W: Watcher>(
     alloc: Global,
-    instance: &Instance,
+    source: &S,
     search: &mut Search,
     simple: u64,
     conflicts: u64,
     watcher: &mut W,
 ) -> Result<u64, AllocError>
-    requires problem { inputs.problem_of search.old.kernel.known.input ≡ problem_of instance.now }
-    requires simple { IsLowerBound (problem_of instance.now) simple }
+    requires problem { inputs.problem_of search.old.kernel.known.input ≡ S.problem source.now }
+    requires simple { IsLowerBound (S.problem source.now) simple }
     ensures input { search.new.kernel.known.input ≡ search.old.kernel.known.input }
     ensures used { IfOk result (λ used. used ≤ conflicts) }
-    ensures told { HearsTruth (problem_of instance.now) conflicts
+    ensures told { HearsTruth (S.problem source.now) conflicts
         (W.was_told watcher.old) (W.was_told watcher.new) }
 {
     if !search.can_search() || !search.begin(alloc)? {
         return Ok(0);
     }
-    'conflicts: for conflict in 0..conflicts {
+    for conflict in 0..conflicts {
         if conflict % CONFLICTS_BETWEEN == 0
-            && tell(watcher, instance, &search.kernel, simple, conflict)
+            && tell(watcher, source, &search.kernel, simple, conflict)
         {
             return Ok(conflict);
         }

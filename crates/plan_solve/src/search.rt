@@ -68,7 +68,7 @@ fn settle(
 ) -> Result<(), AllocError>
     ensures { kernel.new.known.input ≡ kernel.old.known.input }
 {
-    'entries: for place in 0..trail.len() {
+    for place in 0..trail.len() {
         if analysis.begin_entry(model, trail, kernel, place)? {
             let _ = keep(alloc, kernel)?;
         }
@@ -232,8 +232,8 @@ impl Search {
         }
     }
 
-    /// Learns from a clause that is false, and begins again if it is time to. Returns whether there is
-    /// something left to search for.
+    /// Learns from a clause that is false, and begins again if it is time to. Returns whether there
+    /// is something left to search for.
     pub fn learn(&mut self, alloc: Global, clash: Clash, conflict: u64) -> Result<bool, AllocError>
         ensures { self.new.kernel.known.input ≡ self.old.kernel.known.input }
     {
@@ -394,7 +394,7 @@ impl Search {
     pub fn advance(&mut self, alloc: Global, decisions: u32) -> Result<Advance, AllocError>
         ensures { self.new.kernel.known.input ≡ self.old.kernel.known.input }
     {
-        'decisions: for _ in 0..decisions {
+        for _ in 0..decisions {
             match self.propagate(alloc) {
                 Err(Stop::NoMemory) => return Err(AllocError),
                 Err(Stop::Clash(clash)) => return Ok(Advance::Clash(clash)),
@@ -424,8 +424,8 @@ impl Search {
         }
     }
 
-    // Drops clauses that weren't of use, after all decisions were taken back. Returns whether there is
-    // something left to search for.
+    // Drops clauses that weren't of use, after all decisions were taken back. Returns whether there
+    // is something left to search for.
     fn reduce(&mut self, alloc: Global, conflict: u64) -> Result<bool, AllocError>
         ensures { self.new.kernel.known.input ≡ self.old.kernel.known.input }
     {

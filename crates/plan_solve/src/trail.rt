@@ -20,8 +20,8 @@ pub struct Entry {
     pub cause: Cause,
 }
 
-/// The bounds of all quantities by their halves, and how they rose. A level is what follows from one
-/// decision.
+/// The bounds of all quantities by their halves, and how they rose. A level is what follows from
+/// one decision.
 #[derive(Drop)]
 pub struct Trail {
     values: Vec<u32>,

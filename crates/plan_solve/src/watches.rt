@@ -96,8 +96,8 @@ impl Watches {
         }
     }
 
-    // Looks at a clause of which a watched literal has become false. Returns whether another literal
-    // is watched in its place.
+    // Looks at a clause of which a watched literal has become false. Returns whether another
+    // literal is watched in its place.
     fn visit(
         &mut self,
         kernel: &Kernel,

@@ -15,7 +15,7 @@ use crate::sm::sections::{Outline, Section};
 use crate::text::{Fault, FileCode, ReadError, StreamWords, check_text};
 use std::alloc::Global;
 
-/// What a text says of a project.
+/// The contents of a project file. The arcs may have a cycle.
 #[derive(Drop)]
 pub struct Document {
     pub requests: Requests,
@@ -24,24 +24,24 @@ pub struct Document {
     pub precedence_line: u64,
 }
 
-/// The document of a text, or the first check that fails.
+/// Returns the document of a text, or the first check that fails.
 pub fn read_document(alloc: Global, text: &[u8]) -> Result<Document, ReadError>
     ensures exact { Gives spec.document_of result (spec.document text.now) }
-    // What is read is what the text says.
+    // The result is the document that the text describes.
     ensures found { IfOk result (λ d. Says text.now (spec.document_of d)) }
-    // What the text says is read, unless memory runs out.
+    // If the text describes a document, the result is that document, or out of memory.
     ensures only { (d : spec.Document) → Says text.now d → Gives spec.document_of result (Ok d) }
-    // The rows of its arcs are those of its jobs.
+    // There is a row of successors for each job, with jobs of the project, each at most once.
     ensures rows { IfOk result (λ d. AreRows (length d.requests.durations.items)
         (rows_in d.rows.items)) }
-    // What fails before the first section is read is refused before any memory is taken.
+    // An error before the first section is read is returned even if memory runs out.
     ensures early { (f : Fault) → spec.opened text.now ≡ Err f →
         MatchResult result (λ _. ⊥) (λ e. e ≡ errors.Fault f) }
 {
     sections_of(alloc, text)
 }
 
-// The sections of a text, one after another.
+// Reads the sections of a text, one after another.
 #[tactic(auto, unfolding(crate::specs::Document::document, crate::specs::Document::opened))]
 fn sections_of(alloc: Global, text: &[u8]) -> Result<Document, ReadError>
     ensures exact { Gives spec.document_of result (spec.document text.now) }

@@ -1,4 +1,4 @@
-//! The head of an `.sm` text: how many jobs and resources there are.
+//! The head of an `.sm` text: the numbers of jobs and resources.
 
 ghost use Rattle.std.specs.Prelude.{◌≡◌, ◌≤◌, Some, None, IfOk, MatchOption};
 ghost use Rattle.std.specs.Option.{option_map};
@@ -22,7 +22,7 @@ pub struct Sizes {
 // The most renewable resources of a project.
 const MOST_RESOURCES: u32 = 16;
 
-// Something for each key.
+// A value for each key of the head.
 #[derive(Clone, Copy)]
 struct Keys<T> {
     projects: T,
@@ -32,7 +32,7 @@ struct Keys<T> {
     doubly_constrained: T,
 }
 
-/// The sizes that the head gives. The last line of the text is where a missing key is reported.
+/// Returns the sizes in the head. A missing key is reported at `last`, the last line of the text.
 #[tactic(auto, unfolding(crate::specs::Head::sizes))]
 pub fn head_sizes(text: &[u8], last: u64) -> Result<Sizes, Fault>
     ensures exact { Reads spec.sizes_of result (spec.sizes last (sections.head_of text.now)) }
@@ -43,7 +43,7 @@ pub fn head_sizes(text: &[u8], last: u64) -> Result<Sizes, Fault>
     sizes_in(values(lines)?)
 }
 
-// The first line of the head with each key.
+// Returns for each key the first line of the head that begins with it.
 #[tactic(auto, using(crate::proofs::NoteLemmas::notes))]
 fn key_lines(text: &[u8]) -> Keys<Option<Line<'_>>>
     ensures { spec.keys_by (option_map spec.numbered_line) result ≡ spec.key_lines
@@ -71,7 +71,7 @@ fn key_lines(text: &[u8]) -> Keys<Option<Line<'_>>>
     }
 }
 
-// Notes a line that begins with a key, the first such line.
+// Stores a line if it is the first one that begins with the key.
 fn note<'a>(first: &mut Option<Line<'a>>, key: &[u8], line: Line<'a>)
     ensures { option_map spec.numbered_line first.new
         ≡ noted (sections.begins_with line.entry.text.now key.now)
@@ -82,7 +82,7 @@ fn note<'a>(first: &mut Option<Line<'a>>, key: &[u8], line: Line<'a>)
     }
 }
 
-// The lines of the keys, each of which must be there.
+// Returns the lines of the keys, all of which must be there.
 #[tactic(auto, unfolding(crate::specs::Head::found_lines))]
 fn found_lines(lines: Keys<Option<Line<'_>>>, last: u64) -> Result<Keys<Line<'_>>, Fault>
     ensures { Reads (spec.keys_by spec.numbered_line) result
@@ -150,7 +150,8 @@ fn first_colon(text: &[u8]) -> Option<usize>
     text.iter().position(|&byte| byte == b':')
 }
 
-// The sizes among the values: one project that has renewable resources alone, within the limits.
+// Returns the sizes from the values, which must be those of one project with renewable resources only, within
+// the limits.
 #[tactic(auto, unfolding(crate::specs::Head::sizes_in))]
 fn sizes_in(values: Keys<LineNumber>) -> Result<Sizes, Fault>
     ensures exact { Reads spec.sizes_of result (spec.sizes_in (spec.keys_by line_number values)) }
@@ -169,7 +170,7 @@ fn sizes_in(values: Keys<LineNumber>) -> Result<Sizes, Fault>
     Ok(Sizes { jobs, resources })
 }
 
-// The one value of a key that is read.
+// Checks that a key has the only supported value.
 fn supported(value: LineNumber, only: u64) -> Result<(), Fault>
     ensures { Reads (λ _. tt) result (spec.supported only (line_number value)) }
 {

@@ -9,7 +9,7 @@ use crate::sm::sections::Section;
 use crate::text::{Fault, FileCode, LineNumber, ReadError, StreamWords, end, expect, next_number};
 use std::alloc::Global;
 
-/// The rows of successors that the section gives, a row for each job.
+/// Returns the rows of successors in the section, one for each job.
 #[tactic(auto, unfolding(crate::specs::Precedence::precedence))]
 pub fn precedence(
     alloc: Global,
@@ -60,7 +60,7 @@ fn precedence_row(
     successors(alloc, words, jobs, count.value)
 }
 
-// So many successors, each named once.
+// Reads the next `count` successors, each new to its row.
 fn successors(
     alloc: Global,
     words: &mut StreamWords<'_, Section>,
@@ -79,7 +79,7 @@ fn successors(
     Ok(found)
 }
 
-// The next successor, which isn't marked before, and is marked then.
+// Reads the next successor, which must be unmarked, and marks it.
 #[tactic(auto, unfolding(crate::specs::Precedence::successor_at))]
 fn successor(
     words: &mut StreamWords<'_, Section>,
@@ -99,7 +99,7 @@ fn successor(
     Ok(job.value as u32)
 }
 
-// Marks a job, and answers whether it was marked before.
+// Marks a job, and returns whether it was marked before.
 fn mark(marks: &mut [bool], job: usize) -> bool
     requires { job < length marks.old }
     ensures before { (before : List ℕ) → spec.AreMarks marks.old before →
@@ -112,7 +112,7 @@ fn mark(marks: &mut [bool], job: usize) -> bool
     was
 }
 
-// The next word, which must be a job.
+// Reads the next word, which must be the number of a job.
 #[tactic(auto, unfolding(crate::specs::Precedence::job_at))]
 fn next_job(words: &mut StreamWords<'_, Section>, jobs: u32) -> Result<LineNumber, Fault>
     ensures exact { Reads (λ job. (line_number job, words.new)) result

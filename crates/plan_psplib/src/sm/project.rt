@@ -1,4 +1,4 @@
-//! Projects out of `.sm` texts.
+//! Projects from `.sm` texts.
 
 ghost use Rattle.std.specs.Prelude.{◌≡◌, ◌⊎◌, ◌-◌, ◌≤◌, Some, Err, IfOk, IfErr, OnOk, OnErr, MatchResult, length, map, slice_get};
 ghost use Rattle.plan_net.specs.Network.{IsActivity, IsArc};
@@ -17,8 +17,8 @@ use plan_net::{LONGEST_LAG, NetFault, Network};
 use std::alloc::Global;
 use std::marker::Model;
 
-/// A project: a network, what each activity needs of each renewable resource, and how much there is of
-/// each. Activities and resources are numbered from 1.
+/// A project: a network, the need of each activity for each renewable resource, and the availability of each
+/// resource. Activities and resources are numbered from 1.
 #[derive(Drop)]
 pub struct ProjectDoc {
     network: Network,
@@ -55,7 +55,7 @@ impl ProjectDoc {
         &self.network
     }
 
-    /// What an activity needs of each resource while it lasts.
+    /// Returns the need of an activity for each resource while it lasts.
     pub fn needs(&self, activity: u32) -> &[u64]
         requires { IsActivity self.now.network activity }
         ensures row { slice_get self.now.needs (activity - 1) ≡ Some result.now }
@@ -64,17 +64,18 @@ impl ProjectDoc {
         &self.needs[activity as usize - 1]
     }
 
-    /// How much there is of each resource.
+    /// Returns the availability of each resource.
     pub fn avail(&self) -> &[u64]
         ensures { result.now ≡ self.now.available }
     {
         &self.avail
     }
 
-    /// Changes the lag of an arc: the second activity then starts at least so many time units after the first has finished. Takes no
-    /// memory.
+    /// Sets the lag of an arc: the second activity starts at least `lag` time units after the end of the
+    /// first. Allocates nothing.
     ///
-    /// Returns the error [`NetFault::NoArc`] if there is no such arc, then [`NetFault::BadLag`] if the lag is above 10,000.
+    /// Returns the error [`NetFault::NoArc`] if there is no such arc, then [`NetFault::BadLag`] if the lag is
+    /// above 10,000.
     pub fn set_lag(&mut self, first: u32, second: u32, lag: u64) -> Result<(), NetFault>
         ensures ok { OnOk result (IsArc self.old.network first second × (lag ≤ LONGEST_LAG) ×
             (self.new ≡ spec.with_project_lag self.old first second lag)) }
@@ -84,7 +85,7 @@ impl ProjectDoc {
         self.network.set_lag(first, second, lag)
     }
 
-    /// The network, the needs of the activities in order, and how much there is of each resource.
+    /// Returns the network, the needs of the activities in order, and the availability of each resource.
     pub fn into_parts(self) -> (Network, Vec<Vec<u64>>, Vec<u64>)
         ensures network { result.0 ≡ self.network }
         ensures needs { map (λ row. row.items) result.1.items ≡ self.needs }
@@ -95,29 +96,28 @@ impl ProjectDoc {
     }
 }
 
-/// Reads an `.sm` text: the project that it gives, or the first check that it fails, with its line. Out
-/// of memory can replace any result but a refusal before the first section is read.
+/// Reads an `.sm` text (Kolisch and Sprecher 1996). Returns its project, or the first check that fails, with
+/// its line. Any call can run out of memory, except one that fails before the first section is read.
 pub fn read_sm(alloc: Global, text: &[u8]) -> Result<ProjectDoc, FileFault>
-    // What is read is what the text says, and it has no cycle.
+    // The result is the project that the text describes, and its arcs have no cycle.
     ensures found { IfOk result (spec.SaysProject text.now) }
-    // What the text says is read, unless memory runs out or its arcs have a cycle.
+    // If the text describes a document, the result is its project, or out of memory, or the cycle of its
+    // arcs.
     ensures only { (d : Said) → Says text.now d →
         MatchResult result (λ project. project ≡ spec.project_of d)
         (λ fault. IsWantOfMemory fault ⊎ spec.NamesCycleOf d fault) }
-    // Which check is the first that fails.
+    // The error is out of memory, or the first check that fails.
     ensures refused { IfErr result (λ fault. IsWantOfMemory fault
         ⊎ spec.IsFirstFailing text.now fault) }
-    // What fails before the first section is read is refused for that, whatever memory there is.
+    // An error before the first section is read is returned even if memory runs out.
     ensures early { (f : Fault) → opened text.now ≡ Err f →
         MatchResult result (λ _. ⊥) (TellsError (errors.Fault f)) }
 {
-    match read_document(alloc, text) {
-        Ok(document) => project_of(alloc, document),
-        Err(error) => Err(FileFault::of(alloc, error)),
-    }
+    let document = read_document(alloc, text).map_err(|error| FileFault::of(alloc, error))?;
+    project_of(alloc, document)
 }
 
-// The project of a document that some text says, unless its arcs have a cycle.
+// Returns the project of a document that some text describes, unless its arcs have a cycle.
 fn project_of(alloc: Global, document: Document) -> Result<ProjectDoc, FileFault>
     requires said { spec.IsSaid (document_of document) }
     requires rows { AreRows (length document.requests.durations.items)
@@ -132,17 +132,19 @@ fn project_of(alloc: Global, document: Document) -> Result<ProjectDoc, FileFault
         available,
         precedence_line,
     } = document;
-    match Network::of_rows(alloc, requests.durations, &rows) {
-        Ok(network) => Ok(ProjectDoc {
-            network,
-            needs: requests.needs,
-            avail: available,
-        }),
-        Err(fault) => Err(refusal(alloc, fault, precedence_line)),
-    }
+    let network = Network::of_rows(alloc, requests.durations, &rows).map_err(|fault| refusal(
+        alloc,
+        fault,
+        precedence_line,
+    ))?;
+    Ok(ProjectDoc {
+        network,
+        needs: requests.needs,
+        avail: available,
+    })
 }
 
-// The error of a text whose network has a cycle, or whose memory ran out.
+// Returns the error of a text whose network has a cycle or ran out of memory.
 fn refusal(alloc: Global, fault: NetFault, precedence_line: u64) -> FileFault
     requires { IsCycleOrMemory fault }
     ensures { spec.TellsOf fault precedence_line result }

@@ -12,21 +12,21 @@ use std::alloc::Global;
 /// The greatest amount of a resource.
 pub const GREATEST_AMOUNT: u64 = 10_000;
 
-/// What a job takes: its duration, and its need of each resource.
+/// The request of a job: its duration, and its need for each resource.
 #[derive(Drop)]
 struct Request {
     duration: u64,
     needs: Vec<u64>,
 }
 
-/// What the jobs take, in order: their durations, and the needs of each.
+/// The requests of the jobs, in order: their durations and their needs.
 #[derive(Drop)]
 pub struct Requests {
     pub durations: Vec<u64>,
     pub needs: Vec<Vec<u64>>,
 }
 
-/// What the section says of the jobs.
+/// Returns the requests of the jobs in the section.
 #[tactic(auto, unfolding(crate::specs::Requests::requests))]
 pub fn read_requests(
     alloc: Global,
@@ -41,7 +41,7 @@ pub fn read_requests(
     Ok(rows)
 }
 
-/// How much there is of each resource.
+/// Returns the availability of each resource.
 #[tactic(auto, unfolding(crate::specs::Requests::availabilities))]
 pub fn availabilities(
     alloc: Global,
@@ -77,7 +77,7 @@ fn request_rows(
     Ok(Requests { durations, needs })
 }
 
-// The row of a job, where the durations before it add up to a total.
+// Reads the row of a job. `total` is the sum of the durations before it.
 #[tactic(auto, unfolding(crate::specs::Requests::request_row_at))]
 fn request_row(
     alloc: Global,
@@ -98,7 +98,7 @@ fn request_row(
     Ok(Request { duration, needs })
 }
 
-// So many amounts.
+// Reads the next `count` amounts.
 fn amounts(
     alloc: Global,
     words: &mut StreamWords<'_, Section>,

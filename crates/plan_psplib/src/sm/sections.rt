@@ -27,21 +27,21 @@ impl Layout for Section {
     }
 }
 
-/// Whether a line is kept: it isn't empty, and has another byte than stars and hyphens.
+/// Tests whether a line is kept: it contains a byte other than stars and hyphens.
 pub fn is_kept(line: &[u8]) -> bool
     ensures { result ≡ spec.is_kept line.now }
 {
     !is_rule(line)
 }
 
-// Whether a line has stars and hyphens alone.
+// Tests whether a line contains only stars and hyphens.
 fn is_rule(line: &[u8]) -> bool
     ensures { result ≡ list_all spec.is_rule_byte line.now }
 {
     line.iter().all(|&byte| byte == b'*' || byte == b'-')
 }
 
-/// Whether a line is a title line.
+/// Tests whether a line is a title line.
 pub fn is_title(line: &[u8]) -> bool
     ensures { result ≡ spec.is_title line.now }
 {
@@ -51,7 +51,7 @@ pub fn is_title(line: &[u8]) -> bool
         || line.starts_with(b"RESOURCEAVAILABILITIES")
 }
 
-/// What one walk over a text finds: the number of its last line, and the three sections that are read.
+/// The results of one walk over a text: the number of its last line, and the three sections that are read.
 #[derive(Drop)]
 pub struct Outline<'a> {
     pub last: u64,
@@ -93,7 +93,7 @@ impl<'a> Outline<'a> {
     }
 }
 
-// Notes the section behind a line that begins with its title, the first such line.
+// Stores the section after a line if the line is the first one that begins with its title.
 fn note<'a>(
     section: &mut Option<StreamWords<'a, Section>>,
     title: &[u8],
@@ -108,7 +108,7 @@ fn note<'a>(
     }
 }
 
-// The words of the section behind a title line: the line of column heads is skipped.
+// Returns the words of the section after a title line. Skips the line of column heads.
 fn section_words(title: u64, lines: Lines<'_>) -> StreamWords<'_, Section>
     ensures { result ≡ record {
       last = title;

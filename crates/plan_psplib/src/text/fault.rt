@@ -6,8 +6,8 @@ ghost use Rattle.plan_psplib.specs.declared.text.fault.ReadError.TheVariants.{Me
 use std::alloc::{AllocError, AllocFailed, Global};
 use thiserror::Error;
 
-/// The check that a file fails: those of the `.sm` reader and those of the job shop reader. Beside each
-/// stands the name that texts for people give it.
+/// The check that a file fails in the `.sm` reader or in the job shop reader. Each variant is listed with its
+/// code in messages.
 #[derive(Clone, Copy, Debug, PartialEq, Eq)]
 pub enum FileCode {
     /// F1: more than 1,048,576 bytes.
@@ -20,9 +20,9 @@ pub enum FileCode {
     Unsupported,
     /// F5: the title of a section isn't found.
     MissingSection,
-    /// F6: a number was expected, and the token is not one.
+    /// F6: a token is not a number, although one was expected.
     BadNumber,
-    /// F7: a job number that isn't the one due, or is no job.
+    /// F7: a job number that isn't the expected one, or isn't that of a job.
     JobOrder,
     /// F8: a number of modes, or a mode, other than 1.
     Modes,

@@ -13,7 +13,7 @@ pub struct Line<'a> {
     pub text: &'a [u8],
 }
 
-/// The lines of a text that are left, in order.
+/// The remaining lines of a text, in order.
 #[derive(Drop)]
 pub struct Lines<'a> {
     number: u64,
@@ -42,7 +42,7 @@ impl<'a> Lines<'a> {
         }
     }
 
-    /// The same lines once more, for a second walk from here.
+    /// Returns a copy of the remaining lines, for a second walk from here.
     pub fn again(&self) -> Lines<'a>
         ensures { result ≡ self.now }
     {
@@ -52,14 +52,14 @@ impl<'a> Lines<'a> {
         }
     }
 
-    /// Leaves none of the lines.
+    /// Drops all remaining lines.
     pub fn stop(&mut self)
         ensures { self.new ≡ [] }
     {
         self.rest = &[];
     }
 
-    /// The first of the lines that are left.
+    /// Returns the next line, if there is one.
     pub fn next_line(&mut self) -> Option<Line<'a>>
         ensures { MatchOption result ((self.old ≡ []) × (self.new ≡ []))
             (λ line. self.old ≡ record { number = line.number; text = line.text.now } ∷ self.new) }
@@ -78,7 +78,7 @@ impl<'a> Lines<'a> {
     }
 }
 
-// The first line of a text that isn't empty, as it stands, and what follows its line feed.
+// Splits a nonempty text into its first line, untrimmed, and the text after its line feed.
 #[tactic(auto, using(crate::proofs::CutLemmas::line_cuts))]
 fn cut_line(text: &[u8]) -> (&[u8], &[u8])
     requires { 0 < length text.now }
@@ -91,15 +91,15 @@ fn cut_line(text: &[u8]) -> (&[u8], &[u8])
     }
 }
 
-// Where the first line feed stands.
+// Returns the index of the first line feed.
 fn first_line_feed(text: &[u8]) -> Option<usize>
     ensures { result ≡ position spec.is_line_feed text.now }
 {
     text.iter().position(|&byte| byte == b'\n')
 }
 
-/// Whether a byte stands between words: a tab, a vertical tab, a form feed, a carriage return, the
-/// end mark 26 or a space.
+/// Tests whether a byte separates words: a tab, a vertical tab, a form feed, a carriage return, the end mark
+/// 26 or a space.
 pub fn is_blank(byte: u8) -> bool
     ensures { result ≡ spec.is_blank byte }
 {

@@ -7,7 +7,7 @@ ghost use Rattle.plan_psplib.specs.Numbers as spec;
 /// The greatest length of a number, in digits.
 const LONGEST_NUMBER: usize = 9;
 
-/// The number that a word is: one to nine decimal digits, of which the first may be zeros.
+/// Returns the number that a word spells: one to nine decimal digits, leading zeros allowed.
 pub fn number(word: &[u8]) -> Option<u64>
     ensures { result ≡ spec.number word.now }
 {
@@ -18,7 +18,7 @@ pub fn number(word: &[u8]) -> Option<u64>
     }
 }
 
-/// Whether a word is a number.
+/// Tests whether a word is a number.
 pub fn is_number(word: &[u8]) -> bool
     ensures { result ≡ spec.is_number word.now }
 {
@@ -32,7 +32,7 @@ fn all_digits(word: &[u8]) -> bool
     word.iter().all(|byte| byte.is_ascii_digit())
 }
 
-// What digits stand for.
+// Returns the value of decimal digits.
 fn decimal(digits: &[u8]) -> u64
     requires short { length digits.now ≤ 9 }
     requires digits { list_all spec.is_digit digits.now ≡ true }

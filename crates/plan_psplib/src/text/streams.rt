@@ -31,7 +31,7 @@ pub struct LineWord<'a> {
     pub text: &'a [u8],
 }
 
-/// The words that are left of a stream, in order, with the line of the word that was read last.
+/// The remaining words of a stream, in order, with the line of the word that was read last.
 #[derive(Drop)]
 pub struct StreamWords<'a, L: Layout> {
     last: u64,
@@ -55,7 +55,7 @@ impl<'a, L: Layout> Model for StreamWords<'a, L> {
 }
 
 impl<'a, L: Layout> StreamWords<'a, L> {
-    /// All words of some lines, behind a line of this number.
+    /// Returns all words of the lines, which follow the line with the number `before`.
     pub fn new(before: u64, lines: Lines<'a>) -> StreamWords<'a, L>
         ensures { result ≡ record {
           last = before;
@@ -79,7 +79,7 @@ impl<'a, L: Layout> StreamWords<'a, L> {
         self.last
     }
 
-    /// The first of the words that are left.
+    /// Returns the next word, if there is one.
     pub fn next_word(&mut self) -> Option<LineWord<'a>>
         ensures { MatchOption result ((self.old.words ≡ []) × (self.new ≡ self.old))
             (λ word.
@@ -103,7 +103,7 @@ impl<'a, L: Layout> StreamWords<'a, L> {
     }
 }
 
-/// The first of the lines that count, none where an end comes first.
+/// Returns the next line that counts, or `None` if there is none or an end comes first.
 pub fn next_row<'a, L: Layout>(lines: &mut Lines<'a>) -> Option<Line<'a>>
     ensures { MatchOption result
         ((spec.rows L.takes L.ends lines.old ≡ []) × (spec.rows L.takes L.ends lines.new ≡ []))

@@ -16,7 +16,8 @@ pub struct LineNumber {
     pub line: u64,
 }
 
-/// The next word, which must be a number: `BadNumber` if it is none, `Count` if no token is left.
+/// Reads the next word, which must be a number. The error is `BadNumber` if it isn't one, and `Count` if no
+/// word is left.
 #[tactic(auto, unfolding(crate::specs::Tokens::number_at))]
 pub fn next_number<L: Layout>(words: &mut StreamWords<'_, L>) -> Result<LineNumber, Fault>
     ensures { Reads (λ n. (line_number n, words.new)) result (number_at words.old) }
@@ -33,7 +34,7 @@ pub fn next_number<L: Layout>(words: &mut StreamWords<'_, L>) -> Result<LineNumb
     }
 }
 
-/// The next word, which must be this number, or else the fault is the one named.
+/// Reads the next word, which must be the number `wanted`. For another number the error is `code`.
 #[tactic(auto, unfolding(crate::specs::Tokens::expect_at))]
 pub fn expect<L: Layout>(
     words: &mut StreamWords<'_, L>,
@@ -49,7 +50,7 @@ pub fn expect<L: Layout>(
     Ok(())
 }
 
-/// The next word, which must be a number up to a limit: `Limit` if it is beyond.
+/// Reads the next word, which must be a number up to a limit. The error is `Limit` if it is above.
 #[tactic(auto, unfolding(crate::specs::Tokens::within_at))]
 pub fn within<L: Layout>(words: &mut StreamWords<'_, L>, limit: u64) -> Result<u64, Fault>
     ensures exact { Reads (λ n. (n, words.new)) result (within_at limit words.old) }
@@ -75,8 +76,9 @@ pub fn limited(value: LineNumber, least: u32, most: u32) -> Result<u32, Fault>
     }
 }
 
-/// The next word, which must be a number from `least` to `most`, both included: `BadNumber` (F6) if it is no number, `Limit`
-/// (F10) if it is outside, each in its own line; `Count` (F9) if no token is left, in the line of the last word.
+/// Reads the next word, which must be a number from `least` to `most`, both included. The error is
+/// `BadNumber` (F6) if it is no number and `Limit` (F10) if it is outside, in the line of the word. If no
+/// word is left, the error is `Count` (F9), in the line of the last word.
 #[tactic(auto, unfolding(crate::specs::Tokens::limited_at))]
 pub fn next_limited<L: Layout>(
     words: &mut StreamWords<'_, L>,
@@ -91,9 +93,10 @@ pub fn next_limited<L: Layout>(
     limited(number, least, most)
 }
 
-/// The next word, which must be a duration in time units, where those before it add up to `total`: `BadNumber` (F6) if it is no
-/// number, `Limit` (F10) if it is above 10,000 or if all of them add up to more than 1,000,000 with it, each in its own line;
-/// `Count` (F9) if no token is left, in the line of the last word.
+/// Reads the next word, which must be a duration in time units. `total` is the sum of the durations before
+/// it. The error is `BadNumber` (F6) if it is no number, and `Limit` (F10) if it is above 10,000 or raises
+/// the sum above 1,000,000. The line is that of the word. If no word is left, the error is `Count` (F9), in
+/// the line of the last word.
 #[tactic(auto, unfolding(crate::specs::Tokens::duration_at))]
 pub fn next_duration<L: Layout>(words: &mut StreamWords<'_, L>, total: u64) -> Result<u64, Fault>
     ensures exact { Reads (λ n. (n, words.new)) result (duration_at total words.old) }

@@ -7,7 +7,7 @@ ghost use Rattle.plan_psplib.specs.Lines as spec;
 use crate::text::lines::{is_blank, trim_start};
 use std::marker::Model;
 
-/// The words of a line that are left, in order: the text between its blanks.
+/// The remaining words of a line, in order. Words are separated by blanks.
 #[derive(Drop)]
 pub struct Words<'a> {
     rest: &'a [u8],
@@ -30,7 +30,7 @@ impl<'a> Words<'a> {
         Words { rest: line }
     }
 
-    /// The first of the words that are left.
+    /// Returns the next word, if there is one.
     #[tactic(auto, using(crate::proofs::CutLemmas::word_starts))]
     pub fn next_word(&mut self) -> Option<&'a [u8]>
         ensures { MatchOption result ((self.old ≡ []) × (self.new ≡ []))
@@ -46,7 +46,7 @@ impl<'a> Words<'a> {
     }
 }
 
-// The first word of a text that begins with one, and what follows it.
+// Splits a text that begins with a word into this word and the rest.
 #[tactic(auto, using(crate::proofs::CutLemmas::word_cuts))]
 fn cut_word(text: &[u8]) -> (&[u8], &[u8])
     requires word { 0 < length text.now }
@@ -59,7 +59,7 @@ fn cut_word(text: &[u8]) -> (&[u8], &[u8])
     }
 }
 
-// Where the first blank stands.
+// Returns the index of the first blank.
 fn first_blank(text: &[u8]) -> Option<usize>
     ensures { result ≡ position spec.is_blank text.now }
 {

@@ -22,9 +22,15 @@ free_floats-requires-clause-duration c =
 pub from_parts-requires : goal.from_parts-requires
 from_parts-requires c =
     let net = c.args.network.now in
-    let table : DateTable = record { duration = c.greatest-duration.result; durations =
-        c.in_ok-durations.durations.items; finishes = c.in_ok-finishes.finishes.items; tails =
-        c.in_ok-after.after.items; free_floats = c.in_ok-floats.floats.items } in
+    let table : DateTable = record {
+      duration = c.greatest-duration.result;
+      durations =
+          c.in_ok-durations.durations.items;
+      finishes = c.in_ok-finishes.finishes.items;
+      tails =
+          c.in_ok-after.after.items;
+      free_floats = c.in_ok-floats.floats.items;
+    } in
     let top = subst (λ (xs : List ℕ). (k : ℕ) × (k < length xs) × (get_or xs k 0 ≡ c.greatest-duration.result)) c.deref.ensures.value c.greatest-duration.ensures.reached in
     let high = subst (λ (xs : List ℕ). (k : ℕ) → k < length xs → get_or xs k 0 ≤ c.greatest-duration.result) c.deref.ensures.value c.greatest-duration.ensures.above in
     let floats = subst (λ (xs : List ℕ). AreFreeFloats net xs c.greatest-duration.result c.in_ok-floats.floats.items) c.deref-2.ensures.value c.in_ok-floats.ensures in
@@ -41,13 +47,19 @@ from_parts-requires c =
 pub returns : goal.returns
 returns c =
     let net = c.args.network.now in
-    let table : DateTable = record { duration = c.greatest-duration.result; durations =
-        c.in_ok-durations.durations.items; finishes = c.in_ok-finishes.finishes.items; tails =
-        c.in_ok-after.after.items; free_floats = c.in_ok-floats.floats.items } in
+    let table : DateTable = record {
+      duration = c.greatest-duration.result;
+      durations =
+          c.in_ok-durations.durations.items;
+      finishes = c.in_ok-finishes.finishes.items;
+      tails =
+          c.in_ok-after.after.items;
+      free_floats = c.in_ok-floats.floats.items;
+    } in
     let top : (k : ℕ) × (k < length c.in_ok-finishes.finishes.items)
-        × (get_or c.in_ok-finishes.finishes.items k 0 ≡ c.greatest-duration.result) =
-        subst (λ (xs : List ℕ). (k : ℕ) × (k < length xs) × (get_or xs k 0 ≡ c.greatest-duration.result))
-        c.deref.ensures.value c.greatest-duration.ensures.reached in
+    × (get_or c.in_ok-finishes.finishes.items k 0 ≡ c.greatest-duration.result) =
+    subst (λ (xs : List ℕ). (k : ℕ) × (k < length xs) × (get_or xs k 0 ≡ c.greatest-duration.result))
+    c.deref.ensures.value c.greatest-duration.ensures.reached in
     let high = subst (λ (xs : List ℕ). (k : ℕ) → k < length xs → get_or xs k 0 ≤ c.greatest-duration.result) c.deref.ensures.value c.greatest-duration.ensures.above in
     let floats = subst (λ (xs : List ℕ). AreFreeFloats net xs c.greatest-duration.result c.in_ok-floats.floats.items) c.deref-2.ensures.value c.in_ok-floats.ensures in
     let parts : AreParts net table =

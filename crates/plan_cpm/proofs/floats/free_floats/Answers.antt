@@ -9,16 +9,16 @@ use Rattle.plan_cpm.proofs.floats.free_floats.Goals as goal
 activity : (c : After-index) → IsActivity c.args.network.now (c.loop-k.k + 1)
 activity c = (omega arith, omega (arith, c.loop-k-test.true, c.len-k-end.ensures.count))
 
--- what stands for the activity
+-- the entry of the activity
 next_read : (c : After-index) → IsNextStart c.args.network.now c.args.finishes.now c.args.duration (c.loop-k.k + 1) c.index.result.now
 next_read c =
     let k = c.loop-k.k in
     let nexts = c.in_ok-nexts.nexts.items in
     let same : k + 1 - 1 ≡ k = omega arith in
     let read : c.index.result.now ≡ get_or nexts k 0 =
-        get_or_read nexts k c.index.result.now (omega
-        (arith, c.in_ok-nexts.ensures.whole, c.loop-k-test.true, c.len-k-end.ensures.count)) c.index.ensures
-        0 in
+    get_or_read nexts k c.index.result.now (omega
+    (arith, c.in_ok-nexts.ensures.whole, c.loop-k-test.true, c.len-k-end.ensures.count)) c.index.ensures
+    0 in
     subst (IsNextStart c.args.network.now c.args.finishes.now c.args.duration (k + 1)) (ap (λ (x : ℕ). get_or nexts x 0) same ∙ sym read) (c.in_ok-nexts.ensures.next (k + 1) (activity c))
 
 -- an activity finishes no later than the next has to start
@@ -27,9 +27,9 @@ in_time c =
     let k = c.loop-k.k in
     let same : k + 1 - 1 ≡ k = omega arith in
     let low : get_or c.args.finishes.now (k + 1 - 1) 0 ≤ c.index.result.now =
-        finish_at_most_next c.args.network.now c.args.finishes.now c.args.duration
-        (k + 1) c.index.result.now c.len-k-end.ensures.sound.limits c.requires.finishes c.requires.duration
-        (activity c) (next_read c) in
+    finish_at_most_next c.args.network.now c.args.finishes.now c.args.duration
+    (k + 1) c.index.result.now c.len-k-end.ensures.sound.limits c.requires.finishes c.requires.duration
+    (activity c) (next_read c) in
     subst (λ (x : ℕ). get_or c.args.finishes.now x 0 ≤ c.index.result.now) same low
 
 pub overflow_sub-index : goal.overflow_sub-index

@@ -8,14 +8,14 @@ use Rattle.plan_cpm.proofs.NextLemmas.{LowersBefore-from_moved}
 use Rattle.plan_cpm.proofs.floats.lower_before.Goals.{After-preds-j-items}
 use Rattle.plan_cpm.proofs.floats.lower_before.Goals as goal
 
--- beside each predecessor stands its lag
+-- the lag of each predecessor is at its index
 in_place : (c : After-preds-j-items) (m : ℕ) → m < length c.preds-j-items.result.now →
     (m < length c.lags_into-lags.result.now) × (get_or c.lags_into-lags.result.now m 0 ≡ lag_of
     c.args.network.now (get_or c.preds-j-items.result.now m 0) c.args.k)
 in_place c m = lag_in_place c.args.network.now c.args.k c.preds-j-items.result.now c.lags_into-lags.result.now
     m (c.lags_into-lags.ensures.value c.preds-j-items.result.now c.preds-j-items.ensures.exact)
 
--- and what stands there is a predecessor
+-- the entry there is a predecessor
 arc_at : (c : After-preds-j-items) (m : ℕ) → m < length c.preds-j-items.result.now → IsArc c.args.network.now (get_or c.preds-j-items.result.now m 0) c.args.k
 arc_at c m within = (c.preds-j-items.ensures.exact.exact (get_or c.preds-j-items.result.now m 0)).0 (Contains-get_or c.preds-j-items.result.now m 0 within)
 
@@ -41,8 +41,8 @@ loop-m-preserved c =
     let value : c.min.result ≡ min (get_or list (get_or items m 0 - 1) 0) (c.args.start - lag_of net (get_or items m 0) c.args.k) =
     c.min.ensures ∙ (ap (λ (x : ℕ). min x (c.args.start - get_or c.lags_into-lags.result.now m 0)) read ∙ ap (λ (w : ℕ). min (get_or list (get_or items m 0 - 1) 0) (c.args.start - w)) lag) in
     AreMoved-more (λ a b. b ≤ a) (λ j. IsArc net j c.args.k)
-        (λ j. c.args.start - lag_of net j c.args.k) items m c.min.result c.args.nexts.now.items list
-        (λ a. omega arith) (λ a b e high low. omega (arith, high, low))
+    (λ j. c.args.start - lag_of net j c.args.k) items m c.min.result c.args.nexts.now.items list
+    (λ a. omega arith) (λ a b e high low. omega (arith, high, low))
     (arc_at before m c.loop-m-test.true) within (omega (arith, value)) (omega (arith, value))
     (min_either c.min.result (get_or list (get_or items m 0 - 1) 0) (c.args.start - lag_of net (get_or items m 0) c.args.k) value) c.loop-m.invariant
 
@@ -52,5 +52,5 @@ returns c =
     let all : c.loop-m.m ≡ length items = omega (arith, c.loop-m-test.false) in
     LowersBefore-from_moved c.args.network.now c.args.k c.args.start items c.args.nexts.now.items c.loop-m.nexts.items c.preds-j-items.ensures.exact c.requires.start
     (subst (λ (n : ℕ). AreMoved (λ a b. b ≤ a) (λ j. IsArc c.args.network.now j c.args.k)
-        (λ j. c.args.start - lag_of c.args.network.now j c.args.k) items n c.args.nexts.now.items
-        c.loop-m.nexts.items) all c.loop-m.invariant)
+    (λ j. c.args.start - lag_of c.args.network.now j c.args.k) items n c.args.nexts.now.items
+    c.loop-m.nexts.items) all c.loop-m.invariant)

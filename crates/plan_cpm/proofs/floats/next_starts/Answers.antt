@@ -5,18 +5,18 @@ use Rattle.plan_cpm.proofs.NextLemmas.{AreNextStartsOf, AreNextStartsOf-more, Ar
 use Rattle.plan_cpm.proofs.floats.next_starts.Goals.{After-duration}
 use Rattle.plan_cpm.proofs.floats.next_starts.Goals as goal
 
--- the activity lasts no longer than it takes to its finish
+-- the duration of the activity is at most its finish
 lasting : (c : After-duration) → c.duration.result ≤ get_or c.args.finishes.now c.loop-i.i 0
 lasting c =
     let same : c.loop-i.i + 1 - 1 ≡ c.loop-i.i = omega arith in
     let activity : IsActivity c.args.network.now (c.loop-i.i + 1) = (omega arith, omega (arith, c.loop-i-test.true, c.len-i-end.ensures.count)) in
     let long = lasts c.args.network.now (c.loop-i.i + 1) (get_or c.args.finishes.now (c.loop-i.i + 1 - 1) 0) activity (c.requires.finishes.greatest (c.loop-i.i + 1) activity) in
     let long' : duration_of c.args.network.now (c.loop-i.i + 1) ≤ get_or c.args.finishes.now c.loop-i.i 0 =
-        subst (λ (x : ℕ). duration_of c.args.network.now (c.loop-i.i + 1) ≤ get_or c.args.finishes.now x 0)
-        same long in
+    subst (λ (x : ℕ). duration_of c.args.network.now (c.loop-i.i + 1) ≤ get_or c.args.finishes.now x 0)
+    same long in
     omega (arith, long', c.duration.ensures.value)
 
--- and its start is what is left
+-- its start is the difference
 start_is : (c : After-duration) → get_or c.args.finishes.now c.loop-i.i 0 - c.duration.result + duration_of c.args.network.now (c.loop-i.i + 1) ≡ get_or c.args.finishes.now c.loop-i.i 0
 start_is c = omega (arith, lasting c, c.duration.ensures.value)
 
@@ -33,8 +33,8 @@ lower_before-requires-clause-start c j arc =
 pub loop-i-preserved : goal.loop-i-preserved
 loop-i-preserved c =
     AreNextStartsOf-more c.args.network.now c.args.finishes.now c.loop-i.nexts.items
-        c.lower_before.new.nexts.items c.args.duration c.loop-i.i
-        (get_or c.args.finishes.now c.loop-i.i 0 - c.duration.result) c.len.ensures.sound.limits
+    c.lower_before.new.nexts.items c.args.duration c.loop-i.i
+    (get_or c.args.finishes.now c.loop-i.i 0 - c.duration.result) c.len.ensures.sound.limits
     (start_is (goal.at.loop-i-preserved c).After-duration) c.lower_before.ensures c.loop-i.invariant
 
 pub returns : goal.returns

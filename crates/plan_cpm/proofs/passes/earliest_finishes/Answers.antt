@@ -10,12 +10,12 @@ pub overflow_add-start : goal.overflow_add-start
 overflow_add-start c =
     let j = get_or c.order-j-items.result.now c.loop-j.j-index 0 in
     let reached = subst (λ (xs : List ℕ). (c.last_before-start.result ≡ 0)
-        ⊎ ((i : ℕ) × IsArc c.args.network.now i j × (c.last_before-start.result ≡ get_or xs
-        (i - 1) 0 + lag_of c.args.network.now i j))) c.deref.ensures.value
-        c.last_before-start.ensures.reached in
+    ⊎ ((i : ℕ) × IsArc c.args.network.now i j × (c.last_before-start.result ≡ get_or xs
+    (i - 1) 0 + lag_of c.args.network.now i j))) c.deref.ensures.value
+    c.last_before-start.ensures.reached in
     let start : c.last_before-start.result ≤ 20000 * c.loop-j.j-index + 10000 =
-        start_bound c.args.network.now c.loop-j.finishes.items j c.last_before-start.result
-        (20000 * c.loop-j.j-index) c.len.ensures.sound.limits.lags c.loop-j.invariant.bound reached in
+    start_bound c.args.network.now c.loop-j.finishes.items j c.last_before-start.result
+    (20000 * c.loop-j.j-index) c.len.ensures.sound.limits.lags c.loop-j.invariant.bound reached in
     let size : count_of c.args.network.now ≤ 502 = c.len.ensures.sound.limits.size.1 in
     let whole : length c.order-j-items.result.now ≡ count_of c.args.network.now = c.order-j-items.ensures.least.whole in
     omega (arith, start, c.duration.ensures.limit, size, whole, c.loop-j-test.true)
@@ -30,20 +30,20 @@ loop-j-preserved c =
     let inv = c.loop-j.invariant in
     let P : ℕ → ℕ → Type 0 = λ h. IsGreatest (IsLengthTo net h) in
     let above : (i : ℕ) → IsArc net i j → get_or list
-        (i - 1) 0 + lag_of net i j ≤ c.last_before-start.result =
-        subst (λ (xs : List ℕ). (i : ℕ) → IsArc net i j →
-        get_or xs (i - 1) 0 + lag_of net i j ≤ c.last_before-start.result) c.deref.ensures.value
-        c.last_before-start.ensures.above in
+    (i - 1) 0 + lag_of net i j ≤ c.last_before-start.result =
+    subst (λ (xs : List ℕ). (i : ℕ) → IsArc net i j →
+    get_or xs (i - 1) 0 + lag_of net i j ≤ c.last_before-start.result) c.deref.ensures.value
+    c.last_before-start.ensures.above in
     let reached : (c.last_before-start.result ≡ 0)
-        ⊎ ((i : ℕ) × IsArc net i j × (c.last_before-start.result ≡ get_or list (i - 1) 0 + lag_of net i j)) =
-        subst (λ (xs : List ℕ). (c.last_before-start.result ≡ 0)
-        ⊎ ((i : ℕ) × IsArc net i j × (c.last_before-start.result ≡ get_or xs (i - 1) 0 + lag_of net i j)))
-        c.deref.ensures.value c.last_before-start.ensures.reached in
+    ⊎ ((i : ℕ) × IsArc net i j × (c.last_before-start.result ≡ get_or list (i - 1) 0 + lag_of net i j)) =
+    subst (λ (xs : List ℕ). (c.last_before-start.result ≡ 0)
+    ⊎ ((i : ℕ) × IsArc net i j × (c.last_before-start.result ≡ get_or xs (i - 1) 0 + lag_of net i j)))
+    c.deref.ensures.value c.last_before-start.ensures.reached in
     let step : P j (c.last_before-start.result + duration_of net j) =
-        finish_step net j (λ i. get_or list (i - 1) 0) c.last_before-start.result
-        (c.order-j-items.ensures.activities m c.loop-j-test.true)
-        (preds_right P net order list m c.order-j-items.ensures.least c.loop-j-test.true inv.done) above
-        reached in
+    finish_step net j (λ i. get_or list (i - 1) 0) c.last_before-start.result
+    (c.order-j-items.ensures.activities m c.loop-j-test.true)
+    (preds_right P net order list m c.order-j-items.ensures.least c.loop-j-test.true inv.done) above
+    reached in
     let here : P j (c.last_before-start.result + c.duration.result) = subst (λ (d : ℕ). P j (c.last_before-start.result + d)) (sym c.duration.ensures.value) step in
     let start : c.last_before-start.result ≤ 20000 * m + 10000 = start_bound net list j c.last_before-start.result (20000 * m) c.len.ensures.sound.limits.lags inv.bound reached in
     record {

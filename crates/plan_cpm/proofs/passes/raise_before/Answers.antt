@@ -8,7 +8,7 @@ use Rattle.plan_cpm.proofs.MoveLemmas.{AreMoved-more, max_either}
 use Rattle.plan_cpm.proofs.passes.raise_before.Goals.{After-preds-i-items}
 use Rattle.plan_cpm.proofs.passes.raise_before.Goals as goal
 
--- beside each predecessor stands its lag
+-- the lag of each predecessor is at its index
 in_place : (c : After-preds-i-items) (k : ℕ) → k < length c.preds-i-items.result.now →
     (k < length c.lags_into-lags.result.now) × (get_or c.lags_into-lags.result.now k 0 ≡ lag_of
     c.args.network.now (get_or c.preds-i-items.result.now k 0) c.args.j)
@@ -31,8 +31,8 @@ loop-k-preserved c =
     let value : c.max.result ≡ max (get_or list (get_or items k 0 - 1) 0) (lag_of net (get_or items k 0) c.args.j + c.args.tail) =
     c.max.ensures ∙ (ap (λ (x : ℕ). max x (get_or c.lags_into-lags.result.now k 0 + c.args.tail)) read ∙ ap (λ (w : ℕ). max (get_or list (get_or items k 0 - 1) 0) (w + c.args.tail)) lag) in
     AreMoved-more (λ a b. a ≤ b) (λ i. IsArc net i c.args.j)
-        (λ i. lag_of net i c.args.j + c.args.tail) items k c.max.result c.args.rests.now.items list
-        (λ a. omega arith) (λ a b e low high. omega (arith, low, high))
+    (λ i. lag_of net i c.args.j + c.args.tail) items k c.max.result c.args.rests.now.items list
+    (λ a. omega arith) (λ a b e low high. omega (arith, low, high))
     ((c.preds-i-items.ensures.exact.exact (get_or items k 0)).0 (Contains-get_or items k 0 c.loop-k-test.true)) within (omega (arith, value)) (omega (arith, value))
     (max_either c.max.result (get_or list (get_or items k 0 - 1) 0) (lag_of net (get_or items k 0) c.args.j + c.args.tail) value) c.loop-k.invariant
 

@@ -1,6 +1,6 @@
 use Rattle.std.proofs.Common.{◌≡◌, length}
 use Rattle.plan_cpm.proofs.successors.empty_rows.Given as goal
 
--- so many rows so far
+-- the number of rows so far
 abbrev pub invariant-loop : goal.invariant-loop
 invariant-loop l = length l.rows.items ≡ l.counter

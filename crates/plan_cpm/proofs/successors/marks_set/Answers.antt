@@ -16,9 +16,13 @@ loop-mark-preserved c =
     let here : get_or row (k + 1 - 1) false ≡ get_or row k false = ap (λ (x : ℕ). get_or row x false) same in
     elim c.if-mark.branch [
       | then-mark w ↦ record {
-        counted = (inv.counted.0 ++ (k + 1) ∷ [], ListsRising-push (IsPlaced row) k inv.counted.0
-            (here ∙ w.if-mark.true) inv.counted.1, omega
-            (arith, length_push inv.counted.0 (k + 1), inv.counted.2, w.count-is));
+        counted = (
+          inv.counted.0 ++ (k + 1) ∷ [],
+          ListsRising-push (IsPlaced row) k inv.counted.0
+              (here ∙ w.if-mark.true) inv.counted.1,
+          omega
+              (arith, length_push inv.counted.0 (k + 1), inv.counted.2, w.count-is),
+        );
         small = omega (arith, inv.small, w.count-is);
       }
       | else-mark w ↦ record {

@@ -43,10 +43,10 @@ loop-k-preserved c =
           let reach' : IsReach net k w.deref.result.now = subst (IsReach net k) read reach in
           let is : c.if-not-index.row.items ≡ w.unite.new.row.items = ap (λ v. v.items) w.row-is in
           let far : IsReachSoFar net c.args.j w.unite.new.row.items =
-              IsReachSoFar-add net c.args.j k row w.deref.result.now w.unite.new.row.items
-              c.len.ensures.sound.limits c.requires.activity arc inv.far reach'
-              (w.unite.ensures.whole ∙ length-set row (k - 1) true) w.unite.ensures.kept w.unite.ensures.added
-              w.unite.ensures.alone in
+          IsReachSoFar-add net c.args.j k row w.deref.result.now w.unite.new.row.items
+          c.len.ensures.sound.limits c.requires.activity arc inv.far reach'
+          (w.unite.ensures.whole ∙ length-set row (k - 1) true) w.unite.ensures.kept w.unite.ensures.added
+          w.unite.ensures.alone in
           let met : (i : ℕ) → i < m + 1 → IsPlaced w.unite.new.row.items (get_or items i 0) =
           below_more (λ i. IsPlaced w.unite.new.row.items (get_or items i 0)) m
           (λ i lower. w.unite.ensures.kept (get_or items i 0 - 1) (set_keeps row (k - 1) place (get_or items i 0 - 1) (inv.met i lower)))
@@ -69,5 +69,5 @@ pub returns : goal.returns
 returns c =
     IsReach-from_successors c.args.network.now c.args.j c.loop-k.row.items c.len.ensures.sound.limits c.loop-k.invariant.far
     (each_of_rising (IsArc c.args.network.now c.args.j)
-        (IsPlaced c.loop-k.row.items) c.succs-k-items.result.now c.succs-k-items.ensures.exact
-        (λ m within. c.loop-k.invariant.met m (omega (arith, c.loop-k-test.false))))
+    (IsPlaced c.loop-k.row.items) c.succs-k-items.result.now c.succs-k-items.ensures.exact
+    (λ m within. c.loop-k.invariant.met m (omega (arith, c.loop-k-test.false))))

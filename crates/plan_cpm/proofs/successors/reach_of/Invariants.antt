@@ -3,7 +3,7 @@ use Rattle.plan_net.specs.Placed.{IsPlaced}
 use Rattle.plan_cpm.specs.Reached.{IsReachSoFar}
 use Rattle.plan_cpm.proofs.successors.reach_of.Given as goal
 
--- the successors so far are marked, with all to which paths lead from them
+-- the successors so far are marked, with all activities that paths from them reach
 abbrev pub invariant-loop-k : goal.invariant-loop-k
 invariant-loop-k l = record {
   far : IsReachSoFar l.network l.j l.row.items;

@@ -16,8 +16,8 @@ reach_of-requires-clause-after c =
     let inside : c.loop-left.left - 1 < length order = omega (arith, c.loop-left.invariant.low, c.loop-left-test.true) in
     subst (λ (rows : List (Vec Bool Global)). AreReachesAfter net (get_or order (c.loop-left.left - 1) 0) rows) (sym c.deref.ensures.value)
     (succs_done (λ k. IsReach net k (row_at c.loop-left.rows.items (k - 1))) net order
-        (c.loop-left.left - 1) c.len.ensures.sound.limits c.order-order.ensures.least inside
-        (λ p lower within. c.loop-left.invariant.done p (omega (arith, lower)) within))
+    (c.loop-left.left - 1) c.len.ensures.sound.limits c.order-order.ensures.least inside
+    (λ p lower within. c.loop-left.invariant.done p (omega (arith, lower)) within))
 
 pub loop-left-preserved : goal.loop-left-preserved
 loop-left-preserved c =

@@ -4,7 +4,7 @@ use Rattle.plan_net.specs.Indexed.{row_at}
 use Rattle.plan_cpm.specs.Reached.{IsReach}
 use Rattle.plan_cpm.proofs.successors.reaches.Given as goal
 
--- the rows of the activities from `left` on are right
+-- the rows of the activities from `left` on are correct
 abbrev pub invariant-loop-left : goal.invariant-loop-left
 invariant-loop-left l = record {
   whole : length l.rows.items ≡ count_of l.network;

@@ -1,7 +1,7 @@
 use Rattle.std.proofs.Common.{ℕ, true, false, ◌≡◌, ◌<◌, ◌⊎◌, length, get_or}
 use Rattle.plan_cpm.proofs.successors.unite.Given as goal
 
--- the marks so far are those of both rows, and the others as they were
+-- the marks so far are those of both rows; the others are unchanged
 abbrev pub invariant-loop-k : goal.invariant-loop-k
 invariant-loop-k l = record {
   whole : length l.row.items ≡ length l.initial.row.items;

@@ -2,7 +2,7 @@ use Rattle.std.proofs.Common.{◌≡◌, ◌+◌, ◌≤◌, ◌*◌, ◌++◌, 
 use Rattle.plan_exact.specs.Explored.{children_explored, standing_of}
 use Rattle.plan_exact.proofs.exploration.+explore.Given as goal
 
--- how many words may still be visited, and within one word in the order of the calls
+-- the number of words that may still be visited, and for one word the order of the calls
 abbrev pub decreases-explore : goal.decreases-explore
 decreases-explore g l = 3 * l.progress.now.left
 
@@ -12,7 +12,7 @@ decreases-explore_children g l = 3 * l.progress.now.left + 2
 abbrev pub decreases-explore_child : goal.decreases-explore_child
 decreases-explore_child g l = 3 * l.progress.now.left + 1
 
--- the tree stands at its word, and what the letters that are left make of the search is what all make of it
+-- the tree is at its word, and the remaining letters lead the search to the same result as all letters
 abbrev pub invariant-explore_children-loop-place : goal.invariant-explore_children-loop-place
 invariant-explore_children-loop-place g l = record {
   tree : g.B.Branching.tree l.tree ≡ g.B.Branching.tree l.fn.tree;

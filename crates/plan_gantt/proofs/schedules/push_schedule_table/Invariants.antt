@@ -4,6 +4,6 @@ use Rattle.plan_gantt.specs.Column.{lines_from}
 use Rattle.plan_gantt.specs.ScheduleTable.{schedule_line}
 use Rattle.plan_gantt.proofs.schedules.push_schedule_table.Given as goal
 
--- behind the heading stand the lines of the activities so far
+-- the lines of the activities so far follow the heading
 abbrev pub invariant-loop-k : goal.invariant-loop-k
 invariant-loop-k l = string_bytes l.text ≡ string_bytes l.initial.text ++ lines_from (schedule_line l.network l.starts) 1 l.k

@@ -4,6 +4,6 @@ use Rattle.plan_gantt.specs.Column.{lines_from}
 use Rattle.plan_gantt.specs.ShopTable.{shop_line}
 use Rattle.plan_gantt.proofs.shops.push_shop_table.Given as goal
 
--- behind the heading stand the lines of the steps so far
+-- the lines of the steps so far follow the heading
 abbrev pub invariant-loop-x : goal.invariant-loop-x
 invariant-loop-x l = string_bytes l.text ≡ string_bytes l.initial.text ++ lines_from (shop_line l.shop l.starts) 0 l.x

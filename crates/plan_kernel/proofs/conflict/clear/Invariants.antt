@@ -3,5 +3,5 @@ use Rattle.plan_kernel.specs.Literals.{at}
 use Rattle.plan_kernel.proofs.conflict.clear.Given as goal
 
 -- what isn't 0 is among the halves that are left
-abbrev pub invariant-halves : goal.invariant-halves
-invariant-halves l = (half : ℕ) → at l.values.items half ≢ 0 → Contains (drop l.half-index l.half-items) half
+abbrev pub invariant-loop-half : goal.invariant-loop-half
+invariant-loop-half l = (half : ℕ) → at l.values.items half ≢ 0 → Contains (drop l.half-index l.half-items) half

@@ -4,23 +4,23 @@ use Rattle.plan_kernel.specs.Literals.{at}
 use Rattle.plan_kernel.proofs.FactLemmas.{end_reached, end_more}
 use Rattle.plan_kernel.proofs.facts.greatest_end.Goals as goal
 
-pub activities-preserved : goal.activities-preserved
-activities-preserved c =
+pub loop-place-preserved : goal.loop-place-preserved
+loop-place-preserved c =
     let input = c.args.input.now in
-    let place : ℕ = c.activities.place in
+    let place : ℕ = c.loop-place.place in
     let items = c.deref-duration-items.ensures.value in
     let here = ap (λ (xs : List ℕ). get_or xs place 0) items in
     let sum : c.saturating_add.result ≡ min (at c.args.facts.now (2 * place) + at input.durations.items place) 4294967295 =
     omega (arith, c.saturating_add.ensures, c.at.ensures, here) in
-    let top : c.max-greatest.result ≡ max c.activities.greatest c.saturating_add.result = grind (arith, c.max-greatest.ensures) in
-    let less : (c.max-greatest.result ≤ c.activities.greatest) ⊎ (c.max-greatest.result ≤ at c.args.facts.now (2 * place) + at input.durations.items place) =
-    elim (cases_lt c.activities.greatest c.saturating_add.result) [
+    let top : c.max-greatest.result ≡ max c.loop-place.greatest c.saturating_add.result = grind (arith, c.max-greatest.ensures) in
+    let less : (c.max-greatest.result ≤ c.loop-place.greatest) ⊎ (c.max-greatest.result ≤ at c.args.facts.now (2 * place) + at input.durations.items place) =
+    elim (cases_lt c.loop-place.greatest c.saturating_add.result) [
       | inl more ↦ inr (omega (arith, top, more, sum))
       | inr most ↦ inl (omega (arith, top, most))
     ] in
     record {
-      reached = end_reached input c.args.upper place c.activities.greatest c.max-greatest.result c.args.facts.now
-          (omega (arith, c.activities-test.true, ap length items)) c.requires.facts c.activities.invariant.reached less;
-      value = end_more (λ (i : ℕ). at c.args.facts.now (2 * i) + at input.durations.items i) place c.activities.greatest c.saturating_add.result c.max-greatest.result 4294967295
-          c.activities.invariant.value sum top;
+      reached = end_reached input c.args.upper place c.loop-place.greatest c.max-greatest.result c.args.facts.now
+          (omega (arith, c.loop-place-test.true, ap length items)) c.requires.facts c.loop-place.invariant.reached less;
+      value = end_more (λ (i : ℕ). at c.args.facts.now (2 * i) + at input.durations.items i) place c.loop-place.greatest c.saturating_add.result c.max-greatest.result 4294967295
+          c.loop-place.invariant.value sum top;
     }

@@ -1,10 +1,26 @@
-use Rattle.std.proofs.Common.{ℕ, List, length, get_or, ap, arith}
-use Rattle.plan_kernel.proofs.FactLemmas.{latest_holds}
+use Rattle.std.proofs.Common.{◌≡◌, ◌+◌, ◌-◌, ◌∙◌, ℕ, List, min, length, get_or, ap, arith}
+use Rattle.plan_kernel.specs.declared.literal.TheConstants.{LIMIT}
+use Rattle.plan_kernel.specs.Literals.{at}
+use Rattle.plan_kernel.proofs.FactLemmas.{latest_holds, latest_more, latest_all}
 use Rattle.plan_kernel.proofs.facts.raise_latest.Goals as goal
 
-pub activities-preserved : goal.activities-preserved
-activities-preserved c =
+pub loop-place-preserved : goal.loop-place-preserved
+loop-place-preserved c =
+    let input = c.args.input.now in
+    let place : ℕ = c.loop-place.place in
     let items = c.deref-duration-items.ensures.value in
-    latest_holds c.args.input.now c.args.upper c.activities.place c.saturating_add.result c.activities.facts.items c.raise.new.facts.items
-    c.requires.limit (omega (arith, c.activities-test.true, ap length items)) c.activities.invariant
-    (omega (arith, c.saturating_add.ensures, ap (λ (xs : List ℕ). get_or xs c.activities.place 0) items)) c.raise.ensures.most
+    let before = c.loop-place.invariant in
+    let value : c.saturating_add.result ≡ min (LIMIT - c.args.upper + 1 + at input.durations.items place) 4294967295 =
+    omega (arith, c.saturating_add.ensures, ap (λ (xs : List ℕ). get_or xs place 0) items) in
+    record {
+      facts = latest_holds input c.args.upper place c.saturating_add.result c.loop-place.facts.items c.raise.new.facts.items
+          c.requires.limit (omega (arith, c.loop-place-test.true, ap length items)) before.facts (omega (arith, value)) c.raise.ensures.most;
+      latest = latest_more input c.args.upper place c.saturating_add.result c.loop-place.facts.items c.raise.new.facts.items value c.raise.ensures.size
+          before.latest c.raise.ensures.risen c.raise.ensures.others;
+      size = c.raise.ensures.size ∙ before.size;
+    }
+
+pub returns-clause-latest : goal.returns-clause-latest
+returns-clause-latest c =
+    latest_all c.args.input.now c.args.upper c.loop-place.facts.items c.loop-place.place (length c.args.input.now.durations.items)
+    (omega (arith, c.loop-place-test.false, ap length c.deref-duration-items.ensures.value)) c.loop-place.invariant.latest

@@ -4,8 +4,8 @@ use Rattle.plan_kernel.specs.Inputs.{problem_of, amount_at}
 use Rattle.plan_kernel.proofs.feasible.fits.Given as goal
 
 -- what the activities so far need, which there is
-abbrev pub invariant-activities : goal.invariant-activities
-invariant-activities l = record {
+abbrev pub invariant-loop-place : goal.invariant-loop-place
+invariant-loop-place l = record {
   sum : l.used ≡ total l.place (amount_at (problem_of l.input) l.starts l.instant l.resource);
   most : l.used ≤ l.capacity;
 }

@@ -6,5 +6,5 @@ use Rattle.plan_kernel.proofs.feasible.greatest_end.Goals as goal
 
 pub returns : goal.returns
 returns c =
-    greatest_whole (problem_of c.args.input.now) c.args.starts.now c.activities.place c.activities.greatest
-    (omega (arith, c.activities-test.false, c.activities.auto.place-end, c.len-place-end.ensures, count_is c.args.input.now)) c.activities.invariant
+    greatest_whole (problem_of c.args.input.now) c.args.starts.now c.loop-place.place c.loop-place.greatest
+    (omega (arith, c.loop-place-test.false, c.loop-place.auto.place-end, c.len-place-end.ensures, count_is c.args.input.now)) c.loop-place.invariant

@@ -4,5 +4,5 @@ use Rattle.plan_kernel.specs.Inputs.{problem_of, end_of}
 use Rattle.plan_kernel.proofs.feasible.greatest_end.Given as goal
 
 -- the greatest end so far
-abbrev pub invariant-activities : goal.invariant-activities
-invariant-activities l = l.greatest ≡ greatest_below l.place (end_of (problem_of l.input) l.starts)
+abbrev pub invariant-loop-place : goal.invariant-loop-place
+invariant-loop-place l = l.greatest ≡ greatest_below l.place (end_of (problem_of l.input) l.starts)

@@ -4,5 +4,5 @@ use Rattle.plan_kernel.specs.Inputs.{problem_of, KeepsArc}
 use Rattle.plan_kernel.proofs.feasible.keeps_arcs.Given as goal
 
 -- the arcs so far are kept
-abbrev pub invariant-arcs : goal.invariant-arcs
-invariant-arcs l = All (KeepsArc (problem_of l.input) l.starts) (take l.arc-index l.input.arcs.items)
+abbrev pub invariant-loop-arc : goal.invariant-loop-arc
+invariant-loop-arc l = All (KeepsArc (problem_of l.input) l.starts) (take l.arc-index l.input.arcs.items)

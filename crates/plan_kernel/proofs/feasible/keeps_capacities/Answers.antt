@@ -4,6 +4,6 @@ use Rattle.plan_kernel.proofs.InputLemmas.{count_is}
 use Rattle.plan_kernel.proofs.FeasibleLemmas.{fits_always}
 use Rattle.plan_kernel.proofs.feasible.keeps_capacities.Goals as goal
 
-pub returns : goal.returns
-returns c _ =
-    fits_always (problem_of c.args.input.now) c.args.starts.now c.starts.start-index (c.requires ∙ sym (count_is c.args.input.now)) c.starts-test.false c.starts.invariant
+pub returns-clause-yes : goal.returns-clause-yes
+returns-clause-yes c _ =
+    fits_always (problem_of c.args.input.now) c.args.starts.now c.loop-start.start-index (c.requires ∙ sym (count_is c.args.input.now)) c.loop-start-test.false c.loop-start.invariant

@@ -12,8 +12,8 @@ returns-then-one-need c _ =
       omega (arith, c.if-at-eq0.false, one, duration_is input c.args.first),
       omega (arith, c.if-at-eq0-2.false, other, duration_is input c.args.second),
       (
-        c.resources.resource,
-        omega (arith, c.resources-test.true, c.len-resource-end.ensures, c.resources.auto.resource-end, resources_are input),
+        c.loop-resource.resource,
+        omega (arith, c.loop-resource-test.true, c.len-resource-end.ensures, c.loop-resource.auto.resource-end, resources_are input),
         omega (arith, c.if-one-need.true, c.need-one.ensures, c.need.ensures, c.capacity.ensures),
       ),
     )

@@ -3,5 +3,5 @@ use Rattle.plan_kernel.specs.Reasons.{AreMembers}
 use Rattle.plan_kernel.proofs.reason.are_members.Given as goal
 
 -- the members so far
-abbrev pub invariant-members : goal.invariant-members
-invariant-members l = AreMembers l.input l.from l.until (take l.place l.members)
+abbrev pub invariant-loop-place : goal.invariant-loop-place
+invariant-loop-place l = AreMembers l.input l.from l.until (take l.place l.members)

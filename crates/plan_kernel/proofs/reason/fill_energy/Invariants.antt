@@ -7,6 +7,6 @@ use Rattle.plan_kernel.specs.Reasons.{IsWithin}
 use Rattle.plan_kernel.proofs.reason.fill_energy.Given as goal
 
 -- where all literals so far fail the members so far are in the window
-abbrev pub invariant-members : goal.invariant-members
-invariant-members l =
+abbrev pub invariant-loop-member : goal.invariant-loop-member
+invariant-loop-member l =
     (starts : List ℕ) → IsShorter l.input LIMIT starts → All (Fails l.input starts) l.clause.items → All (IsWithin l.input l.from l.until starts) (take l.member-index l.members)

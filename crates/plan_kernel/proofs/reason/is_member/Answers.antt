@@ -11,9 +11,15 @@ returns-then-member-at c small =
     elim c.if-is_activity.branch [
       | then-is_activity w ↦ record {
         activity = c.is_activity.ensures w.if-is_activity.true;
-        lasts = omega (arith, leb-true m.time w.at.result
-            (sym w.value-is ∙ c.if-member-at.true), w.at.ensures, ap
-            (λ xs. at xs m.activity) w.deref.ensures.value, duration_is c.args.input.now m.activity);
+        lasts = omega (
+          arith,
+          leb-true m.time w.at.result
+              (sym w.value-is ∙ c.if-member-at.true),
+          w.at.ensures,
+          ap
+              (λ xs. at xs m.activity) w.deref.ensures.value,
+          duration_is c.args.input.now m.activity,
+        );
         inside = omega (arith, leb-true m.time (c.args.until - c.args.from) small, c.requires);
       }
       | else-is_activity w ↦ absurd (both_ways c.if-is_activity.value (w.value-is ∙ w.if-is_activity.false) c.if-member-at.true)

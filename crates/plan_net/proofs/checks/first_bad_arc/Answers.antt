@@ -16,5 +16,5 @@ loop-i-preserved c =
 pub returns-clause-none : goal.returns-clause-none
 returns-clause-none c =
     All-same (IsGoodArc (unlagged c.args.durations.now c.args.arcs.now)) c.args.arcs.now
-        (take c.loop-i.i-index c.args.arcs.now) (sym
-        (take_all c.loop-i.i-index c.args.arcs.now c.loop-i-test.false)) c.loop-i.invariant
+    (take c.loop-i.i-index c.args.arcs.now) (sym
+    (take_all c.loop-i.i-index c.args.arcs.now c.loop-i-test.false)) c.loop-i.invariant

@@ -17,10 +17,10 @@ returns c =
     let m = c.place_of_least-least.result in
     let members : c.deref-3.result.now ≡ reverse (drop from trail) = c.deref-3.ensures.value ∙ turned in
     let least = subst (λ (xs : List ℕ). (m < length xs)
-        × ((k : ℕ) → k < length xs → get_or xs m 0 ≤ get_or xs k 0)) members
-        (c.place_of_least-least.ensures.within, c.place_of_least-least.ensures.least) in
+    × ((k : ℕ) → k < length xs → get_or xs m 0 ≤ get_or xs k 0)) members
+    (c.place_of_least-least.ensures.within, c.place_of_least-least.ensures.least) in
     let rotated : c.rotate_left.new.self.items ≡ drop m (reverse (drop from trail))
-        ++ take m (reverse (drop from trail)) = c.rotate_left.ensures.items
-        ∙ ap (λ (xs : List ℕ). drop m xs ++ take m xs) turned in
+    ++ take m (reverse (drop from trail)) = c.rotate_left.ensures.items
+    ∙ ap (λ (xs : List ℕ). drop m xs ++ take m xs) turned in
     subst (IsNamedCycle c.args.arcs.now) (sym rotated)
     (IsNamedCycle-from_back_ring c.args.arcs.now (drop from trail) m (IsBackRing-from_trail c.args.arcs.now trail c.in_ok-trail.at from c.in_ok-trail.ensures.trail within found) least.0 least.1)

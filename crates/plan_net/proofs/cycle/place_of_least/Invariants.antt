@@ -1,7 +1,7 @@
 use Rattle.std.proofs.Common.{ℕ, ◌≤◌, ◌<◌, length, get_or}
 use Rattle.plan_net.proofs.cycle.place_of_least.Given as goal
 
--- the least of the members so far stands at `place`
+-- the least of the members so far is at `place`
 abbrev pub invariant-loop-k : goal.invariant-loop-k
 invariant-loop-k l = record {
   inside : l.place < length l.members;

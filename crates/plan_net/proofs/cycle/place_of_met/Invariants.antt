@@ -1,7 +1,7 @@
 use Rattle.std.proofs.Common.{ℕ, ◌≡◌, ◌<◌, ◌⊎◌, length, get_or}
 use Rattle.plan_net.proofs.cycle.place_of_met.Given as goal
 
--- the activity stands at `place`, or not among those so far
+-- the activity is at `place`, or not among those so far
 abbrev pub invariant-loop-k : goal.invariant-loop-k
 invariant-loop-k l = record {
   inside : l.place < length l.trail;

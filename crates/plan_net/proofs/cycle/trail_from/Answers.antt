@@ -21,8 +21,8 @@ loop-met-smaller c =
     let whole : length c.loop-met.met.items ≡ count_of c.args.arcs.now = c.loop-met.invariant.whole in
     let within : c.loop-met.at - 1 < length c.loop-met.met.items = omega (arith, here.0) in
     let unmet : get_or c.loop-met.met.items (c.loop-met.at - 1) false ≡ false =
-        sym (get_or_read c.loop-met.met.items (c.loop-met.at - 1) c.index.result.now within c.index.ensures
-        false) ∙ c.loop-met-test.true in
+    sym (get_or_read c.loop-met.met.items (c.loop-met.at - 1) c.index.result.now within c.index.ensures
+    false) ∙ c.loop-met-test.true in
     let falls : open_count (set c.loop-met.met.items (c.loop-met.at - 1) true) + 1 ≡ open_count c.loop-met.met.items = open_count-set c.loop-met.met.items (c.loop-met.at - 1) within unmet in
     omega (arith, falls)
 
@@ -53,6 +53,6 @@ returns-clause-again c =
     let whole : length c.loop-met.met.items ≡ count_of c.args.arcs.now = c.loop-met.invariant.whole in
     let within : c.loop-met.at - 1 < length c.loop-met.met.items = omega (arith, here.0) in
     let is_met : get_or c.loop-met.met.items (c.loop-met.at - 1) false ≡ true =
-        sym (get_or_read c.loop-met.met.items (c.loop-met.at - 1) c.index.result.now within c.index.ensures
-        false) ∙ c.loop-met-test.false in
+    sym (get_or_read c.loop-met.met.items (c.loop-met.at - 1) c.index.result.now within c.index.ensures
+    false) ∙ c.loop-met-test.false in
     (c.loop-met.invariant.marks c.loop-met.at here.0).0 is_met

@@ -6,7 +6,7 @@ use Rattle.plan_net.specs.Placed.{IsPlaced, open_count}
 use Rattle.plan_net.specs.Trails.{IsTrail}
 use Rattle.plan_net.proofs.cycle.trail_from.Given as goal
 
--- one comes to `at` over the trail, and the marks are those of its members
+-- the trail is a walk to `at`, and the marks are those of its members
 abbrev pub invariant-loop-met : goal.invariant-loop-met
 invariant-loop-met l = record {
   trail : IsTrail l.arcs l.trail.items l.at;

@@ -22,8 +22,8 @@ loop-j-init c =
 pub next_from-first-requires-clause-below : goal.next_from-first-requires-clause-below
 next_from-first-requires-clause-below c =
     let below : IsStuckBelow c.args.arcs.now c.loop-j.placed.items c.in-Some.j =
-        subst (λ (placed : List Bool). IsStuckBelow c.args.arcs.now placed c.in-Some.j) c.deref.ensures.value
-        c.in-Some.ensures.below in
+    subst (λ (placed : List Bool). IsStuckBelow c.args.arcs.now placed c.in-Some.j) c.deref.ensures.value
+    c.in-Some.ensures.below in
     subst (λ (placed : List Bool). IsStuckBelowBut c.args.arcs.now placed c.in-Some.j) (sym c.deref-in-Some.ensures.value)
     (IsStuckBelowBut-placed c.args.arcs.now c.loop-j.placed.items c.in-Some.j c.len.ensures.limits (ready (goal.at.next_from-first-requires-clause-below c).In-Some).0.0 below)
 

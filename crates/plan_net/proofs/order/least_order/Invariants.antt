@@ -2,7 +2,7 @@ use Rattle.std.proofs.Common.{◌≤◌}
 use Rattle.plan_net.specs.Placed.{IsPlacedOrder, IsStuckBelow, open_count}
 use Rattle.plan_net.proofs.order.least_order.Given as goal
 
--- the activities placed so far came as the least that could, and none below `first` can come
+-- each activity placed so far was the least that could come, and none below `first` can come
 abbrev pub invariant-loop-j : goal.invariant-loop-j
 invariant-loop-j l = record {
   order : IsPlacedOrder l.arcs l.order.items l.placed.items;

@@ -8,8 +8,8 @@ use Rattle.plan_net.proofs.order.open_pred.Goals as goal
 pub returns-then-not-placed-i-clause-some : goal.returns-then-not-placed-i-clause-some
 returns-then-not-placed-i-clause-some c =
     least_of_rising (λ i. IsArc c.args.arcs.now i c.args.j)
-        (IsOpen c.args.placed.now) c.preds-i-items.result.now c.loop-i.i-index c.preds-i-items.ensures.exact
-        c.loop-i-test.true c.if-not-placed-i.true
+    (IsOpen c.args.placed.now) c.preds-i-items.result.now c.loop-i.i-index c.preds-i-items.ensures.exact
+    c.loop-i-test.true c.if-not-placed-i.true
     (λ k before is_open. false≢true (sym is_open ∙ c.loop-i.invariant k before))
 
 pub returns-clause-none : goal.returns-clause-none

@@ -14,8 +14,8 @@ loop-i-preserved c =
     let place = place_within c.args.durations.now arcs k marks c.loop-i-test.true c.requires.good inv.square in
     let unmarked : mark_at marks ((get_or arcs k (0, 0)).1 - 1) ((get_or arcs k (0, 0)).0 - 1) ≡ false =
     sym (mark_read marks ((get_or arcs k (0, 0)).1 - 1)
-        ((get_or arcs k (0, 0)).0 - 1) c.index.result.now c.index-in-loop-i.result.now place.0 place.1
-        c.index.ensures c.index-in-loop-i.ensures) ∙ c.if-index.false in
+    ((get_or arcs k (0, 0)).0 - 1) c.index.result.now c.index-in-loop-i.result.now place.0 place.1
+    c.index.ensures c.index-in-loop-i.ensures) ∙ c.if-index.false in
     record {
       square = IsSquare-set (length c.args.durations.now) marks ((get_or arcs k (0, 0)).1 - 1) ((get_or arcs k (0, 0)).0 - 1) c.index_mut.result.now place.0 c.index_mut.ensures.value inv.square;
       marks = AreMarks-more c.args.durations.now arcs k marks c.index_mut.result.now c.loop-i-test.true c.requires.good inv.square c.index_mut.ensures.value inv.marks;

@@ -3,7 +3,7 @@ use Rattle.plan_net.specs.Marks.{HasNoMark}
 use Rattle.plan_net.specs.Indexed.{row_at}
 use Rattle.plan_net.proofs.tables.no_marks.Given as goal
 
--- the rows so far are whole and have no mark
+-- the rows so far are complete and without marks
 abbrev pub invariant-loop : goal.invariant-loop
 invariant-loop l = record {
   rows : length l.marks.items ≡ l.counter;

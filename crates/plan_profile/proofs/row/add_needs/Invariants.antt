@@ -1,4 +1,4 @@
--- The amounts in front of the index have their needs, those from it on are as they were.
+-- The amounts before the index include their needs; the others are unchanged.
 use Rattle.std.proofs.Common.{◌≡◌, ℕ, ◌+◌, ◌≤◌, ◌<◌, get_or}
 use Rattle.plan_profile.proofs.row.add_needs.Given as goal
 

@@ -1,4 +1,4 @@
--- Each turn raises the row at the index.
+-- Each step raises the row at the index.
 use Rattle.std.proofs.Common.{◌≡◌, ◌≤◌, ◌+◌, ◌-◌, ◌*◌, length, ◌∙◌, arith}
 use Rattle.std.proofs.lemmas.Nat.{row_fits}
 use Rattle.plan_profile.specs.Steps.{row_at}

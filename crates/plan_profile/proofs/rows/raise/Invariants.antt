@@ -1,4 +1,4 @@
--- The rows in front of the index are raised.
+-- The rows before the index are raised.
 use Rattle.plan_profile.specs.Changes.{AreRaised}
 use Rattle.plan_profile.proofs.rows.raise.Given as goal
 

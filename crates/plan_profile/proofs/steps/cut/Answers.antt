@@ -1,4 +1,4 @@
--- An instant that is not there is put in, with the row in force.
+-- An instant that isn't a change is inserted, with the row in force.
 use Rattle.std.proofs.Common.{◌≢◌, ◌-◌, ◌≤◌, ◌<◌, length, get_or, ◌∙◌, arith}
 use Rattle.std.specs.Prelude.{insert}
 use Rattle.std.proofs.lemmas.List.{get_or_default}
@@ -32,10 +32,13 @@ returns-clause-cut c =
     let more = length-insert c.args.changes.now.items c.segment-i.result c.args.at inside in
     let size = length_lists c.args.width c.args.changes.now.items c.args.rows.now.items in
     let new : 0 < c.segment-i.result → get_or c.args.changes.now.items (c.segment-i.result - 1) 0 ≢ c.args.at =
-    λ some same. elim c.else-i-gt0.branch [ else-i-gt0-via-then-i-gt0+else-index-at w ↦ w.if-index-at.false
-        (w.index.ensures ∙ get_or_default c.args.changes.now.items
-        (c.segment-i.result - 1) w.index.result.now 0 (omega arith) ∙ same) | else-i-gt0-via-else-i-gt0 w ↦
-        absurd (omega arith) ] in
+    λ some same. elim c.else-i-gt0.branch [
+      | else-i-gt0-via-then-i-gt0+else-index-at w ↦ w.if-index-at.false
+          (w.index.ensures ∙ get_or_default c.args.changes.now.items
+          (c.segment-i.result - 1) w.index.result.now 0 (omega arith) ∙ same)
+      | else-i-gt0-via-else-i-gt0 w ↦
+          absurd (omega arith)
+    ] in
     let rows = lists_repeated c.args.width c.args.changes.now.items more_changes c.args.rows.now.items c.segment-i.result c.requires.whole inside more in
     let copy = row_copied c.args.changes.now.items old c.args.at c.segment-i.result row
     c.requires.steps is (omega arith) (list_at c.args.width c.args.changes.now.items c.args.rows.now.items c.segment-i.result inside) in

@@ -1,4 +1,4 @@
--- `==` on the two rows says whether they are alike.
+-- `==` on two rows tests whether they are equal.
 use Rattle.std.proofs.Common.{◌-◌, ◌≤◌, length, sym, ◌∙◌, arith}
 use Rattle.std.specs.Prelude.{remove}
 use Rattle.std.proofs.lemmas.Bool.Decides.{Decides-eqb}
@@ -27,8 +27,8 @@ returns-then-eq-clause-merged c =
     let alike = (slice_eq-Decides Decides-eqb _ _ _ c.eq.ensures).0 c.if-eq.true in
     let rows = lists_removed c.args.width c.args.changes.now.items fewer_changes c.args.rows.now.items c.segment-i.result c.requires.whole inside fewer in
     rw (c.remove.ensures.items, c.remove_row.ensures, rows)
-        (merge_away c.args.changes.now.items old c.args.at c.segment-i.result c.requires.steps
-        c.requires.there is (before ∙ sym row_before ∙ alike ∙ row_here ∙ sym here))
+    (merge_away c.args.changes.now.items old c.args.at c.segment-i.result c.requires.steps
+    c.requires.there is (before ∙ sym row_before ∙ alike ∙ row_here ∙ sym here))
 
 pub returns-then-eq-clause-whole : goal.returns-then-eq-clause-whole
 returns-then-eq-clause-whole c =

@@ -40,8 +40,8 @@ raise-requires-clause-sums c =
     let sums2 = sums_same c.cut.new.changes.items rows1 c.cut-2.new.changes.items rows2 c.args.start c.args.end c.args.needs.now closed.usage sums1 in
     let rows = sums_of_rows c.cut-2.new.changes.items rows2 c.args.start c.args.end c.args.needs.now closed.usage.steps (closed.kept c.args.start opened.there) closed.there sums2 in
     rw (c.deref_mut.ensures.value, from, to) (sums_flat c.cut-2.new.changes.items c.cut-2.new.rows.items
-        (changes_until c.cut-2.new.changes.items c.args.start)
-        (changes_until c.cut-2.new.changes.items c.args.end) c.args.needs.now (omega arith) rows)
+    (changes_until c.cut-2.new.changes.items c.args.start)
+    (changes_until c.cut-2.new.changes.items c.args.end) c.args.needs.now (omega arith) rows)
 
 pub merge-requires-clause-whole : goal.merge-requires-clause-whole
 merge-requires-clause-whole c =
@@ -62,11 +62,11 @@ merge-requires-clause-steps c =
     let some = until_there c.cut-2.new.changes.items c.args.start closed.usage.steps.rising (closed.kept c.args.start opened.there) in
     let items = with_items_is c.cut-2.new.rows c.raise.new.rows (c.raise.ensures.size ∙ c.deref_mut.ensures.len) in
     let raised = raised_rows c.cut-2.new.changes.items c.cut-2.new.rows.items c.segment-from.result
-        c.segment-to.result c.args.needs.now c.raise.new.rows c.cut-2.ensures.whole (omega arith)
-        (rw c.deref_mut.ensures.value at c.raise.ensures) in
+    c.segment-to.result c.args.needs.now c.raise.new.rows c.cut-2.ensures.whole (omega arith)
+    (rw c.deref_mut.ensures.value at c.raise.ensures) in
     rw items (raised_steps c.cut-2.new.changes.items rows2 c.segment-from.result c.segment-to.result
-        c.args.needs.now (lists w c.cut-2.new.changes.items c.raise.new.rows) closed.usage.steps
-        (omega arith) raised)
+    c.args.needs.now (lists w c.cut-2.new.changes.items c.raise.new.rows) closed.usage.steps
+    (omega arith) raised)
 
 pub merge-requires-2-clause-there : goal.merge-requires-2-clause-there
 merge-requires-2-clause-there c =
@@ -85,8 +85,8 @@ returns-clause-ok c =
     let opened = rw (c.in_ok-reserve.ensures.items, c.in_ok-reserve-2.ensures.items) at c.cut.ensures.cut in
     let items = with_items_is c.cut-2.new.rows c.raise.new.rows (c.raise.ensures.size ∙ c.deref_mut.ensures.len) in
     let raised = raised_rows c.cut-2.new.changes.items c.cut-2.new.rows.items c.segment-from.result
-        c.segment-to.result c.args.needs.now c.raise.new.rows c.cut-2.ensures.whole (omega arith)
-        (rw c.deref_mut.ensures.value at c.raise.ensures) in
+    c.segment-to.result c.args.needs.now c.raise.new.rows c.cut-2.ensures.whole (omega arith)
+    (rw c.deref_mut.ensures.value at c.raise.ensures) in
     placed c.args.changes.now.items rows0 c.args.start c.args.end c.args.needs.now
     c.cut.new.changes.items rows1 c.cut-2.new.changes.items rows2
     (lists w c.cut-2.new.changes.items c.raise.new.rows)

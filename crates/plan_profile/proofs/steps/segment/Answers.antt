@@ -1,4 +1,4 @@
--- The binary search finds how many come by t, since the changes rise.
+-- The binary search finds the number of changes up to `t`, since the changes rise.
 use Rattle.std.proofs.Common.{leb, leb-true, leb-false, arith, rules}
 use Rattle.std.proofs.lemmas.List.Sorted.{IsPartitionPoint-from_clause, IsPartitionedBy-leb, IsNonDecreasingBy-from_default}
 use Rattle.plan_profile.proofs.SegmentLemmas.{until_above, until_below, rising_order}

@@ -1,4 +1,4 @@
--- Of the activities so far those that wait for none are in the queue.
+-- Exactly those of the activities so far that wait for none are in the queue.
 use Rattle.std.specs.BinaryHeap.{heap_items}
 use Rattle.plan_sgs.proofs.QueueLemmas.{AreQueued}
 use Rattle.plan_sgs.proofs.eligibility.first_queue.Given as goal

@@ -22,8 +22,8 @@ overflow_add-index_mut c =
     let i = (get_or arcs c.loop-j.j-index (0, 0)).1 - 1 in
     let few = degree_limit (count_of c.args.network.now) (take c.loop-j.j-index arcs) c.loop-j.waits.items i c.loop-j.invariant inside in
     let read : c.index_mut.result.now ≡ get_or c.loop-j.waits.items i 0 =
-        get_or_read c.loop-j.waits.items i c.index_mut.result.now
-        (omega (arith, inside, c.loop-j.invariant.size)) c.index_mut.ensures.value 0 in
+    get_or_read c.loop-j.waits.items i c.index_mut.result.now
+    (omega (arith, inside, c.loop-j.invariant.size)) c.index_mut.ensures.value 0 in
     omega (arith, few, length-take-le c.loop-j.j-index arcs c.loop-j.auto.j-index-end, read, c.loop-j-test.true, c.arcs-j-items.type_inv.0)
 
 pub loop-j-preserved : goal.loop-j-preserved
@@ -32,14 +32,14 @@ loop-j-preserved c =
     let i = (get_or arcs c.loop-j.j-index (0, 0)).1 - 1 in
     let inside = arc_inside c.args.network.now arcs c.loop-j.j-index c.len.ensures.sound.limits c.arcs-j-items.ensures.value c.loop-j-test.true in
     let read : c.index_mut.result.now ≡ get_or c.loop-j.waits.items i 0 =
-        get_or_read c.loop-j.waits.items i c.index_mut.result.now
-        (omega (arith, inside, c.loop-j.invariant.size)) c.index_mut.ensures.value 0 in
+    get_or_read c.loop-j.waits.items i c.index_mut.result.now
+    (omega (arith, inside, c.loop-j.invariant.size)) c.index_mut.ensures.value 0 in
     subst (λ (n : ℕ). AreInDegrees (count_of c.args.network.now) (take (c.loop-j.j-index + 1) arcs) (set c.loop-j.waits.items i (n + 1))) (sym read)
     (degrees_more (count_of c.args.network.now) c.loop-j.j-index arcs c.loop-j.waits.items i c.loop-j-test.true refl inside c.loop-j.invariant)
 
 pub returns : goal.returns
 returns c =
     let all : take c.loop-j.j-index c.arcs-j-items.result.now ≡ c.args.network.now.arcs =
-        take_all c.loop-j.j-index c.arcs-j-items.result.now (omega (arith, c.loop-j-test.false))
-        ∙ c.arcs-j-items.ensures.value in
+    take_all c.loop-j.j-index c.arcs-j-items.result.now (omega (arith, c.loop-j-test.false))
+    ∙ c.arcs-j-items.ensures.value in
     subst (λ (arcs : List (ℕ × ℕ)). AreInDegrees (count_of c.args.network.now) arcs c.loop-j.waits.items) all c.loop-j.invariant

@@ -1,4 +1,4 @@
--- How many of the arcs so far lead to each activity.
+-- The number of the arcs so far that lead to each activity.
 use Rattle.std.proofs.Common.{take}
 use Rattle.plan_net.specs.Network.{count_of}
 use Rattle.plan_sgs.specs.Eligibility.{AreInDegrees}

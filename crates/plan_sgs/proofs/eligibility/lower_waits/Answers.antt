@@ -25,14 +25,14 @@ loop-h-preserved c =
       | then-index-eq0+in_ok-push w ↦
           subst (λ (queue : BinaryHeap Entry Global). AreJoining row (k + 1) now c.args.keys.now (heap_items c.args.queue.now) (heap_items queue)) (sym w.queue-is)
           (joining_push row k now c.args.keys.now (heap_items c.args.queue.now) (heap_items c.loop-h.queue)
-              (heap_items w.push.new.self) _ c.loop-h-test.true c.loop-h.invariant
-              (omega (arith, read, w.if-index-eq0.true))
+          (heap_items w.push.new.self) _ c.loop-h-test.true c.loop-h.invariant
+          (omega (arith, read, w.if-index-eq0.true))
           (activity.0, omega (arith, activity.1, c.requires.keys), refl) refl w.in_ok-push.ensures.permutation w.in_ok-push.ensures.heap_order)
       | else-index-eq0 w ↦
           subst (λ (queue : BinaryHeap Entry Global). AreJoining row (k + 1) now c.args.keys.now (heap_items c.args.queue.now) (heap_items queue)) (sym w.queue-is)
           (joining_skip row k now c.args.keys.now (heap_items c.args.queue.now)
-              (heap_items c.loop-h.queue) c.loop-h-test.true c.loop-h.invariant
-              (λ none. w.if-index-eq0.false (omega (arith, read, none))))
+          (heap_items c.loop-h.queue) c.loop-h-test.true c.loop-h.invariant
+          (λ none. w.if-index-eq0.false (omega (arith, read, none))))
     ]
 
 pub returns-clause-queue : goal.returns-clause-queue
@@ -41,6 +41,6 @@ returns-clause-queue c = c.loop-h.invariant.queue
 pub returns-clause-joins : goal.returns-clause-joins
 returns-clause-joins c =
     joined_all c.args.network.now c.args.j c.succs-h-items.result.now c.loop-h.h-index c.args.waits.now.items
-        c.lower_each.new.waits.items c.args.keys.now (heap_items c.args.queue.now)
-        (heap_items c.loop-h.queue) c.requires.sound.limits c.requires.activity
+    c.lower_each.new.waits.items c.args.keys.now (heap_items c.args.queue.now)
+    (heap_items c.loop-h.queue) c.requires.sound.limits c.requires.activity
     c.succs-h-items.ensures.exact c.succs-h-items.ensures.activities (omega (arith, c.loop-h-test.false)) c.lower_each.ensures c.loop-h.invariant

@@ -9,8 +9,8 @@ use Rattle.plan_sgs.proofs.eligibility.open_pred.Goals as goal
 pub returns-then-not-taken-i : goal.returns-then-not-taken-i
 returns-then-not-taken-i c =
     least_of_rising (λ i. IsArc c.args.network.now i c.args.j)
-        (IsOpen c.args.taken.now) c.preds-i-items.result.now c.loop-i.i-index c.preds-i-items.ensures.exact
-        c.loop-i-test.true c.if-not-taken-i.true
+    (IsOpen c.args.taken.now) c.preds-i-items.result.now c.loop-i.i-index c.preds-i-items.ensures.exact
+    c.loop-i-test.true c.if-not-taken-i.true
     (λ k before is_open. false≢true (sym is_open ∙ c.loop-i.invariant k before))
 
 pub returns : goal.returns

@@ -37,5 +37,5 @@ loop-h-preserved c =
 pub returns : goal.returns
 returns c =
     lowered_all c.args.network.now c.args.j c.succs-h-items.result.now c.loop-h.h-index c.loop-h.waits.items
-        c.args.waits.now.items c.requires.sound.limits c.requires.activity c.succs-h-items.ensures.exact
-        c.succs-h-items.ensures.activities (omega (arith, c.loop-h-test.false)) c.loop-h.invariant
+    c.args.waits.now.items c.requires.sound.limits c.requires.activity c.succs-h-items.ensures.exact
+    c.succs-h-items.ensures.activities (omega (arith, c.loop-h-test.false)) c.loop-h.invariant

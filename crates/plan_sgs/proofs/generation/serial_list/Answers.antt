@@ -1,4 +1,4 @@
--- An order told entry by entry is one told by places.
+-- An order defined entry by entry is one defined as a whole.
 use Rattle.std.proofs.lemmas.Bool.{iff_false}
 use Rattle.plan_sgs.specs.Instances.{problem_of}
 use Rattle.plan_sgs.proofs.BoundedLemmas.{bounded}

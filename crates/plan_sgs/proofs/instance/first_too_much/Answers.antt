@@ -12,8 +12,8 @@ returns-in-Some-clause-some c =
     let lasts : c.duration.result ≡ duration_of c.args.project.now.network (c.loop-i.i + 1) = c.duration.ensures.value ∙ ap (λ (n : Net). duration_of n (c.loop-i.i + 1)) net in
     let size : c.len-i-end.result ≡ count_of c.args.project.now.network = c.len-i-end.ensures.count ∙ ap count_of net in
     too_much_here (planned c.args.project.now c.args.caps.now) c.loop-i.i c.in-Some.k (c.loop-i.i + 1)
-        (c.in-Some.k + 1) c.needs.result.now refl refl (omega (arith, size))
-        (omega (arith, lasts)) c.needs.ensures.row c.in-Some.ensures.some c.loop-i.invariant
+    (c.in-Some.k + 1) c.needs.result.now refl refl (omega (arith, size))
+    (omega (arith, lasts)) c.needs.ensures.row c.in-Some.ensures.some c.loop-i.invariant
 
 pub loop-i-preserved : goal.loop-i-preserved
 loop-i-preserved c =

@@ -1,4 +1,4 @@
--- The activities looked at so far need nothing too much.
+-- None of the activities so far needs too much.
 use Rattle.std.proofs.Common.{ℕ, ◌<◌}
 use Rattle.plan_sgs.specs.Problem.{IsTooMuch}
 use Rattle.plan_sgs.specs.Instances.{problem_of, planned}

@@ -1,4 +1,4 @@
--- What the numbers of successors leave falls as they rise.
+-- The keys fall as the numbers of successors rise.
 use Rattle.std.proofs.Common.{◌≡◌, ◌-◌, get_or, subst, arith}
 use Rattle.plan_net.specs.Network.{count_of}
 use Rattle.plan_sgs.proofs.KeyLemmas.{MakeSum, sum_push, leaves_fall}
@@ -8,8 +8,8 @@ pub loop-i-preserved : goal.loop-i-preserved
 loop-i-preserved c =
     let fits = c.type_inv.totals c.loop-i.i in
     sum_push 4294967295 c.args.totals.now c.loop-i.keys.items c.push.new.self.items c.loop-i.i
-        (4294967295 - get_or c.args.totals.now c.loop-i.i 0) c.loop-i.invariant c.in_ok-push.ensures.items
-        (omega (arith, fits))
+    (4294967295 - get_or c.args.totals.now c.loop-i.i 0) c.loop-i.invariant c.in_ok-push.ensures.items
+    (omega (arith, fits))
 
 pub returns : goal.returns
 returns c =

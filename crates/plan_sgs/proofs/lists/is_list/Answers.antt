@@ -16,7 +16,7 @@ returns-then-not-can_come c = (
   λ wrong. absurd (false≢true wrong),
   λ list.
       let comes = comes_in_turn c.args.instance.now c.args.list.now c.loop-j.j-index c.loop-j.taken.items
-          c.network-network.ensures.instance.project.network c.loop-j.invariant c.loop-j-test.true list in
+      c.network-network.ensures.instance.project.network c.loop-j.invariant c.loop-j-test.true list in
       let by_marks = subst (λ (xs : List Bool). CanCome c.args.instance.now.project.network xs (get_or c.args.list.now c.loop-j.j-index 0)) (sym c.deref.ensures.value) comes in
       let by_net = subst (λ (n : Net). CanCome n c.deref.result.now (get_or c.args.list.now c.loop-j.j-index 0)) (sym c.network-network.ensures.network) by_marks in
       absurd (iff_false c.can_come.ensures c.if-not-can_come.true by_net),

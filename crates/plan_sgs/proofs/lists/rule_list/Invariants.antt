@@ -1,4 +1,4 @@
--- What the rule takes after the entries so far makes its whole list.
+-- The entries so far and those that the rule takes after them are its whole list.
 use Rattle.std.specs.BinaryHeap.{heap_items}
 use Rattle.plan_sgs.proofs.TakingLemmas.{IsTaking}
 use Rattle.plan_sgs.proofs.lists.rule_list.Given as goal

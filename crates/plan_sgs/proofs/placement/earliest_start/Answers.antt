@@ -32,8 +32,8 @@ earliest-requires-clause-empty c =
     let lasts : c.duration-duration.result ≡ duration (problem_of c.args.instance.now) (c.args.j - 1) =
     c.duration-duration.ensures.value ∙ ap (λ (n : Net). duration_of n c.args.j) c.network.ensures.network ∙ duration_place c.args.instance.now c.args.j c.requires.activity in
     fits_empty (problem_of i) (c.args.j - 1) c.duration-duration.result
-        (capacities c.args.profile.now) c.needs-needs.result.now c.network.ensures.instance.fit
-        (activity_place i c.args.j c.requires.activity) lasts c.requires.holds.caps
+    (capacities c.args.profile.now) c.needs-needs.result.now c.network.ensures.instance.fit
+    (activity_place i c.args.j c.requires.activity) lasts c.requires.holds.caps
     (needs_place i c.args.j c.needs-needs.result.now c.requires.activity c.needs-needs.ensures.row)
 
 pub returns-clause-start : goal.returns-clause-start
@@ -43,8 +43,8 @@ returns-clause-start c =
     c.duration-duration.ensures.value ∙ ap (λ (n : Net). duration_of n c.args.j) c.network.ensures.network ∙ duration_place c.args.instance.now c.args.j c.requires.activity in
     let released = c.release_of-from.ensures in
     let is = start_is i (in_use c.args.profile.now)
-        (capacities c.args.profile.now) c.args.placed.now c.args.j c.release_of-from.result
-        c.duration-duration.result c.earliest.result c.needs-needs.result.now c.network.ensures.instance
-        c.requires.activity
+    (capacities c.args.profile.now) c.args.placed.now c.args.j c.release_of-from.result
+    c.duration-duration.result c.earliest.result c.needs-needs.result.now c.network.ensures.instance
+    c.requires.activity
     c.requires.holds.caps lasts c.needs-needs.ensures.row c.requires.holds.used released c.earliest.ensures.least in
     is

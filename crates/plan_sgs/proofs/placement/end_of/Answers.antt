@@ -1,4 +1,4 @@
--- Where the activity is placed.
+-- The start of the activity, if it is placed.
 use Rattle.std.proofs.Common.{◌≡◌, ◌+◌, ◌-◌, ◌≤◌, ◌∙◌, ap, arith}
 use Rattle.plan_net.specs.Network.{Net, duration_of}
 use Rattle.plan_sgs.specs.Problem.{duration}

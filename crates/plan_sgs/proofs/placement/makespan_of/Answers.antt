@@ -22,8 +22,8 @@ loop-i-preserved c =
     c.duration.ensures.value ∙ ap (λ (n : Net). duration_of n (c.loop-i.i + 1)) c.network-network.ensures.network ∙ sym (duration-problem c.args.instance.now c.loop-i.i (c.loop-i.i + 1) refl) in
     let count = c.len-i-end.ensures.count ∙ ap count_of c.network-network.ensures.network in
     let below : get_or c.args.starts.now c.loop-i.i 0 + duration
-        (problem_of c.args.instance.now) c.loop-i.i ≤ 6020000 =
-        c.requires.ends c.loop-i.i (omega (arith, count, count-problem c.args.instance.now)) in
+    (problem_of c.args.instance.now) c.loop-i.i ≤ 6020000 =
+    c.requires.ends c.loop-i.i (omega (arith, count, count-problem c.args.instance.now)) in
     let more = greatest_more c.loop-i.i (λ h. get_or c.args.starts.now h 0 + duration (problem_of c.args.instance.now) h) in
     record {
       value = omega (arith, lasts, c.max-latest.ensures, c.loop-i.invariant.value, more);

@@ -14,9 +14,9 @@ place_next-requires-clause-activity c =
     let p = problem_of c.args.instance.now in
     let js = places c.args.list.now in
     let next = run_open p js c.loop-j.j-index c.loop-j.placed.items
-        (bounded c.args.instance.now c.requires.instance)
-        (list_parts p js c.requires.list.1).0 c.loop-j.invariant.run
-        (omega (arith, c.loop-j-test.true, length-places c.args.list.now)) in
+    (bounded c.args.instance.now c.requires.instance)
+    (list_parts p js c.requires.list.1).0 c.loop-j.invariant.run
+    (omega (arith, c.loop-j-test.true, length-places c.args.list.now)) in
     let first : 1 ≤ get_or c.args.list.now c.loop-j.j-index 0 = c.requires.list.0 c.loop-j.j-index 0 c.loop-j-test.true in
     (first, omega (arith, first, next.inside, entry_place c.args.list.now c.loop-j.j-index c.loop-j-test.true, count-problem c.args.instance.now))
 
@@ -25,9 +25,9 @@ place_next-requires-clause-open c =
     let p = problem_of c.args.instance.now in
     let js = places c.args.list.now in
     let next = run_open p js c.loop-j.j-index c.loop-j.placed.items
-        (bounded c.args.instance.now c.requires.instance)
-        (list_parts p js c.requires.list.1).0 c.loop-j.invariant.run
-        (omega (arith, c.loop-j-test.true, length-places c.args.list.now)) in
+    (bounded c.args.instance.now c.requires.instance)
+    (list_parts p js c.requires.list.1).0 c.loop-j.invariant.run
+    (omega (arith, c.loop-j-test.true, length-places c.args.list.now)) in
     subst (λ (x : ℕ). get_or c.loop-j.placed.items x None ≡ None) (entry_place c.args.list.now c.loop-j.j-index c.loop-j-test.true) next.none
 
 pub place_next-requires-clause-partial : goal.place_next-requires-clause-partial
@@ -54,12 +54,12 @@ loop-j-preserved c =
     let js = places c.args.list.now in
     let more : IsRun (problem_of c.args.instance.now) (places c.args.list.now) (c.loop-j.j-index + 1)
     (set c.loop-j.placed.items (get_or (places c.args.list.now) c.loop-j.j-index 0)
-        (Some (earliest (problem_of c.args.instance.now) c.loop-j.placed.items
-        (get_or (places c.args.list.now) c.loop-j.j-index 0)))) =
+    (Some (earliest (problem_of c.args.instance.now) c.loop-j.placed.items
+    (get_or (places c.args.list.now) c.loop-j.j-index 0)))) =
     run_more p js c.loop-j.j-index c.loop-j.placed.items (bounded c.args.instance.now c.requires.instance) c.loop-j.invariant.run (omega (arith, c.loop-j-test.true, length-places c.args.list.now)) in
     let here = subst (λ (x : ℕ). IsRun (problem_of c.args.instance.now) (places c.args.list.now)
-        (c.loop-j.j-index + 1) (set c.loop-j.placed.items x
-        (Some (earliest (problem_of c.args.instance.now) c.loop-j.placed.items x))))
+    (c.loop-j.j-index + 1) (set c.loop-j.placed.items x
+    (Some (earliest (problem_of c.args.instance.now) c.loop-j.placed.items x))))
     (entry_place c.args.list.now c.loop-j.j-index c.loop-j-test.true) more in
     record {
       run = subst (IsRun p js (c.loop-j.j-index + 1)) (sym c.in_ok-place_next.ensures.ok) here;
@@ -71,9 +71,9 @@ returns-clause-ok c =
     let p = problem_of c.args.instance.now in
     let js = places c.args.list.now in
     let all = run_ends p js c.loop-j.j-index c.loop-j.placed.items
-        (bounded c.args.instance.now c.requires.instance)
-        (list_parts p js c.requires.list.1).0 c.loop-j.invariant.run
-        (omega (arith, c.loop-j-test.false, length-places c.args.list.now)) in
+    (bounded c.args.instance.now c.requires.instance)
+    (list_parts p js c.requires.list.1).0 c.loop-j.invariant.run
+    (omega (arith, c.loop-j-test.false, length-places c.args.list.now)) in
     all.0 ∙ ap (λ (xs : List (Option ℕ)). serial_from (problem_of c.args.instance.now) xs (places c.args.list.now)) (sym c.requires.none)
 
 pub returns-clause-ends : goal.returns-clause-ends
@@ -81,5 +81,5 @@ returns-clause-ends c =
     let p = problem_of c.args.instance.now in
     let js = places c.args.list.now in
     (run_ends p js c.loop-j.j-index c.loop-j.placed.items (bounded c.args.instance.now c.requires.instance)
-        (list_parts p js c.requires.list.1).0 c.loop-j.invariant.run
-        (omega (arith, c.loop-j-test.false, length-places c.args.list.now))).1
+    (list_parts p js c.requires.list.1).0 c.loop-j.invariant.run
+    (omega (arith, c.loop-j-test.false, length-places c.args.list.now))).1

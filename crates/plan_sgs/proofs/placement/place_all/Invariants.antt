@@ -1,4 +1,4 @@
--- The entries so far are placed, and the profile holds what they use.
+-- The entries so far are placed, and the profile holds their usage.
 use Rattle.plan_sgs.specs.Instances.{problem_of}
 use Rattle.plan_sgs.specs.Rules.{places}
 use Rattle.plan_sgs.specs.Placement.{Holds}

@@ -20,8 +20,8 @@ place-requires-clause-end c =
     let is : c.earliest_start-start.result ≡ earliest (problem_of c.args.instance.now) c.args.placed.now.items (c.args.j - 1) =
     c.earliest_start-start.ensures.start ∙ ap (λ (xs : List (Option ℕ)). earliest (problem_of c.args.instance.now) xs (c.args.j - 1)) c.deref.ensures.value in
     ends_in_time (problem_of i) c.args.placed.now.items
-        (c.args.j - 1) c.earliest_start-start.result c.duration.result (bounded i c.network.ensures.instance)
-        (activity_place i c.args.j c.requires.activity) c.requires.partial.ends lasts is
+    (c.args.j - 1) c.earliest_start-start.result c.duration.result (bounded i c.network.ensures.instance)
+    (activity_place i c.args.j c.requires.activity) c.requires.partial.ends lasts is
 
 pub place-requires-clause-needs : goal.place-requires-clause-needs
 place-requires-clause-needs c =
@@ -38,11 +38,11 @@ place-requires-clause-fits c =
     c.earliest_start-start.ensures.start ∙ ap (λ (xs : List (Option ℕ)). earliest (problem_of c.args.instance.now) xs (c.args.j - 1)) c.deref.ensures.value in
     let fitting : fits (problem_of c.args.instance.now) c.args.placed.now.items (c.args.j - 1) c.earliest_start-start.result ≡ true =
     subst (λ (t : ℕ). fits (problem_of c.args.instance.now) c.args.placed.now.items (c.args.j - 1) t ≡ true)
-        (sym is) (earliest_is (problem_of i) c.args.placed.now.items
-        (c.args.j - 1) c.network.ensures.instance.fit inside).fitting in
+    (sym is) (earliest_is (problem_of i) c.args.placed.now.items
+    (c.args.j - 1) c.network.ensures.instance.fit inside).fitting in
     fits_back (in_use c.args.profile.now) (capacities c.args.profile.now)
-        (problem_of i) c.args.placed.now.items (c.args.j - 1) c.earliest_start-start.result c.duration.result
-        c.needs.result.now c.requires.holds.caps lasts
+    (problem_of i) c.args.placed.now.items (c.args.j - 1) c.earliest_start-start.result c.duration.result
+    c.needs.result.now c.requires.holds.caps lasts
     (needs_place i c.args.j c.needs.result.now c.requires.activity c.needs.ensures.row) c.requires.holds.used fitting
 
 pub index_mut-requires : goal.index_mut-requires
@@ -65,6 +65,6 @@ returns-clause-holds c =
           (problem_of i) c.args.placed.now.items (c.args.j - 1) c.earliest_start-start.result
           c.duration.result c.needs.result.now c.requires.partial.size
           (activity_place i c.args.j c.requires.activity) c.requires.open lasts
-              (needs_place i c.args.j c.needs.result.now c.requires.activity c.needs.ensures.row)
-              c.requires.holds.used c.in_ok-place.ensures.ok;
+          (needs_place i c.args.j c.needs.result.now c.requires.activity c.needs.ensures.row)
+          c.requires.holds.used c.in_ok-place.ensures.ok;
     }

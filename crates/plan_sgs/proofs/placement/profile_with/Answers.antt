@@ -1,4 +1,4 @@
--- The interval of the last activity fits beside the others, and the profile has them all with it.
+-- The interval of the last activity fits beside the others, and the profile then holds them all.
 use Rattle.std.proofs.Common.{ℕ, true, ◌≡◌, ◌-◌, List, length, get_or, set, Option, Some, None, sym, ◌∙◌, ap, subst, arith}
 use Rattle.std.proofs.lemmas.List.{length-set, set-set, set-get_or, get_or-set_same}
 use Rattle.std.proofs.lemmas.Option.{same_Some}
@@ -34,11 +34,11 @@ place-requires-clause-fits c =
     subst (λ (f : ℕ → ℕ → ℕ). IsUsageOf f (problem_of c.args.instance.now) (set c.args.placed.now (c.args.j - 1) None)) (sym c.in_ok-made.ensures.same) c.requires.holds.used in
     let fitting : fits (problem_of c.args.instance.now) (set c.args.placed.now (c.args.j - 1) None) (c.args.j - 1) c.in-Some.start ≡ true =
     subst (λ (t : ℕ). fits (problem_of c.args.instance.now) (set c.args.placed.now (c.args.j - 1) None)
-        (c.args.j - 1) t ≡ true) (sym start) (earliest_is p before
-        (c.args.j - 1) c.network.ensures.instance.fit inside).fitting in
+    (c.args.j - 1) t ≡ true) (sym start) (earliest_is p before
+    (c.args.j - 1) c.network.ensures.instance.fit inside).fitting in
     fits_back (in_use c.in_ok-made.made) (capacities c.in_ok-made.made) p before
-        (c.args.j - 1) c.in-Some.start c.duration-duration.result c.needs-needs.result.now
-        (c.in_ok-made.ensures.caps ∙ c.requires.holds.caps) lasts needs used fitting
+    (c.args.j - 1) c.in-Some.start c.duration-duration.result c.needs-needs.result.now
+    (c.in_ok-made.ensures.caps ∙ c.requires.holds.caps) lasts needs used fitting
 
 pub returns : goal.returns
 returns c =
@@ -57,8 +57,8 @@ returns c =
     get_or-set_same c.args.placed.now (c.args.j - 1) None None (omega (arith, inside, c.requires.partial.size)) in
     let again : set (set c.args.placed.now (c.args.j - 1) None) (c.args.j - 1) (Some c.in-Some.start) ≡ c.args.placed.now =
     set-set c.args.placed.now (c.args.j - 1) None (Some c.in-Some.start)
-        ∙ ap (λ (o : Option ℕ). set c.args.placed.now (c.args.j - 1) o) (sym c.in-Some.is)
-        ∙ set-get_or c.args.placed.now (c.args.j - 1) None in
+    ∙ ap (λ (o : Option ℕ). set c.args.placed.now (c.args.j - 1) o) (sym c.in-Some.is)
+    ∙ set-get_or c.args.placed.now (c.args.j - 1) None in
     record {
       caps = c.in_ok-place.ensures.caps ∙ c.in_ok-made.ensures.caps ∙ c.requires.holds.caps;
       used = subst (IsUsageOf (in_use c.place.new.self) p) again

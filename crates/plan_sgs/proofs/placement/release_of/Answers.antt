@@ -11,7 +11,7 @@ use Rattle.plan_sgs.proofs.BoundedLemmas.{release_is}
 use Rattle.plan_sgs.proofs.placement.release_of.Goals.{After-preds-i-items}
 use Rattle.plan_sgs.proofs.placement.release_of.Goals as goal
 
--- beside each predecessor stands its lag
+-- the lag of each predecessor is at its index
 in_place : (c : After-preds-i-items) (k : ℕ) → k < length c.preds-i-items.result.now →
     (k < length c.lags_into-lags.result.now) × (get_or c.lags_into-lags.result.now k 0 ≡ lag_of
     c.network-network.result.now (get_or c.preds-i-items.result.now k 0) c.args.j)
@@ -30,17 +30,17 @@ loop-k-preserved c =
     let arc' : IsArc c.args.instance.now.project.network (get_or items c.loop-k.k 0) c.args.j = subst (λ (n : Net). IsArc n (get_or items c.loop-k.k 0) c.args.j) net arc in
     let within = in_place (goal.at.loop-k-preserved c).After-preds-i-items c.loop-k.k c.loop-k-test.true in
     let lag : get_or c.lags_into-lags.result.now c.loop-k.k 0 ≡ lag_of c.args.instance.now.project.network
-        (get_or items c.loop-k.k 0) c.args.j = within.1
-        ∙ ap (λ (n : Net). lag_of n (get_or items c.loop-k.k 0) c.args.j) net in
+    (get_or items c.loop-k.k 0) c.args.j = within.1
+    ∙ ap (λ (n : Net). lag_of n (get_or items c.loop-k.k 0) c.args.j) net in
     let value : c.end_of.result + get_or c.lags_into-lags.result.now c.loop-k.k 0 ≡ end_of
-        (problem_of c.args.instance.now) c.args.placed.now
-        (get_or items c.loop-k.k 0 - 1) + lag_of c.args.instance.now.project.network
-        (get_or items c.loop-k.k 0) c.args.j = omega (arith, lag, c.end_of.ensures.value) in
+    (problem_of c.args.instance.now) c.args.placed.now
+    (get_or items c.loop-k.k 0 - 1) + lag_of c.args.instance.now.project.network
+    (get_or items c.loop-k.k 0) c.args.j = omega (arith, lag, c.end_of.ensures.value) in
     let more = greatest_more (λ i. IsArc c.args.instance.now.project.network i c.args.j)
-        (λ i. end_of (problem_of c.args.instance.now) c.args.placed.now
-        (i - 1) + lag_of c.args.instance.now.project.network i c.args.j)
+    (λ i. end_of (problem_of c.args.instance.now) c.args.placed.now
+    (i - 1) + lag_of c.args.instance.now.project.network i c.args.j)
     items c.loop-k.k c.loop-k.from (c.end_of.result + get_or c.lags_into-lags.result.now c.loop-k.k 0)
-        c.max-from.result c.max-from.ensures arc' value c.loop-k.invariant.above c.loop-k.invariant.reached in
+    c.max-from.result c.max-from.ensures arc' value c.loop-k.invariant.above c.loop-k.invariant.reached in
     record { above = more.0; reached = more.1 }
 
 pub returns : goal.returns
@@ -48,7 +48,7 @@ returns c =
     let net = c.network-network.ensures.network in
     release_is c.args.instance.now c.args.placed.now c.args.j c.loop-k.from c.network-network.ensures.instance.project.network c.requires.activity
     (λ h arc. each_of_rising (λ i. IsArc c.network-network.result.now i c.args.j)
-        (λ i. end_of (problem_of c.args.instance.now) c.args.placed.now
-        (i - 1) + lag_of c.args.instance.now.project.network i c.args.j ≤ c.loop-k.from)
-        c.preds-i-items.result.now c.preds-i-items.ensures.exact
+    (λ i. end_of (problem_of c.args.instance.now) c.args.placed.now
+    (i - 1) + lag_of c.args.instance.now.project.network i c.args.j ≤ c.loop-k.from)
+    c.preds-i-items.result.now c.preds-i-items.ensures.exact
     (λ k within. c.loop-k.invariant.above k (omega (arith, c.loop-k-test.false))) h (subst (λ (n : Net). IsArc n h c.args.j) (sym net) arc)) c.loop-k.invariant.reached

@@ -37,9 +37,9 @@ makespan_of-makespan-requires-clause-size c =
     let size : c.len.result ≡ count (problem_of c.args.instance.now) = c.len.ensures.count ∙ ap count_of c.network.ensures.network ∙ sym (count-problem c.args.instance.now) in
     let starts : c.in_ok-starts.starts.items ≡ map start_or_zero c.place_all.new.placed.items = c.in_ok-starts.ensures ∙ ap (map start_or_zero) c.deref.ensures.value in
     let all = made (problem_of c.args.instance.now) c.args.list.now c.in_ok-starts.starts.items
-        c.in_ok-placed.placed.items c.place_all.new.placed.items
-        (bounded c.args.instance.now c.network.ensures.instance) c.requires
-        (none ∙ ap unplaced size) c.in_ok-place_all.ensures.ok c.in_ok-place_all.ensures.ends starts in
+    c.in_ok-placed.placed.items c.place_all.new.placed.items
+    (bounded c.args.instance.now c.network.ensures.instance) c.requires
+    (none ∙ ap unplaced size) c.in_ok-place_all.ensures.ok c.in_ok-place_all.ensures.ends starts in
     let same : length c.deref-2.result.now ≡ length c.in_ok-starts.starts.items = ap (λ (xs : List ℕ). length xs) c.deref-2.ensures.value in
     omega (arith, same, all.active.feasible.each_started)
 
@@ -49,9 +49,9 @@ makespan_of-makespan-requires-clause-ends c =
     let size : c.len.result ≡ count (problem_of c.args.instance.now) = c.len.ensures.count ∙ ap count_of c.network.ensures.network ∙ sym (count-problem c.args.instance.now) in
     let starts : c.in_ok-starts.starts.items ≡ map start_or_zero c.place_all.new.placed.items = c.in_ok-starts.ensures ∙ ap (map start_or_zero) c.deref.ensures.value in
     let all = made (problem_of c.args.instance.now) c.args.list.now c.in_ok-starts.starts.items
-        c.in_ok-placed.placed.items c.place_all.new.placed.items
-        (bounded c.args.instance.now c.network.ensures.instance) c.requires
-        (none ∙ ap unplaced size) c.in_ok-place_all.ensures.ok c.in_ok-place_all.ensures.ends starts in
+    c.in_ok-placed.placed.items c.place_all.new.placed.items
+    (bounded c.args.instance.now c.network.ensures.instance) c.requires
+    (none ∙ ap unplaced size) c.in_ok-place_all.ensures.ok c.in_ok-place_all.ensures.ends starts in
     subst (λ (xs : List ℕ). AllEndBy (problem_of c.args.instance.now) xs 6020000) (sym c.deref-2.ensures.value) all.ends
 
 pub returns-clause-starts : goal.returns-clause-starts
@@ -60,9 +60,9 @@ returns-clause-starts c =
     let size : c.len.result ≡ count (problem_of c.args.instance.now) = c.len.ensures.count ∙ ap count_of c.network.ensures.network ∙ sym (count-problem c.args.instance.now) in
     let starts : c.in_ok-starts.starts.items ≡ map start_or_zero c.place_all.new.placed.items = c.in_ok-starts.ensures ∙ ap (map start_or_zero) c.deref.ensures.value in
     let all = made (problem_of c.args.instance.now) c.args.list.now c.in_ok-starts.starts.items
-        c.in_ok-placed.placed.items c.place_all.new.placed.items
-        (bounded c.args.instance.now c.network.ensures.instance) c.requires
-        (none ∙ ap unplaced size) c.in_ok-place_all.ensures.ok c.in_ok-place_all.ensures.ends starts in
+    c.in_ok-placed.placed.items c.place_all.new.placed.items
+    (bounded c.args.instance.now c.network.ensures.instance) c.requires
+    (none ∙ ap unplaced size) c.in_ok-place_all.ensures.ok c.in_ok-place_all.ensures.ends starts in
     all.serial
 
 pub returns-clause-active : goal.returns-clause-active
@@ -71,9 +71,9 @@ returns-clause-active c =
     let size : c.len.result ≡ count (problem_of c.args.instance.now) = c.len.ensures.count ∙ ap count_of c.network.ensures.network ∙ sym (count-problem c.args.instance.now) in
     let starts : c.in_ok-starts.starts.items ≡ map start_or_zero c.place_all.new.placed.items = c.in_ok-starts.ensures ∙ ap (map start_or_zero) c.deref.ensures.value in
     let all = made (problem_of c.args.instance.now) c.args.list.now c.in_ok-starts.starts.items
-        c.in_ok-placed.placed.items c.place_all.new.placed.items
-        (bounded c.args.instance.now c.network.ensures.instance) c.requires
-        (none ∙ ap unplaced size) c.in_ok-place_all.ensures.ok c.in_ok-place_all.ensures.ends starts in
+    c.in_ok-placed.placed.items c.place_all.new.placed.items
+    (bounded c.args.instance.now c.network.ensures.instance) c.requires
+    (none ∙ ap unplaced size) c.in_ok-place_all.ensures.ok c.in_ok-place_all.ensures.ends starts in
     all.active
 
 pub returns-clause-ends : goal.returns-clause-ends
@@ -82,7 +82,7 @@ returns-clause-ends c =
     let size : c.len.result ≡ count (problem_of c.args.instance.now) = c.len.ensures.count ∙ ap count_of c.network.ensures.network ∙ sym (count-problem c.args.instance.now) in
     let starts : c.in_ok-starts.starts.items ≡ map start_or_zero c.place_all.new.placed.items = c.in_ok-starts.ensures ∙ ap (map start_or_zero) c.deref.ensures.value in
     let all = made (problem_of c.args.instance.now) c.args.list.now c.in_ok-starts.starts.items
-        c.in_ok-placed.placed.items c.place_all.new.placed.items
-        (bounded c.args.instance.now c.network.ensures.instance) c.requires
-        (none ∙ ap unplaced size) c.in_ok-place_all.ensures.ok c.in_ok-place_all.ensures.ends starts in
+    c.in_ok-placed.placed.items c.place_all.new.placed.items
+    (bounded c.args.instance.now c.network.ensures.instance) c.requires
+    (none ∙ ap unplaced size) c.in_ok-place_all.ensures.ok c.in_ok-place_all.ensures.ends starts in
     all.ends

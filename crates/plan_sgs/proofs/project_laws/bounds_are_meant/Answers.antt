@@ -1,4 +1,4 @@
--- Tails and work are what they are called.
+-- Tails and work have their defined meanings.
 use Rattle.plan_sgs.proofs.PathTailLemmas.{tails_are_greatest, longest_is_greatest}
 use Rattle.plan_sgs.proofs.WorkLemmas.{rounds_up}
 use Rattle.plan_sgs.proofs.project_laws.bounds_are_meant.Goals as goal

@@ -1,4 +1,4 @@
--- Words end, and go on until they are full.
+-- Words are finite, and each word that isn't full can be continued.
 use Rattle.plan_sgs.proofs.FullWordLemmas.{words_are_finite, words_go_on}
 use Rattle.plan_sgs.proofs.project_laws.project_words_are_finite.Goals as goal
 

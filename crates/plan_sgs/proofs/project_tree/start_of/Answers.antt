@@ -14,8 +14,8 @@ use Rattle.plan_sgs.proofs.project_tree.start_of.Goals.{then-len-at+in_ok-made+i
 pub profile_with-requires-clause-activity : goal.profile_with-requires-clause-activity
 profile_with-requires-clause-activity c =
     let before = behind c.args.instance.now c.args.turns.now c.args.placed.now c.args.profiles.now.items
-        c.requires.instance c.requires.word c.requires.placed c.requires.profiles
-        (omega (arith, c.if-len-at.true, c.len.ensures, c.args.profiles.now.ok.0)) in
+    c.requires.instance c.requires.word c.requires.placed c.requires.profiles
+    (omega (arith, c.if-len-at.true, c.len.ensures, c.args.profiles.now.ok.0)) in
     before.last.activity
 
 pub profile_with-requires-clause-partial : goal.profile_with-requires-clause-partial
@@ -26,15 +26,15 @@ profile_with-requires-clause-partial c =
 pub profile_with-requires-clause-last : goal.profile_with-requires-clause-last
 profile_with-requires-clause-last c =
     let before = behind c.args.instance.now c.args.turns.now c.args.placed.now c.args.profiles.now.items
-        c.requires.instance c.requires.word c.requires.placed c.requires.profiles
-        (omega (arith, c.if-len-at.true, c.len.ensures, c.args.profiles.now.ok.0)) in
+    c.requires.instance c.requires.word c.requires.placed c.requires.profiles
+    (omega (arith, c.if-len-at.true, c.len.ensures, c.args.profiles.now.ok.0)) in
     before.last.last
 
 pub profile_with-requires-clause-holds : goal.profile_with-requires-clause-holds
 profile_with-requires-clause-holds c =
     let before = behind c.args.instance.now c.args.turns.now c.args.placed.now c.args.profiles.now.items
-        c.requires.instance c.requires.word c.requires.placed c.requires.profiles
-        (omega (arith, c.if-len-at.true, c.len.ensures, c.args.profiles.now.ok.0)) in
+    c.requires.instance c.requires.word c.requires.placed c.requires.profiles
+    (omega (arith, c.if-len-at.true, c.len.ensures, c.args.profiles.now.ok.0)) in
     before.held c.index.result.now c.index.ensures
 
 pub earliest_start-requires-clause-activity : goal.earliest_start-requires-clause-activity
@@ -55,27 +55,47 @@ earliest_start-requires-clause-holds c =
           let held : Holds w.in_ok-made.made (problem_of c.args.instance.now) (placed_by c.args.instance.now (word_of c.args.turns.now)) =
           subst (Holds w.in_ok-made.made (problem_of c.args.instance.now)) c.requires.placed w.in_ok-made.ensures in
           profiles_more c.args.instance.now (word_of c.args.turns.now) c.args.profiles.now.items c.if-len-at.profiles.items w.in_ok-made.made c.requires.profiles
-          (omega (arith, w.if-len-at.true, c.len.ensures, c.args.profiles.now.ok.0, length-map
-              c.args.turns.now (λ (t : Turn). t.letter))) held
-              (ap (λ (v : Vec Profile Global). v.items) w.profiles-is ∙ w.in_ok-push.ensures.items)
+          (omega (
+            arith,
+            w.if-len-at.true,
+            c.len.ensures,
+            c.args.profiles.now.ok.0,
+            length-map
+                c.args.turns.now (λ (t : Turn). t.letter),
+          )) held
+          (ap (λ (v : Vec Profile Global). v.items) w.profiles-is ∙ w.in_ok-push.ensures.items)
       | else-len-at w ↦ subst (λ (v : Vec Profile Global). AreProfiles c.args.instance.now (word_of c.args.turns.now) v.items) (sym w.profiles-is) c.requires.profiles
     ] in
     let made : length c.if-len-at.profiles.items ≡ length c.args.turns.now + 1 =
     elim c.if-len-at.branch [
       | then-len-at+in_ok-made+in_ok-push w ↦
-          omega (arith, ap (λ (v : Vec Profile Global). length v.items) w.profiles-is, ap
-              (λ (xs : List Profile). length xs) w.in_ok-push.ensures.items, length_push
-              c.args.profiles.now.items w.in_ok-made.made, w.if-len-at.true, c.len.ensures,
-              c.args.profiles.now.ok.0)
+          omega (
+            arith,
+            ap (λ (v : Vec Profile Global). length v.items) w.profiles-is,
+            ap
+                (λ (xs : List Profile). length xs) w.in_ok-push.ensures.items,
+            length_push
+                c.args.profiles.now.items w.in_ok-made.made,
+            w.if-len-at.true,
+            c.len.ensures,
+            c.args.profiles.now.ok.0,
+          )
       | else-len-at w ↦
-          omega (arith, ap (λ (v : Vec Profile Global). length v.items) w.profiles-is, w.if-len-at.false,
-              c.len.ensures, c.args.profiles.now.ok.0, c.requires.profiles.enough, c.requires.profiles.most,
-              length-map c.args.turns.now (λ (t : Turn). t.letter))
+          omega (
+            arith,
+            ap (λ (v : Vec Profile Global). length v.items) w.profiles-is,
+            w.if-len-at.false,
+            c.len.ensures,
+            c.args.profiles.now.ok.0,
+            c.requires.profiles.enough,
+            c.requires.profiles.most,
+            length-map c.args.turns.now (λ (t : Turn). t.letter),
+          )
     ] in
     subst (Holds c.index-2.result.now (problem_of c.args.instance.now)) (sym c.requires.placed)
     (held_here c.args.instance.now (word_of c.args.turns.now)
-        (length c.args.turns.now) c.if-len-at.profiles.items c.index-2.result.now are
-        (sym (length-map c.args.turns.now (λ (t : Turn). t.letter))) (omega (arith, made)) c.index-2.ensures)
+    (length c.args.turns.now) c.if-len-at.profiles.items c.index-2.result.now are
+    (sym (length-map c.args.turns.now (λ (t : Turn). t.letter))) (omega (arith, made)) c.index-2.ensures)
 
 pub returns-clause-profiles : goal.returns-clause-profiles
 returns-clause-profiles c =
@@ -85,9 +105,15 @@ returns-clause-profiles c =
           let held : Holds w.in_ok-made.made (problem_of c.args.instance.now) (placed_by c.args.instance.now (word_of c.args.turns.now)) =
           subst (Holds w.in_ok-made.made (problem_of c.args.instance.now)) c.requires.placed w.in_ok-made.ensures in
           profiles_more c.args.instance.now (word_of c.args.turns.now) c.args.profiles.now.items c.if-len-at.profiles.items w.in_ok-made.made c.requires.profiles
-          (omega (arith, w.if-len-at.true, c.len.ensures, c.args.profiles.now.ok.0, length-map
-              c.args.turns.now (λ (t : Turn). t.letter))) held
-              (ap (λ (v : Vec Profile Global). v.items) w.profiles-is ∙ w.in_ok-push.ensures.items)
+          (omega (
+            arith,
+            w.if-len-at.true,
+            c.len.ensures,
+            c.args.profiles.now.ok.0,
+            length-map
+                c.args.turns.now (λ (t : Turn). t.letter),
+          )) held
+          (ap (λ (v : Vec Profile Global). v.items) w.profiles-is ∙ w.in_ok-push.ensures.items)
       | else-len-at w ↦ subst (λ (v : Vec Profile Global). AreProfiles c.args.instance.now (word_of c.args.turns.now) v.items) (sym w.profiles-is) c.requires.profiles
     ] in
     are
@@ -97,13 +123,27 @@ returns-clause-made c =
     let made : length c.if-len-at.profiles.items ≡ length c.args.turns.now + 1 =
     elim c.if-len-at.branch [
       | then-len-at+in_ok-made+in_ok-push w ↦
-          omega (arith, ap (λ (v : Vec Profile Global). length v.items) w.profiles-is, ap
-              (λ (xs : List Profile). length xs) w.in_ok-push.ensures.items, length_push
-              c.args.profiles.now.items w.in_ok-made.made, w.if-len-at.true, c.len.ensures,
-              c.args.profiles.now.ok.0)
+          omega (
+            arith,
+            ap (λ (v : Vec Profile Global). length v.items) w.profiles-is,
+            ap
+                (λ (xs : List Profile). length xs) w.in_ok-push.ensures.items,
+            length_push
+                c.args.profiles.now.items w.in_ok-made.made,
+            w.if-len-at.true,
+            c.len.ensures,
+            c.args.profiles.now.ok.0,
+          )
       | else-len-at w ↦
-          omega (arith, ap (λ (v : Vec Profile Global). length v.items) w.profiles-is, w.if-len-at.false,
-              c.len.ensures, c.args.profiles.now.ok.0, c.requires.profiles.enough, c.requires.profiles.most,
-              length-map c.args.turns.now (λ (t : Turn). t.letter))
+          omega (
+            arith,
+            ap (λ (v : Vec Profile Global). length v.items) w.profiles-is,
+            w.if-len-at.false,
+            c.len.ensures,
+            c.args.profiles.now.ok.0,
+            c.requires.profiles.enough,
+            c.requires.profiles.most,
+            length-map c.args.turns.now (λ (t : Turn). t.letter),
+          )
     ] in
     made

@@ -16,19 +16,19 @@ loop-turn-init c =
 pub push-requires : goal.push-requires
 push-requires c =
     let count : c.jobs.result * c.machines.result ≡ c.args.shop.now.jobs * c.args.shop.now.machines =
-        ap (λ (n : ℕ). n * c.machines.result) c.jobs.ensures.value
-        ∙ ap (λ (n : ℕ). c.args.shop.now.jobs * n) c.machines.ensures.value in
+    ap (λ (n : ℕ). n * c.machines.result) c.jobs.ensures.value
+    ∙ ap (λ (n : ℕ). c.args.shop.now.jobs * n) c.machines.ensures.value in
     let next = next-letter c.args.rule c.args.shop.now c.loop-turn.tree c.loop-turn._turn
-        c.loop-turn.invariant (omega (arith, count, c.loop-turn-test.true)) c.choice.result c.choice.ensures
-        c.in-Some.letter c.in-Some.is in
+    c.loop-turn.invariant (omega (arith, count, c.loop-turn-test.true)) c.choice.result c.choice.ensures
+    c.in-Some.letter c.in-Some.is in
     let Q : JobShop → Type 0 = λ s. Contains (letters_after s (placed_in s c.loop-turn.tree.word)) c.in-Some.letter in
     subst Q (sym c.loop-turn.invariant.shop) next.follows
 
 pub loop-turn-preserved : goal.loop-turn-preserved
 loop-turn-preserved c =
     let count : c.jobs.result * c.machines.result ≡ c.args.shop.now.jobs * c.args.shop.now.machines =
-        ap (λ (n : ℕ). n * c.machines.result) c.jobs.ensures.value
-        ∙ ap (λ (n : ℕ). c.args.shop.now.jobs * n) c.machines.ensures.value in
+    ap (λ (n : ℕ). n * c.machines.result) c.jobs.ensures.value
+    ∙ ap (λ (n : ℕ). c.args.shop.now.jobs * n) c.machines.ensures.value in
     let less : c.loop-turn._turn < c.args.shop.now.jobs * c.args.shop.now.machines = omega (arith, count, c.loop-turn-test.true) in
     rw add-one (elim c.match-choice.branch [
       | in-Some+in_ok-push w ↦

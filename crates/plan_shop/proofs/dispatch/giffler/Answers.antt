@@ -24,5 +24,5 @@ returns-clause-active c =
     let Q : List ℕ → Type 0 = λ xs. IsActive (problem_of c.args.shop.now) xs in
     let P : Standing → Type 0 = λ t. IsShop t.shop in
     subst Q (sym (c.in_ok-schedule.ensures.starts ∙ ap
-        (λ (t : Standing). starts_of t.shop (placed t)) c.in_ok-tree.ensures))
-        (word_by-active c.args.rule c.args.shop.now (subst P c.in_ok-tree.ensures h.small.shop))
+    (λ (t : Standing). starts_of t.shop (placed t)) c.in_ok-tree.ensures))
+    (word_by-active c.args.rule c.args.shop.now (subst P c.in_ok-tree.ensures h.small.shop))

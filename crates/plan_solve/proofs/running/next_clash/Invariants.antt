@@ -3,8 +3,8 @@ use Rattle.plan_solve.specs.Progress.{HearsNothing}
 use Rattle.plan_solve.proofs.running.next_clash.Given as goal
 
 -- the problem stays the same, and the watcher hears nothing
-abbrev pub invariant-rounds : goal.invariant-rounds
-invariant-rounds g l = record {
+abbrev pub invariant-loop : goal.invariant-loop
+invariant-loop g l = record {
   input : l.search.kernel.known.input ≡ l.fn.search.kernel.known.input;
   told : HearsNothing (g.W.Watcher.was_told l.fn.watcher) (g.W.Watcher.was_told l.watcher);
 }

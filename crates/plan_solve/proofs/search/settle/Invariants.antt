@@ -2,5 +2,5 @@ use Rattle.std.proofs.Common.{◌≡◌}
 use Rattle.plan_solve.proofs.search.settle.Given as goal
 
 -- the problem stays the same
-abbrev pub invariant-entries : goal.invariant-entries
-invariant-entries l = l.kernel.known.input ≡ l.fn.kernel.known.input
+abbrev pub invariant-loop-place : goal.invariant-loop-place
+invariant-loop-place l = l.kernel.known.input ≡ l.fn.kernel.known.input

@@ -11,13 +11,15 @@ returns-in-Some-clause-day c =
     let calendar : Workdays = record { start = c.self.inside.start; marks = c.self.inside.marks } in
     let w = c.index-weekday.ensures.value ∙ c.weekday.ensures in
     subst (λ (s : Workdays). IsWorkingDay s c.args.t c.in-Some.date) c.self.view_is
-        (working calendar c.index-weekday.result c.args.t c.nth_marked-days.result c.in-Some.date w
-        c.nth_marked-days.ensures.found c.in-Some.ensures.some)
+    (working calendar c.index-weekday.result c.args.t c.nth_marked-days.result c.in-Some.date w
+    c.nth_marked-days.ensures.found c.in-Some.ensures.some)
 
 pub returns-in-None-clause-beyond : goal.returns-in-None-clause-beyond
 returns-in-None-clause-beyond c =
     let calendar : Workdays = record { start = c.self.inside.start; marks = c.self.inside.marks } in
-    let w = c.index-weekday.ensures.value ∙ c.weekday.ensures in
-    (refl, subst (λ (s : Workdays). IsBeyond s c.args.t) c.self.view_is
-        (beyond calendar c.index-weekday.result c.args.t c.nth_marked-days.result w
-        c.nth_marked-days.ensures.found c.in-None.ensures.none))
+    let w = c.index-weekday.ensures.value ∙ c.weekday.ensures in (
+      refl,
+      subst (λ (s : Workdays). IsBeyond s c.args.t) c.self.view_is
+          (beyond calendar c.index-weekday.result c.args.t c.nth_marked-days.result w
+          c.nth_marked-days.ensures.found c.in-None.ensures.none),
+    )

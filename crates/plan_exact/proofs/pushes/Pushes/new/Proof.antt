@@ -1,4 +1,4 @@
--- A count of pushes is made at 0.
+-- A count of pushes starts at 0.
 use Rattle.std.proofs.Common.{List, [], ◌∷◌, refl}
 use Rattle.std.proofs.raw_atomic.Walks.{proved}
 use base.Fml.{ftrue}
@@ -33,7 +33,7 @@ new_spec 𝓤 𝓛 𝓜 𝓡 wired =
     sets ! (agg ! (no_more !)) refl (tt, tt) $
     returns ! (look_at ! 0 refl) $ free_all ! refl $
     suffices ! _ (ends_at 𝓛 f.ended stayed c y v made tt tt) $ says ! refl $
-    -- [nothing beside the fields; the fields, of which there are none]
+    -- [nothing besides the fields; the fields, of which there are none]
     nothing ! $ nothing ! $ feq_i ! (List Val) (v ∷ []) (v ∷ []) refl $ fjoin ! $
     fpack ! (Valss []) (within (record { name = []; args = []; types = []; fields = [] }) tt (v ∷ [])) tt $ fjoin ! $
     nothing ! $ nothing ! $ done !))

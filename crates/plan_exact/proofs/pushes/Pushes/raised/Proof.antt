@@ -1,4 +1,4 @@
--- A count of pushes is made one higher.
+-- A count of pushes is raised by 1.
 use Rattle.std.proofs.Common.{List, [], ◌+◌, ◌∷◌, refl}
 use Rattle.std.proofs.raw_atomic.Walks.{proved}
 use base.Fml.{ftrue}
@@ -40,8 +40,8 @@ raised_spec 𝓤 𝓛 𝓜 𝓡 wired =
     sets ! (agg ! (no_more !)) refl (tt, tt) $
     returns ! (look_at ! 0 refl) $ free_all ! refl $
     suffices ! _ (ends_at 𝓛 f.ended stayed c y v made (tt, tt) (tt, tt)) $ says ! refl $
-    -- [the tokens; nothing beside the fields; the fields, of which there are none]
+    -- [the tokens; nothing besides the fields; the fields, of which there are none]
     nothing ! $ nothing ! $ feq_i ! (List Val) (v ∷ []) (v ∷ []) refl $ fjoin ! $
     fpack ! (Valss []) (within (record { name = []; args = []; types = []; fields = [] }) tt (v ∷ [])) tt $ fjoin ! $
-    -- what is left of the parameters
+    -- the rest of the parameters
     nothing ! $ nothing ! $ join ! $ move ! (2 ∷ 0 ∷ 1 ∷ []) $ done !))

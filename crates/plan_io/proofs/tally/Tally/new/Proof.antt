@@ -1,4 +1,4 @@
--- No call was counted yet, and no fault.
+-- A new tally counts no call and no fault.
 use Rattle.std.proofs.Common.{[], ◌∷◌, refl}
 use Rattle.std.proofs.raw_atomic.Walks.{proved_at}
 use types.Kit.{raw, ◌⊛◌, ‵, ◌$◌, ◌∵◌, !, qed, done, move, keep, drop, split, fjoin, suffices}
@@ -25,7 +25,7 @@ new_spec 𝓤 𝓛 𝓜 𝓡 wired =
     let none : (Tally.the_row).Denot = record { calls = 0; faults = 0 } in
     proved_at 𝓛 f.ended stayed c 𝓜 𝓡 tt f.Key.name code.function (code.unfolded 𝓤 𝓛.H 𝓜 𝓡 wired) (λ y are.
     qed 𝓛 ((raw (alive 𝓛 f.ended.signature y.0.0 y.0.1) ⊛ ‵ (owns (types_at f.ended.signature.params y.0.0) y.0.3 y.0.4)) ∷ raw ((c y.0.0 y.0.3).requires y.1) ∷ []) ∵
-    -- no argument and no `requires`: the tokens alone are left
+    -- there is no argument and no `requires`, so only the tokens are left
     keep ! (0 ∷ []) $ split ! $ move ! (1 ∷ []) $ drop ! $
     enter ! _ _ _ _ _ $ alloc_all ! (λ l. pass_all ! refl tt $
     sets ! (agg ! (no_more !)) refl (tt, tt) $ nothing ! $

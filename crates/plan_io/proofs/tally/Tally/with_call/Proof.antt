@@ -35,7 +35,7 @@ with_call_spec 𝓤 𝓛 𝓜 𝓡 wired =
     let address : Val = vptr self.ref_ptr.0 self.ref_ptr.1 in
     let counted : (Tally.the_row).Denot = record { calls = self.now.calls + 1; faults = if good then self.now.faults else self.now.faults + 1 } in
     qed 𝓛 ((raw (alive 𝓛 f.ended.signature y.0.0 y.0.1) ⊛ ‵ (owns (types_at f.ended.signature.params y.0.0) y.0.3 y.0.4)) ∷ raw ((c y.0.0 y.0.3).requires y.1) ∷ []) ∵
-    -- of what the reference owns only its address is wanted
+    -- only the address is needed of the resources that the reference owns
     keep ! (0 ∷ []) $ split ! $ move ! (1 ∷ []) $ fsplit ! $ fsplit ! $ feq_l ! (λ is. drop ! $
     fsplit ! $ feq_l ! (λ truth. drop ! $
     regoal ! (λ (values : List Val). prop (WpFn 𝓤 𝓛.H 𝓣.C 𝓣.Λ code.function (values ++ (y.0.4.1.0 ++ [])) (W.post y))) is refl $

@@ -26,8 +26,8 @@ returns-in-Some-clause-some c =
     let inside : c.in-Some.place < length c.index.result.now.items = subst (λ (xs : List ℕ). c.in-Some.place < length xs) read within.1 in
     let value : c.index-in-Some.result.now ≡ get_or (row_at c.self.inside.lags.items c.in-Some.row) c.in-Some.place 0 =
     subst (λ (xs : List ℕ). c.index-in-Some.result.now ≡ get_or xs c.in-Some.place 0) (sym read)
-        (get_or_read c.index.result.now.items c.in-Some.place c.index-in-Some.result.now inside
-        c.index-in-Some.ensures 0) in (
+    (get_or_read c.index.result.now.items c.in-Some.place c.index-in-Some.result.now inside
+    c.index-in-Some.ensures 0) in (
       arc_at c.self.inside c.args.self.now c.args.i c.args.j c.in-Some.row c.in-Some.place c.self.invariant c.self.view_is at,
       value ∙ lag_at c.self.inside c.args.self.now c.args.i c.args.j c.in-Some.row c.in-Some.place c.self.invariant c.self.view_is at,
     )

@@ -14,7 +14,7 @@ use Rattle.plan_net.proofs.arcs.Arcs.of_rows.Goals as goal
 abbrev made : In_ok-lags → Inside
 made c = record { durations = c.args.durations; arcs = c.in_ok-arcs.arcs; preds = c.in_ok-preds.preds; succs = c.in_ok-succs.succs; lags = c.in_ok-lags.lags }
 
--- no lag stands beside its rows
+-- its rows have no lag
 has_no_lags : (c : In_ok-lags) → AreNoLags (made c).preds.items (made c).lags.items
 has_no_lags c = subst (λ (ps : List (Vec ℕ Global)). AreNoLags ps c.in_ok-lags.lags.items) c.deref-2.ensures.value c.in_ok-lags.ensures
 

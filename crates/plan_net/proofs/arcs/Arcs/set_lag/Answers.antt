@@ -20,8 +20,8 @@ index_mut-requires-in-Some c =
     let at = placed_in c.self.inside c.deref.result.now c.args.i c.args.j c.in-Some.row c.in-Some.place c.deref.ensures.value c.in-Some.ensures.some in
     let within = lag_within c.self.inside c.args.i c.args.j c.in-Some.row c.in-Some.place c.self.invariant at in
     let read : row_at c.self.inside.lags.items c.in-Some.row ≡ c.index_mut.result.now.items =
-        row_at-read c.self.inside.lags.items c.in-Some.row c.index_mut.result.now within.0
-        c.index_mut.ensures.value in
+    row_at-read c.self.inside.lags.items c.in-Some.row c.index_mut.result.now within.0
+    c.index_mut.ensures.value in
     let inside : c.in-Some.place < length c.index_mut.result.now.items = subst (λ (xs : List ℕ). c.in-Some.place < length xs) read within.1 in
     omega (arith, inside, c.index_mut.result.now.ok.0)
 

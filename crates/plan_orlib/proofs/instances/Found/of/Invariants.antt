@@ -4,7 +4,7 @@ use Rattle.plan_psplib.specs.Noted.{noted_or}
 use Rattle.plan_orlib.specs.Instances.{block}
 use Rattle.plan_orlib.proofs.instances.Found.of.Given as goal
 
--- what is noted, or else is found in the lines that are left, is what the text has
+-- the noted block, or else the first one among the remaining lines, is that of the text
 abbrev pub invariant-loop-line : goal.invariant-loop-line
 invariant-loop-line l = record {
   last : last_number_or l.last l.lines ≡ last_line l.text;

@@ -1,4 +1,4 @@
--- The changes that are kept are exactly those of the usage.
+-- The kept changes are exactly those of the usage.
 use Rattle.std.proofs.Common.{length, get_or}
 use Rattle.std.proofs.lemmas.List.Elements.{Contains-get_or}
 use Rattle.plan_profile.specs.InUse.{in_use, capacities}

@@ -1,4 +1,4 @@
--- Each turn keeps what is sought; a row without room is not the last.
+-- Each step keeps the invariant of the search; a row without room isn't the last.
 use Rattle.std.proofs.Common.{length, ◌≡◌, ◌+◌, ◌-◌, ◌<◌, get_or, ◌∙◌, arith}
 use Rattle.std.proofs.lemmas.List.{get_or_default}
 use Rattle.std.proofs.lemmas.Bool.{iff_false}
@@ -14,7 +14,7 @@ unfolding in_use capacities
 loop-i-init c =
     let rows = lists (length c.args.self.now.caps.items) c.args.self.now.changes.items c.args.self.now.rows.items in
     sought_first c.args.self.now.caps.items c.args.self.now.changes.items rows c.args.needs.now c.args.from
-        c.args.d c.row_in_force-first.result c.args.self.now.steps.rising c.row_in_force-first.ensures
+    c.args.d c.row_in_force-first.result c.args.self.now.steps.rising c.row_in_force-first.ensures
 
 pub overflow_sub-index : goal.overflow_sub-index
 unfolding in_use capacities
@@ -35,8 +35,8 @@ returns-then-index-at-clause-least c =
     let is = c.index.ensures in
     sought_found c.args.self.now.caps.items c.args.self.now.changes.items rows c.args.needs.now c.args.from c.args.d c.row_in_force-first.result c.loop-i.at c.loop-i.i c.loop-i.invariant
     (fits_before c.args.self.now.caps.items c.args.self.now.changes.items rows c.args.needs.now c.loop-i.at
-        c.args.d c.loop-i.i c.args.self.now.steps.rising c.loop-i.invariant.room (omega arith) (omega arith)
-        (omega arith))
+    c.args.d c.loop-i.i c.args.self.now.steps.rising c.loop-i.invariant.room (omega arith) (omega arith)
+    (omega arith))
 
 pub index-at-requires : goal.index-at-requires
 unfolding in_use capacities

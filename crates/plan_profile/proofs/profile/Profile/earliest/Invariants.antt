@@ -1,4 +1,4 @@
--- All rows in front of the index are looked at.
+-- All rows before the index were tested.
 use Rattle.std.proofs.Common.{length}
 use Rattle.plan_profile.specs.Steps.{lists}
 use Rattle.plan_profile.proofs.SeekLemmas.{IsSought}

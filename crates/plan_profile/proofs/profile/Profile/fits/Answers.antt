@@ -1,4 +1,4 @@
--- A row without room is met by the interval.
+-- The interval contains an instant of a row without room.
 use Rattle.std.proofs.Common.{length, ◌+◌, ◌-◌, ◌<◌, get_or, refl, arith}
 use Rattle.std.proofs.lemmas.List.{get_or_default}
 use Rattle.std.proofs.lemmas.Bool.{iff_false, false≢true}

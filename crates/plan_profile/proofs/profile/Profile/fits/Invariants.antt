@@ -1,4 +1,4 @@
--- The rows in front of the index have room.
+-- The rows before the index have room.
 use Rattle.std.proofs.Common.{length}
 use Rattle.plan_profile.specs.Steps.{lists}
 use Rattle.plan_profile.proofs.SeekLemmas.{HasRoomUntil}

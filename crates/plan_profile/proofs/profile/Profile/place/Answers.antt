@@ -1,4 +1,4 @@
--- What fits keeps the capacities, which fit into the machine's numbers.
+-- Needs that fit keep the capacities, which fit into 64 bits.
 use Rattle.std.proofs.Common.{length, arith}
 use Rattle.plan_profile.specs.InUse.{in_use, capacities}
 use Rattle.plan_profile.specs.Steps.{lists, amount}

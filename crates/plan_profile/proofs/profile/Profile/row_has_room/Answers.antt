@@ -9,8 +9,8 @@ unfolding in_use capacities
 row-requires c =
     let width : c.len.result ≡ length c.args.self.now.caps.items = (let e = c.len.ensures in omega arith) in
     rw (width, c.deref-2.ensures.value) (row_within
-        (length c.args.self.now.caps.items) c.args.self.now.changes.items c.args.self.now.rows.items c.args.i
-        c.args.self.now.wide (let e = c.requires.row in omega arith))
+    (length c.args.self.now.caps.items) c.args.self.now.changes.items c.args.self.now.rows.items c.args.i
+    c.args.self.now.wide (let e = c.requires.row in omega arith))
 
 pub has_room-requires-clause-row : goal.has_room-requires-clause-row
 unfolding in_use capacities

@@ -14,8 +14,8 @@ row-requires c =
     let force = c.row_in_force-i.ensures in
     let width : c.len.result ≡ length c.args.self.now.caps.items = (let e = c.len.ensures in omega arith) in
     rw (width, c.deref.ensures.value) (row_within (length c.args.self.now.caps.items)
-        c.args.self.now.changes.items c.args.self.now.rows.items c.row_in_force-i.result c.args.self.now.wide
-        (omega arith))
+    c.args.self.now.changes.items c.args.self.now.rows.items c.row_in_force-i.result c.args.self.now.wide
+    (omega arith))
 
 pub returns-clause-value : goal.returns-clause-value
 unfolding in_use capacities
@@ -30,8 +30,8 @@ returns-clause-value c =
     ∙ get_or-row_at (length c.args.self.now.caps.items) c.args.self.now.rows.items c.row_in_force-i.result (c.args.k - 1) (omega arith)
     ∙ sym (amount_there (length c.args.self.now.caps.items) c.args.self.now.changes.items c.args.self.now.rows.items c.row_in_force-i.result (c.args.k - 1) (omega arith) (omega arith))
     ∙ sym (amount_is c.args.self.now.changes.items
-        (lists (length c.args.self.now.caps.items) c.args.self.now.changes.items c.args.self.now.rows.items)
-        c.args.t (c.args.k - 1) c.row_in_force-i.result (sym force))
+    (lists (length c.args.self.now.caps.items) c.args.self.now.changes.items c.args.self.now.rows.items)
+    c.args.t (c.args.k - 1) c.row_in_force-i.result (sym force))
 
 pub returns-clause-ended : goal.returns-clause-ended
 unfolding in_use capacities

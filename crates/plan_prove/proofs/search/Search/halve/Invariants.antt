@@ -3,7 +3,7 @@ use Rattle.plan_prove.specs.Proofs.{IsSearchOf}
 use Rattle.plan_prove.specs.Progress.{HearsTruth}
 use Rattle.plan_prove.proofs.search.Search.halve.Given as goal
 
--- the schedule and the lower bound so far are a proof, and what the watcher was told is true
+-- the schedule and the lower bound so far are a proof, and the reports to the watcher are true
 abbrev pub invariant-loop-halving : goal.invariant-loop-halving
 invariant-loop-halving g l = record {
   search : IsSearchOf l.shop l.self;

@@ -2,7 +2,7 @@ use Rattle.std.proofs.Common.{◌≡◌, length}
 use Rattle.plan_psplib.specs.Lines.{trim_start}
 use Rattle.plan_psplib.proofs.text.lines.trim_start.Given as goal
 
--- what was left out goes anyway
+-- the bytes that were dropped are dropped by the definition too
 abbrev pub invariant-loop-left : goal.invariant-loop-left
 invariant-loop-left l = trim_start l.left ≡ trim_start l.fn.text
 

@@ -1,7 +1,7 @@
 use Rattle.std.proofs.Common.{◌≡◌, ℕ, ◌+◌, ◌≤◌, ◌<◌, length, get_or}
 use Rattle.plan_sgs.proofs.checks.overloads.add_needs.Given as goal
 
--- the sums in front of the index have their needs, those from it on are as they were
+-- the sums before the index include their needs; the others are unchanged
 abbrev pub invariant-loop-k : goal.invariant-loop-k
 invariant-loop-k l = record {
   wide : length l.sums.items ≡ length l.needs;

@@ -13,8 +13,8 @@ pub loop-k-init : goal.loop-k-init
 loop-k-init c =
     let i = c.args.instance.now in
     sums_none (problem_of i) c.args.starts.now c.args.t (length c.caps.result.now) c.in_ok-sums.sums.items
-        (c.in_ok-sums.ensures.items_if_clones_equal (λ y e. e))
-        (ap length c.caps.ensures ∙ sym (ap length (capacities-problem i)))
+    (c.in_ok-sums.ensures.items_if_clones_equal (λ y e. e))
+    (ap length c.caps.ensures ∙ sym (ap length (capacities-problem i)))
 
 pub add_needs-requires-clause-wide : goal.add_needs-requires-clause-wide
 add_needs-requires-clause-wide c =
@@ -29,14 +29,14 @@ loop-k-preserved c =
     let t = c.args.t in
     let k = c.loop-k.k in
     let lasts : duration p k ≡ duration_of c.network-network.result.now (k + 1) =
-        duration-problem i k (k + 1) refl ∙ sym (ap
-        (λ (net : Net). duration_of net (k + 1)) c.network-network.ensures.network) in
+    duration-problem i k (k + 1) refl ∙ sym (ap
+    (λ (net : Net). duration_of net (k + 1)) c.network-network.ensures.network) in
     elim c.if-starts-k.branch [
       | then-starts-k+then-t-starts w ↦
           subst (λ (v : Vec ℕ Global). AreSums p s t (k + 1) v.items) (sym w.sums-is)
           (sums_with p s t k c.loop-k.sums.items w.needs.result.now w.add_needs.new.sums.items
-              c.loop-k.invariant w.if-starts-k.true
-              (omega (arith, w.if-t-starts.true, w.duration.ensures.value, lasts))
+          c.loop-k.invariant w.if-starts-k.true
+          (omega (arith, w.if-t-starts.true, w.duration.ensures.value, lasts))
           (need-problem i k (k + 1) w.needs.result.now refl w.needs.ensures.row) (amounts_small w.needs.result.now w.needs.ensures.amounts.1)
           (w.add_needs.ensures.wide ∙ w.needs.ensures.amounts.0 ∙ sym (ap length (capacities-problem i)) ∙ sym c.loop-k.invariant.wide) w.add_needs.ensures.each)
       | else-starts-k w ↦

@@ -18,8 +18,8 @@ bounds-starts-j c = omega (arith, c.requires.activity.0, c.requires.activity.1, 
 pub release_of-release-requires-clause-partial : goal.release_of-release-requires-clause-partial
 release_of-release-requires-clause-partial c =
     subst (λ (xs : List (Option ℕ)). IsPartialSchedule c.args.instance.now xs 10010000)
-        (sym c.requires.placed) (whole_schedule c.args.instance.now c.args.starts.now
-        c.network-network.ensures.instance c.requires.feasible.each_started c.requires.limit)
+    (sym c.requires.placed) (whole_schedule c.args.instance.now c.args.starts.now
+    c.network-network.ensures.instance c.requires.feasible.each_started c.requires.limit)
 
 -- the release of the activity
 is_release : (c : After-release_of-release) → IsRelease (problem_of c.args.instance.now) c.args.starts.now (c.args.j - 1) c.release_of-release.result
@@ -34,10 +34,16 @@ pub returns-then-start-release : goal.returns-then-start-release
 returns-then-start-release c =
     let i = c.args.instance.now in
     let s = c.args.starts.now in
-    let release = is_release (goal.at.returns-then-start-release c).After-release_of-release in
-    (λ no. absurd (both_ways false refl no), λ has. absurd
-        (omega (arith, c.if-start-release.true, shift_after_release (problem_of i) s
-        (c.args.j - 1) c.release_of-release.result c.requires.feasible release has)))
+    let release = is_release (goal.at.returns-then-start-release c).After-release_of-release in (
+      λ no. absurd (both_ways false refl no),
+      λ has. absurd
+          (omega (
+            arith,
+            c.if-start-release.true,
+            shift_after_release (problem_of i) s
+                (c.args.j - 1) c.release_of-release.result c.requires.feasible release has,
+          )),
+    )
 
 pub earliest-requires-clause-needs : goal.earliest-requires-clause-needs
 earliest-requires-clause-needs c = c.needs-needs.ensures.amounts.0 ∙ sym (ap length (capacities-problem c.args.instance.now)) ∙ sym (ap length c.requires.holds.caps)
@@ -45,8 +51,8 @@ earliest-requires-clause-needs c = c.needs-needs.ensures.amounts.0 ∙ sym (ap l
 pub earliest-requires-clause-empty : goal.earliest-requires-clause-empty
 earliest-requires-clause-empty c =
     needs_room c.args.instance.now c.network-network.result.now c.args.j c.duration-d.result
-        (capacities c.args.profile.now) c.needs-needs.result.now c.network-network.ensures.network
-        c.requires.activity c.network-network.ensures.instance.fit
+    (capacities c.args.profile.now) c.needs-needs.result.now c.network-network.ensures.network
+    c.requires.activity c.network-network.ensures.instance.fit
     c.requires.holds.caps c.duration-d.ensures.value c.needs-needs.ensures.row
 
 pub fits-requires : goal.fits-requires
@@ -62,8 +68,7 @@ returns-then-earliest-d c =
     let early : get_or s (c.args.j - 1) 0 ≤ END = c.requires.limit (c.args.j - 1) 0 (omega (arith, inside, c.requires.feasible.each_started)) in
     let release = is_release (goal.at.returns-then-earliest-d c).After-release_of-release in
     let asked = asked_at i net s c.args.j END c.duration-d.result c.args.profile.now c.needs-needs.result.now
-        is c.requires.activity c.requires.holds early c.duration-d.ensures.value c.needs-needs.ensures.row in
-        (
+    is c.requires.activity c.requires.holds early c.duration-d.ensures.value c.needs-needs.ensures.row in (
       λ yes. shift_by_earliest (problem_of i) s (c.args.j - 1) c.release_of-release.result
           (capacities c.args.profile.now) (in_use c.args.profile.now) c.duration-d.result
           c.needs-needs.result.now c.earliest.result
@@ -81,14 +86,13 @@ returns-else-earliest-d c =
     let early : get_or s (c.args.j - 1) 0 ≤ END = c.requires.limit (c.args.j - 1) 0 (omega (arith, inside, c.requires.feasible.each_started)) in
     let release = is_release (goal.at.returns-else-earliest-d c).After-release_of-release in
     let asked = asked_at i net s c.args.j END c.duration-d.result c.args.profile.now c.needs-needs.result.now
-        is c.requires.activity c.requires.holds early c.duration-d.ensures.value c.needs-needs.ensures.row in
-        (
+    is c.requires.activity c.requires.holds early c.duration-d.ensures.value c.needs-needs.ensures.row in (
       λ fits. shift_by_last (problem_of i) s (c.args.j - 1) c.release_of-release.result (capacities c.args.profile.now) (in_use c.args.profile.now) c.duration-d.result c.needs-needs.result.now
           c.requires.feasible inside release c.if-start-release.false asked (c.fits.ensures.0 fits),
       λ has. c.fits.ensures.1
           (elim (shift_found (problem_of i) s (c.args.j - 1) c.release_of-release.result
-              (capacities c.args.profile.now) (in_use c.args.profile.now) c.duration-d.result
-              c.needs-needs.result.now c.earliest.result
+          (capacities c.args.profile.now) (in_use c.args.profile.now) c.duration-d.result
+          c.needs-needs.result.now c.earliest.result
           c.requires.feasible release asked c.earliest.ensures.least has) [
             | inl ends ↦ absurd (omega (arith, ends, c.if-earliest-d.false))
             | inr fits ↦ fits

@@ -34,7 +34,18 @@ returns c =
     record {
       feasible = c.requires.feasible;
       no_shift = λ other j inside shift feasible.
-          c.loop-k.invariant j (omega (arith, inside, c.loop-k-test.false, c.len-k-end.ensures.count, counted,
-              count-problem i)) (record { other = other; inside = inside; shift = shift; feasible =
-              feasible });
+          c.loop-k.invariant j (omega (
+            arith,
+            inside,
+            c.loop-k-test.false,
+            c.len-k-end.ensures.count,
+            counted,
+            count-problem i,
+          )) (record {
+            other = other;
+            inside = inside;
+            shift = shift;
+            feasible =
+                feasible;
+          });
     }

@@ -19,12 +19,12 @@ place-requires-clause-fits c =
     let counted = ap count_of c.network-network.ensures.network in
     let inside : k < count p = omega (arith, c.loop-k-test.true, c.len-k-end.ensures.count, counted, count-problem i) in
     let lasts : duration p k ≡ duration_of c.network-network.result.now (k + 1) =
-        duration-problem i k (k + 1) refl ∙ sym (ap
-        (λ (net : Net). duration_of net (k + 1)) c.network-network.ensures.network) in
+    duration-problem i k (k + 1) refl ∙ sym (ap
+    (λ (net : Net). duration_of net (k + 1)) c.network-network.ensures.network) in
     let early : get_or s k 0 ≤ END = c.requires.limit k 0 (omega (arith, inside, whole)) in
     next_fits END p s k c.min-d.result c.needs.result.now (capacities c.loop-k.profile)
-        (in_use c.loop-k.profile) whole inside (c.loop-k.invariant.caps ∙ sym (capacities-problem i))
-        (need-problem i k (k + 1) c.needs.result.now refl c.needs.ensures.row)
+    (in_use c.loop-k.profile) whole inside (c.loop-k.invariant.caps ∙ sym (capacities-problem i))
+    (need-problem i k (k + 1) c.needs.result.now refl c.needs.ensures.row)
     (omega (arith, c.min-d.ensures, c.duration.ensures.value, lasts)) (omega (arith, c.min-d.ensures, early)) c.requires.kept c.loop-k.invariant.used
 
 pub loop-k-preserved : goal.loop-k-preserved
@@ -34,8 +34,8 @@ loop-k-preserved c =
     let s = c.args.starts.now in
     let k = c.loop-k.k in
     let lasts : duration p k ≡ duration_of c.network-network.result.now (k + 1) =
-        duration-problem i k (k + 1) refl ∙ sym (ap
-        (λ (net : Net). duration_of net (k + 1)) c.network-network.ensures.network) in
+    duration-problem i k (k + 1) refl ∙ sym (ap
+    (λ (net : Net). duration_of net (k + 1)) c.network-network.ensures.network) in
     let cut : (c.min-d.result ≡ duration p k) ⊎ (END ≤ get_or s k 0 + c.min-d.result) = elim (cases_lt c.duration.result (END - get_or s k 0)) [
       | inl short ↦ inl (omega (arith, short, c.min-d.ensures, c.duration.ensures.value, lasts))
       | inr long ↦ inr (omega (arith, long, c.min-d.ensures))

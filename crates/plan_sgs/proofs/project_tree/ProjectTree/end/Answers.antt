@@ -6,8 +6,8 @@ use Rattle.plan_sgs.proofs.project_tree.ProjectTree.end.Goals as goal
 pub returns-in-Some-clause-value : goal.returns-in-Some-clause-value
 returns-in-Some-clause-value c =
     (last_turn c.self.inside.instance.now c.self.inside.turns.items c.deref.result.now c.args.self.now
-        c.in-Some.turn.now c.self.view_is c.self.invariant.turns_are c.deref.ensures.value
-        c.in-Some.ensures.value).latest
+    c.in-Some.turn.now c.self.view_is c.self.invariant.turns_are c.deref.ensures.value
+    c.in-Some.ensures.value).latest
 
 pub returns-in-Some-clause-limit : goal.returns-in-Some-clause-limit
 returns-in-Some-clause-limit c =
@@ -16,5 +16,5 @@ returns-in-Some-clause-limit c =
 pub returns-in-None-clause-value : goal.returns-in-None-clause-value
 returns-in-None-clause-value c =
     no_end c.self.inside.instance.now c.args.self.now
-        (no_turn c.self.inside.instance.now c.self.inside.turns.items c.deref.result.now c.args.self.now
-        c.self.view_is c.deref.ensures.value c.in-None.ensures.value)
+    (no_turn c.self.inside.instance.now c.self.inside.turns.items c.deref.result.now c.args.self.now
+    c.self.view_is c.deref.ensures.value c.in-None.ensures.value)

@@ -1,4 +1,4 @@
--- What isn't placed and waits for none is eligible.
+-- Exactly the activities that aren't placed and wait for none are eligible.
 use Rattle.std.proofs.Common.{ℕ, None, false, true, nat_eq, ◌≡◌, get_or, sym, ap, subst, ◌∙◌, arith}
 use Rattle.std.specs.Option.{is_some}
 use Rattle.std.proofs.lemmas.List.{get_or_default}
@@ -28,7 +28,7 @@ returns-then-is_none c =
     c.index-then-is_none.ensures ∙ get_or_default c.self.inside.waits.items c.args.place c.index-then-is_none.result.now 0 (omega (arith, are.size, facts.size, facts.count, c.requires)) in
     ap (λ (n : ℕ). nat_eq n 0) read
     ∙ eligible_by c.args.self.now.instance c.args.self.now.word c.self.inside.waits.items c.args.place false
-        are (omega (arith, facts.size, facts.count, c.requires)) (sym none ∙ facts.taken c.args.place)
+    are (omega (arith, facts.size, facts.count, c.requires)) (sym none ∙ facts.taken c.args.place)
 
 pub returns-else-is_none : goal.returns-else-is_none
 returns-else-is_none c =
@@ -38,4 +38,4 @@ returns-else-is_none c =
     ap is_some (get_or_default c.self.inside.placed.items c.args.place None c.index.result.now (omega (arith, facts.size, c.requires))) ∙ ap is_some (sym c.index.ensures) ∙ c.if-is_none.ensures in
     c.if-is_none.false
     ∙ eligible_by c.args.self.now.instance c.args.self.now.word c.self.inside.waits.items c.args.place true
-        are (omega (arith, facts.size, facts.count, c.requires)) (sym some ∙ facts.taken c.args.place)
+    are (omega (arith, facts.size, facts.count, c.requires)) (sym some ∙ facts.taken c.args.place)

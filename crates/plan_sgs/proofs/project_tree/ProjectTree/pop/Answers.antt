@@ -22,9 +22,13 @@ raise_each-requires-clause-activity c =
 
 pub raise_each-requires-clause-limit : goal.raise_each-requires-clause-limit
 raise_each-requires-clause-limit c k within =
-    omega (arith, waits_limit c.self.inside.instance.now
-        (word_of c.self.inside.turns.items) c.self.inside.waits.items c.self.invariant.waits_are k within, ap
-        (λ (n : Net). length n.arcs) c.network.ensures.network)
+    omega (
+      arith,
+      waits_limit c.self.inside.instance.now
+          (word_of c.self.inside.turns.items) c.self.inside.waits.items c.self.invariant.waits_are k within,
+      ap
+          (λ (n : Net). length n.arcs) c.network.ensures.network,
+    )
 
 pub invariant_of-self-2 : goal.invariant_of-self-2
 invariant_of-self-2 c = tree_pop _ _ _ _ _ c.truncate.new.self.items c.pop.new.self.items _ c.in-Some.turn _

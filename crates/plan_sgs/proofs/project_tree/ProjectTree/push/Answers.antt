@@ -1,4 +1,4 @@
--- One turn more: the letter is placed, and the turn has the greater of what was and what it adds.
+-- One more turn: the letter is placed, and the turn's values are the greater ones of the old and the new.
 use Rattle.std.proofs.Common.{ℕ, ◌≡◌, ◌+◌, ◌-◌, List, length, Option, ◌++◌, [], ◌∷◌, refl, sym, ap, subst, ◌∙◌, arith}
 use Rattle.plan_net.specs.Network.{Net, IsArc, count_of, duration_of}
 use Rattle.plan_sgs.specs.Problem.{duration}
@@ -32,7 +32,7 @@ overflow_add-start-2 c =
     let facts = tree_facts _ _ _ _ _ _ _ c.self.view_is c.self.invariant in
     let can = can_place c.args.self.now c.self.inside.placed.items c.args.activity facts c.requires in
     let tail = tail_at c.args.self.now c.self.inside.instance.now c.self.inside.tails.items c.self.view_is
-        c.self.invariant.tails_are c.args.activity c.index-tail.result.now facts can c.index-tail.ensures in
+    c.self.invariant.tails_are c.args.activity c.index-tail.result.now facts can c.index-tail.ensures in
     omega (arith, tail.1, c.in_ok-start.ensures.in_time)
 
 pub index_mut-requires : goal.index_mut-requires
@@ -56,7 +56,7 @@ invariant_of-self-2 c =
     let facts = tree_facts _ _ _ _ _ _ _ c.self.view_is c.self.invariant in
     let can = can_place c.args.self.now c.self.inside.placed.items c.args.activity facts c.requires in
     let tail = tail_at c.args.self.now c.self.inside.instance.now c.self.inside.tails.items c.self.view_is
-        c.self.invariant.tails_are c.args.activity c.index-tail.result.now facts can c.index-tail.ensures in
+    c.self.invariant.tails_are c.args.activity c.index-tail.result.now facts can c.index-tail.ensures in
     let lasts : c.duration-duration.result ≡ duration (problem_of c.args.self.now.instance) (c.args.activity - 1) =
     c.duration-duration.ensures.value ∙ ap (λ (n : Net). duration_of n c.args.activity) c.network.ensures.network
     ∙ ap (λ (v : Standing). duration_of v.instance.project.network c.args.activity) c.self.view_is ∙ duration_place c.args.self.now.instance c.args.activity can.activity in
@@ -72,8 +72,8 @@ invariant_of-self-2 c =
     let are : AreProfiles c.self.inside.instance.now (word_of c.self.inside.turns.items) c.start_of.new.profiles.items =
     subst (λ (xs : List Turn). AreProfiles c.self.inside.instance.now (word_of xs) c.start_of.new.profiles.items) c.deref-2.ensures.value c.in_ok-start.ensures.profiles in
     tree_push c.self.inside.instance.now c.self.inside.tails.items c.self.inside.least
-        c.self.inside.placed.items c.self.inside.profiles.items c.start_of.new.profiles.items
-        c.self.inside.turns.items c.push.new.self.items
+    c.self.inside.placed.items c.self.inside.profiles.items c.start_of.new.profiles.items
+    c.self.inside.turns.items c.push.new.self.items
     (record { letter = c.args.activity; end = c.max.result; reach = c.max-2.result }) c.args.activity c.in_ok-start.start c.self.inside.waits.items c.lower_each.new.waits.items c.self.invariant
     (may_inside c.self.inside.instance.now (word_of c.self.inside.turns.items) c.args.self.now c.args.activity c.self.view_is c.requires) are
     (c.in_ok-start.ensures.made ∙ ap (λ (xs : List Turn). length xs + 1) c.deref-2.ensures.value) c.in_ok-push.ensures.items refl

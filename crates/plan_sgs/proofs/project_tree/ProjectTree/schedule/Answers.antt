@@ -1,4 +1,4 @@
--- The starts of all that is placed.
+-- The starts of all placed activities.
 use Rattle.std.proofs.Common.{ℕ, List, Option, map, sym, ap, subst, ◌∙◌}
 use Rattle.plan_sgs.specs.Serial.{start_or_zero}
 use Rattle.plan_sgs.specs.Instances.{problem_of}
@@ -10,8 +10,8 @@ use Rattle.plan_sgs.proofs.project_tree.ProjectTree.schedule.Goals as goal
 pub returns-clause-starts : goal.returns-clause-starts
 returns-clause-starts c =
     c.in_ok-starts_of.ensures ∙ ap (λ (xs : List (Option ℕ)). map start_or_zero xs) c.deref.ensures.value
-        ∙ starts_are c.args.self.now c.self.inside.placed.items
-        (tree_facts _ _ _ _ _ _ _ c.self.view_is c.self.invariant)
+    ∙ starts_are c.args.self.now c.self.inside.placed.items
+    (tree_facts _ _ _ _ _ _ _ c.self.view_is c.self.invariant)
 
 pub returns-clause-ends : goal.returns-clause-ends
 returns-clause-ends c =

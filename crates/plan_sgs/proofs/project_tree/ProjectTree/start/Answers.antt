@@ -24,8 +24,8 @@ returns-clause-value c =
     let facts = tree_facts _ _ _ _ _ _ _ c.self.view_is c.self.invariant in
     let there = start_there c.args.self.now c.self.inside.placed.items c.args.j facts c.requires in
     sym (ap (λ (xs : List (Option ℕ)). get_or xs (c.args.j - 1) None) facts.placed_are)
-        ∙ get_or_default c.self.inside.placed.items (c.args.j - 1) None c.index.result.now there.1
-        ∙ sym c.index.ensures ∙ c.in-Some.is
+    ∙ get_or_default c.self.inside.placed.items (c.args.j - 1) None c.index.result.now there.1
+    ∙ sym c.index.ensures ∙ c.in-Some.is
 
 pub returns-clause-within : goal.returns-clause-within
 returns-clause-within c =

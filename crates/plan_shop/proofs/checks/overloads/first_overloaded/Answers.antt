@@ -25,8 +25,8 @@ loop-machine-preserved c = λ k below over. elim (cases_lt k c.loop-machine.mach
       let s = c.args.shop.now in
       let same : k ≡ c.loop-machine.machine = omega (arith, below, after) in
       not_over s c.args.starts.now c.args.t c.loop-machine.machine c.usage_at.result c.usage_at.ensures
-          c.if-usage_at-gt1.false (subst (λ (m : ℕ). IsOver (problem_of s) c.args.starts.now c.args.t m) same
-          over)
+      c.if-usage_at-gt1.false (subst (λ (m : ℕ). IsOver (problem_of s) c.args.starts.now c.args.t m) same
+      over)
 ]
 
 pub returns-clause-none : goal.returns-clause-none

@@ -24,6 +24,12 @@ pub returns : goal.returns
 returns c = record {
   feasible = c.requires.feasible;
   no_shift = λ other j inside shift feasible.
-      c.loop-x.invariant j (omega (arith, inside, c.loop-x-test.false, c.count-x-end.ensures.value, count_is
-          c.args.shop.now)) (record { other = other; inside = inside; shift = shift; feasible = feasible });
+      c.loop-x.invariant j (omega (
+        arith,
+        inside,
+        c.loop-x-test.false,
+        c.count-x-end.ensures.value,
+        count_is
+            c.args.shop.now,
+      )) (record { other = other; inside = inside; shift = shift; feasible = feasible });
 }

@@ -14,8 +14,8 @@ loop-job-preserved c = rw add-one (elim c.if-has_next.branch [
       let Q : Option (ℕ × ℕ) → Type 0 = λ f. IsSoFar c.args.self.now (suc c.loop-job.job) f in
       let end : w.ready.result + w.next_step.result.time ≡ next_end c.args.self.now.shop (placed c.args.self.now) c.loop-job.job = omega (arith, w.ready.ensures.value, w.next_step.ensures.time) in
       subst Q (sym w.first-is) (so_far-more c.args.self.now c.loop-job.job
-          (w.ready.result + w.next_step.result.time) c.loop-job.first w.sooner.result c.loop-job.invariant
-          (sym w.if-has_next.ensures) end w.sooner.ensures)
+      (w.ready.result + w.next_step.result.time) c.loop-job.first w.sooner.result c.loop-job.invariant
+      (sym w.if-has_next.ensures) end w.sooner.ensures)
   | else-has_next w ↦
       let Q : Option (ℕ × ℕ) → Type 0 = λ f. IsSoFar c.args.self.now (suc c.loop-job.job) f in
       subst Q (sym w.first-is) (so_far-skips c.args.self.now c.loop-job.job c.loop-job.first c.loop-job.invariant (sym w.if-has_next.ensures))

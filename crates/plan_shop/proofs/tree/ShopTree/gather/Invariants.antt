@@ -1,4 +1,4 @@
--- The end of the job so far, and what is pending up to there.
+-- The end of the job so far, and the pending steps up to there.
 use Rattle.std.proofs.Common.{◌≡◌, ◌+◌, ◌-◌, ◌*◌, ◌≤◌}
 use Rattle.plan_shop.specs.Words.{steps_done}
 use Rattle.plan_shop.specs.Trees.{placed, IsGathered}

@@ -1,4 +1,4 @@
--- What is pending of the jobs so far.
+-- The pending steps of the jobs so far.
 use Rattle.std.proofs.Common.{◌*◌}
 use Rattle.plan_shop.specs.Trees.{IsGathered}
 use Rattle.plan_shop.proofs.tree.ShopTree.gather_all.Given as goal

@@ -16,5 +16,5 @@ returns c =
     let h = held _ _ _ _ _ _ _ _ c.self.view_is c.self.invariant.kept in
     let tail = tail-read _ _ _ _ _ _ h c.next_number.result c.index-tail.result.now c.next_number.ensures.step c.index-tail.ensures in
     job_bound-next c.args.self.now c.args.job c.ready.result c.next_step.result.time c.index-tail.result.now
-        (sym c.if-not-has_next.ensures) c.ready.ensures.value c.next_step.ensures.time
-        (tail ∙ ap (tail_of c.args.self.now.shop) c.next_number.ensures.value)
+    (sym c.if-not-has_next.ensures) c.ready.ensures.value c.next_step.ensures.time
+    (tail ∙ ap (tail_of c.args.self.now.shop) c.next_number.ensures.value)

@@ -22,13 +22,13 @@ loop-job-preserved c = rw add-one (elim c.if-is_rival.branch [
       let list : c.if-is_rival.list.items ≡ c.loop-job.list.items ++ suc c.loop-job.job ∷ [] =
       ap (λ (v : Vec ℕ Global). v.items) w.list-is ∙ w.in_ok-push-2.ensures.items ∙ ap (λ (n : ℕ). c.loop-job.list.items ++ n ∷ []) (add-one c.loop-job.job) in
       rivals-yes c.args.self.now c.next_step-machine.result.machine c.in-Some-first_to_end.end c.loop-job.job
-          c.args.list.now.items c.loop-job.list.items c.if-is_rival.list.items c.loop-job.invariant
-          (sym w.if-is_rival.ensures) list
+      c.args.list.now.items c.loop-job.list.items c.if-is_rival.list.items c.loop-job.invariant
+      (sym w.if-is_rival.ensures) list
   | else-is_rival w ↦
       ap (λ (v : Vec ℕ Global). v.items) w.list-is
-          ∙ rivals-no c.args.self.now c.next_step-machine.result.machine c.in-Some-first_to_end.end
-          c.loop-job.job c.args.list.now.items c.loop-job.list.items c.loop-job.invariant
-          (sym w.if-is_rival.ensures)
+      ∙ rivals-no c.args.self.now c.next_step-machine.result.machine c.in-Some-first_to_end.end
+      c.loop-job.job c.args.list.now.items c.loop-job.list.items c.loop-job.invariant
+      (sym w.if-is_rival.ensures)
 ])
 
 pub returns : goal.returns
@@ -38,5 +38,5 @@ returns c =
     c.loop-job.invariant
     ∙ ap (λ (n : ℕ). c.args.list.now.items ++ map letter_of (those_below n (is_rival c.args.self.now c.next_step-machine.result.machine c.in-Some-first_to_end.end))) all
     ∙ ap (λ (xs : List ℕ). c.args.list.now.items ++ xs)
-        (sym (letters-rivals c.args.self.now _ c.next_step-machine.result.machine c.in_default.ensures.none
-        c.in-Some-first_to_end.ensures.some c.next_step-machine.ensures.machine))
+    (sym (letters-rivals c.args.self.now _ c.next_step-machine.result.machine c.in_default.ensures.none
+    c.in-Some-first_to_end.ensures.some c.next_step-machine.ensures.machine))

@@ -11,15 +11,15 @@ use Rattle.plan_shop.proofs.tree.ShopTree.pop.Goals as goal
 pub overflow_sub-place : goal.overflow_sub-place
 overflow_sub-place c =
     let p = popped c.self.inside.shop.now c.self.inside.tails.items c.self.inside.done.items
-        c.self.inside.ends.items c.self.inside.free.items c.self.inside.starts.items c.pop.new.self.items
-        c.self.inside.turns.items c.in-Some.turn c.in-Some.ensures.items c.self.invariant.kept in
+    c.self.inside.ends.items c.self.inside.free.items c.self.inside.starts.items c.pop.new.self.items
+    c.self.inside.turns.items c.in-Some.turn c.in-Some.ensures.items c.self.invariant.kept in
     p.first
 
 pub index-requires : goal.index-requires
 index-requires c =
     let p = popped c.self.inside.shop.now c.self.inside.tails.items c.self.inside.done.items
-        c.self.inside.ends.items c.self.inside.free.items c.self.inside.starts.items c.pop.new.self.items
-        c.self.inside.turns.items c.in-Some.turn c.in-Some.ensures.items c.self.invariant.kept in
+    c.self.inside.ends.items c.self.inside.free.items c.self.inside.starts.items c.pop.new.self.items
+    c.self.inside.turns.items c.in-Some.turn c.in-Some.ensures.items c.self.invariant.kept in
     let job = p.job in
     let size = p.kept.done_size in
     let len = c.self.inside.done.ok in
@@ -28,21 +28,21 @@ index-requires c =
 pub overflow_sub-done : goal.overflow_sub-done
 overflow_sub-done c =
     let p = popped c.self.inside.shop.now c.self.inside.tails.items c.self.inside.done.items
-        c.self.inside.ends.items c.self.inside.free.items c.self.inside.starts.items c.pop.new.self.items
-        c.self.inside.turns.items c.in-Some.turn c.in-Some.ensures.items c.self.invariant.kept in
+    c.self.inside.ends.items c.self.inside.free.items c.self.inside.starts.items c.pop.new.self.items
+    c.self.inside.turns.items c.in-Some.turn c.in-Some.ensures.items c.self.invariant.kept in
     let r = pop-read c.self.inside.shop.now c.self.inside.done.items c.self.inside.ends.items
-        c.self.inside.free.items c.self.inside.starts.items c.pop.new.self.items c.in-Some.turn p
-        c.index.result.now c.index.ensures in
+    c.self.inside.free.items c.self.inside.starts.items c.pop.new.self.items c.in-Some.turn p
+    c.index.result.now c.index.ensures in
     omega (arith, r)
 
 pub overflow_mul-place : goal.overflow_mul-place
 overflow_mul-place c =
     let p = popped c.self.inside.shop.now c.self.inside.tails.items c.self.inside.done.items
-        c.self.inside.ends.items c.self.inside.free.items c.self.inside.starts.items c.pop.new.self.items
-        c.self.inside.turns.items c.in-Some.turn c.in-Some.ensures.items c.self.invariant.kept in
+    c.self.inside.ends.items c.self.inside.free.items c.self.inside.starts.items c.pop.new.self.items
+    c.self.inside.turns.items c.in-Some.turn c.in-Some.ensures.items c.self.invariant.kept in
     let r = pop-read c.self.inside.shop.now c.self.inside.done.items c.self.inside.ends.items
-        c.self.inside.free.items c.self.inside.starts.items c.pop.new.self.items c.in-Some.turn p
-        c.index.result.now c.index.ensures in
+    c.self.inside.free.items c.self.inside.starts.items c.pop.new.self.items c.in-Some.turn p
+    c.index.result.now c.index.ensures in
     let xs : List Placed = placed_in c.self.inside.shop.now (word_of c.pop.new.self.items) in
     let j : ℕ = c.in-Some.turn.letter - 1 in
     let number : (c.in-Some.turn.letter - 1) * c.machines.result + (c.index.result.now - 1) ≡ next_step c.self.inside.shop.now xs j =
@@ -54,11 +54,11 @@ overflow_mul-place c =
 pub overflow_add-place : goal.overflow_add-place
 overflow_add-place c =
     let p = popped c.self.inside.shop.now c.self.inside.tails.items c.self.inside.done.items
-        c.self.inside.ends.items c.self.inside.free.items c.self.inside.starts.items c.pop.new.self.items
-        c.self.inside.turns.items c.in-Some.turn c.in-Some.ensures.items c.self.invariant.kept in
+    c.self.inside.ends.items c.self.inside.free.items c.self.inside.starts.items c.pop.new.self.items
+    c.self.inside.turns.items c.in-Some.turn c.in-Some.ensures.items c.self.invariant.kept in
     let r = pop-read c.self.inside.shop.now c.self.inside.done.items c.self.inside.ends.items
-        c.self.inside.free.items c.self.inside.starts.items c.pop.new.self.items c.in-Some.turn p
-        c.index.result.now c.index.ensures in
+    c.self.inside.free.items c.self.inside.starts.items c.pop.new.self.items c.in-Some.turn p
+    c.index.result.now c.index.ensures in
     let xs : List Placed = placed_in c.self.inside.shop.now (word_of c.pop.new.self.items) in
     let j : ℕ = c.in-Some.turn.letter - 1 in
     let number : (c.in-Some.turn.letter - 1) * c.machines.result + (c.index.result.now - 1) ≡ next_step c.self.inside.shop.now xs j =
@@ -70,11 +70,11 @@ overflow_add-place c =
 pub step-step-requires : goal.step-step-requires
 step-step-requires c =
     let p = popped c.self.inside.shop.now c.self.inside.tails.items c.self.inside.done.items
-        c.self.inside.ends.items c.self.inside.free.items c.self.inside.starts.items c.pop.new.self.items
-        c.self.inside.turns.items c.in-Some.turn c.in-Some.ensures.items c.self.invariant.kept in
+    c.self.inside.ends.items c.self.inside.free.items c.self.inside.starts.items c.pop.new.self.items
+    c.self.inside.turns.items c.in-Some.turn c.in-Some.ensures.items c.self.invariant.kept in
     let r = pop-read c.self.inside.shop.now c.self.inside.done.items c.self.inside.ends.items
-        c.self.inside.free.items c.self.inside.starts.items c.pop.new.self.items c.in-Some.turn p
-        c.index.result.now c.index.ensures in
+    c.self.inside.free.items c.self.inside.starts.items c.pop.new.self.items c.in-Some.turn p
+    c.index.result.now c.index.ensures in
     let xs : List Placed = placed_in c.self.inside.shop.now (word_of c.pop.new.self.items) in
     let j : ℕ = c.in-Some.turn.letter - 1 in
     let number : (c.in-Some.turn.letter - 1) * c.machines.result + (c.index.result.now - 1) ≡ next_step c.self.inside.shop.now xs j =
@@ -86,8 +86,8 @@ step-step-requires c =
 pub index_mut-requires : goal.index_mut-requires
 index_mut-requires c =
     let p = popped c.self.inside.shop.now c.self.inside.tails.items c.self.inside.done.items
-        c.self.inside.ends.items c.self.inside.free.items c.self.inside.starts.items c.pop.new.self.items
-        c.self.inside.turns.items c.in-Some.turn c.in-Some.ensures.items c.self.invariant.kept in
+    c.self.inside.ends.items c.self.inside.free.items c.self.inside.starts.items c.pop.new.self.items
+    c.self.inside.turns.items c.in-Some.turn c.in-Some.ensures.items c.self.invariant.kept in
     let job = p.job in
     let size = p.kept.done_size in
     let len = c.self.inside.done.ok in
@@ -96,8 +96,8 @@ index_mut-requires c =
 pub index_mut-requires-2 : goal.index_mut-requires-2
 index_mut-requires-2 c =
     let p = popped c.self.inside.shop.now c.self.inside.tails.items c.self.inside.done.items
-        c.self.inside.ends.items c.self.inside.free.items c.self.inside.starts.items c.pop.new.self.items
-        c.self.inside.turns.items c.in-Some.turn c.in-Some.ensures.items c.self.invariant.kept in
+    c.self.inside.ends.items c.self.inside.free.items c.self.inside.starts.items c.pop.new.self.items
+    c.self.inside.turns.items c.in-Some.turn c.in-Some.ensures.items c.self.invariant.kept in
     let job = p.job in
     let size = p.kept.ends_size in
     let len = c.self.inside.ends.ok in
@@ -106,11 +106,11 @@ index_mut-requires-2 c =
 pub index_mut-requires-3 : goal.index_mut-requires-3
 index_mut-requires-3 c =
     let p = popped c.self.inside.shop.now c.self.inside.tails.items c.self.inside.done.items
-        c.self.inside.ends.items c.self.inside.free.items c.self.inside.starts.items c.pop.new.self.items
-        c.self.inside.turns.items c.in-Some.turn c.in-Some.ensures.items c.self.invariant.kept in
+    c.self.inside.ends.items c.self.inside.free.items c.self.inside.starts.items c.pop.new.self.items
+    c.self.inside.turns.items c.in-Some.turn c.in-Some.ensures.items c.self.invariant.kept in
     let r = pop-read c.self.inside.shop.now c.self.inside.done.items c.self.inside.ends.items
-        c.self.inside.free.items c.self.inside.starts.items c.pop.new.self.items c.in-Some.turn p
-        c.index.result.now c.index.ensures in
+    c.self.inside.free.items c.self.inside.starts.items c.pop.new.self.items c.in-Some.turn p
+    c.index.result.now c.index.ensures in
     let xs : List Placed = placed_in c.self.inside.shop.now (word_of c.pop.new.self.items) in
     let j : ℕ = c.in-Some.turn.letter - 1 in
     let number : (c.in-Some.turn.letter - 1) * c.machines.result + (c.index.result.now - 1) ≡ next_step c.self.inside.shop.now xs j =
@@ -127,11 +127,11 @@ index_mut-requires-3 c =
 pub invariant_of-self-2 : goal.invariant_of-self-2
 invariant_of-self-2 c =
     let p = popped c.self.inside.shop.now c.self.inside.tails.items c.self.inside.done.items
-        c.self.inside.ends.items c.self.inside.free.items c.self.inside.starts.items c.pop.new.self.items
-        c.self.inside.turns.items c.in-Some.turn c.in-Some.ensures.items c.self.invariant.kept in
+    c.self.inside.ends.items c.self.inside.free.items c.self.inside.starts.items c.pop.new.self.items
+    c.self.inside.turns.items c.in-Some.turn c.in-Some.ensures.items c.self.invariant.kept in
     let r = pop-read c.self.inside.shop.now c.self.inside.done.items c.self.inside.ends.items
-        c.self.inside.free.items c.self.inside.starts.items c.pop.new.self.items c.in-Some.turn p
-        c.index.result.now c.index.ensures in
+    c.self.inside.free.items c.self.inside.starts.items c.pop.new.self.items c.in-Some.turn p
+    c.index.result.now c.index.ensures in
     let xs : List Placed = placed_in c.self.inside.shop.now (word_of c.pop.new.self.items) in
     let j : ℕ = c.in-Some.turn.letter - 1 in
     let number : (c.in-Some.turn.letter - 1) * c.machines.result + (c.index.result.now - 1) ≡ next_step c.self.inside.shop.now xs j =
@@ -142,8 +142,8 @@ invariant_of-self-2 c =
     let on : c.step-step.result.machine < c.self.inside.shop.now.machines =
     omega (arith, machine, c.self.invariant.kept.small.shop.on_machines (next_step c.self.inside.shop.now xs j) idle p.inside) in
     let kept = undone c.self.inside.shop.now c.self.inside.tails.items c.self.inside.done.items
-        c.self.inside.ends.items c.self.inside.free.items c.self.inside.starts.items c.pop.new.self.items
-        c.in-Some.turn c.self.inside.turns.items c.self.invariant.kept p
+    c.self.inside.ends.items c.self.inside.free.items c.self.inside.starts.items c.pop.new.self.items
+    c.in-Some.turn c.self.inside.turns.items c.self.invariant.kept p
     (c.index.result.now - 1) c.step-step.result.machine (omega (arith, r)) machine on in
     record { kept = kept; room = omega (arith, c.self.invariant.room, c.in-Some.ensures.capacity) }
 

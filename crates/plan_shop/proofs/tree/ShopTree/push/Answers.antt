@@ -39,8 +39,8 @@ invariant_of-self-2 c =
     let free = free-read _ _ _ _ _ _ h c.next_step-step.result.machine c.index-free.result.now c.next_step-step.ensures.on c.index-free.ensures in
     let turn : Turn = record { letter = c.args.job; end = c.index.result.now; free = c.index-free.result.now } in
     let facts : IsPush c.args.self.now turn (c.index_mut.result.now + 1)
-        (c.ready-start.result + c.next_step-step.result.time) c.next_step-step.result.machine
-        c.free_after.result c.next_number-i.result c.ready-start.result = record {
+    (c.ready-start.result + c.next_step-step.result.time) c.next_step-step.result.machine
+    c.free_after.result c.next_number-i.result c.ready-start.result = record {
       follows = c.requires;
       turn_end = end;
       turn_free = free;
@@ -54,8 +54,8 @@ invariant_of-self-2 c =
       inside = c.next_number-i.ensures.step;
     } in
     let kept = pushed c.self.inside.shop.now c.self.inside.tails.items c.self.inside.done.items
-        c.self.inside.ends.items c.self.inside.free.items c.self.inside.starts.items c.self.inside.turns.items
-        c.push.new.self.items turn
+    c.self.inside.ends.items c.self.inside.free.items c.self.inside.starts.items c.self.inside.turns.items
+    c.push.new.self.items turn
     (c.index_mut.result.now + 1) (c.ready-start.result + c.next_step-step.result.time) c.next_step-step.result.machine c.free_after.result c.next_number-i.result c.ready-start.result
     c.args.self.now c.self.view_is c.self.invariant.kept facts c.in_ok-push.ensures.items in
     record { kept = kept; room = omega (arith, c.self.invariant.room, c.in_ok-push.ensures.capacity) }

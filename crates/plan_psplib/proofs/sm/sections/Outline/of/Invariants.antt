@@ -4,7 +4,7 @@ use Rattle.plan_psplib.specs.Sections.{is_kept, kept_lines, section, precedence_
 use Rattle.plan_psplib.specs.Noted.{noted_or}
 use Rattle.plan_psplib.proofs.sm.sections.Outline.of.Given as goal
 
--- what is noted, or else is found in the lines that are left, is what the text has
+-- the noted sections, or else the first ones among the remaining lines, are those of the text
 abbrev pub invariant-loop-line : goal.invariant-loop-line
 invariant-loop-line l = record {
   last : last_number_or l.last l.lines ≡ last_line l.text;

@@ -1,0 +1,109 @@
+//! Shortest schedules of projects.
+
+ghost use Rattle.std.specs.Prelude.{◌≡◌, ◌≤◌, IfOk, IfErr, IfSome, IsErrOf};
+ghost use Rattle.plan_sgs.specs.Problem.{IsActive, IsShortest, makespan};
+ghost use Rattle.plan_sgs.specs.Instances.{problem_of};
+ghost use Rattle.plan_sgs.specs.Placement.{AllEndBy, latest_end};
+ghost use Rattle.plan_solve.specs.Progress.{HearsTruth};
+ghost use Rattle.plan_solve.specs.Solutions as spec;
+
+use crate::bounds::simple_bound;
+use crate::fault::SolveFault;
+use crate::orders::orders_of;
+use crate::schedules::{by_rules, tightened};
+use crate::solvable::Solvable;
+use crate::solving::{MOST_CONFLICTS, Solved, searched};
+use crate::watcher::{Unwatched, Watcher};
+use plan_kernel::Input;
+use plan_sgs::{Instance, Schedule};
+use std::alloc::{AllocError, Global};
+
+impl<'a> Solvable for Instance<'a> {
+    ghost use Rattle.plan_sgs.specs.Instances.{problem_of};
+    ghost use Rattle.plan_solve.specs.Solutions.{IsActiveSchedule};
+
+    ghost problem = { λ i. problem_of i };
+
+    ghost is_schedule = { λ i schedule. IsActiveSchedule (problem_of i) schedule };
+
+    fn input(&self, alloc: Global) -> Result<Input, AllocError> {
+        Input::of_instance(alloc, self, orders_of(alloc, self)?)
+    }
+
+    fn by_rules(&self, alloc: Global) -> Result<Schedule, AllocError> {
+        by_rules(alloc, self)
+    }
+
+    fn simple_bound(&self, alloc: Global) -> Result<u64, AllocError> {
+        simple_bound(alloc, self)
+    }
+
+    fn tightened(&self, alloc: Global, starts: &[u32]) -> Result<Option<Schedule>, AllocError> {
+        tightened(alloc, self, starts)
+    }
+}
+
+/// The shortest schedule of a project that a search with at most so many conflicts finds, and the
+/// greatest lower bound of all makespans that it proves.
+///
+/// Refused with [`SolveFault::BadConflicts`] if the number of conflicts is not from 1 to
+/// 1,000,000,000. Out of memory can replace any result.
+pub fn solve(alloc: Global, instance: &Instance, conflicts: u64) -> Result<Solved, SolveFault>
+    ensures active { IfOk result (λ solved.
+        IsActive (problem_of instance.now) solved.schedule.starts.items) }
+    ensures makespan { IfOk result (λ solved.
+        solved.schedule.makespan
+        ≡ makespan (problem_of instance.now) solved.schedule.starts.items) }
+    // No feasible schedule has a makespan below it.
+    ensures lower { IfOk result (λ solved.
+        spec.IsLowerBound (problem_of instance.now) solved.lower) }
+    ensures below { IfOk result (λ solved. solved.lower ≤ solved.schedule.makespan) }
+    ensures optimal { IfOk result (λ solved. solved.lower ≡ solved.schedule.makespan
+        → IsShortest (problem_of instance.now) solved.schedule.starts.items) }
+    ensures ends { IfOk result (λ solved.
+        AllEndBy (problem_of instance.now) solved.schedule.starts.items latest_end) }
+    ensures conflicts { IfOk result (λ solved. solved.conflicts ≤ conflicts) }
+    ensures allowed { IfOk result (λ _. spec.IsConflictLimit conflicts) }
+    ensures refused { IfErr result (spec.RefusesSolving conflicts) }
+    // What is refused takes no memory.
+    ensures early { IsErrOf result SolveFault.NoMemory → spec.IsConflictLimit conflicts }
+{
+    solve_watched(alloc, instance, conflicts, &mut Unwatched)
+}
+
+/// Does the same, reports its progress to a watcher, and stops if the watcher says that it is late.
+pub fn solve_watched<W: Watcher>(
+    alloc: Global,
+    instance: &Instance,
+    conflicts: u64,
+    watcher: &mut W,
+) -> Result<Solved, SolveFault>
+    ensures active { IfOk result (λ solved.
+        IsActive (problem_of instance.now) solved.schedule.starts.items) }
+    ensures makespan { IfOk result (λ solved.
+        solved.schedule.makespan
+        ≡ makespan (problem_of instance.now) solved.schedule.starts.items) }
+    // No feasible schedule has a makespan below it.
+    ensures lower { IfOk result (λ solved.
+        spec.IsLowerBound (problem_of instance.now) solved.lower) }
+    ensures below { IfOk result (λ solved. solved.lower ≤ solved.schedule.makespan) }
+    ensures optimal { IfOk result (λ solved. solved.lower ≡ solved.schedule.makespan
+        → IsShortest (problem_of instance.now) solved.schedule.starts.items) }
+    ensures ends { IfOk result (λ solved.
+        AllEndBy (problem_of instance.now) solved.schedule.starts.items latest_end) }
+    ensures conflicts { IfOk result (λ solved. solved.conflicts ≤ conflicts) }
+    ensures allowed { IfOk result (λ _. spec.IsConflictLimit conflicts) }
+    ensures refused { IfErr result (spec.RefusesSolving conflicts) }
+    // What is refused takes no memory.
+    ensures early { IsErrOf result SolveFault.NoMemory → spec.IsConflictLimit conflicts }
+    // All that the watcher is told is true of the project, whatever the search comes to.
+    ensures told { HearsTruth (problem_of instance.now) conflicts
+        (W.was_told watcher.old) (W.was_told watcher.new) }
+{
+    if conflicts == 0 || conflicts > MOST_CONFLICTS {
+        return Err(SolveFault::BadConflicts);
+    }
+    let searched = searched(alloc, instance, conflicts, watcher);
+    watcher.end();
+    Ok(searched?)
+}

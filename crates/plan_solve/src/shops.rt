@@ -1,0 +1,215 @@
+//! Shortest schedules of job shops.
+
+ghost use Rattle.std.specs.Prelude.{◌≡◌, ◌≤◌, All, Contains, IfOk, IfErr, IfSome, IsErrOf};
+ghost use Rattle.plan_sgs.specs.Problem.{IsActive, IsShortest, makespan};
+ghost use Rattle.plan_shop.specs.Shop.{problem_of};
+ghost use Rattle.plan_solve.specs.Solutions.{IsActiveShopSchedule};
+ghost use Rattle.plan_solve.specs.Progress.{HearsTruth};
+ghost use Rattle.plan_solve.specs.Solutions as spec;
+
+use crate::fault::SolveFault;
+use crate::lists::{at, put};
+use crate::schedules::shorter;
+use crate::solvable::Solvable;
+use crate::solving::{MOST_CONFLICTS, Solved, searched};
+use crate::watcher::{Unwatched, Watcher};
+use plan_kernel::{Input, Order};
+use plan_sgs::Schedule;
+use plan_shop::{Shop, ShopRule, ShopTree, giffler};
+use std::alloc::{AllocError, Global};
+
+// Adds an order of a step and each step of a greater number on its machine, in other jobs.
+fn add_orders(shop: &Shop, first: u32, orders: &mut Vec<Order>) -> Result<(), AllocError> {
+    let (count, machines) = (shop.jobs() * shop.machines(), shop.machines());
+    if first >= count || machines == 0 {
+        return Ok(());
+    }
+    let step = shop.step(first);
+    for second in first..count {
+        let other = shop.step(second);
+        let is_pair = second / machines != first / machines && other.machine == step.machine;
+        if is_pair && step.time > 0 && other.time > 0 {
+            orders.push(Order { first, second })?;
+        }
+    }
+    Ok(())
+}
+
+// Returns the pairs of steps of different jobs on one machine, without steps of time 0.
+fn orders_of(alloc: Global, shop: &Shop) -> Result<Vec<Order>, AllocError> {
+    let mut orders = Vec::new(alloc);
+    for first in 0..shop.jobs() * shop.machines() {
+        add_orders(shop, first, &mut orders)?;
+    }
+    Ok(orders)
+}
+
+// The greatest of the lengths of the jobs and the one-machine bounds with heads and tails.
+fn shop_bound(alloc: Global, shop: &Shop) -> Result<u64, AllocError>
+    ensures { IfOk result (spec.IsLowerBound (problem_of shop.now)) }
+{
+    // the call brings the invariant of the shop, which the proof needs
+    let _jobs = shop.jobs();
+    let tree = ShopTree::new(alloc, shop)?;
+    Ok(tree.bound())
+}
+
+// The schedule of a rule.
+fn by_rule(alloc: Global, shop: &Shop, rule: ShopRule) -> Result<Schedule, AllocError>
+    ensures { IfOk result (IsActiveShopSchedule shop.now) }
+{
+    match giffler(alloc, shop, rule) {
+        Ok(schedule) => Ok(schedule),
+        Err(_) => Err(AllocError),
+    }
+}
+
+// The shortest schedule of the rules.
+fn by_rules(alloc: Global, shop: &Shop) -> Result<Schedule, AllocError>
+    ensures { IfOk result (IsActiveShopSchedule shop.now) }
+{
+    let most_work = by_rule(alloc, shop, ShopRule::MostWorkRemaining)?;
+    let first_come = by_rule(alloc, shop, ShopRule::FirstCome)?;
+    let shortest_time = by_rule(alloc, shop, ShopRule::ShortestTime)?;
+    Ok(shorter(shorter(most_work, first_come), shortest_time))
+}
+
+// Returns the letter whose next step starts first in a list of starts.
+fn first_of(letters: &[u32], next: &[u32], starts: &[u32]) -> Option<u32>
+    ensures { IfSome result (Contains letters.now) }
+{
+    let mut best: Option<u32> = None;
+    let mut least = u32::MAX;
+    for letter in letters {
+        let start = at(starts, at(next, *letter));
+        if start < least {
+            least = start;
+            best = Some(*letter);
+        }
+    }
+    best
+}
+
+// The first step of each job, by the job's number from 1 on.
+fn first_steps(alloc: Global, shop: &Shop) -> Result<Vec<u32>, AllocError> {
+    let mut next = Vec::new(alloc);
+    next.push(0)?;
+    for job in 0..shop.jobs() {
+        next.push(job * shop.machines())?;
+    }
+    Ok(next)
+}
+
+// Builds an active schedule (Giffler and Thompson 1960). Among the steps that compete it chooses
+// the one that starts first in the given list.
+fn activated(alloc: Global, shop: &Shop, starts: &[u32]) -> Result<Option<Schedule>, AllocError>
+    ensures { IfOk result (λ found. IfSome found (IsActiveShopSchedule shop.now)) }
+{
+    let mut tree = ShopTree::new(alloc, shop)?;
+    let mut next = first_steps(alloc, shop)?;
+    let mut letters = Vec::new(alloc);
+    for _turn in 0..shop.jobs() * shop.machines() {
+        letters.clear();
+        tree.letters(&mut letters)?;
+        if let Some(letter) = first_of(&letters, &next, starts) {
+            tree.push(letter)?;
+            let following = at(&next, letter).saturating_add(1);
+            put(&mut next, letter, following);
+        }
+    }
+    if tree.full() {
+        Ok(Some(tree.schedule(alloc)?))
+    } else {
+        Ok(None)
+    }
+}
+
+impl Solvable for Shop {
+    ghost use Rattle.plan_shop.specs.Shop.{problem_of};
+    ghost use Rattle.plan_solve.specs.Solutions.{IsActiveShopSchedule};
+
+    ghost problem = { λ s. problem_of s };
+
+    ghost is_schedule = { λ s schedule. IsActiveShopSchedule s schedule };
+
+    fn input(&self, alloc: Global) -> Result<Input, AllocError> {
+        Input::of_shop(alloc, self, orders_of(alloc, self)?)
+    }
+
+    fn by_rules(&self, alloc: Global) -> Result<Schedule, AllocError> {
+        by_rules(alloc, self)
+    }
+
+    fn simple_bound(&self, alloc: Global) -> Result<u64, AllocError> {
+        shop_bound(alloc, self)
+    }
+
+    fn tightened(&self, alloc: Global, starts: &[u32]) -> Result<Option<Schedule>, AllocError> {
+        activated(alloc, self, starts)
+    }
+}
+
+/// The shortest schedule of a job shop that a search with at most so many conflicts finds, and the
+/// greatest lower bound of all makespans that it proves.
+///
+/// Refused with [`SolveFault::BadConflicts`] if the number of conflicts is not from 1 to
+/// 1,000,000,000. Out of memory can replace any result.
+pub fn solve_shop(alloc: Global, shop: &Shop, conflicts: u64) -> Result<Solved, SolveFault>
+    ensures active { IfOk result (λ solved.
+        IsActive (problem_of shop.now) solved.schedule.starts.items) }
+    ensures makespan { IfOk result (λ solved.
+        solved.schedule.makespan ≡ makespan (problem_of shop.now) solved.schedule.starts.items) }
+    // No feasible schedule has a makespan below it.
+    ensures lower { IfOk result (λ solved.
+        spec.IsLowerBound (problem_of shop.now) solved.lower) }
+    ensures below { IfOk result (λ solved. solved.lower ≤ solved.schedule.makespan) }
+    ensures optimal { IfOk result (λ solved. solved.lower ≡ solved.schedule.makespan
+        → IsShortest (problem_of shop.now) solved.schedule.starts.items) }
+    // All starts can be shown: none is after 10,000,000.
+    ensures within { IfOk result (λ solved.
+        All (λ t. t ≤ 10000000) solved.schedule.starts.items) }
+    ensures conflicts { IfOk result (λ solved. solved.conflicts ≤ conflicts) }
+    ensures allowed { IfOk result (λ _. spec.IsConflictLimit conflicts) }
+    ensures refused { IfErr result (spec.RefusesSolving conflicts) }
+    // What is refused takes no memory.
+    ensures early { IsErrOf result SolveFault.NoMemory → spec.IsConflictLimit conflicts }
+{
+    solve_shop_watched(alloc, shop, conflicts, &mut Unwatched)
+}
+
+/// Does the same, reports its progress to a watcher, and stops if the watcher says that it is late.
+pub fn solve_shop_watched<W: Watcher>(
+    alloc: Global,
+    shop: &Shop,
+    conflicts: u64,
+    watcher: &mut W,
+) -> Result<Solved, SolveFault>
+    ensures active { IfOk result (λ solved.
+        IsActive (problem_of shop.now) solved.schedule.starts.items) }
+    ensures makespan { IfOk result (λ solved.
+        solved.schedule.makespan ≡ makespan (problem_of shop.now) solved.schedule.starts.items) }
+    // No feasible schedule has a makespan below it.
+    ensures lower { IfOk result (λ solved.
+        spec.IsLowerBound (problem_of shop.now) solved.lower) }
+    ensures below { IfOk result (λ solved. solved.lower ≤ solved.schedule.makespan) }
+    ensures optimal { IfOk result (λ solved. solved.lower ≡ solved.schedule.makespan
+        → IsShortest (problem_of shop.now) solved.schedule.starts.items) }
+    // All starts can be shown: none is after 10,000,000.
+    ensures within { IfOk result (λ solved.
+        All (λ t. t ≤ 10000000) solved.schedule.starts.items) }
+    ensures conflicts { IfOk result (λ solved. solved.conflicts ≤ conflicts) }
+    ensures allowed { IfOk result (λ _. spec.IsConflictLimit conflicts) }
+    ensures refused { IfErr result (spec.RefusesSolving conflicts) }
+    // What is refused takes no memory.
+    ensures early { IsErrOf result SolveFault.NoMemory → spec.IsConflictLimit conflicts }
+    // All that the watcher is told is true of the shop, whatever the search comes to.
+    ensures told { HearsTruth (problem_of shop.now) conflicts
+        (W.was_told watcher.old) (W.was_told watcher.new) }
+{
+    if conflicts == 0 || conflicts > MOST_CONFLICTS {
+        return Err(SolveFault::BadConflicts);
+    }
+    let searched = searched(alloc, shop, conflicts, watcher);
+    watcher.end();
+    Ok(searched?)
+}
