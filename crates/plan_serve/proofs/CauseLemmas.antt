@@ -149,21 +149,13 @@ module _ {F S : Type 0} (first : start.Ghosts F) (g : Ghosts S) (looked : Result
   port_tables = of_port (IsOfTables first g looked) tt tt tt tt
 
   -- the tables were refused
-  of_refused : (cause : StoreFault) (back : Option (Leftover S)) → IsRefusedFrom first cause back g → IsOfTables first g looked (fault_of cause)
+  pub of_refused : (cause : StoreFault) (back : Option (Leftover S)) → IsRefusedFrom first cause back g → IsOfTables first g looked (fault_of cause)
   of_refused store.NotOurs None refused = absurd (refused.0 refl)
   of_refused store.NotOurs (Some left) refused = inr (left, refused)
   of_refused store.Version None refused = absurd (refused.1 refl)
   of_refused store.Version (Some left) refused = (left, refused)
   of_refused store.NoMemory back refused = tt
   of_refused store.Store back refused = tt
-
-  -- the tables were opened and something else failed, or they weren't opened
-  pub opened_tables : {B : Type 0} (Over : ServeFault → Type 0) → ((e : ServeFault) → Over e → IsOfTables first g looked e)
-      → (opened : Result B (StoreFault × Option (Leftover S))) (done : Result (Unit {0}) ServeFault) → IfErr opened (λ e. IsRefusedFrom first e.0 e.1 g)
-      → IfErr done (λ told. MatchResult opened (λ _. Over told) (λ e. told ≡ fault_of e.0)) → IfErr done (IsOfTables first g looked)
-  opened_tables Over over opened (Ok done) refused is = tt
-  opened_tables Over over (Ok book) (Err told) refused is = over told is
-  opened_tables Over over (Err (cause, back)) (Err told) refused is = subst (IsOfTables first g looked) (sym is) (of_refused cause back refused)
 
   -- the same for some answer of the system
   pub tables_at_name : (r : Result (Unit {0}) ServeFault) → IfErr r (IsOfTables first g looked) → IfErr r (IsOfTablesAtName first g)

@@ -23,15 +23,9 @@ use Rattle.plan_serve.proofs.CauseLemmas.{of_write}
 
 -- the report of an office over the tables in files
 module _ {F S : Type 0} (first : start.Ghosts F) (g : Ghosts S) (taken after : Option Text) where
-  of_taken : (which : Report) (book : Counted S) → IsTakenFrom first book.conn g → ReportsFrom (sql_shelf g) book which taken after → ReportsOnFiles first g which taken after
+  pub of_taken : (which : Report) (book : Counted S) → IsTakenFrom first book.conn g → ReportsFrom (sql_shelf g) book which taken after → ReportsOnFiles first g which taken after
   of_taken report.Rows book found done = (book, found, done)
   of_taken (report.Responses conns) book found done = (book, map vec_items conns.now, length-map conns.now vec_items, found, done)
-
-  pub reports_on_files : {E : Type 0} (which : Report) (opened : Result (Counted S) E) (done : Result (Unit {0}) ServeFault) → IfOk opened (λ b. IsTakenFrom first b.conn g)
-      → OnOk done (MatchResult opened (λ b. ReportsFrom (sql_shelf g) b which taken after) (λ _. ⊥)) → OnOk done (ReportsOnFiles first g which taken after)
-  reports_on_files which (Ok book) (Ok done) found reports = of_taken which book found reports
-  reports_on_files which (Err e) (Ok done) found reports = absurd reports
-  reports_on_files which opened (Err e) found reports = tt
 
 -- the same for an equal count
 pub replays_as_many : {F S : Type 0} (first : start.Ghosts F) (g : Ghosts S) (n m : ℕ) (taken after : Option Text) (r : Result (Unit {0}) ServeFault)
@@ -47,17 +41,15 @@ replays_not (Err e) (inl same) = subst IsWriteFault (sym same) tt
 replays_not (Err e) (inr same) = subst IsWriteFault (sym same) tt
 
 -- a fault of the store is a fault of a report
-of_store : (cause : StoreFault) → IsReportFault (fault_of cause)
+pub of_store : (cause : StoreFault) → IsReportFault (fault_of cause)
 of_store store.NotOurs = tt
 of_store store.Version = tt
 of_store store.NoMemory = tt
 of_store store.Store = tt
 
-pub opened_reports : {B E : Type 0} (opened : Result B (StoreFault × E)) (done : Result (Unit {0}) ServeFault)
-    → IfErr done (λ told. MatchResult opened (λ _. IsWriteFault told) (λ e. told ≡ fault_of e.0)) → IfErr done IsReportFault
-opened_reports opened (Ok done) is = tt
-opened_reports (Ok book) (Err told) is = of_write IsReportFault tt tt tt told is
-opened_reports (Err e) (Err told) is = subst IsReportFault (sym is) (of_store e.0)
+-- the faults over an open office are faults of a report
+pub write_reports : (e : ServeFault) → IsWriteFault e → IsReportFault e
+write_reports = of_write IsReportFault tt tt tt
 
 -- a file of requests can't be read, or memory runs out
 pub read_replays : (e : ServeFault) → (e ≡ fault.Memory) ⊎ (e ≡ fault.Input) → IsReplayFault e

@@ -5,3 +5,5 @@ pub mod ReplayFiles
 pub mod Ports
 pub mod CheckRun
 pub mod Reports
+pub mod Returned
+pub mod Places

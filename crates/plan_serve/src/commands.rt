@@ -1,25 +1,26 @@
 //! The commands on an office in any database.
 
-ghost use Rattle.std.specs.Prelude.{◌≡◌, ◌⊎◌, ◌+◌, ◌≤◌, Ok, is_some, IfOk, IfErr, IfNone, IsSome, IsErrOf, OnOk, OnErr, MatchResult};
+ghost use Rattle.std.specs.Prelude.{◌≡◌, ◌⊎◌, ◌+◌, ◌≤◌, Ok, Err, None, is_some, option_map, IfOk, IfErr, IfSome, IfNone, IsSome, IsErrOf, OnOk, OnErr, MatchResult};
 ghost use Rattle.plan_io.specs.Devices.{most_calls, HasFailed};
-ghost use Rattle.plan_serve.specs.InitRun.{HasMade, IsInitFault, IsToldThere, MakesNone};
+ghost use Rattle.plan_serve.specs.InitRun.{HasMade, HasMadeIn, IsInitFault, IsToldThere, MakesNone};
 ghost use Rattle.plan_serve.specs.Faults.{fault_of};
-ghost use Rattle.plan_serve.specs.Reports.{ReportsFrom, IsReported, IsReportedInPart, IsWriteFault, KeepsNone};
-ghost use Rattle.plan_door.specs.Ports.{IsPortFault, ServesFrom};
+ghost use Rattle.plan_serve.specs.Reports.{ReportsFrom, ReportsTo, IsReported, IsReportedInPart, IsWriteFault, KeepsNone};
+ghost use Rattle.plan_serve.specs.Returned.{IsConnOf};
+ghost use Rattle.plan_serve.specs.Places.{FailsAt, IsEnded, InitsAt, WorksAt};
+ghost use Rattle.plan_door.specs.Ports.{IsPortFault, ServesFrom, TakesTurns};
+ghost use Rattle.plan_store.specs.SqlBooks.{Counted, sql_shelf};
 
 use crate::check_office::check_office_run;
 use crate::fault::store_fault;
-use crate::init::{Place, init_run};
+use crate::init::init_run;
+use crate::place::{Opened, Place};
 use plan_desk::Book;
 use plan_door::{ServeFault, Service, replay_book, serve_book};
 use plan_io::{Sink, Source};
 use plan_rows::Listing;
-use plan_store::{Leftover, SqlBook, StoreFault};
+use plan_store::SqlBook;
 use sqlite::{Alter, Connection};
 use std::alloc::Global;
-
-/// The opened tables of an office, or the fault and the returned connection or store.
-type Opened<S> = Result<SqlBook<S>, (StoreFault, Option<Leftover<S>>)>;
 
 /// A report of an office.
 #[derive(Drop)]
@@ -30,29 +31,68 @@ pub(crate) enum Report<'a> {
     Responses(&'a [Vec<u8>]),
 }
 
-/// The result of a command, and the connection that is open after it.
-pub(crate) type Ended<S> = (Result<(), ServeFault>, Option<Connection<S>>);
+// The result of a command, and the connection that is open after it.
+type Ended<S> = (Result<(), ServeFault>, Option<Connection<S>>);
 
-/// Creates the tables of an office, whose key is the first line of a text.
-#[tactic(auto, using(crate::proofs::InitLemmas::init_faults, crate::proofs::InitLemmas::told_there))]
-pub(crate) fn init_at<R: Source, P: Place>(
-    alloc: Global,
-    reader: &mut R,
-    place: P,
-) -> Ended<P::Kept>
-    ensures made { OnOk result.0 (HasMade P.Kept.Store (P.opens place)) }
+// Creates the tables of an office, whose key is the first line of a text.
+#[tactic(auto, using(crate::proofs::InitLemmas::init_faults, crate::proofs::InitLemmas::told_there, crate::proofs::InitLemmas::has_made_in))]
+fn init_at<R: Source, P: Place>(alloc: Global, reader: &mut R, place: &mut P) -> Ended<P::Kept>
+    ensures made { OnOk result.0
+        (HasMade P.Kept.Store (λ conn. P.connects place.old place.new (Ok conn))) }
     ensures which { IfErr result.0 IsInitFault }
-    ensures tables { IfErr result.0 (IsToldThere P.Kept.Store (P.opens place)) }
-    // The connection is returned, if one was opened.
+    ensures tables { IfErr result.0
+        (IsToldThere P.Kept.Store (λ conn. P.connects place.old place.new (Ok conn))) }
+    // The connection is returned, if one was opened. It has the tables that were created.
     ensures back { OnOk result.0 (IsSome result.1) }
+    ensures tied { OnOk result.0
+        (HasMadeIn P.Kept.Store (λ conn. P.connects place.old place.new (Ok conn))
+        (R.remaining reader.old) (R.remaining reader.new) result.1) }
     ensures left { IfErr result.0 (λ e.
-        MakesNone P.Kept.Store (P.opens place) (P.refuses place)
+        MakesNone P.Kept.Store (λ conn. P.connects place.old place.new (Ok conn))
+        (λ cause. P.connects place.old place.new (Err cause)) (place.new ≡ place.old)
         (R.remaining reader.old) (R.remaining reader.new) e result.1) }
+    ensures once { P.opened place.new ≤ P.opened place.old + 1 }
+    ensures open { P.closed place.new ≡ P.closed place.old }
 {
     match init_run(alloc, reader, place) {
         Ok(book) => (Ok(()), Some(book.into_connection())),
         Err((fault, conn)) => (Err(fault), conn),
     }
+}
+
+// Closes the database of a command, and returns the result of the command.
+fn end<P: Place>(place: &mut P, ended: Ended<P::Kept>) -> Result<(), ServeFault>
+    ensures same { result ≡ ended.0 }
+    ensures ends { IsEnded P.closes place.old place.new ended.1 }
+    ensures opened { P.opened place.new ≡ P.opened place.old }
+    ensures closed { P.closed place.new ≤ P.closed place.old + 1 }
+{
+    let (done, conn) = ended;
+    if let Some(conn) = conn {
+        place.close(conn);
+    }
+    done
+}
+
+/// Creates the tables of an office, whose key is the first line of a text, in the database of a
+/// place, and closes it.
+pub(crate) fn init_in<R: Source, P: Place>(
+    alloc: Global,
+    reader: &mut R,
+    place: &mut P,
+) -> Result<(), ServeFault>
+    ensures inits { InitsAt P.closes P.Kept.Store P.connects place.old place.new
+        (R.remaining reader.old) (R.remaining reader.new) result }
+    ensures once { P.opened place.new ≤ P.opened place.old + 1 }
+    ensures closed { P.closed place.new ≤ P.closed place.old + 1 }
+    ensures made { OnOk result ((between : P)
+        × HasMade P.Kept.Store (λ conn. P.connects place.old between (Ok conn))) }
+    ensures which { IfErr result IsInitFault }
+    ensures tables { IfErr result (λ e. (between : P)
+        × IsToldThere P.Kept.Store (λ conn. P.connects place.old between (Ok conn)) e) }
+{
+    let ended = init_at(alloc, reader, place);
+    end(place, ended)
 }
 
 // The book of the opened tables, or the fault of the command.
@@ -69,7 +109,8 @@ fn book_of<S: Alter + Drop>(opened: Opened<S>) -> Result<SqlBook<S>, ServeFault>
 
 // The connection of a book.
 fn connection_of<S: Alter + Drop>(book: Option<SqlBook<S>>) -> Option<Connection<S>>
-    ensures { is_some result ≡ is_some book }
+    ensures back { is_some result ≡ is_some book }
+    ensures same { result ≡ option_map (λ book. book.conn) book }
 {
     match book {
         Some(book) => Some(book.into_connection()),
@@ -100,6 +141,10 @@ fn report_over<B: Listing + Drop, W: Sink>(
         (W.faults writer.old) (W.faults writer.new) }
     ensures which { IfErr result.0 IsWriteFault }
     ensures back { IfNone result.1 (KeepsNone report.entry result.0) }
+    // The returned book is the one after the report.
+    ensures tied { IfSome result.1
+        (λ after. ReportsTo B.shelf book after report.entry
+        (W.taken writer.old) (W.taken writer.new) result.0) }
 {
     match report {
         Report::Rows => {
@@ -110,8 +155,9 @@ fn report_over<B: Listing + Drop, W: Sink>(
     }
 }
 
-/// Writes a report of the opened office.
-pub(crate) fn report_opened<S: Alter + Drop, W: Sink>(
+// Writes a report of the opened office.
+#[tactic(auto, using(crate::proofs::PlaceLemmas::opened_conn, crate::proofs::PlaceLemmas::unopened))]
+fn report_opened<S: Alter + Drop, W: Sink>(
     alloc: Global,
     opened: Opened<S>,
     report: Report<'_>,
@@ -134,6 +180,12 @@ pub(crate) fn report_opened<S: Alter + Drop, W: Sink>(
     ensures which { IfErr result.0
         (λ told. MatchResult opened (λ _. IsWriteFault told) (λ e. told ≡ fault_of e.0)) }
     ensures back { IfOk opened (λ _. IfNone result.1 (KeepsNone report.entry result.0)) }
+    // The returned connection is that of the book after the report.
+    ensures tied { MatchResult opened
+        (λ book. IsConnOf
+        (λ after. ReportsTo (sql_shelf S.Store) book after report.entry
+        (W.taken writer.old) (W.taken writer.new) result.0) result.1)
+        (λ e. (result.1 ≡ None) × (result.0 ≡ Err (fault_of e.0))) }
 {
     let book = match book_of(opened) {
         Ok(book) => book,
@@ -143,8 +195,9 @@ pub(crate) fn report_opened<S: Alter + Drop, W: Sink>(
     (done, connection_of(book))
 }
 
-/// Serves connections on a local port, by the opened office.
-pub(crate) fn serve_opened<S: Alter + Drop>(
+// Serves connections on a local port, by the opened office.
+#[tactic(auto, using(crate::proofs::PlaceLemmas::opened_conn, crate::proofs::PlaceLemmas::unopened))]
+fn serve_opened<S: Alter + Drop>(
     rt: &HostRuntime,
     opened: Opened<S>,
     service: &Service<'_>,
@@ -155,6 +208,11 @@ pub(crate) fn serve_opened<S: Alter + Drop>(
     ensures which { IfErr result.0
         (λ told. MatchResult opened (λ _. IsPortFault told) (λ e. told ≡ fault_of e.0)) }
     ensures back { IfOk opened (λ _. IfNone result.1 (IsErrOf result.0 ServeFault.Memory)) }
+    // The returned connection is that of the book after the turns.
+    ensures tied { MatchResult opened
+        (λ book. IsConnOf
+        (λ after. TakesTurns (sql_shelf S.Store) book after service.now.count result.0) result.1)
+        (λ e. (result.1 ≡ None) × (result.0 ≡ Err (fault_of e.0))) }
 {
     let book = match book_of(opened) {
         Ok(book) => book,
@@ -162,4 +220,58 @@ pub(crate) fn serve_opened<S: Alter + Drop>(
     };
     let (done, book) = serve_book(rt, book, service);
     (done, connection_of(book))
+}
+
+/// Writes a report of the office in the database of a place, and closes it.
+pub(crate) fn report_in<P: Place, W: Sink>(
+    alloc: Global,
+    place: &mut P,
+    report: Report<'_>,
+    writer: &mut W,
+) -> Result<(), ServeFault>
+    ensures works { WorksAt P.closes P.opens
+        (λ book after. ReportsTo (sql_shelf P.Kept.Store) book after report.entry
+        (W.taken writer.old) (W.taken writer.new) result)
+        (KeepsNone report.entry result) place.old place.new result }
+    ensures once { P.opened place.new ≡ P.opened place.old + 1 }
+    ensures closed { P.closed place.new ≤ P.closed place.old + 1 }
+    ensures reports { OnOk result ((between : P) × (book : Counted P.Kept)
+        × P.opens place.old between (Ok book)
+        × ReportsFrom (sql_shelf P.Kept.Store) book report.entry
+        (W.taken writer.old) (W.taken writer.new)) }
+    ensures ok { OnOk result (IsReported report.entry (W.taken writer.old) (W.taken writer.new)) }
+    ensures part { IsErrOf result ServeFault.Output
+        → IsReportedInPart report.entry (W.taken writer.old) (W.taken writer.new) }
+    ensures writes { W.calls writer.new ≤ W.calls writer.old + most_calls }
+    ensures quiet { IfErr result (λ e. (e ≡ ServeFault.Output) ⊎ (writer.new ≡ writer.old)) }
+    ensures fine { OnOk result (W.faults writer.new ≡ W.faults writer.old) }
+    ensures output { IsErrOf result ServeFault.Output →
+        HasFailed (W.calls writer.old) (W.calls writer.new)
+        (W.faults writer.old) (W.faults writer.new) }
+    ensures which { FailsAt P.opens IsWriteFault place.old result }
+{
+    let opened = place.open_book();
+    let ended = report_opened(alloc, opened, report, writer);
+    end(place, ended)
+}
+
+/// Serves connections on a local port, by the office in the database of a place, and closes it.
+pub(crate) fn serve_in<P: Place>(
+    rt: &HostRuntime,
+    place: &mut P,
+    service: &Service<'_>,
+) -> Result<(), ServeFault>
+    ensures works { WorksAt P.closes P.opens
+        (λ book after. TakesTurns (sql_shelf P.Kept.Store) book after service.now.count result)
+        (IsErrOf result ServeFault.Memory) place.old place.new result }
+    ensures once { P.opened place.new ≡ P.opened place.old + 1 }
+    ensures closed { P.closed place.new ≤ P.closed place.old + 1 }
+    ensures served { OnOk result ((between : P) × (book : Counted P.Kept)
+        × P.opens place.old between (Ok book)
+        × ServesFrom (sql_shelf P.Kept.Store) book service.now.count) }
+    ensures which { FailsAt P.opens IsPortFault place.old result }
+{
+    let opened = place.open_book();
+    let ended = serve_opened(rt, opened, service);
+    end(place, ended)
 }

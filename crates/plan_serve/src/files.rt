@@ -1,9 +1,13 @@
 //! The commands on files, and on a port.
 
-ghost use Rattle.std.specs.Prelude.{◌≡◌, ◌⊎◌, ◌↔◌, ◌+◌, ◌≤◌, length, IfOk, IfErr, IsErrOf, OnOk};
+ghost use Rattle.std.specs.Prelude.{◌≡◌, ◌⊎◌, ◌↔◌, ◌+◌, ◌≤◌, length, IfOk, IfErr, IsErrOf, OnOk, MatchResult};
 ghost use Rattle.std.specs.IoError.{error_kind};
 ghost use Rattle.plan_io.specs.Devices.{most_calls, HasFailed};
+ghost use Rattle.sqlite_wal.specs.Reads.{AreClean};
+ghost use Rattle.sqlite.specs.Files.{IsClosed};
+ghost use Rattle.sqlite.specs.Closing.{IsCopied};
 ghost use Rattle.plan_store.specs.declared.fault.StoreFault.TheVariants.{NoMemory, Store};
+ghost use Rattle.plan_store.specs.OnDisk.{IsTakenFrom, IsRefusedFrom};
 ghost use Rattle.plan_serve.specs.Causes.{IsOfTables, IsOfTablesAtName, IsServeFault, IsThere, IsToldAnew};
 ghost use Rattle.plan_serve.specs.CheckRun.{ChecksOnFiles, IsPrinted, IsPrintedInPart};
 ghost use Rattle.plan_serve.specs.InitRun.{IsOpenedFrom, InitsOnFiles, IsInitFault, IsOfTablesThere};
@@ -13,12 +17,13 @@ ghost use Rattle.plan_serve.specs.Reports.{ReportsOnFiles, IsReported, IsReporte
 ghost use Rattle.plan_serve.specs.Ports.{ServesOnFiles};
 
 use crate::causes::{check_name, refusal};
-use crate::commands::{Ended, Report, init_at, report_opened, serve_opened};
-use crate::init::Place;
+use crate::commands::{Report, init_in, report_in, serve_in};
+use crate::place::Place;
 use plan_door::{ServeFault, Service, read_connection};
-use plan_io::{Sink, StdSource};
-use plan_store::{SqlBook, StoreFault};
-use sqlite::{Connection, Error, ErrorCode, FileFrom, FileStore, Start, Unknown};
+use plan_io::{Sink, StdSource, Tally};
+use plan_store::{Leftover, SqlBook, StoreFault};
+use sqlite::{Connection, Error, ErrorCode, FileFrom, FileStore, Files, Start, Unknown};
+use sqlite_disk::Disk;
 use sqlite_trees::store::Store;
 use std::alloc::Global;
 use std::fs::{self, Metadata};
@@ -27,41 +32,94 @@ use std::io::{self, ErrorKind};
 // The store of a database in a file.
 type Kept<F> = FileStore<FileFrom<F>>;
 
-// A database in a file, by the name of the file.
+// A database in a file, by the name of the file. It is opened once, with the start.
 #[derive(Drop)]
 struct InFile<'a, F: Start> {
     rt: &'a HostRuntime,
     path: &'a str,
-    start: F,
+    start: Option<F>,
+    opens: Tally,
+    closes: Tally,
+}
+
+// The place of a database that wasn't opened yet.
+fn in_file<'a, F: Start>(rt: &'a HostRuntime, path: &'a str, start: F) -> InFile<'a, F> {
+    InFile {
+        rt,
+        path,
+        start: Some(start),
+        opens: Tally::new(),
+        closes: Tally::new(),
+    }
+}
+
+// Closes a database, which copies its log into it. If this fails, the log stays beside the database,
+// and nothing is lost.
+fn closed<F: Start>(conn: Connection<Kept<F>>) -> Result<Files<FileFrom<F>>, (Error, Kept<F>)>
+    ensures copied { IfOk result (λ files.
+        AreClean ⟦<FileFrom<F> as Disk>⟧ files.log files.db → IsCopied conn files) }
+    ensures kept { IfErr result (λ e. IsClosed conn e.1) }
+{
+    conn.close_files()
+}
+
+// Counts one call.
+fn mark(tally: &mut Tally)
+    ensures { tally.new.calls ≡ tally.old.calls + 1 }
+{
+    let made: Result<(), StoreFault> = Ok(());
+    let _ = tally.count(made);
 }
 
 impl<'a, F: Start> Place for InFile<'a, F> {
     type Kept = Kept<F>;
 
+    ghost opened = { λ place. place.opens.calls };
+
+    ghost closed = { λ place. place.closes.calls };
+
     // Its connections are new, with the contents of the files.
-    ghost opens = { λ _ conn. IsOpenedFrom F.Start ⟦<Kept<F> as Store>⟧ conn };
+    ghost connects = { λ old new result. (new.opens.calls ≡ old.opens.calls + 1)
+        × (new.closes.calls ≡ old.closes.calls)
+        × MatchResult result (IsOpenedFrom F.Start ⟦<Kept<F> as Store>⟧)
+        (λ fault. (fault ≡ NoMemory) ⊎ (fault ≡ Store)) };
 
-    ghost refuses = { λ _ fault. (fault ≡ NoMemory) ⊎ (fault ≡ Store) };
+    // Its books have the tables in the files.
+    ghost opens = { λ old new result. (new.opens.calls ≡ old.opens.calls + 1)
+        × (new.closes.calls ≡ old.closes.calls)
+        × MatchResult result (λ book. IsTakenFrom F.Start book.conn ⟦<Kept<F> as Store>⟧)
+        (λ e. IsRefusedFrom F.Start e.0 e.1 ⟦<Kept<F> as Store>⟧) };
 
-    fn connect(self, _alloc: Global) -> Result<Connection<Kept<F>>, StoreFault> {
-        match Connection::open_from(self.rt, self.path, false, self.start) {
+    ghost closes = { λ old new _. (new.opens.calls ≡ old.opens.calls)
+        × (new.closes.calls ≡ old.closes.calls + 1) };
+
+    fn connect(&mut self, _alloc: Global) -> Result<Connection<Kept<F>>, StoreFault> {
+        mark(&mut self.opens);
+        let Some(start) = self.start.take() else {
+            return Err(StoreFault::Store);
+        };
+        match Connection::open_from(self.rt, self.path, false, start) {
             Ok(conn) => Ok(conn),
             Err((Error::SqliteFailure(ErrorCode::OutOfMemory), _)) => Err(StoreFault::NoMemory),
             Err(_) => Err(StoreFault::Store),
         }
     }
-}
 
-// Closes the database of a command, which copies its log into it, and returns the result of the
-// command. If closing fails, the log stays beside the database, and nothing is lost.
-fn close<F: Start>(ended: Ended<Kept<F>>) -> Result<(), ServeFault>
-    ensures { result ≡ ended.0 }
-{
-    let (done, conn) = ended;
-    if let Some(conn) = conn {
-        let _ = conn.close();
+    fn open_book(&mut self) -> Result<SqlBook<Kept<F>>, (StoreFault, Option<Leftover<Kept<F>>>)> {
+        mark(&mut self.opens);
+        let Some(start) = self.start.take() else {
+            return Err((StoreFault::Store, None));
+        };
+        SqlBook::open_from(self.rt, self.path, start)
     }
-    done
+
+    fn close(&mut self, conn: Connection<Kept<F>>)
+        ensures { (self.new.opens.calls ≡ self.old.opens.calls)
+            × (self.new.closes.calls ≡ self.old.closes.calls + 1) }
+    {
+        mark(&mut self.closes);
+        let _ = closed(conn);
+    }
 }
 
 // The result of a command on the files of this name. A refusal of the store is replaced by its
@@ -107,7 +165,7 @@ pub fn init_from<F: Start>(rt: &HostRuntime, path: &str, start: F) -> Result<(),
     ensures tables { IfErr result (IsOfTablesThere F.Start ⟦<Kept<F> as Store>⟧) }
 {
     let mut input = StdSource::new(rt.reader());
-    let done = close(init_at(rt.alloc(), &mut input, InFile { rt, path, start }));
+    let done = init_in(rt.alloc(), &mut input, &mut in_file(rt, path, start));
     with_cause(rt, path, done)
 }
 
@@ -174,8 +232,7 @@ fn report_at<F: Start, W: Sink>(
     if let Err(fault) = check_name(looked) {
         return Err(fault);
     }
-    let opened = SqlBook::open_from(rt, path, start);
-    let done = close(report_opened(rt.alloc(), opened, report, writer));
+    let done = report_in(rt.alloc(), &mut in_file(rt, path, start), report, writer);
     with_cause(rt, path, done)
 }
 
@@ -340,7 +397,6 @@ pub fn serve_from<F: Start>(
     if let Err(fault) = check_name(looked) {
         return Err(fault);
     }
-    let opened = SqlBook::open_from(rt, path, start);
-    let done = close(serve_opened(rt, opened, service));
+    let done = serve_in(rt, &mut in_file(rt, path, start), service);
     with_cause(rt, path, done)
 }
