@@ -1,6 +1,6 @@
 -- The text or line for the first bytes of a file is that for the whole file.
 use Rattle.std.proofs.Common.{◌≡◌, ◌⊎◌, inl, inr, ℕ, ◌+◌, ◌≤◌, ◌<◌, List, Option, Some, None, Result, Ok, Err, length, take, refl, sym, ap, ◌∙◌, subst, arith}
-use Rattle.std.specs.Prelude.{IfSome, IfErr, string_bytes}
+use Rattle.std.specs.Prelude.{IfSome, IfErr, MatchResult, IsErrAnd, string_bytes}
 use Rattle.std.specs.Io.KnownBytes.{Consumes}
 use Rattle.std.proofs.lemmas.Bool.{lt-leb, cases_lt}
 use Rattle.std.proofs.lemmas.List.{length-take, take_all}
@@ -45,6 +45,13 @@ refuses_as IsLine IsOther cli.Output same r = absurd r
 pub if_err_weaker : {T E : Type 0} (r : Result T E) (P Q : E → Type 0) → ((e : E) → P e → Q e) → IfErr r P → IfErr r Q
 if_err_weaker (Ok x) P Q implies p = tt
 if_err_weaker (Err e) P Q implies p = implies e p
+
+-- the two outcomes of a result whose error is mapped
+pub mapped : {X E D : Type 0} (r : Result X E) (q : Result X D) (Post : E → D → Type 0) (P : Result X D → Type 0) → MatchResult r (λ x. q ≡ Ok x) (λ e. IsErrAnd q (Post e))
+    → ((x : X) → r ≡ Ok x → P (Ok x)) → ((e : E) (d : D) → r ≡ Err e → Post e d → P (Err d)) → P q
+mapped (Ok x) q Post P same ok err = subst P (sym same) (ok x refl)
+mapped (Err e) (Err d) Post P post ok err = err e d refl post
+mapped (Err e) (Ok x) Post P post ok err = absurd post
 
 -- the reported error is the first of the file
 pub told_refuses : (file : List ℕ) (first : FileFault) (e : CliFault)

@@ -98,8 +98,5 @@ pub(crate) fn read_starts(alloc: Global, count: usize, text: &[u8]) -> Result<Ve
         MatchResult result (λ read. read.items ≡ starts) (λ e. e ≡ Memory) }
     ensures refused { IfErr result (Refuses (spec.TellsNoStarts count text.now)) }
 {
-    match read_all(alloc, count, text) {
-        Ok(starts) => Ok(starts),
-        Err(error) => Err(starts_refusal(alloc, &FileFault::of(alloc, error))),
-    }
+    read_all(alloc, count, text).map_err(|error| starts_refusal(alloc, &FileFault::of(alloc, error)))
 }

@@ -82,13 +82,10 @@ fn serve_by<B: Book>(
     ensures ok { OnOk result (ServesFrom B.shelf office.old service.now.count) }
     ensures which { IfErr result IsPortFault }
 {
-    match TcpListener::bind(rt, (Ipv4Addr::LOCALHOST, service.port)) {
-        Ok(listener) => {
-            announce(rt, service);
-            serve_listener(rt, office, &listener, service)
-        }
-        Err(error) => Err(port_fault(error.kind())),
-    }
+    let listener = TcpListener::bind(rt, (Ipv4Addr::LOCALHOST, service.port))
+        .map_err(|error| port_fault(error.kind()))?;
+    announce(rt, service);
+    serve_listener(rt, office, &listener, service)
 }
 
 /// Serves connections on a local port by an office over a book, and returns the book, unless memory

@@ -60,14 +60,8 @@ pub fn init_run<R: Source, P: Place>(
     ensures input { IfErr result
         (λ e. e.0 ≡ ServeFault.Input → R.faults reader.new ≡ R.faults reader.old + 1) }
 {
-    let digest = match read_key(alloc, reader) {
-        Ok(digest) => digest,
-        Err(fault) => return Err((fault, None)),
-    };
-    let conn = match place.connect(alloc) {
-        Ok(conn) => conn,
-        Err(fault) => return Err((store_fault(fault), None)),
-    };
+    let digest = read_key(alloc, reader).map_err(|fault| (fault, None))?;
+    let conn = place.connect(alloc).map_err(|fault| (store_fault(fault), None))?;
     match SqlBook::create_in(alloc, conn, &digest) {
         Ok(book) => Ok(book),
         Err((fault, conn)) => Err((init_fault(fault, &conn), Some(conn))),
