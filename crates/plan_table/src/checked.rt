@@ -9,7 +9,7 @@ ghost use Rattle.plan_table.specs.Limits.{IsWithinLimits, most_rows};
 ghost use Rattle.plan_table.specs.Table.{table_of};
 
 use crate::jobs::{Job, capacities, jobs};
-use crate::table::{Activity, Resource, Table};
+use crate::table::{Activity, Resource};
 use plan_net::{NetFault, Network};
 use std::alloc::{AllocError, Global};
 
@@ -64,28 +64,4 @@ pub fn check(alloc: Global, activities: &[Activity], resources: &[Resource]) -> 
     let rows = rows(alloc, &jobs)?;
     Network::of_rows(alloc, durations, &rows)?;
     Ok(())
-}
-
-impl Table {
-    /// The table of these activities and resources.
-    ///
-    /// The limits are the caller's, so it is refused with [`NetFault::Cycle`] alone, which names
-    /// the activities by their numbers, or with [`NetFault::NoMemory`] in place of any answer.
-    pub fn new(
-        alloc: Global,
-        activities: Vec<Activity>,
-        resources: Vec<Resource>,
-    ) -> Result<Table, NetFault>
-        requires { IsWithinLimits (table_of activities.items resources.items) }
-        ensures ok { IfOk result (λ t. t ≡ table_of activities.items resources.items) }
-        ensures refused { IfErr result (IsFirstFault
-            (network_of (table_jobs (table_of activities.items resources.items)))) }
-        ensures only { IfErr result IsCycleOrMemory }
-    {
-        check(alloc, &activities, &resources)?;
-        Ok(Table {
-            activities,
-            resources,
-        })
-    }
 }
