@@ -61,13 +61,6 @@ shop_days_shown name start marks s shop m c text made is same shown = record {
   shown = (c, is, subst (λ (t : JobShop). IsShopCalendarTable c t m.starts.items text) same shown);
 }
 
-pub no_shop_calendar : (name start marks : List ℕ) (s : JobShop) (m : Schedule) (e : CliFault)
-    → IsMadeOfShop name s m
-    → Refuses (TellsNoCalendar start marks) e → Refuses (TellsNoShopDays name start marks s) e
-no_shop_calendar name start marks s m e made t =
-    refuses_as (TellsNoCalendar start marks) (TellsNoShopDays name start marks s) e
-    (λ line tells. inr (record { starts = m.starts.items; schedule = made_shop_starts name s m made; hidden = inl tells })) t
-
 pub shop_days_beyond : (name start marks : List ℕ) (s shop : JobShop) (m : Schedule) (c : Workdays)
     (e : CliFault)
     → IsMadeOfShop name s m → IsCalendar start marks c

@@ -1,5 +1,5 @@
 -- Reading the file with a name reads the bytes that the name stands for.
-use Rattle.std.proofs.Common.{◌≡◌, ◌⊎◌, inl, inr, Bool, true, false, ℕ, ◌+◌, List, Option, Some, None, Result, Ok, Err, take, refl, sym, subst, Vec}
+use Rattle.std.proofs.Common.{◌≡◌, ◌⊎◌, inl, inr, true, false, ℕ, ◌+◌, List, Option, Some, None, Result, Ok, Err, take, sym, subst, Vec}
 use Rattle.std.specs.Prelude.{IfSome, IfOk, bytes_eq, codes}
 use Rattle.std.specs.Global.{Global}
 use Rattle.plan_psplib.specs.Plain.{longest_text}
@@ -19,14 +19,6 @@ named_standard standard file_of name is = rw is
 pub named_file : (standard : Option (List ℕ)) (file_of : List ℕ → Option (List ℕ)) (name : List ℕ)
     → bytes_eq name (codes "-") ≡ false → bytes_named standard file_of name ≡ file_of name
 named_file standard file_of name is = rw is
-
--- if no bytes are known, those of a name are unknown
-pub named_unknown : (name : List ℕ) → bytes_named None (λ _. None) name ≡ None
-named_unknown name = by_test (bytes_eq name (codes "-")) refl
-  where
-    by_test : (b : Bool) → bytes_eq name (codes "-") ≡ b → bytes_named None (λ _. None) name ≡ None
-    by_test true is = named_standard None (λ _. None) name is
-    by_test false is = named_file None (λ _. None) name is
 
 -- the bytes that were read from a source are the first of the bytes that it had
 pub read_known : {E : Type 0} (known remaining : Option (List ℕ)) (r : Result (Vec ℕ Global) E)

@@ -1,6 +1,6 @@
 -- The text or line for the first bytes of a file is that for the whole file.
 use Rattle.std.proofs.Common.{◌≡◌, ◌⊎◌, inl, inr, ℕ, ◌+◌, ◌≤◌, ◌<◌, List, Option, Some, None, Result, Ok, Err, length, take, refl, sym, ap, ◌∙◌, subst, arith}
-use Rattle.std.specs.Prelude.{IfSome, IfErr, string_bytes}
+use Rattle.std.specs.Prelude.{IfSome, IfOk, IfErr, string_bytes}
 use Rattle.std.specs.Io.KnownBytes.{Consumes}
 use Rattle.std.proofs.lemmas.Bool.{lt-leb, cases_lt}
 use Rattle.std.proofs.lemmas.List.{length-take, take_all}
@@ -46,6 +46,10 @@ refuses_as IsLine IsOther cli.Output same r = absurd r
 pub if_err_weaker : {T E : Type 0} (r : Result T E) (P Q : E → Type 0) → ((e : E) → P e → Q e) → IfErr r P → IfErr r Q
 if_err_weaker (Ok x) P Q implies p = tt
 if_err_weaker (Err e) P Q implies p = implies e p
+
+-- a fact on the value of a result that is fine
+pub if_was_ok : {T E : Type 0} (r : Result T E) (x : T) (P : T → Type 0) → r ≡ Ok x → IfOk r P → P x
+if_was_ok r x P was holds = subst (λ q. IfOk q P) was holds
 
 -- the reported error is the first of the file
 pub told_refuses : (file : List ℕ) (first : FileFault) (e : CliFault)

@@ -121,14 +121,6 @@ starts_read count text starts says =
 pub starts_once : (count : ℕ) (text a b : List ℕ) → SaysStarts count text a → SaysStarts count text b → a ≡ b
 starts_once count text a b says also = same_ok a b (sym (starts_read count text a says) ∙ starts_read count text b also)
 
--- a text that spells starts fails no check
-pub starts_apart : (count : ℕ) (text starts line : List ℕ) → SaysStarts count text starts
-    → TellsNoStarts count text line → ⊥
-starts_apart count text starts line says (first, (failing, none), is) = not_both starts _ (sym (starts_read count text starts says) ∙ failing)
-  where
-    not_both : (xs : List ℕ) (f : Fault) → Path (Result (List ℕ) Fault) (Ok xs) (Err f) → ⊥
-    not_both xs f e = absurd (cc)
-
 -- if memory ran out, that is the reported error
 only_memory : (first : FileFault) (e : CliFault) → first.code ≡ code.Memory → Refuses (TellsStarts first) e
     → e ≡ cli.Memory

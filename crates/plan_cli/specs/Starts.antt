@@ -4,6 +4,8 @@ use Rattle.std.specs.Prelude.{length, codes}
 use Rattle.plan_psplib.specs.declared.text.fault.Fault.{Fault}
 use Rattle.plan_psplib.specs.declared.text.fault.FileCode.TheVariants as code
 use Rattle.plan_psplib.specs.declared.text.fault.FileFault.{FileFault}
+use Rattle.plan_psplib.specs.declared.text.fault.ReadError.{ReadError}
+use Rattle.plan_psplib.specs.Faults.{TellsError}
 use Rattle.plan_psplib.specs.Plain.{plain}
 use Rattle.plan_psplib.specs.Lines.{lines}
 use Rattle.plan_psplib.specs.Streams.{Stream, words_of}
@@ -12,6 +14,8 @@ use Rattle.plan_psplib.specs.Tokens.{◌>>=◌, within_at, end_at}
 use Rattle.plan_orlib.specs.ShopText.{FailsWith}
 use Rattle.plan_gantt.specs.Limits.{latest_start}
 use Rattle.plan_gantt.specs.FaultText.{file_fault_text_of}
+use Rattle.plan_cli.specs.declared.fault.CliFault.{CliFault}
+use Rattle.plan_cli.specs.Run.{Refuses}
 
 -- a text spells `count` starts: its tokens are these numbers, none of them after the latest start
 pub record SaysStarts (count : ℕ) (text starts : List ℕ) : Type 0 where
@@ -46,6 +50,12 @@ starts_fault_text_of first = file_fault_text_of first ++ codes " of the starts"
 -- a line gives the error of a text of starts, which isn't that of memory
 abbrev pub TellsStarts : FileFault → List ℕ → Type 0
 TellsStarts first line = (first.code ≡ code.Memory → ⊥) × (line ≡ starts_fault_text_of first)
+
+-- the error of a text of starts that can't be read
+pub record IsStartsError (error : ReadError) (e : CliFault) : Type 0 where
+  pub first : FileFault
+  pub read : TellsError error first
+  pub told : Refuses (TellsStarts first) e
 
 -- a line gives the first check that a text of `count` starts fails
 abbrev pub TellsNoStarts : ℕ → List ℕ → List ℕ → Type 0

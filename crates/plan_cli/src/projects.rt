@@ -19,10 +19,7 @@ pub(crate) fn read_project(alloc: Global, file: &[u8]) -> Result<ProjectDoc, Cli
     ensures said { IfOk result (SaysProject file.now) }
     ensures refused { IfErr result (Refuses (TellsFirstFailing file.now)) }
 {
-    match read_sm(alloc, file) {
-        Ok(project) => Ok(project),
-        Err(fault) => Err(file_refusal(alloc, &fault)),
-    }
+    read_sm(alloc, file).map_err(|fault| file_refusal(alloc, &fault))
 }
 
 /// Returns the instance of a project with the capacities of its file.
@@ -38,10 +35,7 @@ fn schedule_by_rule(alloc: Global, instance: &Instance, rule: Rule) -> Result<Sc
     ensures made { IfOk result (IsMadeBy rule instance.now) }
     ensures refused { IfErr result (λ e. e ≡ CliFault.Memory) }
 {
-    match serial(alloc, instance, rule) {
-        Ok(schedule) => Ok(schedule),
-        Err(_) => Err(CliFault::Memory),
-    }
+    serial(alloc, instance, rule).map_err(|_| CliFault::Memory)
 }
 
 /// Returns the schedule of a project by the rule with this name, with the capacities of its file.

@@ -20,10 +20,7 @@ pub(crate) fn read_instance(alloc: Global, instance: &str, file: &[u8]) -> Resul
     ensures said { IfOk result (Says instance.now file.now) }
     ensures refused { IfErr result (Refuses (TellsFirstShopFault instance.now file.now)) }
 {
-    match read_shop(alloc, file, instance.as_bytes()) {
-        Ok(doc) => Ok(doc),
-        Err(fault) => Err(file_refusal(alloc, &fault)),
-    }
+    read_shop(alloc, file, instance.as_bytes()).map_err(|fault| file_refusal(alloc, &fault))
 }
 
 /// Returns the job shop of a file with all machines open, so that no closed machine refuses it.
@@ -46,10 +43,7 @@ fn shop_schedule_by_rule(alloc: Global, shop: &Shop, rule: ShopRule) -> Result<S
 {
     // The proof needs the shop's invariant, which this call states.
     let _machines = shop.machines();
-    match giffler(alloc, shop, rule) {
-        Ok(schedule) => Ok(schedule),
-        Err(_) => Err(CliFault::Memory),
-    }
+    giffler(alloc, shop, rule).map_err(|_| CliFault::Memory)
 }
 
 /// Returns the job shop of a file with all machines open, and its schedule by the rule with this

@@ -27,10 +27,8 @@ fn solved_shop_text(alloc: Global, budget: u64, shop: &Shop) -> Result<String, C
     ensures made { IfText result (IsBestBy budget shop.now) }
     ensures refused { IfErr result (Refuses (TellsSolvingRefusal budget shop.now)) }
 {
-    match solve_shop(alloc, shop, budget) {
-        Ok(solved) => Ok(best_text(alloc, shop, &solved)?),
-        Err(fault) => Err(exact_refusal(alloc, &fault)),
-    }
+    let solved = solve_shop(alloc, shop, budget).map_err(|fault| exact_refusal(alloc, &fault))?;
+    Ok(best_text(alloc, shop, &solved)?)
 }
 
 // Returns the text of the best schedule of a file's job shop. An argument that isn't a budget is
@@ -63,10 +61,10 @@ fn solved_text(alloc: Global, budget: u64, instance: &Instance) -> Result<String
     ensures made { IfText result (IsBestProjectBy budget instance.now) }
     ensures refused { IfErr result (Refuses (projects.TellsSearchRefusal budget instance.now)) }
 {
-    match solve_project(alloc, instance, budget) {
-        Ok(solved) => Ok(best_project_text(alloc, instance, &solved)?),
-        Err(fault) => Err(exact_refusal(alloc, &fault)),
-    }
+    let solved = solve_project(alloc, instance, budget).map_err(|fault| exact_refusal(
+        alloc, &fault,
+    ))?;
+    Ok(best_project_text(alloc, instance, &solved)?)
 }
 
 // Returns the same within the budget that an argument spells. An argument that isn't a budget is

@@ -90,6 +90,13 @@ fn starts_fault_text(alloc: Global, fault: &FileFault) -> Result<String, AllocEr
     Ok(text)
 }
 
+// Returns the error of a text of starts that can't be read.
+fn read_refusal(alloc: Global, error: ReadError) -> CliFault
+    ensures told { spec.IsStartsError error result }
+{
+    starts_refusal(alloc, &FileFault::of(alloc, error))
+}
+
 /// Reads the starts in a text, one for each of `count` activities.
 pub(crate) fn read_starts(alloc: Global, count: usize, text: &[u8]) -> Result<Vec<u64>, CliFault>
     ensures said { IfOk result (λ starts. spec.SaysStarts count text.now starts.items) }
@@ -98,8 +105,5 @@ pub(crate) fn read_starts(alloc: Global, count: usize, text: &[u8]) -> Result<Ve
         MatchResult result (λ read. read.items ≡ starts) (λ e. e ≡ Memory) }
     ensures refused { IfErr result (Refuses (spec.TellsNoStarts count text.now)) }
 {
-    match read_all(alloc, count, text) {
-        Ok(starts) => Ok(starts),
-        Err(error) => Err(starts_refusal(alloc, &FileFault::of(alloc, error))),
-    }
+    read_all(alloc, count, text).map_err(|error| read_refusal(alloc, error))
 }

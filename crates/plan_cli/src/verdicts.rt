@@ -58,10 +58,8 @@ fn instance_text(alloc: Global, listed: &[u8], instance: &Instance) -> Result<St
     ensures refused { IfErr result (Refuses (spec.TellsBadStarts listed.now instance.now)) }
 {
     let starts = read_starts(alloc, instance.network().len(), listed)?;
-    match check(alloc, instance, &starts) {
-        Ok(verdict) => Ok(verdict_text(alloc, verdict)?),
-        Err(_) => Err(CliFault::Memory),
-    }
+    let verdict = check(alloc, instance, &starts).map_err(|_| CliFault::Memory)?;
+    Ok(verdict_text(alloc, verdict)?)
 }
 
 // Returns the verdict on the starts in a text, for a project.

@@ -1,5 +1,19 @@
+use Rattle.std.proofs.Common.{rules, ◌⊎◌, IfErr}
+use Rattle.plan_psplib.specs.Faults.{IsWantOfMemory}
+use Rattle.plan_psplib.specs.Project.{IsFirstFailing}
+use Rattle.plan_gantt.specs.FirstFaults.{TellsFirstFailing}
+use Rattle.plan_cli.specs.Run.{Refuses, Tells}
+use Rattle.plan_orlib.proofs.NameLemmas.{mapped}
 use Rattle.plan_cli.proofs.RunLemmas.{told_refuses}
 use Rattle.plan_cli.proofs.projects.read_project.Goals as goal
 
-pub returns-in-Err-clause-refused : goal.returns-in-Err-clause-refused
-returns-in-Err-clause-refused c = told_refuses c.args.file.now c.in-Err.fault c.file_refusal.result c.in-Err.ensures.refused c.file_refusal.ensures
+pub returns-clause-refused : goal.returns-clause-refused
+returns-clause-refused c =
+    let file = c.args.file.now in
+    let refused = c.read_sm.ensures.refused in
+    mapped c.read_sm.result c.map_err.result _ (λ told. IfErr told (Refuses (TellsFirstFailing file)))
+    c.map_err.ensures.cases (λ project is. tt)
+    (λ fault e is learnt.
+    let failing : IsWantOfMemory fault ⊎ IsFirstFailing file fault = search rules in
+    let tells : Refuses (Tells fault) e = search rules in
+    told_refuses file fault e failing tells)
