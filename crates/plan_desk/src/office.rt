@@ -41,10 +41,8 @@ fn answer<B: Book>(
         (λ fault. Handled B.shelf book.old book.new (request_in request.now) (want_of fault)) }
 {
     let decision = judge(book, alloc, memo, request)?;
-    match carry_out(book, request.call.path(), decision.change) {
-        Ok(()) => Ok(decision.reply),
-        Err(fault) => Err(fault),
-    }
+    carry_out(book, request.call.path(), decision.change)?;
+    Ok(decision.reply)
 }
 
 impl<B: Book> Office<B> {
@@ -52,10 +50,10 @@ impl<B: Book> Office<B> {
     pub fn new(alloc: Global, book: B) -> Result<Office<B>, B>
         ensures { MatchResult result (λ office. office ≡ book) (λ back. back ≡ book) }
     {
-        match Memo::new(alloc) {
-            Ok(memo) => Ok(Office { alloc, book, memo }),
-            Err(_) => Err(book),
-        }
+        let Ok(memo) = Memo::new(alloc) else {
+            return Err(book);
+        };
+        Ok(Office { alloc, book, memo })
     }
 
     /// Returns the book of the office.

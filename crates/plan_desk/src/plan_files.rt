@@ -34,10 +34,7 @@ pub(crate) fn read_project_file(alloc: Global, body: &[u8]) -> Result<ProjectDoc
     ensures blamed { IfErr result (λ fault. fault ≡ Store →
         (p : files.Project) → files.SaysProject body.now p → ⊥) }
 {
-    match read_sm(alloc, body) {
-        Ok(project) => Ok(project),
-        Err(fault) => Err(book_fault(fault)),
-    }
+    read_sm(alloc, body).map_err(book_fault)
 }
 
 // Reads the shop in the body of a plan, by the name of its instance.
@@ -47,10 +44,7 @@ pub(crate) fn read_shop_file(alloc: Global, name: &str, body: &[u8]) -> Result<S
     ensures blamed { IfErr result (λ fault. fault ≡ Store →
         (shop : docs.Shop) → Says name.now body.now shop → ⊥) }
 {
-    match read_shop(alloc, body, name.as_bytes()) {
-        Ok(shop) => Ok(shop),
-        Err(fault) => Err(book_fault(fault)),
-    }
+    read_shop(alloc, body, name.as_bytes()).map_err(book_fault)
 }
 
 // Sets the lags of the arcs of a project.

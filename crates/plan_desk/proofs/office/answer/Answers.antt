@@ -1,4 +1,5 @@
 use Rattle.std.proofs.Common.{sym, subst, Ok}
+use Rattle.std.proofs.lemmas.Result.{err_from_is_err_and}
 use Rattle.plan_desk.specs.BookSteps.{CarriesOut, Allows, change_in, owner_of}
 use Rattle.plan_desk.specs.Requests.{call_in, request_in, path_of}
 use Rattle.plan_desk.proofs.HandledLemmas.{judged_allows, handled_fully, wanted_at_once, wanted_on}
@@ -17,14 +18,15 @@ pub returns-in_err-decision : goal.returns-in_err-decision
 returns-in_err-decision g c =
     wanted_at_once g.B.Book.shelf (request_in c.args.request.now) _ _ c.args.book.now c.judge.new.book _ _ c.in_err-decision.ensures.found c.from_residual.ensures
 
-pub returns-in-Err : goal.returns-in-Err
-returns-in-Err g c =
-    wanted_on g.B.Book.shelf (request_in c.args.request.now) (Unit {0}) _ _ c.args.book.now c.judge.new.book c.carry_out.new.book c.in_ok-decision.decision _ c.path.ensures
-    c.in_ok-decision.ensures.found c.in_ok-decision.ensures.stands c.in-Err.ensures
+pub returns-in_err-carry_out : goal.returns-in_err-carry_out
+returns-in_err-carry_out g c =
+    let error = err_from_is_err_and c.from_residual-in_err-carry_out.result c.from_residual-in_err-carry_out.ensures.1 in
+    rw (error.1, error.2) (wanted_on g.B.Book.shelf (request_in c.args.request.now) (Unit {0}) _ _ c.args.book.now c.judge.new.book c.carry_out.new.book c.in_ok-decision.decision
+    c.in_err-carry_out.field-0.0 c.path.ensures c.in_ok-decision.ensures.found c.in_ok-decision.ensures.stands c.in_err-carry_out.ensures)
 
-pub returns-in-Ok : goal.returns-in-Ok
-returns-in-Ok g c =
+pub returns : goal.returns
+returns g c =
     let d = c.in_ok-decision.decision in
     handled_fully g.B.Book.shelf (request_in c.args.request.now) (path_of (call_in c.args.request.now.call)) c.args.book.now c.judge.new.book c.carry_out.new.book d _
     c.in_ok-decision.ensures.found c.in_ok-decision.ensures.stands
-    (subst (λ path. CarriesOut g.B.Book.shelf c.judge.new.book c.carry_out.new.book {X = Unit {0}} (owner_of path d.change) (change_in d.change) (Ok _)) c.path.ensures c.in-Ok.ensures)
+    (subst (λ path. CarriesOut g.B.Book.shelf c.judge.new.book c.carry_out.new.book {X = Unit {0}} (owner_of path d.change) (change_in d.change) (Ok _)) c.path.ensures c.in_ok-carry_out.ensures)
