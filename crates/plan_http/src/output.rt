@@ -57,10 +57,10 @@ fn send_parts<W: Sink>(writer: &mut W, first: &[u8], second: &[u8]) -> Result<()
         if sent == total {
             return Ok(());
         }
-        match writer.write(rest_of(first, second, sent)) {
-            Ok(n) => sent += n,
-            Err(_) => return Err(OutputError { sent }),
-        }
+        let Ok(n) = writer.write(rest_of(first, second, sent)) else {
+            return Err(OutputError { sent });
+        };
+        sent += n;
     }
     if sent == total {
         return Ok(());

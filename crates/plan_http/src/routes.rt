@@ -116,10 +116,10 @@ impl Model for Routes {
 fn add_route(router: &mut Router<Route>, route: Route) -> Result<(), AllocError>
     ensures { OnOk result (router.new ≡ spec.with_route route router.old) }
 {
-    match router.insert(route.text(), route) {
-        Ok(()) => Ok(()),
-        Err(_) => Err(AllocError),
-    }
+    let Ok(()) = router.insert(route.text(), route) else {
+        return Err(AllocError);
+    };
+    Ok(())
 }
 
 fn add_routes(router: &mut Router<Route>, routes: &[Route]) -> Result<(), AllocError>
