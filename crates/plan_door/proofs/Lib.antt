@@ -1,4 +1,5 @@
 pub mod TurnLemmas
 pub mod ReplayLemmas
+pub mod ResultLemmas
 pub mod KeyLemmas
 pub mod BookLemmas

@@ -87,10 +87,11 @@ fn read_line<R: Source>(alloc: Global, reader: &mut R) -> Result<Vec<u8>, ServeF
 {
     let mut line = Vec::new(alloc);
     for _ in 0..LONGEST_LINE {
-        let byte = match next_byte(reader) {
-            Ok(Some(byte)) => byte,
-            Ok(None) => return Ok(line),
-            Err(_) => return Err(ServeFault::Input),
+        let Ok(next) = next_byte(reader) else {
+            return Err(ServeFault::Input);
+        };
+        let Some(byte) = next else {
+            return Ok(line);
         };
         push_byte(&mut line, byte)?;
         if byte == b'\n' {

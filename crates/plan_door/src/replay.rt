@@ -39,10 +39,10 @@ fn responses<B: Book>(
         × Stops B.shelf office.old office.new (map vec_items conns.now) decisions) }
 {
     let mut out = Vec::new(alloc);
-    match serve_run(alloc, office, conns, &mut out) {
-        Ok(()) => concat(alloc, &out),
-        Err(_) => Err(AllocError),
-    }
+    let Ok(()) = serve_run(alloc, office, conns, &mut out) else {
+        return Err(AllocError);
+    };
+    concat(alloc, &out)
 }
 
 /// Serves connections one after another, and writes the responses. Nothing is written before all
@@ -71,8 +71,5 @@ pub fn replay_run<B: Book, W: Sink>(
     let Ok(text) = responses(alloc, office, conns) else {
         return Err(ServeFault::Memory);
     };
-    match write_whole(writer, &text) {
-        Ok(()) => Ok(()),
-        Err(_) => Err(ServeFault::Output),
-    }
+    write_whole(writer, &text).map_err(|_| ServeFault::Output)
 }
