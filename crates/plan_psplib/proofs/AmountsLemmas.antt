@@ -52,7 +52,7 @@ goes_duration total d s t p small fits =
     (ok_check _ code.Limit t.last (true_both (nat_le d greatest) (nat_le (total + d) greatest_total)
     (le-leb d greatest small) (le-leb (total + d) greatest_total fits))) refl)
 
-request_goes : (k job total : ℕ) (s : Stream) (x : Request × Stream) → request_row_at k job total s ≡ Ok x →
+pub request_goes : (k job total : ℕ) (s : Stream) (x : Request × Stream) → request_row_at k job total s ≡ Ok x →
     Goes s (job ∷ 1 ∷ x.0.duration ∷ x.0.needs) x.1 × (x.0.duration ≤ greatest)
     × (total + x.0.duration ≤ greatest_total) × IsNeeds k x.0.needs
 unfolding request_row_at

@@ -30,7 +30,7 @@ goes_job n j s t p low high =
     ok_bind (number_at s) _ job job (goes_number s t j p)
     (ok_bind (check (nat_le 1 j && nat_le j n) code.JobOrder t.last) _ tt job (ok_check _ code.JobOrder t.last (true_between 1 n j low high)) refl)
 
-successor_goes : (n : ℕ) (before : List ℕ) (s : Stream) (x : ℕ × Stream) → successor_at n before s ≡ Ok x → Goes s (x.0 ∷ []) x.1 × (1 ≤ x.0) × (x.0 ≤ n) × (is_among before x.0 ≡ false)
+pub successor_goes : (n : ℕ) (before : List ℕ) (s : Stream) (x : ℕ × Stream) → successor_at n before s ≡ Ok x → Goes s (x.0 ∷ []) x.1 × (1 ≤ x.0) × (x.0 ≤ n) × (is_among before x.0 ≡ false)
 unfolding successor_at
 successor_goes n before s x e =
     then_ok (job_at n s) _ x e (λ y read e.
@@ -72,7 +72,7 @@ goes_successors n before (j ∷ js) s t p are =
     ok_bind (successor_at n before s) _ (j, mid) (before ++ j ∷ js, t) (goes_successor n j before s mid (p.0, p.1, p.2, p.3, refl) are.0 are.1 are.2)
     (goes_successors n (before ++ j ∷ []) js mid t p.4 are.3 ∙ ap (λ (xs : List ℕ). Ok (xs, t)) (append_assoc before (j ∷ []) js))
 
-row_goes : (n job : ℕ) (s : Stream) (x : List ℕ × Stream) → precedence_row_at n job s ≡ Ok x → Goes s (job ∷ 1 ∷ length x.0 ∷ x.0) x.1 × AreNew n [] x.0
+pub row_goes : (n job : ℕ) (s : Stream) (x : List ℕ × Stream) → precedence_row_at n job s ≡ Ok x → Goes s (job ∷ 1 ∷ length x.0 ∷ x.0) x.1 × AreNew n [] x.0
 unfolding precedence_row_at
 row_goes n job s x e =
     then_ok (expect_at job code.JobOrder s) _ x e (λ a first e.

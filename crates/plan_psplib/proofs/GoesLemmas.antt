@@ -9,6 +9,7 @@ use Rattle.plan_psplib.specs.Numbers.{number}
 use Rattle.plan_psplib.specs.Streams.{LineWord, Stream}
 use Rattle.plan_psplib.specs.Tokens.{◌>>=◌, LineNumber, check, as_number, number_of_words, number_at, expect_at, within_at, limited, limited_at, end_of_words, end_at}
 use Rattle.plan_psplib.specs.Says.{Spells}
+use Rattle.plan_psplib.specs.Causes.{BeginsWith}
 
 -- a reading in two steps succeeds if both steps do
 pub then_ok : {A B P : Type 0} (r : Result A Fault) (f : A → Result B Fault) (y : B) → (r >>= f) ≡ Ok y → ((x : A) → r ≡ Ok x → f x ≡ Ok y → P) → P
@@ -43,8 +44,7 @@ true_between a b n p q = true_both (nat_le a n) (nat_le n b) (le-leb a n p) (le-
 
 -- a stream begins with these numbers, and then continues as the other
 abbrev pub Goes : Stream → List ℕ → Stream → Type 0
-Goes s [] t = t ≡ s
-Goes s (n ∷ ns) t = (word : LineWord) × (words : List LineWord) × (s.words ≡ word ∷ words) × (number word.text ≡ Some n) × Goes (record { last = word.line; words = words }) ns t
+Goes s ns t = BeginsWith s ns t
 
 pub goes_append : (s t u : Stream) (ms ns : List ℕ) → Goes s ms t → Goes t ns u → Goes s (ms ++ ns) u
 goes_append s t u [] ns p q = let P : Stream → Type 0 = λ v. Goes v ns u in subst P p q

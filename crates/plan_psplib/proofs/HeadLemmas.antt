@@ -17,14 +17,14 @@ is_found : (last : ℕ) (o : Option NumberedLine) (line : NumberedLine) → o �
 is_found last o line e = ap (found_line last) e
 
 -- each key is found in its line
-record AreFound (os : Keys (Option NumberedLine)) (lines : Keys NumberedLine) : Type 0 where
-  projects : os.projects ≡ Some lines.projects
-  jobs : os.jobs ≡ Some lines.jobs
-  renewable : os.renewable ≡ Some lines.renewable
-  nonrenewable : os.nonrenewable ≡ Some lines.nonrenewable
-  doubly_constrained : os.doubly_constrained ≡ Some lines.doubly_constrained
+pub record AreFound (os : Keys (Option NumberedLine)) (lines : Keys NumberedLine) : Type 0 where
+  pub projects : os.projects ≡ Some lines.projects
+  pub jobs : os.jobs ≡ Some lines.jobs
+  pub renewable : os.renewable ≡ Some lines.renewable
+  pub nonrenewable : os.nonrenewable ≡ Some lines.nonrenewable
+  pub doubly_constrained : os.doubly_constrained ≡ Some lines.doubly_constrained
 
-found_lines_are : (last : ℕ) (os : Keys (Option NumberedLine)) (lines : Keys NumberedLine) → found_lines last os ≡ Ok lines → AreFound os lines
+pub found_lines_are : (last : ℕ) (os : Keys (Option NumberedLine)) (lines : Keys NumberedLine) → found_lines last os ≡ Ok lines → AreFound os lines
 unfolding found_lines
 found_lines_are last os lines e =
     then_ok (found_line last os.projects) _ lines e (λ a is_a e.
@@ -51,7 +51,7 @@ are_found_lines last os lines h =
     (ok_bind (found_line last os.doubly_constrained) _ lines.doubly_constrained lines (is_found last os.doubly_constrained lines.doubly_constrained h.doubly_constrained) refl))))
 
 -- the number after the colon of a line
-abbrev HasNumber : NumberedLine → LineNumber → Type 0
+abbrev pub HasNumber : NumberedLine → LineNumber → Type 0
 HasNumber line v = (word : List ℕ) × (value_word line.text ≡ Some word) × (number word ≡ Some v.value) × (v.line ≡ line.number)
 
 value_is : (line : NumberedLine) (v : LineNumber) → key_value line ≡ Ok v → HasNumber line v
@@ -71,14 +71,14 @@ is_value : (line : NumberedLine) (v : LineNumber) → HasNumber line v → key_v
 is_value line v h =
     ap (value_of line.number) h.1 ∙ ap (value_of_word line.number) h.2 ∙ ap (λ n. let u : LineNumber = record { value = v.value; line = n } in Ok u) (sym h.3)
 
-record AreNumbers (lines : Keys NumberedLine) (vs : Keys LineNumber) : Type 0 where
-  projects : HasNumber lines.projects vs.projects
-  jobs : HasNumber lines.jobs vs.jobs
-  renewable : HasNumber lines.renewable vs.renewable
-  nonrenewable : HasNumber lines.nonrenewable vs.nonrenewable
-  doubly_constrained : HasNumber lines.doubly_constrained vs.doubly_constrained
+pub record AreNumbers (lines : Keys NumberedLine) (vs : Keys LineNumber) : Type 0 where
+  pub projects : HasNumber lines.projects vs.projects
+  pub jobs : HasNumber lines.jobs vs.jobs
+  pub renewable : HasNumber lines.renewable vs.renewable
+  pub nonrenewable : HasNumber lines.nonrenewable vs.nonrenewable
+  pub doubly_constrained : HasNumber lines.doubly_constrained vs.doubly_constrained
 
-values_are : (lines : Keys NumberedLine) (vs : Keys LineNumber) → values lines ≡ Ok vs → AreNumbers lines vs
+pub values_are : (lines : Keys NumberedLine) (vs : Keys LineNumber) → values lines ≡ Ok vs → AreNumbers lines vs
 unfolding values
 values_are lines vs e =
     then_ok (key_value lines.projects) _ vs e (λ a is_a e.

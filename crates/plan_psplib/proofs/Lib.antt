@@ -11,3 +11,4 @@ pub mod HeadLemmas
 pub mod SaysLemmas
 pub mod NetworkLemmas
 pub mod OnceLemmas
+pub mod CauseLemmas

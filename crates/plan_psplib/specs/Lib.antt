@@ -10,6 +10,7 @@ pub mod Head
 pub mod Precedence
 pub mod Requests
 pub mod Document
+pub mod Causes
 pub mod Says
 pub mod Project
 pub use Rattle.plan_net.specs.Network

@@ -2,9 +2,11 @@
 //! numbers. It re-exports the names of plan_io.
 #![tactic(auto)]
 
+mod laws;
 mod sm;
 mod text;
 
+pub use laws::errors_show;
 pub use plan_io::{
     DeviceFault, InputError, MOST_CALLS, MemSink, MemSource, OutputError, Sink, Source, StdSink,
     StdSource, Tally, read_beyond, write_whole,
