@@ -6,3 +6,4 @@ pub mod TextLemmas
 pub mod FoundLemmas
 pub mod Rows
 pub mod OnceLemmas
+pub mod CauseLemmas

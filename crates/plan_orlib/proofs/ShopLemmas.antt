@@ -42,7 +42,7 @@ begins_goes s (word ∷ words) rest (n ∷ ns) at e =
 
 -- ---- steps
 
-machine_goes : (machines : ℕ) (s : Stream) (x : ℕ × Stream) → machine_at machines s ≡ Ok x → Goes s (x.0 ∷ []) x.1 × (x.0 < machines)
+pub machine_goes : (machines : ℕ) (s : Stream) (x : ℕ × Stream) → machine_at machines s ≡ Ok x → Goes s (x.0 ∷ []) x.1 × (x.0 < machines)
 unfolding machine_at
 machine_goes machines s x e =
     then_ok (number_at s) _ x e (λ n read e.
@@ -56,7 +56,7 @@ goes_machine machines n s t p below =
     ok_bind (number_at s) _ (record { value = n; line = t.last }, t) (n, t) (goes_number s t n p)
     (ok_bind (check (nat_lt n machines) code.BadMachine t.last) _ tt (n, t) (ok_check _ code.BadMachine t.last (lt-ltb n machines below)) refl)
 
-step_goes : (machines total : ℕ) (s : Stream) (x : Step × Stream) → step_at machines total s ≡ Ok x →
+pub step_goes : (machines total : ℕ) (s : Stream) (x : Step × Stream) → step_at machines total s ≡ Ok x →
     Goes s (x.0.machine ∷ x.0.time ∷ []) x.1 × IsStep machines x.0 × (total + x.0.time ≤ greatest_total)
 unfolding step_at
 step_goes machines total s x e =

@@ -4,9 +4,11 @@
 
 mod instance_names;
 mod instances;
+mod laws;
 mod shop;
 mod steps;
 
 pub use instance_names::names;
+pub use laws::errors_show;
 pub use shop::{ShopDoc, read_shop};
 pub use steps::Step;

@@ -23,7 +23,7 @@ use Rattle.plan_psplib.specs.Precedence.{is_among, job_at, successor_at, success
 use Rattle.plan_psplib.specs.Requests.{Request, Requests, amounts_at, request_row_at, request_rows_at, with_row, requests, availabilities}
 use Rattle.plan_psplib.specs.Document.{Document, found_section, document}
 use Rattle.plan_psplib.specs.Says.{Says, HasValue}
-use Rattle.plan_psplib.specs.Causes.{IsKey, LacksKey, LacksSection, LacksValue, GivesAt, IsSectionTitle, NextIs, StopsAt, StopsIn, IsWrong, Shows, ErrorsShow, ReadTextsAreRight}
+use Rattle.plan_psplib.specs.Causes.{IsKey, LacksKey, LacksSection, LacksValue, GivesAt, HasZeroByte, IsSectionTitle, NextIs, StopsAt, StopsIn, IsWrong, Shows, ErrorsShow, ReadTextsAreRight}
 use Rattle.plan_psplib.proofs.GoesLemmas.{Goes, goes_append, then_ok, same_ok, number_goes, goes_number, expect_goes, within_goes}
 use Rattle.plan_psplib.proofs.SaysLemmas.{document_said}
 use Rattle.plan_psplib.proofs.AmountsLemmas.{duration_goes, request_goes}
@@ -32,23 +32,23 @@ use Rattle.plan_psplib.proofs.HeadLemmas.{AreFound, found_lines_are, HasNumber, 
 
 -- ---- two steps, of which one fails
 
-same_err : {A : Type 0} (f g : Fault) → Path (Result A Fault) (Err f) (Err g) → f ≡ g
+pub same_err : {A : Type 0} (f g : Fault) → Path (Result A Fault) (Err f) (Err g) → f ≡ g
 same_err f g e = cc
 
-then_err : {A B P : Type 0} (r : Result A Fault) (f : A → Result B Fault) (g : Fault) → (r >>= f) ≡ Err g
+pub then_err : {A B P : Type 0} (r : Result A Fault) (f : A → Result B Fault) (g : Fault) → (r >>= f) ≡ Err g
     → (r ≡ Err g → P) → ((x : A) → r ≡ Ok x → f x ≡ Err g → P) → P
 then_err (Ok x) f g e bad go = go x refl e
 then_err {A} (Err h) f g e bad go = bad (ap (λ (x : Fault). let r : Result A Fault = Err x in r) (same_err h g e))
 
-check_err : (b : Bool) (c : FileCode) (line : ℕ) (f : Fault) → check b c line ≡ Err f → (b ≡ false) × (f ≡ record { code = c; line = line })
+pub check_err : (b : Bool) (c : FileCode) (line : ℕ) (f : Fault) → check b c line ≡ Err f → (b ≡ false) × (f ≡ record { code = c; line = line })
 check_err true c line f e = absurd (cc)
 check_err false c line f e = (refl, sym (same_err (record { code = c; line = line }) f e))
 
-both_false : (a b : Bool) → (a && b) ≡ false → (a ≡ false) ⊎ (b ≡ false)
+pub both_false : (a b : Bool) → (a && b) ≡ false → (a ≡ false) ⊎ (b ≡ false)
 both_false true b e = inr e
 both_false false b e = inl refl
 
-outside : (least most n : ℕ) → (nat_le least n && nat_le n most) ≡ false → (n < least) ⊎ (most < n)
+pub outside : (least most n : ℕ) → (nat_le least n && nat_le n most) ≡ false → (n < least) ⊎ (most < n)
 outside least most n e = elim (both_false (nat_le least n) (nat_le n most) e) [
   | inl low ↦ inl (leb-false least n low)
   | inr high ↦ inr (leb-false n most high)
@@ -77,7 +77,7 @@ number_stops o s done f g e = from s.words refl e
     from [] at e = stop_as o code.Count s.last f (sym (same_err (record { code = code.Count; line = s.last }) f e)) (done, s, g, inl (at, refl))
     from (word ∷ words) at e = found word words (number word.text) refl at e
 
-next_is : (s : Stream) (x : LineNumber × Stream) (P : ℕ → Type 0) → number_at s ≡ Ok x → P x.0.value → NextIs s x.0.line P
+pub next_is : (s : Stream) (x : LineNumber × Stream) (P : ℕ → Type 0) → number_at s ≡ Ok x → P x.0.value → NextIs s x.0.line P
 next_is s x P read holds =
     let g = number_goes s x read in
     let same : (record { value = x.0.value; line = x.1.last }, x.1) ≡ x = same_ok (record { value = x.0.value; line = x.1.last }, x.1) x (sym (goes_number s x.1 x.0.value g) ∙ read) in
@@ -317,21 +317,34 @@ found_as text title None s at e = absurd (cc)
 found_as text title (Some t) s at e = at ∙ ap (λ (u : Stream). Some u) (same_ok t s e)
 
 -- the first two checks
-plain_shows : (text : List ℕ) (f : Fault) → plain text ≡ Err f → ShowsOf text f
+pub plain_err : (text : List ℕ) (f : Fault) → plain text ≡ Err f
+    → ((f ≡ record { code = code.TooLong; line = 0 }) × (longest_text < length text))
+    ⊎ ((line : ℕ) × (f ≡ record { code = code.NotText; line = line }) × HasZeroByte text line)
 unfolding plain
-plain_shows text f e =
+plain_err text f e =
     then_err (check (nat_le (length text) longest_text) code.TooLong 0) _ f e
     (λ e. let both = check_err (nat_le (length text) longest_text) code.TooLong 0 f e in
-    show_as text code.TooLong 0 f both.1 (leb-false (length text) longest_text both.0, refl))
+    inl (both.1, leb-false (length text) longest_text both.0))
     (λ u short e. by_place (position is_zero text) refl e)
   where
-    by_place : (o : Option ℕ) → position is_zero text ≡ o → no_zero (option_map (λ i. count_by is_line_feed (take i text) + 1) o) ≡ Err f → ShowsOf text f
+    by_place : (o : Option ℕ) → position is_zero text ≡ o → no_zero (option_map (λ i. count_by is_line_feed (take i text) + 1) o) ≡ Err f
+        → ((f ≡ record { code = code.TooLong; line = 0 }) × (longest_text < length text))
+        ⊎ ((line : ℕ) × (f ≡ record { code = code.NotText; line = line }) × HasZeroByte text line)
     by_place None at e = absurd (cc)
     by_place (Some i) at e =
         let line = count_by is_line_feed (take i text) + 1 in
         let is = position-Some is_zero text i 0 at in
-        show_as text code.NotText line f (sym (same_err (record { code = code.NotText; line = line }) f e))
-        (i, is.0, eqb-true (get_or text i 0) 0 is.1, (λ k below zero. eqb-false (get_or text k 0) 0 (is.2 k below) zero), refl)
+        inr (
+          line,
+          sym (same_err (record { code = code.NotText; line = line }) f e),
+          (i, is.0, eqb-true (get_or text i 0) 0 is.1, (λ k below zero. eqb-false (get_or text k 0) 0 (is.2 k below) zero), refl),
+        )
+
+plain_shows : (text : List ℕ) (f : Fault) → plain text ≡ Err f → ShowsOf text f
+plain_shows text f e = elim (plain_err text f e) [
+  | inl long ↦ show_as text code.TooLong 0 f long.0 (long.1, refl)
+  | inr byte ↦ show_as text code.NotText byte.0 f byte.1 byte.2
+]
 
 -- ---- the head
 

@@ -49,7 +49,7 @@ zero_none text u = by_place (position is_zero text)
     by_place None e = refl
     by_place (Some i) e = absurd (cc)
 
-plain_is : (text : List ℕ) (u : Unit {0}) → plain text ≡ Ok u → (length text ≤ longest_text) × All (λ byte. byte ≢ 0) text
+pub plain_is : (text : List ℕ) (u : Unit {0}) → plain text ≡ Ok u → (length text ≤ longest_text) × All (λ byte. byte ≢ 0) text
 unfolding plain
 plain_is text u e =
     then_ok (check (nat_le (length text) longest_text) code.TooLong 0) _ u e (λ v holds e.
