@@ -4,8 +4,8 @@ use plan_cli::{ProofWatcher, SolveWatcher};
 use std::io::IsTerminal;
 use std::time::Instant;
 
-/// A watcher of a search. It writes a line on standard error that is overwritten each time and erased
-/// at the end of the search. A line that can't be written is skipped. It stops a search of
+/// A watcher of a search. It writes a line on standard error that is overwritten each time and
+/// erased at the end of the search. A line that can't be written is skipped. It stops a search of
 /// `plan solve` at its time limit.
 #[derive(Drop)]
 pub struct ProgressLine<'a> {

@@ -1,4 +1,5 @@
--- The two texts of a calendar: its first date, and the marks of the weekdays (docs/definitions.md, "Texts").
+-- The two texts of a calendar: its first date, and the marks of the weekdays (docs/definitions.md,
+-- "Texts").
 use Rattle.std.specs.Prelude.{◌≡◌, ℕ, ◌+◌, ◌/◌, ◌%◌, ◌⊎◌, Bool, if◌then◌else◌, List, [], ◌∷◌, map, pos}
 use Rattle.jiff_core.specs.Calendar.{IsBetween}
 use Rattle.jiff_core.specs.declared.civil.date.Date.{Date}

@@ -1,5 +1,5 @@
--- Working days (docs/definitions.md, "Texts"). A week has seven marks, Monday first; days are numbered from
--- 1970-01-01 on.
+-- Working days (docs/definitions.md, "Texts"). A week has seven marks, Monday first; days are
+-- numbered from 1970-01-01 on.
 use Rattle.std.specs.Prelude.{◌≡◌, ℕ, zero, suc, ◌+◌, Bool, true, List, length, slice_index_or, false, if◌then◌else◌, ℤ, pos, ◌+ℤ◌}
 use Rattle.std.specs.List.{list_any}
 use Rattle.jiff_core.specs.Calendar.{weekday_number}

@@ -19,7 +19,8 @@ use thiserror::Error;
 /// An error of a calendar or of a working day.
 #[derive(Clone, Copy, Debug, PartialEq, Eq, Error)]
 pub enum CalendarFault {
-    /// The first date isn't written `YYYY-MM-DD`, doesn't exist, or isn't from 1900-01-01 to 2199-12-31.
+    /// The first date isn't written `YYYY-MM-DD`, doesn't exist, or isn't from 1900-01-01 to
+    /// 2199-12-31.
     #[error("G1 date")]
     BadDate,
     /// The marks aren't seven digits `0` or `1`, or none of them is `1`.
@@ -61,9 +62,10 @@ impl Model for Calendar {
 }
 
 impl Calendar {
-    /// Returns the calendar with a first date and marks of the weekdays. The date is ten bytes `YYYY-MM-DD`,
-    /// from 1900-01-01 to 2199-12-31. The marks are a byte `0` or `1` for each weekday, Monday first, at
-    /// least one of them `1`. If both are invalid, the error is that of the date. Allocates nothing.
+    /// Returns the calendar with a first date and marks of the weekdays. The date is ten bytes
+    /// `YYYY-MM-DD`, from 1900-01-01 to 2199-12-31. The marks are a byte `0` or `1` for each
+    /// weekday, Monday first, at least one of them `1`. If both are invalid, the error is that of
+    /// the date. Allocates nothing.
     pub fn new(start: &str, marks: &str) -> Result<Calendar, CalendarFault>
         ensures ok { IfOk result (IsCalendar start.now marks.now) }
         ensures refused { IfErr result (RefusesTexts start.now marks.now) }
@@ -77,9 +79,9 @@ impl Calendar {
         Ok(Calendar { start, marks })
     }
 
-    /// Returns the date of instant `t`, in working days from 0 on: the date with a marked weekday that has
-    /// exactly `t` such dates before it, from the first date on. The cost doesn't depend on `t`. Allocates
-    /// nothing.
+    /// Returns the date of instant `t`, in working days from 0 on: the date with a marked weekday
+    /// that has exactly `t` such dates before it, from the first date on. The cost doesn't depend
+    /// on `t`. Allocates nothing.
     pub fn day(&self, t: u64) -> Result<Date, CalendarFault>
         ensures day { IfOk result (IsWorkingDay self.now t) }
         ensures beyond { IfErr result (λ fault. (fault ≡ BeyondCalendar) × IsBeyond self.now t) }

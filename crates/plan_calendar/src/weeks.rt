@@ -36,7 +36,8 @@ fn marks_of_week(marks: &[bool], weekday: u64) -> u64
     count
 }
 
-// Returns the marked day of a week, counted from the weekday on, with `before` marked days before it.
+// Returns the marked day of a week, counted from the weekday on, with `before` marked days before
+// it.
 #[tactic(auto, using(crate::proofs::WeekLemmas::none_before, crate::proofs::WeekLemmas::one_more))]
 fn day_of_week(marks: &[bool], weekday: u64, before: u64) -> u64
     requires week { IsWeek marks.now }

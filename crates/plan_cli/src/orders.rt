@@ -83,8 +83,8 @@ pub enum OfficeOrder<'a> {
 }
 
 impl<'a> OfficeOrder<'a> {
-    /// Returns the name of the office's file, unless an error line is about a socket, standard input
-    /// or another file.
+    /// Returns the name of the office's file, unless an error line is about a socket, standard
+    /// input or another file.
     pub fn file_of(&self, line: &str) -> Option<&'a str> {
         if line.starts_with('I') {
             return None;

@@ -1,4 +1,5 @@
--- The backward pass: the entry of each activity is raised as soon as the tail of a successor is known.
+-- The backward pass: the entry of each activity is raised as soon as the tail of a successor is
+-- known.
 use Rattle.std.proofs.Common.{ℕ, ◌≡◌, ◌≢◌, ◌+◌, ◌-◌, ◌≤◌, ◌<◌, ◌⊎◌, inl, inr, List, length, get_or, set, refl, sym, ◌∙◌, subst, arith, get_or-set_same}
 use Rattle.std.proofs.lemmas.Bool.{cases_eq}
 use Rattle.plan_net.specs.Network.{Net, count_of, IsArc, IsActivity, IsGreatest, lag_of, duration_of}
@@ -11,7 +12,8 @@ use Rattle.plan_cpm.specs.Lengths.{IsLengthFrom, RaisesBefore}
 use Rattle.plan_cpm.proofs.StepLemmas.{tail_step}
 use Rattle.plan_cpm.proofs.PassLemmas.{RightBetween, set_apart, succs_done, succs_right}
 
--- the entry of the activity at p is 0, or the lag plus the entry of one of its successors at an index from
+-- the entry of the activity at p is 0, or the lag plus the entry of one of its successors at an
+-- index from
 -- `low` on
 abbrev pub IsReachedFrom : Net → List ℕ → List ℕ → ℕ → ℕ → Type 0
 IsReachedFrom net order list low p =
@@ -19,8 +21,8 @@ IsReachedFrom net order list low p =
     ⊎ ((q : ℕ) × (low ≤ q) × (q < length order) × IsArc net (get_or order p 0) (get_or order q 0)
     × (get_or list (get_or order p 0 - 1) 0 ≡ lag_of net (get_or order p 0) (get_or order q 0) + get_or list (get_or order q 0 - 1) 0))
 
--- from index `left` of the order on, the entries are tails; before it they are the greatest times after the
--- activities, by these tails
+-- from index `left` of the order on, the entries are tails; before it they are the greatest times
+-- after the activities, by these tails
 pub record AreRests (net : Net) (order list : List ℕ) (left : ℕ) : Type 0 where
   pub done : RightBetween (λ j. IsGreatest (IsLengthFrom net j)) order list left (length order)
   pub above : (p q : ℕ) → p < left → left ≤ q → q < length order → IsArc net (get_or order p 0) (get_or order q 0)

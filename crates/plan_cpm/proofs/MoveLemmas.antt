@@ -7,7 +7,8 @@ use Rattle.std.proofs.lemmas.Bool.{cases_lt, cases_eq}
 abbrev pub IsOldOrNew : (ℕ → Type 0) → (ℕ → ℕ) → List ℕ → ℕ → ℕ → Type 0
 IsOldOrNew Q f before x w = (w ≡ get_or before x 0) ⊎ ((i : ℕ) × Q i × (x ≡ i - 1) × (w ≡ f i))
 
--- the entries of the first n items were moved by R to their values of f or beyond; the others are unchanged
+-- the entries of the first n items were moved by R to their values of f or beyond; the others are
+-- unchanged
 pub record AreMoved (R : ℕ → ℕ → Type 0) (Q : ℕ → Type 0) (f : ℕ → ℕ) (items : List ℕ) (n : ℕ) (before after : List ℕ) : Type 0 where
   pub whole : length after ≡ length before
   pub kept : (x : ℕ) → R (get_or before x 0) (get_or after x 0)

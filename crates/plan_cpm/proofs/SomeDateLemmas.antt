@@ -1,4 +1,5 @@
--- A sound network has dates: the greatest lengths of paths, along its order and back, and the floats.
+-- A sound network has dates: the greatest lengths of paths, along its order and back, and the
+-- floats.
 use Rattle.std.proofs.Common.{ℕ, suc, zero, ◌≡◌, ◌+◌, ◌-◌, ◌≤◌, ◌<◌, ◌⊎◌, inl, inr, List, [], ◌∷◌, ◌++◌, length, get_or, set, replicate, refl, sym, ◌∙◌, ap, subst, arith}
 use Rattle.std.specs.List.{Contains}
 use Rattle.std.proofs.lemmas.List.{length-set, length-replicate, length_push, get_or_append_left, get_or_push}

@@ -79,7 +79,8 @@ pub record IsNextStart (net : Net) (finishes : List ℕ) (duration j v : ℕ) : 
   pub within : v ≤ duration
   pub reached : (v ≡ duration) ⊎ ((k : ℕ) × IsArc net j k × (v + lag_of net j k + duration_of net k ≡ slice_index finishes (k - 1)))
 
--- the entry of each predecessor of k was lowered to at most `start` less the lag; no other entry changed
+-- the entry of each predecessor of k was lowered to at most `start` less the lag; no other entry
+-- changed
 pub record LowersBefore (net : Net) (k start : ℕ) (before after : List ℕ) : Type 0 where
   pub whole : length after ≡ length before
   pub kept : (x : ℕ) → slice_index after x ≤ slice_index before x

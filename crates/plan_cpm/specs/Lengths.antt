@@ -25,7 +25,8 @@ pub record AreTails (net : Net) (list : List ℕ) : Type 0 where
   pub whole : length list ≡ count_of net
   pub greatest : (j : ℕ) → IsActivity net j → IsGreatest (IsLengthFrom net j) (slice_index list (j - 1))
 
--- the entry of each predecessor of j was raised to at least the lag plus `tail`; no other entry changed
+-- the entry of each predecessor of j was raised to at least the lag plus `tail`; no other entry
+-- changed
 pub record RaisesBefore (net : Net) (j tail : ℕ) (before after : List ℕ) : Type 0 where
   pub whole : length after ≡ length before
   pub kept : (x : ℕ) → slice_index before x ≤ slice_index after x

@@ -15,8 +15,8 @@ pub record IsReach (net : Net) (j : ℕ) (row : List Bool) : Type 0 where
   pub whole : length row ≡ count_of net
   pub exact : (k : ℕ) → IsActivity net k → IsPlaced row k ↔ Leads net j k
 
--- a path leads from j to each marked activity, and all activities that paths from a marked one reach are
--- marked
+-- a path leads from j to each marked activity, and all activities that paths from a marked one
+-- reach are marked
 pub record IsReachSoFar (net : Net) (j : ℕ) (row : List Bool) : Type 0 where
   pub whole : length row ≡ count_of net
   pub led : (k : ℕ) → IsActivity net k → IsPlaced row k → Leads net j k

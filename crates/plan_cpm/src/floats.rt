@@ -25,7 +25,8 @@ fn greatest(values: &[u64]) -> u64
     most
 }
 
-// Lowers the entry of each predecessor of `k` to at most `start`, the start of `k`, less the lag of the arc.
+// Lowers the entry of each predecessor of `k` to at most `start`, the start of `k`, less the lag of
+// the arc.
 fn lower_before(network: &Network, k: u32, start: u64, nexts: &mut Vec<u64>)
     requires activity { IsActivity network.now k }
     requires whole { length nexts.old.items ≡ count_of network.now }
@@ -40,8 +41,8 @@ fn lower_before(network: &Network, k: u32, start: u64, nexts: &mut Vec<u64>)
     }
 }
 
-// Returns for each activity the least start of a successor less the lag of the arc, at most the project
-// duration.
+// Returns for each activity the least start of a successor less the lag of the arc, at most the
+// project duration.
 fn next_starts(
     alloc: Global,
     network: &Network,
@@ -90,8 +91,8 @@ fn durations_of(alloc: Global, network: &Network) -> Result<Vec<u64>, AllocError
     Ok(list)
 }
 
-/// Returns the dates of the activities (the critical path method of Kelley and Walker 1959). The only error
-/// is out of memory.
+/// Returns the dates of the activities (the critical path method of Kelley and Walker 1959). The
+/// only error is out of memory.
 pub fn dates(alloc: Global, network: &Network) -> Result<Dates, AllocError>
     ensures dates { IfOk result (AreDates network.now) }
     ensures recurrences { IfOk result (KeepRecurrences network.now) }

@@ -1,5 +1,5 @@
-//! Dates of activity networks by the critical path method: earliest and latest dates, floats, tails and
-//! successors.
+//! Dates of activity networks by the critical path method: earliest and latest dates, floats, tails
+//! and successors.
 //!
 //! The contracts define the dates by all paths; the code makes one forward and one backward pass.
 #![tactic(auto)]

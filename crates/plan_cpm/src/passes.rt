@@ -10,7 +10,8 @@ use std::alloc::{AllocError, Global};
 // A bound on the length of a path, in time units: 502 durations and 502 lags of 10,000 each.
 pub(crate) const FARTHEST: u64 = 10_040_000;
 
-// Returns the greatest sum of a predecessor's finish and the lag of its arc, 0 without predecessors.
+// Returns the greatest sum of a predecessor's finish and the lag of its arc, 0 without
+// predecessors.
 fn last_before(network: &Network, j: u32, finishes: &[u64]) -> u64
     requires activity { IsActivity network.now j }
     requires whole { length finishes.now ≡ count_of network.now }

@@ -27,7 +27,8 @@ fn unite(row: &mut Vec<bool>, other: &[bool])
     }
 }
 
-// Returns the marks of the activities that paths from `j` reach, computed from the rows of its successors.
+// Returns the marks of the activities that paths from `j` reach, computed from the rows of its
+// successors.
 fn reach_of(
     alloc: Global,
     network: &Network,
@@ -75,7 +76,8 @@ fn empty_rows(alloc: Global, count: usize) -> Result<Vec<Vec<bool>>, AllocError>
     Ok(rows)
 }
 
-// Returns for each activity the marks of those that paths from it reach, computed from the end of the order.
+// Returns for each activity the marks of those that paths from it reach, computed from the end of
+// the order.
 fn reaches(alloc: Global, network: &Network) -> Result<Vec<Vec<bool>>, AllocError>
     ensures { IfOk result (λ rows. AreReaches network.now rows.items) }
 {

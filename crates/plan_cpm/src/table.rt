@@ -6,7 +6,8 @@ ghost use Rattle.plan_cpm.specs.Dates.{IsConsistent, IsDated, early_start_of, ea
 use plan_net::index_of;
 use std::marker::Model;
 
-/// The dates of a network's activities, in whole time units from 0 on. Activities are numbered from 1.
+/// The dates of a network's activities, in whole time units from 0 on. Activities are numbered from
+/// 1.
 #[derive(Drop)]
 pub struct Dates {
     duration: u64,
@@ -100,7 +101,8 @@ impl Dates {
         self.duration - self.tails[index_of(j)] + self.durations[index_of(j)]
     }
 
-    /// TF: the total float of activity `j`, by which it may start later without delaying the project.
+    /// TF: the total float of activity `j`, by which it may start later without delaying the
+    /// project.
     pub fn tf(&self, j: u32) -> u64
         requires { IsDated self.now j }
         ensures { result ≡ total_float_of self.now j }

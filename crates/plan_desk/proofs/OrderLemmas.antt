@@ -1,4 +1,5 @@
--- The order in which rows were written makes no difference: to a decision, to a step, and to a story.
+-- The order in which rows were written makes no difference: to a decision, to a step, and to a
+-- story.
 use Rattle.std.proofs.Common.{◌≡◌, ℕ, ◌⊎◌, inl, inr, Bool, true, false, List, [], ◌∷◌, ◌++◌, sym, ap, ◌∙◌, subst}
 use Rattle.std.specs.Prelude.{find, option_to_list, if◌then◌else◌, ◌==◌}
 use Rattle.std.proofs.lemmas.Bool.{cases_Bool, cond-true, cond-false}

@@ -1,5 +1,5 @@
--- Worked examples of an office on the file of a project, computed from the definitions: imports, binds,
--- lags, dates, calendars, keys, and a run.
+-- Worked examples of an office on the file of a project, computed from the definitions: imports,
+-- binds, lags, dates, calendars, keys, and a run.
 use Rattle.std.proofs.Common.{◌≡◌, ℕ, zero, suc, ◌∙◌, true, false, Bool, List, [], ◌∷◌, ◌≤◌, ◌<◌, ◌⊎◌, All, Option, Some, Ok, Err, codes, inl, inr, refl, sym, ap, subst, arith, pos}
 use Rattle.std.specs.Prelude.{slice_index, nat_eq, ◌-◌, ◌+◌}
 use Rattle.std.specs.List.{list_any, Contains}

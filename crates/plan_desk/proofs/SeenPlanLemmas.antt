@@ -1,4 +1,5 @@
--- A plan that a desk sees in a book's answer: its file, its lags and its calendar are those of its row.
+-- A plan that a desk sees in a book's answer: its file, its lags and its calendar are those of its
+-- row.
 use Rattle.std.proofs.Common.{◌≡◌, ℕ, zero, suc, ◌≤◌, ◌<◌, ◌⊎◌, inl, inr, Bool, true, false, List, [], ◌∷◌, filter, length, get_or, Option, Some, None, refl, sym, ◌∙◌, subst, arith}
 use Rattle.std.specs.Prelude.{find, option_and_then, ◌==◌, nat_eq, nat_le, All, string_bytes}
 use Rattle.std.proofs.lemmas.List.{get_or-map, length-map}

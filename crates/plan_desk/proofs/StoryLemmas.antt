@@ -129,7 +129,8 @@ module _ {Answers : View → Call → Reply → Change → Type 0} (keeps : Keep
         alike = ap (view d) e ∙ seen d s c w;
       }
 
-  -- a request that belongs to a desk is answered as in an office that has the rows of its view alone
+  -- a request that belongs to a desk is answered as in an office that has the rows of its view
+  -- alone
   pub step_alone : (d : Text) (w : World) (r : Request) (reply : Reply) (after : World) → concerns d r.call ≡ true
       → IsStep Answers w r reply after → IsAlike d w r reply after
   step_alone d w r reply after concerned step = by_concern (or_cases (is_publish r.call) (names d (desk_of r.call)) concerned)

@@ -1,7 +1,7 @@
 -- The content of the pages of a plan (docs/definitions.md, "Desks"). Dates are greatest lengths of
--- paths. Schedules are those of the named rule, feasible and active. A schedule that is called optimal has the least
--- makespan of all feasible ones. Pages use the plan's file, the lags of the desk, and the
--- capacities that are bound and published at that moment.
+-- paths. Schedules are those of the named rule, feasible and active. A schedule that is called
+-- optimal has the least makespan of all feasible ones. Pages use the plan's file, the lags of the
+-- desk, and the capacities that are bound and published at that moment.
 use Rattle.std.specs.Prelude.{◌≡◌, ◌⊎◌, ℕ, List, Some, length}
 use Rattle.plan_psplib.specs.Project.{Project}
 use Rattle.plan_cpm.specs.Dates.{DateTable, AreDates}

@@ -1,4 +1,5 @@
--- A text that spells a budget begins with a digit above 0, and is the decimal spelling of the budget.
+-- A text that spells a budget begins with a digit above 0, and is the decimal spelling of the
+-- budget.
 use Rattle.std.proofs.Common.{◌≡◌, ◌∙◌, ℕ, ◌^◌, ◌<◌, ◌≤◌, zero, suc, List, Result, Ok, Err, length, true, refl, sym, subst, arith}
 use Rattle.std.specs.Prelude.{get_or}
 use Rattle.std.specs.Fmt.{decimal}

@@ -1,5 +1,5 @@
--- The schedule of every solution is that of a full word of the project: it is active, and shortest if it is
--- called so.
+-- The schedule of every solution is that of a full word of the project: it is active, and shortest
+-- if it is called so.
 use Rattle.std.proofs.Common.{◌≡◌, ℕ, ◌≤◌, true, List, ◌∷◌, Option, Some, None, Contains, refl, sym, ap, ◌∙◌, subst, arith}
 use Rattle.std.specs.Prelude.{All}
 use Rattle.std.proofs.lemmas.List.Elements.{All-contains, Contains-append_right, Contains-get_or}

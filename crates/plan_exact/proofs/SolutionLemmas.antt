@@ -1,5 +1,5 @@
--- The schedule of every solution is that of a full word of the shop: it is active, and shortest if it is
--- called so.
+-- The schedule of every solution is that of a full word of the shop: it is active, and shortest if
+-- it is called so.
 use Rattle.std.proofs.Common.{◌≡◌, ℕ, ◌⊎◌, inl, inr, true, false, nat_le, List, ◌∷◌, Option, Some, None, length, take, Contains, sym, ap, ◌∙◌, subst, arith}
 use Rattle.std.specs.Prelude.{All}
 use Rattle.std.proofs.lemmas.Bool.{cases_Bool, cond-true, cond-false}

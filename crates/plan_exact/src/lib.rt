@@ -1,5 +1,6 @@
-//! Exact search for a full word of least makespan in any tree of words that keeps the laws of [`Branching`].
-//! Also the best schedules of job shops and projects, and a bounded cache of answers.
+//! Exact search for a full word of least makespan in any tree of words that keeps the laws of
+//! [`Branching`]. Also the best schedules of job shops and projects, and a bounded cache of
+//! answers.
 #![tactic(auto)]
 
 mod answer;

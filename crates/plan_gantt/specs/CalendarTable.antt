@@ -1,5 +1,5 @@
--- Tables of working days (docs/definitions.md, "Texts"). The day of an instant is a relation, so these texts
--- are relations too.
+-- Tables of working days (docs/definitions.md, "Texts"). The day of an instant is a relation, so
+-- these texts are relations too.
 use Rattle.std.specs.Prelude.{◌≡◌, ℕ, ◌+◌, ◌⊎◌, zero, suc, List, [], ◌++◌, codes}
 use Rattle.jiff_core.specs.declared.civil.date.Date.{Date}
 use Rattle.jiff.specs.Words.{date_text}

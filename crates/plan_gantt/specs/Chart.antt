@@ -1,5 +1,5 @@
--- Gantt charts (docs/definitions.md, "Texts"; Gantt 1910, Clark 1922): a line of cells for each activity or
--- machine, with the same number of instants in each cell.
+-- Gantt charts (docs/definitions.md, "Texts"; Gantt 1910, Clark 1922): a line of cells for each
+-- activity or machine, with the same number of instants in each cell.
 use Rattle.std.specs.Prelude.{ℕ, ◌+◌, ◌*◌, Bool, ◌&&◌, List, ◌++◌, if◌then◌else◌, nat_le, nat_lt, codes}
 use Rattle.std.specs.List.{list_any, range_with_len, flat_map}
 use Rattle.std.specs.Int.{div_ceil}
@@ -15,7 +15,8 @@ covers v t = nat_le v.start t && nat_lt t (v.start + v.duration)
 abbrev pub is_occupied : List Interval → ℕ → Bool
 is_occupied intervals t = list_any (λ v. covers v t) intervals
 
--- the number of instants in a cell: 1 for makespans up to 60, else the least for which 60 cells suffice
+-- the number of instants in a cell: 1 for makespans up to 60, else the least for which 60 cells
+-- suffice
 abbrev pub chart_unit : ℕ → ℕ
 chart_unit makespan = if nat_le makespan 60 then 1 else div_ceil makespan 60
 

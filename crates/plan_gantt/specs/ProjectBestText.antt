@@ -1,5 +1,5 @@
--- The text of the best schedule of a project within the budget that a word spells, or its error line
--- (docs/definitions.md, "Texts").
+-- The text of the best schedule of a project within the budget that a word spells, or its error
+-- line (docs/definitions.md, "Texts").
 use Rattle.std.specs.Prelude.{◌≡◌, ◌<◌, ◌⊎◌, ℕ, List, ◌++◌}
 use Rattle.plan_net.specs.Network.{count_of}
 use Rattle.plan_sgs.specs.Problem.{IsActive, IsShortest, NeedsFit, makespan}
@@ -22,8 +22,8 @@ best_project_text_of i solved =
     kind_line solved.kind solved.schedule.makespan
     ++ schedule_table_text i.project.network solved.schedule.starts.items solved.schedule.makespan
 
--- a text shows the result of a search of a project's words within a budget: an active schedule, which has the
--- least makespan of all feasible ones if it is called optimal
+-- a text shows the result of a search of a project's words within a budget: an active schedule,
+-- which has the least makespan of all feasible ones if it is called optimal
 pub record IsBestProjectBy (budget : ℕ) (i : Planned) (text : List ℕ) : Type 0 where
   pub solved : Solved
   pub solution : IsProjectSolution i budget solved

@@ -1,4 +1,5 @@
--- The text of an instance's schedule by the rule of a name, or its error line (docs/definitions.md, "Texts").
+-- The text of an instance's schedule by the rule of a name, or its error line (docs/definitions.md,
+-- "Texts").
 use Rattle.std.specs.Prelude.{◌≡◌, ◌⊎◌, ℕ, List}
 use Rattle.plan_sgs.specs.Problem.{IsActive, NeedsFit, makespan}
 use Rattle.plan_sgs.specs.Instances.{Planned, problem_of, RefusesInstance}
@@ -23,8 +24,8 @@ pub record IsTableOf (i : Planned) (rule : Rule) (text : List ℕ) : Type 0 wher
 abbrev pub IsScheduleTextOf : List ℕ → Planned → List ℕ → Type 0
 IsScheduleTextOf name i text = (rule : Rule) × (name ≡ rule_text rule) × IsTableOf i rule text
 
--- the error of a project with capacities: the first need that exceeds a capacity, or else that no rule has
--- the name
+-- the error of a project with capacities: the first need that exceeds a capacity, or else that no
+-- rule has the name
 abbrev pub RefusesSchedule : List ℕ → Planned → SgsFault → Type 0
 RefusesSchedule name i first =
     RefusesInstance i first ⊎ (NeedsFit (problem_of i) × RefusesWord name first)

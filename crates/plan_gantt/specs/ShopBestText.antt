@@ -1,5 +1,5 @@
--- The text of the best schedule of a job shop within the budget that a word spells, or its error line
--- (docs/definitions.md, "Texts").
+-- The text of the best schedule of a job shop within the budget that a word spells, or its error
+-- line (docs/definitions.md, "Texts").
 use Rattle.std.specs.Prelude.{◌≡◌, ◌<◌, ℕ, List}
 use Rattle.plan_sgs.specs.Problem.{IsActive, IsShortest, makespan}
 use Rattle.plan_shop.specs.Shop.{JobShop, problem_of, count_steps}
@@ -12,8 +12,8 @@ use Rattle.plan_exact.specs.declared.fault.ExactFault.TheVariants as exact
 use Rattle.plan_gantt.specs.BestText.{best_text_of}
 use Rattle.plan_gantt.specs.ExactFaultText.{exact_fault_text_of}
 
--- a text shows the result of a search of a shop's words within a budget: an active schedule, which has the
--- least makespan of all feasible ones if it is called optimal
+-- a text shows the result of a search of a shop's words within a budget: an active schedule, which
+-- has the least makespan of all feasible ones if it is called optimal
 pub record IsBestBy (budget : ℕ) (s : JobShop) (text : List ℕ) : Type 0 where
   pub solved : Solved
   pub solution : IsSolution s budget solved

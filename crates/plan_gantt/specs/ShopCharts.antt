@@ -1,5 +1,5 @@
--- The intervals in the chart of a job shop, and the lines of its table of working days (docs/definitions.md,
--- "Texts").
+-- The intervals in the chart of a job shop, and the lines of its table of working days
+-- (docs/definitions.md, "Texts").
 use Rattle.std.specs.Prelude.{ℕ, ◌-◌, ◌<◌, List, ◌++◌, map, nat_eq, slice_index, codes}
 use Rattle.plan_shop.specs.Shop.{JobShop, count_steps, time_of, machine_of, those_below}
 use Rattle.plan_gantt.specs.Column.{number_column}

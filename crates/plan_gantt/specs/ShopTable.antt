@@ -1,5 +1,5 @@
--- The table of a job shop's schedule (docs/definitions.md, "Texts"). Steps have flat numbers from 0; jobs and
--- the steps of a job are shown by their numbers from 1, machines from 0.
+-- The table of a job shop's schedule (docs/definitions.md, "Texts"). Steps have flat numbers from
+-- 0; jobs and the steps of a job are shown by their numbers from 1, machines from 0.
 use Rattle.std.specs.Prelude.{ℕ, ◌+◌, ◌/◌, ◌%◌, List, [], ◌∷◌, ◌++◌, get_or, slice_index, codes}
 use Rattle.plan_shop.specs.Shop.{JobShop, count_steps, idle, job_of, place_of}
 use Rattle.plan_orlib.specs.declared.steps.Step.{Step}
@@ -17,8 +17,8 @@ job_number s x = job_of s x + 1
 abbrev pub step_number : JobShop → ℕ → ℕ
 step_number s x = place_of s x + 1
 
--- the line of step x, by the number of machines: its job, its number in the job, its machine, its time, its
--- start and its end
+-- the line of step x, by the number of machines: its job, its number in the job, its machine, its
+-- time, its start and its end
 abbrev pub step_line : ℕ → ℕ → Step → ℕ → List ℕ
 step_line machines x step start =
     number_row (x / machines + 1) ((x % machines + 1) ∷ step.machine ∷ step.time ∷ start ∷ (start + step.time) ∷ [])

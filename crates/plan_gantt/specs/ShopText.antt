@@ -1,4 +1,5 @@
--- The text of a job shop's schedule by the rule of a name, or its error line (docs/definitions.md, "Texts").
+-- The text of a job shop's schedule by the rule of a name, or its error line (docs/definitions.md,
+-- "Texts").
 use Rattle.std.specs.Prelude.{◌≡◌, ℕ, List}
 use Rattle.plan_sgs.specs.Problem.{IsActive, makespan}
 use Rattle.plan_shop.specs.Shop.{JobShop, problem_of}

@@ -25,8 +25,8 @@ fn kind_word(kind: Kind) -> &'static str
     }
 }
 
-/// Returns the text of the best schedule of a shop: a line with `optimal` or `budget` and the makespan, then
-/// the table of the schedule.
+/// Returns the text of the best schedule of a shop: a line with `optimal` or `budget` and the
+/// makespan, then the table of the schedule.
 pub fn best_text(alloc: Global, shop: &Shop, solved: &Solved) -> Result<String, AllocError>
     requires starts { length solved.now.schedule.starts.items ≡ count_steps shop.now }
     requires limit { EachIndex solved.now.schedule.starts.items
@@ -41,8 +41,8 @@ pub fn best_text(alloc: Global, shop: &Shop, solved: &Solved) -> Result<String, 
     Ok(text)
 }
 
-/// Returns the text of the best schedule of a project: a line with `optimal` or `budget` and the makespan,
-/// then the table of the schedule.
+/// Returns the text of the best schedule of a project: a line with `optimal` or `budget` and the
+/// makespan, then the table of the schedule.
 pub fn best_project_text(
     alloc: Global,
     instance: &Instance,

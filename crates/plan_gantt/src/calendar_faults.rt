@@ -5,8 +5,8 @@ ghost use Rattle.plan_gantt.specs.CalendarFaultText.{calendar_fault_text_of, mis
 
 use plan_calendar::CalendarFault;
 
-/// Returns the error line of a calendar or of a working day, such as `G1 date`, without a line feed.
-/// Allocates nothing.
+/// Returns the error line of a calendar or of a working day, such as `G1 date`, without a line
+/// feed. Allocates nothing.
 pub fn calendar_fault_text(fault: CalendarFault) -> &'static str
     ensures text { result.now ≡ calendar_fault_text_of fault }
 {
@@ -17,8 +17,8 @@ pub fn calendar_fault_text(fault: CalendarFault) -> &'static str
     }
 }
 
-/// Returns the error line of a request for working days without a calendar, without a line feed. Allocates
-/// nothing.
+/// Returns the error line of a request for working days without a calendar, without a line feed.
+/// Allocates nothing.
 pub fn missing_calendar() -> &'static str
     ensures text { result.now ≡ missing_calendar_text }
 {

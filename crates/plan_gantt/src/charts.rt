@@ -126,9 +126,9 @@ fn push_activity(
     push_line(text, makespan, j, &[interval_of(network, starts, j)])
 }
 
-/// Returns the Gantt chart of a schedule (Gantt 1910, Clark 1922): the unit, which is the number of instants
-/// in a cell, and a line of cells for each activity. A cell is `#` if one of its instants is in the interval
-/// of the activity, else `.`. The start at index `k` is that of activity `k + 1`.
+/// Returns the Gantt chart of a schedule (Gantt 1910, Clark 1922): the unit, which is the number of
+/// instants in a cell, and a line of cells for each activity. A cell is `#` if one of its instants
+/// is in the interval of the activity, else `.`. Index `k` of `starts` is activity `k + 1`.
 pub fn chart(
     alloc: Global,
     network: &Network,

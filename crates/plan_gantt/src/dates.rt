@@ -50,9 +50,9 @@ fn push_line(text: &mut String, network: &Network, dates: &Dates, j: u32) -> Res
     push_end(text, dates.tf(j) == 0)
 }
 
-/// Returns the date table: a line for each activity with its duration, ES, EF, LS, LF, TF and FF, and the
-/// project duration in the last line. Critical activities have a star. The dates may be those of another
-/// network with as many activities.
+/// Returns the date table: a line for each activity with its duration, ES, EF, LS, LF, TF and FF,
+/// and the project duration in the last line. Critical activities have a star. The dates may be
+/// those of another network with as many activities.
 pub fn date_table(alloc: Global, network: &Network, dates: &Dates) -> Result<String, AllocError>
     requires dated { length dates.now.durations ≡ count_of network.now }
     ensures text { IfOk result (λ text. string_bytes text ≡ date_table_text network.now dates.now) }

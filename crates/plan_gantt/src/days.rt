@@ -106,9 +106,10 @@ fn push_line(
     push_days_line(text, calendar, interval_of(network, starts, j))
 }
 
-/// Returns the table of working days of a schedule: a line for each activity with the days of its first and
-/// last instants, or hyphens if its duration is 0. The start at index `k` is that of activity `k + 1`. Fails
-/// with [`DaysFault::BeyondCalendar`] if one of these days would be after 9999-12-31.
+/// Returns the table of working days of a schedule: a line for each activity with the days of its
+/// first and last instants, or hyphens if its duration is 0. Index `k` of `starts` is
+/// activity `k + 1`. Fails with [`DaysFault::BeyondCalendar`] if one of these days would be after
+/// 9999-12-31.
 pub fn calendar_table(
     alloc: Global,
     network: &Network,

@@ -49,8 +49,8 @@ fn push_spaced(text: &mut String, numbers: &[u32]) -> Result<(), AllocError>
     Ok(())
 }
 
-/// Returns the error line of a file, such as `F9 line 31`, without a line feed. For a cycle it also lists the
-/// activities of the cycle, as in `F12 line 17 cycle 3 4`. Out of memory is `E90 memory`.
+/// Returns the error line of a file, such as `F9 line 31`, without a line feed. For a cycle it also
+/// lists the activities of the cycle, as in `F12 line 17 cycle 3 4`. Out of memory is `E90 memory`.
 pub fn file_fault_text(alloc: Global, fault: &FileFault) -> Result<String, AllocError>
     ensures text { IfOk result (λ text. string_bytes text ≡ file_fault_text_of fault.now) }
 {

@@ -24,7 +24,8 @@ fn overlaps(interval: Interval, from: u64, count: u64) -> bool
         && from < interval.start + interval.duration
 }
 
-/// Tests whether some instant of a cell is in one of the intervals. A cell contains `unit` instants.
+/// Tests whether some instant of a cell is in one of the intervals. A cell contains `unit`
+/// instants.
 #[tactic(auto, using(crate::proofs::CellLemmas::marked_by_bounds))]
 pub fn is_marked(unit: u64, intervals: &[Interval], cell: u64) -> bool
     requires instants { cell * unit + unit ≤ 2 * latest_end }

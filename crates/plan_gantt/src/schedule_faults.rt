@@ -7,8 +7,8 @@ use plan_sgs::SgsFault;
 use std::alloc::{AllocError, Global};
 use std::fmt::Write;
 
-/// Returns the error line of a schedule that is rejected, as `S1 activity 2 resource 1`, without an end of
-/// line; out of memory is `E90 memory`.
+/// Returns the error line of a schedule that is rejected, as `S1 activity 2 resource 1`, without an
+/// end of line; out of memory is `E90 memory`.
 pub fn schedule_fault_text(alloc: Global, fault: &SgsFault) -> Result<String, AllocError>
     ensures text { IfOk result (λ text. string_bytes text ≡ schedule_fault_text_of fault.now) }
 {

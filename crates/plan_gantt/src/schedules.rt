@@ -52,8 +52,8 @@ pub(crate) fn push_schedule_table(
     push_makespan(text, makespan)
 }
 
-/// Returns the table of a schedule: a line for each activity with its duration, start and end, and the
-/// makespan in the last line. The start at index `k` is that of activity `k + 1`.
+/// Returns the table of a schedule: a line for each activity with its duration, start and end, and
+/// the makespan in the last line. Index `k` of `starts` is activity `k + 1`.
 pub fn schedule_table(
     alloc: Global,
     network: &Network,

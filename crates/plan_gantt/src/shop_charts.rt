@@ -59,9 +59,10 @@ fn machine_intervals(
     Ok(intervals)
 }
 
-/// Returns the Gantt chart of a shop's schedule (Gantt 1910, Clark 1922): the unit, which is the number of
-/// instants in a cell, and a line of cells for each machine. A cell is `#` if one of its instants is in the
-/// interval of a step on the machine, else `.`. The start at index `x` is that of flat step `x`.
+/// Returns the Gantt chart of a shop's schedule (Gantt 1910, Clark 1922): the unit, which is the
+/// number of instants in a cell, and a line of cells for each machine. A cell is `#` if one of its
+/// instants is in the interval of a step on the machine, else `.`. Index `x` of `starts` is
+/// flat step `x`.
 pub fn shop_chart(
     alloc: Global,
     shop: &Shop,

@@ -46,10 +46,10 @@ fn push_line(
     push_days_line(text, calendar, step_interval(shop, starts, x))
 }
 
-/// Returns the table of working days of a shop's schedule: a line for each step in flat order. A line
-/// contains the job, the step's number in it, and the days of the first and last instants, or hyphens if the
-/// time is 0. The start at index `x` is that of flat step `x`. Fails with [`DaysFault::BeyondCalendar`] if
-/// one of these days would be after 9999-12-31.
+/// Returns the table of working days of a shop's schedule: a line for each step in flat order. A
+/// line contains the job, the step's number in it, and the days of the first and last instants, or
+/// hyphens if the time is 0. Index `x` of `starts` is flat step `x`. Fails with
+/// [`DaysFault::BeyondCalendar`] if one of these days would be after 9999-12-31.
 pub fn shop_calendar_table(
     alloc: Global,
     shop: &Shop,

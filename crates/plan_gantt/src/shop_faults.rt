@@ -7,8 +7,8 @@ use plan_shop::ShopFault;
 use std::alloc::{AllocError, Global};
 use std::fmt::Write;
 
-/// Returns the error line of a job shop that is rejected, as `S4 machine 0 closed`, without an end of line;
-/// out of memory is `E90 memory`.
+/// Returns the error line of a job shop that is rejected, as `S4 machine 0 closed`, without an end
+/// of line; out of memory is `E90 memory`.
 pub fn shop_fault_text(alloc: Global, fault: &ShopFault) -> Result<String, AllocError>
     ensures text { IfOk result (λ text. string_bytes text ≡ shop_fault_text_of fault.now) }
 {

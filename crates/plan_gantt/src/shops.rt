@@ -58,9 +58,9 @@ pub(crate) fn push_shop_table(
     push_makespan(text, makespan)
 }
 
-/// Returns the table of a shop's schedule: a line for each step in flat order, and the makespan in the last
-/// line. A line contains the job and the step's number in it (from 1), the machine (from 0), the time, the
-/// start and the end. The start at index `x` is that of flat step `x`.
+/// Returns the table of a shop's schedule: a line for each step in flat order, and the makespan in
+/// the last line. A line contains the job and the step's number in it (from 1), the machine (from
+/// 0), the time, the start and the end. Index `x` of `starts` is flat step `x`.
 pub fn shop_table(
     alloc: Global,
     shop: &Shop,

@@ -25,9 +25,9 @@ pub fn some_verdict(bytes: &[u8])
     read_head(&mut client, &mut buf, &mut headers);
 }
 
-/// A target has a route exactly if it is plain and its segments are those of the route's text, where
-/// a name in braces stands for any segment but the empty one. The statement doesn't mention the
-/// table of routes.
+/// A target has a route exactly if it is plain and its segments are those of the route's text,
+/// where a name in braces stands for any segment but the empty one. The statement doesn't mention
+/// the table of routes.
 pub fn routes_are_these()
     ensures { RoutesAreThese }
 {}

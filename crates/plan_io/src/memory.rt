@@ -5,7 +5,8 @@ ghost use Rattle.std.specs.Prelude.{◌≡◌, Some};
 use crate::tally::Tally;
 use crate::traits::{DeviceFault, Sink, Source};
 
-/// A source over bytes in memory. A read copies as many bytes as fit into its buffer and never fails.
+/// A source over bytes in memory. A read copies as many bytes as fit into its buffer and never
+/// fails.
 #[derive(Drop)]
 pub struct MemSource<'a> {
     rest: &'a [u8],

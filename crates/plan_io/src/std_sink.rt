@@ -6,8 +6,8 @@ use crate::tally::Tally;
 use crate::traits::{DeviceFault, Sink};
 use std::io::Write;
 
-/// A sink over a writer of std. Each error of the writer is a fault. A `Sink` isn't flushed, so the writer
-/// should not buffer.
+/// A sink over a writer of std. Each error of the writer is a fault. A `Sink` isn't flushed, so the
+/// writer should not buffer.
 #[derive(Drop)]
 pub struct StdSink<W: Write + Drop> {
     inner: W,

@@ -7,11 +7,12 @@ ghost use Rattle.plan_io.specs.Devices.{IsCounted};
 use crate::traits::DeviceFault;
 use std::marker::Model;
 
-/// The numbers of calls and of failed calls of one reader or writer. Only contracts see these numbers: a
+/// The numbers of calls and of failed calls of one reader or writer. Only contracts see these
+/// numbers: a
 /// `Tally` takes no bytes at run time, and nothing can overflow.
 ///
-/// They bind code that is generic over a [`Source`](crate::Source) or a [`Sink`](crate::Sink): it can
-/// raise them only by calling the device.
+/// They bind code that is generic over a [`Source`](crate::Source) or a [`Sink`](crate::Sink): it
+/// can raise them only by calling the device.
 #[derive(Drop)]
 pub struct Tally {
     pub ghost calls: { ℕ },

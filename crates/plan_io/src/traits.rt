@@ -22,8 +22,8 @@ pub trait Source {
     /// The bytes that are still to be read, if they are known.
     ghost remaining: { Self → Option (List ℕ) };
 
-    /// Reads bytes to the front of a buffer and returns their number. 0 with a buffer that has room means
-    /// the end of the input.
+    /// Reads bytes to the front of a buffer and returns their number. 0 with a buffer that has room
+    /// means the end of the input.
     fn read(&mut self, buf: &mut [u8]) -> Result<usize, DeviceFault>
         ensures counted { IsCounted (calls self.old) (calls self.new) (faults self.old)
             (faults self.new) result }

@@ -49,8 +49,9 @@ pub struct OutputError {
     pub sent: usize,
 }
 
-/// Reads all bytes of a source, but at most `limit + 1`. A result longer than `limit` shows that the input is
-/// too long. If `limit + 2` is at most [`MOST_CALLS`], the error `Failed` means that exactly one read failed.
+/// Reads all bytes of a source, but at most `limit + 1`. A result longer than `limit` shows that
+/// the input is too long. If `limit + 2` is at most [`MOST_CALLS`], the error `Failed` means that
+/// exactly one read failed.
 pub fn read_beyond<R: Source>(
     alloc: Global,
     reader: &mut R,

@@ -25,7 +25,8 @@ begun input upper facts values limit are (clause, follows, covered) starts short
       each l (inl never) = absurd never
       each l (inr is) = covered_fails input upper facts values starts l limit are short hold is
 
--- what is left of a conflict at a half, and the negation of a clause but for what implies the literal at that half, are a conflict
+-- what is left of a conflict at a half, and the negation of a clause but for what implies the
+-- literal at that half, are a conflict
 pub resolved : (input : Input) (upper half value : ℕ) (facts old cleared new : List ℕ) → upper ≤ LIMIT → AreFacts input upper facts → IsConflict input upper old
     → value ≡ at old half → IsClearedAt old cleared half → IsRaised cleared new
     → HasAdded input upper facts new (Some (record { half = half; value = value })) → IsConflict input upper new

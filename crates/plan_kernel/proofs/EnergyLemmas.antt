@@ -1,4 +1,5 @@
--- Energy: activities that are in a window for their times need no more, over time, than there is in the window.
+-- Energy: activities that are in a window for their times need no more, over time, than there is in
+-- the window.
 use Rattle.std.proofs.Common.{◌≡◌, ◌≢◌, ℕ, zero, suc, ◌+◌, ◌-◌, ◌*◌, ◌≤◌, ◌<◌, inl, inr, List, [], ◌∷◌, length, get_or, refl, ap, arith}
 use Rattle.std.proofs.Math.Nat.{mul-suc}
 use Rattle.std.specs.List.{All, AllPairs, sum_by}

@@ -12,7 +12,8 @@ use Rattle.plan_kernel.specs.Kernels.{IsEndReached, AreLatest}
 use Rattle.plan_kernel.proofs.InputLemmas.{count_is, duration_is}
 use Rattle.plan_kernel.proofs.LevelLemmas.{ends_before, quantity_start, level_even, level_odd}
 
--- an activity ends before the upper bound, so that its start leaves at least a value below the limit
+-- an activity ends before the upper bound, so that its start leaves at least a value below the
+-- limit
 pub latest_holds : (input : Input) (upper place value : ℕ) (old new : List ℕ) → upper ≤ LIMIT → place < length input.durations.items → AreFacts input upper old
     → value ≤ LIMIT - upper + 1 + at input.durations.items place → IsRaisedTo old new (2 * place + 1) value → AreFacts input upper new
 latest_holds input upper place value old new limit inside are small raised starts short half = elim (raised half) [

@@ -1,4 +1,5 @@
--- What literals say: a half and its opposite share the limit, and a literal holds where its negation fails.
+-- What literals say: a half and its opposite share the limit, and a literal holds where its
+-- negation fails.
 use Rattle.std.proofs.Common.{◌≡◌, ◌∙◌, ℕ, ◌+◌, ◌-◌, ◌*◌, ◌/◌, ◌%◌, ◌≤◌, ◌<◌, ◌⊎◌, inl, inr, List, nat_eq, nat_lt, nat_le, get_or, ap, arith}
 use Rattle.std.proofs.lemmas.Bool.{cases_eq, cond_both, cond-true, cond-false, eq-eqb, ne_eqb, lt-ltb, le-ltb, ltb-true}
 use Rattle.plan_sgs.specs.Problem.{Problem, count, duration}

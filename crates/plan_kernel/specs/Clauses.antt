@@ -1,5 +1,5 @@
--- Clauses, facts and conflicts: what they say of all feasible lists of starts whose makespan is below
--- an upper bound (docs/definitions.md, "Clauses"). Conflict analysis as in Marques-Silva and
+-- Clauses, facts and conflicts: what they say of all feasible lists of starts whose makespan is
+-- below an upper bound (docs/definitions.md, "Clauses"). Conflict analysis as in Marques-Silva and
 -- Sakallah (1999).
 use Rattle.std.specs.Prelude.{◌≡◌, ◌≢◌, ℕ, ◌≤◌, ◌<◌, ◌⊎◌, Bool, not, nat_eq, List, Option, Some, None, All, Contains}
 use Rattle.plan_sgs.specs.Problem.{IsFeasible, makespan}

@@ -72,7 +72,8 @@ pub record IsTrueOf (known : Known) (conflict : Conflict) : Type 0 where
 abbrev pub count_halves : Input → ℕ
 count_halves input = 2 * (length input.durations.items + length input.orders.items)
 
--- the facts say of the first n activities that they end before the upper bound, as far as numbers go
+-- the facts say of the first n activities that they end before the upper bound, as far as numbers
+-- go
 abbrev pub AreLatest : Input → ℕ → List ℕ → ℕ → Type 0
 AreLatest input upper facts n =
     (i : ℕ) → i < n → 2 * i + 1 < length facts

@@ -1,5 +1,5 @@
--- If an order contains all activities, there is no cycle; otherwise the open activities are the largest set
--- in which each has a predecessor.
+-- If an order contains all activities, there is no cycle; otherwise the open activities are the
+-- largest set in which each has a predecessor.
 use Rattle.std.proofs.Common.{ℕ, suc, zero, Bool, true, false, not, ◌≡◌, ◌+◌, ◌-◌, ◌≤◌, ◌<◌, ◌⊎◌, inl, inr, List, [], ◌∷◌, length, take, get_or, sym, ◌∙◌, ap, subst, arith}
 use Rattle.std.proofs.lemmas.List.{length-take, get_or-take, get_or_past, get_or_default}
 use Rattle.std.proofs.lemmas.Bool.{cases_Bool, cases_lt, false≢true}

@@ -1,4 +1,5 @@
--- The tables beside the arcs: the arc and the lag at an index, and the tables after a change of one lag.
+-- The tables beside the arcs: the arc and the lag at an index, and the tables after a change of one
+-- lag.
 use Rattle.std.proofs.Common.{ℕ, ◌≡◌, ◌≢◌, ◌+◌, ◌-◌, ◌≤◌, ◌<◌, ◌↔◌, ◌⊎◌, inl, inr, List, [], length, get_or, set, map, refl, sym, ◌∙◌, ap, subst, arith, Vec}
 use Rattle.std.specs.declared.alloc.Global.{Global}
 use Rattle.std.specs.List.{Contains, All}

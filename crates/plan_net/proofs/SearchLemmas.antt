@@ -1,4 +1,5 @@
--- Decidable facts: the least number with a property, an arc with one, the index of the least number.
+-- Decidable facts: the least number with a property, an arc with one, the index of the least
+-- number.
 use Rattle.std.proofs.Common.{ℕ, suc, zero, ◌≡◌, ◌≤◌, ◌<◌, ◌⊎◌, inl, inr, List, [], ◌∷◌, length, get_or, refl, sym, subst, arith}
 use Rattle.std.specs.List.{Contains}
 use Rattle.std.proofs.lemmas.List.Elements.{Contains-push_cases, Contains-append_cases, Contains-append_right}

@@ -1,4 +1,5 @@
--- A network is sound if its order contains all activities, and remains sound after a change of a lag.
+-- A network is sound if its order contains all activities, and remains sound after a change of a
+-- lag.
 use Rattle.std.proofs.Common.{ℕ, Bool, ◌≡◌, ◌≤◌, List, [], ◌∷◌, length, Result, Ok, Err, sym, ◌∙◌, ap, subst, arith}
 use Rattle.std.specs.Result.{OnOk, OnErr}
 use Rattle.plan_net.specs.Network.{Net, count_of, IsArc, IsLeast, lag_of, with_lag}

@@ -1,4 +1,5 @@
--- The arcs of rows of successors: they are within the limits, all different, and those that the rows contain.
+-- The arcs of rows of successors: they are within the limits, all different, and those that the
+-- rows contain.
 use Rattle.std.proofs.Common.{◌≡◌, ◌≢◌, ℕ, zero, suc, ◌+◌, ◌-◌, ◌≤◌, ◌<◌, ◌⊎◌, inl, inr, Bool, true, false, List, [], ◌∷◌, ◌++◌, Some, length, take, get_or, refl, sym, ap, ◌∙◌, subst, append_assoc, arith, Vec}
 use Rattle.std.specs.Prelude.{nat_eq, slice_get, Contains}
 use Rattle.std.specs.List.{AllByRecursion, IsDistinct}

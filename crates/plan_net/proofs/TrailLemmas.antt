@@ -11,7 +11,8 @@ use Rattle.plan_net.specs.Trails.{IsCaughtOpen, IsTrail}
 use Rattle.plan_net.proofs.RowLemmas.{arc_ends}
 use Rattle.plan_net.proofs.RisingLemmas.{HoldsOnce-push, least_once}
 
--- the least open predecessor is the least one in the largest set, if that set is the open activities
+-- the least open predecessor is the least one in the largest set, if that set is the open
+-- activities
 pub least_before : (net : Net) (placed : List Bool) (at i : ℕ) → IsWithinLimits net → IsCaughtOpen net placed → IsLeast (λ h. IsArc net h at × IsOpen placed h) i → IsLeastCaughtBefore net at i
 least_before net placed at i limits open_ones least =
     (((open_ones i).1 ((arc_ends net i at limits least.0.0).0, least.0.1), least.0.0), λ v both. least.1 v (both.1, ((open_ones v).0 both.0).1))

@@ -14,7 +14,8 @@ IsCaught net j = (set : ℕ → Bool) × IsFed net set × (set j ≡ true)
 abbrev pub IsLeastCaughtBefore : Net → ℕ → ℕ → Type 0
 IsLeastCaughtBefore net j i = IsLeast (λ h. IsCaught net h × IsArc net h j) i
 
--- a walk of so many steps from the least member of that set, each to the least predecessor in it, ends at j
+-- a walk of so many steps from the least member of that set, each to the least predecessor in it,
+-- ends at j
 abbrev pub Comes : Net → ℕ → ℕ → Type 0
 Comes net zero j = IsLeast (IsCaught net) j
 Comes net (suc steps) j = (k : ℕ) × Comes net steps k × IsLeastCaughtBefore net k j

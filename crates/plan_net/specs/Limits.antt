@@ -1,5 +1,5 @@
--- The limits of a network as numbers; proofs compare the program's constants with them (docs/definitions.md,
--- "Networks").
+-- The limits of a network as numbers; proofs compare the program's constants with them
+-- (docs/definitions.md, "Networks").
 use Rattle.std.specs.Prelude.{ℕ, ◌≡◌, ◌-◌, ◌≤◌, ◌<◌, length, take, slice_index, slice_get, Some, Contains, All, sum}
 use Rattle.plan_net.specs.Network.{Net, count_of, IsActivity}
 use Rattle.plan_net.specs.Path.{IsAcyclic}

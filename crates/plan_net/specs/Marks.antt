@@ -1,4 +1,5 @@
--- Marks for the arcs of a network, in a row for each activity, as the search for double arcs keeps them.
+-- Marks for the arcs of a network, in a row for each activity, as the search for double arcs keeps
+-- them.
 use Rattle.std.specs.Prelude.{ℕ, Bool, true, false, ◌≡◌, ◌+◌, ◌<◌, ◌↔◌, List, length, replicate, slice_index_or, Contains, Vec}
 use Rattle.std.specs.declared.alloc.Global.{Global}
 use Rattle.plan_net.specs.Indexed.{row_at}
@@ -15,7 +16,8 @@ pub record IsSquare (count : ℕ) (marks : List (Vec Bool Global)) : Type 0 wher
 abbrev pub HasNoMark : List (Vec Bool Global) → Type 0
 HasNoMark marks = (row column : ℕ) → mark_at marks row column ≡ false
 
--- the marks that are set are those of the arcs: an arc's row is that of its end, its column that of its start
+-- the marks that are set are those of the arcs: an arc's row is that of its end, its column that of
+-- its start
 abbrev pub AreMarks : List (ℕ × ℕ) → List (Vec Bool Global) → Type 0
 AreMarks arcs marks = (row column : ℕ) → mark_at marks row column ≡ true ↔ Contains arcs (column + 1, row + 1)
 

@@ -1,10 +1,10 @@
--- Activity networks: activities with durations, arcs, and the lags beside them (docs/definitions.md,
--- "Networks").
+-- Activity networks: activities with durations, arcs, and the lags beside them
+-- (docs/definitions.md, "Networks").
 use Rattle.std.specs.Prelude.{ℕ, Bool, cond, nat_eq, ◌&&◌, ◌-◌, ◌≤◌, ◌↔◌, List, [], ◌∷◌, length, replicate, drop, slice_index, Contains}
 use Rattle.std.specs.List.Sorted.{IsStrictlyIncreasing}
 
--- an activity network: the durations of the activities 1 to n, its arcs in the order of the input, and a lag
--- for each arc
+-- an activity network: the durations of the activities 1 to n, its arcs in the order of the input,
+-- and a lag for each arc
 pub record Net : Type 0 where
   pub durations : List ℕ
   pub arcs : List (ℕ × ℕ)

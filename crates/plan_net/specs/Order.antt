@@ -1,4 +1,5 @@
--- The topological order that always takes the least activity that can come (docs/definitions.md, "Networks").
+-- The topological order that always takes the least activity that can come (docs/definitions.md,
+-- "Networks").
 use Rattle.std.specs.Prelude.{ℕ, ◌≡◌, ◌<◌, List, length, take, slice_index, Contains}
 use Rattle.plan_net.specs.Network.{Net, count_of, IsActivity, IsArc, IsLeast}
 

@@ -1,4 +1,5 @@
--- Marks on the activities, and the order in which they were set, as the search for an order keeps them.
+-- Marks on the activities, and the order in which they were set, as the search for an order keeps
+-- them.
 use Rattle.std.specs.Prelude.{ℕ, Bool, true, false, ◌≡◌, ◌+◌, ◌-◌, ◌<◌, ◌↔◌, ◌⊎◌, List, [], ◌∷◌, length, take, slice_index, slice_index_or, Contains}
 use Rattle.plan_net.specs.Network.{Net, count_of, IsActivity, IsArc, IsLeast}
 use Rattle.plan_net.specs.Order.{CanCome}

@@ -38,7 +38,8 @@ impl Model for Arcs {
     ghost invariant = { IsIndexed };
 }
 
-// Returns the first error of a network that needs no table: its size, a duration or an end of an arc.
+// Returns the first error of a network that needs no table: its size, a duration or an end of an
+// arc.
 fn plain_fault(durations: &[u64], arcs: &[(u32, u32)]) -> Option<NetFault>
     ensures some { IfSome result (IsFirstFault (unlagged durations.now arcs.now)) }
     ensures cycle { IfSome result (NamesCycle (unlagged durations.now arcs.now)) }
@@ -59,8 +60,8 @@ fn plain_fault(durations: &[u64], arcs: &[(u32, u32)]) -> Option<NetFault>
 }
 
 impl Arcs {
-    /// Returns the network of these durations and arcs, all lags 0, or its first error. Doesn't test for a
-    /// cycle.
+    /// Returns the network of these durations and arcs, all lags 0, or its first error. Doesn't
+    /// test for a cycle.
     pub fn new(alloc: Global, durations: Vec<u64>, arcs: Vec<(u32, u32)>) -> Result<Self, NetFault>
         ensures accepted { IfOk result (λ made. (made ≡ unlagged durations.items arcs.items)
             × IsWithinLimits made) }
@@ -87,7 +88,8 @@ impl Arcs {
         })
     }
 
-    /// Returns the network of these durations and of the arcs of these rows of successors, all lags 0.
+    /// Returns the network of these durations and of the arcs of these rows of successors, all lags
+    /// 0.
     pub fn of_rows(
         alloc: Global,
         durations: Vec<u64>,

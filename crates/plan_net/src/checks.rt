@@ -7,8 +7,8 @@ ghost use Rattle.plan_net.specs.Refusals.{IsFirstBadArc, IsFirstBadDuration};
 
 use super::limits::{LONGEST_DURATION, LONGEST_SUM, MOST_ACTIVITIES};
 
-/// Returns the first activity whose duration is above 10,000, or up to which the durations add up to more
-/// than 1,000,000.
+/// Returns the first activity whose duration is above 10,000, or up to which the durations add up
+/// to more than 1,000,000.
 pub fn first_bad_duration(durations: &[u64]) -> Option<u32>
     requires { length durations.now ≤ MOST_ACTIVITIES }
     ensures some { IfSome result (IsFirstBadDuration (unlagged durations.now [])) }

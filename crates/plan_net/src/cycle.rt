@@ -1,5 +1,5 @@
-//! The search for the cycle that an error names: a walk from predecessor to predecessor until an activity
-//! recurs.
+//! The search for the cycle that an error names: a walk from predecessor to predecessor until an
+//! activity recurs.
 
 ghost use Rattle.std.specs.Prelude.{◌≡◌, length, IfOk, Contains, ◌<◌, ◌≤◌, slice_index, EachIndex};
 ghost use Rattle.plan_net.specs.Network.{IsLeast, count_of};
@@ -11,8 +11,8 @@ use super::arcs::Arcs;
 use super::order::open_pred;
 use std::alloc::{AllocError, Global};
 
-// Returns a walk from `first`, on which each activity is the least open predecessor of the one before it, and
-// the first activity that recurs.
+// Returns a walk from `first`, on which each activity is the least open predecessor of the one
+// before it, and the first activity that recurs.
 fn trail_from(
     alloc: Global,
     arcs: &Arcs,
@@ -71,8 +71,8 @@ fn place_of_met(trail: &[u32], at: u32) -> usize
     place
 }
 
-/// Returns the named cycle of a network in which every open activity has an open predecessor. `first` is the
-/// least open activity.
+/// Returns the named cycle of a network in which every open activity has an open predecessor.
+/// `first` is the least open activity.
 pub fn named_cycle(
     alloc: Global,
     arcs: &Arcs,

@@ -12,7 +12,8 @@ pub enum NetFault {
     /// The number of activities is not from 2 to 502.
     #[error("the number of activities is not from 2 to 502")]
     Size,
-    /// The duration of this activity is above 10,000, or those up to it add up to more than 1,000,000.
+    /// The duration of this activity is above 10,000, or those up to it add up to more than
+    /// 1,000,000.
     #[error("the duration of activity {0} is above a limit")]
     BadDuration(u32),
     /// An end of this arc isn't an activity.

@@ -17,8 +17,8 @@ use std::marker::Model;
 
 /// An activity network (activity-on-node) within the limits and without a cycle.
 ///
-/// Its activities are numbered from 1 to `len()`. An arc from `i` to `j` with a lag means that `j` starts no
-/// earlier than the lag after the end of `i`. Durations and lags are whole time units.
+/// Its activities are numbered from 1 to `len()`. An arc from `i` to `j` with a lag means that `j`
+/// starts no earlier than the lag after the end of `i`. Durations and lags are whole time units.
 #[derive(Drop)]
 pub struct Network {
     arcs: Arcs,
@@ -55,10 +55,10 @@ fn ordered(alloc: Global, arcs: Arcs) -> Result<Network, NetFault>
 impl Network {
     /// Returns the network of these durations and arcs, all lags 0.
     ///
-    /// The duration at index `k` is that of activity `k + 1`. An arc is a pair of predecessor and successor.
-    /// The errors are tested in this order: [`NetFault::Size`], [`NetFault::BadDuration`],
-    /// [`NetFault::BadArc`], [`NetFault::DoubleArc`], [`NetFault::Cycle`]. Any call can fail with
-    /// [`NetFault::NoMemory`].
+    /// The duration at index `k` is that of activity `k + 1`. An arc is a pair of predecessor and
+    /// successor. The errors are tested in this order: [`NetFault::Size`],
+    /// [`NetFault::BadDuration`], [`NetFault::BadArc`], [`NetFault::DoubleArc`],
+    /// [`NetFault::Cycle`]. Any call can fail with [`NetFault::NoMemory`].
     pub fn new(alloc: Global, durations: Vec<u64>, arcs: Vec<(u32, u32)>) -> Result<Self, NetFault>
         ensures accepted { IfOk result (λ net. (net ≡ unlagged durations.items arcs.items)
             × IsSound net) }
@@ -70,8 +70,9 @@ impl Network {
         ordered(alloc, arcs)
     }
 
-    /// Returns the network of these durations and rows of successors, all lags 0. The row at index `k`
-    /// contains the successors of activity `k + 1`. The arcs are those of the rows, one row after another.
+    /// Returns the network of these durations and rows of successors, all lags 0. The row at index
+    /// `k` contains the successors of activity `k + 1`. The arcs are those of the rows, one row
+    /// after another.
     ///
     /// The caller must keep the limits, so the only errors are [`NetFault::Cycle`] and
     /// [`NetFault::NoMemory`].
@@ -137,8 +138,8 @@ impl Network {
         self.arcs.succs(j)
     }
 
-    /// Returns all activities, each after its predecessors. Each entry is the least activity that can come
-    /// next.
+    /// Returns all activities, each after its predecessors. Each entry is the least activity that
+    /// can come next.
     pub fn order(&self) -> &[u32]
         ensures least { IsLeastOrder self.now result.now }
         ensures topological { IsTopological self.now result.now }
@@ -181,8 +182,8 @@ impl Network {
 
     /// Sets the lag of the arc from `i` to `j`, in whole time units. Allocates nothing.
     ///
-    /// Returns the error [`NetFault::NoArc`] if there is no such arc, then [`NetFault::BadLag`] if the lag
-    /// is above 10,000.
+    /// Returns the error [`NetFault::NoArc`] if there is no such arc, then [`NetFault::BadLag`] if
+    /// the lag is above 10,000.
     pub fn set_lag(&mut self, i: u32, j: u32, lag: u64) -> Result<(), NetFault>
         ensures sound { IsSound self.new }
         ensures ok { OnOk result (IsArc self.old i j × (lag ≤ LONGEST_LAG) ×

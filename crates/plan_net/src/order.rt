@@ -44,8 +44,8 @@ fn least_ready(arcs: &Arcs, placed: &[bool], first: u32) -> Option<u32>
     None
 }
 
-// Returns the activity at which the search continues after `j`: the least successor below `j` that can come
-// now, or else `j + 1`.
+// Returns the activity at which the search continues after `j`: the least successor below `j` that
+// can come now, or else `j + 1`.
 fn next_from(arcs: &Arcs, j: u32, placed: &[bool]) -> u32
     requires activity { IsActivity arcs.now j }
     requires whole { length placed.now ≡ count_of arcs.now }

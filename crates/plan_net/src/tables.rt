@@ -22,8 +22,8 @@ pub fn no_marks(alloc: Global, count: usize) -> Result<Vec<Vec<bool>>, AllocErro
     Ok(marks)
 }
 
-/// Returns the first arc that equals an earlier one, if there is one. The marks must all be unset, and are
-/// changed.
+/// Returns the first arc that equals an earlier one, if there is one. The marks must all be unset,
+/// and are changed.
 pub fn first_double_arc(
     durations: &[u64],
     arcs: &[(u32, u32)],
@@ -57,8 +57,8 @@ pub fn no_lags(alloc: Global, rows: &[Vec<u32>]) -> Result<Vec<Vec<u64>>, AllocE
     Ok(lags)
 }
 
-// Returns the index of a number in a rising row. Tries the index `i - 1` first, where a row of all numbers
-// from 1 contains `i`.
+// Returns the index of a number in a rising row. Tries the index `i - 1` first, where a row of all
+// numbers from 1 contains `i`.
 fn place_in_row(row: &[u32], i: u32) -> Option<usize>
     requires { IsStrictlyIncreasing row.now }
     ensures some { IfSome result (λ place. (place < length row.now) ×
@@ -74,7 +74,8 @@ fn place_in_row(row: &[u32], i: u32) -> Option<usize>
     }
 }
 
-/// Returns the index of the row and the index in it of the arc from `i` to `j`, in the rows of predecessors.
+/// Returns the index of the row and the index in it of the arc from `i` to `j`, in the rows of
+/// predecessors.
 pub fn place_in(rows: &[Vec<u32>], i: u32, j: u32) -> Option<(usize, usize)>
     requires { (k : ℕ) → k < length rows.now → IsStrictlyIncreasing (row_at rows.now k) }
     ensures some { IfSome result (λ place. (place.0 + 1 ≡ j) × (place.0 < length rows.now) ×

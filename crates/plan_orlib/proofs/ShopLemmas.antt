@@ -1,4 +1,5 @@
--- Shops at the front of streams: reading succeeds exactly for the words that begin with the shop's numbers.
+-- Shops at the front of streams: reading succeeds exactly for the words that begin with the shop's
+-- numbers.
 use Rattle.std.proofs.Common.{◌≡◌, ℕ, zero, suc, ◌+◌, ◌≤◌, ◌<◌, List, [], ◌∷◌, ◌++◌, Some, Ok, length, map, get_or, refl, sym, ap, ◌∙◌, subst, append_assoc, append-nil, arith}
 use Rattle.std.specs.Prelude.{nat_lt, All}
 use Rattle.std.specs.List.{AllByRecursion, flat_map}

@@ -1,5 +1,5 @@
--- What each error of a job shop text says of the text by itself, in whatever order the checks are made
--- (docs/definitions.md, "Job shop files").
+-- What each error of a job shop text says of the text by itself, in whatever order the checks are
+-- made (docs/definitions.md, "Job shop files").
 use Rattle.std.specs.Prelude.{◌≡◌, ◌⊎◌, ℕ, ◌+◌, ◌<◌, ◌≤◌, List, [], ◌∷◌, Some, None, Ok, Err, length, sum}
 use Rattle.plan_psplib.specs.declared.text.fault.FileCode.{FileCode}
 use Rattle.plan_psplib.specs.declared.text.fault.FileCode.TheVariants as code
@@ -13,10 +13,10 @@ use Rattle.plan_orlib.specs.Instances.{stream_of}
 use Rattle.plan_orlib.specs.Shop.{Shop, most_jobs, most_machines}
 use Rattle.plan_orlib.specs.ShopText.{shop}
 
--- The word at which the stream of an instance stops, behind these numbers of it: the number of jobs,
--- the number of machines, then a machine and a time for each step. A number beyond its limit is a
--- number of jobs or machines, or it is above 10,000, or the numbers up to it add up to more than
--- 1,000,000.
+-- The word at which the stream of an instance stops, behind these numbers of it: the number of
+-- jobs, the number of machines, then a machine and a time for each step. A number beyond its limit
+-- is a number of jobs or machines, or it is above 10,000, or the numbers up to it add up to more
+-- than 1,000,000.
 abbrev pub StopsAt : FileCode → List ℕ → Stream → ℕ → Type 0
 StopsAt code.BadNumber before t line = NextIsNoNumber t line
 StopsAt code.Count before t line = (t.words ≡ []) × (line ≡ t.last)

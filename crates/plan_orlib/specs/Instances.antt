@@ -35,8 +35,8 @@ behind_description (line ∷ others) = if is_before_description line.text then b
 abbrev pub block_lines : List NumberedLine → List NumberedLine
 block_lines behind = before_end is_instance behind
 
--- the stream of the block after an instance line of this number: the words after the description up to the
--- next plus line
+-- the stream of the block after an instance line of this number: the words after the description up
+-- to the next plus line
 abbrev pub block_from : ℕ → List NumberedLine → Stream
 block_from n behind = record { last = n; words = words_of (before_end is_plus (behind_description (block_lines behind))) }
 

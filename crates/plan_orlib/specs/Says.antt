@@ -1,5 +1,5 @@
--- The shop of a job shop text, independent of the order in which it is read (docs/definitions.md, "Job shop
--- files").
+-- The shop of a job shop text, independent of the order in which it is read (docs/definitions.md,
+-- "Job shop files").
 use Rattle.std.specs.Prelude.{◌≡◌, ℕ, List, [], ◌∷◌, ◌++◌, Some, Ok, length}
 use Rattle.std.specs.List.{flat_map}
 use Rattle.plan_psplib.specs.Streams.{LineWord, Stream}
@@ -21,8 +21,8 @@ shop_numbers shop = length shop.jobs ∷ shop.machines ∷ flat_map job_numbers 
 abbrev pub BeginsWith : List LineWord → List ℕ → Type 0
 BeginsWith words numbers = (front rest : List LineWord) × (words ≡ front ++ rest) × Spells front numbers
 
--- a text describes the shop of a name: the stream of the first instance of that name begins with the shop's
--- numbers, and the shop keeps the limits
+-- a text describes the shop of a name: the stream of the first instance of that name begins with
+-- the shop's numbers, and the shop keeps the limits
 pub record Says (name text : List ℕ) (shop : Shop) : Type 0 where
   pub readable : plain text ≡ Ok tt
   pub stream : (s : Stream) × (stream_of name text ≡ Some s) × BeginsWith s.words (shop_numbers shop)

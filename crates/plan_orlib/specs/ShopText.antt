@@ -1,5 +1,5 @@
--- Reading of a job shop text in order: its shop, or the first check that fails (docs/definitions.md, "Job
--- shop files").
+-- Reading of a job shop text in order: its shop, or the first check that fails
+-- (docs/definitions.md, "Job shop files").
 use Rattle.std.specs.Prelude.{◌≡◌, ℕ, zero, suc, ◌+◌, List, [], ◌∷◌, ◌++◌, Option, Some, None, Result, Ok, Err, nat_lt}
 use Rattle.plan_psplib.specs.declared.text.fault.FileCode.TheVariants as code
 use Rattle.plan_psplib.specs.declared.text.fault.Fault.{Fault}
@@ -52,7 +52,8 @@ abbrev pub found_stream : ℕ → Option Stream → Result Stream Fault
 found_stream last None = fault code.NoInstance last
 found_stream last (Some s) = Ok s
 
--- the stream of the first instance of a name in a text, or the first check that fails before it is read
+-- the stream of the first instance of a name in a text, or the first check that fails before it is
+-- read
 unfoldable pub located : List ℕ → List ℕ → Result Stream Fault
 located name text = do
   text_good ← plain text

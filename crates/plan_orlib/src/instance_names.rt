@@ -15,8 +15,9 @@ use crate::instances::{instance_name, is_bare};
 use plan_psplib::{FileFault, Lines, ReadError, check_text};
 use std::alloc::{AllocError, Global};
 
-/// Returns the names of all instances of a text, in order and with duplicates. The one instance of the bare
-/// form is named `-`. The only errors are `TooLong` (F1, line 0), `NotText` (F2) and out of memory.
+/// Returns the names of all instances of a text, in order and with duplicates. The one instance of
+/// the bare form is named `-`. The only errors are `TooLong` (F1, line 0), `NotText` (F2) and out
+/// of memory.
 ///
 /// The format is that of `jobshop1` (J. E. Beasley, "OR-Library: distributing test problems by
 /// electronic mail", Journal of the Operational Research Society 41, 1990).

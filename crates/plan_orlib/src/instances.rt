@@ -96,8 +96,8 @@ pub fn bare_words(text: &[u8]) -> StreamWords<'_, Bare>
     StreamWords::new(0, Lines::new(text))
 }
 
-/// The results of one walk over a text: the number of its last line, and the words of the first block with a
-/// name.
+/// The results of one walk over a text: the number of its last line, and the words of the first
+/// block with a name.
 #[derive(Drop)]
 pub struct Found<'a> {
     pub last: u64,

@@ -1,5 +1,5 @@
-//! Reads job shop files: the `jobshop1` texts of OR-Library, each with many instances by name, and the
-//! bare form of one shop without a name.
+//! Reads job shop files: the `jobshop1` texts of OR-Library, each with many instances by name, and
+//! the bare form of one shop without a name.
 #![tactic(auto)]
 
 mod instance_names;

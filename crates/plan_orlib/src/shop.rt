@@ -19,9 +19,9 @@ use plan_psplib::{Fault, FileCode, FileFault, ReadError, check_text};
 use std::alloc::Global;
 use std::marker::Model;
 
-/// A job shop: the number of machines, and the steps of each job in order. Jobs are numbered from 1, machines
-/// from 0. Each job has as many steps as there are machines, so the flat order of steps, one job after
-/// another, has no gaps.
+/// A job shop: the number of machines, and the steps of each job in order. Jobs are numbered from
+/// 1, machines from 0. Each job has as many steps as there are machines, so the flat order of
+/// steps, one job after another, has no gaps.
 #[derive(Drop)]
 pub struct ShopDoc {
     machines: u32,
@@ -80,16 +80,19 @@ impl ShopDoc {
     }
 }
 
-/// Reads a job shop text. Returns the shop of the first instance with a name, or the first check that fails,
-/// with its line. The one instance of the bare form is named `-`. Words after the last step are skipped.
+/// Reads a job shop text. Returns the shop of the first instance with a name, or the first check
+/// that fails, with its line. The one instance of the bare form is named `-`. Words after the last
+/// step are skipped.
 ///
 /// The checks, in this order:
 ///
 /// - `TooLong` (F1, line 0).
 /// - `NotText` (F2, the line of the first zero byte).
 /// - `NoInstance` (F13, the last line).
-/// - For each word `BadNumber` (F6), `Limit` (F10: 1–50 jobs, 1–20 machines, a time up to 10,000 units, all
-///   times together up to 1,000,000), `BadMachine` (F14) and `Count` (F9, a word is missing: the line of the
+/// - For each word `BadNumber` (F6), `Limit` (F10: 1–50 jobs, 1–20 machines, a time up to 10,000
+/// units, all
+///   times together up to 1,000,000), `BadMachine` (F14) and `Count` (F9, a word is missing: the
+/// line of the
 ///   last word, or of the instance line if there is none).
 ///
 /// Any call can run out of memory, except one that fails before the words are read.
@@ -110,8 +113,8 @@ pub fn read_shop(alloc: Global, text: &[u8], name: &[u8]) -> Result<ShopDoc, Fil
         MatchResult result (λ _. ⊥) (TellsError (errors.Fault f)) }
     // Only names that `names` returns have a shop.
     ensures named { IfOk result (λ _. Contains (names_of text.now) name.now) }
-    // If the text passes the first two checks, any other name is missing, which is reported at the last line
-    // even if memory runs out.
+    // If the text passes the first two checks, any other name is missing, which is reported at the
+    // last line even if memory runs out.
     ensures unnamed { plain text.now ≡ Ok tt → ¬ (Contains (names_of text.now) name.now) →
         MatchResult result (λ _. ⊥)
         (λ fault. (fault.code ≡ code.NoInstance) × (fault.line ≡ last_line text.now)) }

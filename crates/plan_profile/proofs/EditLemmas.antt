@@ -6,8 +6,8 @@ use Rattle.std.proofs.lemmas.Bool.{cases_lt, cases_order}
 use Rattle.plan_profile.specs.Usage.{IsRising}
 use Rattle.plan_profile.proofs.SegmentLemmas.{place_of, there_at}
 
--- the entry at an index after an insert: the old entry there, the inserted one, or the old entry one index
--- before
+-- the entry at an index after an insert: the old entry there, the inserted one, or the old entry
+-- one index before
 pub insert_cases : {X : Type 0} (xs : List X) (i : ℕ) (y d : X) (j : ℕ) → i ≤ length xs
     → ((j < i) × (get_or (insert xs i y) j d ≡ get_or xs j d))
     ⊎ (((j ≡ i) × (get_or (insert xs i y) j d ≡ y))

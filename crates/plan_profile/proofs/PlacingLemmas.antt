@@ -1,4 +1,5 @@
--- Steps while an interval is placed: cut at its start and end, raised between them, and merged there.
+-- Steps while an interval is placed: cut at its start and end, raised between them, and merged
+-- there.
 use Rattle.std.proofs.Common.{◌≡◌, ◌≢◌, ℕ, zero, suc, ◌+◌, ◌-◌, ◌≤◌, ◌<◌, ◌&&◌, cond, nat_le, nat_lt, List, [], get_or, refl, sym, ◌∙◌, ap, subst, inl, inr, arith}
 use Rattle.std.specs.Prelude.{Contains}
 use Rattle.std.proofs.lemmas.List.{ext_get_or}
@@ -54,7 +55,8 @@ raised_steps changes rows from to needs rows2 steps some raised = record {
   none_first = λ k. ap (λ r. get_or r k 0) (raised_first rows from to needs rows2 some raised) ∙ steps.none_first k;
 }
 
--- the instants of an interval are those of the rows from that of its start to before that of its end
+-- the instants of an interval are those of the rows from that of its start to before that of its
+-- end
 added_rows : (changes : List ℕ) (rows : List (List ℕ)) (start end t n : ℕ) → IsSteps changes rows → Contains changes start → Contains changes end
     → added (changes_until changes start) (changes_until changes end) (changes_until changes t) n ≡ added start end t n
 added_rows changes rows start end t n steps start_there end_there =
@@ -95,7 +97,8 @@ pub before_same : (f g : ℕ → ℕ → ℕ) → ((t k : ℕ) → f t k ≡ g t
 before_same f g same zero k = refl
 before_same f g same (suc t) k = same t k
 
--- at an instant that is neither the start nor the end, the added amount is that of the instant before
+-- at an instant that is neither the start nor the end, the added amount is that of the instant
+-- before
 unadded : (f g : ℕ → ℕ → ℕ) (start end : ℕ) (needs : List ℕ) → ((t k : ℕ) → g t k ≡ f t k + added start end t (get_or needs k 0))
     → (t k : ℕ) → t ≢ start → t ≢ end → g t k ≡ used_before g t k → f t k ≡ used_before f t k
 unadded f g start end needs sum zero k no_start no_end same =

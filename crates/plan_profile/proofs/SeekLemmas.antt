@@ -43,7 +43,8 @@ fits_all caps changes rows needs t d i room all x k below inside =
     let most = until_within changes (t + x) in
     room (t + x) k (omega arith) (omega arith) inside
 
--- an interval that begins before the end of row i and lasts past its start doesn't fit if row i has no room
+-- an interval that begins before the end of row i and lasts past its start doesn't fit if row i has
+-- no room
 pub stuck : (caps changes : List ℕ) (rows : List (List ℕ)) (needs : List ℕ) (from d u i : ℕ) → IsRising changes → changes_until changes from ≤ i → i ≤ length changes
     → from ≤ u → 0 < d → (i < length changes → u < get_or changes i 0) → (changes_until changes from < i → get_or changes (i - 1) 0 < u + d)
     → (HasRoomAt caps rows needs i → ⊥) → Fits caps (amount changes rows) u d needs → ⊥

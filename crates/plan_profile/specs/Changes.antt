@@ -1,5 +1,5 @@
--- Changes of steps while an interval is placed: an instant is inserted, needs are added to rows, and an
--- instant at which no amount changes is removed. No public contract uses these definitions.
+-- Changes of steps while an interval is placed: an instant is inserted, needs are added to rows,
+-- and an instant at which no amount changes is removed. No public contract uses these definitions.
 use Rattle.std.specs.Prelude.{◌≡◌, ◌≢◌, ℕ, ◌+◌, ◌*◌, ◌^◌, ◌≤◌, ◌<◌, ◌&&◌, ◌⊎◌, if◌then◌else◌}
 use Rattle.std.specs.Prelude.{nat_le, nat_lt, List, [], length}
 use Rattle.std.specs.Prelude.{slice_index, slice_index_or, Contains}

@@ -1,6 +1,6 @@
--- The representation of usage in a profile: the instants at which it changes, and a row of amounts for the
--- time before the first change and from each change on. The rows follow one another in one list. No public
--- contract uses these definitions. See "Schedules" in docs/definitions.md.
+-- The representation of usage in a profile: the instants at which it changes, and a row of amounts
+-- for the time before the first change and from each change on. The rows follow one another in one
+-- list. No public contract uses these definitions. See "Schedules" in docs/definitions.md.
 use Rattle.std.specs.Prelude.{◌≡◌, ℕ, ◌+◌, ◌*◌, ◌≤◌, ◌<◌, nat_le, List, [], length, map, take, drop}
 use Rattle.std.specs.Prelude.{count_by, slice_index, slice_index_or, Contains}
 use Rattle.std.specs.List.{range_with_len}

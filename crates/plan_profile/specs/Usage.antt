@@ -1,6 +1,7 @@
--- Usage of resources over time: the intervals that fit, the amounts that an interval adds, and the instants
--- of change. A usage is a function of an instant and of a resource's index from 0. See "Schedules" in
--- docs/definitions.md; the resource profiles of project scheduling (Kolisch and Hartmann 1999).
+-- Usage of resources over time: the intervals that fit, the amounts that an interval adds, and the
+-- instants of change. A usage is a function of an instant and of a resource's index from 0. See
+-- "Schedules" in docs/definitions.md; the resource profiles of project scheduling (Kolisch and
+-- Hartmann 1999).
 use Rattle.std.specs.Prelude.{◌≢◌, ℕ, zero, suc, ◌+◌, ◌≤◌, ◌<◌, ◌&&◌, if◌then◌else◌, nat_le, nat_lt, List, length, slice_index, EachIndex}
 
 -- needs are within the capacities

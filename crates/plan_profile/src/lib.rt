@@ -1,4 +1,5 @@
-//! Usage of resources with constant capacities over time, and the earliest instant at which an interval fits.
+//! Usage of resources with constant capacities over time, and the earliest instant at which an
+//! interval fits.
 #![tactic(auto)]
 
 mod profile;

@@ -13,10 +13,11 @@ use std::alloc::{AllocError, Global};
 /// The end of time, in whole time units: every interval that is placed ends by this instant.
 pub const END: u64 = 10_000_000;
 
-/// The amount of each resource in use at each instant, with the constant capacities of the resources (the
-/// resource profiles of Kolisch and Hartmann 1999). Resources are numbered from 1; instants are whole time
-/// units from 0 on. The cost of a call depends on the number of changes of usage, not on the length of an
-/// interval. Only `new`, `place` and `copy` allocate; their only error is out of memory.
+/// The amount of each resource in use at each instant, with the constant capacities of the
+/// resources (the resource profiles of Kolisch and Hartmann 1999). Resources are numbered from 1;
+/// instants are whole time units from 0 on. The cost of a call depends on the number of changes of
+/// usage, not on the length of an interval. Only `new`, `place` and `copy` allocate; their only
+/// error is out of memory.
 #[derive(Debug, Drop)]
 pub struct Profile {
     caps: Vec<u64>,
@@ -81,8 +82,8 @@ impl Profile {
         row(&self.rows, self.caps.len(), i)[k as usize - 1]
     }
 
-    /// Returns in rising order the instants at which the usage of some resource differs from that at the
-    /// instant before. Before instant 0 nothing is in use.
+    /// Returns in rising order the instants at which the usage of some resource differs from that
+    /// at the instant before. Before instant 0 nothing is in use.
     pub fn changes(&self) -> &[u64]
         ensures rising { IsRising result.now }
         ensures exact { (t : ℕ) → Contains result.now t
@@ -92,7 +93,8 @@ impl Profile {
         &self.changes
     }
 
-    /// Tests whether each need is at most its capacity. `needs` contains an amount for each resource.
+    /// Tests whether each need is at most its capacity. `needs` contains an amount for each
+    /// resource.
     pub fn fits_empty(&self, needs: &[u64]) -> bool
         requires { length needs.now ≡ length (capacities self.now) }
         ensures { IsTrue result ↔ FitsEmpty (capacities self.now) needs.now }
@@ -100,8 +102,8 @@ impl Profile {
         row_is_within(&self.caps, needs)
     }
 
-    /// Tests whether the needs of an interval of `d` instants from `start` on, added to the usage, keep the
-    /// capacities at each of these instants.
+    /// Tests whether the needs of an interval of `d` instants from `start` on, added to the usage,
+    /// keep the capacities at each of these instants.
     pub fn fits(&self, start: u64, d: u64, needs: &[u64]) -> bool
         requires { length needs.now ≡ length (capacities self.now) }
         ensures { IsTrue result ↔ Fits (capacities self.now) (in_use self.now) start d needs.now }

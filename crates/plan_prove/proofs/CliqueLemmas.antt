@@ -1,5 +1,5 @@
--- Steps of one machine don't overlap, so their times are between the least head and the end by the least
--- tail.
+-- Steps of one machine don't overlap, so their times are between the least head and the end by the
+-- least tail.
 use Rattle.std.proofs.Common.{◌≡◌, ◌∙◌, ℕ, suc, ◌+◌, ◌-◌, ◌≤◌, ◌<◌, ◌⊎◌, inl, inr, List, Vec, [], ◌∷◌, true, ◌&&◌, not, nat_le, nat_eq, length, get_or, Contains, refl, sym, subst, arith}
 use Rattle.std.specs.List.{All, AllByRecursion, sum_by}
 use Rattle.std.specs.declared.alloc.Global.{Global}
@@ -101,7 +101,8 @@ filled g limit start rest state others clique starts kept there fill late early 
     span (λ x. get_or starts x 0) (time_in g) start (limit - suc rest) (but ∷ zs) (omega (arith, late, early)) order from until in
     absurd (omega (arith, all, early, fill, sum_by-cons (time_in g) but zs))
 
--- a state is refuted if steps of a clique fill the time between their least head and their least tail
+-- a state is refuted if steps of a clique fill the time between their least head and their least
+-- tail
 pub fill_refutes : (g : Graph) (limit start rest : ℕ) (state : State) (others : Others) (clique : Vec ℕ Global) → IsClique g clique → Contains clique.items others.but
     → start ≤ others.head → start ≤ get_or state.heads.items others.but 0 → rest ≤ others.tail → rest ≤ get_or state.tails.items others.but 0
     → Fill g limit state clique others start rest → IsRefuted g limit state

@@ -1,5 +1,5 @@
--- A text that spells a number of nodes begins with a digit above 0, and is the decimal spelling of the
--- number.
+-- A text that spells a number of nodes begins with a digit above 0, and is the decimal spelling of
+-- the number.
 use Rattle.std.proofs.Common.{◌≡◌, ◌∙◌, ℕ, ◌<◌, ◌≤◌, zero, suc, List, Result, Ok, Err, refl, sym, subst, arith}
 use Rattle.std.specs.Prelude.{get_or}
 use Rattle.std.specs.Fmt.{decimal}

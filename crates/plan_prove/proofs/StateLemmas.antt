@@ -81,7 +81,8 @@ leaf_before g limit new old state later (Some x) follows cover = tt
 pub at_none : {X : Type 0} (leaf : Option X) (P : Type 0) → leaf ≡ None → IfNone leaf P → P
 at_none leaf P none said = subst (λ o. IfNone o P) none said
 
--- waiting states are refuted if the rest of them and the states that cover the removed one are refuted
+-- waiting states are refuted if the rest of them and the states that cover the removed one are
+-- refuted
 pub cover_rest : (g : Graph) (limit : ℕ) (before rest new : List State) (state : State) → before ≡ rest ++ state ∷ [] → Covers g limit new rest state
     → AreRefuted g limit new → AreRefuted g limit before
 cover_rest g limit before rest new state is cover all =

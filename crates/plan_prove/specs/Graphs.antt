@@ -1,6 +1,6 @@
--- Disjunctive graphs of job shops (Roy and Sussmann 1964): the times of the steps, the arcs that every
--- schedule keeps, and the pairs of steps either of which may go first (docs/definitions.md, "Proofs of
--- optima").
+-- Disjunctive graphs of job shops (Roy and Sussmann 1964): the times of the steps, the arcs that
+-- every schedule keeps, and the pairs of steps either of which may go first (docs/definitions.md,
+-- "Proofs of optima").
 use Rattle.std.specs.Prelude.{◌≡◌, ℕ, suc, ◌+◌, ◌≤◌, ◌<◌, ◌⊎◌, List, Vec, Contains, Bool, ◌&&◌, nat_eq, nat_lt, get_or, map, All}
 use Rattle.std.specs.List.{AllPairs}
 use Rattle.std.specs.declared.alloc.Global.{Global}

@@ -19,8 +19,8 @@ KeepsSide g starts p Open = Unit {0}
 KeepsSide g starts p First = IsBefore g starts p.first p.second
 KeepsSide g starts p Second = IsBefore g starts p.second p.first
 
--- a state holds for starts: they keep the graph, each step starts at its head or later and ends at least its
--- tail before the limit, and each decided pair keeps its side
+-- a state holds for starts: they keep the graph, each step starts at its head or later and ends at
+-- least its tail before the limit, and each decided pair keeps its side
 pub record Holds (g : Graph) (limit : ℕ) (state : State) (starts : List ℕ) : Type 0 where
   pub kept : IsKept g starts
   pub heads : (x : ℕ) → get_or state.heads.items x 0 ≤ get_or starts x 0

@@ -137,8 +137,9 @@ pub fn leave_none(graph: &Graph, limit: u32, state: &State, clique: &Vec<u32>, h
     )
 }
 
-/// For `End::Start`, raises the head of a step that goes behind others to their end. For `End::Finish`,
-/// raises the tail of a step that goes ahead of others to the time that they take after it.
+/// For `End::Start`, raises the head of a step that goes behind others to their end. For
+/// `End::Finish`, raises the tail of a step that goes ahead of others to the time that they take
+/// after it.
 pub fn go_beyond(
     graph: &Graph,
     limit: u32,

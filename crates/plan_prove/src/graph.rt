@@ -16,10 +16,11 @@ pub struct Pair {
     pub second: u32,
 }
 
-/// A disjunctive graph (Roy and Sussmann 1964). It contains the times of the steps in flat order and the arcs
-/// from step to step that every schedule keeps. Either step of a pair may go first. A clique contains the
-/// steps of positive time of a machine, no two of which may overlap. Only the search uses the machine of each
-/// step and the rules of each step. Rules are numbered: first the arcs, then the pairs.
+/// A disjunctive graph (Roy and Sussmann 1964). It contains the times of the steps in flat order
+/// and the arcs from step to step that every schedule keeps. Either step of a pair may go first. A
+/// clique contains the steps of positive time of a machine, no two of which may overlap. Only the
+/// search uses the machine of each step and the rules of each step. Rules are numbered: first the
+/// arcs, then the pairs.
 #[derive(Drop)]
 pub struct Graph {
     pub times: Vec<u32>,

@@ -112,9 +112,9 @@ impl<'a> Guide<'a> {
     }
 }
 
-/// Returns an active schedule (Giffler and Thompson 1960), or `None` if not all steps were placed. The
-/// competing step that starts first in the list goes first. If the list is feasible, no step should start
-/// later than in the list. No clause states this: callers compare the makespans.
+/// Returns an active schedule (Giffler and Thompson 1960), or `None` if not all steps were placed.
+/// The competing step that starts first in the list goes first. If the list is feasible, no step
+/// should start later than in the list. No clause states this: callers compare the makespans.
 pub fn active_schedule(
     alloc: Global,
     shop: &Shop,

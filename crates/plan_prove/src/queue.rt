@@ -5,10 +5,10 @@ use crate::graph::{Graph, Pair};
 use crate::state::{End, State, at};
 use std::alloc::{AllocError, Global};
 
-/// A first-in, first-out queue of the steps whose head or tail has risen, each at most once. A machine is
-/// stale if one of its steps was handled since its last deduction. The queue also keeps the stale machines,
-/// the finder of their hints, and the number of failures of each pair. No clause depends on the contents: a
-/// missing step can only cost the search a deduction.
+/// A first-in, first-out queue of the steps whose head or tail has risen, each at most once. A
+/// machine is stale if one of its steps was handled since its last deduction. The queue also keeps
+/// the stale machines, the finder of their hints, and the number of failures of each pair. No
+/// clause depends on the contents: a missing step can only cost the search a deduction.
 #[derive(Drop)]
 pub struct Queue {
     ring: Vec<u32>,

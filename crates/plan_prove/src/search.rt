@@ -27,8 +27,8 @@ const FIRST_PATIENCE: u64 = 1_000;
 /// The number of nodes between two reports to a watcher.
 const NODES_BETWEEN: u64 = 500_000;
 
-/// A search: the graph of a shop, its queue and the proof so far. It counts the nodes that may be visited in
-/// all, those that are left, and those until the next report to a watcher.
+/// A search: the graph of a shop, its queue and the proof so far. It counts the nodes that may be
+/// visited in all, those that are left, and those until the next report to a watcher.
 #[derive(Drop)]
 pub struct Search {
     pub graph: Graph,

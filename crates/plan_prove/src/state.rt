@@ -23,10 +23,10 @@ pub enum End {
     Finish,
 }
 
-/// The knowledge of the schedules that are still looked for: the heads and tails of the steps, and the
-/// decided sides of the pairs. No schedule starts a step before its head. A tail is the least time between
-/// the end of a step and the bound on the makespan. The search alone uses `last`, the index of the pair that
-/// was decided last, or the number of pairs if none was.
+/// The knowledge of the schedules that are still looked for: the heads and tails of the steps, and
+/// the decided sides of the pairs. No schedule starts a step before its head. A tail is the least
+/// time between the end of a step and the bound on the makespan. The search alone uses `last`, the
+/// index of the pair that was decided last, or the number of pairs if none was.
 #[derive(Drop)]
 pub struct State {
     pub heads: Vec<u32>,

@@ -1,4 +1,5 @@
--- The requests section and the availabilities: reading succeeds exactly for the words that spell the result.
+-- The requests section and the availabilities: reading succeeds exactly for the words that spell
+-- the result.
 use Rattle.std.proofs.Common.{◌≡◌, ℕ, zero, suc, ◌+◌, ◌≤◌, ◌&&◌, List, [], ◌∷◌, ◌++◌, Ok, length, sum, refl, sym, ap, ◌∙◌, subst, append_assoc, append-nil, arith}
 use Rattle.std.specs.Prelude.{nat_le}
 use Rattle.std.specs.List.{AllByRecursion}

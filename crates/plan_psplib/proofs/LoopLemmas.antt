@@ -10,7 +10,8 @@ pub fails_first : {A B : Type 0} (e : ReadError) (first : Result A Fault) (next 
 fails_first errors.Memory first next total fails is = tt
 fails_first (errors.Fault f) first next total fails is = sym is ∙ ap (λ r. r >>= next) fails
 
--- read k s reads k parts from the state s: one by step, which returns the state next, and then the others
+-- read k s reads k parts from the state s: one by step, which returns the state next, and then the
+-- others
 module _ {S V R : Type 0} (read : ℕ → S → Result R Fault) (step : S → Result V Fault) (next : S → V → S) (more : (k : ℕ) (s : S) → read (suc k) s ≡ (step s >>= λ v. read k (next s v))) where
   one_more : (count i : ℕ) (s : S) → i < count → read (count - i) s ≡ (step s >>= λ v. read (count - (i + 1)) (next s v))
   one_more count i s below = let left : count - i ≡ suc (count - (i + 1)) = omega (arith, below) in ap (λ k. read k s) left ∙ more (count - (i + 1)) s

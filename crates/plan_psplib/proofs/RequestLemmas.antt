@@ -39,7 +39,8 @@ pub amounts_done : (count i : ℕ) (before : List ℕ) (s : Stream) (total : Res
 unfolding amounts_at
 amounts_done count i before s total past whole = sym (is_done others one behind amounts-suc count i (before, s) total past whole)
 
--- the state of the loop over rows: the job of the next row, the rows so far, and the rest of the stream
+-- the state of the loop over rows: the job of the next row, the rows so far, and the rest of the
+-- stream
 abbrev Rows : Type 0
 Rows = ℕ × Requests × Stream
 

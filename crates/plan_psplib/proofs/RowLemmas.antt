@@ -48,7 +48,8 @@ module _ (n : ℕ) where
   unfolding successors_at
   successors_done count i found s total past whole = sym (is_done others one behind successors-suc count i (found, s) total past whole)
 
--- the state of the loop over rows: the job of the next row, the arcs so far, and the rest of the stream
+-- the state of the loop over rows: the job of the next row, the arcs so far, and the rest of the
+-- stream
 module _ (n : ℕ) where
   abbrev Rows : Type 0
   Rows = ℕ × List (ℕ × ℕ) × Stream

@@ -1,4 +1,5 @@
--- Reading an `.sm` text: its document, or the first check that fails (docs/definitions.md, "Files").
+-- Reading an `.sm` text: its document, or the first check that fails (docs/definitions.md,
+-- "Files").
 use Rattle.std.specs.Prelude.{ℕ, List, Option, Some, None, Result, Ok}
 use Rattle.plan_psplib.specs.declared.text.fault.FileCode.TheVariants as code
 use Rattle.plan_psplib.specs.declared.text.fault.Fault.{Fault}
@@ -17,7 +18,8 @@ abbrev pub found_section : ℕ → Option Stream → Result Stream Fault
 found_section last None = fault code.MissingSection last
 found_section last (Some s) = Ok s
 
--- the sizes of a text and its precedence section, or the first check that fails before that section is read
+-- the sizes of a text and its precedence section, or the first check that fails before that section
+-- is read
 unfoldable pub opened : List ℕ → Result (Sizes × Stream) Fault
 opened text = do
   text_good ← plain text

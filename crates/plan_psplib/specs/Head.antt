@@ -94,8 +94,8 @@ supported only v = check (v.value == only) code.Unsupported v.line
 abbrev pub most_resources : ℕ
 most_resources = 16
 
--- one project, no nonrenewable and no doubly constrained resources, as many jobs as a network may have, and
--- some renewable resources
+-- one project, no nonrenewable and no doubly constrained resources, as many jobs as a network may
+-- have, and some renewable resources
 unfoldable pub sizes_in : Keys LineNumber → Result Sizes Fault
 sizes_in v = do
   one_project ← supported 1 v.projects

@@ -22,7 +22,8 @@ pub record Project : Type 0 where
 abbrev pub AreAmounts : ℕ → List ℕ → Type 0
 AreAmounts k amounts = (length amounts ≡ k) × All (λ amount. amount ≤ greatest) amounts
 
--- one row of needs for each activity, one amount for each of 1 to 16 resources in each, all within the limits
+-- one row of needs for each activity, one amount for each of 1 to 16 resources in each, all within
+-- the limits
 pub record IsProject (p : Project) : Type 0 where
   pub network : IsSound p.network
   pub rows : length p.needs ≡ count_of p.network
@@ -46,11 +47,13 @@ project_of d = record { network = network_of d; needs = d.requests.needs; availa
 abbrev pub SaysProject : List ℕ → Project → Type 0
 SaysProject text p = (d : Document) × Says text d × (p ≡ project_of d) × IsProject p
 
--- the error of a document whose arcs have a cycle: it names the cycle, at the line of the precedence title
+-- the error of a document whose arcs have a cycle: it names the cycle, at the line of the
+-- precedence title
 abbrev pub NamesCycleOf : Document → FileFault → Type 0
 NamesCycleOf d fault = (fault.code ≡ code.Cycle) × (fault.line ≡ d.precedence_line) × IsNamedCycle (network_of d) fault.cycle.items
 
--- the error is the first check that a text fails: one of those of its document, or else the test for a cycle
+-- the error is the first check that a text fails: one of those of its document, or else the test
+-- for a cycle
 abbrev pub IsFirstFailing : List ℕ → FileFault → Type 0
 IsFirstFailing text fault =
     ((document text ≡ Err (record { code = fault.code; line = fault.line })) × (fault.cycle.items ≡ []))

@@ -1,4 +1,5 @@
--- The document of an `.sm` text, independent of the order in which it is read (docs/definitions.md, "Files").
+-- The document of an `.sm` text, independent of the order in which it is read (docs/definitions.md,
+-- "Files").
 use Rattle.std.specs.Prelude.{◌≡◌, ◌≢◌, ℕ, ◌+◌, ◌≤◌, List, [], ◌∷◌, ◌++◌, Some, All, codes, length, map, sum}
 use Rattle.std.specs.List.{AllByRecursion}
 use Rattle.plan_psplib.specs.Lines.{NumberedLine}
@@ -16,8 +17,8 @@ use Rattle.plan_psplib.specs.Plain.{longest_text}
 abbrev pub Spells : List LineWord → List ℕ → Type 0
 Spells words numbers = map (λ word. number word.text) words ≡ map Some numbers
 
--- the numbers of the rows from a job on: the job, the number of modes (1), the number of successors, the
--- successors
+-- the numbers of the rows from a job on: the job, the number of modes (1), the number of
+-- successors, the successors
 abbrev pub precedence_numbers : ℕ → List (List ℕ) → List ℕ
 precedence_numbers job [] = []
 precedence_numbers job (row ∷ rows) = (job ∷ 1 ∷ length row ∷ row) ++ precedence_numbers (job + 1) rows

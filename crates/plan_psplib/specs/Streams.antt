@@ -25,8 +25,8 @@ before_end ends (line ∷ lines) = if ends line.text then [] else line ∷ befor
 abbrev pub rows : (List ℕ → Bool) → (List ℕ → Bool) → List NumberedLine → List NumberedLine
 rows takes ends lines = before_end ends (filter (λ line. takes line.text) lines)
 
--- a stream: its remaining words, and the line of the last word that was read; before the first word, the line
--- of its title
+-- a stream: its remaining words, and the line of the last word that was read; before the first
+-- word, the line of its title
 pub record Stream : Type 0 where
   pub last : ℕ
   pub words : List LineWord

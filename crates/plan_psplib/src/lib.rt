@@ -1,5 +1,5 @@
-//! Reads project files: the single-mode `.sm` texts of PSPLIB. Other readers use its lines, words and
-//! numbers. It re-exports the names of plan_io.
+//! Reads project files: the single-mode `.sm` texts of PSPLIB. Other readers use its lines, words
+//! and numbers. It re-exports the names of plan_io.
 #![tactic(auto)]
 
 mod laws;

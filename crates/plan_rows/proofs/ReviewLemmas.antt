@@ -1,4 +1,5 @@
--- Plans that are tested one at a time: the keys of lags that are on no arc so far, and one more plan.
+-- Plans that are tested one at a time: the keys of lags that are on no arc so far, and one more
+-- plan.
 use Rattle.std.proofs.Common.{◌≡◌, ◌+◌, filter, ◌⊎◌, inl, inr, ℕ, zero, suc, ◌<◌, ◌≤◌, Bool, true, false, ◌&&◌, ◌||◌, ◌==◌, List, [], ◌∷◌, ◌++◌, length, map, take, get_or, Option, Some, None, refl, sym, ap, ap₂, ◌∙◌, subst, arith}
 use Rattle.std.specs.Prelude.{not, cond, find, nat_lt}
 use Rattle.std.specs.Bool.{MatchBool}
@@ -389,8 +390,8 @@ lags_kept : (w : World) (rows : List Lag) → AllDiffer (λ a b. is_plan a.desk 
 lags_kept w [] apart on low = tt
 lags_kept w (row ∷ rows) apart on low = (lag_kept_rule w row apart on.0 low.0, lags_kept w rows apart on.1 low.1)
 
--- the tables keep the rules of rows if keys differ, the plans and the rows are good, and each lag is on an
--- arc
+-- the tables keep the rules of rows if keys differ, the plans and the rows are good, and each lag
+-- is on an arc
 pub world_of_parts : (w : World) → is_digest w.office ≡ true → KeysDiffer w → AllByRecursion IsPlanRow w.plans → AreOnArcs w.plans w.lags → RowsAreGood w → IsWorld w
 world_of_parts w office keys plans on good = record {
   office = office;

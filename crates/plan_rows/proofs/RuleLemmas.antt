@@ -1,4 +1,5 @@
--- Rules over lists of rows: facts of each row and distinct keys, after rows were changed, added or removed.
+-- Rules over lists of rows: facts of each row and distinct keys, after rows were changed, added or
+-- removed.
 use Rattle.std.proofs.Common.{◌≡◌, ◌⊎◌, inl, inr, Bool, true, false, List, [], ◌∷◌, ◌++◌, filter, length, Option, Some, None, refl, sym, ◌∙◌, subst, arith}
 use Rattle.std.specs.Prelude.{find, option_map, ◌≤◌}
 use Rattle.std.specs.List.{list_any, AllByRecursion}

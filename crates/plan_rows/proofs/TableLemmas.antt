@@ -1,4 +1,5 @@
--- Rows in code: a search by index, a write at an index and a push, for the rows that they stand for.
+-- Rows in code: a search by index, a write at an index and a push, for the rows that they stand
+-- for.
 use Rattle.std.proofs.Common.{◌≡◌, ◌⊎◌, inl, inr, ℕ, zero, suc, ◌+◌, ◌<◌, ◌≤◌, Bool, true, false, List, [], ◌∷◌, ◌++◌, length, map, filter, set, get_or, Some, None, refl, sym, ap, ◌∙◌, subst, arith}
 use Rattle.std.specs.Prelude.{find, not, nat_lt}
 use Rattle.std.specs.List.{list_any, list_all, position, position_or_len, AllByRecursion}

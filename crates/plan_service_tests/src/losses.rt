@@ -78,8 +78,8 @@ fn expect_removed<B: Book>(
 // The length of the response to a first import, in bytes.
 const IMPORTED: usize = 120;
 
-// Loses the response after each number of its bytes, and once without an error of the writer. The plan
-// is stored each time.
+// Loses the response after each number of its bytes, and once without an error of the writer. The
+// plan is stored each time.
 fn expect_each_lost<B: Book>(
     rt: &impl Abort,
     alloc: Global,

@@ -1,6 +1,6 @@
-//! A request for each route, while one allocation may fail (`tests/refusals/run` lets each fail in turn).
-//! The request is answered, or refused for lack of memory; then nothing has changed, and the same request
-//! is answered as with ample memory.
+//! A request for each route, while one allocation may fail (`tests/refusals/run` lets each fail in
+//! turn). The request is answered, or refused for lack of memory; then nothing has changed, and the
+//! same request is answered as with ample memory.
 
 use crate::office::{NORTH_KEY, OFFICE_KEY, SIX, office, sent};
 use plan_desk::{Body, Book, Office, Reply, Request};

@@ -89,8 +89,8 @@ usage_ended p placed t k ended = total_none (count p) (λ i. amount_of p t k i (
 usage_late : (p : Problem) (placed : List (Option ℕ)) (t k : ℕ) → horizon_from p 0 0 placed ≤ t → usage p placed t k ≡ 0
 usage_late p placed t k late = usage_ended p placed t k (λ i s is. let place : 0 + i ≡ i = omega arith in omega (arith, late, ap (duration p) place, horizon_above p 0 0 placed i s is))
 
--- if the needs are within the capacities, the earliest start is the least instant from the release on that
--- fits
+-- if the needs are within the capacities, the earliest start is the least instant from the release
+-- on that fits
 pub earliest_is : (p : Problem) (placed : List (Option ℕ)) (j : ℕ) → NeedsFit p → j < count p → IsEarliest p placed j (earliest p placed j)
 unfolding earliest
 earliest_is p placed j fit inside = record {

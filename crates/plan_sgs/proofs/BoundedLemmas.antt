@@ -1,4 +1,5 @@
--- Bounds of a scheduling problem from the limits of its project, and its links from the arcs of the network.
+-- Bounds of a scheduling problem from the limits of its project, and its links from the arcs of the
+-- network.
 use Rattle.std.proofs.Common.{ℕ, zero, suc, ◌≡◌, ◌+◌, ◌-◌, ◌≤◌, ◌<◌, ◌⊎◌, inl, inr, List, length, get_or, map, take, sum, Option, refl, sym, ◌∙◌, ap, subst, arith}
 use Rattle.std.specs.List.{All}
 use Rattle.std.proofs.lemmas.List.{length-map, get_or-map, get_or_past, take_more, take_all}
@@ -66,7 +67,8 @@ bounded i instance = record {
   few = instance.project.network.limits.size.1;
 }
 
--- the least start that is at least each predecessor's end plus lag, and is one of these or 0, is the release
+-- the least start that is at least each predecessor's end plus lag, and is one of these or 0, is
+-- the release
 pub release_is : (i : Planned) (placed : List (Option ℕ)) (j from : ℕ) → IsSound i.project.network →
     IsActivity i.project.network j → ((h : ℕ) → IsArc i.project.network h j →
     end_of (problem_of i) placed (h - 1) + lag_of i.project.network h j ≤ from)

@@ -132,7 +132,8 @@ release_whole i s j instance size = record {
       let inside : h < length s = omega (arith, ((bounded i instance).inside k d within).0, size) in
       end_of-placed p placed h (get_or s h 0) (placed_start s h inside)
 
--- a profile that holds all needs before an instant answers the query for an activity that starts by then
+-- a profile that holds all needs before an instant answers the query for an activity that starts by
+-- then
 pub asked_at : (i : Planned) (net : Net) (s : List ℕ) (j end d : ℕ) (profile : Profile) (row : List ℕ) →
     net ≡ i.project.network → IsActivity i.project.network j → HoldsBefore end (problem_of i) s profile →
     get_or s (j - 1) 0 ≤ end

@@ -1,5 +1,5 @@
--- Verdicts on worked examples: six activities on one resource, with a lag on the third link, and two
--- activities at the last start.
+-- Verdicts on worked examples: six activities on one resource, with a lag on the third link, and
+-- two activities at the last start.
 use Rattle.std.proofs.Common.{ℕ, zero, suc, ◌≡◌, ◌≢◌, ◌+◌, ◌≤◌, ◌<◌, inl, inr, List, [], ◌∷◌, get_or, refl, subst, arith}
 use Rattle.std.proofs.lemmas.Bool.{cases_lt}
 use Rattle.std.proofs.lemmas.List.Elements.{All-from_recursion}

@@ -1,4 +1,5 @@
--- The number of elements of a list that pass a test, and the number of arcs from one activity to another.
+-- The number of elements of a list that pass a test, and the number of arcs from one activity to
+-- another.
 use Rattle.std.proofs.Common.{ℕ, suc, Bool, true, false, cond, not, nat_eq, ◌&&◌, ◌≡◌, ◌+◌, ◌-◌, ◌≤◌, ◌<◌, inl, inr, List, [], ◌∷◌, length, get_or, set, take, map, replicate, refl, sym, ◌∙◌, ap, subst, arith, get_or-set_same, get_or-set_other}
 use Rattle.std.specs.List.{Contains, count_by, list_all}
 use Rattle.std.specs.List.Sorted.{IsStrictlyIncreasing}

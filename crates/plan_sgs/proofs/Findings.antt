@@ -1,4 +1,5 @@
--- The faults of a list of starts: the first overload is at a start, and there is at most one verdict.
+-- The faults of a list of starts: the first overload is at a start, and there is at most one
+-- verdict.
 use Rattle.std.proofs.Common.{ℕ, zero, suc, ◌≡◌, ◌+◌, ◌-◌, ◌≤◌, ◌<◌, ◌⊎◌, inl, inr, List, length, get_or, Option, Some, None, refl, sym, subst, below_more, arith}
 use Rattle.std.proofs.lemmas.Bool.{cases_lt}
 use Rattle.std.proofs.lemmas.List.Elements.{All-contains}
@@ -45,7 +46,8 @@ over_is_more p s t k kept over =
     let more : capacity p k < usage p (all_placed s) t k = over.more in
     omega (arith, more, kept t k over.inside)
 
--- the least overload of the first starts is that of one more if no resource is overloaded at the new start
+-- the least overload of the first starts is that of one more if no resource is overloaded at the
+-- new start
 pub over_among_none : (p : Problem) (s : List ℕ) (n : ℕ) (least : Option (ℕ × ℕ)) → IsOverAmong p s n least → ((k : ℕ) → IsOver p s (get_or s n 0) k → ⊥) → IsOverAmong p s (n + 1) least
 over_among_none p s n None among none = λ i k below. below_more (λ h. (q : ℕ) → IsOver p s (get_or s h 0) q → ⊥) n (λ h lower q. among h q lower) none i below k
 over_among_none p s n (Some over) among none = (

@@ -1,4 +1,5 @@
--- The full words of a project are the activity lists; words are finite, and go on while they aren't full.
+-- The full words of a project are the activity lists; words are finite, and go on while they aren't
+-- full.
 use Rattle.std.proofs.Common.{ℕ, suc, Bool, true, false, ◌≡◌, ◌+◌, ◌*◌, ◌≤◌, ◌<◌, List, [], ◌∷◌, length, get_or, map, nat_eq, refl, sym, ◌∙◌, ap, subst, arith}
 use Rattle.std.specs.List.{All}
 use Rattle.std.proofs.lemmas.Bool.{and_from, eq-eqb, eqb-true}

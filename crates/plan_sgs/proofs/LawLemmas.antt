@@ -22,8 +22,8 @@ amount_left p t k i s r left late = elim (cases_lt t (s + duration p i)) [
   | inr ended ↦ omega (arith, amount_ended p t k i (Some s) (λ x is. omega (arith, same_Some s x is, ended)))
 ]
 
--- the next activity is placed no later than in a feasible list, if there each placed activity starts no
--- earlier than it was placed and no later than the next activity
+-- the next activity is placed no later than in a feasible list, if there each placed activity
+-- starts no earlier than it was placed and no later than the next activity
 earliest_left : (p : Problem) (starts : List ℕ) (placed : List (Option ℕ)) (j : ℕ) → NeedsFit p →
     IsFeasible p starts → length placed ≡ count p → j < count p → IsReady p placed j →
     get_or placed j None ≡ None

@@ -1,5 +1,5 @@
--- There is at most one list of a rule, one schedule of it, one first need that is too much, and one rule of a
--- name.
+-- There is at most one list of a rule, one schedule of it, one first need that is too much, and one
+-- rule of a name.
 use Rattle.std.proofs.Common.{ℕ, zero, suc, true, nat_eq, cond, ◌≡◌, ◌+◌, ◌≤◌, ◌<◌, ◌⊎◌, ◌↔◌, inl, inr, List, [], ◌∷◌, ◌++◌, get_or, refl, sym, ◌∙◌, ap, subst, arith}
 use Rattle.std.proofs.lemmas.Bool.{cases_lt}
 use Rattle.plan_net.specs.Network.{Net, count_of}

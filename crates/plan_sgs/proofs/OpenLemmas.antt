@@ -71,7 +71,8 @@ freed before now fell = elim (cases_eq before 0) [
   | inr some ↦ rw (ne_eqb before 0 some, lt-ltb 0 before (omega (arith, some))) (omega arith)
 ]
 
--- the eligible ones, once one of them is taken: those that were, without it, and those that are freed
+-- the eligible ones, once one of them is taken: those that were, without it, and those that are
+-- freed
 pub queued_more : (p : Problem) (taken : List ℕ) (g h times came : ℕ) → is_eligible p taken g ≡ true →
     (is_member h taken ≡ true → open_links p taken h ≡ 0) →
     times + tally (nat_eq g h) ≡ tally (is_eligible p taken h)

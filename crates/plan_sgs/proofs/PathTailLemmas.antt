@@ -1,5 +1,5 @@
--- The listed walks are all walks, so tails are the greatest lengths of paths; and the greatest number of arcs
--- after an activity ranks it.
+-- The listed walks are all walks, so tails are the greatest lengths of paths; and the greatest
+-- number of arcs after an activity ranks it.
 use Rattle.std.proofs.Common.{ℕ, zero, suc, Bool, true, false, cond, nat_eq, ◌≡◌, ◌-◌, ◌≤◌, ◌<◌, ◌⊎◌, inl, inr, List, [], ◌∷◌, ◌++◌, length, map, flat_map, refl, sym, ◌∙◌, ap, subst, arith}
 use Rattle.std.specs.List.{Contains, filter}
 use Rattle.std.proofs.lemmas.Bool.{cases_lt, cond-true, eqb-true, eq-eqb}

@@ -91,8 +91,8 @@ keeps_set p placed j t size inside open_place keeps fit u k within = by_time (ca
 abbrev pub IsReady : Problem → List (Option ℕ) → ℕ → Type 0
 IsReady p placed j = All (λ a. a.to ≡ j → (s : ℕ) × (get_or placed a.from None ≡ Some s)) p.links
 
--- The placed activities keep capacities and links, predecessors are placed first, and in no feasible list
--- does one of them start earlier if the others start as here.
+-- The placed activities keep capacities and links, predecessors are placed first, and in no
+-- feasible list does one of them start earlier if the others start as here.
 pub record IsPartial (p : Problem) (placed : List (Option ℕ)) : Type 0 where
   pub size : length placed ≡ count p
   pub capacities : KeepsCapacities p placed
@@ -114,8 +114,8 @@ amount_least : (p : Problem) (t k i most : ℕ) (start : Option ℕ) → ((s : �
 amount_least p t k i most None limit = omega arith
 amount_least p t k i most (Some s) limit = limit s refl
 
--- One more activity fits at its start in a list of starts that keeps the capacities, if the placed activities
--- need no more from that instant on than in the list.
+-- One more activity fits at its start in a list of starts that keeps the capacities, if the placed
+-- activities need no more from that instant on than in the list.
 pub fits_beside : (p : Problem) (placed : List (Option ℕ)) (other : List ℕ) (j : ℕ) →
     length placed ≡ count p → length other ≡ count p → j < count p → get_or placed j None ≡ None →
     KeepsCapacities p (all_placed other)
@@ -149,8 +149,8 @@ fits_beside p placed other j size other_size inside open_place keeps less = fits
           let equal : amount_of p t k i (get_or (all_placed other) i None) ≡ amount_of p t k i (Some (get_or other i 0)) = ap (amount_of p t k i) there in
           omega (arith, equal, each t k i late below))
 
--- in a list of starts that keeps the links, no activity starts before its release, if its predecessors are
--- placed no later than there
+-- in a list of starts that keeps the links, no activity starts before its release, if its
+-- predecessors are placed no later than there
 pub release_beside : (p : Problem) (placed : List (Option ℕ)) (other : List ℕ) (j : ℕ) → All (λ a. get_or other a.from 0 + duration p a.from + a.lag ≤ get_or other a.to 0) p.links → IsReady p placed j
     → ((i s : ℕ) → get_or placed i None ≡ Some s → s ≤ get_or other i 0) → release p placed j ≤ get_or other j 0
 release_beside p placed other j keeps ready early = release_least p placed j (get_or other j 0) (λ k d within to.

@@ -1,5 +1,5 @@
--- The results of the calls of a project's tree: the activities that may follow, the test for full words,
--- starts and the makespan.
+-- The results of the calls of a project's tree: the activities that may follow, the test for full
+-- words, starts and the makespan.
 use Rattle.std.proofs.Common.{ℕ, suc, Bool, true, false, cond, nat_eq, ◌≡◌, ◌+◌, ◌-◌, ◌≤◌, ◌<◌, List, [], ◌∷◌, ◌++◌, length, get_or, map, Option, Some, None, sym, ◌∙◌, ap, arith}
 use Rattle.std.specs.List.{Contains}
 use Rattle.std.proofs.lemmas.List.{append-nil, append_assoc, map-append, get_or_default}

@@ -1,4 +1,5 @@
--- The invariant of the tree of a project gives the results of its calls, and each push and pop keeps it.
+-- The invariant of the tree of a project gives the results of its calls, and each push and pop
+-- keeps it.
 use Rattle.std.proofs.Common.{ℕ, zero, suc, max, true, ◌≡◌, ◌≢◌, ◌+◌, ◌-◌, ◌≤◌, ◌<◌, inl, inr, List, [], ◌∷◌, ◌++◌, length, get_or, set, take, Option, Some, None, refl, sym, ◌∙◌, ap, subst, arith, length-append, get_or-set_same, get_or-set_other}
 use Rattle.std.specs.List.{Contains, slice_get}
 use Rattle.std.proofs.lemmas.Bool.{cases_eq}

@@ -1,5 +1,5 @@
--- The number of predecessors that activities wait for at the word of a project's tree, and with one letter
--- more or less.
+-- The number of predecessors that activities wait for at the word of a project's tree, and with one
+-- letter more or less.
 use Rattle.std.proofs.Common.{ℕ, Bool, not, nat_eq, ◌&&◌, ◌≡◌, ◌+◌, ◌-◌, ◌≤◌, ◌<◌, List, [], ◌∷◌, ◌++◌, length, get_or, sym, ◌∙◌, ap, arith}
 use Rattle.std.specs.List.{Contains}
 use Rattle.std.proofs.lemmas.List.{length-map, map_push}

@@ -173,8 +173,8 @@ some_link p k within = first p.links k within where
   first (a ∷ links) zero within = (a, λ d. refl)
   first (a ∷ links) (suc k) within = first links k (omega (arith, within))
 
--- for each activity that isn't taken there is an eligible one of no greater level, if levels don't fall along
--- links
+-- for each activity that isn't taken there is an eligible one of no greater level, if levels don't
+-- fall along links
 pub some_eligible : (p : Problem) (rank level : ℕ → ℕ) (taken : List ℕ) → LinksInside p → IsRanked p rank →
     All (λ a. level a.from ≤ level a.to) p.links → (bound j : ℕ) → rank j < bound → j < count p →
     is_member j taken ≡ false

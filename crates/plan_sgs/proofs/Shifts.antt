@@ -14,7 +14,8 @@ use Rattle.plan_sgs.proofs.StartLemmas.{amount_at, amount_late, amount_left, usa
 abbrev pub IsReleasedBy : Problem → List ℕ → ℕ → ℕ → Type 0
 IsReleasedBy p s j t = All (λ a. a.to ≡ j → a.from ≢ j → get_or s a.from 0 + duration p a.from + a.lag ≤ t) p.links
 
--- from an instant on, as far as it lasts and before its start, an activity fits beside all that is in use
+-- from an instant on, as far as it lasts and before its start, an activity fits beside all that is
+-- in use
 abbrev pub FitsBeforeStart : Problem → List ℕ → ℕ → ℕ → Type 0
 FitsBeforeStart p s j t =
     (u k : ℕ) → t ≤ u → u < t + duration p j → u < get_or s j 0 → k < length p.capacities → usage p (all_placed s) u k + need p j k ≤ capacity p k
@@ -143,8 +144,8 @@ pub record IsAskedFor (p : Problem) (s : List ℕ) (j : ℕ) (caps : List ℕ) (
   pub lasts : d ≡ duration p j
   pub each : (k : ℕ) → need p j k ≡ get_or needs k 0
 
--- an interval that fits in the profile and ends by the start, or its part before the start, is room for the
--- activity
+-- an interval that fits in the profile and ends by the start, or its part before the start, is room
+-- for the activity
 fits_to : (p : Problem) (s : List ℕ) (j t d : ℕ) (caps : List ℕ) (used : ℕ → ℕ → ℕ) (length_of : ℕ)
     (needs : List ℕ) → IsAskedFor p s j caps used length_of needs → Fits caps used t d needs → (u k : ℕ) →
     t ≤ u → u < t + d → u < get_or s j 0 → k < length p.capacities →
@@ -195,8 +196,8 @@ shift_by_last p s j r caps used d needs feasible inside release late asked fits 
   fits = λ u k since lasts early within. fits_to p s j (get_or s j 0 - 1) 1 caps used d needs asked fits u k since (omega (arith, early)) early within;
 })
 
--- and there is no other left shift: an interval that doesn't end by the old start contains the last instant
--- before it
+-- and there is no other left shift: an interval that doesn't end by the old start contains the last
+-- instant before it
 pub shift_found : (p : Problem) (s : List ℕ) (j r : ℕ) (caps : List ℕ) (used : ℕ → ℕ → ℕ) (d : ℕ)
     (needs : List ℕ) (t : ℕ) → IsFeasible p s → IsRelease p s j r → IsAskedFor p s j caps used d needs →
     IsEarliest caps used r d needs t

@@ -1,5 +1,5 @@
--- An instance has a schedule by each rule, or a need is too much; and the schedule of each full word ends in
--- time.
+-- An instance has a schedule by each rule, or a need is too much; and the schedule of each full
+-- word ends in time.
 use Rattle.std.proofs.Common.{ℕ, suc, ◌≡◌, ◌+◌, ◌-◌, ◌≤◌, ◌<◌, ◌⊎◌, inl, inr, List, length, get_or, refl, sym, subst, arith}
 use Rattle.std.proofs.lemmas.Bool.{cases_lt, cases_order}
 use Rattle.plan_net.specs.Network.{Net, count_of, duration_of, IsLeast}

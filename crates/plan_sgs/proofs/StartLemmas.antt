@@ -113,8 +113,8 @@ sums_whole p s t n sums whole all are = record {
 abbrev pub IsUsedByFirst : ℕ → Problem → List ℕ → ℕ → (ℕ → ℕ → ℕ) → Type 0
 IsUsedByFirst end p s n used = (t k : ℕ) → t < end → k < length p.capacities → used t k ≡ total n (amount_at p s t k)
 
--- if all needs keep the capacities, those of one more activity fit beside those of the first n before an
--- instant
+-- if all needs keep the capacities, those of one more activity fit beside those of the first n
+-- before an instant
 pub next_fits : (end : ℕ) (p : Problem) (s : List ℕ) (n d : ℕ) (row caps : List ℕ) (used : ℕ → ℕ → ℕ) →
     length s ≡ count p → n < count p → caps ≡ p.capacities → ((k : ℕ) → need p n k ≡ get_or row k 0) →
     d ≤ duration p n → get_or s n 0 + d ≤ end

@@ -197,7 +197,8 @@ waiting_more i keys turn list waits new entries j h taking eligible lowers insid
     let more = open_more (problem_of i) (places list) (j - 1) h (eligible_not (problem_of i) (places list) (j - 1) eligible) in
     omega (arith, lowers.each h (omega (arith, inside, taking.size)), taking.waiting h inside, more, links_as_arcs i (j - 1) h)
 
--- the entry that comes out of the queue is taken, and the activities that then wait for none are queued
+-- the entry that comes out of the queue is taken, and the activities that then wait for none are
+-- queued
 pub taking_more : (i : Planned) (keys : List ℕ) (turn : ℕ) (list waits new : List ℕ)
     (entries between after : List Entry) (e : Entry) → length keys ≡ count_of i.project.network →
     turn < count_of i.project.network → IsTaking i keys turn list waits entries

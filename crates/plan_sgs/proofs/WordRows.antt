@@ -1,4 +1,5 @@
--- Worked examples: the words of a project of five activities with one resource, computed by the definitions.
+-- Worked examples: the words of a project of five activities with one resource, computed by the
+-- definitions.
 use Rattle.std.proofs.Common.{ℕ, true, ◌≡◌, [], ◌∷◌, refl}
 use Rattle.plan_net.specs.Network.{Net, unlagged, lag_of}
 use Rattle.plan_sgs.specs.Problem.{usage}
@@ -56,8 +57,8 @@ least_makespan : makespan_by (small 2) (1 ∷ 2 ∷ 4 ∷ 3 ∷ 5 ∷ []) ≡ 2
 unfolding makespan_by serial earliest fits usage problem_of small net lag_of
 least_makespan = refl
 
--- bounds: a work of 4 keeps a capacity of 1 busy for 4 instants and a capacity of 3 for 2 instants; a
--- capacity of 0 has busy time 0
+-- bounds: a work of 4 keeps a capacity of 1 busy for 4 instants and a capacity of 3 for 2 instants;
+-- a capacity of 0 has busy time 0
 least_of_2 : least_of_all (small 2) ≡ 2
 unfolding least_of_all longest_of tail_of problem_of small net lag_of
 least_of_2 = refl

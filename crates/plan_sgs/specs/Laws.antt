@@ -5,8 +5,8 @@ use Rattle.plan_sgs.specs.Problem.{Problem, count, makespan, IsFeasible, IsActiv
 use Rattle.plan_sgs.specs.Serial.{serial, earliest, IsEarliest}
 use Rattle.plan_sgs.specs.Rules.{IsActivityList, IsFirstBy, RisesBy, rule_list}
 
--- if all needs fit, the earliest start of an activity is the least instant from its release on at which it
--- fits
+-- if all needs fit, the earliest start of an activity is the least instant from its release on at
+-- which it fits
 unfoldable pub EarliestIsLeast : Type 0
 EarliestIsLeast =
     (p : Problem) (placed : List (Option ℕ)) (j : ℕ) → NeedsFit p → j < count p
@@ -18,8 +18,8 @@ SerialIsActive =
     (p : Problem) (js : List ℕ) → LinksInside p → NeedsFit p → IsActivityList p js
     → IsActive p (serial p js)
 
--- the list of any key is an activity list; each entry is the first, by the key and then by the number, of the
--- activities that are eligible in its turn
+-- the list of any key is an activity list; each entry is the first, by the key and then by the
+-- number, of the activities that are eligible in its turn
 unfoldable pub RuleTakesFirst : Type 0
 RuleTakesFirst =
     (p : Problem) (rank key : ℕ → ℕ) → LinksInside p → IsRanked p rank
@@ -39,8 +39,8 @@ SerialIsNoLater =
     → IsActivityList p js → RisesBy (λ i. get_or starts i 0) js
     → (i : ℕ) → i < count p → get_or (serial p js) i 0 ≤ get_or starts i 0
 
--- the order by the starts of a feasible list is an activity list, and its serial schedule is no longer than
--- the feasible list
+-- the order by the starts of a feasible list is an activity list, and its serial schedule is no
+-- longer than the feasible list
 unfoldable pub ByStartsIsNoLonger : Type 0
 ByStartsIsNoLonger =
     (p : Problem) (rank : ℕ → ℕ) (starts : List ℕ) → LinksInside p → NeedsFit p → IsRanked p rank

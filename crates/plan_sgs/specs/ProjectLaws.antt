@@ -1,5 +1,5 @@
--- Laws of the words of a project: letters rise, words are finite, full words are the activity lists, and the
--- bound is a lower bound (docs/definitions.md, "Words of a project").
+-- Laws of the words of a project: letters rise, words are finite, full words are the activity
+-- lists, and the bound is a lower bound (docs/definitions.md, "Words of a project").
 use Rattle.std.specs.Prelude.{◌≡◌, ℕ, suc, ◌≤◌, ◌<◌, ◌*◌, true, false, List, ◌++◌, length, map, All, Contains, ◌↔◌}
 use Rattle.std.specs.List.{AllPairs}
 use Rattle.plan_net.specs.Network.{Net, IsActivity, IsGreatest, IsLeast}

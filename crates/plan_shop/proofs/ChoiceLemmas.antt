@@ -13,7 +13,8 @@ use Rattle.plan_shop.specs.Shop.{JobShop}
 use Rattle.plan_shop.specs.Words.{Placed, letter_of, jobs_after, letters_after}
 use Rattle.plan_shop.specs.Names.{chooser_of, key_of, comes_before, letter_among, letter_by}
 
--- the one of two letters, each with its key, that a rule chooses: the first one if the keys are equal
+-- the one of two letters, each with its key, that a rule chooses: the first one if the keys are
+-- equal
 better : ShopRule → Option (ℕ × ℕ) → ℕ → ℕ → Option (ℕ × ℕ)
 better rule None letter key = Some (letter, key)
 better rule (Some best) letter key = cond (comes_before rule key best.1) (Some (letter, key)) (Some best)

@@ -134,7 +134,8 @@ rival_is_there s xs j [] (n ∷ ns) none are c =
     (machine_of s (next_step s xs b)) machine) (lt-ltb (ready s xs j) (next_end s xs b) sooner)) in
     subst (λ (ks : List ℕ). Contains ks j) (sym (jobs_by_rivals s xs n ns none are)) (passes_there s.jobs (is_rival s xs b) j c.job test)
 
--- the letters that may follow are those of the first next step of time 0, or of the steps that compete
+-- the letters that may follow are those of the first next step of time 0, or of the steps that
+-- compete
 pub letters_are_these : (s : JobShop) → LettersAreThese s
 unfolding LettersAreThese
 letters_are_these s xs j = (

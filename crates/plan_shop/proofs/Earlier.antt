@@ -1,5 +1,5 @@
--- A schedule that continues a word can be moved so that it continues the word with one more letter, and no
--- step starts later.
+-- A schedule that continues a word can be moved so that it continues the word with one more letter,
+-- and no step starts later.
 use Rattle.std.proofs.Common.{◌≡◌, ◌≢◌, ℕ, suc, ◌+◌, ◌-◌, ◌*◌, ◌≤◌, ◌<◌, false, ◌⊎◌, inl, inr, List, [], ◌∷◌, length, set, refl, sym, ◌∙◌, ap, subst, arith}
 use Rattle.std.specs.List.{Contains}
 use Rattle.std.proofs.lemmas.Bool.{cases_lt, cases_eq}
@@ -143,7 +143,8 @@ pub moved_feasible : (s : JobShop) → IsShop s → (starts : List ℕ) (xs : Li
 moved_feasible s shop starts xs j whole r sound con left =
     feasible_from s shop (moved s starts xs j) (length-set starts (next_step s xs j) (ready s xs j) ∙ whole) (moved_sound s shop (at starts) (at (moved s starts xs j)) xs j r sound con left)
 
--- if all next steps have positive times, an unplaced step that isn't a next one starts after the first end
+-- if all next steps have positive times, an unplaced step that isn't a next one starts after the
+-- first end
 later_after : (s : JobShop) → IsShop s → (starts : ℕ → ℕ) (xs : List Placed) (b : ℕ) → Reached s xs →
     IsSound s starts → Continues s starts xs → IsSoonest s xs b → (x : ℕ) → x < count_steps s →
     steps_done xs (job_of s x) < place_of s x → next_end s xs b ≤ starts x
@@ -177,8 +178,8 @@ zero_mover s shop starts xs j whole z = record {
   };
 }
 
--- the pending step on the machine of the first end that starts first moves if it competes, otherwise the step
--- of the first end
+-- the pending step on the machine of the first end that starts first moves if it competes,
+-- otherwise the step of the first end
 soonest_mover : (s : JobShop) → IsShop s → (starts : List ℕ) (xs : List Placed) (b : ℕ) →
     length starts ≡ count_steps s → Reached s xs → IsSound s (at starts) → Continues s (at starts) xs →
     IsSoonest s xs b → (j : ℕ) × Mover s starts xs j
@@ -265,7 +266,8 @@ mover s shop starts xs whole r sound con some =
       | inr b ↦ soonest_mover s shop starts xs c.0 whole r sound con b
     ]
 
--- if a feasible list continues a word that isn't full, some letter leads to one in which no step starts later
+-- if a feasible list continues a word that isn't full, some letter leads to one in which no step
+-- starts later
 pub letter_is_there : (s : JobShop) → IsShop s → LetterIsThere s
 unfolding LetterIsThere
 letter_is_there s shop w starts is some c =

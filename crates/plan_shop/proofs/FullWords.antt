@@ -88,8 +88,8 @@ times_first : (s : JobShop) (y n : ℕ) → 0 < n → time_of s y ≤ times_from
 times_first s y zero h = absurd (omega (arith, h))
 times_first s y (suc n) h = omega arith
 
--- the next step of the moved step's job would end by the moved step's new end, if its machine is free by its
--- new start
+-- the next step of the moved step's job would end by the moved step's new end, if its machine is
+-- free by its new start
 soon : (s : JobShop) → IsShop s → (starts other : ℕ → ℕ) (x : ℕ) → IsMoved s starts other x →
     (zs : List Placed) → Reached s zs → Continues s starts zs → steps_done zs (job_of s x) ≤ place_of s x →
     (0 < time_of s x → machine_free s zs (machine_of s x) ≤ other x)

@@ -1,4 +1,5 @@
--- The effect of placing one more step on the counts, the ends and the free instants, and limits on them.
+-- The effect of placing one more step on the counts, the ends and the free instants, and limits on
+-- them.
 use Rattle.std.proofs.Common.{◌≡◌, ◌≢◌, ℕ, suc, ◌+◌, ◌*◌, ◌≤◌, ◌<◌, ◌&&◌, inl, inr, max, true, false, List, [], ◌∷◌, length, refl, sym, ap, subst, arith}
 use Rattle.std.specs.Prelude.{nat_lt, nat_eq}
 use Rattle.std.proofs.lemmas.Bool.{cond-true, cond-false, cases_Bool, cases_eq, cases_lt, eq-eqb, ne_eqb, and_left, and_right, and_from, lt-ltb, le-ltb}

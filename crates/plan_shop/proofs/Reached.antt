@@ -1,5 +1,5 @@
--- The steps that a word places, one by one: the jobs that may follow, the starts, and schedules that continue
--- it.
+-- The steps that a word places, one by one: the jobs that may follow, the starts, and schedules
+-- that continue it.
 use Rattle.std.proofs.Common.{◌≡◌, ◌≢◌, ℕ, zero, suc, ◌+◌, ◌*◌, ◌≤◌, ◌<◌, max, Bool, true, false, not, ◌&&◌, nat_eq, nat_lt, ◌⊎◌, inl, inr, List, [], ◌∷◌, length, get_or, map, refl, sym, ◌∙◌, ap, subst, arith}
 use Rattle.std.specs.List.{Contains}
 use Rattle.std.proofs.lemmas.Bool.{cases_lt, cases_eq, cond-true, cond-false, and_parts, and_from, and_left, and_right, eq-eqb, ne_eqb, eqb-true, lt-ltb, le-ltb, ltb-true, not-false}
@@ -139,7 +139,8 @@ follow_by s xs j [] (n ∷ ns) none are c =
       });
     }
 
--- a job that may follow has a next step: of time 0, or one that competes for the machine of the first end
+-- a job that may follow has a next step: of time 0, or one that competes for the machine of the
+-- first end
 pub may_follow : (s : JobShop) (xs : List Placed) (j : ℕ) → Contains (jobs_after s xs) j → MayFollow s xs j
 unfolding jobs_after
 may_follow s xs j c = follow_by s xs j (with_zero s xs) (with_next s xs) refl refl c

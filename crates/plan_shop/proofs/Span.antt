@@ -52,7 +52,8 @@ covered_all : (starts times : ℕ → ℕ) (e : ℕ) (zs : List ℕ) → AllByRe
 covered_all starts times e [] early = refl
 covered_all starts times e (z ∷ zs) early = omega (arith, early.0, covered_all starts times e zs early.1, sum_by-cons times z zs)
 
--- intervals that don't overlap, between two instants, together last at most the time between the two
+-- intervals that don't overlap, between two instants, together last at most the time between the
+-- two
 pub span : (starts times : ℕ → ℕ) (h e : ℕ) (zs : List ℕ) → h ≤ e → InOrder (IsClear starts times) zs →
     AllByRecursion (λ z. h ≤ starts z) zs → AllByRecursion (λ z. starts z + times z ≤ e) zs →
     h + sum_by times zs ≤ e

@@ -1,5 +1,5 @@
--- The number of letters of words: at most the number of steps, and equal to it if all are placed; and the
--- choices of rules.
+-- The number of letters of words: at most the number of steps, and equal to it if all are placed;
+-- and the choices of rules.
 use Rattle.std.proofs.Common.{◌≡◌, ℕ, zero, suc, ◌+◌, ◌*◌, ◌≤◌, ◌<◌, true, false, inl, inr, List, [], ◌∷◌, length, get_or, map, refl, sym, ap, subst, arith}
 use Rattle.std.specs.List.{Contains, AllPairs}
 use Rattle.std.proofs.Math.Nat.{mul_comm, mul-suc}

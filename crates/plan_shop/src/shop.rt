@@ -66,7 +66,8 @@ fn first_closed(steps: &[Step], usable: &[bool]) -> Option<usize>
 }
 
 impl Shop {
-    /// Returns the shop of a file. `usable` states for each machine, from 0 on, whether it may be used.
+    /// Returns the shop of a file. `usable` states for each machine, from 0 on, whether it may be
+    /// used.
     ///
     /// Fails with [`ShopFault::MachineClosed`] if a step of positive time is on a machine that may
     /// not be used. It names the least such machine. Any call can fail with

@@ -17,8 +17,8 @@ Hears before after told = (p : Progress) → after p → before p ⊎ (p ≡ tol
 abbrev pub HearsNothing : (Progress → Type 0) → (Progress → Type 0) → Type 0
 HearsNothing before after = (p : Progress) → after p → before p
 
--- it is true of a problem: some feasible list of starts has the best makespan, no feasible one has a
--- makespan below the lower bound, and there were no more conflicts than are allowed
+-- it is true of a problem: some feasible list of starts has the best makespan, no feasible one has
+-- a makespan below the lower bound, and there were no more conflicts than are allowed
 pub record IsProgressOf (problem : Problem) (allowed : ℕ) (p : Progress) : Type 0 where
   pub best : (starts : List ℕ) × IsFeasible problem starts × (p.best ≡ makespan problem starts)
   pub lower : IsLowerBound problem p.lower

@@ -1,4 +1,5 @@
--- Plans that are tested as their rows are read: one row more, the end of an answer, and a whole table.
+-- Plans that are tested as their rows are read: one row more, the end of an answer, and a whole
+-- table.
 use Rattle.std.proofs.Common.{◌≡◌, inl, inr, ℕ, pos, Bool, true, false, List, [], ◌∷◌, ◌++◌, Option, Some, None, IsTrue, Result, Ok, Err, IfOk, codes, refl, sym, ap, ap₂, subst, subst₂, ◌∙◌, arith}
 use Rattle.std.specs.Bool.{MatchBool}
 use Rattle.std.specs.List.{AllZip}

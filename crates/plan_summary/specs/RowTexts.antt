@@ -1,5 +1,6 @@
 -- The text of all rows of an office, a line each, and the output of `plan check-office`
--- (docs/definitions.md, "Keys in files"; docs/operations.md, "Backups"). Each line ends in a line feed.
+-- (docs/definitions.md, "Keys in files"; docs/operations.md, "Backups"). Each line ends in a line
+-- feed.
 use Rattle.std.specs.Prelude.{◌≡◌, ◌++◌, codes, decimal, length}
 use Rattle.std.specs.List.{flat_map}
 use Rattle.hex.specs.Hex.{encode_lower, encode_upper}

@@ -71,7 +71,8 @@ before_title_at l rest n kept title =
     ap (λ b. before_title (cond b (kept_at n l ∷ kept_from (n + 1) rest) (kept_from (n + 1) rest))) kept
     ∙ ap (λ b. cond b [] (kept_at n l ∷ before_title (kept_from (n + 1) rest))) title
 
--- the words of a section are those of its lines, but for the first one, which has the heads of the columns
+-- the words of a section are those of its lines, but for the first one, which has the heads of the
+-- columns
 pub section_words : (h t : List ℕ) (body rest : List (List ℕ)) (n : ℕ) →
     is_kept (trim h) ≡ true → is_title (trim h) ≡ false → no_titles body ≡ true → is_kept (trim t) ≡ true → is_title (trim t) ≡ true →
     words_of (drop 1 (before_title (kept_from n (h ∷ (body ++ t ∷ rest))))) ≡ words_of (kept_from (n + 1) body)

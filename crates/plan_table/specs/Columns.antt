@@ -15,6 +15,7 @@ spaced places n = codes " " ++ number_column places n
 abbrev pub places_at : ℕ → ℕ → ℕ → ℕ
 places_at first further k = if k == 0 then first else further
 
--- numbers, each behind a space: the first at the right end of `first` places, each other one of `further`
+-- numbers, each behind a space: the first at the right end of `first` places, each other one of
+-- `further`
 abbrev pub columns : ℕ → ℕ → List ℕ → List ℕ
 columns first further ns = numbered (λ k n. spaced (places_at first further k) n) 0 ns

@@ -1,4 +1,5 @@
--- A table's text as records of cells, by the state machine of the `csv` crate, with the line of each record.
+-- A table's text as records of cells, by the state machine of the `csv` crate, with the line of
+-- each record.
 use Rattle.std.specs.Prelude.{ℕ, ◌+◌, ◌==◌, Bool, true, false, if◌then◌else◌, List, [], ◌∷◌, ◌++◌, Option, Some, None, Result, Ok, Err, Vec, map, fold, take, drop, nat_eq}
 use Rattle.std.specs.List.{list_any, position, starts_with}
 use Rattle.std.specs.declared.alloc.Global.{Global}
@@ -45,8 +46,8 @@ pub record Row : Type 0 where
 abbrev pub row_of : declared.Row → Row
 row_of r = record { line = r.line; cells = map (λ cell. cell.items) r.cells.items }
 
--- what has been read of a text: the state, the cells and the bytes of the record and the cell at hand, the
--- line, the line in which the record at hand begins, and the records before it
+-- what has been read of a text: the state, the cells and the bytes of the record and the cell at
+-- hand, the line, the line in which the record at hand begins, and the records before it
 pub record Machine : Type 0 where
   pub state : machine.State
   pub cells : List (List ℕ)

@@ -56,7 +56,8 @@ with_id place ids row = with_that place ids (id_of place (length ids) row.cells)
 abbrev pub ids_of : Option ℕ → List Row → List (List ℕ)
 ids_of place rows = fold (with_id place) [] rows
 
--- what rows say so far: the activities, the capacities if their row has come, and the durations in all
+-- what rows say so far: the activities, the capacities if their row has come, and the durations in
+-- all
 pub record Entries : Type 0 where
   pub activities : List Activity
   pub capacities : Option (List (Option ℕ))

@@ -60,8 +60,8 @@ dummy successors resources = record { duration = 0; successors = successors; nee
 abbrev pub job_of : List Activity → ℕ → Activity → Job
 job_of activities j a = record { duration = a.duration; successors = successors_of activities j; needs = or_zero a.needs }
 
--- the jobs for so many resources: a dummy before the activities without predecessors, the activities, and
--- a dummy behind those without successors
+-- the jobs for so many resources: a dummy before the activities without predecessors, the
+-- activities, and a dummy behind those without successors
 abbrev pub jobs_of : List Activity → ℕ → List Job
 jobs_of activities resources =
     dummy (numbers_where is_first activities) resources

@@ -20,7 +20,8 @@ abbrev pub behind : List ℕ → List NumberedLine → List NumberedLine
 behind front [] = []
 behind front (line ∷ lines) = if begins_with line.text front then lines else behind front lines
 
--- the section of the names: the lines behind the first information title that stands behind the availabilities
+-- the section of the names: the lines behind the first information title that stands behind the
+-- availabilities
 abbrev pub name_section : List ℕ → List NumberedLine
 name_section text = behind information_title (behind availabilities_title (lines text))
 

@@ -30,7 +30,8 @@ abbrev pub NamesCycle : Table → declared.TableFault → Type 0
 NamesCycle t fault = (fault.code ≡ code.Cycle) × (fault.line ≡ 0)
     × ((members : List ℕ) × IsNamedCycle (network_of (table_jobs t)) members × (fault.word.items ≡ spaced_ids t.activities members))
 
--- a text is refused for the first check that it fails, or else for a cycle; out of memory may come at any time
+-- a text is refused for the first check that it fails, or else for a cycle; out of memory may come
+-- at any time
 abbrev pub IsRefused : List ℕ → ReadError → Type 0
 IsRefused text errors.Memory = Unit {0}
 IsRefused text (errors.Fault f) = (table_read text ≡ Err (fault_of f)) ⊎ ((t : Table) × (table_read text ≡ Ok t) × NamesCycle t f)

@@ -43,7 +43,8 @@ id_read before line cell = do
 abbrev pub need : ℕ → List ℕ → List ℕ → Result ℕ Fault
 need line resource cell = if length cell == 0 then Ok 0 else amount code.BadNeed line resource cell
 
--- an activity with what a cell of a column says; the ids are those of all activities and of the earlier ones
+-- an activity with what a cell of a column says; the ids are those of all activities and of the
+-- earlier ones
 unfoldable pub cell_read : List (List ℕ) → List (List ℕ) → ℕ → Activity → Column → List ℕ → List ℕ → Result Activity Fault
 cell_read ids before line a columns.Duration resource cell = amount code.BadDuration line [] cell >>= λ n. Ok (record a { duration = n })
 cell_read ids before line a columns.Id resource cell = id_read before line cell >>= λ u. Ok a

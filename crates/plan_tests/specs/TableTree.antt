@@ -21,7 +21,8 @@ reached floors w = fold (after_letter floors) (record { place = 0; bound = slice
 abbrev pub may_follow : List ℕ → List ℕ → ℕ → Bool
 may_follow floors w a = nat_lt (length w) 3 && nat_lt 0 (slice_index floors (next_place (reached floors w).place a))
 
--- a word is full if the table has an end for it; its makespan is at least the floors of its prefixes
+-- a word is full if the table has an end for it; its makespan is at least the floors of its
+-- prefixes
 abbrev pub table_tree : List ℕ → List ℕ → WordTree
 table_tree floors ends = record {
   letters = λ w. filter (may_follow floors w) (1 ∷ 2 ∷ 3 ∷ []);

@@ -1,5 +1,5 @@
-//! The clause kernel on two activities that share one resource: each way to prove that 7 is the least
-//! makespan.
+//! The clause kernel on two activities that share one resource: each way to prove that 7 is the
+//! least makespan.
 
 use plan_kernel::{Input, Kernel, Lesson, Member, Order, Reason};
 use std::test::Fail;

@@ -1,5 +1,5 @@
-//! The lines of errors that no command on a file causes: memory, an invalid list, a closed machine, a
-//! plan without a calendar.
+//! The lines of errors that no command on a file causes: memory, an invalid list, a closed machine,
+//! a plan without a calendar.
 
 use plan_exact::ExactFault;
 use plan_gantt::{

@@ -80,7 +80,8 @@ fn keeps_an_answer_for_each_capacity_lag_and_budget(rt: HostRuntime) -> Result<(
     Ok(())
 }
 
-// Returns the makespan that a memo answers for a project, and the number of answers that it then keeps.
+// Returns the makespan that a memo answers for a project, and the number of answers that it then
+// keeps.
 fn project_kept(memo: &mut Memo, instance: &Instance<'_>) -> Result<(u64, usize), ExactFault> {
     let found = memo.solve_project(instance, 10)?;
     Ok((found.schedule.makespan, memo.len()))

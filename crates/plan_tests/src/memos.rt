@@ -28,7 +28,8 @@ fn one_step(rt: &impl Abort, alloc: Global, time: u64) -> Result<Shop, AllocErro
     Ok(shop_of(rt, alloc, &text))
 }
 
-// Returns the kind and the makespan that a memo answers, and the number of answers that it then keeps.
+// Returns the kind and the makespan that a memo answers, and the number of answers that it then
+// keeps.
 fn asked(memo: &mut Memo, shop: &Shop, budget: u64) -> Result<(Kind, u64, usize), ExactFault> {
     let solved = memo.solve(shop, budget)?;
     Ok((solved.kind, solved.schedule.makespan, memo.len()))

@@ -1,6 +1,6 @@
-//! Public calls that allocate and change a value, each made twice. With ample memory both answers are
-//! the known one. If one allocation fails (`tests/refusals/run` lets each fail in turn), the first call
-//! may report it. It then changes nothing, so the second answer is the known one.
+//! Public calls that allocate and change a value, each made twice. With ample memory both answers
+//! are the known one. If one allocation fails (`tests/refusals/run` lets each fail in turn), the
+//! first call may report it. It then changes nothing, so the second answer is the known one.
 
 use crate::shops::shop_of;
 use plan_exact::Branching;

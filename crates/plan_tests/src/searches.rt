@@ -8,9 +8,9 @@ use plan_exact::{Branching, Kind, Pushes, search};
 use std::alloc::{AllocError, Global};
 use std::test::Fail;
 
-/// A row of a tree's tables: the place of a word, its floor and its end. The empty word has place 0,
-/// and the child of a word by the letter `a` has `3 * place + a`. A place without a row is no word of
-/// the tree. A word whose end is 0 isn't full.
+/// A row of a tree's tables: the place of a word, its floor and its end. The empty word has place
+/// 0, and the child of a word by the letter `a` has `3 * place + a`. A place without a row is no
+/// word of the tree. A word whose end is 0 isn't full.
 type Row = (usize, u64, u64);
 
 /// A tree of words of at most three letters, each 1, 2 or 3.
@@ -172,7 +172,8 @@ fn first_least<'a>(initial: u64, words: &[&'a Listed]) -> (u64, Option<&'a Vec<u
     least
 }
 
-/// Returns the visited words: each of their proper prefixes has a bound below the least makespan so far.
+/// Returns the visited words: each of their proper prefixes has a bound below the least makespan so
+/// far.
 fn visited<'a>(
     alloc: Global,
     initial: u64,

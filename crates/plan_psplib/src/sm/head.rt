@@ -150,8 +150,8 @@ fn first_colon(text: &[u8]) -> Option<usize>
     text.iter().position(|&byte| byte == b':')
 }
 
-// Returns the sizes from the values, which must be those of one project with renewable resources only, within
-// the limits.
+// Returns the sizes from the values, which must be those of one project with renewable resources
+// only, within the limits.
 #[tactic(auto, unfolding(crate::specs::Head::sizes_in))]
 fn sizes_in(values: Keys<LineNumber>) -> Result<Sizes, Fault>
     ensures exact { Reads spec.sizes_of result (spec.sizes_in (spec.keys_by line_number values)) }

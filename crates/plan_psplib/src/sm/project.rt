@@ -17,8 +17,8 @@ use plan_net::{LONGEST_LAG, NetFault, Network};
 use std::alloc::Global;
 use std::marker::Model;
 
-/// A project: a network, the need of each activity for each renewable resource, and the availability of each
-/// resource. Activities and resources are numbered from 1.
+/// A project: a network, the need of each activity for each renewable resource, and the
+/// availability of each resource. Activities and resources are numbered from 1.
 #[derive(Drop)]
 pub struct ProjectDoc {
     network: Network,
@@ -71,11 +71,11 @@ impl ProjectDoc {
         &self.avail
     }
 
-    /// Sets the lag of an arc: the second activity starts at least `lag` time units after the end of the
-    /// first. Allocates nothing.
+    /// Sets the lag of an arc: the second activity starts at least `lag` time units after the end
+    /// of the first. Allocates nothing.
     ///
-    /// Returns the error [`NetFault::NoArc`] if there is no such arc, then [`NetFault::BadLag`] if the lag is
-    /// above 10,000.
+    /// Returns the error [`NetFault::NoArc`] if there is no such arc, then [`NetFault::BadLag`] if
+    /// the lag is above 10,000.
     pub fn set_lag(&mut self, first: u32, second: u32, lag: u64) -> Result<(), NetFault>
         ensures ok { OnOk result (IsArc self.old.network first second × (lag ≤ LONGEST_LAG) ×
             (self.new ≡ spec.with_project_lag self.old first second lag)) }
@@ -85,7 +85,8 @@ impl ProjectDoc {
         self.network.set_lag(first, second, lag)
     }
 
-    /// Returns the network, the needs of the activities in order, and the availability of each resource.
+    /// Returns the network, the needs of the activities in order, and the availability of each
+    /// resource.
     pub fn into_parts(self) -> (Network, Vec<Vec<u64>>, Vec<u64>)
         ensures network { result.0 ≡ self.network }
         ensures needs { map (λ row. row.items) result.1.items ≡ self.needs }
@@ -96,13 +97,14 @@ impl ProjectDoc {
     }
 }
 
-/// Reads an `.sm` text (Kolisch and Sprecher 1996). Returns its project, or the first check that fails, with
-/// its line. Any call can run out of memory, except one that fails before the first section is read.
+/// Reads an `.sm` text (Kolisch and Sprecher 1996). Returns its project, or the first check that
+/// fails, with its line. Any call can run out of memory, except one that fails before the first
+/// section is read.
 pub fn read_sm(alloc: Global, text: &[u8]) -> Result<ProjectDoc, FileFault>
     // The result is the project that the text describes, and its arcs have no cycle.
     ensures found { IfOk result (spec.SaysProject text.now) }
-    // If the text describes a document, the result is its project, or out of memory, or the cycle of its
-    // arcs.
+    // If the text describes a document, the result is its project, or out of memory, or the cycle
+    // of its arcs.
     ensures only { (d : Said) → Says text.now d →
         MatchResult result (λ project. project ≡ spec.project_of d)
         (λ fault. IsWantOfMemory fault ⊎ spec.NamesCycleOf d fault) }

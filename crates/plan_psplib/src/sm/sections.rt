@@ -51,7 +51,8 @@ pub fn is_title(line: &[u8]) -> bool
         || line.starts_with(b"RESOURCEAVAILABILITIES")
 }
 
-/// The results of one walk over a text: the number of its last line, and the three sections that are read.
+/// The results of one walk over a text: the number of its last line, and the three sections that
+/// are read.
 #[derive(Drop)]
 pub struct Outline<'a> {
     pub last: u64,

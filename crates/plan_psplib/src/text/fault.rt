@@ -6,8 +6,8 @@ ghost use Rattle.plan_psplib.specs.declared.text.fault.ReadError.TheVariants.{Me
 use std::alloc::{AllocError, AllocFailed, Global};
 use thiserror::Error;
 
-/// The check that a file fails in the `.sm` reader or in the job shop reader. Each variant is listed with its
-/// code in messages.
+/// The check that a file fails in the `.sm` reader or in the job shop reader. Each variant is
+/// listed with its code in messages.
 #[derive(Clone, Copy, Debug, PartialEq, Eq)]
 pub enum FileCode {
     /// F1: more than 1,048,576 bytes.
@@ -49,7 +49,8 @@ pub struct FileFault {
     pub code: FileCode,
     /// Counted from 1; 0 for a file that is too long, for one without lines, and if memory ran out.
     pub line: u64,
-    /// The activities of a cycle along its arcs, from the least on; empty unless the code is `Cycle`.
+    /// The activities of a cycle along its arcs, from the least on; empty unless the code is
+    /// `Cycle`.
     pub cycle: Vec<u32>,
 }
 

@@ -98,8 +98,8 @@ fn first_line_feed(text: &[u8]) -> Option<usize>
     text.iter().position(|&byte| byte == b'\n')
 }
 
-/// Tests whether a byte separates words: a tab, a vertical tab, a form feed, a carriage return, the end mark
-/// 26 or a space.
+/// Tests whether a byte separates words: a tab, a vertical tab, a form feed, a carriage return, the
+/// end mark 26 or a space.
 pub fn is_blank(byte: u8) -> bool
     ensures { result ≡ spec.is_blank byte }
 {

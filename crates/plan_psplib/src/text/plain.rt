@@ -11,7 +11,8 @@ use crate::text::fault::{Fault, FileCode};
 /// The most bytes of a text.
 pub const LONGEST_TEXT: usize = 1_048_576;
 
-/// Checks that a text isn't too long and contains no zero byte: the first two checks of each reader.
+/// Checks that a text isn't too long and contains no zero byte: the first two checks of each
+/// reader.
 #[tactic(auto, unfolding(crate::specs::Plain::plain))]
 pub fn check_text(text: &[u8]) -> Result<(), Fault>
     ensures { Reads (λ _. tt) result (spec.plain text.now) }

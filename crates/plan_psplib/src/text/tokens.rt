@@ -16,8 +16,8 @@ pub struct LineNumber {
     pub line: u64,
 }
 
-/// Reads the next word, which must be a number. The error is `BadNumber` if it isn't one, and `Count` if no
-/// word is left.
+/// Reads the next word, which must be a number. The error is `BadNumber` if it isn't one, and
+/// `Count` if no word is left.
 #[tactic(auto, unfolding(crate::specs::Tokens::number_at))]
 pub fn next_number<L: Layout>(words: &mut StreamWords<'_, L>) -> Result<LineNumber, Fault>
     ensures { Reads (λ n. (line_number n, words.new)) result (number_at words.old) }
@@ -77,8 +77,8 @@ pub fn limited(value: LineNumber, least: u32, most: u32) -> Result<u32, Fault>
 }
 
 /// Reads the next word, which must be a number from `least` to `most`, both included. The error is
-/// `BadNumber` (F6) if it is no number and `Limit` (F10) if it is outside, in the line of the word. If no
-/// word is left, the error is `Count` (F9), in the line of the last word.
+/// `BadNumber` (F6) if it is no number and `Limit` (F10) if it is outside, in the line of the word.
+/// If no word is left, the error is `Count` (F9), in the line of the last word.
 #[tactic(auto, unfolding(crate::specs::Tokens::limited_at))]
 pub fn next_limited<L: Layout>(
     words: &mut StreamWords<'_, L>,
@@ -93,10 +93,10 @@ pub fn next_limited<L: Layout>(
     limited(number, least, most)
 }
 
-/// Reads the next word, which must be a duration in time units. `total` is the sum of the durations before
-/// it. The error is `BadNumber` (F6) if it is no number, and `Limit` (F10) if it is above 10,000 or raises
-/// the sum above 1,000,000. The line is that of the word. If no word is left, the error is `Count` (F9), in
-/// the line of the last word.
+/// Reads the next word, which must be a duration in time units. `total` is the sum of the durations
+/// before it. The error is `BadNumber` (F6) if it is no number, and `Limit` (F10) if it is above
+/// 10,000 or raises the sum above 1,000,000. The line is that of the word. If no word is left, the
+/// error is `Count` (F9), in the line of the last word.
 #[tactic(auto, unfolding(crate::specs::Tokens::duration_at))]
 pub fn next_duration<L: Layout>(words: &mut StreamWords<'_, L>, total: u64) -> Result<u64, Fault>
     ensures exact { Reads (λ n. (n, words.new)) result (duration_at total words.old) }

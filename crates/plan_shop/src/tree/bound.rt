@@ -91,10 +91,10 @@ impl<'a> ShopTree<'a> {
         greatest
     }
 
-    /// Returns the lower bound of the word, in whole time units: the greatest bound of a job or machine. The
-    /// bound of a job is its earliest possible end. The bound of a machine is the sum of the least head, the
-    /// total time and the least tail of its unplaced steps of positive time (Lageweg, Lenstra and Rinnooy Kan
-    /// 1977).
+    /// Returns the lower bound of the word, in whole time units: the greatest bound of a job or
+    /// machine. The bound of a job is its earliest possible end. The bound of a machine is the sum
+    /// of the least head, the total time and the least tail of its unplaced steps of positive time
+    /// (Lageweg, Lenstra and Rinnooy Kan 1977).
     pub fn bound(&self) -> u64
         ensures { result ≡ bounds.bound_of self.now.shop (spec.placed self.now) }
     {

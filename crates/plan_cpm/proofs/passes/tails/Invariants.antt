@@ -3,8 +3,8 @@ use Rattle.plan_net.specs.Network.{count_of}
 use Rattle.plan_cpm.proofs.BackLemmas.{AreRests}
 use Rattle.plan_cpm.proofs.passes.tails.Given as goal
 
--- the tails from `left` on are greatest lengths; the other entries are the times after the activities by
--- these tails
+-- the tails from `left` on are greatest lengths; the other entries are the times after the
+-- activities by these tails
 abbrev pub invariant-loop-left : goal.invariant-loop-left
 invariant-loop-left l = record {
   whole : length l.tails.items ≡ count_of l.network;

@@ -12,7 +12,8 @@ decreases-explore_children g l = 3 * l.progress.now.left + 2
 abbrev pub decreases-explore_child : goal.decreases-explore_child
 decreases-explore_child g l = 3 * l.progress.now.left + 1
 
--- the tree is at its word, and the remaining letters lead the search to the same result as all letters
+-- the tree is at its word, and the remaining letters lead the search to the same result as all
+-- letters
 abbrev pub invariant-explore_children-loop-place : goal.invariant-explore_children-loop-place
 invariant-explore_children-loop-place g l = record {
   tree : g.B.Branching.tree l.tree ≡ g.B.Branching.tree l.fn.tree;

@@ -5,8 +5,8 @@ use Rattle.plan_prove.specs.Proofs.{HasTaken}
 use Rattle.plan_prove.specs.Progress.{HearsKnown}
 use Rattle.plan_prove.proofs.search.Search.outcome.Given as goal
 
--- no starts are below the limit if all waiting states are refuted; at most the nodes that are left are
--- granted, and the reports have the data of the search
+-- no starts are below the limit if all waiting states are refuted; at most the nodes that are left
+-- are granted, and the reports have the data of the search
 abbrev pub invariant-loop-part : goal.invariant-loop-part
 invariant-loop-part g l = record {
   rest : AreRefuted l.fn.self.graph l.limit l.waiting.items → NoneIsBelow l.fn.self.graph l.limit;

@@ -6,7 +6,8 @@ use Rattle.plan_psplib.specs.Head.{numbered_line}
 use Rattle.plan_psplib.specs.Noted.{noted_or}
 use Rattle.plan_psplib.proofs.sm.head.key_lines.Given as goal
 
--- the noted lines, or else the first ones among the remaining lines of the head, are those of the head
+-- the noted lines, or else the first ones among the remaining lines of the head, are those of the
+-- head
 abbrev pub invariant-loop-line : goal.invariant-loop-line
 invariant-loop-line l = record {
   projects : noted_or (option_map numbered_line l.projects) (key_line (codes "projects") (rows is_kept is_title l.lines)) ≡ key_line (codes "projects") (head_of l.text);

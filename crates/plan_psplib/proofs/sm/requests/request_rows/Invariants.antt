@@ -2,7 +2,8 @@ use Rattle.std.proofs.Common.{◌≡◌, ◌≤◌, ◌-◌, ◌+◌, [], map, s
 use Rattle.plan_psplib.specs.Requests.{request_rows_at}
 use Rattle.plan_psplib.proofs.sm.requests.request_rows.Given as goal
 
--- reading the rest after the rows so far gives the total result, and total is the sum of their durations
+-- reading the rest after the rows so far gives the total result, and total is the sum of their
+-- durations
 abbrev pub invariant-loop-done : goal.invariant-loop-done
 invariant-loop-done l = record {
   reads : request_rows_at l.resources (l.jobs - l.done) (l.done + 1)

@@ -1,4 +1,5 @@
--- One more turn: the letter is placed, and the turn's values are the greater ones of the old and the new.
+-- One more turn: the letter is placed, and the turn's values are the greater ones of the old and
+-- the new.
 use Rattle.std.proofs.Common.{ℕ, ◌≡◌, ◌+◌, ◌-◌, List, length, Option, ◌++◌, [], ◌∷◌, refl, sym, ap, subst, ◌∙◌, arith}
 use Rattle.plan_net.specs.Network.{Net, IsArc, count_of, duration_of}
 use Rattle.plan_sgs.specs.Problem.{duration}
