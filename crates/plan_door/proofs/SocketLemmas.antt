@@ -10,7 +10,7 @@ use Rattle.plan_door.specs.Turns.{Turn, missed, visited, misses_in, AreVisited, 
 module _ {V R W : Type 0} (known : R → Known) (taken : W → Option Text)
     (Admits : V → V → Result (R × W) DeviceFault → Type 0) (Dismisses : V → V → R → W → ConnEnd → Type 0) (failures : V → ℕ)
     (admitted : (old new : V) (r : Result (R × W) DeviceFault) → Admits old new r
-        → (failures new ≤ failures old + 1) × OnOk r (failures new ≤ failures old))
+    → (failures new ≤ failures old + 1) × OnOk r (failures new ≤ failures old))
     (dismissed : (old new : V) (reader : R) (writer : W) (e : ConnEnd) → Dismisses old new reader writer e → failures new ≡ failures old) where
   failed_in : (came went : V) (turns : List Turn) → AreVisited known taken Admits Dismisses came turns went
       → failures went ≤ failures came + misses_in turns
@@ -29,7 +29,7 @@ pub failed_in_turns : {V R W B : Type 0} {known : R → Known} {taken : W → Op
     {shelf : Shelf B} {old new : B} {came went : V} {count : ℕ}
     (visiting : Visiting known taken Admits Dismisses shelf old new came went count) (failures : V → ℕ)
     → ((old new : V) (r : Result (R × W) DeviceFault) → Admits old new r
-        → (failures new ≤ failures old + 1) × OnOk r (failures new ≤ failures old))
+    → (failures new ≤ failures old + 1) × OnOk r (failures new ≤ failures old))
     → ((old new : V) (reader : R) (writer : W) (e : ConnEnd) → Dismisses old new reader writer e → failures new ≡ failures old)
     → failures went ≤ failures came + misses_in visiting.turns
 failed_in_turns {known = known} {taken = taken} {Admits = Admits} {Dismisses = Dismisses} {came = came} {went = went} visiting failures admitted dismissed =
