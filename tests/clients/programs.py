@@ -42,6 +42,15 @@ def fault(line):
     return 1, b"", line.encode() + b"\n"
 
 
+# The environment in which an error has its hint although standard error is no terminal.
+HINTED = {**os.environ, "PLAN_HINTS": "1"}
+
+
+def hinted(line, hint):
+    """What a command gives that fails with this line and this hint, in the environment HINTED."""
+    return 1, b"", f"{line}\nhint: {hint}\n".encode()
+
+
 DONE = (0, b"", b"")
 
 

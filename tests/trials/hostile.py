@@ -141,11 +141,6 @@ def refused(what, calls, wanted):
         same(f"plan {words[0]} on {what}", found, wanted)
 
 
-def in_use_line():
-    """The error for a file in use: 0.3.0 has no code of its own for it."""
-    return fault("K4 in use") if plan("explain", "K4")[0] == 0 else STORE
-
-
 @contextlib.contextmanager
 def held_by_sqlite(database, begin):
     """The sqlite3 shell starts a transaction, and ends it afterwards."""
@@ -161,7 +156,7 @@ def held_by_sqlite(database, begin):
 
 def try_held(room):
     """A file in which the sqlite3 shell has a transaction open is in use, and then it isn't."""
-    database, asked, in_use = office(room), written([LISTED], room)[0], in_use_line()
+    database, asked, in_use = office(room), written([LISTED], room)[0], STORE
     for begin in ("BEGIN IMMEDIATE;", "BEGIN EXCLUSIVE;", "BEGIN; SELECT desk FROM desks;"):
         with held_by_sqlite(database, begin):
             calls = (["init", database], ["replay", database, asked])

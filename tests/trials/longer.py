@@ -387,7 +387,7 @@ def try_long_list(room):
     by_replays(long_list(), room)
     database, tables = by_servers(long_list(), room)
     over = plan("init", database, given=b"office-key-2\n")
-    same("plan init over them", over, fault("K7 office there already"))
+    same("plan init over them", over, fault("K1 not ours"))
     same_rows("the rows after plan init over them", rows(database, room), tables.dump())
 
 

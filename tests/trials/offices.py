@@ -53,7 +53,7 @@ def try_no_keys(room):
         made = plan("init", place, given=text.encode())
         same(f"plan init {place} by {text!r}", made, fault("K3 key"))
     over = plan("init", there, given=b"password")
-    same("plan init over an office", over, fault("K7 office there already"))
+    same("plan init over an office", over, fault("K1 not ours"))
     same("a file after a wrong key", os.path.exists(database), False)
     same_rows("the rows of the office", rows(there, room), [f"meta|2|{digest(OFFICE_KEY)}"])
 

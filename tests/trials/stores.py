@@ -6,7 +6,7 @@ import os
 
 import longer
 from exchanges import digest, file_of
-from programs import DONE, Wrong, fault, plan, rows, same, sql, told_by_sqlite
+from programs import DONE, HINTED, Wrong, fault, hinted, plan, rows, same, sql, told_by_sqlite
 from story import answered, same_rows, written
 
 KEY = "password"
@@ -15,7 +15,6 @@ LAG = "INSERT INTO lags (desk, n, src, dst, lag) VALUES ('north', 1, 1, 2, 2);"
 FIRST = file_of("tests/trials/files/first-version.sql").decode()
 SECOND = file_of("tests/trials/files/second-version.sql").decode()
 NOT_OURS, VERSION = fault("K1 not ours"), fault("K2 version")
-TAKEN = fault("K7 office there already")
 
 
 def asked(line, answer, body="", status=200):
@@ -76,7 +75,7 @@ def try_taken(room):
     before = rows(database, room)
     for _ in range(3):
         answered(STORY, database, written(STORY, room))
-    same("plan init over it", plan("init", database, given=KEY.encode()), TAKEN)
+    same("plan init over it", plan("init", database, given=KEY.encode()), NOT_OURS)
     answered(STORY, database, written(STORY, room))
     same_rows("the rows at the end", rows(database, room), before)
 
@@ -234,29 +233,33 @@ def rows_of():
     ])
 
 
-def kept_from(database, what, wanted):
+# The hints below the error of `plan init` over tables, after the name of the file.
+TAKEN, OTHER = " already holds an office", ": not the database of an office; see: plan explain K1"
+
+
+def kept_from(database, what, hint):
     """No office is made over what is there, which stays as it is."""
-    before = whole(database)
-    same(f"plan init over {what}", plan("init", database, given=KEY.encode()), wanted)
+    before, wanted = whole(database), hinted("K1 not ours", database + hint)
+    same(f"plan init over {what}", plan("init", database, given=KEY.encode(), env=HINTED), wanted)
     same(f"{what} stays", whole(database) == before, True)
 
 
 def try_init_over(room):
-    """No office is made over tables. An office's tables have an error of their own."""
-    for change, wanted in [
+    """No office is made over tables. An office's tables have a hint of their own."""
+    for change, hint in [
         ("SELECT 1;", TAKEN),
         ("UPDATE meta SET version = 9;", TAKEN),
         ("UPDATE published SET capacity = 10001;", TAKEN),
         ("DELETE FROM meta;", TAKEN),
         ("DROP TABLE lags;", TAKEN),
-        ("DROP TABLE lags; DROP TABLE binds;", NOT_OURS),
-        ("CREATE TABLE notes (a TEXT);", NOT_OURS),
-        ("CREATE INDEX by_kind ON plans (kind);", NOT_OURS),
-        ("CREATE VIEW crews AS SELECT code FROM published;", NOT_OURS),
+        ("DROP TABLE lags; DROP TABLE binds;", OTHER),
+        ("CREATE TABLE notes (a TEXT);", OTHER),
+        ("CREATE INDEX by_kind ON plans (kind);", OTHER),
+        ("CREATE VIEW crews AS SELECT code FROM published;", OTHER),
     ]:
-        kept_from(filled(room, change), f"an office after {change}", wanted)
+        kept_from(filled(room, change), f"an office after {change}", hint)
     kept_from(first(room), "an office of the first version", TAKEN)
-    kept_from(first(room, "DROP TABLE binds;"), "a part of it", NOT_OURS)
+    kept_from(first(room, "DROP TABLE binds;"), "a part of it", OTHER)
 
 
 def try_first_version(room):

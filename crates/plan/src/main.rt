@@ -12,9 +12,9 @@ use plan_cli::{
 };
 use plan_io::StdSink;
 use plan_serve::{
-    ServeFault, Service, check_office_on_file, init_on_file, replay_on_files, serve_on_port,
+    ServeFault, Service, Target, check_office_on_file, init_on_file, replay_on_files, serve_on_port,
 };
-use std::alloc::AllocError;
+use std::alloc::{AllocError, Global};
 use std::env;
 use std::io::{self, IsTerminal};
 use std::process::ExitCode;
@@ -102,13 +102,58 @@ fn has_hints(rt: &HostRuntime) -> bool {
     rt.stderr().is_terminal()
 }
 
+// Prints a hint, if there is one.
+fn print_hint(rt: &HostRuntime, hint: Result<Option<String>, AllocError>) {
+    if let Ok(Some(text)) = hint {
+        let _ = eprintln!(rt; "{text}");
+    }
+}
+
 // Prints an error line and, if hints are printed, its hint. Returns the status 1.
 fn print_error(rt: &HostRuntime, file: Option<&str>, line: &str) -> u8 {
     let _ = eprintln!(rt; "{line}");
-    if has_hints(rt)
-        && let Ok(Some(text)) = hint(rt.alloc(), file, line)
-    {
-        let _ = eprintln!(rt; "{text}");
+    if has_hints(rt) {
+        print_hint(rt, hint(rt.alloc(), file, line));
+    }
+    1
+}
+
+// Returns the office of an order, as hints name it.
+fn target_of<'a>(order: &OfficeOrder<'a>) -> Target<'a> {
+    let (database, is_new, port) = match *order {
+        OfficeOrder::Init { database } => (database, true, 0),
+        OfficeOrder::Serve { database, port, .. } => (database, false, port),
+        OfficeOrder::Check { database } | OfficeOrder::Replay { database, .. } => {
+            (database, false, 0)
+        }
+    };
+    Target {
+        database,
+        is_new,
+        port,
+    }
+}
+
+// Returns the hint for the error of an order on an office: its cause, or the hint for its line if
+// the line names the cause.
+fn office_hint(
+    alloc: Global,
+    order: &OfficeOrder<'_>,
+    fault: ServeFault,
+) -> Result<Option<String>, AllocError> {
+    if let Some(text) = target_of(order).hint(alloc, fault)? {
+        return Ok(Some(text));
+    }
+    hint(alloc, order.file_of(fault.line()), fault.line())
+}
+
+// Prints the error of an order on an office and, if hints are printed, its hint. Returns the status
+// 1.
+fn print_office_error(rt: &HostRuntime, order: &OfficeOrder<'_>, fault: ServeFault) -> u8 {
+    let line = fault.line();
+    let _ = eprintln!(rt; "{line}");
+    if has_hints(rt) {
+        print_hint(rt, office_hint(rt.alloc(), order, fault));
     }
     1
 }
@@ -128,7 +173,7 @@ fn do_order(rt: &HostRuntime, order: Order<'_>) -> Result<u8, Misuse> {
         }),
         Order::Office(order) => Ok(match do_office_order(rt, order) {
             Ok(()) => 0,
-            Err(fault) => print_error(rt, order.file_of(fault.line()), fault.line()),
+            Err(fault) => print_office_error(rt, &order, fault),
         }),
     }
 }

@@ -53,17 +53,11 @@ name_is_text code.BadCalendar = (codes "E12", (refl, refl))
 name_is_text code.NotOurs = (codes "K1", (refl, refl))
 name_is_text code.Version = (codes "K2", (refl, refl))
 name_is_text code.NoKey = (codes "K3", (refl, refl))
-name_is_text code.InUse = (codes "K4", (refl, refl))
-name_is_text code.NotThere = (codes "K5", (refl, refl))
-name_is_text code.NotWritable = (codes "K6", (refl, refl))
-name_is_text code.OfficeThere = (codes "K7", (refl, refl))
 name_is_text code.NoMemory = (codes "E90", (refl, refl))
 name_is_text code.StoreRefused = (codes "E91", (refl, refl))
 name_is_text code.Input = (codes "I1", (refl, refl))
 name_is_text code.Socket = (codes "I2", (refl, refl))
 name_is_text code.Output = (codes "I3", (refl, refl))
-name_is_text code.PortInUse = (codes "I4", (refl, refl))
-name_is_text code.PortDenied = (codes "I5", (refl, refl))
 
 -- bytes that aren't a text are the name of no code
 pub no_name : (bytes : List ℕ) → ¬ (IsUtf8 bytes) → (code : Code) → bytes ≡ name_of code → ⊥

@@ -53,17 +53,11 @@ pub(crate) enum Code {
     NotOurs,
     Version,
     NoKey,
-    InUse,
-    NotThere,
-    NotWritable,
-    OfficeThere,
     NoMemory,
     StoreRefused,
     Input,
     Socket,
     Output,
-    PortInUse,
-    PortDenied,
 }
 
 impl Code {
@@ -118,17 +112,11 @@ impl Code {
             "K1" => Some(Code::NotOurs),
             "K2" => Some(Code::Version),
             "K3" => Some(Code::NoKey),
-            "K4" => Some(Code::InUse),
-            "K5" => Some(Code::NotThere),
-            "K6" => Some(Code::NotWritable),
-            "K7" => Some(Code::OfficeThere),
             "E90" => Some(Code::NoMemory),
             "E91" => Some(Code::StoreRefused),
             "I1" => Some(Code::Input),
             "I2" => Some(Code::Socket),
             "I3" => Some(Code::Output),
-            "I4" => Some(Code::PortInUse),
-            "I5" => Some(Code::PortDenied),
             _ => None,
         }
     }
@@ -183,17 +171,11 @@ impl Code {
             Code::NotOurs => "K1",
             Code::Version => "K2",
             Code::NoKey => "K3",
-            Code::InUse => "K4",
-            Code::NotThere => "K5",
-            Code::NotWritable => "K6",
-            Code::OfficeThere => "K7",
             Code::NoMemory => "E90",
             Code::StoreRefused => "E91",
             Code::Input => "I1",
             Code::Socket => "I2",
             Code::Output => "I3",
-            Code::PortInUse => "I4",
-            Code::PortDenied => "I5",
         }
     }
 
@@ -247,17 +229,11 @@ impl Code {
             Code::NotOurs => "not the database of an office",
             Code::Version => "the tables are of another version",
             Code::NoKey => "no valid key on standard input",
-            Code::InUse => "another program has it open",
-            Code::NotThere => "no such file",
-            Code::NotWritable => "the permissions forbid writing",
-            Code::OfficeThere => "the office exists already",
             Code::NoMemory => "memory ran out",
             Code::StoreRefused => "the database can't be used",
             Code::Input => "a file can't be read",
             Code::Socket => "the port can't be used",
             Code::Output => "the output can't be written",
-            Code::PortInUse => "another program has the port",
-            Code::PortDenied => "the permissions forbid this port",
         }
     }
 
@@ -400,7 +376,7 @@ impl Code {
                 "E12 ..\nThe calendar is invalid, missing or too short. The cause follows, for example E12 G1 date.\nLook up the code that follows.\n"
             }
             Code::NotOurs => {
-                "K1 not ours\nFor plan init: the file already contains tables, indexes or views that aren't exactly an office's. Otherwise: the tables aren't exactly an office's, a row breaks a rule, or the file is empty or shorter than a database.\nCheck the name. Drop what was added by hand, or restore a backup. If plan 0.2.0 made the file, run in sqlite3: ALTER TABLE lags RENAME COLUMN source TO src; ALTER TABLE lags RENAME COLUMN target TO dst;\n"
+                "K1 not ours\nFor plan init: the file already contains an office of any version, or other tables, indexes or views; nothing was changed. Otherwise: the tables aren't exactly an office's, a row breaks a rule, or the file is empty or shorter than a database.\nCheck the name. Serve an existing office with plan serve, or give plan init another name. Drop what was added by hand, or restore a backup. If plan 0.2.0 made the file, run in sqlite3: ALTER TABLE lags RENAME COLUMN source TO src; ALTER TABLE lags RENAME COLUMN target TO dst;\n"
             }
             Code::Version => {
                 "K2 version\nThis program doesn't know the version of the tables.\nUse the program that wrote them, or a newer one.\n"
@@ -408,38 +384,20 @@ impl Code {
             Code::NoKey => {
                 "K3 key\nThe first line of standard input isn't a key: 8 to 64 of the characters from ! to ~, without a blank.\nGive another key.\n"
             }
-            Code::InUse => {
-                "K4 in use\nAnother program has the database open: a server, or sqlite3.\nStop it, or wait. fuser with the name of the file prints its process number.\n"
-            }
-            Code::NotThere => {
-                "K5 not there\nThere is no file of this name. For plan init: there is no such folder. Nothing was created.\nCheck the name, which is relative to the current folder. plan init creates an office.\n"
-            }
-            Code::NotWritable => {
-                "K6 not writable\nThis user may not read and write the database, its log (-wal) or their folder, or the file system is read-only.\nGive the folder and its files to the user that runs plan (chown).\n"
-            }
-            Code::OfficeThere => {
-                "K7 office there already\nFor plan init: the file already contains an office's tables, of any version. Nothing was changed.\nServe it with plan serve, or give plan init another name.\n"
-            }
             Code::NoMemory => {
                 "E90 memory\nMemory ran out. The input may be valid.\nFree memory and try again.\n"
             }
             Code::StoreRefused => {
-                "E91 store\nThe database can't be opened, read or written. Causes: the name is a folder's or a device's, or too long; the file isn't an SQLite database, uses UTF-16 or auto_vacuum, was cut or damaged, or has a second name (hard link); its log (-wal) belongs to another file; sqlite3 left a journal (-journal); the disk is full or fails; or a limit on files was reached. A running server has changed nothing.\nFind the cause (docs/operations.md has a table), and remove it or restore a backup. A running server continues once a full disk has room.\n"
+                "E91 store\nThe database can't be opened, read or written. Causes: there is no file of this name, or for plan init no such folder; another program, such as a server or sqlite3, has it open; this user may not read and write it, its log (-wal) or their folder, or the file system is read-only; the name is a folder's or a device's, or too long; the file isn't an SQLite database, uses UTF-16 or auto_vacuum, was cut or damaged, or has a second name (hard link); its log belongs to another file; sqlite3 left a journal (-journal); the disk is full or fails; or a limit on files was reached. A running server has changed nothing.\nRead the hint, which names the first three causes: PLAN_HINTS=1 prints it. Check the name, which is relative to the current folder, stop the other program (fuser prints its process number), or give the folder and its files to the user that runs plan (chown). Find any other cause (docs/operations.md has a table), and remove it or restore a backup. A running server continues once a full disk has room.\n"
             }
             Code::Input => {
                 "I1 file\nThe file or standard input can't be read: it doesn't exist, is a folder, or its permissions forbid it.\nCheck the name, which is relative to the current folder, and the permissions.\n"
             }
             Code::Socket => {
-                "I2 socket\nThe server can't listen on the port, for another reason than I4 and I5; or no connection could be accepted a hundred times in a row, for example because too many files are open.\nClose other files or connections or raise the limit (ulimit -n), and start the server again.\n"
+                "I2 socket\nThe server can't listen on the port, because another program does, because this user may not (ports below 1024 are reserved) or for another cause; or no connection could be accepted a hundred times in a row, for example because too many files are open.\nChoose another port from 1024 up, behind a reverse proxy if needed, or stop the other program. Close other files or connections or raise the limit (ulimit -n), and start the server again.\n"
             }
             Code::Output => {
                 "I3 output\nThe output can't be written completely: the disk is full, or the reader of the pipe has exited.\nMake room or keep the pipe open, and run the command again; discard the partial output.\n"
-            }
-            Code::PortInUse => {
-                "I4 port in use\nAnother program listens on the port.\nChoose another port, or stop the other program.\n"
-            }
-            Code::PortDenied => {
-                "I5 port denied\nThis user may not listen on the port: ports below 1024 are reserved.\nChoose a port from 1024 up, behind a reverse proxy if needed.\n"
             }
         }
     }

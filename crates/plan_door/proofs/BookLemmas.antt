@@ -7,7 +7,8 @@ use Rattle.plan_rows.specs.Books.{Shelf}
 use Rattle.plan_door.specs.declared.fault.ServeFault.{ServeFault}
 use Rattle.plan_door.specs.declared.fault.ServeFault.TheVariants as fault
 use Rattle.plan_door.specs.Ports.{IsPortCause, IsPortFault, TakesTurns}
-use Rattle.plan_door.specs.Turns.{Turn, Runs}
+use Rattle.plan_door.specs.Turns.{Turn, misses_in, Runs}
+use Rattle.plan_door.specs.declared.socket.TheConstants.{MOST_FAILURES}
 use Rattle.plan_door.proofs.TurnLemmas.{no_turns}
 use Rattle.plan_door.specs.ReplayRun.{Replays, ReplaysFrom}
 
@@ -75,10 +76,11 @@ port_turns shelf old count k fault.PortDenied is = refl
 pub listener_turns : {B : Type 0} (shelf : Shelf B) (old new : B) (count : ℕ) (r : Result (Unit {0}) ServeFault)
     → OnOk r ((turns : List Turn) × (length turns ≡ count) × Runs shelf old new turns)
     → (IsErrOf r fault.Memory → new ≡ old)
-    → (IsErrOf r fault.Socket → (turns : List Turn) × (length turns ≤ count) × Runs shelf old new turns)
+    → (IsErrOf r fault.Socket → (turns : List Turn) × (length turns ≤ count) × (MOST_FAILURES ≤ misses_in turns) × Runs shelf old new turns)
     → IfErr r (λ e. (e ≡ fault.Memory) ⊎ (e ≡ fault.Socket)) → TakesTurns shelf old new count r
 listener_turns shelf old new count (Ok done) ok memory closed which = ok
 listener_turns shelf old new count (Err e) ok memory closed (inl same) =
     subst (λ f. TakesTurns shelf old new count (Err f)) (sym same) (memory (ap Err same))
 listener_turns shelf old new count (Err e) ok memory closed (inr same) =
-    subst (λ f. TakesTurns shelf old new count (Err f)) (sym same) (closed (ap Err same))
+    let c = closed (ap Err same) in
+    subst (λ f. TakesTurns shelf old new count (Err f)) (sym same) (c.0, c.1, c.3)

@@ -1,4 +1,5 @@
 pub mod TurnLemmas
+pub mod SocketLemmas
 pub mod ReplayLemmas
 pub mod ResultLemmas
 pub mod KeyLemmas

@@ -1,4 +1,5 @@
 pub mod Faults
+pub mod Hints
 pub mod Keys
 pub mod Serve
 pub mod Turns

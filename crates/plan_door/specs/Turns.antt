@@ -1,5 +1,5 @@
 -- Connections from any source, served turn by turn (docs/definitions.md, "Connections").
-use Rattle.std.specs.Prelude.{◌≡◌, ◌<◌, ℕ, Bool, true, List, [], ◌∷◌, ◌++◌, length, take, map, Option, Some, None, Result, Ok, Err}
+use Rattle.std.specs.Prelude.{◌≡◌, ◌<◌, ◌+◌, ℕ, Bool, true, List, [], ◌∷◌, ◌++◌, length, take, map, Option, Some, None, Result, Ok, Err}
 use Rattle.plan_io.specs.declared.traits.DeviceFault.{DeviceFault}
 use Rattle.plan_rows.specs.World.{Text}
 use Rattle.plan_rows.specs.Books.{Shelf}
@@ -37,6 +37,12 @@ IsSent sent response (WriteFailed count) = (count < length response) × (sent �
 pub data Turn : Type 0 where
   missed : Turn
   visited : Visit → Turn
+
+-- how many turns brought no connection
+abbrev pub misses_in : List Turn → ℕ
+misses_in [] = 0
+misses_in (missed ∷ turns) = 1 + misses_in turns
+misses_in (visited v ∷ turns) = misses_in turns
 
 -- the decision on a connection, as a list
 abbrev pub decision_in : Option Decision → List Decision

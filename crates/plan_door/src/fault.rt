@@ -2,7 +2,8 @@
 
 use thiserror::Error;
 
-/// The fault of a command on an office: one line of text.
+/// The fault of a command on an office. Faults that differ only in their cause have the same line,
+/// and a hint of their own.
 #[derive(Clone, Copy, Debug, Drop, PartialEq, Eq, Error)]
 pub enum ServeFault {
     /// Memory ran out.
@@ -30,22 +31,22 @@ pub enum ServeFault {
     #[error("I3 output")]
     Output,
     /// Another process has the file of the office open.
-    #[error("K4 in use")]
+    #[error("E91 store")]
     Locked,
     /// There is no file of this name.
-    #[error("K5 not there")]
+    #[error("E91 store")]
     Missing,
     /// The file, its log or their folder isn't writable.
-    #[error("K6 not writable")]
+    #[error("E91 store")]
     Denied,
     /// The database has the tables of an office already.
-    #[error("K7 office there already")]
+    #[error("K1 not ours")]
     Taken,
     /// Another program listens on the port.
-    #[error("I4 port in use")]
+    #[error("I2 socket")]
     PortTaken,
     /// The port may not be bound.
-    #[error("I5 port denied")]
+    #[error("I2 socket")]
     PortDenied,
 }
 
@@ -53,25 +54,21 @@ impl ServeFault {
     ghost use Rattle.std.specs.Prelude.{◌≡◌};
     ghost use Rattle.plan_door.specs.Faults.{line_of};
 
-    /// Returns the line, without its line feed.
+    /// Returns the line, without its line feed. Scripts rely on these lines.
     pub fn line(self) -> &'static str
         ensures { result.now ≡ line_of self }
     {
         match self {
             ServeFault::Memory => "E90 memory",
-            ServeFault::Store => "E91 store",
-            ServeFault::NotOurs => "K1 not ours",
+            ServeFault::Store | ServeFault::Locked | ServeFault::Missing | ServeFault::Denied => {
+                "E91 store"
+            }
+            ServeFault::NotOurs | ServeFault::Taken => "K1 not ours",
             ServeFault::Version => "K2 version",
             ServeFault::Key => "K3 key",
             ServeFault::Input => "I1 file",
-            ServeFault::Socket => "I2 socket",
+            ServeFault::Socket | ServeFault::PortTaken | ServeFault::PortDenied => "I2 socket",
             ServeFault::Output => "I3 output",
-            ServeFault::Locked => "K4 in use",
-            ServeFault::Missing => "K5 not there",
-            ServeFault::Denied => "K6 not writable",
-            ServeFault::Taken => "K7 office there already",
-            ServeFault::PortTaken => "I4 port in use",
-            ServeFault::PortDenied => "I5 port denied",
         }
     }
 }

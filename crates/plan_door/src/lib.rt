@@ -5,6 +5,7 @@
 
 mod fault;
 mod first_line;
+mod hints;
 mod key;
 mod log;
 mod over_book;
@@ -17,6 +18,7 @@ mod socket;
 mod visitors;
 
 pub use fault::ServeFault;
+pub use hints::Target;
 pub use key::read_key;
 pub use over_book::{replay_book, serve_book};
 pub use replay::replay_run;

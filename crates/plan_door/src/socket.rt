@@ -3,7 +3,7 @@
 ghost use Rattle.std.specs.Prelude.{◌≡◌, ◌⊎◌, ◌↔◌, ◌+◌, ◌<◌, ◌≤◌, [], false, List, length, IsTrue, IfOk, OnOk, IsErrOf, IfErr};
 ghost use Rattle.plan_http.specs.Answers.{Decision};
 ghost use Rattle.plan_door.specs.Serve.{MovedBy};
-ghost use Rattle.plan_door.specs.Turns.{Turn, Runs};
+ghost use Rattle.plan_door.specs.Turns.{Turn, misses_in, Runs};
 
 use crate::fault::ServeFault;
 use crate::log::Log;
@@ -27,16 +27,6 @@ const PAUSE: u64 = 1;
 
 const MOST_DOUBLINGS: u32 = 10;
 
-// The result of one poll of the listener and the queue.
-enum Event {
-    // The connection to serve next.
-    Ready(TcpStream),
-    // A connection was lost.
-    Lost,
-    // No connection yet.
-    Idle,
-}
-
 // The listener and the queue, and the number of consecutive failed accepts.
 #[derive(Drop)]
 struct Acceptor<'a> {
@@ -53,7 +43,7 @@ impl<'a> Acceptor<'a> {
         self.listener.set_nonblocking(!self.queue.is_empty())?;
         match self.listener.accept() {
             Ok((stream, _)) => Ok(Some(stream)),
-            Err(_) if !self.queue.is_empty() => Ok(None),
+            Err(error) if error.kind() == ErrorKind::WouldBlock => Ok(None),
             Err(error) => Err(error),
         }
     }
@@ -65,61 +55,60 @@ impl<'a> Acceptor<'a> {
         self.failures >= MOST_FAILURES
     }
 
-    // Pauses after a failed accept, longer after each consecutive one. The last one closes the
-    // acceptor.
-    fn pause(&mut self) -> Event
+    // Pauses after a failed accept, longer after each consecutive one.
+    fn pause(&mut self)
         ensures counted { self.new.failures ≤ self.old.failures + 1 }
         ensures all { self.old.failures < MOST_FAILURES
             → self.new.failures ≡ self.old.failures + 1 }
-        ensures shut { MOST_FAILURES ≤ self.new.failures → result ≡ Event.Lost }
     {
         let pause = PAUSE << self.failures.min(MOST_DOUBLINGS);
         thread::sleep(self.rt, Duration::from_millis(pause));
         self.failures = self.failures.saturating_add(1);
-        if self.is_closed() {
-            return Event::Lost;
-        }
-        Event::Idle
     }
 
-    // Queues an accepted connection.
-    fn enqueue(&mut self, stream: TcpStream) -> Event
+    // Queues an accepted connection. It fails if a connection is lost.
+    fn enqueue(&mut self, stream: TcpStream) -> io::Result<()>
         ensures again { self.new.failures ≡ 0 }
     {
         self.failures = 0;
         if self.queue.push(self.rt, stream) {
-            return Event::Idle;
+            return Ok(());
         }
-        Event::Lost
+        Err(io::Error::from(ErrorKind::TimedOut))
     }
 
-    // Waits a moment, unless a connection has sent nothing for too long.
-    fn wait(&mut self) -> Event {
-        if self.queue.drop_silent(self.rt) || self.queue.wait().is_err() {
-            return Event::Lost;
-        }
-        Event::Idle
-    }
-
-    // Polls the queue and the listener once.
-    fn poll(&mut self) -> Event {
+    // Polls the queue and the listener once. It returns None if no connection is ready yet, and
+    // fails if one is lost or an accept fails.
+    fn poll(&mut self) -> io::Result<Option<TcpStream>>
+        ensures counted { self.new.failures ≤ self.old.failures + 1 }
+        ensures accepted { OnOk result (self.new.failures ≤ self.old.failures) }
+    {
         if let Some(stream) = self.queue.pop_ready() {
-            return Event::Ready(stream);
+            return Ok(Some(stream));
+        }
+        if self.queue.drop_silent(self.rt) {
+            return Err(io::Error::from(ErrorKind::TimedOut));
         }
         match self.accept() {
-            Ok(Some(stream)) => self.enqueue(stream),
-            Ok(None) => self.wait(),
-            Err(_) => self.pause(),
+            Ok(Some(stream)) => self.enqueue(stream)?,
+            Ok(None) => self.queue.wait()?,
+            Err(error) => {
+                self.pause();
+                return Err(error);
+            }
         }
+        Ok(None)
     }
 
-    // Returns the next connection to serve.
-    fn next_stream(&mut self) -> io::Result<TcpStream> {
+    // Returns the next connection to serve. It fails after one failed accept, which counts as a
+    // connection.
+    fn next_stream(&mut self) -> io::Result<TcpStream>
+        ensures counted { self.new.failures ≤ self.old.failures + 1 }
+        ensures accepted { OnOk result (self.new.failures ≤ self.old.failures) }
+    {
         for _ in 0..u64::MAX {
-            match self.poll() {
-                Event::Ready(stream) => return Ok(stream),
-                Event::Lost => return Err(io::Error::from(ErrorKind::TimedOut)),
-                Event::Idle => {}
+            if let Some(stream) = self.poll()? {
+                return Ok(stream);
             }
         }
         Err(io::Error::from(ErrorKind::TimedOut))
@@ -135,6 +124,8 @@ impl<'a> Acceptor<'a> {
         ensures timed { IfOk result
             (λ sides. (sides.0.timer.patience ≡ patience)
             × (sides.1.timer.patience ≡ patience)) }
+        ensures counted { self.new.failures ≤ self.old.failures + 1 }
+        ensures accepted { OnOk result (self.new.failures ≤ self.old.failures) }
     {
         let stream = self.next_stream()?;
         both_sides(self.rt, stream, patience)
@@ -156,7 +147,7 @@ impl<'a> Visitors for SocketVisitors<'a> {
 
     type Writer = Side<'a>;
 
-    ghost use Rattle.std.specs.Prelude.{◌≡◌, ◌≤◌, ◌+◌, IfOk};
+    ghost use Rattle.std.specs.Prelude.{◌≡◌, ◌≤◌, ◌+◌, IfOk, OnOk};
     ghost use Rattle.plan_door.specs.declared.socket.TheConstants.{MOST_FAILURES};
     ghost use Rattle.plan_io.specs.Devices.{IsCounted};
 
@@ -167,16 +158,20 @@ impl<'a> Visitors for SocketVisitors<'a> {
     // Too many consecutive accepts failed.
     ghost closed = { λ visitors. MOST_FAILURES ≤ visitors.acceptor.failures };
 
-    // A connection is awaited, and none is closed. Each has the same deadline.
+    // A connection is awaited, and none is closed. Each has the same deadline. At most one accept
+    // failed, and none if a connection came.
     ghost admits = { λ old new result.
         IsCounted old.tally.calls new.tally.calls old.tally.faults new.tally.faults result
         × (new.ended.calls ≡ old.ended.calls) × (new.patience ≡ old.patience)
+        × (new.acceptor.failures ≤ old.acceptor.failures + 1)
+        × OnOk result (new.acceptor.failures ≤ old.acceptor.failures)
         × IfOk result (λ sides. (sides.0.timer.patience ≡ old.patience)
         × (sides.1.timer.patience ≡ old.patience)) };
 
     // A connection is closed, and none is awaited.
     ghost dismisses = { λ old new _ _ _. (new.tally.calls ≡ old.tally.calls)
-        × (new.ended.calls ≡ old.ended.calls + 1) × (new.patience ≡ old.patience) };
+        × (new.ended.calls ≡ old.ended.calls + 1) × (new.patience ≡ old.patience)
+        × (new.acceptor.failures ≡ old.acceptor.failures) };
 
     fn admit(&mut self) -> Result<(Side<'a>, Side<'a>), DeviceFault> {
         let sides = self.acceptor.next_sides(self.patience);
@@ -224,8 +219,8 @@ fn socket_visitors<'a>(
 
 /// Serves `service.count` connections of a socket, one after another: the oldest queued connection
 /// that has sent data comes first. A connection that is closed or fails counts too, and ends
-/// without an effect on others. Each has the service's deadline for its request, and again for its
-/// response.
+/// without an effect on others. So does a failed accept. Each connection has the service's deadline
+/// for its request, and again for its response.
 pub fn serve_listener<B: Book>(
     rt: &HostRuntime,
     office: &mut Office<B>,
@@ -240,10 +235,10 @@ pub fn serve_listener<B: Book>(
         × MovedBy B.shelf office.old decisions office.new) }
     // It fails for one of two causes. Memory runs out before the first connection;
     ensures memory { IsErrOf result ServeFault.Memory → office.new ≡ office.old }
-    // or, after some turns, 100 consecutive accepts fail.
+    // or 100 consecutive accepts fail, each in a turn of its own.
     ensures closed { IsErrOf result ServeFault.Socket
         → (turns : List Turn) × (length turns ≤ service.now.count)
-        × Runs B.shelf office.old office.new turns }
+        × (MOST_FAILURES ≤ misses_in turns) × Runs B.shelf office.old office.new turns }
     ensures which { IfErr result (λ e. (e ≡ ServeFault.Memory) ⊎ (e ≡ ServeFault.Socket)) }
 {
     let Ok(queue) = Queue::new(rt.alloc()) else {

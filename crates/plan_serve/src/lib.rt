@@ -16,7 +16,7 @@ pub use files::{
 };
 pub use init::{Place, init_run};
 pub use plan_door::{
-    ServeFault, Service, Side, Visitors, read_connection, read_key, replay_run, serve_listener,
-    serve_visitors,
+    ServeFault, Service, Side, Target, Visitors, read_connection, read_key, replay_run,
+    serve_listener, serve_visitors,
 };
 pub use plan_summary::Summary;
