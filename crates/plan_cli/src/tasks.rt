@@ -132,9 +132,7 @@ pub(crate) fn text_of<V: ProofWatcher + SolveWatcher>(
         Task::Solve {
             conflicts,
             capacities,
-        } => Ok(solution_text(
-            alloc, conflicts, capacities, file, watcher,
-        )?.into_bytes()),
+        } => Ok(solution_text(alloc, conflicts, capacities, file, watcher)?.into_bytes()),
         Task::SolveShop {
             conflicts,
             instance,
