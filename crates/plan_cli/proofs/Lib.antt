@@ -1,3 +1,4 @@
+pub mod CapacityLemmas
 pub mod RunLemmas
 pub mod ScheduledLemmas
 pub mod StartLemmas
