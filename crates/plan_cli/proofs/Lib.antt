@@ -2,6 +2,7 @@ pub mod CapacityLemmas
 pub mod RunLemmas
 pub mod ScheduledLemmas
 pub mod StartLemmas
+pub mod TurnLemmas
 pub mod DaysLemmas
 pub mod CheckLemmas
 pub mod InputLemmas

@@ -122,6 +122,7 @@ pub(crate) fn solution_text<V: SolveWatcher>(
 }
 
 // Returns the solution of a job shop that searches in turns find, each of at most so many conflicts.
+#[tactic(auto, using(crate::proofs::TurnLemmas::solved_by_proof))]
 fn solved_shop_text<V: ProofWatcher + SolveWatcher>(
     alloc: Global,
     conflicts: u64,

@@ -1,6 +1,6 @@
 //! Searches of a job shop in turns: by conflicts (plan_solve) and by nodes (plan_prove).
 
-ghost use Rattle.std.specs.Prelude.{IfOk};
+ghost use Rattle.std.specs.Prelude.{◌≡◌, IfOk};
 ghost use Rattle.plan_prove.specs.Proofs.{IsNodeLimit, IsProofOf};
 ghost use Rattle.plan_solve.specs.Solutions.{IsConflictLimit};
 

@@ -1,4 +1,3 @@
-use Rattle.std.proofs.Common.{⊥, ℕ, ◌<◌, ◌+◌}
 use Rattle.plan_cli.specs.Capacities.{NamesNone}
 use Rattle.plan_cli.proofs.capacities.index_of.Given as goal
 
