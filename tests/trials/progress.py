@@ -1,9 +1,9 @@
-"""The progress line of `plan prove` on standard error: when ./plan asks for it, and its numbers
-for a shop that takes many nodes. The progress line of `plan solve`, and its time limit.
+"""The progress line of `plan prove` and `plan solve` on standard error: at most once a second, only on
+a terminal, and its numbers for a shop that takes long. The time limit of `plan solve`.
 
-    tests/trials/run terminal    the first, at once
-    tests/trials/run limited     the last, within ten seconds
-    tests/trials/run watched     the second, within half a minute; only in whole runs
+    tests/trials/run terminal    prove with few nodes, at once
+    tests/trials/run limited     solve, within ten seconds
+    tests/trials/run watched     prove, within half a minute; only in whole runs
 """
 
 import os
@@ -20,10 +20,7 @@ EXAMPLES = os.path.join(TOP, "examples", "shops.txt")
 SHOPS = os.path.join(TOP, "bench", "shops.txt")
 # a shop that isn't solved within so many nodes, and the makespan that is published as its least
 NAME, NODES, LEAST = "orb01", 600_000, 1059
-# after how many nodes the line is written anew
-BETWEEN = 500_000
-LINE = rb"\rbest (\d+), lower end (\d+), (\d+) nodes\x1b\[K"
-SOLVE_LINE = rb"\rbest (\d+), lower bound (\d+), (\d+) conflicts, (\d+) s\x1b\[K"
+LINE = rb"\rbest (\d+), lower bound (\d+), (\d+) (?:nodes|conflicts), (\d+) s\x1b\[K"
 CLEARED = b"\r\x1b[K"
 # The time limit of `plan solve`, and how much longer it may take on a busy machine.
 LIMIT, GRACE = 3, 5
@@ -71,33 +68,33 @@ def ended(process, here):
 
 
 def try_terminal(room):
-    """./plan asks for the line where a whole `plan prove` stands on a terminal, and nowhere else; and
-    nothing is told of few nodes."""
+    """./plan passes the words on, and few nodes write at most one line. `--progress` changes nothing."""
     script = tree(room, "words", "printf '%s\\n'")
     shown = lambda words: (0, "".join(word + "\n" for word in words).encode(), b"")
     words = ["prove", "5", "shops.txt", "ft 06"]
-    asked = ["prove", "--progress", *words[1:]]
-    others = [asked, words[:3], ["prove", "--help"], ["best", *words[1:]], ["names", "shops.txt"]]
-    for given, wanted in [(words, asked), *zip(others, others)]:
-        same(f"./plan {given} on a terminal", ended(*begun(script, *given)), shown(wanted))
+    for given in (words, words[:3], ["prove", "--help"], ["best", *words[1:]], ["names", "shops.txt"]):
+        same(f"./plan {given} on a terminal", ended(*begun(script, *given)), shown(given))
         same(f"./plan {given} without one", piped(script, *given), shown(given))
     plain = piped(PROGRAM, "prove", "1000", EXAMPLES, "ft06")
-    few = [PROGRAM, "prove", "--progress", "1000", EXAMPLES, "ft06"]
-    same("--progress, and few nodes", piped(*few), plain)
-    same("the same on a terminal", ended(*begun(*few)), plain)
-
-
-def told(terminal, line=LINE):
-    """The numbers of the lines on a terminal: the best makespan, the lower end and the nodes of each."""
-    if not re.fullmatch(b"(%b)+%b" % (line, re.escape(CLEARED)), terminal):
+    same("standard error of few nodes", plain[2], b"")
+    same("--progress", piped(PROGRAM, "prove", "--progress", "1000", EXAMPLES, "ft06"), plain)
+    status, output, terminal = ended(*begun(PROGRAM, "prove", "1000", EXAMPLES, "ft06"))
+    same("few nodes on a terminal", (status, output), plain[:2])
+    if terminal and len(told(terminal)) > 1:
         raise Wrong(f"the terminal got {terminal[:1000]!r}")
-    return [tuple(map(int, numbers)) for numbers in re.findall(line, terminal)]
 
 
-def judge(rows):
-    """Fails if the progress lines, in order, can't be true of the shop."""
-    same("the nodes", [row[2] for row in rows], [*range(BETWEEN, NODES, BETWEEN), NODES])
-    judge_bounds(rows)
+def told(terminal):
+    """The numbers of the lines on a terminal: the best makespan, the lower bound, the nodes or
+    conflicts and the seconds of each."""
+    if not re.fullmatch(b"((%b)+%b)+" % (LINE, re.escape(CLEARED)), terminal):
+        raise Wrong(f"the terminal got {terminal[:1000]!r}")
+    return [tuple(map(int, numbers)) for numbers in re.findall(LINE, terminal)]
+
+
+def judge_seconds(rows):
+    """Fails if there is more than one line in a second."""
+    same("the seconds", [row[3] for row in rows], sorted({row[3] for row in rows}))
 
 
 def judge_bounds(rows):
@@ -118,10 +115,12 @@ def watch(room):
     status, output, terminal = ended(*watched)
     same("standard error without a terminal", plain[2], b"")
     same("the status and the output on a terminal", (status, output), plain[:2])
-    between = re.match(rb"between (\d+) (\d+)\n", output)
-    if between is None:
+    if not output.startswith(b"between "):
         raise Wrong(f"{NAME} isn't left between two numbers: {output[:100]!r}")
-    judge([*told(terminal), (int(between[2]), int(between[1]), NODES)])
+    rows = told(terminal)
+    judge_seconds(rows)
+    same("the nodes", [row[2] for row in rows], sorted(row[2] for row in rows))
+    judge_bounds([*rows, bounds_of(output)])
 
 
 def bounds_of(output):
@@ -138,13 +137,12 @@ def try_limited(_):
     start = time.monotonic()
     limited = ended(*begun(PROGRAM, "solve", "--seconds", str(LIMIT), SHOPS, NAME))
     passed = time.monotonic() - start
-    rows = told(limited[2], SOLVE_LINE)
+    rows = told(limited[2])
     if limited[0] != 0 or len(rows) > LIMIT + 1 or passed > LIMIT + GRACE:
         raise Wrong(f"status {limited[0]}, {len(rows)} lines, {passed:.1f} s")
-    same("the seconds", [row[3] for row in rows], sorted({row[3] for row in rows}))
-    same("the conflicts", [row[2] for row in rows], sorted(row[2] for row in rows))
+    judge_seconds(rows)
     judge_bounds([*rows, bounds_of(limited[1])])
     few = [PROGRAM, "solve", "--conflicts", "300", SHOPS, NAME]
     status, output, terminal = ended(*begun(*few))
     same("a conflict limit without a terminal", piped(*few), (status, output, b""))
-    judge_bounds([*told(terminal, SOLVE_LINE), bounds_of(output)])
+    judge_bounds([*told(terminal), bounds_of(output)])

@@ -1,7 +1,8 @@
 #!/usr/bin/env python3
 """Random projects of up to nine activities, with durations, needs and capacities of 0, and random job
-shops. The optimum of `plan solve` is that of all serial schedules (least_makespans.py), for a job
-shop that of `plan best`. With few conflicts it lies within the bounds. The schedules are checked
+shops. The optimum of `plan solve` is that of all serial schedules (least_makespans.py) and of
+`plan best-project`, for a job shop that of `plan best`. With 1 to 50 conflicts it lies within the
+bounds. The schedules are checked
 here: they are feasible, and no activity of a project can start earlier by itself.
 
     tests/trials/solutions.py               1,000 projects and shops; prints nothing on success
@@ -59,7 +60,10 @@ def try_project(draw, folder):
     solved, table = proofs.answer_of(what, plan(folder, "solve", "--conflicts", ENOUGH, file))
     same(f"{what}: the optimum", solved, ["optimal", str(optimum)])
     same(f"{what}: the makespan", judge(what, parts, table), optimum)
-    few = str(draw.randint(1, 4))
+    best, _ = proofs.answer_of(what, plan(folder, "best-project", proofs.GREATEST_BUDGET, file))
+    if best[0] == "optimal":
+        same(f"{what}: best-project and solve", solved, best)
+    few = str(draw.choice((draw.randint(1, 4), draw.randint(1, 50))))
     found, table = proofs.answer_of(what, plan(folder, "solve", "--conflicts", few, file))
     makespan = judge(f"{what}: {few} conflicts", parts, table)
     same(f"{what}: {few} conflicts", int(found[-1]), makespan)
@@ -77,7 +81,7 @@ def try_shop(draw, folder):
     solved, table = proofs.answer_of(what, plan(folder, "solve", "--conflicts", ENOUGH, shop, "-"))
     same(f"{what}: best and solve", solved, best)
     same(f"{what}: the makespan", str(proofs.judge(what, rows, table)), solved[1])
-    few = str(draw.randint(1, 4))
+    few = str(draw.choice((draw.randint(1, 4), draw.randint(1, 50))))
     found, table = proofs.answer_of(what, plan(folder, "solve", "--conflicts", few, shop, "-"))
     makespan = proofs.judge(f"{what}: {few} conflicts", rows, table)
     same(f"{what}: {few} conflicts", int(found[-1]), makespan)

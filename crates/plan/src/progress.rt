@@ -5,14 +5,14 @@ use std::io::IsTerminal;
 use std::time::Instant;
 
 /// A watcher of a search. It writes a line on standard error that is overwritten each time and
-/// erased at the end of the search. A line that can't be written is skipped. It stops a search of
-/// `plan solve` at its time limit.
+/// erased at the end of the search. A line that can't be written is skipped. It stops a search at
+/// its time limit.
 #[derive(Drop)]
 pub struct ProgressLine<'a> {
     rt: &'a HostRuntime,
     is_shown: bool,
     has_terminal: bool,
-    /// The time limit of `plan solve` in seconds.
+    /// The time limit in seconds.
     limit: Option<u32>,
     start: Option<Instant>,
     /// The second of the last line, counted from the start.
@@ -44,6 +44,31 @@ impl<'a> ProgressLine<'a> {
         Some(now.duration_since(start).as_secs())
     }
 
+    // Writes the line at most once a second, and only on a terminal.
+    fn show(&mut self, best: u64, lower: u64, count: u64, unit: &str) {
+        let seconds = self.seconds();
+        if !self.has_terminal || seconds == self.last {
+            return;
+        }
+        let rt = self.rt;
+        let time = seconds.unwrap_or(0);
+        let _ = eprint!(rt; "\rbest {best}, lower bound {lower}, {count} {unit}, {time} s\x1b[K");
+        self.is_shown = true;
+        self.last = seconds;
+    }
+
+    // Whether the time limit has passed. A search with a time limit stops at once if the clock can't
+    // be read.
+    fn is_past_limit(&self) -> bool {
+        let Some(limit) = self.limit else {
+            return false;
+        };
+        match self.seconds() {
+            Some(seconds) => seconds >= u64::from(limit),
+            None => true,
+        }
+    }
+
     // Erases the line.
     fn erase(&mut self) {
         if self.is_shown {
@@ -58,9 +83,11 @@ impl<'a> ProofWatcher for ProgressLine<'a> {
     ghost was_told = { λ _ _. ⊥ };
 
     fn tell(&mut self, best: u64, lower: u64, nodes: u64) {
-        let rt = self.rt;
-        let _ = eprint!(rt; "\rbest {best}, lower end {lower}, {nodes} nodes\x1b[K");
-        self.is_shown = true;
+        self.show(best, lower, nodes, "nodes");
+    }
+
+    fn is_late(&mut self) -> bool {
+        self.is_past_limit()
     }
 
     fn end(&mut self) {
@@ -71,30 +98,12 @@ impl<'a> ProofWatcher for ProgressLine<'a> {
 impl<'a> SolveWatcher for ProgressLine<'a> {
     ghost was_told = { λ _ _. ⊥ };
 
-    // Writes a line at most once a second, and only on a terminal.
     fn tell(&mut self, best: u64, lower: u64, conflicts: u64) {
-        let seconds = self.seconds();
-        if !self.has_terminal || seconds == self.last {
-            return;
-        }
-        let rt = self.rt;
-        let time = seconds.unwrap_or(0);
-        let _ = eprint!(rt;
-            "\rbest {best}, lower bound {lower}, {conflicts} conflicts, {time} s\x1b[K"
-        );
-        self.is_shown = true;
-        self.last = seconds;
+        self.show(best, lower, conflicts, "conflicts");
     }
 
-    // A search with a time limit stops at once if the clock can't be read.
     fn is_late(&mut self) -> bool {
-        let Some(limit) = self.limit else {
-            return false;
-        };
-        match self.seconds() {
-            Some(seconds) => seconds >= u64::from(limit),
-            None => true,
-        }
+        self.is_past_limit()
     }
 
     fn end(&mut self) {

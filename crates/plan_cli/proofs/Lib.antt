@@ -1,6 +1,8 @@
+pub mod CapacityLemmas
 pub mod RunLemmas
 pub mod ScheduledLemmas
 pub mod StartLemmas
+pub mod TurnLemmas
 pub mod DaysLemmas
 pub mod CheckLemmas
 pub mod InputLemmas

@@ -27,6 +27,7 @@ use Rattle.plan_cli.specs.ProveRun.{IsProofTableOf, TellsWhyNoProof}
 use Rattle.plan_cli.specs.BestProjectRun.{IsBestProjectTableOf, TellsWhyNoBestProject}
 use Rattle.plan_cli.specs.SolveRun.{IsSolvedTableOf, TellsWhyNotSolved, IsShopSolvedTableOf}
 use Rattle.plan_cli.specs.Tasks.{IsTextOf, IsLineOf}
+use Rattle.plan_cli.specs.declared.capacities.Capacity.{Capacity}
 use Rattle.plan_cli.specs.declared.tasks.Task.{Task}
 use Rattle.plan_cli.specs.declared.tasks.Task.TheVariants as task
 use Rattle.plan_cli.specs.ScheduleRun.{IsScheduleTableOf, TellsWhyNoSchedule}
@@ -190,12 +191,12 @@ no_best_project_front : (budget : List ℕ) → HoldsByFront (TellsWhyNoBestProj
 no_best_project_front budget file line (inl first) = inl (line_front file line first)
 no_best_project_front budget file line (inr (p, says, tells)) = inr (p, project_front file p says, tells)
 
-solved_front : HoldsByFront IsSolvedTableOf
-solved_front file text (p, says, table) = (p, project_front file p says, table)
+solved_front : (given : List Capacity) → HoldsByFront (IsSolvedTableOf given)
+solved_front given file text (p, says, table) = (p, project_front file p says, table)
 
-not_solved_front : HoldsByFront TellsWhyNotSolved
-not_solved_front file line (inl first) = inl (line_front file line first)
-not_solved_front file line (inr (p, says, tells)) = inr (p, project_front file p says, tells)
+not_solved_front : (given : List Capacity) → HoldsByFront (TellsWhyNotSolved given)
+not_solved_front given file line (inl first) = inl (line_front file line first)
+not_solved_front given file line (inr (p, says, tells)) = inr (p, project_front file p says, tells)
 
 -- a shop file that is too long fails its first check
 long_shop : (instance file : List ℕ) → longest_text < length file
@@ -354,7 +355,7 @@ task_front (task.Shop rule instance) = shop_front rule.now instance.now
 task_front (task.Best budget instance) = best_front budget.now instance.now
 task_front (task.Prove nodes instance) = proof_front nodes.now instance.now
 task_front (task.BestProject budget) = best_project_front budget.now
-task_front (task.Solve conflicts) = solved_front
+task_front (task.Solve conflicts capacities) = solved_front capacities.now
 task_front (task.SolveShop conflicts instance) = shop_solved_front instance.now
 
 pub task_line_front : (task : Task) → HoldsByFront (IsLineOf task)
@@ -370,5 +371,5 @@ task_line_front (task.Shop rule instance) = no_shop_front rule.now instance.now
 task_line_front (task.Best budget instance) = no_best_front budget.now instance.now
 task_line_front (task.Prove nodes instance) = no_proof_front nodes.now instance.now
 task_line_front (task.BestProject budget) = no_best_project_front budget.now
-task_line_front (task.Solve conflicts) = not_solved_front
+task_line_front (task.Solve conflicts capacities) = not_solved_front capacities.now
 task_line_front (task.SolveShop conflicts instance) = first_front instance.now

@@ -1,3 +1,4 @@
+pub mod Capacities
 pub mod Faults
 pub mod Run
 pub mod ScheduleRun

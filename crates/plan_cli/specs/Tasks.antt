@@ -36,7 +36,7 @@ IsTextOf (task.Shop rule instance) = IsShopTableOf rule.now instance.now
 IsTextOf (task.Best budget instance) = IsBestTableOf budget.now instance.now
 IsTextOf (task.Prove nodes instance) = IsProofTableOf nodes.now instance.now
 IsTextOf (task.BestProject budget) = IsBestProjectTableOf budget.now
-IsTextOf (task.Solve conflicts) = IsSolvedTableOf
+IsTextOf (task.Solve conflicts capacities) = IsSolvedTableOf capacities.now
 IsTextOf (task.SolveShop conflicts instance) = IsShopSolvedTableOf instance.now
 
 -- the lines with which a task refuses a file
@@ -54,7 +54,7 @@ IsLineOf (task.Shop rule instance) = TellsWhyNoShop rule.now instance.now
 IsLineOf (task.Best budget instance) = TellsWhyNoBest budget.now instance.now
 IsLineOf (task.Prove nodes instance) = TellsWhyNoProof nodes.now instance.now
 IsLineOf (task.BestProject budget) = TellsWhyNoBestProject budget.now
-IsLineOf (task.Solve conflicts) = TellsWhyNotSolved
+IsLineOf (task.Solve conflicts capacities) = TellsWhyNotSolved capacities.now
 IsLineOf (task.SolveShop conflicts instance) = TellsFirstShopFault instance.now
 
 -- Unless the input fails or memory runs out, a task writes its text or line for the bytes that were

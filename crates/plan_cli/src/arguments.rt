@@ -37,8 +37,12 @@ enum Form {
     SearchSeconds,
     /// An option with the conflict limit of a search, or none.
     Conflicts,
+    /// An option with the capacity of a resource, any number of times. It is for projects only.
+    Capacity,
     /// An option without a value.
     Flag,
+    /// An option without a value and without effect, which the help doesn't list.
+    OldFlag,
 }
 
 impl Form {
@@ -194,8 +198,8 @@ const SHOP_COMMANDS: [Entry; 4] = [
             INSTANCE,
             Argument {
                 name: "progress",
-                form: Form::Flag,
-                help: "show on standard error how far the search is, every 500000 nodes",
+                form: Form::OldFlag,
+                help: "",
             },
         ],
     },
@@ -205,19 +209,24 @@ const SCHEDULE_COMMANDS: [Entry; 3] = [
     Entry {
         name: "solve",
         about: "Prints a short schedule and a proved lower bound",
-        examples: "Examples:\n  plan solve examples/house.sm\n  plan solve --seconds 60 examples/house.sm\n  plan solve --conflicts 1000 examples/shops.txt ft06",
+        examples: "First line:\n  optimal 45      no schedule is shorter than 45, and this one takes 45\n  between 40 45   no schedule is shorter than 40, and this one takes 45\n\nExamples:\n  plan solve examples/house.sm\n  plan solve --seconds 60 examples/house.sm\n  plan solve --capacity R1=6 examples/house.sm\n  plan solve --conflicts 1000 examples/shops.txt ft06",
         arguments: &[
             FILE,
             INSTANCE_IF_SHOP,
             Argument {
                 name: "seconds",
                 form: Form::SearchSeconds,
-                help: "time limit of the search in seconds, 1 to 86400 [default: 10, or none with --conflicts]",
+                help: "time limit in seconds, 1 to 86400 [default: 10, or none with --conflicts]",
             },
             Argument {
                 name: "conflicts",
                 form: Form::Conflicts,
-                help: "conflict limit of the search, 1 to 1000000000",
+                help: "conflict limit of each search, 1 to 1000000000",
+            },
+            Argument {
+                name: "capacity",
+                form: Form::Capacity,
+                help: "capacity of a resource, for example R2=4, in place of that of the file; may be repeated",
             },
         ],
     },
@@ -350,9 +359,9 @@ fn plain<'a>(alloc: Global, argument: &Argument) -> Arg<'a> {
 }
 
 // Makes an argument of clap.
-fn arg_of<'a>(alloc: Global, argument: &Argument) -> Arg<'a> {
+fn arg_of<'a>(alloc: Global, argument: &Argument) -> Result<Arg<'a>, AllocError> {
     let arg = plain(alloc, argument);
-    match argument.form {
+    Ok(match argument.form {
         Form::Names | Form::Texts => arg.num_args(1..),
         Form::Port => arg.value_parser(value_parser!(u16).range(1..=65535)),
         Form::Count => arg
@@ -371,9 +380,18 @@ fn arg_of<'a>(alloc: Global, argument: &Argument) -> Arg<'a> {
             .long(argument.name)
             .value_name("N")
             .value_parser(value_parser!(u32).range(1..=1000000000)),
+        Form::Capacity => arg
+            .long(argument.name)
+            .value_name("NAME=N")
+            .action(ArgAction::Append)
+            .conflicts_with("INSTANCE")?,
         Form::Flag => arg.long(argument.name).action(ArgAction::SetTrue),
+        Form::OldFlag => arg
+            .long(argument.name)
+            .action(ArgAction::SetTrue)
+            .hide(true),
         _ => arg,
-    }
+    })
 }
 
 // Makes a command of clap.
@@ -382,7 +400,7 @@ fn subcommand<'a>(alloc: Global, entry: &Entry) -> Result<Command<'a>, AllocErro
         .about(entry.about)
         .after_help(entry.examples);
     for argument in entry.arguments {
-        command = command.arg(arg_of(alloc, argument))?;
+        command = command.arg(arg_of(alloc, argument)?)?;
     }
     Ok(command)
 }

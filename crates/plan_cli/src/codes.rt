@@ -28,6 +28,7 @@ pub(crate) enum Code {
     TooLarge,
     BadBudget,
     BadNodes,
+    NoResource,
     BadDate,
     BadDays,
     BeyondCalendar,
@@ -87,6 +88,7 @@ impl Code {
             "S5" => Some(Code::TooLarge),
             "S6" => Some(Code::BadBudget),
             "S7" => Some(Code::BadNodes),
+            "S8" => Some(Code::NoResource),
             "G1" => Some(Code::BadDate),
             "G2" => Some(Code::BadDays),
             "G3" => Some(Code::BeyondCalendar),
@@ -146,6 +148,7 @@ impl Code {
             Code::TooLarge => "S5",
             Code::BadBudget => "S6",
             Code::BadNodes => "S7",
+            Code::NoResource => "S8",
             Code::BadDate => "G1",
             Code::BadDays => "G2",
             Code::BeyondCalendar => "G3",
@@ -204,6 +207,7 @@ impl Code {
             Code::TooLarge => "too large for this search",
             Code::BadBudget => "the budget is invalid",
             Code::BadNodes => "the number of nodes is invalid",
+            Code::NoResource => "the project has no such resource",
             Code::BadDate => "the first date is invalid",
             Code::BadDays => "the weekday marks are invalid",
             Code::BeyondCalendar => "the last day is after 9999-12-31",
@@ -308,6 +312,9 @@ impl Code {
             }
             Code::BadNodes => {
                 "S7 nodes\nThe number of nodes isn't a number from 1 to 1000000000 in digits, without leading zeros or a sign.\nStart with 1000000, which takes some seconds.\n"
+            }
+            Code::NoResource => {
+                "S8 no resource NAME\nThe project has no resource with this name.\nName a resource by its number in the file, for example R2=4 for the second.\n"
             }
             Code::BadDate => {
                 "G1 date\nThe first date isn't a date from 1900-01-01 to 2199-12-31 in the form 2024-03-01.\nCorrect the date.\n"

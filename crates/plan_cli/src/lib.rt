@@ -4,6 +4,7 @@
 
 mod arguments;
 mod bytes;
+mod capacities;
 mod charts;
 mod codes;
 mod days;
@@ -24,16 +25,18 @@ mod solver;
 mod starts;
 mod tables;
 mod tasks;
+mod turns;
 mod verdicts;
 mod watchers;
 
 pub use arguments::{command, help};
+pub use capacities::Capacity;
 pub use explanation::explain_run;
 pub use fault::CliFault;
 pub use files::{check_on_files, check_on_named, run_on_file, run_on_named};
 pub use hints::hint;
 pub use inputs::Inputs;
-pub use orders::{FileOrder, OfficeOrder, Order, order_of};
+pub use orders::{FileOrder, OfficeOrder, Order, capacities_of, order_of};
 pub use runs::{best_project_run, best_run, cpm_run, run_task, schedule_run, shop_run};
 pub use tasks::Task;
 pub use watchers::{ProofWatcher, SolveWatcher, Unwatched};

@@ -1,18 +1,23 @@
 //! The orders that the arguments of the command line spell.
 
+use crate::capacities::Capacity;
 use crate::tasks::Task;
 use clap::ArgMatches;
 use plan_solve::MOST_CONFLICTS;
+use std::alloc::{AllocError, Global};
 
 /// The time limit of `solve` in seconds if no limit is given.
 const DEFAULT_SECONDS: u32 = 10;
+
+/// The greatest capacity, as in a project file.
+const GREATEST_CAPACITY: u64 = 10_000_000;
 
 /// An order on files.
 #[derive(Clone, Copy)]
 pub enum FileOrder<'a> {
     /// A task on the file with this name.
     Task(Task<'a>, &'a str),
-    /// The same, with a line of progress on standard error.
+    /// The same, with a line of progress if standard error is a terminal.
     Watched(Task<'a>, &'a str),
     /// A task of `solve` on the file with this name, with a time limit in seconds if there is one.
     Solve {
@@ -181,45 +186,88 @@ fn proof_order<'a>(arguments: &'a ArgMatches<'_>) -> Option<FileOrder<'a>> {
         instance: arguments.get_str("INSTANCE")?,
     };
     let path = arguments.get_str("FILE")?;
-    Some(if arguments.get_flag("progress") {
-        FileOrder::Watched(task, path)
+    Some(FileOrder::Watched(task, path))
+}
+
+// Returns the capacity that a text such as `R2=4` gives. The name must have no control characters,
+// because an error line can contain it.
+fn capacity_of(text: &str) -> Option<Capacity<'_>> {
+    let (resource, digits) = text.split_once('=')?;
+    let amount: u64 = digits.parse().ok()?;
+    let is_plain = !resource.is_empty() && !resource.bytes().any(|byte| byte.is_ascii_control());
+    if is_plain && amount <= GREATEST_CAPACITY {
+        Some(Capacity { resource, amount })
     } else {
-        FileOrder::Task(task, path)
-    })
+        None
+    }
+}
+
+/// Returns the capacities that the arguments give, in their order, or the first text that gives
+/// none.
+pub fn capacities_of<'a>(
+    alloc: Global,
+    matches: &'a ArgMatches<'_>,
+) -> Result<Result<Vec<Capacity<'a>>, &'a str>, AllocError> {
+    let mut capacities = Vec::new(alloc);
+    let Some(("solve", arguments)) = matches.subcommand() else {
+        return Ok(Ok(capacities));
+    };
+    for text in arguments.get_strs("capacity").unwrap_or(&[]) {
+        match capacity_of(text) {
+            Some(capacity) => capacities.push(capacity)?,
+            None => return Ok(Err(text)),
+        }
+    }
+    Ok(Ok(capacities))
 }
 
 // Returns the task of `solve`: that of a job shop if an instance is given, else of a project.
-fn solve_task<'a>(arguments: &'a ArgMatches<'_>, conflicts: u64) -> Task<'a> {
+fn solve_task<'a>(
+    arguments: &'a ArgMatches<'_>,
+    conflicts: u64,
+    capacities: &'a [Capacity<'a>],
+) -> Task<'a> {
     match arguments.get_str("INSTANCE") {
         Some(instance) => Task::SolveShop {
             conflicts,
             instance,
         },
-        None => Task::Solve { conflicts },
+        None => Task::Solve {
+            conflicts,
+            capacities,
+        },
     }
 }
 
 // Returns the order of `solve`. A conflict limit replaces the default time limit.
-fn solve_order<'a>(arguments: &'a ArgMatches<'_>) -> Option<FileOrder<'a>> {
+fn solve_order<'a>(
+    arguments: &'a ArgMatches<'_>,
+    capacities: &'a [Capacity<'a>],
+) -> Option<FileOrder<'a>> {
     let conflicts: Option<u32> = arguments.get_one("conflicts");
     let seconds: Option<u32> = arguments.get_one("seconds");
     let limit = match conflicts {
         Some(_) => seconds,
         None => Some(seconds.unwrap_or(DEFAULT_SECONDS)),
     };
+    let most = conflicts.map_or(MOST_CONFLICTS, u64::from);
     Some(FileOrder::Solve {
-        task: solve_task(arguments, conflicts.map_or(MOST_CONFLICTS, u64::from)),
+        task: solve_task(arguments, most, capacities),
         file: arguments.get_str("FILE")?,
         seconds: limit,
     })
 }
 
 // Returns the order of any other command.
-fn file_order<'a>(name: &str, arguments: &'a ArgMatches<'_>) -> Option<FileOrder<'a>> {
+fn file_order<'a>(
+    name: &str,
+    arguments: &'a ArgMatches<'_>,
+    capacities: &'a [Capacity<'a>],
+) -> Option<FileOrder<'a>> {
     match name {
         "explain" => Some(FileOrder::Explain(arguments.get_strs("CODE")?)),
         "prove" => proof_order(arguments),
-        "solve" => solve_order(arguments),
+        "solve" => solve_order(arguments, capacities),
         "check" => Some(FileOrder::Check {
             file: arguments.get_str("FILE")?,
             starts: arguments.get_str("STARTS")?,
@@ -228,14 +276,17 @@ fn file_order<'a>(name: &str, arguments: &'a ArgMatches<'_>) -> Option<FileOrder
     }
 }
 
-/// Returns the order that the arguments spell. The parser has checked that the command and its
-/// required arguments are present.
-pub fn order_of<'a>(matches: &'a ArgMatches<'_>) -> Option<Order<'a>> {
+/// Returns the order that the arguments and these capacities spell. The parser has checked that the
+/// command and its required arguments are present.
+pub fn order_of<'a>(
+    matches: &'a ArgMatches<'_>,
+    capacities: &'a [Capacity<'a>],
+) -> Option<Order<'a>> {
     let (name, arguments) = matches.subcommand()?;
     match name {
         "init" | "check-office" | "replay" | "serve" => Some(Order::Office(office_order(
             name, arguments,
         )?)),
-        _ => Some(Order::File(file_order(name, arguments)?)),
+        _ => Some(Order::File(file_order(name, arguments, capacities)?)),
     }
 }

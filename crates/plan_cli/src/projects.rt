@@ -1,7 +1,8 @@
 //! Projects that are read from files, and their schedules by a priority rule.
 
-ghost use Rattle.std.specs.Prelude.{◌≡◌, IfOk, IfErr};
+ghost use Rattle.std.specs.Prelude.{◌≡◌, IfOk, IfErr, length};
 ghost use Rattle.plan_psplib.specs.Project.{SaysProject};
+ghost use Rattle.plan_sgs.specs.Instances.{planned};
 ghost use Rattle.plan_gantt.specs.FirstFaults.{TellsFirstFailing};
 ghost use Rattle.plan_gantt.specs.ScheduleText.{TellsRefusal};
 ghost use Rattle.plan_cli.specs.Run.{Refuses};
@@ -22,12 +23,25 @@ pub(crate) fn read_project(alloc: Global, file: &[u8]) -> Result<ProjectDoc, Cli
     read_sm(alloc, file).map_err(|fault| file_refusal(alloc, &fault))
 }
 
+/// Returns the instance of a project with these capacities.
+pub(crate) fn instance_with<'a>(
+    alloc: Global,
+    project: &'a ProjectDoc,
+    capacities: &'a [u64],
+) -> Result<Instance<'a>, CliFault>
+    requires { length capacities.now ≡ length project.now.available }
+    ensures ok { IfOk result (λ instance. instance ≡ planned project.now capacities.now) }
+    ensures refused { IfErr result (Refuses (TellsNeed (planned project.now capacities.now))) }
+{
+    Instance::of_project(project, capacities).map_err(|fault| schedule_refusal(alloc, &fault))
+}
+
 /// Returns the instance of a project with the capacities of its file.
 pub(crate) fn instance_of(alloc: Global, project: &ProjectDoc) -> Result<Instance<'_>, CliFault>
     ensures ok { IfOk result (λ instance. instance ≡ as_available project.now) }
     ensures refused { IfErr result (Refuses (TellsNeed (as_available project.now))) }
 {
-    Instance::of_project(project, project.avail()).map_err(|fault| schedule_refusal(alloc, &fault))
+    instance_with(alloc, project, project.avail())
 }
 
 // Returns the schedule of an instance by a rule.

@@ -19,8 +19,8 @@ use plan_shop::Shop;
 use std::alloc::{AllocError, Global};
 use std::fmt::Write;
 
-// Returns the line with the lower bound and the makespan, or with the makespan alone if they are
-// equal.
+/// Returns the line with the lower bound and the makespan, or with the makespan alone if they are
+/// equal.
 pub(crate) fn bound_line(alloc: Global, lower: u64, makespan: u64) -> Result<String, AllocError>
     requires { lower ≤ makespan }
     ensures { IfOk result (λ line. IsBoundLine lower makespan (string_bytes line)) }
@@ -34,8 +34,8 @@ pub(crate) fn bound_line(alloc: Global, lower: u64, makespan: u64) -> Result<Str
     Ok(line)
 }
 
-// Returns that line and the table of the schedule.
-fn proof_table(alloc: Global, shop: &Shop, proof: &Proof) -> Result<String, AllocError>
+/// Returns that line and the table of the schedule.
+pub(crate) fn proof_table(alloc: Global, shop: &Shop, proof: &Proof) -> Result<String, AllocError>
     requires starts { length proof.now.schedule.starts.items ≡ count_steps shop.now }
     requires limit { EachIndex proof.now.schedule.starts.items (λ k.
         slice_index proof.now.schedule.starts.items k ≤ latest_start) }

@@ -3,26 +3,28 @@
 ghost use Rattle.std.specs.Prelude.{◌≡◌, ◌≤◌, IfOk, IfErr, length, slice_index, EachIndex};
 ghost use Rattle.std.specs.Prelude.{string_bytes};
 ghost use Rattle.plan_net.specs.Network.{count_of};
-ghost use Rattle.plan_shop.specs.Shop.{count_steps};
 ghost use Rattle.plan_shop.specs.Docs.{shop_of};
 ghost use Rattle.plan_solve.specs.Solutions.{IsConflictLimit};
 ghost use Rattle.plan_gantt.specs.FirstFaults.{TellsFirstShopFault};
 ghost use Rattle.plan_gantt.specs.Limits.{latest_start};
 ghost use Rattle.plan_cli.specs.Run.{IfText, Refuses};
-ghost use Rattle.plan_cli.specs.ScheduleRun.{as_available, TellsNeed};
+ghost use Rattle.plan_sgs.specs.Instances.{planned};
+ghost use Rattle.plan_cli.specs.ScheduleRun.{TellsNeed};
 ghost use Rattle.plan_cli.specs.SolveRun as spec;
 
+use crate::capacities::{Capacity, replaced};
 use crate::fault::CliFault;
-use crate::projects::{instance_of, read_project};
-use crate::proof::bound_line;
+use crate::projects::{instance_with, read_project};
+use crate::proof::{bound_line, proof_table};
 use crate::shops::{open_shop, read_instance};
-use crate::watchers::SolveWatcher;
-use plan_gantt::{schedule_table, shop_table};
+use crate::turns::search_in_turns;
+use crate::watchers::{ProofWatcher, SolveWatcher};
+use plan_gantt::schedule_table;
 use plan_orlib::ShopDoc;
 use plan_psplib::ProjectDoc;
 use plan_sgs::Instance;
 use plan_shop::Shop;
-use plan_solve::{MOST_CONFLICTS, SolveFault, Solved, solve_shop_watched, solve_watched};
+use plan_solve::{MOST_CONFLICTS, SolveFault, Solved, solve_watched};
 use std::alloc::{AllocError, Global};
 
 // Returns the line with the lower bound and the makespan, and the table of the schedule.
@@ -72,53 +74,56 @@ fn allowed(conflicts: u64) -> u64
     conflicts.max(1).min(MOST_CONFLICTS)
 }
 
-// Returns the solution of a project with the capacities of its file.
-fn project_text<V: SolveWatcher>(
+// Returns the solution of a project with these capacities.
+fn planned_text<V: SolveWatcher>(
     alloc: Global,
     conflicts: u64,
     project: &ProjectDoc,
+    capacities: &[u64],
     watcher: &mut V,
 ) -> Result<String, CliFault>
-    ensures made { IfText result (spec.IsSolvedBy (as_available project.now)) }
-    ensures refused { IfErr result (Refuses (TellsNeed (as_available project.now))) }
+    requires { length capacities.now ≡ length project.now.available }
+    ensures made { IfText result (spec.IsSolvedBy (planned project.now capacities.now)) }
+    ensures refused { IfErr result (Refuses (TellsNeed (planned project.now capacities.now))) }
 {
-    let instance = instance_of(alloc, project)?;
+    let instance = instance_with(alloc, project, capacities)?;
     solved_text(alloc, allowed(conflicts), &instance, watcher)
 }
 
-/// Returns the solution of the project in a file. The watcher is called during the search, and can
-/// stop it.
+// Returns the solution of a project with the capacities of its file, some of them replaced.
+fn project_text<V: SolveWatcher>(
+    alloc: Global,
+    conflicts: u64,
+    given: &[Capacity<'_>],
+    project: &ProjectDoc,
+    watcher: &mut V,
+) -> Result<String, CliFault>
+    ensures made { IfText result (spec.IsSolvedWith given.now project.now) }
+    ensures refused { IfErr result (Refuses (spec.TellsWhyNotPlanned given.now project.now)) }
+{
+    let capacities = replaced(alloc, given, project.avail())?;
+    planned_text(alloc, conflicts, project, &capacities, watcher)
+}
+
+/// Returns the solution of the project in a file, with the given capacities in place of those of the
+/// file. The watcher is called during the search, and can stop it.
 pub(crate) fn solution_text<V: SolveWatcher>(
     alloc: Global,
     conflicts: u64,
+    given: &[Capacity<'_>],
     file: &[u8],
     watcher: &mut V,
 ) -> Result<String, CliFault>
-    ensures made { IfText result (spec.IsSolvedTableOf file.now) }
-    ensures refused { IfErr result (Refuses (spec.TellsWhyNotSolved file.now)) }
+    ensures made { IfText result (spec.IsSolvedTableOf given.now file.now) }
+    ensures refused { IfErr result (Refuses (spec.TellsWhyNotSolved given.now file.now)) }
 {
     let project = read_project(alloc, file)?;
-    project_text(alloc, conflicts, &project, watcher)
+    project_text(alloc, conflicts, given, &project, watcher)
 }
 
-// Returns the line with the lower bound and the makespan, and the table of a job shop's schedule.
-fn shop_solution_table(alloc: Global, shop: &Shop, solved: &Solved) -> Result<String, AllocError>
-    requires starts { length solved.now.schedule.starts.items ≡ count_steps shop.now }
-    requires limit { EachIndex solved.now.schedule.starts.items (λ k.
-        slice_index solved.now.schedule.starts.items k ≤ latest_start) }
-    requires below { solved.now.lower ≤ solved.now.schedule.makespan }
-    ensures { IfOk result (λ text. spec.ShowsShopSolution shop.now solved.now.lower
-        solved.now.schedule.starts.items solved.now.schedule.makespan (string_bytes text)) }
-{
-    let schedule = &solved.schedule;
-    let mut text = bound_line(alloc, solved.lower, schedule.makespan)?;
-    let table = shop_table(alloc, shop, &schedule.starts, schedule.makespan)?;
-    text.push_str(&table)?;
-    Ok(text)
-}
-
-// Returns the solution of a job shop that a search of at most so many conflicts finds.
-fn solved_shop_text<V: SolveWatcher>(
+// Returns the solution of a job shop that searches in turns find, each of at most so many conflicts.
+#[tactic(auto, using(crate::proofs::TurnLemmas::solved_by_proof))]
+fn solved_shop_text<V: ProofWatcher + SolveWatcher>(
     alloc: Global,
     conflicts: u64,
     shop: &Shop,
@@ -128,15 +133,12 @@ fn solved_shop_text<V: SolveWatcher>(
     ensures made { IfText result (spec.IsShopSolvedBy shop.now) }
     ensures refused { IfErr result (λ e. e ≡ CliFault.Memory) }
 {
-    match solve_shop_watched(alloc, shop, conflicts, watcher) {
-        Ok(solved) => Ok(shop_solution_table(alloc, shop, &solved)?),
-        Err(SolveFault::NoMemory) => Err(CliFault::Memory),
-        Err(SolveFault::BadConflicts) => unreachable!(),
-    }
+    let proof = search_in_turns(alloc, shop, conflicts, watcher)?;
+    Ok(proof_table(alloc, shop, &proof)?)
 }
 
 // Returns the solution of a file's job shop.
-fn doc_text<V: SolveWatcher>(
+fn doc_text<V: ProofWatcher + SolveWatcher>(
     alloc: Global,
     conflicts: u64,
     doc: &ShopDoc,
@@ -151,7 +153,7 @@ fn doc_text<V: SolveWatcher>(
 
 /// Returns the solution of an instance in a job shop file. The watcher is called during the search,
 /// and can stop it.
-pub(crate) fn shop_solution_text<V: SolveWatcher>(
+pub(crate) fn shop_solution_text<V: ProofWatcher + SolveWatcher>(
     alloc: Global,
     conflicts: u64,
     instance: &str,

@@ -4,6 +4,7 @@ ghost use Rattle.std.specs.Prelude.{IfOk, IfErr};
 ghost use Rattle.plan_cli.specs.Run.{Refuses};
 ghost use Rattle.plan_cli.specs.Tasks.{IsTextOf, IsLineOf};
 
+use crate::capacities::Capacity;
 use crate::charts::{chart_text, shop_chart_text};
 use crate::days::{days_text, shop_days_text};
 use crate::fault::CliFault;
@@ -19,8 +20,8 @@ use std::alloc::Global;
 /// A text to print for a project file or for an instance in a job shop file.
 ///
 /// A rule and an instance are given by their names; `-` is the one instance of a file without
-/// names. A project is scheduled with the capacities of its file, a job shop with all machines
-/// open.
+/// names. A project is scheduled with the capacities of its file unless others are given, a job
+/// shop with all machines open.
 #[derive(Clone, Copy, Debug, Drop)]
 pub enum Task<'a> {
     /// The date table of a project (critical path method, Kelley and Walker 1959).
@@ -97,9 +98,11 @@ pub enum Task<'a> {
     /// A schedule of a project and a lower bound of its least makespan, which a search of at most
     /// this many conflicts finds (lazy clause generation, Ohrimenko, Stuckey and Codish 2009). A
     /// number outside 1–1,000,000,000 counts as the nearest one inside. The text is like that of
-    /// [`Task::Prove`]. Error: `S1`.
+    /// [`Task::Prove`]. The capacities replace those of the file. Errors: `S8` (no such resource),
+    /// then `S1`.
     Solve {
         conflicts: u64,
+        capacities: &'a [Capacity<'a>],
     },
     /// The same for a job shop. It has no error of its own.
     SolveShop {
@@ -126,9 +129,10 @@ pub(crate) fn text_of<V: ProofWatcher + SolveWatcher>(
         Task::Days { rule, start, marks } => Ok(days_text(
             alloc, rule, start, marks, file,
         )?.into_bytes()),
-        Task::Solve { conflicts } => Ok(solution_text(
-            alloc, conflicts, file, watcher,
-        )?.into_bytes()),
+        Task::Solve {
+            conflicts,
+            capacities,
+        } => Ok(solution_text(alloc, conflicts, capacities, file, watcher)?.into_bytes()),
         Task::SolveShop {
             conflicts,
             instance,

@@ -12,6 +12,10 @@ impl ProofWatcher for Unwatched {
 
     fn tell(&mut self, _best: u64, _lower: u64, _nodes: u64) {}
 
+    fn is_late(&mut self) -> bool {
+        false
+    }
+
     fn end(&mut self) {}
 }
 

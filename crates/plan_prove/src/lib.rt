@@ -21,5 +21,5 @@ mod watcher;
 
 pub use fault::ProveFault;
 pub use nodes::parse_nodes;
-pub use proof::{MOST_NODES, Proof, prove, prove_watched};
+pub use proof::{MOST_NODES, Proof, prove, prove_from, prove_watched};
 pub use watcher::{Unwatched, Watcher};

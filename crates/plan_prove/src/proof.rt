@@ -83,6 +83,29 @@ fn initial(alloc: Global, shop: &Shop) -> Result<Schedule, AllocError>
     }
 }
 
+// Returns the proof before the search: that schedule, and 0 as the lower bound.
+fn first_proof(alloc: Global, shop: &Shop) -> Result<Proof, AllocError>
+    ensures { IfOk result (spec.IsProofOf shop.now) }
+{
+    Ok(Proof {
+        schedule: initial(alloc, shop)?,
+        lower: 0,
+        nodes: 0,
+    })
+}
+
+// Fails if a number of nodes isn't valid.
+fn check(nodes: u64) -> Result<(), ProveFault>
+    ensures allowed { IfOk result (λ _. spec.IsNodeLimit nodes) }
+    ensures refused { IfErr result (λ fault.
+        (fault ≡ ProveFault.BadNodes) × (spec.IsNodeLimit nodes → ⊥)) }
+{
+    if nodes == 0 || nodes > MOST_NODES {
+        return Err(ProveFault::BadNodes);
+    }
+    Ok(())
+}
+
 /// Searches at most `nodes` nodes. Returns the shortest schedule of the shop that the search finds
 /// and the greatest lower bound of all makespans that it proves.
 ///
@@ -109,7 +132,8 @@ pub fn prove(alloc: Global, shop: &Shop, nodes: u64) -> Result<Proof, ProveFault
     prove_watched(alloc, shop, nodes, &mut Unwatched)
 }
 
-/// Does the same as [`prove`], and reports its progress to a watcher every half a million nodes.
+/// Does the same as [`prove`], and reports its progress to a watcher every 1,000 nodes. The watcher
+/// can end the search.
 pub fn prove_watched<W: Watcher>(
     alloc: Global,
     shop: &Shop,
@@ -135,16 +159,49 @@ pub fn prove_watched<W: Watcher>(
     // All reports to the watcher are true of the shop, even if the search fails.
     ensures told { HearsTruth shop.now nodes (W.was_told watcher.old) (W.was_told watcher.new) }
 {
-    if nodes == 0 || nodes > MOST_NODES {
-        return Err(ProveFault::BadNodes);
-    }
-    let proof = proof_of(alloc, shop, nodes, watcher);
+    check(nodes)?;
+    let found = proof_by_rules(alloc, shop, nodes, watcher);
     watcher.end();
-    Ok(proof?)
+    Ok(found?)
 }
 
-// Returns the proof of a search of at most `nodes` nodes.
-fn proof_of<W: Watcher>(
+/// Does the same as [`prove_watched`], and starts from the schedule and the lower bound of a proof
+/// instead of those of the priority rules.
+pub fn prove_from<W: Watcher>(
+    alloc: Global,
+    shop: &Shop,
+    known: Proof,
+    nodes: u64,
+    watcher: &mut W,
+) -> Result<Proof, ProveFault>
+    requires { spec.IsProofOf shop.now known }
+    ensures active { IfOk result (λ proof.
+        IsActive (problem_of shop.now) proof.schedule.starts.items) }
+    ensures makespan { IfOk result (λ proof.
+        proof.schedule.makespan ≡ makespan (problem_of shop.now) proof.schedule.starts.items) }
+    // No feasible schedule has a smaller makespan.
+    ensures lower { IfOk result (λ proof. spec.IsLowerBound shop.now proof.lower) }
+    ensures below { IfOk result (λ proof. proof.lower ≤ proof.schedule.makespan) }
+    // No start is after 10,000,000, so all starts can be printed.
+    ensures within { IfOk result (λ proof. All (λ t. t ≤ 10000000) proof.schedule.starts.items) }
+    ensures proved { IfOk result (λ proof. proof.lower ≡ proof.schedule.makespan
+        → IsShortest (problem_of shop.now) proof.schedule.starts.items) }
+    ensures nodes { IfOk result (λ proof. proof.nodes ≤ nodes) }
+    ensures allowed { IfOk result (λ _. spec.IsNodeLimit nodes) }
+    ensures refused { IfErr result (spec.RefusesProving nodes) }
+    // An invalid call allocates nothing.
+    ensures early { IsErrOf result ProveFault.NoMemory → spec.IsNodeLimit nodes }
+    // All reports to the watcher are true of the shop, even if the search fails.
+    ensures told { HearsTruth shop.now nodes (W.was_told watcher.old) (W.was_told watcher.new) }
+{
+    check(nodes)?;
+    let found = proof_of(alloc, shop, known, nodes, watcher);
+    watcher.end();
+    Ok(found?)
+}
+
+// Returns the proof of a search of at most `nodes` nodes that starts from the priority rules.
+fn proof_by_rules<W: Watcher>(
     alloc: Global,
     shop: &Shop,
     nodes: u64,
@@ -154,7 +211,24 @@ fn proof_of<W: Watcher>(
     ensures nodes { IfOk result (λ proof. proof.nodes ≤ nodes) }
     ensures told { HearsTruth shop.now nodes (W.was_told watcher.old) (W.was_told watcher.new) }
 {
-    let mut search = Search::new(alloc, shop, initial(alloc, shop)?, nodes)?;
+    let first = first_proof(alloc, shop)?;
+    proof_of(alloc, shop, first, nodes, watcher)
+}
+
+// Returns the proof of a search of at most `nodes` nodes that starts from a proof.
+fn proof_of<W: Watcher>(
+    alloc: Global,
+    shop: &Shop,
+    known: Proof,
+    nodes: u64,
+    watcher: &mut W,
+) -> Result<Proof, AllocError>
+    requires { spec.IsProofOf shop.now known }
+    ensures proof { IfOk result (spec.IsProofOf shop.now) }
+    ensures nodes { IfOk result (λ proof. proof.nodes ≤ nodes) }
+    ensures told { HearsTruth shop.now nodes (W.was_told watcher.old) (W.was_told watcher.new) }
+{
+    let mut search = Search::new(alloc, shop, known, nodes)?;
     search.run(alloc, shop, watcher)?;
     let mut proof = search.proof;
     proof.nodes = search.most - search.left;

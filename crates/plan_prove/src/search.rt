@@ -14,7 +14,6 @@ use crate::queue::Queue;
 use crate::refutation::{Outcome, first_states, refute};
 use crate::state::State;
 use crate::watcher::Watcher;
-use plan_sgs::Schedule;
 use plan_shop::Shop;
 use std::alloc::{AllocError, Global};
 
@@ -24,11 +23,12 @@ const MOST_HALVINGS: u32 = 64;
 /// The number of nodes of the first search below the best makespan. Later searches get more.
 const FIRST_PATIENCE: u64 = 1_000;
 
-/// The number of nodes between two reports to a watcher.
-const NODES_BETWEEN: u64 = 500_000;
+/// The number of nodes between two reports to a watcher, which can then end the search.
+const NODES_BETWEEN: u64 = 1_000;
 
 /// A search: the graph of a shop, its queue and the proof so far. It counts the nodes that may be
-/// visited in all, those that are left, and those until the next report to a watcher.
+/// visited in all, those that are left, and those until the next report to a watcher. The search
+/// is late if the watcher ended it.
 #[derive(Drop)]
 pub struct Search {
     pub graph: Graph,
@@ -37,6 +37,7 @@ pub struct Search {
     pub most: u64,
     pub left: u64,
     until_told: u64,
+    is_late: bool,
 }
 
 // Returns the limit of the next search: a hundredth below the best makespan, and at most half way
@@ -47,24 +48,14 @@ fn target(best: u64, lower: u64) -> u64 {
 }
 
 impl Search {
-    /// Returns a search of at most `nodes` nodes that starts from an active schedule.
-    pub fn new(
-        alloc: Global,
-        shop: &Shop,
-        schedule: Schedule,
-        nodes: u64,
-    ) -> Result<Search, AllocError>
-        requires { spec.IsActiveSchedule shop.now schedule }
+    /// Returns a search of at most `nodes` nodes that starts from a proof.
+    pub fn new(alloc: Global, shop: &Shop, proof: Proof, nodes: u64) -> Result<Search, AllocError>
+        requires { spec.IsProofOf shop.now proof }
         ensures search { IfOk result (spec.IsSearchOf shop.now) }
         ensures most { IfOk result (λ search. search.most ≡ nodes) }
     {
         let graph = graph_of(alloc, shop)?;
         let queue = Queue::new(alloc, &graph)?;
-        let proof = Proof {
-            schedule,
-            lower: 0,
-            nodes: 0,
-        };
         Ok(Search {
             graph,
             queue,
@@ -72,7 +63,20 @@ impl Search {
             most: nodes,
             left: nodes,
             until_told: NODES_BETWEEN,
+            is_late: false,
         })
+    }
+
+    // Reports to the watcher, and asks it whether the search should end.
+    fn report<W: Watcher>(&mut self, watcher: &mut W)
+        requires { self.old.left ≤ self.old.most }
+        ensures taken { spec.HasTaken self.old self.new }
+        ensures left { self.new.left ≡ self.old.left }
+        ensures told { HearsKnown self.old (W.was_told watcher.old) (W.was_told watcher.new) }
+    {
+        let makespan = self.proof.schedule.makespan;
+        watcher.tell(makespan, self.proof.lower, self.most - self.left);
+        self.is_late = watcher.is_late();
     }
 
     // Counts used nodes, and reports to the watcher if it is time to.
@@ -87,13 +91,12 @@ impl Search {
         self.until_told = self.until_told.saturating_sub(used);
         if self.until_told == 0 {
             self.until_told = NODES_BETWEEN;
-            let makespan = self.proof.schedule.makespan;
-            watcher.tell(makespan, self.proof.lower, self.most - self.left);
+            self.report(watcher);
         }
     }
 
     // Continues a search of the waiting states until it has an outcome, has used the granted nodes,
-    // or it is time to report.
+    // or it is time to report. If the watcher ends the search, no more nodes are granted.
     fn advance<W: Watcher>(
         &mut self,
         alloc: Global,
@@ -127,6 +130,9 @@ impl Search {
         )?;
         *granted -= part - unused;
         self.count(part - unused, watcher);
+        if self.is_late {
+            *granted = 0;
+        }
         Ok(outcome)
     }
 
@@ -184,6 +190,11 @@ impl Search {
         }
     }
 
+    // Whether no nodes are left, or the watcher ended the search.
+    fn is_over(&self) -> bool {
+        self.left == 0 || self.is_late
+    }
+
     /// Halves the gap between the lower bound and the best makespan by searches of `allowed` nodes
     /// each. After a search without an outcome the next target is lower.
     pub fn halve<W: Watcher>(
@@ -202,7 +213,7 @@ impl Search {
         let mut above = self.proof.schedule.makespan;
         for _halving in 0..MOST_HALVINGS {
             above = above.min(self.proof.schedule.makespan);
-            if self.proof.lower >= above || self.left == 0 {
+            if self.proof.lower >= above || self.is_over() {
                 break;
             }
             let target = above - (above - self.proof.lower) / 2;
@@ -238,7 +249,7 @@ impl Search {
         Ok(more)
     }
 
-    /// Searches below the best makespan until it is the lower bound or no nodes are left.
+    /// Searches below the best makespan until it is the lower bound or the search is over.
     pub fn close<W: Watcher>(
         &mut self,
         alloc: Global,
@@ -253,7 +264,7 @@ impl Search {
     {
         let mut allowed = FIRST_PATIENCE;
         for _step in 0..self.left {
-            if self.proof.lower >= self.proof.schedule.makespan || self.left == 0 {
+            if self.proof.lower >= self.proof.schedule.makespan || self.is_over() {
                 break;
             }
             allowed = self.step_down(alloc, shop, allowed, watcher)?;

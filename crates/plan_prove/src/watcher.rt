@@ -2,7 +2,8 @@
 
 ghost use Rattle.plan_prove.specs.Progress.{Progress, Hears, HearsNothing};
 
-/// A watcher receives reports on the progress of a search, and a call at its end.
+/// A watcher receives reports on the progress of a search, can end it, and receives a call at its
+/// end.
 pub trait Watcher {
     /// The reports that it is known to have received.
     ghost was_told: { Self → Progress → Type 0 };
@@ -13,12 +14,16 @@ pub trait Watcher {
         ensures { Hears (was_told self.old) (was_told self.new)
             (record { best = best; lower = lower; nodes = nodes }) };
 
+    /// Returns whether the search should end now.
+    fn is_late(&mut self) -> bool
+        ensures { HearsNothing (was_told self.old) (was_told self.new) };
+
     /// Ends the reports: the search is over.
     fn end(&mut self)
         ensures { HearsNothing (was_told self.old) (was_told self.new) };
 }
 
-/// A watcher that ignores all reports.
+/// A watcher that ignores all reports and ends no search.
 #[derive(Drop)]
 pub struct Unwatched;
 
@@ -26,6 +31,10 @@ impl Watcher for Unwatched {
     ghost was_told = { λ _ _. ⊥ };
 
     fn tell(&mut self, _best: u64, _lower: u64, _nodes: u64) {}
+
+    fn is_late(&mut self) -> bool {
+        false
+    }
 
     fn end(&mut self) {}
 }

@@ -31,6 +31,6 @@ mod windows;
 
 pub use fault::SolveFault;
 pub use projects::{solve, solve_watched};
-pub use shops::{solve_shop, solve_shop_watched};
+pub use shops::{solve_shop, solve_shop_from, solve_shop_watched};
 pub use solving::{MOST_CONFLICTS, Solved};
 pub use watcher::{Unwatched, Watcher};

@@ -50,7 +50,8 @@ fn lower_bound<S: Solvable>(source: &S, kernel: &Kernel, simple: u64) -> u64
     simple.max(kernel.lower_bound() as u64)
 }
 
-// Tells a watcher how far a search is. Returns whether the search should end.
+// Tells a watcher how far a search is. Returns whether the search should end: the watcher ends it, or
+// the best makespan is the bound that was known before.
 fn tell<S: Solvable, W: Watcher>(
     watcher: &mut W,
     source: &S,
@@ -67,7 +68,7 @@ fn tell<S: Solvable, W: Watcher>(
         let lower = lower_bound(source, kernel, simple);
         watcher.tell(kernel.upper() as u64, lower, conflicts);
     }
-    watcher.is_late()
+    watcher.is_late() || kernel.upper() as u64 <= simple
 }
 
 /// Searches from a schedule on, with at most so many conflicts.

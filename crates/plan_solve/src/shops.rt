@@ -11,7 +11,7 @@ use crate::fault::SolveFault;
 use crate::lists::{at, put};
 use crate::schedules::shorter;
 use crate::solvable::Solvable;
-use crate::solving::{MOST_CONFLICTS, Solved, searched};
+use crate::solving::{MOST_CONFLICTS, Solved, searched, searched_from};
 use crate::watcher::{Unwatched, Watcher};
 use plan_kernel::{Input, Order};
 use plan_sgs::Schedule;
@@ -210,6 +210,47 @@ pub fn solve_shop_watched<W: Watcher>(
         return Err(SolveFault::BadConflicts);
     }
     let searched = searched(alloc, shop, conflicts, watcher);
+    watcher.end();
+    Ok(searched?)
+}
+
+/// Does the same as [`solve_shop_watched`], and starts from a schedule and a lower bound that are
+/// known instead of those of the priority rules.
+pub fn solve_shop_from<W: Watcher>(
+    alloc: Global,
+    shop: &Shop,
+    known: Solved,
+    conflicts: u64,
+    watcher: &mut W,
+) -> Result<Solved, SolveFault>
+    requires schedule { IsActiveShopSchedule shop.now known.schedule }
+    requires lower { spec.IsLowerBound (problem_of shop.now) known.lower }
+    ensures active { IfOk result (λ solved.
+        IsActive (problem_of shop.now) solved.schedule.starts.items) }
+    ensures makespan { IfOk result (λ solved.
+        solved.schedule.makespan ≡ makespan (problem_of shop.now) solved.schedule.starts.items) }
+    // No feasible schedule has a makespan below it.
+    ensures lower { IfOk result (λ solved.
+        spec.IsLowerBound (problem_of shop.now) solved.lower) }
+    ensures below { IfOk result (λ solved. solved.lower ≤ solved.schedule.makespan) }
+    ensures optimal { IfOk result (λ solved. solved.lower ≡ solved.schedule.makespan
+        → IsShortest (problem_of shop.now) solved.schedule.starts.items) }
+    // All starts can be shown: none is after 10,000,000.
+    ensures within { IfOk result (λ solved.
+        All (λ t. t ≤ 10000000) solved.schedule.starts.items) }
+    ensures conflicts { IfOk result (λ solved. solved.conflicts ≤ conflicts) }
+    ensures allowed { IfOk result (λ _. spec.IsConflictLimit conflicts) }
+    ensures refused { IfErr result (spec.RefusesSolving conflicts) }
+    // What is refused takes no memory.
+    ensures early { IsErrOf result SolveFault.NoMemory → spec.IsConflictLimit conflicts }
+    // All that the watcher is told is true of the shop, whatever the search comes to.
+    ensures told { HearsTruth (problem_of shop.now) conflicts
+        (W.was_told watcher.old) (W.was_told watcher.new) }
+{
+    if conflicts == 0 || conflicts > MOST_CONFLICTS {
+        return Err(SolveFault::BadConflicts);
+    }
+    let searched = searched_from(alloc, shop, known.schedule, known.lower, conflicts, watcher);
     watcher.end();
     Ok(searched?)
 }

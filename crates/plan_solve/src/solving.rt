@@ -51,7 +51,41 @@ fn best_of<S: Solvable>(
     }
 }
 
-/// Returns the result of a search with at most so many conflicts.
+/// Returns the result of a search with at most so many conflicts that starts from a schedule and a
+/// lower bound.
+pub fn searched_from<S: Solvable, W: Watcher>(
+    alloc: Global,
+    source: &S,
+    schedule: Schedule,
+    lower: u64,
+    conflicts: u64,
+    watcher: &mut W,
+) -> Result<Solved, AllocError>
+    requires schedule { S.is_schedule source.now schedule }
+    requires lower { spec.IsLowerBound (S.problem source.now) lower }
+    ensures schedule { IfOk result (λ solved. S.is_schedule source.now solved.schedule) }
+    ensures lower { IfOk result (λ solved. spec.IsLowerBound (S.problem source.now) solved.lower) }
+    ensures conflicts { IfOk result (λ solved. solved.conflicts ≤ conflicts) }
+    ensures told { HearsTruth (S.problem source.now) conflicts
+        (W.was_told watcher.old) (W.was_told watcher.new) }
+{
+    if lower >= schedule.makespan {
+        return Ok(Solved {
+            schedule,
+            lower,
+            conflicts: 0,
+        });
+    }
+    let found = run(alloc, source, &schedule.starts, lower, conflicts, watcher)?;
+    Ok(Solved {
+        schedule: best_of(alloc, source, schedule, &found.starts)?,
+        lower: found.lower,
+        conflicts: found.conflicts,
+    })
+}
+
+/// Returns the result of a search with at most so many conflicts that starts from the schedule of
+/// the rules and a lower bound that takes no search.
 pub fn searched<S: Solvable, W: Watcher>(
     alloc: Global,
     source: &S,
@@ -66,17 +100,5 @@ pub fn searched<S: Solvable, W: Watcher>(
 {
     let schedule = source.by_rules(alloc)?;
     let simple = source.simple_bound(alloc)?;
-    if simple == schedule.makespan {
-        return Ok(Solved {
-            schedule,
-            lower: simple,
-            conflicts: 0,
-        });
-    }
-    let found = run(alloc, source, &schedule.starts, simple, conflicts, watcher)?;
-    Ok(Solved {
-        schedule: best_of(alloc, source, schedule, &found.starts)?,
-        lower: found.lower,
-        conflicts: found.conflicts,
-    })
+    searched_from(alloc, source, schedule, simple, conflicts, watcher)
 }

@@ -1,0 +1,74 @@
+//! Capacities that replace those of a project file.
+
+ghost use Rattle.std.specs.Prelude.{◌≡◌, ◌+◌, ◌<◌, ℕ, true, false, codes, length};
+ghost use Rattle.std.specs.Prelude.{IfOk, IfErr, IfSome, IfNone};
+ghost use Rattle.plan_cli.specs.Run.{Refuses};
+ghost use Rattle.plan_cli.specs.Capacities as spec;
+
+use crate::fault::{CliFault, refusal_by};
+use std::alloc::{AllocError, Global};
+use std::fmt::Write;
+
+/// The capacity of a resource, from `plan solve --capacity`.
+#[derive(Clone, Copy, Debug, Drop)]
+pub struct Capacity<'a> {
+    /// The number of the resource from 1, with or without an `R` in front.
+    pub resource: &'a str,
+    pub amount: u64,
+}
+
+// Whether a text is the number of a resource, with or without an `R` in front.
+fn is_name_of(alloc: Global, name: &str, number: usize) -> Result<bool, AllocError>
+    ensures yes { IfOk result (λ is. is ≡ true → spec.IsNameOf number name.now) }
+    ensures no { IfOk result (λ is. is ≡ false → spec.IsNameOf number name.now → ⊥) }
+{
+    let mut plain = String::new(alloc);
+    write!(plain, "{number}")?;
+    let mut lettered = String::new(alloc);
+    write!(lettered, "R{number}")?;
+    Ok(name == plain.as_str() || name == lettered.as_str())
+}
+
+// Returns the index of the resource with this name among so many.
+fn index_of(alloc: Global, name: &str, count: usize) -> Result<Option<usize>, AllocError>
+    ensures some { IfOk result (λ found. IfSome found (λ k.
+        (k < count) × spec.IsNameOf (k + 1) name.now)) }
+    ensures none { IfOk result (λ found. IfNone found (spec.NamesNone count name.now)) }
+{
+    for k in 0..count {
+        if is_name_of(alloc, name, k + 1)? {
+            return Ok(Some(k));
+        }
+    }
+    Ok(None)
+}
+
+// Returns the error of a name that no resource has.
+fn unknown(alloc: Global, name: &str) -> CliFault
+    ensures { Refuses (spec.SaysUnknown name.now) result }
+{
+    let mut line = String::new(alloc);
+    match write!(line, "S8 no resource {name}") {
+        Ok(()) => CliFault::Refused(line),
+        Err(_) => CliFault::Memory,
+    }
+}
+
+/// Replaces capacities of a list by the given ones, in their order.
+pub(crate) fn replaced(
+    alloc: Global,
+    given: &[Capacity<'_>],
+    capacities: &[u64],
+) -> Result<Vec<u64>, CliFault>
+    ensures ok { IfOk result (λ list. spec.Replaces given.now capacities.now list.items) }
+    ensures refused { IfErr result (Refuses (spec.TellsUnknown given.now capacities.now)) }
+{
+    let mut list = Vec::from_slice(alloc, capacities)?;
+    for capacity in given {
+        let Some(k) = index_of(alloc, capacity.resource, list.len())? else {
+            return Err(unknown(alloc, capacity.resource));
+        };
+        list[k] = capacity.amount;
+    }
+    Ok(list)
+}
