@@ -1,6 +1,7 @@
 //! The orders that the arguments of the command line spell.
 
-use crate::tasks::Task;
+use crate::tasks::{Rows, Task};
+use crate::templates::Template;
 use clap::ArgMatches;
 use plan_solve::MOST_CONFLICTS;
 
@@ -25,6 +26,8 @@ pub enum FileOrder<'a> {
         file: &'a str,
         starts: &'a str,
     },
+    /// A table to start from.
+    New(Template),
     /// The meaning of an error line, which is given as one argument or as several.
     Explain(&'a [&'a str]),
 }
@@ -47,7 +50,7 @@ impl<'a> FileOrder<'a> {
                 Some(shown_name(starts))
             }
             FileOrder::Check { file, .. } if line != "I1 file" => Some(shown_name(file)),
-            FileOrder::Check { .. } | FileOrder::Explain(_) => None,
+            FileOrder::Check { .. } | FileOrder::New(_) | FileOrder::Explain(_) => None,
         }
     }
 }
@@ -100,7 +103,7 @@ impl<'a> OfficeOrder<'a> {
 
 /// An order of the command line.
 pub enum Order<'a> {
-    File(FileOrder<'a>),
+    File(FileOrder<'a>, Rows),
     Office(OfficeOrder<'a>),
 }
 
@@ -133,6 +136,7 @@ fn days_task<'a>(arguments: &'a ArgMatches<'_>) -> Option<Task<'a>> {
 fn task_of<'a>(name: &str, arguments: &'a ArgMatches<'_>) -> Option<Task<'a>> {
     match name {
         "cpm" => Some(Task::Dates),
+        "import" => Some(Task::Import),
         "names" => Some(Task::Names),
         "chart" => chart_task(arguments),
         "days" => days_task(arguments),
@@ -214,9 +218,28 @@ fn solve_order<'a>(arguments: &'a ArgMatches<'_>) -> Option<FileOrder<'a>> {
     })
 }
 
+// Returns the template of `new`.
+fn template_of(arguments: &ArgMatches<'_>) -> Option<Template> {
+    match arguments.get_str("KIND")? {
+        "project" => Some(Template::Project),
+        "shop" => Some(Template::Shop),
+        _ => None,
+    }
+}
+
+// Returns the rows that a command prints: its option `names` adds names.
+fn rows_of(name: &str, arguments: &ArgMatches<'_>) -> Rows {
+    match name {
+        "new" | "import" | "check" | "names" | "explain" => Rows::Plain,
+        _ if arguments.get_flag("names") => Rows::Named,
+        _ => Rows::Plain,
+    }
+}
+
 // Returns the order of any other command.
 fn file_order<'a>(name: &str, arguments: &'a ArgMatches<'_>) -> Option<FileOrder<'a>> {
     match name {
+        "new" => Some(FileOrder::New(template_of(arguments)?)),
         "explain" => Some(FileOrder::Explain(arguments.get_strs("CODE")?)),
         "prove" => proof_order(arguments),
         "solve" => solve_order(arguments),
@@ -236,6 +259,6 @@ pub fn order_of<'a>(matches: &'a ArgMatches<'_>) -> Option<Order<'a>> {
         "init" | "check-office" | "replay" | "serve" => Some(Order::Office(office_order(
             name, arguments,
         )?)),
-        _ => Some(Order::File(file_order(name, arguments)?)),
+        _ => Some(Order::File(file_order(name, arguments)?, rows_of(name, arguments))),
     }
 }
