@@ -72,9 +72,16 @@ fn do_file_order(rt: &HostRuntime, order: FileOrder<'_>, rows: Rows) -> Result<(
     match order {
         FileOrder::Task(task, path) => {
             run_on_file(rt, task, rows, &mut Unwatched, path, &mut writer)
-        },
+        }
         FileOrder::Watched(task, path) => {
-            run_on_file(rt, task, rows, &mut ProgressLine::new(rt), path, &mut writer)
+            run_on_file(
+                rt,
+                task,
+                rows,
+                &mut ProgressLine::new(rt),
+                path,
+                &mut writer,
+            )
         }
         FileOrder::Solve {
             task,

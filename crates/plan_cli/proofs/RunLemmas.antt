@@ -380,12 +380,7 @@ refused_front file errors.Memory r = tt
 refused_front file (errors.Fault f) (inl read) = inl (sym (front_table file) ∙ read)
 refused_front file (errors.Fault f) (inr (t, read, cycle)) = inr (t, sym (front_table file) ∙ read, cycle)
 
-no_-- a table that was read
-abbrev pub IsRead : Result Table reads.Fault → Type 0
-IsRead (Ok t) = Unit {0}
-IsRead (Err e) = ⊥
-
-import_front : HoldsByFront TellsNoImport
+no_import_front : HoldsByFront TellsNoImport
 no_import_front file line (inl (first, refused, tells)) = inl (first, refused_front file (errors.Fault first) refused, tells)
 no_import_front file line (inr (t, read, tells)) = inr (t, sym (front_table file) ∙ read, tells)
 
@@ -398,7 +393,7 @@ table_short text t read = by_length (cases_lt longest_text (length text))
     by_length (inl long) = absurd (subst IsRead (sym read ∙ long_table text long) tt)
 
 -- the text of a task for the front of a file is that for the file
-pub task_front : (task : Task) → HoldsByFront (IsTextOf task)
+task_front : (task : Task) → HoldsByFront (IsTextOf task)
 task_front task.Dates = table_front
 task_front (task.Schedule rule) = schedule_front rule.now
 task_front (task.Chart rule) = chart_front rule.now

@@ -83,7 +83,15 @@ pub fn check_on_named<I: Inputs, W: Sink>(
 {
     let starts = read_named(alloc, inputs, starts_path)?;
     let task = Task::Check { starts: &starts };
-    run_on_named(alloc, inputs, task, Rows::Plain, &mut Unwatched, path, writer)
+    run_on_named(
+        alloc,
+        inputs,
+        task,
+        Rows::Plain,
+        &mut Unwatched,
+        path,
+        writer,
+    )
 }
 
 /// Calls [`run_on_named`] with the system's files and standard input.

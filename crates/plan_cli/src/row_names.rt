@@ -30,7 +30,7 @@ fn is_head(row: &[u8]) -> bool
     ensures { result ≡ spec.is_head (words row.now) }
 {
     match Words::new(row).next_word() {
-        Some(word) => word == b"act" || word == b"job",
+        Some(word) => word == b"act".as_slice() || word == b"job".as_slice(),
         None => false,
     }
 }
@@ -85,7 +85,8 @@ fn push_named(
         text.push(b' ')?;
         text.extend_from_slice(label)?;
     }
-    text.push(b'\n')
+    text.push(b'\n')?;
+    Ok(())
 }
 
 // Returns rows with their names.

@@ -77,7 +77,14 @@ pub fn cpm_run<R: Source, W: Sink>(
     ensures { Runs R.Source W.Sink IsDateTableOf TellsFirstFailing
         reader.old reader.new writer.old writer.new result }
 {
-    run_task(alloc, Task::Dates, Rows::Plain, &mut Unwatched, reader, writer)
+    run_task(
+        alloc,
+        Task::Dates,
+        Rows::Plain,
+        &mut Unwatched,
+        reader,
+        writer,
+    )
 }
 
 /// Runs [`Task::Schedule`].
