@@ -5,3 +5,4 @@ pub mod DaysLemmas
 pub mod CheckLemmas
 pub mod InputLemmas
 pub mod CodeLemmas
+pub mod ImportLemmas

@@ -3,19 +3,14 @@ use Rattle.std.specs.Prelude.{◌≡◌, ◌⊎◌, ◌<◌, ℕ, List, Ok, leng
 use Rattle.plan_psplib.specs.Plain.{longest_text}
 use Rattle.plan_psplib.specs.Project.{SaysProject}
 use Rattle.plan_table.specs.declared.fault.TableFault.{TableFault}
-use Rattle.plan_table.specs.declared.fault.ReadError.{ReadError}
 use Rattle.plan_table.specs.declared.fault.ReadError.TheVariants as errors
 use Rattle.plan_table.specs.Jobs.{project_of}
-use Rattle.plan_table.specs.Limits.{IsTable}
 use Rattle.plan_table.specs.Listing.{table_read}
 use Rattle.plan_table.specs.ProjectText.{project_text}
 use Rattle.plan_table.specs.Reading.{fault_of}
 use Rattle.plan_table.specs.Refused.{IsRefused}
 use Rattle.plan_table.specs.Table.{Table}
 use Rattle.plan_cli.specs.TableFaultText.{fault_text_of}
-use Rattle.plan_cli.specs.declared.fault.CliFault.{CliFault}
-use Rattle.plan_cli.specs.declared.fault.CliFault.TheVariants as fault
-use Rattle.plan_cli.specs.Run.{Refuses}
 
 -- a text is the project file of a table; reading it gives the project of the table
 pub record IsProjectFile (t : Table) (text : List ℕ) : Type 0 where
@@ -43,8 +38,3 @@ TellsLong t line = (longest_text < length (project_text t)) × (line ≡ codes "
 abbrev pub TellsNoImport : List ℕ → List ℕ → Type 0
 TellsNoImport file line = TellsNoTable file line
     ⊎ ((t : Table) × (table_read file ≡ Ok t) × TellsLong t line)
-
--- the error of a table that can't be read
-abbrev pub IsTableError : ReadError → CliFault → Type 0
-IsTableError errors.Memory e = e ≡ fault.Memory
-IsTableError (errors.Fault first) e = Refuses (TellsTable first) e

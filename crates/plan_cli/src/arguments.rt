@@ -130,11 +130,11 @@ const NODES: Argument = Argument {
     help: "how many nodes the search may visit, 1 to 1000000000",
 };
 
-// The option of commands whose rows are those of activities, jobs or machines.
+// The option of commands whose rows are those of activities.
 const NAMES: Argument = Argument {
     name: "names",
     form: Form::Flag,
-    help: "print the names of activities, jobs or machines that the file contains",
+    help: "print the names of the activities of a project",
 };
 
 const DATABASE: Argument = Argument {
@@ -147,7 +147,7 @@ const LIST_COMMANDS: [Entry; 2] = [
     Entry {
         name: "new",
         about: "Prints a template of a list, a CSV table",
-        examples: "Examples:\n  plan new project > list.csv\n  plan new shop > orders.csv",
+        examples: "Examples:\n  plan new project\n  plan new shop",
         arguments: &[Argument {
             name: "KIND",
             form: Form::Kind,
@@ -157,7 +157,7 @@ const LIST_COMMANDS: [Entry; 2] = [
     Entry {
         name: "import",
         about: "Converts a list, a CSV table, to a project file",
-        examples: "Examples:\n  plan import list.csv > house.sm\n  plan chart lft --names house.sm",
+        examples: "Examples:\n  plan import examples/house.csv\n  plan chart lft --names examples/house.sm",
         arguments: &[FILE],
     },
 ];
@@ -207,13 +207,13 @@ const SHOP_COMMANDS: [Entry; 4] = [
         name: "shop",
         about: "Prints a schedule of a job shop by a priority rule",
         examples: "Example:\n  plan shop mwkr examples/shops.txt ft06",
-        arguments: &[SHOP_RULE, FILE, INSTANCE, NAMES],
+        arguments: &[SHOP_RULE, FILE, INSTANCE],
     },
     Entry {
         name: "best",
         about: "Searches for a shortest schedule of a small job shop",
         examples: "Example:\n  plan best 200000 examples/shops.txt ft06",
-        arguments: &[BUDGET, FILE, INSTANCE, NAMES],
+        arguments: &[BUDGET, FILE, INSTANCE],
     },
     Entry {
         name: "prove",
@@ -228,7 +228,6 @@ const SHOP_COMMANDS: [Entry; 4] = [
                 form: Form::Flag,
                 help: "show on standard error how far the search is, every 500000 nodes",
             },
-            NAMES,
         ],
     },
 ];

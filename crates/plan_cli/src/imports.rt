@@ -17,22 +17,17 @@ fn table_refusal(alloc: Global, fault: &TableFault) -> CliFault
     refusal_by(table_fault_text(alloc, fault))
 }
 
-// Returns the error of a table that can't be read.
-fn read_refusal(alloc: Global, error: &ReadError) -> CliFault
-    ensures told { spec.IsTableError error.now result }
-{
-    match error {
-        ReadError::Memory => CliFault::Memory,
-        ReadError::Fault(fault) => table_refusal(alloc, fault),
-    }
-}
-
 // Reads a table.
+#[tactic(auto, using(crate::proofs::ImportLemmas::no_table))]
 fn table_of(alloc: Global, file: &[u8]) -> Result<Table, CliFault>
     ensures read { IfOk result (λ table. table_read file.now ≡ Ok table) }
     ensures refused { IfErr result (Refuses (spec.TellsNoTable file.now)) }
 {
-    read_table(alloc, file).map_err(|error| read_refusal(alloc, &error))
+    match read_table(alloc, file) {
+        Ok(table) => Ok(table),
+        Err(ReadError::Memory) => Err(CliFault::Memory),
+        Err(ReadError::Fault(fault)) => Err(table_refusal(alloc, &fault)),
+    }
 }
 
 // Returns the error of a project file that is too long.

@@ -227,11 +227,11 @@ fn template_of(arguments: &ArgMatches<'_>) -> Option<Template> {
     }
 }
 
-// Returns the rows that a command prints: its option `names` adds names.
+// Returns the rows that a command prints: with names if it has the option `names` and it is given.
 fn rows_of(name: &str, arguments: &ArgMatches<'_>) -> Rows {
     match name {
-        "new" | "import" | "check" | "names" | "explain" => Rows::Plain,
-        _ if arguments.get_flag("names") => Rows::Named,
+        "cpm" | "schedule" | "best-project" | "solve" | "chart" | "days"
+            if arguments.get_flag("names") => { Rows::Named }
         _ => Rows::Plain,
     }
 }

@@ -1,8 +1,9 @@
 //! Rows with names: a last column of a table, or the names behind the lines of a chart.
 
 ghost use Rattle.std.specs.Prelude.{◌≡◌, ◌++◌, ◌-◌, map, length, replicate, IfOk, OnOk, codes};
+ghost use Rattle.std.specs.List.{slice_split};
 ghost use Rattle.std.specs.Option.{option_map};
-ghost use Rattle.plan_psplib.specs.Lines.{words};
+ghost use Rattle.plan_psplib.specs.Lines.{is_line_feed, words};
 ghost use Rattle.plan_table.specs.Names.{name_of};
 ghost use Rattle.plan_cli.specs.RowNames as spec;
 
@@ -10,12 +11,19 @@ use plan_psplib::{Words, number};
 use plan_table::{NameLine, first_name};
 use std::alloc::{AllocError, Global};
 
+// Returns the pieces of a text between its line feeds.
+fn pieces(alloc: Global, text: &[u8]) -> Result<Vec<&[u8]>, AllocError>
+    ensures { IfOk result (λ rows. map (λ row. row.now) rows.items
+        ≡ slice_split is_line_feed text.now) }
+{
+    text.split(|&byte| byte == b'\n').collect(alloc)
+}
+
 // Returns the rows of a text, which ends with a line feed.
 fn rows_of(alloc: Global, text: &[u8]) -> Result<Vec<&[u8]>, AllocError>
     ensures { IfOk result (λ rows. map (λ row. row.now) rows.items ≡ spec.rows_of text.now) }
 {
-    let end = text.len().saturating_sub(1);
-    text[..end].split(|&byte| byte == b'\n').collect(alloc)
+    pieces(alloc, &text[..text.len().saturating_sub(1)])
 }
 
 // Returns the number at the front of a row.
@@ -25,12 +33,12 @@ fn front_number(row: &[u8]) -> Option<u64>
     number(Words::new(row).next_word()?)
 }
 
-// Whether a row is the head of a table.
+// Whether a row is the head of a table of activities.
 fn is_head(row: &[u8]) -> bool
     ensures { result ≡ spec.is_head (words row.now) }
 {
     match Words::new(row).next_word() {
-        Some(word) => word == b"act".as_slice() || word == b"job".as_slice(),
+        Some(word) => word == b"act".as_slice(),
         None => false,
     }
 }
@@ -46,15 +54,23 @@ fn label_of<'a>(names: &[NameLine<'a>], row: &[u8]) -> Option<&'a [u8]>
     first_name(names, front_number(row)?)
 }
 
+// Returns the length of a row that gets a name, 0 for another row.
+fn named_length(names: &[NameLine<'_>], row: &[u8]) -> usize
+    ensures { result ≡ spec.named_length (map name_of names.now) row.now }
+{
+    match label_of(names, row) {
+        Some(_) => row.len(),
+        None => 0,
+    }
+}
+
 // Returns the length of the longest row that gets a name.
 fn longest_named(names: &[NameLine<'_>], rows: &[&[u8]]) -> usize
     ensures { result ≡ spec.longest_named (map name_of names.now) (map (λ row. row.now) rows.now) }
 {
     let mut longest = 0;
     for row in rows {
-        if label_of(names, row).is_some() {
-            longest = longest.max(row.len());
-        }
+        longest = longest.max(named_length(names, row));
     }
     longest
 }
