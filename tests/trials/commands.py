@@ -17,6 +17,7 @@ A trial file lists files, commands and their outputs, to the byte:
     file bare.txt "1 1\n0 5"              the same in quotes, with the escapes of Python
     file long.sm is six.sm, line 33 "x"   a file that differs from an earlier one in that line
     with six.sm, line 38 "   1"           the same change, for the next command alone
+    with six.sm, line 36 removed          without the line, for the next command alone
     $ plan schedule lft six.sm            a command; `< pair.txt` at its end is standard input
     $ PLAN_HINTS=1 plan cpm six.sm        a command with a variable of the environment
     | the lines of standard output        status 0 and nothing on standard error
@@ -47,7 +48,7 @@ FORMULAS = six_activities.FORMULAS | formulas.FORMULAS | fisher_thompson.FORMULA
 FOLDER = os.path.join(HERE, "commands")
 PLAIN_FILE = re.compile(r'file (\S+)(?: (".*"))?')
 OTHER_FILE = re.compile(r'file (\S+) is (\S+), line (\d+) (".*")')
-CHANGE = re.compile(r'with (\S+), line (\d+) (".*")')
+CHANGE = re.compile(r'with (\S+), line (\d+) (".*"|removed)')
 COMMAND = re.compile(r"\$ (?:(\w+=\S*) )?plan (.*)")
 
 
@@ -105,11 +106,11 @@ def quoted(text):
 
 
 def changed(content, number, line):
-    """A content with another line in the place of one."""
+    """A content with another line in the place of one, or without it."""
     lines = content.split(b"\n")
     if not 1 <= number < len(lines):
         raise ValueError(f"there is no line {number}")
-    lines[number - 1] = line
+    lines[number - 1 : number] = [] if line is None else [line]
     return b"\n".join(lines)
 
 
@@ -133,7 +134,8 @@ class Trial:
             self.run(block, place, shlex.split(match[2]), match[1])
         elif match := CHANGE.fullmatch(block.line):
             block.refuse_lines()
-            self.changes.append((match[1], int(match[2]), quoted(match[3])))
+            line = None if match[3] == "removed" else quoted(match[3])
+            self.changes.append((match[1], int(match[2]), line))
         elif match := OTHER_FILE.fullmatch(block.line):
             block.refuse_lines()
             content = content_of(self.folder, match[2])

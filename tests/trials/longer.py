@@ -87,6 +87,7 @@ CHANGES = [
     (22, "4 1 1 4", "F12 line 17 cycle 4"),
     (22, "4 1 2 3 6", "F12 line 17 cycle 3 4"),
     (30, "2 1 10001 1", "F10 line 30"),
+    (36, None, "F9 line 36"),
     (38, "2 7", "F9 line 38"),
 ]
 
@@ -103,15 +104,16 @@ def cut_file(lines):
 
 
 def changed_file(number, other, told_of_it):
-    """The import of the file with another text in the place of a line."""
+    """The import of the file with another text in the place of a line, or without it."""
     lines = WHOLE.splitlines()
-    lines[number - 1] = other
+    lines[number - 1 : number] = [] if other is None else [other]
     text = "".join(line + "\n" for line in lines)
     return asked("POST /desks/cuts/projects", "cuts-key-1", text, 422, f"E10 {told_of_it}\n")
 
 
 def cut_files():
-    """A file of 39 lines that ends after each of its lines, and with thirteen wrong lines."""
+    """A file of 39 lines that ends after each of its lines, with thirteen wrong lines, and without
+    the title of its last section."""
     ends = [cut_file(lines) for lines in range(40)]
     return [opening("cuts", "cuts-key-1"), *ends, *(changed_file(*change) for change in CHANGES)]
 

@@ -1,6 +1,6 @@
 -- The effect of the statements of one transaction on a connection.
-use Rattle.std.proofs.Common.{◌≡◌, ◌⊎◌, inl, inr, ◌≤◌, ◌<◌, ◌+◌, ℕ, true, false, List, map, drop, get_or, length, Ok, Err, Result, OnOk, IsTrue, refl, sym, subst, ◌∙◌, arith}
-use Rattle.std.specs.Prelude.{MatchResult, IsErrAnd, OnErr}
+use Rattle.std.proofs.Common.{rules, ◌≡◌, ◌⊎◌, inl, inr, ◌≤◌, ◌<◌, ◌+◌, ℕ, true, false, List, map, drop, get_or, length, Ok, Err, Result, OnOk, IsTrue, refl, sym, subst, ◌∙◌, arith}
+use Rattle.std.specs.Prelude.{MatchResult, IfErr, IsErrAnd, OnErr}
 use Rattle.std.proofs.lemmas.List.{drop_more, drop_all}
 use Rattle.std.specs.Borrow.{Bor}
 use Rattle.sqlite_value.specs.declared.value.ValueRef.{ValueRef}
@@ -20,6 +20,20 @@ pub mapped : {X E D : Type 0} (r : Result X E) (q : Result X D) (Post : E → D 
 mapped (Ok x) q Post P same ok err = ok x refl same
 mapped (Err e) (Err d) Post P post ok err = err e d refl refl post
 mapped (Err e) (Ok x) Post P post ok err = absurd post
+
+-- a result that is fine after its error is mapped was fine before
+pub mapped_ok : {X E D : Type 0} (r : Result X E) (q : Result X D) (x : X) (Post : E → D → Type 0) →
+    MatchResult r (λ y. q ≡ Ok y) (λ e. IsErrAnd q (Post e)) → q ≡ Ok x → r ≡ Ok x
+mapped_ok (Ok y) q x Post same is = search rules
+mapped_ok (Err e) (Err d) x Post post is = search rules
+mapped_ok (Err e) (Ok y) x Post post is = absurd post
+
+-- an error that is mapped was an error before
+pub mapped_err : {X E D : Type 0} (r : Result X E) (q : Result X D) (d : D) (Post : E → D → Type 0) →
+    MatchResult r (λ x. q ≡ Ok x) (λ e. IsErrAnd q (Post e)) → q ≡ Err d → (e : E) × (r ≡ Err e) × Post e d
+mapped_err (Ok x) q d Post same is = search rules
+mapped_err (Err e) (Err other) d Post post is = (e, refl, subst (λ k. IfErr k (Post e)) is post)
+mapped_err (Err e) (Ok x) d Post post is = absurd post
 
 -- a result that is an error
 pub failed_with : {X E : Type 0} (r : Result X E) (Q : E → Type 0) (P : Type 0) → IsErrAnd r Q → ((e : E) → r ≡ Err e → Q e → P) → P

@@ -74,10 +74,8 @@ fn review_next<S: Alter>(rows: &mut Rows<'_, S>, review: &mut Review<'_>) -> Res
         (λ next. IsUnchanged (state S.Store rows.old.conn.now) (state S.Store rows.new.conn.now)
         × Reviews S.Store rows.old.conn.now rows.new.conn.now review.old review.new next) }
 {
-    match rows.advance() {
-        Ok(()) => review_at(rows, review),
-        Err(error) => Err(fault_of(error)),
-    }
+    rows.advance().map_err(fault_of)?;
+    review_at(rows, review)
 }
 
 // Tests all remaining plans. A table has fewer than 2^64 rows.

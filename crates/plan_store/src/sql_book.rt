@@ -91,16 +91,16 @@ impl<S: Alter> SqlBook<S> {
         if !is_empty(conn.schema()) {
             return Err((StoreFault::NotOurs, conn));
         }
-        match make_tables(&mut conn, digest) {
-            Ok(()) => Ok(SqlBook {
-                alloc,
-                conn,
-                calls: Calls::new(),
-                denials: Calls::new(),
-                next_plan: None,
-            }),
-            Err(fault) => Err((fault, conn)),
+        if let Err(fault) = make_tables(&mut conn, digest) {
+            return Err((fault, conn));
         }
+        Ok(SqlBook {
+            alloc,
+            conn,
+            calls: Calls::new(),
+            denials: Calls::new(),
+            next_plan: None,
+        })
     }
 
     /// Returns the connection, outside a transaction.
@@ -140,16 +140,16 @@ impl<S: Alter + Drop> SqlBook<S> {
             Ok(conn) => conn,
             Err((fault, store)) => return Err((fault, Leftover::Store(store))),
         };
-        match take_tables(alloc, &mut conn) {
-            Ok(()) => Ok(SqlBook {
-                alloc,
-                conn,
-                calls: Calls::new(),
-                denials: Calls::new(),
-                next_plan: None,
-            }),
-            Err(fault) => Err((fault, Leftover::Connection(conn))),
+        if let Err(fault) = take_tables(alloc, &mut conn) {
+            return Err((fault, Leftover::Connection(conn)));
         }
+        Ok(SqlBook {
+            alloc,
+            conn,
+            calls: Calls::new(),
+            denials: Calls::new(),
+            next_plan: None,
+        })
     }
 }
 
