@@ -1,5 +1,6 @@
 #!/usr/bin/env python3
-"""Compares `plan import` with a reader of tables in Python, over drawn tables.
+"""Compares `plan import` with a reader of tables in Python, over drawn tables and over the worked
+ones of tests/tables.
 
     tests/trials/tables.py [--tables 5000] [--seed 1]
 
@@ -12,6 +13,7 @@ or the one that PLAN_PROGRAM names.
 import argparse
 import csv
 import io
+import json
 import os
 import random
 import subprocess
@@ -21,6 +23,8 @@ sys.dont_write_bytecode = True
 TRIALS = os.path.dirname(os.path.abspath(__file__))
 sys.path.insert(0, os.path.join(os.path.dirname(TRIALS), "clients"))
 from programs import PROGRAM, Wrong
+
+TABLES = os.path.join(os.path.dirname(TRIALS), "tables")
 
 LONGEST_TEXT = 1048576
 MOST_ROWS = 500
@@ -250,7 +254,12 @@ class Table:
         names = [self.seen[j - 2] for j in cycle[least:] + cycle[:least]]
         raise Refused("T11 cycle " + " ".join(names))
 
-    # ---- the text
+
+class Project:
+    """A project with names, as its file shows it: the rows, the resources and their amounts."""
+
+    def __init__(self, rows, resources, amounts):
+        self.rows, self.resources, self.amounts = rows, resources, amounts
 
     def jobs(self):
         count = len(self.rows)
@@ -305,7 +314,8 @@ def wanted(data, given):
         text = text.removeprefix("\ufeff")
         head = text.split("\n", 1)[0]
         delimiter = "\t" if "\t" in head else ";" if ";" in head else ","
-        return 0, Table(records(text, delimiter), given).text().encode(), b""
+        table = Table(records(text, delimiter), given)
+        return 0, Project(table.rows, table.resources, table.amounts).text().encode(), b""
     except Refused as fault:
         return 1, b"", str(fault).encode() + b"\n"
 
@@ -377,7 +387,40 @@ def damaged(draw, data):
     ])
 
 
-def try_tables(count, seed):
+def imported(data, options=()):
+    """What `plan import` prints for these bytes: the status, the output and the error line."""
+    done = subprocess.run([PROGRAM, "import", *options, "-"], input=data, capture_output=True, timeout=60)
+    return done.returncode, done.stdout, done.stderr
+
+
+def project_of(told):
+    """The project that a file of tests/tables describes."""
+    rows = [{"name": a["name"], "duration": a["duration"], "before": a["predecessors"], "needs": a["needs"]}
+            for a in told["activities"]]
+    return Project(rows, [r["name"] for r in told["resources"]], [r["capacity"] for r in told["resources"]])
+
+
+def answer_of(stem):
+    """What `plan import` prints for a table of tests/tables."""
+    if os.path.exists(stem + ".error"):
+        with open(stem + ".error", "rb") as file:
+            return 1, b"", file.read().rstrip(b"\n") + b"\n"
+    with open(stem + ".json", encoding="utf-8") as file:
+        return 0, project_of(json.load(file)).text().encode(), b""
+
+
+def try_worked_tables():
+    """Compares the tables of tests/tables with the projects and the error lines beside them."""
+    names = sorted(name[:-4] for name in os.listdir(TABLES) if name.endswith(".csv"))
+    for name in names:
+        stem = os.path.join(TABLES, name)
+        with open(stem + ".csv", "rb") as file:
+            answer = imported(file.read())
+        if answer != answer_of(stem):
+            raise Wrong(f"tests/tables/{name}.csv gave {answer!r}\n  not {answer_of(stem)!r}")
+
+
+def try_drawn_tables(count, seed):
     draw = random.Random(seed)
     for n in range(count):
         text, delimiter = drawn_table(draw)
@@ -389,8 +432,7 @@ def try_tables(count, seed):
             data = damaged(draw, data)
         given = {"crew0": draw.randrange(9)} if draw.random() < 0.2 else {}
         options = [f"--capacity={name}={amount}" for name, amount in given.items()]
-        done = subprocess.run([PROGRAM, "import", *options, "-"], input=data, capture_output=True, timeout=60)
-        answer = (done.returncode, done.stdout, done.stderr.split(b"\n")[0] + b"\n" if done.stderr else b"")
+        answer = imported(data, options)
         if answer != wanted(data, given):
             raise Wrong(f"table {n} of seed {seed}: {data!r}\n  gave {answer!r}\n  not {wanted(data, given)!r}")
 
@@ -401,7 +443,8 @@ def main():
     parser.add_argument("--seed", type=int, default=1, help="where the tables begin")
     words = parser.parse_args()
     try:
-        try_tables(words.tables, words.seed)
+        try_worked_tables()
+        try_drawn_tables(words.tables, words.seed)
     except Wrong as wrong:
         sys.exit(str(wrong))
 

@@ -7,8 +7,8 @@ use self::progress::ProgressLine;
 use clap::Error;
 use clap::error::ErrorKind;
 use plan_cli::{
-    CliFault, FileOrder, OfficeOrder, Order, Unwatched, capacities_of, check_on_files, command,
-    explain_run, help, hint, order_of, run_on_file,
+    CliFault, FileOrder, OfficeOrder, Order, Rows, Unwatched, capacities_of, check_on_files, command,
+    explain_run, help, hint, order_of, run_on_file, template_run,
 };
 use plan_io::StdSink;
 use plan_serve::{
@@ -68,12 +68,21 @@ fn do_office_order(rt: &HostRuntime, order: OfficeOrder<'_>) -> Result<(), Serve
 }
 
 // Runs an order on files, and writes to standard output.
-fn do_file_order(rt: &HostRuntime, order: FileOrder<'_>) -> Result<(), CliFault> {
+fn do_file_order(rt: &HostRuntime, order: FileOrder<'_>, rows: Rows) -> Result<(), CliFault> {
     let mut writer = StdSink::new(io::writer(rt));
     match order {
-        FileOrder::Task(task, path) => run_on_file(rt, task, &mut Unwatched, path, &mut writer),
+        FileOrder::Task(task, path) => {
+            run_on_file(rt, task, rows, &mut Unwatched, path, &mut writer)
+        }
         FileOrder::Watched(task, path) => {
-            run_on_file(rt, task, &mut ProgressLine::new(rt), path, &mut writer)
+            run_on_file(
+                rt,
+                task,
+                rows,
+                &mut ProgressLine::new(rt),
+                path,
+                &mut writer,
+            )
         }
         FileOrder::Solve {
             task,
@@ -81,9 +90,10 @@ fn do_file_order(rt: &HostRuntime, order: FileOrder<'_>) -> Result<(), CliFault>
             seconds,
         } => {
             let mut line = ProgressLine::within(rt, seconds);
-            run_on_file(rt, task, &mut line, file, &mut writer)
+            run_on_file(rt, task, rows, &mut line, file, &mut writer)
         }
         FileOrder::Check { file, starts } => check_on_files(rt, file, starts, &mut writer),
+        FileOrder::New(template) => template_run(template, &mut writer),
         FileOrder::Explain(words) => {
             let line = words.join(rt.alloc(), " ")?;
             explain_run(rt.alloc(), line.as_str(), &mut writer)
@@ -167,8 +177,9 @@ fn do_order(rt: &HostRuntime, order: Order<'_>) -> Result<u8, Misuse> {
                 file: "-",
                 starts: "-",
             },
+            _,
         ) => Err(Misuse::OneInput),
-        Order::File(order) => Ok(match do_file_order(rt, order) {
+        Order::File(order, rows) => Ok(match do_file_order(rt, order, rows) {
             Ok(()) => 0,
             Err(fault) => print_error(rt, order.file_of(fault.line()), fault.line()),
         }),

@@ -6,8 +6,9 @@ use Rattle.plan_psplib.specs.Plain.{longest_text}
 use Rattle.plan_cli.specs.declared.fault.CliFault.{CliFault}
 use Rattle.plan_cli.specs.declared.fault.CliFault.TheVariants as cli
 use Rattle.plan_cli.specs.declared.tasks.Task.{Task}
+use Rattle.plan_cli.specs.declared.tasks.Rows.{Rows}
 use Rattle.plan_cli.specs.Run.{ReadsFront}
-use Rattle.plan_cli.specs.Tasks.{IsTextOf, IsLineOf, DoesTask, AreRead, bytes_named}
+use Rattle.plan_cli.specs.Tasks.{IsLineOf, ShowsTask, DoesTask, AreRead, bytes_named}
 use Rattle.plan_cli.proofs.RunLemmas.{judged_bytes}
 
 -- `-` stands for standard input
@@ -30,26 +31,26 @@ read_known None remaining (Ok v) had read = tt
 read_known (Some bytes) remaining (Ok v) had read = subst (λ (r : Option (List ℕ)). IfSome r (λ file. v.items ≡ take (longest_text + 1) file)) had read
 
 -- a task that wrote for the bytes of a source wrote for the bytes that it had
-pub task_known : (task : Task) (known remaining rest taken after : Option (List ℕ))
+pub task_known : (task : Task) (rows : Rows) (known remaining rest taken after : Option (List ℕ))
     (r : Result (Unit {0}) CliFault)
     → IfSome known (λ bytes. remaining ≡ Some bytes)
-    → ReadsFront (IsTextOf task) (IsLineOf task) remaining rest taken after r
-    → DoesTask task known taken after r
-task_known task None remaining rest taken after r had judged = (None, judged_bytes (IsTextOf task) (IsLineOf task) remaining rest taken after r judged)
-task_known task (Some bytes) remaining rest taken after r had judged =
-    (rest, subst (λ (k : Option (List ℕ)). ReadsFront (IsTextOf task) (IsLineOf task) k rest taken after r) had judged)
+    → ReadsFront (ShowsTask rows task) (IsLineOf task) remaining rest taken after r
+    → DoesTask task rows known taken after r
+task_known task rows None remaining rest taken after r had judged = (None, judged_bytes (ShowsTask rows task) (IsLineOf task) remaining rest taken after r judged)
+task_known task rows (Some bytes) remaining rest taken after r had judged =
+    (rest, subst (λ (k : Option (List ℕ)). ReadsFront (ShowsTask rows task) (IsLineOf task) k rest taken after r) had judged)
 
 -- the same for the name of these bytes
-pub task_named : (task : Task) (known named remaining rest taken after : Option (List ℕ))
+pub task_named : (task : Task) (rows : Rows) (known named remaining rest taken after : Option (List ℕ))
     (r : Result (Unit {0}) CliFault)
     → named ≡ known → IfSome known (λ bytes. remaining ≡ Some bytes)
-    → ReadsFront (IsTextOf task) (IsLineOf task) remaining rest taken after r
-    → DoesTask task named taken after r
-task_named task known named remaining rest taken after r is had judged =
-    subst (λ (k : Option (List ℕ)). DoesTask task k taken after r) (sym is) (task_known task known remaining rest taken after r had judged)
+    → ReadsFront (ShowsTask rows task) (IsLineOf task) remaining rest taken after r
+    → DoesTask task rows named taken after r
+task_named task rows known named remaining rest taken after r is had judged =
+    subst (λ (k : Option (List ℕ)). DoesTask task rows k taken after r) (sym is) (task_known task rows known remaining rest taken after r had judged)
 
 -- a task writes nothing if the file can't be opened
-pub task_unopened : (task : Task) (known taken : Option (List ℕ)) (e : CliFault)
-    → (e ≡ cli.Memory) ⊎ (e ≡ cli.Input) → DoesTask task known taken taken (Err e)
-task_unopened task known taken e (inl is) = subst (λ (f : CliFault). DoesTask task known taken taken (Err f)) (sym is) (None, tt)
-task_unopened task known taken e (inr is) = subst (λ (f : CliFault). DoesTask task known taken taken (Err f)) (sym is) (None, tt)
+pub task_unopened : (task : Task) (rows : Rows) (known taken : Option (List ℕ)) (e : CliFault)
+    → (e ≡ cli.Memory) ⊎ (e ≡ cli.Input) → DoesTask task rows known taken taken (Err e)
+task_unopened task rows known taken e (inl is) = subst (λ (f : CliFault). DoesTask task rows known taken taken (Err f)) (sym is) (None, tt)
+task_unopened task rows known taken e (inr is) = subst (λ (f : CliFault). DoesTask task rows known taken taken (Err f)) (sym is) (None, tt)

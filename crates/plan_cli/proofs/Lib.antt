@@ -7,3 +7,4 @@ pub mod DaysLemmas
 pub mod CheckLemmas
 pub mod InputLemmas
 pub mod CodeLemmas
+pub mod ImportLemmas

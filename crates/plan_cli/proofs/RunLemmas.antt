@@ -1,5 +1,5 @@
 -- The text or line for the first bytes of a file is that for the whole file.
-use Rattle.std.proofs.Common.{◌≡◌, ◌⊎◌, inl, inr, ℕ, ◌+◌, ◌≤◌, ◌<◌, List, Option, Some, None, Result, Ok, Err, length, take, refl, sym, ap, ◌∙◌, subst, arith}
+use Rattle.std.proofs.Common.{◌≡◌, ◌⊎◌, inl, inr, ℕ, ◌+◌, ◌≤◌, ◌<◌, List, [], Option, Some, None, Result, Ok, Err, length, take, refl, sym, ap, ◌∙◌, subst, arith}
 use Rattle.std.specs.Prelude.{IfSome, IfOk, IfErr, string_bytes}
 use Rattle.std.specs.Io.KnownBytes.{Consumes}
 use Rattle.std.proofs.lemmas.Bool.{lt-leb, cases_lt}
@@ -26,8 +26,18 @@ use Rattle.plan_cli.specs.BestRun.{IsBestTableOf, TellsWhyNoBest}
 use Rattle.plan_cli.specs.ProveRun.{IsProofTableOf, TellsWhyNoProof}
 use Rattle.plan_cli.specs.BestProjectRun.{IsBestProjectTableOf, TellsWhyNoBestProject}
 use Rattle.plan_cli.specs.SolveRun.{IsSolvedTableOf, TellsWhyNotSolved, IsShopSolvedTableOf}
-use Rattle.plan_cli.specs.Tasks.{IsTextOf, IsLineOf}
 use Rattle.plan_cli.specs.declared.capacities.Capacity.{Capacity}
+use Rattle.plan_table.specs.declared.fault.TableCode.TheVariants as table_code
+use Rattle.plan_table.specs.declared.fault.ReadError.{ReadError}
+use Rattle.plan_table.specs.declared.fault.ReadError.TheVariants as errors
+use Rattle.plan_table.specs.Listing.{table_read}
+use Rattle.plan_table.specs.Reading as reads
+use Rattle.plan_table.specs.Refused.{IsRefused}
+use Rattle.plan_table.specs.Table.{Table}
+use Rattle.plan_cli.specs.ImportRun.{IsImportOf, TellsNoImport}
+use Rattle.plan_cli.specs.Tasks.{IsTextOf, IsLineOf, ShowsTask}
+use Rattle.plan_cli.specs.declared.tasks.Rows.{Rows}
+use Rattle.plan_cli.specs.declared.tasks.Rows.TheVariants as rows
 use Rattle.plan_cli.specs.declared.tasks.Task.{Task}
 use Rattle.plan_cli.specs.declared.tasks.Task.TheVariants as task
 use Rattle.plan_cli.specs.ScheduleRun.{IsScheduleTableOf, TellsWhyNoSchedule}
@@ -341,8 +351,50 @@ no_verdict_front : (listed : List ℕ) → HoldsByFront (TellsWhyNoVerdict liste
 no_verdict_front listed file line (inl first) = inl (line_front file line first)
 no_verdict_front listed file line (inr (p, says, tells)) = inr (p, project_front file p says, tells)
 
+-- a table that is too long fails its first check
+long_table : (text : List ℕ) → longest_text < length text → table_read text ≡ reads.fault table_code.TooLong 0 []
+unfolding table_read
+long_table text long = rw (lt-leb (length text) longest_text long)
+
+-- the table in the front of a file is that in the file
+front_table : (file : List ℕ) → table_read (take (longest_text + 1) file) ≡ table_read file
+front_table file = by_length (cases_lt longest_text (length file))
+  where
+    by_length : (longest_text < length file) ⊎ (length file ≤ longest_text)
+        → table_read (take (longest_text + 1) file) ≡ table_read file
+    by_length (inr short) = ap table_read (take_all (longest_text + 1) file (omega (arith, short)))
+    by_length (inl long) =
+        let m = length-take (longest_text + 1) file in
+        long_table (take (longest_text + 1) file) (omega (arith, m, long)) ∙ sym (long_table file long)
+
+-- a table that was read
+abbrev pub IsRead : Result Table reads.Fault → Type 0
+IsRead (Ok t) = Unit {0}
+IsRead (Err e) = ⊥
+
+import_front : HoldsByFront IsImportOf
+import_front file text (t, read, shown) = (t, sym (front_table file) ∙ read, shown)
+
+-- a table of which the front is refused is refused
+refused_front : (file : List ℕ) (e : ReadError) → IsRefused (take (longest_text + 1) file) e → IsRefused file e
+refused_front file errors.Memory r = tt
+refused_front file (errors.Fault f) (inl read) = inl (sym (front_table file) ∙ read)
+refused_front file (errors.Fault f) (inr (t, read, cycle)) = inr (t, sym (front_table file) ∙ read, cycle)
+
+no_import_front : HoldsByFront TellsNoImport
+no_import_front file line (inl (first, refused, tells)) = inl (first, refused_front file (errors.Fault first) refused, tells)
+no_import_front file line (inr (t, read, tells)) = inr (t, sym (front_table file) ∙ read, tells)
+
+-- a table that was read isn't too long
+table_short : (text : List ℕ) (t : Table) → table_read text ≡ Ok t → length text ≤ longest_text
+table_short text t read = by_length (cases_lt longest_text (length text))
+  where
+    by_length : (longest_text < length text) ⊎ (length text ≤ longest_text) → length text ≤ longest_text
+    by_length (inr short) = short
+    by_length (inl long) = absurd (subst IsRead (sym read ∙ long_table text long) tt)
+
 -- the text of a task for the front of a file is that for the file
-pub task_front : (task : Task) → HoldsByFront (IsTextOf task)
+task_front : (task : Task) → HoldsByFront (IsTextOf task)
 task_front task.Dates = table_front
 task_front (task.Schedule rule) = schedule_front rule.now
 task_front (task.Chart rule) = chart_front rule.now
@@ -357,6 +409,7 @@ task_front (task.Prove nodes instance) = proof_front nodes.now instance.now
 task_front (task.BestProject budget) = best_project_front budget.now
 task_front (task.Solve conflicts capacities) = solved_front capacities.now
 task_front (task.SolveShop conflicts instance) = shop_solved_front instance.now
+task_front task.Import = import_front
 
 pub task_line_front : (task : Task) → HoldsByFront (IsLineOf task)
 task_line_front task.Dates = line_front
@@ -373,3 +426,47 @@ task_line_front (task.Prove nodes instance) = no_proof_front nodes.now instance.
 task_line_front (task.BestProject budget) = no_best_project_front budget.now
 task_line_front (task.Solve conflicts capacities) = not_solved_front capacities.now
 task_line_front (task.SolveShop conflicts instance) = first_front instance.now
+task_line_front task.Import = no_import_front
+
+-- a file that says a project isn't too long
+project_short : (file : List ℕ) (p : Project) → SaysProject file p → length file ≤ longest_text
+project_short file p (d, says, same, project) = says.short
+
+-- a file that says a job shop isn't too long
+shop_short : (instance file : List ℕ) (doc : docs.Shop) → ShopSays instance file doc → length file ≤ longest_text
+shop_short instance file doc says = plain_short file says.readable
+
+-- a file for which a task writes a text isn't too long
+file_short : (task : Task) (file text : List ℕ) → IsTextOf task file text → length file ≤ longest_text
+file_short task.Dates file text (p, says, rest) = project_short file p says
+file_short (task.Schedule rule) file text (p, says, rest) = project_short file p says
+file_short (task.Chart rule) file text (p, says, rest) = project_short file p says
+file_short (task.ShopChart rule instance) file text (doc, says, rest) = shop_short instance.now file doc says
+file_short (task.Days rule start marks) file text (p, says, rest) = project_short file p says
+file_short (task.ShopDays rule start marks instance) file text (doc, says, rest) = shop_short instance.now file doc says
+file_short task.Names file text (readable, is) = plain_short file readable
+file_short (task.Check starts) file text (p, says, rest) = project_short file p says
+file_short (task.Shop rule instance) file text (doc, says, rest) = shop_short instance.now file doc says
+file_short (task.Best budget instance) file text (doc, says, rest) = shop_short instance.now file doc says
+file_short (task.Prove nodes instance) file text (doc, says, rest) = shop_short instance.now file doc says
+file_short (task.BestProject budget) file text (p, says, rest) = project_short file p says
+file_short (task.Solve conflicts capacities) file text (p, says, rest) = project_short file p says
+file_short (task.SolveShop conflicts instance) file text (doc, says, rest) = shop_short instance.now file doc says
+file_short task.Import file text (t, read, shown) = table_short file t read
+
+-- the text of a task with names for the front of a file is that for the file
+named_front : (task : Task) → HoldsByFront (ShowsTask rows.Named task)
+named_front task file text (unnamed, is, named) = by_length (cases_lt longest_text (length file))
+  where
+    by_length : (longest_text < length file) ⊎ (length file ≤ longest_text) → ShowsTask rows.Named task file text
+    by_length (inr short) =
+        subst (λ front. ShowsTask rows.Named task front text) (take_all (longest_text + 1) file (omega (arith, short))) (unnamed, is, named)
+    by_length (inl long) =
+        let m = length-take (longest_text + 1) file in
+        let few = file_short task (take (longest_text + 1) file) unnamed is in
+        absurd (omega (arith, m, few, long))
+
+-- the text of a task for the front of a file, with names or without, is that for the file
+pub shown_front : (task : Task) (names : Rows) → HoldsByFront (ShowsTask names task)
+shown_front task rows.Plain = task_front task
+shown_front task rows.Named = named_front task

@@ -36,3 +36,8 @@ pub mod CheckRun
 pub mod Codes
 pub mod ExplainRun
 pub mod HintText
+pub mod TableFaultText
+pub mod ImportRun
+pub mod RowNames
+pub mod TemplateRun
+pub use Rattle.plan_table.specs.Names

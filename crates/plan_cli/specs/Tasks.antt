@@ -1,6 +1,6 @@
 -- The texts and lines of each task, and files that are given by their names (docs/definitions.md,
 -- "Runs").
-use Rattle.std.specs.Prelude.{◌≡◌, ℕ, ◌+◌, ◌≤◌, List, Option, Result, Err, IfSome, length, take}
+use Rattle.std.specs.Prelude.{◌≡◌, ℕ, ◌+◌, ◌≤◌, List, [], Option, Result, Err, IfSome, length, take}
 use Rattle.std.specs.Prelude.{codes, bytes_eq, if◌then◌else◌}
 use Rattle.plan_gantt.specs.FirstFaults.{TellsFirstFailing, TellsFirstShopFault}
 use Rattle.plan_cli.specs.Run.{IsDateTableOf, ReadsFront}
@@ -14,7 +14,12 @@ use Rattle.plan_cli.specs.BestRun.{IsBestTableOf, TellsWhyNoBest}
 use Rattle.plan_cli.specs.ProveRun.{IsProofTableOf, TellsWhyNoProof}
 use Rattle.plan_cli.specs.BestProjectRun.{IsBestProjectTableOf, TellsWhyNoBestProject}
 use Rattle.plan_cli.specs.SolveRun.{IsSolvedTableOf, TellsWhyNotSolved, IsShopSolvedTableOf}
+use Rattle.plan_cli.specs.ImportRun.{IsImportOf, TellsNoImport}
+use Rattle.plan_cli.specs.RowNames.{with_names}
+use Rattle.plan_table.specs.Names.{Name, names_behind, activity_key}
 use Rattle.plan_cli.specs.declared.inputs.Inputs as inputs
+use Rattle.plan_cli.specs.declared.tasks.Rows.{Rows}
+use Rattle.plan_cli.specs.declared.tasks.Rows.TheVariants as rows
 use Rattle.plan_cli.specs.declared.tasks.Task.{Task}
 use Rattle.plan_cli.specs.declared.tasks.Task.TheVariants as task
 use Rattle.plan_psplib.specs.Plain.{longest_text}
@@ -38,6 +43,7 @@ IsTextOf (task.Prove nodes instance) = IsProofTableOf nodes.now instance.now
 IsTextOf (task.BestProject budget) = IsBestProjectTableOf budget.now
 IsTextOf (task.Solve conflicts capacities) = IsSolvedTableOf capacities.now
 IsTextOf (task.SolveShop conflicts instance) = IsShopSolvedTableOf instance.now
+IsTextOf task.Import = IsImportOf
 
 -- the lines with which a task refuses a file
 abbrev pub IsLineOf : Task → List ℕ → List ℕ → Type 0
@@ -56,14 +62,36 @@ IsLineOf (task.Prove nodes instance) = TellsWhyNoProof nodes.now instance.now
 IsLineOf (task.BestProject budget) = TellsWhyNoBestProject budget.now
 IsLineOf (task.Solve conflicts capacities) = TellsWhyNotSolved capacities.now
 IsLineOf (task.SolveShop conflicts instance) = TellsFirstShopFault instance.now
+IsLineOf task.Import = TellsNoImport
+
+-- The names of the rows that a task writes for a file. The rows of a project are those of
+-- activities. Other rows have no names.
+abbrev pub names_for : Task → List ℕ → List Name
+names_for task.Dates file = names_behind activity_key file
+names_for (task.Schedule rule) file = names_behind activity_key file
+names_for (task.Chart rule) file = names_behind activity_key file
+names_for (task.Days rule start marks) file = names_behind activity_key file
+names_for (task.BestProject budget) file = names_behind activity_key file
+names_for (task.Solve conflicts) file = names_behind activity_key file
+names_for _ file = []
+
+-- a text is the text of a task for a file, each row with its name
+abbrev pub IsNamedText : Task → List ℕ → List ℕ → Type 0
+IsNamedText t file text = (plain : List ℕ) × IsTextOf t file plain
+    × (text ≡ with_names (names_for t file) plain)
+
+-- the texts that a task writes for a file, without names or with them
+abbrev pub ShowsTask : Rows → Task → List ℕ → List ℕ → Type 0
+ShowsTask rows.Plain t = IsTextOf t
+ShowsTask rows.Named t = IsNamedText t
 
 -- Unless the input fails or memory runs out, a task writes its text or line for the bytes that were
 -- read. If the bytes of the file are known, these are the first of them.
-abbrev pub DoesTask : Task → Option (List ℕ) → Option (List ℕ) → Option (List ℕ)
+abbrev pub DoesTask : Task → Rows → Option (List ℕ) → Option (List ℕ) → Option (List ℕ)
     → Result (Unit {0}) CliFault → Type 0
-DoesTask task file taken after result =
+DoesTask task rows file taken after result =
     (rest : Option (List ℕ))
-    × ReadsFront (IsTextOf task) (IsLineOf task) file rest taken after result
+    × ReadsFront (ShowsTask rows task) (IsLineOf task) file rest taken after result
 
 -- these bytes are the first of a file, if its bytes are known: at most one more than the longest
 -- text has

@@ -9,7 +9,10 @@ const HELP_START: &str =
 
 // The end of the help.
 const HELP_END: &str =
-    "  help          Prints this text, or the help of a command\n\nOptions:\n  -h, --help     Print help\n  -V, --version  Print version\n\nExamples:\n  plan chart lft examples/house.sm\n  plan cpm examples/house.sm\n  plan days lft 2024-03-01 1111100 examples/house.sm\n  plan shop mwkr examples/shops.txt ft06\n  plan best 200000 examples/shops.txt ft06\n\nA command that fails prints one line that starts with a code; plan explain CODE prints the meaning\nand what to do. On a terminal a hint follows; PLAN_HINTS=0 turns it off, PLAN_HINTS=1 on.\n";
+    "  help          Prints this text, or the help of a command\n\nOptions:\n  -h, --help     Print help\n  -V, --version  Print version\n\nExamples:\n  plan import examples/house.csv\n  plan chart lft examples/house.sm\n  plan cpm examples/house.sm\n  plan days lft 2024-03-01 1111100 examples/house.sm\n  plan shop mwkr examples/shops.txt ft06\n  plan best 200000 examples/shops.txt ft06\n\nA command that fails prints one line that starts with a code; plan explain CODE prints the meaning\nand what to do. On a terminal a hint follows; PLAN_HINTS=0 turns it off, PLAN_HINTS=1 on.\n";
+
+// The names of the templates.
+const KINDS: &[&str] = &["project", "shop"];
 
 // The column in which the help describes a command.
 const ABOUT_COLUMN: usize = 14;
@@ -29,6 +32,8 @@ enum Form {
     Texts,
     /// A port.
     Port,
+    /// The kind of a template.
+    Kind,
     /// A number of connections, or none.
     Count,
     /// An option with a number of seconds.
@@ -50,7 +55,7 @@ impl Form {
     fn is_required(self) -> bool {
         matches!(
             self,
-            Form::Text | Form::Name | Form::Names | Form::Texts | Form::Port
+            Form::Text | Form::Name | Form::Names | Form::Texts | Form::Port | Form::Kind
         )
     }
 }
@@ -129,30 +134,56 @@ const NODES: Argument = Argument {
     help: "how many nodes the search may visit, 1 to 1000000000",
 };
 
+// The option of commands whose rows are those of activities.
+const NAMES: Argument = Argument {
+    name: "names",
+    form: Form::Flag,
+    help: "print the names of the activities of a project",
+};
+
 const DATABASE: Argument = Argument {
     name: "DB",
     form: Form::Name,
     help: "the SQLite database of the office",
 };
 
+const LIST_COMMANDS: [Entry; 2] = [
+    Entry {
+        name: "new",
+        about: "Prints a template of a list, a CSV table",
+        examples: "Examples:\n  plan new project\n  plan new shop",
+        arguments: &[Argument {
+            name: "KIND",
+            form: Form::Kind,
+            help: "what the list describes",
+        }],
+    },
+    Entry {
+        name: "import",
+        about: "Converts a list, a CSV table, to a project file",
+        examples: "Examples:\n  plan import examples/house.csv\n  plan chart lft --names examples/house.sm",
+        arguments: &[FILE],
+    },
+];
+
 const PROJECT_COMMANDS: [Entry; 4] = [
     Entry {
         name: "cpm",
         about: "Prints the critical-path dates of a project",
         examples: "Example:\n  plan cpm examples/house.sm",
-        arguments: &[FILE],
+        arguments: &[FILE, NAMES],
     },
     Entry {
         name: "schedule",
         about: "Prints a schedule of a project by a priority rule",
         examples: "Example:\n  plan schedule lft examples/house.sm",
-        arguments: &[PROJECT_RULE, FILE],
+        arguments: &[PROJECT_RULE, FILE, NAMES],
     },
     Entry {
         name: "best-project",
         about: "Searches for a shortest schedule of a project",
         examples: "Example:\n  plan best-project 200000 examples/house.sm",
-        arguments: &[BUDGET, FILE],
+        arguments: &[BUDGET, FILE, NAMES],
     },
     Entry {
         name: "check",
@@ -228,13 +259,14 @@ const SCHEDULE_COMMANDS: [Entry; 3] = [
                 form: Form::Capacity,
                 help: "capacity of a resource, for example R2=4, in place of that of the file; may be repeated",
             },
+            NAMES,
         ],
     },
     Entry {
         name: "chart",
         about: "Draws the schedule by a priority rule",
         examples: "Examples:\n  plan chart lft examples/house.sm\n  plan chart mwkr examples/shops.txt ft06",
-        arguments: &[RULE, FILE, INSTANCE_IF_SHOP],
+        arguments: &[RULE, FILE, INSTANCE_IF_SHOP, NAMES],
     },
     Entry {
         name: "days",
@@ -254,6 +286,7 @@ const SCHEDULE_COMMANDS: [Entry; 3] = [
             },
             FILE,
             INSTANCE_IF_SHOP,
+            NAMES,
         ],
     },
 ];
@@ -325,7 +358,11 @@ const HELP_COMMANDS: [Entry; 1] = [Entry {
     }],
 }];
 
-const GROUPS: [Group; 5] = [
+const GROUPS: [Group; 6] = [
+    Group {
+        heading: "Lists",
+        commands: &LIST_COMMANDS,
+    },
     Group {
         heading: "Projects",
         commands: &PROJECT_COMMANDS,
@@ -363,6 +400,7 @@ fn arg_of<'a>(alloc: Global, argument: &Argument) -> Result<Arg<'a>, AllocError>
     let arg = plain(alloc, argument);
     Ok(match argument.form {
         Form::Names | Form::Texts => arg.num_args(1..),
+        Form::Kind => arg.value_parser(KINDS),
         Form::Port => arg.value_parser(value_parser!(u16).range(1..=65535)),
         Form::Count => arg
             .value_parser(value_parser!(u32).range(1..=1000000))

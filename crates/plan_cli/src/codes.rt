@@ -22,6 +22,19 @@ pub(crate) enum Code {
     Cycle,
     NoInstance,
     BadMachine,
+    LongTable,
+    NoTableText,
+    NoDurations,
+    ColumnTwice,
+    BadDuration,
+    BadId,
+    IdTwice,
+    NoPredecessor,
+    BadNeed,
+    NoCapacity,
+    TableCycle,
+    TableLimit,
+    BadCells,
     NeedsTooMuch,
     UnknownRule,
     MachineClosed,
@@ -82,6 +95,19 @@ impl Code {
             "F12" => Some(Code::Cycle),
             "F13" => Some(Code::NoInstance),
             "F14" => Some(Code::BadMachine),
+            "T1" => Some(Code::LongTable),
+            "T2" => Some(Code::NoTableText),
+            "T3" => Some(Code::NoDurations),
+            "T4" => Some(Code::ColumnTwice),
+            "T5" => Some(Code::BadDuration),
+            "T6" => Some(Code::BadId),
+            "T7" => Some(Code::IdTwice),
+            "T8" => Some(Code::NoPredecessor),
+            "T9" => Some(Code::BadNeed),
+            "T10" => Some(Code::NoCapacity),
+            "T11" => Some(Code::TableCycle),
+            "T12" => Some(Code::TableLimit),
+            "T13" => Some(Code::BadCells),
             "S1" => Some(Code::NeedsTooMuch),
             "S3" => Some(Code::UnknownRule),
             "S4" => Some(Code::MachineClosed),
@@ -142,6 +168,19 @@ impl Code {
             Code::Cycle => "F12",
             Code::NoInstance => "F13",
             Code::BadMachine => "F14",
+            Code::LongTable => "T1",
+            Code::NoTableText => "T2",
+            Code::NoDurations => "T3",
+            Code::ColumnTwice => "T4",
+            Code::BadDuration => "T5",
+            Code::BadId => "T6",
+            Code::IdTwice => "T7",
+            Code::NoPredecessor => "T8",
+            Code::BadNeed => "T9",
+            Code::NoCapacity => "T10",
+            Code::TableCycle => "T11",
+            Code::TableLimit => "T12",
+            Code::BadCells => "T13",
             Code::NeedsTooMuch => "S1",
             Code::UnknownRule => "S3",
             Code::MachineClosed => "S4",
@@ -201,6 +240,19 @@ impl Code {
             Code::Cycle => "the activities form a cycle",
             Code::NoInstance => "no instance of this name",
             Code::BadMachine => "a machine number is too large",
+            Code::LongTable => "the table is too large",
+            Code::NoTableText => "the table isn't UTF-8 text",
+            Code::NoDurations => "no column has the durations",
+            Code::ColumnTwice => "two columns have the same header",
+            Code::BadDuration => "a duration isn't a number",
+            Code::BadId => "an id is empty or malformed",
+            Code::IdTwice => "two rows have the same id",
+            Code::NoPredecessor => "a predecessor is no row of the table",
+            Code::BadNeed => "a need isn't a number",
+            Code::NoCapacity => "a resource has no capacity",
+            Code::TableCycle => "the rows form a cycle",
+            Code::TableLimit => "the table exceeds a limit",
+            Code::BadCells => "a cell too many, or an open quote",
             Code::NeedsTooMuch => "a need exceeds the capacity",
             Code::UnknownRule => "no such priority rule",
             Code::MachineClosed => "a machine is closed",
@@ -294,6 +346,45 @@ impl Code {
             }
             Code::BadMachine => {
                 "F14 line N\nA machine number in line N is too large. Machines are numbered from 0 to one less than their count.\nCorrect the number.\n"
+            }
+            Code::LongTable => {
+                "T1 too long\nThe table, or the project file that it becomes, is larger than 1,048,576 bytes.\nDelete rows, or split the project.\n"
+            }
+            Code::NoTableText => {
+                "T2 not text line N\nLine N isn't UTF-8, or a name in it contains a control character.\nSave the table as CSV UTF-8, and delete line breaks in names.\n"
+            }
+            Code::NoDurations => {
+                "T3 no column duration\nNo column has the header duration; or the table is empty.\nAdd a header line with a column duration.\n"
+            }
+            Code::ColumnTwice => {
+                "T4 column NAME twice\nTwo columns have the same header.\nRename or delete one.\n"
+            }
+            Code::BadDuration => {
+                "T5 line N duration\nThe duration in line N isn't a number: one to nine digits, no sign, no fraction.\nCorrect the duration. For fractions use a finer time unit, for example hours.\n"
+            }
+            Code::BadId => {
+                "T6 line N id\nThe id in line N is empty, has more than 32 characters, or contains a blank, a comma or a semicolon.\nShorten the id, or replace its blanks.\n"
+            }
+            Code::IdTwice => {
+                "T7 line N id ID twice\nThe id in line N is the id of an earlier row.\nGive each row its own id.\n"
+            }
+            Code::NoPredecessor => {
+                "T8 line N predecessor ID\nA predecessor in line N is the id of no row.\nCorrect the predecessor, or add its row.\n"
+            }
+            Code::BadNeed => {
+                "T9 line N need RESOURCE\nThe need of this resource in line N, or its capacity, isn't a number: one to nine digits, no sign, no fraction.\nCorrect the cell. If the column isn't a resource, delete it or its header.\n"
+            }
+            Code::NoCapacity => {
+                "T10 no capacity RESOURCE\nThe resource has no capacity.\nAdd a row with the id capacity and the amounts. If the column isn't a resource, delete it or its header.\n"
+            }
+            Code::TableCycle => {
+                "T11 cycle A B ..\nThe rows with these ids form a cycle: each precedes the next, and the last precedes A.\nDelete one of these predecessors.\n"
+            }
+            Code::TableLimit => {
+                "T12 limit line N\nA limit is exceeded in line N: 500 rows, 16 resources, durations and amounts up to 10,000, all durations together up to 1,000,000, names up to 200 bytes.\nChoose a coarser time unit, or split the project.\n"
+            }
+            Code::BadCells => {
+                "T13 line N cells\nLine N has more cells than the header, or a quote that opens in line N isn't closed.\nDelete the extra cells, put quotes around a cell with a separator, or close the quote.\n"
             }
             Code::NeedsTooMuch => {
                 "S1 activity A resource R\nActivity A takes time and needs more of resource R than its capacity, so it can never start. A is the first such activity and R its first such resource.\nRaise the capacity, or lower the need.\n"

@@ -11,7 +11,7 @@ use crate::bytes::read_file;
 use crate::fault::CliFault;
 use crate::inputs::{Inputs, SystemInputs};
 use crate::runs::run_task;
-use crate::tasks::Task;
+use crate::tasks::{Rows, Task};
 use crate::watchers::{ProofWatcher, SolveWatcher, Unwatched};
 use plan_io::Sink;
 use std::alloc::Global;
@@ -24,12 +24,13 @@ pub fn run_on_named<I: Inputs, W: Sink, V: ProofWatcher + SolveWatcher>(
     alloc: Global,
     inputs: &I,
     task: Task<'_>,
+    rows: Rows,
     watcher: &mut V,
     path: &str,
     writer: &mut W,
 ) -> Result<(), CliFault>
     // The text of the task is written for the bytes of that file, or of standard input.
-    ensures does { DoesTask task.entry (bytes_behind I.Inputs inputs.now path.now)
+    ensures does { DoesTask task.entry rows (bytes_behind I.Inputs inputs.now path.now)
         (W.taken writer.old) (W.taken writer.new) result }
     ensures writes { W.calls writer.new ≤ W.calls writer.old + most_calls }
     // With any other error than that of the output, nothing is written.
@@ -39,10 +40,10 @@ pub fn run_on_named<I: Inputs, W: Sink, V: ProofWatcher + SolveWatcher>(
 {
     if path == "-" {
         let mut reader = inputs.standard();
-        return run_task(alloc, task, watcher, &mut reader, writer);
+        return run_task(alloc, task, rows, watcher, &mut reader, writer);
     }
     let mut reader = inputs.open(path)?;
-    run_task(alloc, task, watcher, &mut reader, writer)
+    run_task(alloc, task, rows, watcher, &mut reader, writer)
 }
 
 // Reads the file with this name, or standard input if the name is `-`: at most one byte more than
@@ -82,19 +83,28 @@ pub fn check_on_named<I: Inputs, W: Sink>(
 {
     let starts = read_named(alloc, inputs, starts_path)?;
     let task = Task::Check { starts: &starts };
-    run_on_named(alloc, inputs, task, &mut Unwatched, path, writer)
+    run_on_named(
+        alloc,
+        inputs,
+        task,
+        Rows::Plain,
+        &mut Unwatched,
+        path,
+        writer,
+    )
 }
 
 /// Calls [`run_on_named`] with the system's files and standard input.
 pub fn run_on_file<R: Files + Input + AllocGlobal, W: Sink, V: ProofWatcher + SolveWatcher>(
     rt: &R,
     task: Task<'_>,
+    rows: Rows,
     watcher: &mut V,
     path: &str,
     writer: &mut W,
 ) -> Result<(), CliFault>
     // The text of the task is written for the bytes that were read.
-    ensures does { DoesTask task.entry None (W.taken writer.old) (W.taken writer.new) result }
+    ensures does { DoesTask task.entry rows None (W.taken writer.old) (W.taken writer.new) result }
     ensures writes { W.calls writer.new ≤ W.calls writer.old + most_calls }
     // With any other error than that of the output, nothing is written.
     ensures quiet { IfErr result (λ e. (e ≡ CliFault.Output) ⊎ (writer.new ≡ writer.old)) }
@@ -105,6 +115,7 @@ pub fn run_on_file<R: Files + Input + AllocGlobal, W: Sink, V: ProofWatcher + So
         rt.alloc(),
         &SystemInputs::new(rt),
         task,
+        rows,
         watcher,
         path,
         writer,

@@ -1,7 +1,8 @@
 //! The orders that the arguments of the command line spell.
 
 use crate::capacities::Capacity;
-use crate::tasks::Task;
+use crate::tasks::{Rows, Task};
+use crate::templates::Template;
 use clap::ArgMatches;
 use plan_solve::MOST_CONFLICTS;
 use std::alloc::{AllocError, Global};
@@ -30,6 +31,8 @@ pub enum FileOrder<'a> {
         file: &'a str,
         starts: &'a str,
     },
+    /// A table to start from.
+    New(Template),
     /// The meaning of an error line, which is given as one argument or as several.
     Explain(&'a [&'a str]),
 }
@@ -52,7 +55,7 @@ impl<'a> FileOrder<'a> {
                 Some(shown_name(starts))
             }
             FileOrder::Check { file, .. } if line != "I1 file" => Some(shown_name(file)),
-            FileOrder::Check { .. } | FileOrder::Explain(_) => None,
+            FileOrder::Check { .. } | FileOrder::New(_) | FileOrder::Explain(_) => None,
         }
     }
 }
@@ -105,7 +108,7 @@ impl<'a> OfficeOrder<'a> {
 
 /// An order of the command line.
 pub enum Order<'a> {
-    File(FileOrder<'a>),
+    File(FileOrder<'a>, Rows),
     Office(OfficeOrder<'a>),
 }
 
@@ -138,6 +141,7 @@ fn days_task<'a>(arguments: &'a ArgMatches<'_>) -> Option<Task<'a>> {
 fn task_of<'a>(name: &str, arguments: &'a ArgMatches<'_>) -> Option<Task<'a>> {
     match name {
         "cpm" => Some(Task::Dates),
+        "import" => Some(Task::Import),
         "names" => Some(Task::Names),
         "chart" => chart_task(arguments),
         "days" => days_task(arguments),
@@ -258,6 +262,24 @@ fn solve_order<'a>(
     })
 }
 
+// Returns the template of `new`.
+fn template_of(arguments: &ArgMatches<'_>) -> Option<Template> {
+    match arguments.get_str("KIND")? {
+        "project" => Some(Template::Project),
+        "shop" => Some(Template::Shop),
+        _ => None,
+    }
+}
+
+// Returns the rows that a command prints: with names if it has the option `names` and it is given.
+fn rows_of(name: &str, arguments: &ArgMatches<'_>) -> Rows {
+    match name {
+        "cpm" | "schedule" | "best-project" | "solve" | "chart" | "days"
+            if arguments.get_flag("names") => { Rows::Named }
+        _ => Rows::Plain,
+    }
+}
+
 // Returns the order of any other command.
 fn file_order<'a>(
     name: &str,
@@ -265,6 +287,7 @@ fn file_order<'a>(
     capacities: &'a [Capacity<'a>],
 ) -> Option<FileOrder<'a>> {
     match name {
+        "new" => Some(FileOrder::New(template_of(arguments)?)),
         "explain" => Some(FileOrder::Explain(arguments.get_strs("CODE")?)),
         "prove" => proof_order(arguments),
         "solve" => solve_order(arguments, capacities),
@@ -287,6 +310,9 @@ pub fn order_of<'a>(
         "init" | "check-office" | "replay" | "serve" => Some(Order::Office(office_order(
             name, arguments,
         )?)),
-        _ => Some(Order::File(file_order(name, arguments, capacities)?)),
+        _ => Some(Order::File(
+            file_order(name, arguments, capacities)?,
+            rows_of(name, arguments),
+        )),
     }
 }

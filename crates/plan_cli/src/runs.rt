@@ -8,11 +8,11 @@ ghost use Rattle.plan_cli.specs.ScheduleRun.{IsScheduleTableOf, TellsWhyNoSchedu
 ghost use Rattle.plan_cli.specs.ShopRun.{IsShopTableOf, TellsWhyNoShop};
 ghost use Rattle.plan_cli.specs.BestRun.{IsBestTableOf, TellsWhyNoBest};
 ghost use Rattle.plan_cli.specs.BestProjectRun.{IsBestProjectTableOf, TellsWhyNoBestProject};
-ghost use Rattle.plan_cli.specs.Tasks.{IsTextOf, IsLineOf};
+ghost use Rattle.plan_cli.specs.Tasks.{IsLineOf, ShowsTask};
 
 use crate::bytes::{read_file, write_text};
 use crate::fault::CliFault;
-use crate::tasks::{Task, text_of};
+use crate::tasks::{Rows, Task, shown_text};
 use crate::watchers::{ProofWatcher, SolveWatcher, Unwatched};
 use plan_io::{Sink, Source};
 use std::alloc::Global;
@@ -21,6 +21,7 @@ use std::alloc::Global;
 fn answer<R: Source, W: Sink, V: ProofWatcher + SolveWatcher>(
     alloc: Global,
     task: Task<'_>,
+    rows: Rows,
     watcher: &mut V,
     reader: &mut R,
     writer: &mut W,
@@ -28,9 +29,9 @@ fn answer<R: Source, W: Sink, V: ProofWatcher + SolveWatcher>(
     ensures reads { R.calls reader.new ≤ R.calls reader.old + most_calls }
     ensures writes { W.calls writer.new ≤ W.calls writer.old + most_calls }
     ensures text { IfSome (R.remaining reader.old) (λ file.
-        Writes (IsTextOf task.entry file) (IsLineOf task.entry file)
+        Writes (ShowsTask rows task.entry file) (IsLineOf task.entry file)
         (W.taken writer.old) (W.taken writer.new) result) }
-    ensures front { ReadsFront (IsTextOf task.entry) (IsLineOf task.entry)
+    ensures front { ReadsFront (ShowsTask rows task.entry) (IsLineOf task.entry)
         (R.remaining reader.old) (R.remaining reader.new)
         (W.taken writer.old) (W.taken writer.new) result }
     ensures quiet { IfErr result (λ e. (e ≡ CliFault.Output) ⊎ (writer.new ≡ writer.old)) }
@@ -43,7 +44,7 @@ fn answer<R: Source, W: Sink, V: ProofWatcher + SolveWatcher>(
     ensures output { IsErrOf result CliFault.Output → HasSinkFailed W.Sink writer.old writer.new }
 {
     let file = read_file(alloc, reader)?;
-    let text = text_of(alloc, task, &file, watcher)?;
+    let text = shown_text(alloc, task, rows, &file, watcher)?;
     write_text(writer, &text)
 }
 
@@ -56,14 +57,15 @@ fn answer<R: Source, W: Sink, V: ProofWatcher + SolveWatcher>(
 pub fn run_task<R: Source, W: Sink, V: ProofWatcher + SolveWatcher>(
     alloc: Global,
     task: Task<'_>,
+    rows: Rows,
     watcher: &mut V,
     reader: &mut R,
     writer: &mut W,
 ) -> Result<(), CliFault>
-    ensures { Runs R.Source W.Sink (IsTextOf task.entry) (IsLineOf task.entry)
+    ensures { Runs R.Source W.Sink (ShowsTask rows task.entry) (IsLineOf task.entry)
         reader.old reader.new writer.old writer.new result }
 {
-    answer(alloc, task, watcher, reader, writer)
+    answer(alloc, task, rows, watcher, reader, writer)
 }
 
 /// Runs [`Task::Dates`].
@@ -75,7 +77,14 @@ pub fn cpm_run<R: Source, W: Sink>(
     ensures { Runs R.Source W.Sink IsDateTableOf TellsFirstFailing
         reader.old reader.new writer.old writer.new result }
 {
-    run_task(alloc, Task::Dates, &mut Unwatched, reader, writer)
+    run_task(
+        alloc,
+        Task::Dates,
+        Rows::Plain,
+        &mut Unwatched,
+        reader,
+        writer,
+    )
 }
 
 /// Runs [`Task::Schedule`].
@@ -91,6 +100,7 @@ pub fn schedule_run<R: Source, W: Sink>(
     run_task(
         alloc,
         Task::Schedule { rule },
+        Rows::Plain,
         &mut Unwatched,
         reader,
         writer,
@@ -112,6 +122,7 @@ pub fn shop_run<R: Source, W: Sink>(
     run_task(
         alloc,
         Task::Shop { rule, instance },
+        Rows::Plain,
         &mut Unwatched,
         reader,
         writer,
@@ -133,6 +144,7 @@ pub fn best_run<R: Source, W: Sink>(
     run_task(
         alloc,
         Task::Best { budget, instance },
+        Rows::Plain,
         &mut Unwatched,
         reader,
         writer,
@@ -153,6 +165,7 @@ pub fn best_project_run<R: Source, W: Sink>(
     run_task(
         alloc,
         Task::BestProject { budget },
+        Rows::Plain,
         &mut Unwatched,
         reader,
         writer,

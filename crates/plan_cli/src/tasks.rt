@@ -1,21 +1,25 @@
 //! The tasks on a file, and the texts that they write.
 
-ghost use Rattle.std.specs.Prelude.{IfOk, IfErr};
+ghost use Rattle.std.specs.Prelude.{◌≡◌, map, IfOk, IfErr};
+ghost use Rattle.plan_table.specs.Names.{name_of};
 ghost use Rattle.plan_cli.specs.Run.{Refuses};
-ghost use Rattle.plan_cli.specs.Tasks.{IsTextOf, IsLineOf};
+ghost use Rattle.plan_cli.specs.Tasks.{IsTextOf, IsLineOf, ShowsTask, names_for};
 
 use crate::capacities::Capacity;
 use crate::charts::{chart_text, shop_chart_text};
 use crate::days::{days_text, shop_days_text};
 use crate::fault::CliFault;
+use crate::imports::import_text;
 use crate::names::names_text;
 use crate::proof::proof_text;
+use crate::row_names::with_names;
 use crate::solutions::{project_best_text, shop_best_text};
 use crate::solver::{shop_solution_text, solution_text};
 use crate::tables::{date_text, schedule_text, shop_text};
 use crate::verdicts::check_text;
 use crate::watchers::{ProofWatcher, SolveWatcher};
-use std::alloc::Global;
+use plan_table::{NameLine, activity_names};
+use std::alloc::{AllocError, Global};
 
 /// A text to print for a project file or for an instance in a job shop file.
 ///
@@ -109,11 +113,22 @@ pub enum Task<'a> {
         conflicts: u64,
         instance: &'a str,
     },
+    /// The project file of a planner's list, a CSV table of activities with names. Errors: `T1` to
+    /// `T13`.
+    Import,
 }
 
-/// Returns the text of a task for a file. The watcher is called during a search of `prove` or
-/// `solve`.
-pub(crate) fn text_of<V: ProofWatcher + SolveWatcher>(
+/// The rows of a text.
+#[derive(Clone, Copy, Debug, PartialEq, Eq)]
+pub enum Rows {
+    /// Without names.
+    Plain,
+    /// With the names of activities that the file contains.
+    Named,
+}
+
+// Returns the text of a task for a file, without names.
+fn text_of<V: ProofWatcher + SolveWatcher>(
     alloc: Global,
     task: Task<'_>,
     file: &[u8],
@@ -156,5 +171,58 @@ pub(crate) fn text_of<V: ProofWatcher + SolveWatcher>(
             alloc, nodes, instance, file, watcher,
         )?.into_bytes()),
         Task::Names => names_text(alloc, file),
+        Task::Import => Ok(import_text(alloc, file)?.into_bytes()),
+    }
+}
+
+// Returns the names for the rows of a task.
+fn names_for<'a>(
+    alloc: Global,
+    task: Task<'_>,
+    file: &'a [u8],
+) -> Result<Vec<NameLine<'a>>, AllocError>
+    ensures { IfOk result (λ names. map name_of names.items ≡ names_for task.entry file.now) }
+{
+    match task {
+        Task::Dates
+        | Task::Schedule { .. }
+        | Task::Chart { .. }
+        | Task::Days { .. }
+        | Task::BestProject { .. }
+        | Task::Solve { .. } => activity_names(alloc, file),
+        _ => Ok(Vec::new(alloc)),
+    }
+}
+
+// Returns the text of a task for a file, with names.
+fn named_text<V: ProofWatcher + SolveWatcher>(
+    alloc: Global,
+    task: Task<'_>,
+    file: &[u8],
+    watcher: &mut V,
+) -> Result<Vec<u8>, CliFault>
+    ensures made { IfOk result (λ text. ShowsTask Rows.Named task.entry file.now text.items) }
+    ensures refused { IfErr result (Refuses (IsLineOf task.entry file.now)) }
+{
+    let text = text_of(alloc, task, file, watcher)?;
+    let names = names_for(alloc, task, file)?;
+    Ok(with_names(alloc, &names, &text)?)
+}
+
+/// Returns the text of a task for a file, without names or with them. The watcher is called during
+/// a search of `prove` or `solve`.
+pub(crate) fn shown_text<V: ProofWatcher + SolveWatcher>(
+    alloc: Global,
+    task: Task<'_>,
+    rows: Rows,
+    file: &[u8],
+    watcher: &mut V,
+) -> Result<Vec<u8>, CliFault>
+    ensures made { IfOk result (λ text. ShowsTask rows task.entry file.now text.items) }
+    ensures refused { IfErr result (Refuses (IsLineOf task.entry file.now)) }
+{
+    match rows {
+        Rows::Plain => text_of(alloc, task, file, watcher),
+        Rows::Named => named_text(alloc, task, file, watcher),
     }
 }

@@ -8,7 +8,7 @@ pub returns-then-eq-clause-does : goal.returns-then-eq-clause-does
 returns-then-eq-clause-does g c =
     let standard = g.I.Inputs.standard_bytes c.args.inputs.now in
     let file_of = g.I.Inputs.file_bytes c.args.inputs.now in
-    task_named c.args.task standard (bytes_named standard file_of c.args.path.now) _ _ (g.W.Sink.taken c.args.writer.now) (g.W.Sink.taken c.run_task.new.writer) c.run_task.result
+    task_named c.args.task c.args.rows standard (bytes_named standard file_of c.args.path.now) _ _ (g.W.Sink.taken c.args.writer.now) (g.W.Sink.taken c.run_task.new.writer) c.run_task.result
     (named_standard standard file_of c.args.path.now (sym c.if-eq.ensures)) c.standard-reader.ensures c.run_task.ensures.front
 
 pub returns-clause-does : goal.returns-clause-does
@@ -16,7 +16,7 @@ returns-clause-does g c =
     let standard = g.I.Inputs.standard_bytes c.args.inputs.now in
     let file_of = g.I.Inputs.file_bytes c.args.inputs.now in
     let named = bytes_named standard file_of c.args.path.now in
-    task_named c.args.task (file_of c.args.path.now) named _ _ (g.W.Sink.taken c.args.writer.now) (g.W.Sink.taken c.run_task-2.new.writer) c.run_task-2.result
+    task_named c.args.task c.args.rows (file_of c.args.path.now) named _ _ (g.W.Sink.taken c.args.writer.now) (g.W.Sink.taken c.run_task-2.new.writer) c.run_task-2.result
     (named_file standard file_of c.args.path.now (sym c.if-eq.ensures)) c.in_ok-reader.ensures.opened c.run_task-2.ensures.front
 
 pub returns-in_err-reader-clause-does : goal.returns-in_err-reader-clause-does
@@ -24,7 +24,7 @@ returns-in_err-reader-clause-does g c =
     let standard = g.I.Inputs.standard_bytes c.args.inputs.now in
     let file_of = g.I.Inputs.file_bytes c.args.inputs.now in
     let error = err_from_is_err_and c.from_residual.result c.from_residual.ensures.1 in
-    rw (error.1, error.2) (task_unopened c.args.task (bytes_named standard file_of c.args.path.now) (g.W.Sink.taken c.args.writer.now) c.in_err-reader.field-0.0 c.in_err-reader.ensures.refused)
+    rw (error.1, error.2) (task_unopened c.args.task c.args.rows (bytes_named standard file_of c.args.path.now) (g.W.Sink.taken c.args.writer.now) c.in_err-reader.field-0.0 c.in_err-reader.ensures.refused)
 
 pub returns-then-eq-clause-writes : goal.returns-then-eq-clause-writes
 returns-then-eq-clause-writes g c = c.run_task.ensures.writes

@@ -1,0 +1,31 @@
+-- The errors of a table as lines of text (docs/definitions.md, "Runs").
+use Rattle.std.specs.Prelude.{ℕ, List, ◌++◌, codes}
+use Rattle.std.specs.Fmt.{decimal}
+use Rattle.std.specs.Str.Lossy.{utf8_lossy}
+use Rattle.plan_table.specs.declared.fault.TableCode.{TableCode}
+use Rattle.plan_table.specs.declared.fault.TableCode.TheVariants as code
+use Rattle.plan_table.specs.Reading.{Fault}
+
+-- words, the number of a line, and words behind it
+abbrev pub lined : List ℕ → ℕ → List ℕ → List ℕ
+lined before line behind = before ++ decimal line ++ behind
+
+-- the line of an error with this code, line and word, without its end
+abbrev pub line_by : TableCode → ℕ → List ℕ → List ℕ
+line_by code.TooLong line word = codes "T1 too long"
+line_by code.NotText line word = codes "T2 not text line " ++ decimal line
+line_by code.NoDuration line word = codes "T3 no column duration"
+line_by code.ColumnTwice line word = codes "T4 column " ++ word ++ codes " twice"
+line_by code.BadDuration line word = lined (codes "T5 line ") line (codes " duration")
+line_by code.BadId line word = lined (codes "T6 line ") line (codes " id")
+line_by code.IdTwice line word = lined (codes "T7 line ") line (codes " id " ++ word ++ codes " twice")
+line_by code.NoSuchId line word = lined (codes "T8 line ") line (codes " predecessor " ++ word)
+line_by code.BadNeed line word = lined (codes "T9 line ") line (codes " need " ++ word)
+line_by code.NoCapacity line word = codes "T10 no capacity " ++ word
+line_by code.Cycle line word = codes "T11 cycle" ++ word
+line_by code.Limit line word = codes "T12 limit line " ++ decimal line
+line_by code.Cells line word = lined (codes "T13 line ") line (codes " cells")
+
+-- the line of an error; a byte of its word that isn't UTF-8 becomes the replacement character
+abbrev pub fault_text_of : Fault → List ℕ
+fault_text_of f = line_by f.code f.line (utf8_lossy f.word)
