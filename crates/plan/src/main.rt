@@ -7,8 +7,8 @@ use self::progress::ProgressLine;
 use clap::Error;
 use clap::error::ErrorKind;
 use plan_cli::{
-    CliFault, FileOrder, OfficeOrder, Order, Rows, Unwatched, capacities_of, check_on_files, command,
-    explain_run, help, hint, order_of, run_on_file, template_run,
+    CliFault, FileOrder, OfficeOrder, Order, Rows, Unwatched, capacities_of, check_on_files,
+    command, explain_run, help, hint, order_of, run_on_file, template_run,
 };
 use plan_io::StdSink;
 use plan_serve::{

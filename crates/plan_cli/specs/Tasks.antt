@@ -72,7 +72,7 @@ names_for (task.Schedule rule) file = names_behind activity_key file
 names_for (task.Chart rule) file = names_behind activity_key file
 names_for (task.Days rule start marks) file = names_behind activity_key file
 names_for (task.BestProject budget) file = names_behind activity_key file
-names_for (task.Solve conflicts) file = names_behind activity_key file
+names_for (task.Solve conflicts capacities) file = names_behind activity_key file
 names_for _ file = []
 
 -- a text is the text of a task for a file, each row with its name
