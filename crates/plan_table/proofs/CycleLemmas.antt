@@ -6,8 +6,9 @@ use Rattle.plan_table.specs.declared.fault.ReadError.{ReadError}
 use Rattle.plan_table.specs.declared.fault.ReadError.TheVariants as errors
 use Rattle.plan_table.specs.Reading.{Fails}
 use Rattle.plan_table.specs.Table.{activity_of}
-use Rattle.plan_table.specs.Listing.{table_read}
-use Rattle.plan_table.specs.Refused.{id_from, IsRefused}
+use Rattle.plan_table.specs.Listing.{table_read_with}
+use Rattle.plan_table.specs.Overrides.{Override}
+use Rattle.plan_table.specs.Refused.{id_from, IsRefusedWith}
 
 -- the id of the activity at a place
 pub id_there : (xs : List declared.Activity) (k : ℕ) (a : declared.Activity) → k < length xs → a ≡ get_or xs k a → id_from (map activity_of xs) k ≡ string_bytes a.id
@@ -21,6 +22,6 @@ no_id (x ∷ xs) zero past = absurd (omega (arith, past))
 no_id (x ∷ xs) (suc k) past = no_id xs k (omega (arith, past))
 
 -- a text that fails a check is refused for it
-pub refused_first : (text : List ℕ) (e : ReadError) → Fails e (table_read text) → IsRefused text e
-refused_first text errors.Memory h = tt
-refused_first text (errors.Fault f) h = inl h
+pub refused_first : (overrides : List Override) (text : List ℕ) (e : ReadError) → Fails e (table_read_with overrides text) → IsRefusedWith overrides text e
+refused_first overrides text errors.Memory h = tt
+refused_first overrides text (errors.Fault f) h = inl h

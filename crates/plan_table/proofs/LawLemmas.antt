@@ -41,15 +41,15 @@ request_head_first : (capacities : List ℕ) → (ys : List ℕ) × (trim (reque
 request_head_first capacities = trim_first 106 (codes "obnr. mode duration" ++ resource_heads capacities) refl
 
 -- the heads of the columns of the availabilities
-record IsHead (text : List ℕ) : Type 0 where
-  kept : is_kept (trim text) ≡ true
-  title : is_title (trim text) ≡ false
+pub record IsHead (text : List ℕ) : Type 0 where
+  pub kept : is_kept (trim text) ≡ true
+  pub title : is_title (trim text) ≡ false
 
 head_by_end : (o : List ℕ) → (is_kept (before_trimmed 82 (before_trimmed 32 o)) ≡ true) × (is_title (before_trimmed 82 (before_trimmed 32 o)) ≡ false)
 head_by_end [] = (refl, refl)
 head_by_end (c ∷ cs) = (refl, refl)
 
-resource_heads_are : (capacities : List ℕ) → 1 ≤ length capacities → IsHead (resource_heads capacities)
+pub resource_heads_are : (capacities : List ℕ) → 1 ≤ length capacities → IsHead (resource_heads capacities)
 resource_heads_are [] some = absurd (omega (arith, some))
 resource_heads_are (c ∷ cs) some =
     let both = head_by_end (trim_end (decimal 1 ++ numbered (λ i _. resource_head i) 2 cs)) in
@@ -71,13 +71,13 @@ rows_rule_numbers : {A : Type 0} (row gives : ℕ → A → List ℕ) (n : ℕ) 
     flat_map numbers_in (row_lines row n xs ++ rule ∷ []) ≡ map Some (numbered gives n xs)
 rows_rule_numbers row gives n xs rows = rows_numbers row gives n xs (rule ∷ []) rows ∙ append-nil (map Some (numbered gives n xs))
 
-precedence_none : (title : List ℕ) → ((text : List ℕ) → is_title text ≡ false → begins_with text title ≡ false) → begins_with rule title ≡ false →
+pub precedence_none : (title : List ℕ) → ((text : List ℕ) → is_title text ≡ false → begins_with text title ≡ false) → begins_with rule title ≡ false →
     begins_with (codes "PRECEDENCE RELATIONS:") title ≡ false → begins_with (codes "jobnr.    #modes  #successors   successors") title ≡ false →
     (jobs : List Job) → AreRows precedence_row precedence_gives 1 jobs → none_begins title (precedence_lines jobs) ≡ true
 precedence_none title none rule_none a b jobs rows =
     and_from _ _ (not_from_false _ a) (and_from _ _ (not_from_false _ b) (rows_rule_none title none rule_none precedence_row precedence_gives 1 jobs rows))
 
-requests_none : (jobs : List Job) (capacities : List ℕ) → AreRows request_row request_gives 1 jobs → none_begins availabilities_title (request_lines jobs capacities) ≡ true
+pub requests_none : (jobs : List Job) (capacities : List ℕ) → AreRows request_row request_gives 1 jobs → none_begins availabilities_title (request_lines jobs capacities) ≡ true
 requests_none jobs capacities rows =
     let head = request_head_first capacities in
     let a : begins_with (trim (request_head capacities)) availabilities_title ≡ false = ap (λ t. begins_with t availabilities_title) head.1 in

@@ -16,3 +16,11 @@ pub mod ReadLemmas
 pub mod LimitLemmas
 pub mod TableLimitLemmas
 pub mod CycleLemmas
+pub mod TrimLemmas
+pub mod NameLemmas
+pub mod ShopLimitLemmas
+pub mod ShopJobLemmas
+pub mod ShopTextLemmas
+pub mod NameLineLemmas
+pub mod ShopWriteLemmas
+pub mod ShopReadLemmas

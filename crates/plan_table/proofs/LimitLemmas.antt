@@ -1,8 +1,8 @@
 -- What is read of a table is within the limits.
-use Rattle.std.proofs.Common.{◌≡◌, ℕ, ◌+◌, ◌≤◌, ◌<◌, ◌==◌, Bool, true, false, List, [], ◌∷◌, ◌++◌, Option, Some, None, Result, Ok, Err, length, refl, ap, ◌∙◌, subst, arith, cond}
+use Rattle.std.proofs.Common.{◌≡◌, ℕ, ◌+◌, ◌≤◌, ◌<◌, ◌==◌, Bool, true, false, List, [], ◌∷◌, ◌++◌, Option, Some, None, Result, Ok, Err, length, map, refl, ap, ◌∙◌, subst, arith, cond}
 use Rattle.std.specs.Prelude.{nat_le}
 use Rattle.std.specs.List.{AllByRecursion, list_all}
-use Rattle.std.specs.Str.Lossy.{utf8_lossy}
+use Rattle.std.specs.Str.{is_utf8}
 use Rattle.std.proofs.lemmas.Bool.{leb-true}
 use Rattle.std.proofs.lemmas.List.Sums.{sum_by-cons, sum_by_push}
 use Rattle.plan_psplib.specs.Numbers.{number}
@@ -17,6 +17,8 @@ use Rattle.plan_table.specs.Header.{Head, resource_count, resources_in, head_rea
 use Rattle.plan_table.specs.Rows.{need, cell_read, row_read, activity_read, fresh_activity, id_read, first_cell}
 use Rattle.plan_table.specs.Table.{Activity}
 use Rattle.plan_psplib.specs.Lines.{trim}
+use Rattle.std.specs.Char.{to_ascii_lowercase}
+use Rattle.plan_table.proofs.TrimLemmas.{trim_trim}
 use Rattle.std.specs.Prelude.{drop}
 
 -- ---- reading in steps
@@ -96,15 +98,25 @@ need_small line resource cell n e = by_test (length cell == 0) e
     by_test true e = let is : 0 ≡ n = same_ok 0 n e in omega (arith, is)
     by_test false e = amount_small code.BadNeed line resource cell n e
 
-name_good : (line : ℕ) (cell text : List ℕ) → name line cell ≡ Ok text → IsName text
+pub name_good : (line : ℕ) (cell text : List ℕ) → name line cell ≡ Ok text → trim cell ≡ cell → IsName text
 unfolding name
-name_good line cell text e =
-    then_ok (check (nat_le (length (utf8_lossy cell)) 200) code.Limit line) _ text e (λ u short e.
-    then_ok (check (list_all (λ byte. nat_le 32 byte) (utf8_lossy cell)) code.NotText line) _ text e (λ v plain e.
-    subst IsName (same_ok (utf8_lossy cell) text e) (record {
-      short = leb-true (length (utf8_lossy cell)) 200 (check_ok _ code.Limit line u short);
+name_good line cell text e trimmed =
+    then_ok (check (nat_le (length cell) 200) code.Limit line) _ text e (λ u short e.
+    then_ok (check (list_all (λ byte. nat_le 32 byte) cell) code.NotText line) _ text e (λ v plain e.
+    then_ok (check (is_utf8 cell) code.NotText line) _ text e (λ w utf8 e.
+    subst IsName (same_ok cell text e) (record {
+      short = leb-true (length cell) 200 (check_ok _ code.Limit line u short);
+      trimmed = trimmed;
       plain = check_ok _ code.NotText line v plain;
-    })))
+    }))))
+
+-- a name is the text of its cell
+pub name_is : (line : ℕ) (cell text : List ℕ) → name line cell ≡ Ok text → cell ≡ text
+unfolding name
+name_is line cell text e =
+    then_ok (check (nat_le (length cell) 200) code.Limit line) _ text e (λ u short e.
+    then_ok (check (list_all (λ byte. nat_le 32 byte) cell) code.NotText line) _ text e (λ v plain e.
+    then_ok (check (is_utf8 cell) code.NotText line) _ text e (λ w utf8 e. same_ok cell text e)))
 
 -- ---- activities
 
@@ -126,9 +138,9 @@ more_columns m c d a same_count draft = record {
 }
 
 cell_draft : (ids before : List (List ℕ)) (line c : ℕ) (a b : Activity) (column : Column) (resource cell : List ℕ) →
-    cell_read ids before line a column resource cell ≡ Ok b → IsDraft (length ids) c a → IsDraft (length ids) (c + resource_count column) b
+    cell_read ids before line a column resource cell ≡ Ok b → trim cell ≡ cell → IsDraft (length ids) c a → IsDraft (length ids) (c + resource_count column) b
 unfolding cell_read
-cell_draft ids before line c a b columns.Duration resource cell e draft =
+cell_draft ids before line c a b columns.Duration resource cell e trimmed draft =
     then_ok (amount code.BadDuration line [] cell) _ b e (λ n is e.
     subst (λ (x : Activity). IsDraft (length ids) (c + 0) x) (same_ok (record a { duration = n }) b e)
     (record {
@@ -138,20 +150,20 @@ cell_draft ids before line c a b columns.Duration resource cell e draft =
       whole = let w = draft.whole in omega (arith, w);
       needs = draft.needs;
     }))
-cell_draft ids before line c a b columns.Id resource cell e draft =
+cell_draft ids before line c a b columns.Id resource cell e trimmed draft =
     then_ok (id_read before line cell) _ b e (λ u is e.
     subst (λ (x : Activity). IsDraft (length ids) (c + 0) x) (same_ok a b e) (more_columns (length ids) c (c + 0) a (omega arith) draft))
-cell_draft ids before line c a b columns.Name resource cell e draft =
+cell_draft ids before line c a b columns.Name resource cell e trimmed draft =
     then_ok (name line cell) _ b e (λ text is e.
     subst (λ (x : Activity). IsDraft (length ids) (c + 0) x) (same_ok (record a { name = text }) b e)
     (record {
-      name = name_good line cell text is;
+      name = name_good line cell text is trimmed;
       duration = draft.duration;
       predecessors = draft.predecessors;
       whole = let w = draft.whole in omega (arith, w);
       needs = draft.needs;
     }))
-cell_draft ids before line c a b columns.Predecessors resource cell e draft =
+cell_draft ids before line c a b columns.Predecessors resource cell e trimmed draft =
     then_ok (predecessors_at ids line [] (ids_in cell)) _ b e (λ js is e.
     subst (λ (x : Activity). IsDraft (length ids) (c + 0) x) (same_ok (record a { predecessors = a.predecessors ++ js }) b e)
     (record {
@@ -161,7 +173,7 @@ cell_draft ids before line c a b columns.Predecessors resource cell e draft =
       whole = let w = draft.whole in omega (arith, w);
       needs = draft.needs;
     }))
-cell_draft ids before line c a b columns.Resource resource cell e draft =
+cell_draft ids before line c a b columns.Resource resource cell e trimmed draft =
     then_ok (need line resource cell) _ b e (λ n is e.
     subst (λ (x : Activity). IsDraft (length ids) (c + 1) x) (same_ok (record a { needs = a.needs ++ n ∷ [] }) b e)
     (record {
@@ -171,7 +183,7 @@ cell_draft ids before line c a b columns.Resource resource cell e draft =
       whole = push_length a.needs n ∙ ap (λ k. k + 1) draft.whole;
       needs = all_push (λ amount. amount ≤ 10000) a.needs n draft.needs (need_small line resource cell n is);
     }))
-cell_draft ids before line c a b columns.Nothing resource cell e draft =
+cell_draft ids before line c a b columns.Nothing resource cell e trimmed draft =
     subst (λ (x : Activity). IsDraft (length ids) (c + 0) x) (same_ok a b e) (more_columns (length ids) c (c + 0) a (omega arith) draft)
 
 row_draft : (ids before : List (List ℕ)) (line c : ℕ) (a b : Activity) (heads : List Head) (cells : List (List ℕ)) →
@@ -181,7 +193,7 @@ row_draft ids before line c a b [] cells e draft =
     subst (λ (x : Activity). IsDraft (length ids) (c + 0) x) (same_ok a b e) (more_columns (length ids) c (c + 0) a (omega arith) draft)
 row_draft ids before line c a b (head ∷ heads) cells e draft =
     then_ok (cell_read ids before line a head.column head.name (trim (first_cell cells))) _ b e (λ x is e.
-    let one = cell_draft ids before line c a x head.column head.name (trim (first_cell cells)) is draft in
+    let one = cell_draft ids before line c a x head.column head.name (trim (first_cell cells)) is (trim_trim (first_cell cells)) draft in
     let rest = row_draft ids before line (c + resource_count head.column) x b heads (drop 1 cells) e one in
     let sums = sum_by-cons (λ (h : Head). resource_count h.column) head heads in
     more_columns (length ids) (c + resource_count head.column + resources_in heads) (c + resources_in (head ∷ heads)) b (omega (arith, sums)) rest)
@@ -192,25 +204,40 @@ unfolding activity_read
 activity_draft ids before line id heads cells b e =
     then_ok (row_read ids before line (fresh_activity id) heads cells) _ b e (λ x is e.
     then_ok (check (nat_le (length cells) (length heads)) code.Cells line) _ b e (λ u whole e.
-    let none : IsDraft (length ids) 0 (fresh_activity id) = record { name = record { short = omega arith; plain = refl }; duration = omega arith; predecessors = tt; whole = refl; needs = tt } in
+    let none : IsDraft (length ids) 0 (fresh_activity id) = record { name = record { short = omega arith; trimmed = refl; plain = refl }; duration = omega arith; predecessors = tt; whole = refl; needs = tt } in
     let draft = row_draft ids before line 0 (fresh_activity id) x heads cells is none in
     subst (λ (y : Activity). IsDraft (length ids) (resources_in heads) y) (same_ok x b e) (more_columns (length ids) (0 + resources_in heads) (resources_in heads) x (omega arith) draft)))
 
 -- ---- the header
 
+-- the header of a column; that of a resource isn't empty
+pub record IsHeader (h : Head) : Type 0 where
+  pub name : IsName h.name
+  pub named : h.column ≡ columns.Resource → 0 < length h.name
+
 pub record AreHeads (heads : List Head) : Type 0 where
   pub few : resources_in heads ≤ 16
-  pub names : AllByRecursion (λ (h : Head). IsName h.name) heads
+  pub names : AllByRecursion IsHeader heads
 
-head_good : (line : ℕ) (before : List Head) (cell : List ℕ) (h : Head) → head_read line before cell ≡ Ok h → (resources_in before + resource_count h.column ≤ 16) × IsName h.name
+-- an empty header is no resource
+resource_named : (text : List ℕ) → column_of (map to_ascii_lowercase text) ≡ columns.Resource → 0 < length text
+resource_named [] e = absurd (cc)
+resource_named (b ∷ bs) e = omega arith
+
+head_good : (line : ℕ) (before : List Head) (cell : List ℕ) (h : Head) → head_read line before cell ≡ Ok h → (resources_in before + resource_count h.column ≤ 16) × IsHeader h
 unfolding head_read
 head_good line before cell h e =
     then_ok (once before cell) _ h e (λ u new e.
     then_ok (check (nat_le (resources_in before + resource_count (column_of (key_of cell))) 16) code.Limit line) _ h e (λ v room e.
     then_ok (name line (trim cell)) _ h e (λ text is e.
-    subst (λ (x : Head). (resources_in before + resource_count x.column ≤ 16) × IsName x.name)
-    (same_ok (record { column = column_of (key_of cell); key = key_of cell; name = text }) h e)
-    (leb-true (resources_in before + resource_count (column_of (key_of cell))) 16 (check_ok _ code.Limit line v room), name_good line (trim cell) text is))))
+    subst (λ (x : Head). (resources_in before + resource_count x.column ≤ 16) × IsHeader x)
+    (same_ok (record { column = column_of (key_of cell); key = key_of cell; name = text }) h e) (
+      leb-true (resources_in before + resource_count (column_of (key_of cell))) 16 (check_ok _ code.Limit line v room),
+      record {
+        name = name_good line (trim cell) text is (trim_trim cell);
+        named = λ resource. subst (λ (t : List ℕ). 0 < length t) (name_is line (trim cell) text is) (resource_named (trim cell) resource);
+      },
+    ))))
 
 heads_good : (line : ℕ) (before : List Head) (cells : List (List ℕ)) (heads : List Head) → heads_at line before cells ≡ Ok heads → AreHeads before → AreHeads heads
 unfolding heads_at
@@ -221,7 +248,7 @@ heads_good line before (cell ∷ cells) heads e good =
     let sums = sum_by_push (λ (x : Head). resource_count x.column) before h in
     heads_good line (before ++ h ∷ []) cells heads e (record {
       few = omega (arith, sums, one.0);
-      names = all_push (λ (x : Head). IsName x.name) before h good.names one.1;
+      names = all_push IsHeader before h good.names one.1;
     }))
 
 pub header_good : (line : ℕ) (cells : List (List ℕ)) (heads : List Head) → header line cells ≡ Ok heads → AreHeads heads

@@ -92,7 +92,7 @@ words-spaces zero text = refl
 words-spaces (suc g) text = words-blank 32 (replicate g 32 ++ text) refl ∙ words-spaces g text
 
 -- a word, and then a blank or the end
-word_then : (c : ℕ) (cs rest : List ℕ) → IsWord (c ∷ cs) → StartsBlank rest → words ((c ∷ cs) ++ rest) ≡ (c ∷ cs) ∷ words rest
+pub word_then : (c : ℕ) (cs rest : List ℕ) → IsWord (c ∷ cs) → StartsBlank rest → words ((c ∷ cs) ++ rest) ≡ (c ∷ cs) ∷ words rest
 word_then c cs [] word starts =
     ap words (append-nil (c ∷ cs)) ∙ ap (filter is_nonempty) (slice_split_none is_blank (c ∷ cs) (no_blanks (c ∷ cs) word))
 word_then c cs (b ∷ bs) word starts =
@@ -122,7 +122,7 @@ trim_start-spaces (suc g) text = trim_start-spaces g text
 inside_first : (c : ℕ) (cs : List ℕ) → IsWord (c ∷ cs) → is_blank c ≡ false
 inside_first c cs word = not-true (is_blank c) (and_parts (is_inside c) (list_all is_inside cs) word).0
 
-trim_start-word : (c : ℕ) (cs rest : List ℕ) → IsWord (c ∷ cs) → trim_start ((c ∷ cs) ++ rest) ≡ (c ∷ cs) ++ rest
+pub trim_start-word : (c : ℕ) (cs rest : List ℕ) → IsWord (c ∷ cs) → trim_start ((c ∷ cs) ++ rest) ≡ (c ∷ cs) ++ rest
 trim_start-word c cs rest word = ap (λ b. cond b (trim_start (cs ++ rest)) (c ∷ cs ++ rest)) (inside_first c cs word)
 
 pub trim_start-column : (places n : ℕ) (rest : List ℕ) → n < 1000000000 → trim_start (number_column places n ++ rest) ≡ decimal n ++ rest

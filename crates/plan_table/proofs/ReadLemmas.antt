@@ -1,5 +1,5 @@
 -- Reading in two steps.
-use Rattle.std.proofs.Common.{◌≡◌, ℕ, ◌≤◌, List, [], Vec, Result, Ok, length, map, drop, take, true, false, sym, ap, ◌∙◌}
+use Rattle.std.proofs.Common.{◌≡◌, ℕ, ◌≤◌, List, [], Vec, Result, Ok, Err, length, map, drop, take, true, false, sym, ap, ◌∙◌}
 use Rattle.std.specs.Str.{IsUtf8, is_utf8}
 use Rattle.std.proofs.lemmas.Bool.{false_from_ne_true}
 use Rattle.std.proofs.lemmas.Str.{IsUtf8-from_is_utf8, is_utf8-from_IsUtf8}
@@ -7,8 +7,9 @@ use Rattle.std.specs.declared.alloc.Global.{Global}
 use Rattle.std.proofs.lemmas.List.{drop-map, drop_all, take-map, take_all}
 use Rattle.plan_table.specs.Rows.{first_cell}
 use Rattle.plan_table.specs.declared.fault.ReadError.{ReadError}
+use Rattle.plan_table.specs.declared.fault.TableCode.{TableCode}
 use Rattle.plan_table.specs.declared.fault.ReadError.TheVariants as errors
-use Rattle.plan_table.specs.Reading.{Fault, ◌>>=◌, Fails}
+use Rattle.plan_table.specs.Reading.{Fault, ◌>>=◌, Fails, fault, fault_of}
 
 -- what fails first fails the whole
 pub fails_first : {A B : Type 0} (e : ReadError) (first : Result A Fault) (next : A → Result B Fault) (total : Result B Fault) → Fails e first → (first >>= next) ≡ total → Fails e total
@@ -18,6 +19,14 @@ fails_first (errors.Fault f) first next total h is = sym is ∙ ap (λ r. r >>= 
 -- what is read first, and then the rest
 pub ok_first : {A B : Type 0} (first : Result A Fault) (x : A) (next : A → Result B Fault) (total : Result B Fault) → first ≡ Ok x → (first >>= next) ≡ total → next x ≡ total
 ok_first first x next total h is = sym (ap (λ r. r >>= next) h) ∙ is
+
+-- a fault fails whatever is read
+pub other_type : (A B : Type 0) (e : ReadError) (c : TableCode) (line : ℕ) (word : List ℕ) → Fails e (fault {A = A} c line word) → Fails e (fault {A = B} c line word)
+other_type A B errors.Memory c line word h = tt
+other_type A B (errors.Fault f) c line word h = by_fault (record { code = c; line = line; word = word }) (fault_of f) h
+  where
+    by_fault : (x y : Fault) → Path (Result A Fault) (Err x) (Err y) → Path (Result B Fault) (Err x) (Err y)
+    by_fault x y e = let is : x ≡ y = cc in ap (λ z. Err z) is
 
 -- the first of the cells that are left
 pub cell_dropped : (cells : List (Vec ℕ Global)) (n : ℕ) → first_cell (drop n (map (λ cell. cell.items) cells)) ≡ first_cell (map (λ cell. cell.items) (drop n cells))

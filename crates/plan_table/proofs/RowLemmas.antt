@@ -49,6 +49,8 @@ pub record IsRow (line : List ℕ) (numbers : List ℕ) : Type 0 where
   pub title : is_title (trim line) ≡ false
   pub reads : map number (words (trim line)) ≡ map Some numbers
   pub plain : IsPlain line
+  -- it begins with a digit
+  pub begins : (c : ℕ) × (cs : List ℕ) × (trim line ≡ c ∷ cs) × (is_digit c ≡ true)
 
 digit_kept : (c : ℕ) (cs : List ℕ) → is_digit c ≡ true → is_kept (c ∷ cs) ≡ true
 digit_kept c cs digit =
@@ -80,8 +82,9 @@ row_is places n text numbers small tail =
       reads = ap (λ t. map number (words t)) trimmed ∙ ap (map number) (words-decimal n text small tail.starts)
           ∙ ap (λ o. o ∷ map number (words text)) (number-decimal n small) ∙ ap (λ os. Some n ∷ os) tail.reads;
       plain = plain_append (number_column places n) text (plain_column places n small) tail.plain;
+      begins = (d.first, d.others ++ text, begins, digit);
     }
 
 -- a space before a row
 pub blank_row : (line numbers : List ℕ) → IsRow line numbers → IsRow (32 ∷ line) numbers
-blank_row line numbers row = record { kept = row.kept; title = row.title; reads = row.reads; plain = row.plain }
+blank_row line numbers row = record { kept = row.kept; title = row.title; reads = row.reads; plain = row.plain; begins = row.begins }

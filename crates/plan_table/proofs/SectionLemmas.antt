@@ -88,7 +88,7 @@ section_words h t body rest n kept_h no_h none kept_t is_t =
 abbrev pub numbers_in : List ℕ → List (Option ℕ)
 numbers_in l = cond (is_kept (trim l)) (map number (words (trim l))) []
 
-words_at_number : (n : ℕ) (ws : List (List ℕ)) → map (λ (word : LineWord). number word.text) (words_at n ws) ≡ map number ws
+pub words_at_number : (n : ℕ) (ws : List (List ℕ)) → map (λ (word : LineWord). number word.text) (words_at n ws) ≡ map number ws
 words_at_number n [] = refl
 words_at_number n (w ∷ ws) = ap (λ os. number w ∷ os) (words_at_number n ws)
 

@@ -1,7 +1,7 @@
 -- The table that a text says is within the limits.
 use Rattle.std.proofs.Common.{◌≡◌, ℕ, zero, suc, ◌+◌, ◌≤◌, ◌<◌, ◌==◌, ◌&&◌, Bool, true, false, List, [], ◌∷◌, ◌++◌, Option, Some, None, Ok, length, refl, sym, ap, ◌∙◌, subst, arith, cond}
 use Rattle.std.specs.Prelude.{nat_le, nat_lt, slice_index_or, is_some, take, drop, fold, not}
-use Rattle.std.specs.List.{AllByRecursion, sum_by}
+use Rattle.std.specs.List.{AllByRecursion, list_any, sum_by}
 use Rattle.std.proofs.lemmas.Bool.{leb-true, ltb-true, lt-ltb}
 use Rattle.std.proofs.lemmas.List.Sums.{sum_by-cons, sum_by_push}
 use Rattle.plan_psplib.specs.Lines.{trim}
@@ -12,13 +12,14 @@ use Rattle.plan_table.specs.declared.header.Column.TheVariants as columns
 use Rattle.plan_table.specs.Csv.{Row, records_of}
 use Rattle.plan_table.specs.Limits.{IsName, IsEntry, IsSupply, IsWithinLimits}
 use Rattle.plan_table.specs.Reading.{◌>>=◌, check}
-use Rattle.plan_table.specs.Cells.{amount}
+use Rattle.plan_table.specs.Cells.{amount, same}
 use Rattle.plan_table.specs.Header.{Head, resource_count, resources_in, header}
 use Rattle.plan_table.specs.Rows.{activity_read, first_cell}
 use Rattle.plan_table.specs.Entries.{Entries, is_blank_row, is_capacity, id_of, id_place, with_id, takes, pushed, ids_of, added, activity_row, first_capacities, capacity_in, capacity_read, capacities_read, capacity_row, filled_row, row_by, entry_read, entries_at, entries_in, no_entries}
-use Rattle.plan_table.specs.Listing.{known_capacity, resource_by, resource_read, resources_at, or_none, table_in, utf8, closed, table_read}
+use Rattle.plan_table.specs.Overrides.{Override, given, is_resource, known_resource, or_row, overridden, override_checked, overrides_checked}
+use Rattle.plan_table.specs.Listing.{known_capacity, resource_by, resource_read, resources_at, or_none, table_in, rows_read, table_read_with}
 use Rattle.plan_table.specs.Table.{Activity, Resource, Table}
-use Rattle.plan_table.proofs.LimitLemmas.{then_ok, same_ok, check_ok, all_push, push_length, amount_small, IsDraft, activity_draft, header_good}
+use Rattle.plan_table.proofs.LimitLemmas.{then_ok, same_ok, check_ok, all_push, push_length, amount_small, IsDraft, IsHeader, activity_draft, header_good}
 
 -- ---- capacities
 
@@ -177,40 +178,66 @@ entries_good heads place ids so_far e f (row ∷ rows) is size good =
     let one = entry_good heads place ids so_far e g row read size good in
     entries_good heads place ids (with_id place so_far row) g f rows is one.1 one.0)
 
+-- ---- overrides
+
+abbrev AreLow : List Override → Type 0
+AreLow overrides = AllByRecursion (λ (o : Override). o.amount ≤ 10000) overrides
+
+overrides_low : (heads : List Head) (os : List Override) (u : Unit {0}) → overrides_checked heads os ≡ Ok u → AreLow os
+unfolding overrides_checked override_checked
+overrides_low heads [] u is = tt
+overrides_low heads (o ∷ os) u is =
+    then_ok (override_checked heads o) _ u is (λ v one is.
+    then_ok (known_resource (list_any (is_resource o.resource) heads) o.resource) _ v one (λ w known one.
+    (leb-true o.amount 10000 (check_ok _ code.Limit 0 v one), overrides_low heads os u is)))
+
+given_small : (os : List Override) (name : List ℕ) (found : Option ℕ) → AreLow os → IsSmallOption found → IsSmallOption (fold (overridden name) found os)
+given_small [] name found low small = small
+given_small (o ∷ os) name found low small = given_small os name (overridden name found o) low.1 (by_test (same o.resource name))
+  where
+    by_test : (b : Bool) → IsSmallOption (cond b (Some o.amount) found)
+    by_test true = low.0
+    by_test false = small
+
+or_row_small : (found row : Option ℕ) → IsSmallOption found → IsSmallOption row → IsSmallOption (or_row found row)
+or_row_small (Some n) row small rows = small
+or_row_small None row small rows = rows
+
 -- ---- resources
 
 unchanged : (before found : List Resource) → before ≡ found → AllByRecursion IsSupply before → AllByRecursion IsSupply found × (length found ≡ length before + 0)
 unchanged before found is good =
     subst (λ (x : List Resource). AllByRecursion IsSupply x × (length x ≡ length before + 0)) is (good, let n : length before ≡ length before + 0 = omega arith in n)
 
-supply_good : (column : Column) (capacities : List (Option ℕ)) (before found : List Resource) (name : List ℕ) →
-    resource_by column capacities before name ≡ Ok found → AreSmall capacities → IsName name → AllByRecursion IsSupply before →
+supply_good : (column : Column) (overrides : List Override) (capacities : List (Option ℕ)) (before found : List Resource) (name : List ℕ) →
+    resource_by column overrides capacities before name ≡ Ok found → AreLow overrides → AreSmall capacities → IsName name → (column ≡ columns.Resource → 0 < length name) → AllByRecursion IsSupply before →
     AllByRecursion IsSupply found × (length found ≡ length before + resource_count column)
-supply_good columns.Resource capacities before found name is small named good =
-    then_ok (known_capacity (slice_index_or capacities (length before) None) name) _ found is (λ n known is.
+supply_good columns.Resource overrides capacities before found name is low small named some good =
+    let amount = or_row (given overrides name) (slice_index_or capacities (length before) None) in
+    then_ok (known_capacity amount name) _ found is (λ n known is.
     let r : Resource = record { name = name; capacity = n } in
-    let low = by_capacity n (slice_index_or capacities (length before) None) (small_at capacities (length before) small) known in
+    let most = by_capacity n amount (or_row_small (given overrides name) _ (given_small overrides name None low tt) (small_at capacities (length before) small)) known in
     subst (λ (x : List Resource). AllByRecursion IsSupply x × (length x ≡ length before + 1)) (same_ok (before ++ r ∷ []) found is)
-    (all_push IsSupply before r good (record { name = named; capacity = low }), push_length before r))
+    (all_push IsSupply before r good (record { name = named; named = some refl; capacity = most }), push_length before r))
   where
     by_capacity : (n : ℕ) (o : Option ℕ) → IsSmallOption o → known_capacity o name ≡ Ok n → n ≤ 10000
     by_capacity n None small known = absurd (cc)
     by_capacity n (Some m) small known = let same_number : m ≡ n = same_ok m n known in omega (arith, small, same_number)
-supply_good columns.Duration capacities before found name is small named good = unchanged before found (same_ok before found is) good
-supply_good columns.Id capacities before found name is small named good = unchanged before found (same_ok before found is) good
-supply_good columns.Name capacities before found name is small named good = unchanged before found (same_ok before found is) good
-supply_good columns.Predecessors capacities before found name is small named good = unchanged before found (same_ok before found is) good
-supply_good columns.Nothing capacities before found name is small named good = unchanged before found (same_ok before found is) good
+supply_good columns.Duration overrides capacities before found name is low small named some good = unchanged before found (same_ok before found is) good
+supply_good columns.Id overrides capacities before found name is low small named some good = unchanged before found (same_ok before found is) good
+supply_good columns.Name overrides capacities before found name is low small named some good = unchanged before found (same_ok before found is) good
+supply_good columns.Predecessors overrides capacities before found name is low small named some good = unchanged before found (same_ok before found is) good
+supply_good columns.Nothing overrides capacities before found name is low small named some good = unchanged before found (same_ok before found is) good
 
-resources_good : (capacities : List (Option ℕ)) (before found : List Resource) (heads : List Head) → resources_at capacities before heads ≡ Ok found →
-    AreSmall capacities → AllByRecursion (λ (h : Head). IsName h.name) heads → AllByRecursion IsSupply before →
+resources_good : (overrides : List Override) (capacities : List (Option ℕ)) (before found : List Resource) (heads : List Head) → resources_at overrides capacities before heads ≡ Ok found →
+    AreLow overrides → AreSmall capacities → AllByRecursion IsHeader heads → AllByRecursion IsSupply before →
     AllByRecursion IsSupply found × (length found ≡ length before + resources_in heads)
 unfolding resources_at resource_read
-resources_good capacities before found [] is small named good = unchanged before found (same_ok before found is) good
-resources_good capacities before found (head ∷ heads) is small named good =
-    then_ok (resource_by head.column capacities before head.name) _ found is (λ more read is.
-    let one = supply_good head.column capacities before more head.name read small named.0 good in
-    let rest = resources_good capacities more found heads is small named.1 one.0 in
+resources_good overrides capacities before found [] is low small named good = unchanged before found (same_ok before found is) good
+resources_good overrides capacities before found (head ∷ heads) is low small named good =
+    then_ok (resource_by head.column overrides capacities before head.name) _ found is (λ more read is.
+    let one = supply_good head.column overrides capacities before more head.name read low small named.0.name named.0.named good in
+    let rest = resources_good overrides capacities more found heads is low small named.1 one.0 in
     let sums = sum_by-cons (λ (h : Head). resource_count h.column) head heads in
     (rest.0, omega (arith, rest.1, one.1, sums)))
 
@@ -230,20 +257,21 @@ entries_are m k n c (x ∷ xs) p q h =
       entries_are m k n c xs p q h.1,
     )
 
-rows_good : (rows : List Row) (t : Table) → table_in rows ≡ Ok t → IsWithinLimits t
+rows_good : (overrides : List Override) (rows : List Row) (t : Table) → table_in overrides rows ≡ Ok t → IsWithinLimits t
 unfolding table_in
-rows_good [] t is = absurd (cc)
-rows_good (first ∷ rows) t is =
+rows_good overrides [] t is = absurd (cc)
+rows_good overrides (first ∷ rows) t is =
     then_ok (header first.line first.cells) _ t is (λ heads read is.
     then_ok (entries_in heads rows) _ t is (λ e entries is.
-    then_ok (resources_at (or_none e.capacities) [] heads) _ t is (λ rs resources is.
+    then_ok (overrides_checked heads overrides) _ t is (λ u checked is.
+    then_ok (resources_at overrides (or_none e.capacities) [] heads) _ t is (λ rs resources is.
     let place = id_place heads in
     let ids = ids_of place rows in
     let head = header_good first.line first.cells heads read in
     let none : AreGood (length ids) (resources_in heads) no_entries = record { few = omega arith; activities = tt; capacities = tt; total = refl; limit = omega arith } in
     let good = entries_good heads place ids [] no_entries e rows entries refl none in
     let g = good.0 in
-    let supplies = resources_good (or_none e.capacities) [] rs heads resources g.capacities head.names tt in
+    let supplies = resources_good overrides (or_none e.capacities) [] rs heads resources (overrides_low heads overrides u checked) g.capacities head.names tt in
     let columns = head.few in
     let total = g.total in
     let limit = g.limit in
@@ -254,13 +282,8 @@ rows_good (first ∷ rows) t is =
       activities = entries_are (length ids) (resources_in heads) (length e.activities) (length rs) e.activities good.1 size g.activities;
       resources = supplies.0;
       total = omega (arith, total, limit);
-    }))))
+    })))))
 
 -- what a text says is within the limits
-pub table_good : (text : List ℕ) (t : Table) → table_read text ≡ Ok t → IsWithinLimits t
-unfolding table_read
-table_good text t is =
-    then_ok (check (nat_le (length text) longest_text) code.TooLong 0) _ t is (λ u short is.
-    then_ok (utf8 text) _ t is (λ v good is.
-    then_ok (closed (records_of text)) _ t is (λ rows read is.
-    rows_good rows t is)))
+pub table_good : (overrides : List Override) (text : List ℕ) (t : Table) → table_read_with overrides text ≡ Ok t → IsWithinLimits t
+table_good overrides text t is = then_ok (rows_read text) _ t is (λ rows read is. rows_good overrides rows t is)

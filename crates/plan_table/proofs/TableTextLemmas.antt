@@ -1,5 +1,5 @@
 -- The text of a table within the limits.
-use Rattle.std.proofs.Common.{◌≡◌, ℕ, ◌+◌, ◌≤◌, ◌<◌, true, List, [], ◌∷◌, ◌++◌, length, codes, refl, sym, ap, ◌∙◌, subst, append_assoc, arith}
+use Rattle.std.proofs.Common.{◌≡◌, ℕ, ◌+◌, ◌≤◌, ◌<◌, true, List, [], ◌∷◌, ◌++◌, length, codes, refl, sym, ap, ◌∙◌, subst, append_assoc, append-nil, arith}
 use Rattle.std.specs.List.{AllByRecursion, list_all}
 use Rattle.std.specs.Fmt.{decimal}
 use Rattle.std.proofs.lemmas.Bool.{and_from, le-leb, leb-true}
@@ -12,13 +12,13 @@ use Rattle.plan_table.specs.Jobs.{Job, table_jobs, capacities_of, project_of}
 use Rattle.plan_table.specs.Limits.{IsEntry, IsSupply, IsWithinLimits, IsTable}
 use Rattle.plan_table.specs.ProjectText.{resource_head, resource_heads, rule_line, head_text, front_text, sections_text, name_line, name_line_of, resource_line, names_text, horizon_of, project_text}
 use Rattle.plan_table.proofs.DigitLemmas.{all_weaker}
-use Rattle.plan_table.proofs.LineLemmas.{is_plain, IsPlain, plain_append, plain_decimal, raw_line}
+use Rattle.plan_table.proofs.LineLemmas.{is_plain, IsPlain, plain_append, plain_decimal}
 use Rattle.plan_table.proofs.JobLemmas.{jobs_count}
 use Rattle.plan_table.proofs.GoodJobLemmas.{IsGoodJob, good_jobs, jobs_total, good_capacities, capacities_fit}
 use Rattle.plan_table.proofs.RowListLemmas.{AreRows, row_lines, rows_plain, precedence_rows, request_rows, precedence_gives, request_gives}
-use Rattle.plan_table.proofs.TextLineLemmas.{lines_before, IsLines, lines_both, raw_lines-before, rule, head_lines, information_lines, precedence_row, precedence_lines, request_row, request_lines, availability_lines, head_is_lines, information_is_lines, precedence_is_lines, requests_are_lines, availabilities_are_lines}
+use Rattle.plan_table.proofs.TextLineLemmas.{lines_before, IsLines, lines_both, one_line, numbered_lines, raw_lines-before, rule, head_lines, information_lines, precedence_row, precedence_lines, request_row, request_lines, availability_lines, head_is_lines, information_is_lines, precedence_is_lines, requests_are_lines, availabilities_are_lines}
 use Rattle.plan_table.proofs.HeadLemmas.{AreSmall, head_plain, information_plain}
-use Rattle.plan_table.proofs.LawLemmas.{IsText, capacities_row, is_some_byte, says_project}
+use Rattle.plan_table.proofs.LawLemmas.{IsLaidOut, IsText, capacities_row, is_some_byte, says_project}
 
 all_both : {A : Type 0} (P : A → Type 0) (xs ys : List A) → AllByRecursion P xs → AllByRecursion P ys → AllByRecursion P (xs ++ ys)
 all_both P [] ys h k = k
@@ -65,7 +65,7 @@ bytes_append a b p q = list_all-append is_some_byte a b ∙ and_from (list_all i
 plain_bytes : (text : List ℕ) → IsPlain text → HasBytes text
 plain_bytes text plain = all_weaker is_plain is_some_byte (λ b e. le-leb 1 b (let low = leb-true 32 b e in omega (arith, low))) text plain
 
-lines_bytes : (ls : List (List ℕ)) (rest : List ℕ) → AllByRecursion IsPlain ls → HasBytes rest → HasBytes (lines_before ls rest)
+pub lines_bytes : (ls : List (List ℕ)) (rest : List ℕ) → AllByRecursion IsPlain ls → HasBytes rest → HasBytes (lines_before ls rest)
 lines_bytes [] rest plain h = h
 lines_bytes (l ∷ ls) rest plain h = bytes_append l (10 ∷ lines_before ls rest) (plain_bytes l plain.0) (lines_bytes ls rest plain.1 h)
 
@@ -122,15 +122,88 @@ text_is_lines t n jobs capacities count =
 regroup : {A : Type 0} (a b c d e x : List A) → ((a ++ b) ++ ((c ++ d) ++ e)) ++ x ≡ a ++ (b ++ (c ++ (d ++ (e ++ x))))
 regroup a b c d e x = simp append_assoc
 
-names_first : (t : Table) → (rest : List (List ℕ)) × (raw_lines (names_text t) ≡ codes "PROJECT INFORMATION:" ∷ rest)
-unfolding names_text
-names_first t =
-    let tail = numbered name_line 2 t.activities ++ numbered resource_line 1 t.resources ++ rule_line in
-    (raw_lines tail, raw_line (codes "PROJECT INFORMATION:") tail refl)
+-- ---- the lines of the names
 
--- the text of a table within the limits, if it is short enough
-text_of_table : (t : Table) → IsWithinLimits t → length (project_text t) ≤ 1048576 → IsText (project_text t) (table_jobs t) (capacities_of t.resources)
-text_of_table t limits short =
+-- the line of an activity's name; an activity without a name has none
+abbrev pub name_row : ℕ → List ℕ → List (List ℕ)
+name_row j [] = []
+name_row j (byte ∷ name) = (codes "name " ++ decimal j ++ codes " " ++ (byte ∷ name)) ∷ []
+
+abbrev pub name_rows : ℕ → List Activity → List (List ℕ)
+name_rows j xs = numbered (λ i a. name_row i a.name) j xs
+
+-- the line of a resource's name
+abbrev pub resource_row : ℕ → List ℕ → List ℕ
+resource_row i name = codes "resource " ++ decimal i ++ codes " " ++ name
+
+abbrev pub resource_rows : ℕ → List Resource → List (List ℕ)
+resource_rows i rs = numbered (λ i r. resource_row i r.name ∷ []) i rs
+
+-- the lines behind the title of the names
+abbrev pub names_rest : Table → List (List ℕ)
+names_rest t = name_rows 2 t.activities ++ (resource_rows 1 t.resources ++ rule ∷ [])
+
+name_line_is : (j : ℕ) (name : List ℕ) → IsLines (name_line_of j name) (name_row j name)
+name_line_is j [] = record { before = λ rest. refl }
+name_line_is j (byte ∷ name) = one_line (codes "name " ++ decimal j ++ codes " " ++ (byte ∷ name))
+
+name_lines_are : (j : ℕ) (xs : List Activity) → IsLines (numbered name_line j xs) (name_rows j xs)
+unfolding name_line
+name_lines_are j [] = record { before = λ rest. refl }
+name_lines_are j (x ∷ xs) = lines_both _ _ _ _ (name_line_is j x.name) (name_lines_are (j + 1) xs)
+
+resource_line_is : (i : ℕ) (r : Resource) → resource_line i r ≡ resource_row i r.name ++ 10 ∷ []
+unfolding resource_line
+resource_line_is i r = refl
+
+names_are_lines : (t : Table) → IsLines (names_text t) (codes "PROJECT INFORMATION:" ∷ names_rest t)
+unfolding names_text
+names_are_lines t =
+    let a = name_rows 2 t.activities in
+    let b = resource_rows 1 t.resources in
+    let title : IsLines (codes "PROJECT INFORMATION:\n") (codes "PROJECT INFORMATION:" ∷ []) = record { before = λ rest. refl } in
+    subst (λ ls. IsLines (names_text t) (codes "PROJECT INFORMATION:" ∷ ls)) (append_assoc a b (rule ∷ []))
+    (lines_both _ _ _ _ (lines_both _ _ _ _ (lines_both _ _ _ _ title (name_lines_are 2 t.activities))
+    (numbered_lines resource_line (λ i r. resource_row i r.name) resource_line_is 1 t.resources)) (one_line rule))
+
+name_row_plain : (j : ℕ) (name : List ℕ) → j < 1000000000 → IsPlain name → AllByRecursion IsPlain (name_row j name)
+name_row_plain j [] small plain = tt
+name_row_plain j (byte ∷ name) small plain = (
+  plain_append (codes "name " ++ decimal j ++ codes " ") (byte ∷ name)
+      (plain_append (codes "name " ++ decimal j) (codes " ") (plain_append (codes "name ") (decimal j) refl (plain_decimal j small)) refl) plain,
+  tt,
+)
+
+name_rows_plain : (n k j : ℕ) (xs : List Activity) → j + length xs ≤ 1000 → AllByRecursion (IsEntry n k) xs → AllByRecursion IsPlain (name_rows j xs)
+name_rows_plain n k j [] few h = tt
+name_rows_plain n k j (x ∷ xs) few h =
+    all_both IsPlain (name_row j x.name) (name_rows (j + 1) xs) (name_row_plain j x.name (omega (arith, few)) h.0.name.plain)
+    (name_rows_plain n k (j + 1) xs (omega (arith, few)) h.1)
+
+resource_rows_plain : (i : ℕ) (rs : List Resource) → i + length rs ≤ 1000 → AllByRecursion IsSupply rs → AllByRecursion IsPlain (resource_rows i rs)
+resource_rows_plain i [] few h = tt
+resource_rows_plain i (r ∷ rs) few h = (
+  plain_append (codes "resource " ++ decimal i ++ codes " ") r.name
+      (plain_append (codes "resource " ++ decimal i) (codes " ") (plain_append (codes "resource ") (decimal i) refl (plain_decimal i (omega (arith, few)))) refl) h.0.name.plain,
+  resource_rows_plain (i + 1) rs (omega (arith, few)) h.1,
+)
+
+names_raw : (t : Table) → IsWithinLimits t → raw_lines (names_text t) ≡ codes "PROJECT INFORMATION:" ∷ names_rest t
+names_raw t limits =
+    let rows = limits.rows in
+    let few = limits.columns in
+    let ls = codes "PROJECT INFORMATION:" ∷ names_rest t in
+    let plain : AllByRecursion IsPlain ls = (
+      refl,
+      all_both IsPlain (name_rows 2 t.activities) (resource_rows 1 t.resources ++ rule ∷ [])
+          (name_rows_plain (length t.activities) (length t.resources) 2 t.activities (omega (arith, rows)) limits.activities)
+          (all_both IsPlain (resource_rows 1 t.resources) (rule ∷ []) (resource_rows_plain 1 t.resources (omega (arith, few)) limits.resources) (refl, tt)),
+    ) in
+    ap raw_lines (sym (append-nil (names_text t)) ∙ (names_are_lines t).before []) ∙ raw_lines-before ls [] plain ∙ append-nil ls
+
+-- the lines of the text of a table
+pub laid_out_table : (t : Table) → IsWithinLimits t → IsLaidOut (project_text t) (table_jobs t) (capacities_of t.resources)
+laid_out_table t limits =
     let jobs = table_jobs t in
     let capacities = capacities_of t.resources in
     let count : length t.activities + 2 ≡ length jobs = sym (jobs_count t.activities (length capacities)) in
@@ -146,21 +219,43 @@ text_of_table t limits short =
     let ls = all_lines (length jobs) (length t.activities) (horizon_of t.activities) jobs capacities in
     let plain = lines_plain (length t.activities) (horizon_of t.activities) jobs capacities small (omega (arith, rows)) fit.1 fit.0 low precedences requests in
     let is = (text_is_lines t (length jobs) jobs capacities count).before (names_text t) in
-    let names = names_first t in
     record {
-      laid_out = record {
-        activities = length t.activities;
-        horizon = horizon_of t.activities;
-        rest = names.0;
-        raw = ap raw_lines is ∙ raw_lines-before ls (names_text t) plain ∙ ap (λ r. ls ++ r) names.1
-            ∙ regroup (head_lines (length jobs) (horizon_of t.activities) (length capacities)) (information_lines (length t.activities) (horizon_of t.activities))
-            (precedence_lines jobs) (request_lines jobs capacities) (availability_lines capacities) (codes "PROJECT INFORMATION:" ∷ names.0);
-        small = small;
-        precedences = precedences;
-        requests = requests;
-        some = fit.0;
-        capacities_small = low;
-      };
+      activities = length t.activities;
+      horizon = horizon_of t.activities;
+      rest = names_rest t;
+      raw = ap raw_lines is ∙ raw_lines-before ls (names_text t) plain ∙ ap (λ r. ls ++ r) (names_raw t limits)
+          ∙ regroup (head_lines (length jobs) (horizon_of t.activities) (length capacities)) (information_lines (length t.activities) (horizon_of t.activities))
+          (precedence_lines jobs) (request_lines jobs capacities) (availability_lines capacities) (codes "PROJECT INFORMATION:" ∷ names_rest t);
+      small = small;
+      precedences = precedences;
+      requests = requests;
+      some = fit.0;
+      capacities_small = low;
+    }
+
+pub rest_is : (t : Table) (limits : IsWithinLimits t) → (laid_out_table t limits).rest ≡ names_rest t
+unfolding laid_out_table
+rest_is t limits = refl
+
+-- the text of a table within the limits, if it is short enough
+text_of_table : (t : Table) → IsWithinLimits t → length (project_text t) ≤ 1048576 → IsText (project_text t) (table_jobs t) (capacities_of t.resources)
+text_of_table t limits short =
+    let jobs = table_jobs t in
+    let capacities = capacities_of t.resources in
+    let count : length t.activities + 2 ≡ length jobs = sym (jobs_count t.activities (length capacities)) in
+    let rows = limits.rows in
+    let total = limits.total in
+    let fit = capacities_fit t limits in
+    let low = good_capacities t limits in
+    let good = subst (λ n. AllByRecursion (IsGoodJob n (length capacities)) jobs) count (good_jobs t limits) in
+    let few : length jobs ≤ 502 = omega (arith, count, rows) in
+    let small : AreSmall (length jobs) (horizon_of t.activities) (length capacities) = record { jobs = omega (arith, few); horizon = omega (arith, total); resources = omega (arith, fit.1) } in
+    let p = laid_out_table t limits in
+    let ls = all_lines (length jobs) (length t.activities) (horizon_of t.activities) jobs capacities in
+    let plain = lines_plain (length t.activities) (horizon_of t.activities) jobs capacities small (omega (arith, rows)) fit.1 fit.0 low p.precedences p.requests in
+    let is = (text_is_lines t (length jobs) jobs capacities count).before (names_text t) in
+    record {
+      laid_out = p;
       short = short;
       plain = ap (list_all is_some_byte) is ∙ lines_bytes ls (names_text t) plain (names_bytes t limits);
       good = good;

@@ -1,7 +1,7 @@
 -- What the cells of an activity say.
 use Rattle.std.specs.Prelude.{ℕ, ◌+◌, ◌==◌, ◌&&◌, ◌||◌, Bool, if◌then◌else◌, List, [], ◌∷◌, ◌++◌, Option, Some, None, Result, Ok, length, map, nat_le}
 use Rattle.std.specs.List.{list_all}
-use Rattle.std.specs.Str.Lossy.{utf8_lossy}
+use Rattle.std.specs.Str.{is_utf8}
 use Rattle.plan_table.specs.declared.fault.TableCode.{TableCode}
 use Rattle.plan_table.specs.declared.fault.TableCode.TheVariants as code
 use Rattle.plan_psplib.specs.Lines.{words}
@@ -26,9 +26,10 @@ amount c line word cell = amount_in (number cell) c line word
 -- the name in a cell
 unfoldable pub name : ℕ → List ℕ → Result (List ℕ) Fault
 name line cell = do
-  short ← check (nat_le (length (utf8_lossy cell)) longest_name) code.Limit line
-  plain ← check (list_all (λ byte. nat_le 32 byte) (utf8_lossy cell)) code.NotText line
-  Ok (utf8_lossy cell)
+  short ← check (nat_le (length cell) longest_name) code.Limit line
+  plain ← check (list_all (λ byte. nat_le 32 byte) cell) code.NotText line
+  text ← check (is_utf8 cell) code.NotText line
+  Ok cell
 
 -- what stands between the ids of predecessors
 abbrev pub is_separator : ℕ → Bool

@@ -1,8 +1,9 @@
 -- The limits of a table.
-use Rattle.std.specs.Prelude.{ℕ, ◌≡◌, ◌+◌, ◌≤◌, true, List, length, nat_le}
+use Rattle.std.specs.Prelude.{ℕ, ◌≡◌, ◌+◌, ◌≤◌, ◌<◌, true, List, length, nat_le}
 use Rattle.std.specs.List.{AllByRecursion, list_all, sum_by}
 use Rattle.plan_net.specs.Limits.{IsSound, longest_duration, longest_sum}
 use Rattle.plan_psplib.specs.Head.{most_resources}
+use Rattle.plan_psplib.specs.Lines.{trim}
 use Rattle.plan_psplib.specs.Tokens.{greatest}
 use Rattle.plan_table.specs.Table.{Activity, Resource, Table}
 use Rattle.plan_table.specs.Jobs.{table_jobs, network_of}
@@ -15,9 +16,10 @@ most_rows = 500
 abbrev pub longest_name : ℕ
 longest_name = 200
 
--- a name is short and has no control characters
+-- a name is short, without control characters and without blanks at its ends
 pub record IsName (name : List ℕ) : Type 0 where
   pub short : length name ≤ longest_name
+  pub trimmed : trim name ≡ name
   pub plain : list_all (λ byte. nat_le 32 byte) name ≡ true
 
 -- an activity of a table with n activities and k resources
@@ -31,6 +33,7 @@ pub record IsEntry (n k : ℕ) (a : Activity) : Type 0 where
 -- a resource of a table
 pub record IsSupply (r : Resource) : Type 0 where
   pub name : IsName r.name
+  pub named : 0 < length r.name
   pub capacity : r.capacity ≤ greatest
 
 -- a table within the limits

@@ -12,6 +12,7 @@ use Rattle.plan_table.specs.Csv.{Row, records_of}
 use Rattle.plan_table.specs.Reading.{Fault, fault, check, ◌>>=◌}
 use Rattle.plan_table.specs.Header.{Head, header}
 use Rattle.plan_table.specs.Entries.{entries_in}
+use Rattle.plan_table.specs.Overrides.{Override, given, or_row, overrides_checked}
 use Rattle.plan_table.specs.Table.{Resource, Table, table_of}
 
 -- the same, as the program keeps it
@@ -23,38 +24,41 @@ abbrev pub known_capacity : Option ℕ → List ℕ → Result ℕ Fault
 known_capacity None name = fault code.NoCapacity 0 name
 known_capacity (Some n) name = Ok n
 
--- the resources with that of a column; its capacity is at its place among those of the resources
-abbrev pub resource_by : Column → List (Option ℕ) → List Resource → List ℕ → Result (List Resource) Fault
-resource_by columns.Resource capacities before name =
-    known_capacity (slice_index_or capacities (length before) None) name >>= λ n. Ok (before ++ record { name = name; capacity = n } ∷ [])
-resource_by columns.Duration capacities before name = Ok before
-resource_by columns.Id capacities before name = Ok before
-resource_by columns.Name capacities before name = Ok before
-resource_by columns.Predecessors capacities before name = Ok before
-resource_by columns.Nothing capacities before name = Ok before
+-- the resources with that of a column; its capacity is the one that is given for it, or else that at
+-- its place among those of the resources
+abbrev pub resource_by : Column → List Override → List (Option ℕ) → List Resource → List ℕ → Result (List Resource) Fault
+resource_by columns.Resource overrides capacities before name =
+    known_capacity (or_row (given overrides name) (slice_index_or capacities (length before) None)) name
+    >>= λ n. Ok (before ++ record { name = name; capacity = n } ∷ [])
+resource_by columns.Duration overrides capacities before name = Ok before
+resource_by columns.Id overrides capacities before name = Ok before
+resource_by columns.Name overrides capacities before name = Ok before
+resource_by columns.Predecessors overrides capacities before name = Ok before
+resource_by columns.Nothing overrides capacities before name = Ok before
 
-unfoldable pub resource_read : List (Option ℕ) → List Resource → Head → Result (List Resource) Fault
-resource_read capacities before head = resource_by head.column capacities before head.name
+unfoldable pub resource_read : List Override → List (Option ℕ) → List Resource → Head → Result (List Resource) Fault
+resource_read overrides capacities before head = resource_by head.column overrides capacities before head.name
 
 -- the resources of columns, behind others
-unfoldable pub resources_at : List (Option ℕ) → List Resource → List Head → Result (List Resource) Fault
-resources_at capacities before [] = Ok before
-resources_at capacities before (head ∷ heads) = do
-  found ← resource_read capacities before head
-  resources_at capacities found heads
+unfoldable pub resources_at : List Override → List (Option ℕ) → List Resource → List Head → Result (List Resource) Fault
+resources_at overrides capacities before [] = Ok before
+resources_at overrides capacities before (head ∷ heads) = do
+  found ← resource_read overrides capacities before head
+  resources_at overrides capacities found heads
 
 -- the capacities of their row; none if it hasn't come
 abbrev pub or_none : Option (List (Option ℕ)) → List (Option ℕ)
 or_none None = []
 or_none (Some capacities) = capacities
 
--- what records say, the first of which is the header
-unfoldable pub table_in : List Row → Result Table Fault
-table_in [] = fault code.NoDuration 0 []
-table_in (first ∷ rows) = do
+-- what records say, the first of which is the header, with capacities that override those in them
+unfoldable pub table_in : List Override → List Row → Result Table Fault
+table_in overrides [] = fault code.NoDuration 0 []
+table_in overrides (first ∷ rows) = do
   heads ← header first.line first.cells
   entries ← entries_in heads rows
-  resources ← resources_at (or_none entries.capacities) [] heads
+  known ← overrides_checked heads overrides
+  resources ← resources_at overrides (or_none entries.capacities) [] heads
   Ok (record { activities = entries.activities; resources = resources })
 
 -- the line of a byte
@@ -70,10 +74,17 @@ abbrev pub closed : Result (List Row) ℕ → Result (List Row) Fault
 closed (Ok rows) = Ok rows
 closed (Err line) = fault code.Cells line []
 
--- what a text says
-unfoldable pub table_read : List ℕ → Result Table Fault
-table_read text = do
+-- the records of a text
+unfoldable pub rows_read : List ℕ → Result (List Row) Fault
+rows_read text = do
   short ← check (nat_le (length text) longest_text) code.TooLong 0
   good ← utf8 text
-  rows ← closed (records_of text)
-  table_in rows
+  closed (records_of text)
+
+-- what a text says, with capacities that override those in it
+abbrev pub table_read_with : List Override → List ℕ → Result Table Fault
+table_read_with overrides text = rows_read text >>= table_in overrides
+
+-- what a text says
+abbrev pub table_read : List ℕ → Result Table Fault
+table_read text = table_read_with [] text

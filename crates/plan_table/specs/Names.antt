@@ -1,7 +1,9 @@
 -- The names in a project file: lines in the section behind the availabilities.
-use Rattle.std.specs.Prelude.{ℕ, ◌==◌, if◌then◌else◌, List, [], ◌∷◌, Option, Some, None, codes, drop, take, length}
+use Rattle.std.specs.Prelude.{◌≡◌, ℕ, ◌==◌, if◌then◌else◌, List, [], ◌∷◌, Option, Some, None, codes, drop, take, length}
 use Rattle.std.specs.List.{filter_map, find, position}
 use Rattle.plan_table.specs.declared.names.NameLine as declared
+use Rattle.plan_table.specs.Numbered.{numbered}
+use Rattle.plan_table.specs.Table.{Table}
 use Rattle.plan_psplib.specs.Lines.{NumberedLine, lines, is_blank, trim_start}
 use Rattle.plan_psplib.specs.Numbers.{number}
 use Rattle.plan_psplib.specs.Sections.{begins_with, information_title, availabilities_title}
@@ -53,6 +55,24 @@ activity_key = codes "name "
 
 abbrev pub resource_key : List ℕ
 resource_key = codes "resource "
+
+-- a number with its name; an empty name is none
+abbrev pub name_at : ℕ → List ℕ → List Name
+name_at n [] = []
+name_at n (byte ∷ name) = record { number = n; name = byte ∷ name } ∷ []
+
+-- the names of the activities of a table, which have the numbers from 2 on
+abbrev pub activity_names_of : Table → List Name
+activity_names_of t = numbered (λ j a. name_at j a.name) 2 t.activities
+
+-- the names of the resources of a table
+abbrev pub resource_names_of : Table → List Name
+resource_names_of t = numbered (λ i r. record { number = i; name = r.name } ∷ []) 1 t.resources
+
+-- the names in a text are those of a table
+pub record SaysNames (text : List ℕ) (t : Table) : Type 0 where
+  pub activities : names_behind activity_key text ≡ activity_names_of t
+  pub resources : names_behind resource_key text ≡ resource_names_of t
 
 -- the first name of a number
 abbrev pub first_name : ℕ → List Name → Option Name

@@ -8,7 +8,8 @@ use Rattle.plan_table.specs.declared.fault.ReadError.{ReadError}
 use Rattle.plan_table.specs.declared.fault.ReadError.TheVariants as errors
 use Rattle.plan_table.specs.Jobs.{network_of, table_jobs}
 use Rattle.plan_table.specs.Reading.{fault_of}
-use Rattle.plan_table.specs.Listing.{table_read}
+use Rattle.plan_table.specs.Listing.{table_read_with}
+use Rattle.plan_table.specs.Overrides.{Override}
 use Rattle.plan_table.specs.Table.{Activity, Table}
 
 -- the id of the activity at a place
@@ -30,11 +31,16 @@ abbrev pub NamesCycle : Table → declared.TableFault → Type 0
 NamesCycle t fault = (fault.code ≡ code.Cycle) × (fault.line ≡ 0)
     × ((members : List ℕ) × IsNamedCycle (network_of (table_jobs t)) members × (fault.word.items ≡ spaced_ids t.activities members))
 
--- a text is refused for the first check that it fails, or else for a cycle; out of memory may come
--- at any time
+-- a text with overrides is refused for the first check that it fails, or else for a cycle; out of
+-- memory may come at any time
+abbrev pub IsRefusedWith : List Override → List ℕ → ReadError → Type 0
+IsRefusedWith overrides text errors.Memory = Unit {0}
+IsRefusedWith overrides text (errors.Fault f) =
+    (table_read_with overrides text ≡ Err (fault_of f)) ⊎ ((t : Table) × (table_read_with overrides text ≡ Ok t) × NamesCycle t f)
+
+-- the same without overrides
 abbrev pub IsRefused : List ℕ → ReadError → Type 0
-IsRefused text errors.Memory = Unit {0}
-IsRefused text (errors.Fault f) = (table_read text ≡ Err (fault_of f)) ⊎ ((t : Table) × (table_read text ≡ Ok t) × NamesCycle t f)
+IsRefused text e = IsRefusedWith [] text e
 
 -- the fault names the activities of a cycle, or memory ran out
 abbrev pub IsCycleFault : List Activity → List ℕ → ReadError → Type 0

@@ -7,12 +7,13 @@ ghost use Rattle.plan_table.specs.Csv.{Row};
 ghost use Rattle.plan_table.specs.Header.{Head};
 ghost use Rattle.plan_table.specs.Entries.{Entries};
 ghost use Rattle.plan_table.specs.Table.{Activity, Resource, Table};
-ghost use Rattle.plan_table.specs.Limits.{IsName, most_rows};
+ghost use Rattle.plan_table.specs.Limits.{most_rows};
 ghost use Rattle.plan_table.specs.Reading.{Fails, Gives, fault};
 
 use crate::fault::{ReadError, TableCode, TableFault};
 use plan_psplib::{GREATEST_AMOUNT, Words, number};
 use std::alloc::{AllocError, Global};
+use std::str;
 
 /// The most bytes of a name.
 const LONGEST_NAME: usize = 200;
@@ -71,19 +72,20 @@ fn is_plain(name: &[u8]) -> bool
 }
 
 /// The name in a cell.
-#[tactic(auto, unfolding(crate::specs::Cells::name))]
+#[tactic(auto, unfolding(crate::specs::Cells::name), using(crate::proofs::ReadLemmas::not_text, crate::proofs::ReadLemmas::is_text))]
 pub fn name(alloc: Global, line: u64, cell: &[u8]) -> Result<String, ReadError>
-    ensures exact { Gives string_bytes result (spec.name line cell.now) }
-    ensures fits { IfOk result (λ name. IsName (string_bytes name)) }
+    ensures { Gives string_bytes result (spec.name line cell.now) }
 {
-    let name = String::from_utf8_lossy(alloc, cell)?;
-    if name.as_bytes().len() > LONGEST_NAME {
+    if cell.len() > LONGEST_NAME {
         return Err(word_fault(alloc, TableCode::Limit, line, b""));
     }
-    if !is_plain(name.as_bytes()) {
+    if !is_plain(cell) {
         return Err(word_fault(alloc, TableCode::NotText, line, b""));
     }
-    Ok(name)
+    let Ok(text) = str::from_utf8(cell) else {
+        return Err(word_fault(alloc, TableCode::NotText, line, b""));
+    };
+    Ok(String::from_str(alloc, text)?)
 }
 
 // A space in place of what stands between ids.

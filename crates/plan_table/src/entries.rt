@@ -30,8 +30,8 @@ pub struct Entries {
     pub total: u32,
 }
 
-// Whether nothing stands in a row.
-fn is_blank_row(cells: &[Vec<u8>]) -> bool
+/// Whether nothing stands in a row.
+pub fn is_blank_row(cells: &[Vec<u8>]) -> bool
     ensures { result ≡ spec.is_blank_row (map (λ cell. cell.items) cells.now) }
 {
     for cell in cells {

@@ -33,7 +33,7 @@ pub enum TableCode {
     TooLong,
     /// T2: not UTF-8, or a control character in a name.
     NotText,
-    /// T3: no column of durations.
+    /// T3: no column of durations; in a list of orders the word is the missing header.
     NoDuration,
     /// T4: a header twice.
     ColumnTwice,
@@ -55,6 +55,10 @@ pub enum TableCode {
     Limit,
     /// T13: more cells than headers, or a quote that isn't closed.
     Cells,
+    /// T14: a given capacity of a resource that the table doesn't have.
+    NoResource,
+    /// T15: an order with more steps than there are machines.
+    TooManySteps,
 }
 
 /// A check that a table fails: its line, 0 if it has none, and the word that it names.

@@ -28,8 +28,8 @@ pub struct Head {
     pub name: String,
 }
 
-// A header in lower case, without the blanks at its ends.
-fn key_of(alloc: Global, cell: &[u8]) -> Result<Vec<u8>, AllocError>
+/// A header in lower case, without the blanks at its ends.
+pub fn key_of(alloc: Global, cell: &[u8]) -> Result<Vec<u8>, AllocError>
     ensures { IfOk result (λ v. v.items ≡ spec.key_of cell.now) }
 {
     let mut key = Vec::new(alloc);

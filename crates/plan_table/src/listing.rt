@@ -5,6 +5,7 @@ ghost use Rattle.plan_psplib.specs.Plain.{longest_text};
 ghost use Rattle.plan_table.specs.Csv.{records_of, row_of};
 ghost use Rattle.plan_table.specs.Header.{head_of};
 ghost use Rattle.plan_table.specs.Listing as spec;
+ghost use Rattle.plan_table.specs.Overrides.{given as spec_given, or_row, override_of};
 ghost use Rattle.plan_table.specs.Reading.{Gives};
 ghost use Rattle.plan_table.specs.Table.{resource_of};
 
@@ -12,6 +13,7 @@ use crate::cells::word_fault;
 use crate::entries::read_entries;
 use crate::fault::{ReadError, TableCode};
 use crate::header::{Column, Head, read_header};
+use crate::overrides::{Override, check_overrides, given};
 use crate::records::{Row, read_records};
 use crate::table::{Activity, Resource};
 use plan_psplib::LONGEST_TEXT;
@@ -25,14 +27,28 @@ pub struct Listing {
     pub resources: Vec<Resource>,
 }
 
-// The capacity at a place.
-fn capacity_at(capacities: &[Option<u32>], place: usize) -> Option<u32>
-    ensures { result ≡ slice_index_or capacities.now place None }
+// The capacities in the row of a table, and those that override them.
+#[derive(Clone, Copy)]
+struct Capacities<'a> {
+    row: &'a [Option<u32>],
+    overrides: &'a [Override<'a>],
+}
+
+// The capacity at a place of the row.
+fn row_capacity(row: &[Option<u32>], place: usize) -> Option<u32>
+    ensures { result ≡ slice_index_or row.now place None }
 {
-    if place < capacities.len() {
-        capacities[place]
-    } else {
-        None
+    if place < row.len() { row[place] } else { None }
+}
+
+// The capacity of a resource with this name, at this place of the row.
+fn capacity_of(capacities: &Capacities<'_>, name: &[u8], place: usize) -> Option<u32>
+    ensures { result ≡ or_row (spec_given (map override_of capacities.now.overrides.now) name.now)
+        (slice_index_or capacities.now.row.now place None) }
+{
+    match given(capacities.overrides, name) {
+        Some(amount) => Some(amount),
+        None => row_capacity(capacities.row, place),
     }
 }
 
@@ -40,18 +56,19 @@ fn capacity_at(capacities: &[Option<u32>], place: usize) -> Option<u32>
 #[tactic(auto, unfolding(crate::specs::Listing::resource_read))]
 fn read_resource(
     alloc: Global,
-    capacities: &[Option<u32>],
+    capacities: &Capacities<'_>,
     before: &mut Vec<Resource>,
     head: &Head,
 ) -> Result<(), ReadError>
     ensures { Gives (λ _. map resource_of before.new.items) result (spec.resource_read
-        capacities.now (map resource_of before.old.items) (head_of head.now)) }
+        (map override_of capacities.now.overrides.now) capacities.now.row.now
+        (map resource_of before.old.items) (head_of head.now)) }
 {
     match head.column {
         Column::Resource => {
             let place = before.as_slice().len();
             let name = String::from_str(alloc, head.name.as_str())?;
-            match capacity_at(capacities, place) {
+            match capacity_of(capacities, name.as_bytes(), place) {
                 Some(capacity) => before.push(Resource { name, capacity })?,
                 None => {
                     let fault = word_fault(alloc, TableCode::NoCapacity, 0, name.as_bytes());
@@ -68,10 +85,11 @@ fn read_resource(
 #[tactic(auto, unfolding(crate::specs::Listing::resources_at))]
 fn read_resources(
     alloc: Global,
-    capacities: &[Option<u32>],
+    capacities: &Capacities<'_>,
     heads: &[Head],
 ) -> Result<Vec<Resource>, ReadError>
-    ensures { Gives (λ v. map resource_of v.items) result (spec.resources_at capacities.now []
+    ensures { Gives (λ v. map resource_of v.items) result (spec.resources_at
+        (map override_of capacities.now.overrides.now) capacities.now.row.now []
         (map head_of heads.now)) }
 {
     let mut resources = Vec::new(alloc);
@@ -91,16 +109,22 @@ fn or_none(capacities: &Option<Vec<Option<u32>>>) -> &[Option<u32>]
     }
 }
 
-// What records say.
+// What records say, with overrides.
 #[tactic(auto, unfolding(crate::specs::Listing::table_in))]
-fn read_rows(alloc: Global, rows: &[Row]) -> Result<Listing, ReadError>
-    ensures { Gives spec.listing_of result (spec.table_in (map row_of rows.now)) }
+fn read_rows(alloc: Global, overrides: &[Override<'_>], rows: &[Row]) -> Result<Listing, ReadError>
+    ensures { Gives spec.listing_of result (spec.table_in (map override_of overrides.now)
+        (map row_of rows.now)) }
 {
     match rows {
         [first, rest @ ..] => {
             let heads = read_header(alloc, first.line, &first.cells)?;
             let entries = read_entries(alloc, &heads, rest)?;
-            let resources = read_resources(alloc, or_none(&entries.capacities), &heads)?;
+            check_overrides(alloc, &heads, overrides)?;
+            let capacities = Capacities {
+                row: or_none(&entries.capacities),
+                overrides,
+            };
+            let resources = read_resources(alloc, &capacities, &heads)?;
             Ok(Listing {
                 activities: entries.activities,
                 resources,
@@ -145,15 +169,27 @@ fn closed_records(alloc: Global, text: &[u8]) -> Result<Vec<Row>, ReadError>
     }
 }
 
-/// What the text of a table says, or the first check that it fails.
-#[tactic(auto, unfolding(crate::specs::Listing::table_read))]
-pub fn read_listing(alloc: Global, text: &[u8]) -> Result<Listing, ReadError>
-    ensures { Gives spec.listing_of result (spec.table_read text.now) }
+/// The records of the text of a table, or the first check that it fails.
+#[tactic(auto, unfolding(crate::specs::Listing::rows_read))]
+pub fn read_rows_of(alloc: Global, text: &[u8]) -> Result<Vec<Row>, ReadError>
+    ensures { Gives (λ v. map row_of v.items) result (spec.rows_read text.now) }
 {
     if text.len() > LONGEST_TEXT {
         return Err(word_fault(alloc, TableCode::TooLong, 0, b""));
     }
     check_utf8(alloc, text)?;
-    let rows = closed_records(alloc, text)?;
-    read_rows(alloc, &rows)
+    closed_records(alloc, text)
+}
+
+/// What the text of a table says with overrides, or the first check that it fails.
+pub fn read_listing(
+    alloc: Global,
+    overrides: &[Override<'_>],
+    text: &[u8],
+) -> Result<Listing, ReadError>
+    ensures { Gives spec.listing_of result (spec.table_read_with (map override_of overrides.now)
+        text.now) }
+{
+    let rows = read_rows_of(alloc, text)?;
+    read_rows(alloc, overrides, &rows)
 }

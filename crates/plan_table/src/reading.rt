@@ -3,13 +3,15 @@
 ghost use Rattle.std.specs.Prelude.{◌≡◌, ◌++◌, ◌∷◌, Ok, map, IfOk, IfErr, OnOk};
 ghost use Rattle.plan_table.specs.Jobs.{network_of, table_jobs};
 ghost use Rattle.plan_table.specs.Limits.{IsWithinLimits};
-ghost use Rattle.plan_table.specs.Listing.{listing_of, table_read};
+ghost use Rattle.plan_table.specs.Listing.{listing_of, table_read, table_read_with};
+ghost use Rattle.plan_table.specs.Overrides.{override_of};
 ghost use Rattle.plan_table.specs.Refused as spec;
 ghost use Rattle.plan_table.specs.Table.{activity_of, table_of};
 
 use crate::checked::check;
 use crate::fault::{ReadError, TableCode, TableFault};
 use crate::listing::{Listing, read_listing};
+use crate::overrides::Override;
 use crate::table::{Activity, Table};
 use plan_net::NetFault;
 use std::alloc::{AllocError, Global};
@@ -74,10 +76,30 @@ pub fn read_table(alloc: Global, text: &[u8]) -> Result<Table, ReadError>
     // Which check is the first that fails, or which cycle there is.
     ensures refused { IfErr result (spec.IsRefused text.now) }
 {
+    read_table_with(alloc, &[], text)
+}
+
+/// Reads a table with given capacities, which override those in the table. If a resource is given
+/// more than once, then its last capacity counts. A resource needs a capacity in the table or in
+/// `overrides` (T10).
+///
+/// Overrides are checked behind all rows: T14 if the table doesn't have the resource, T12 (line 0)
+/// if the capacity is above 10,000.
+pub fn read_table_with(
+    alloc: Global,
+    overrides: &[Override<'_>],
+    text: &[u8],
+) -> Result<Table, ReadError>
+    // What is read is what the text says with these capacities.
+    ensures found { IfOk result (λ t. table_read_with (map override_of overrides.now) text.now
+        ≡ Ok t) }
+    // Which check is the first that fails, or which cycle there is.
+    ensures refused { IfErr result (spec.IsRefusedWith (map override_of overrides.now) text.now) }
+{
     let Listing {
         activities,
         resources,
-    } = read_listing(alloc, text)?;
+    } = read_listing(alloc, overrides, text)?;
     match check(alloc, &activities, &resources) {
         Ok(()) => Ok(Table {
             activities,

@@ -5,6 +5,7 @@ ghost use Rattle.plan_net.specs.Limits.{longest_sum};
 ghost use Rattle.plan_psplib.specs.Plain.{longest_text};
 ghost use Rattle.plan_psplib.specs.Project.{SaysProject};
 ghost use Rattle.plan_table.specs.Limits.{IsTable, most_rows};
+ghost use Rattle.plan_table.specs.Names.{SaysNames};
 ghost use Rattle.plan_table.specs.Numbered.{numbered};
 ghost use Rattle.plan_table.specs.Table as table;
 ghost use Rattle.plan_table.specs.Jobs.{job_in, project_of};
@@ -397,11 +398,12 @@ fn written(alloc: Global, table: &Table) -> Result<String, AllocError>
 }
 
 /// The `.sm` text of a table. Reading it gives the project of the table: its durations, its
-/// precedences, its needs and its capacities. A text that no reader would take for its length is
-/// refused.
+/// precedences, its needs and its capacities. The names in it are those of the activities and the
+/// resources. A text that no reader would take for its length is refused.
 pub fn project_text(alloc: Global, table: &Table) -> Result<String, TextFault>
     ensures text { IfOk result (λ text. string_bytes text ≡ spec.project_text table.now) }
     ensures says { IfOk result (λ text. SaysProject (string_bytes text) (project_of table.now)) }
+    ensures names { IfOk result (λ text. SaysNames (string_bytes text) table.now) }
     ensures long { IsErrOf result TextFault.TooLong →
         longest_text < length (spec.project_text table.now) }
 {

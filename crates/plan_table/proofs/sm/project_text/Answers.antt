@@ -1,6 +1,8 @@
 use Rattle.std.proofs.Common.{ℕ, ◌≤◌, List, length, sym, ◌∙◌, subst}
 use Rattle.plan_psplib.specs.Project.{SaysProject}
 use Rattle.plan_table.specs.Jobs.{project_of}
+use Rattle.plan_table.specs.Names.{SaysNames}
+use Rattle.plan_table.proofs.NameLemmas.{names_said}
 use Rattle.plan_table.proofs.TableTextLemmas.{table_said}
 use Rattle.plan_table.proofs.sm.project_text.Goals as goal
 
@@ -10,3 +12,7 @@ returns-clause-says c =
     let short = subst (λ (bytes : List ℕ). length bytes ≤ 1048576) (c.as_bytes.ensures.value ∙ text) c.if-as_bytes-gt-LONGEST_TEXT.false in
     subst (λ (bytes : List ℕ). SaysProject bytes (project_of c.args.table.now)) (sym text)
     (table_said c.args.table.now c.written.ensures.table short)
+
+pub returns-clause-names : goal.returns-clause-names
+returns-clause-names c =
+    subst (λ (bytes : List ℕ). SaysNames bytes c.args.table.now) (sym c.in_ok-text.ensures.text) (names_said c.args.table.now c.written.ensures.table)
