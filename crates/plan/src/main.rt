@@ -7,8 +7,9 @@ use self::progress::ProgressLine;
 use clap::Error;
 use clap::error::ErrorKind;
 use plan_cli::{
-    CliFault, FileOrder, OfficeOrder, Order, Rows, Unwatched, capacities_of, check_on_files,
-    command, explain_run, help, hint, order_of, run_on_file, template_run,
+    CliFault, FileOrder, OfficeOrder, Order, ProofWatcher, Rows, SolveWatcher, Task, Unwatched,
+    capacities_of, check_on_files, command, explain_run, help, hint, order_of, run_on_file,
+    template_run,
 };
 use plan_io::StdSink;
 use plan_serve::{
@@ -67,31 +68,31 @@ fn do_office_order(rt: &HostRuntime, order: OfficeOrder<'_>) -> Result<(), Serve
     }
 }
 
+// Runs a task on a file, and writes to standard output.
+fn do_task<V: ProofWatcher + SolveWatcher>(
+    rt: &HostRuntime,
+    task: Task<'_>,
+    rows: Rows,
+    watcher: &mut V,
+    path: &str,
+) -> Result<(), CliFault> {
+    let mut writer = StdSink::new(io::writer(rt));
+    run_on_file(rt, task, rows, watcher, path, &mut writer)
+}
+
 // Runs an order on files, and writes to standard output.
 fn do_file_order(rt: &HostRuntime, order: FileOrder<'_>, rows: Rows) -> Result<(), CliFault> {
     let mut writer = StdSink::new(io::writer(rt));
     match order {
-        FileOrder::Task(task, path) => {
-            run_on_file(rt, task, rows, &mut Unwatched, path, &mut writer)
-        }
+        FileOrder::Task(task, path) => do_task(rt, task, rows, &mut Unwatched, path),
         FileOrder::Watched(task, path) => {
-            run_on_file(
-                rt,
-                task,
-                rows,
-                &mut ProgressLine::new(rt),
-                path,
-                &mut writer,
-            )
+            do_task(rt, task, rows, &mut ProgressLine::new(rt), path)
         }
         FileOrder::Solve {
             task,
             file,
             seconds,
-        } => {
-            let mut line = ProgressLine::within(rt, seconds);
-            run_on_file(rt, task, rows, &mut line, file, &mut writer)
-        }
+        } => do_task(rt, task, rows, &mut ProgressLine::within(rt, seconds), file),
         FileOrder::Check { file, starts } => check_on_files(rt, file, starts, &mut writer),
         FileOrder::New(template) => template_run(template, &mut writer),
         FileOrder::Explain(words) => {
