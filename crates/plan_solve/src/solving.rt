@@ -4,6 +4,7 @@ ghost use Rattle.std.specs.Prelude.{◌≡◌, ◌≤◌, nat_eq, IfOk};
 ghost use Rattle.plan_solve.specs.Progress.{HearsTruth};
 ghost use Rattle.plan_solve.specs.Solutions as spec;
 
+use crate::log::Log;
 use crate::running::run;
 use crate::schedules::shorter;
 use crate::solvable::Solvable;
@@ -52,11 +53,12 @@ fn best_of<S: Solvable>(
 }
 
 /// Returns the result of a search with at most so many conflicts.
-pub fn searched<S: Solvable, W: Watcher>(
+pub fn searched<S: Solvable, W: Watcher, L: Log>(
     alloc: Global,
     source: &S,
     conflicts: u64,
     watcher: &mut W,
+    log: &mut L,
 ) -> Result<Solved, AllocError>
     ensures schedule { IfOk result (λ solved. S.is_schedule source.now solved.schedule) }
     ensures lower { IfOk result (λ solved. spec.IsLowerBound (S.problem source.now) solved.lower) }
@@ -66,14 +68,15 @@ pub fn searched<S: Solvable, W: Watcher>(
 {
     let schedule = source.by_rules(alloc)?;
     let simple = source.simple_bound(alloc)?;
-    if simple == schedule.makespan {
+    if simple == schedule.makespan && !log.is_wanted() {
         return Ok(Solved {
             schedule,
             lower: simple,
             conflicts: 0,
         });
     }
-    let found = run(alloc, source, &schedule.starts, simple, conflicts, watcher)?;
+    let starts = &schedule.starts;
+    let found = run(alloc, source, starts, simple, conflicts, watcher, log)?;
     Ok(Solved {
         schedule: best_of(alloc, source, schedule, &found.starts)?,
         lower: found.lower,
