@@ -44,7 +44,11 @@ fn plan_at(alloc: Global, n: u64) -> Result<PlanRecord, Fail> {
 fn a_plan_has_a_number_up_to_1000000(rt: HostRuntime) -> Result<(), Fail> {
     let alloc = rt.alloc();
     for (n, good) in [(0, false), (1, true), (1_000_000, true), (1_000_001, false)] {
-        assert_eq!(rt; is_plan_row(alloc, &plan_at(alloc, n)?)?, good, "number {n}");
+        assert_eq!(rt;
+            is_plan_row(alloc, &plan_at(alloc, n)?)?,
+            good,
+            "number {n}"
+        );
     }
     Ok(())
 }

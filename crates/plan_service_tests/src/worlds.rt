@@ -1,6 +1,6 @@
 //! Two runs that a desk can't tell apart, over two kinds of books.
 
-use crate::office::{LISTED, LISTING, OPENED, OPENING, OFFICE_KEY, office, sent, sql_office};
+use crate::office::{LISTED, LISTING, OFFICE_KEY, OPENED, OPENING, office, sent, sql_office};
 use plan_http::{Run, serve_two_worlds};
 use std::alloc::{AllocError, Global};
 use std::process::Abort;
@@ -21,7 +21,10 @@ fn expect_last(rt: &impl Abort, run: &Run, count: usize) {
     assert_eq!(rt; run.responses.len(), count);
     let mut last = run.responses.iter().rev();
     for wanted in [LISTED, OPENED] {
-        assert_eq!(rt; last.next().map(|text| text.as_slice()), Some(wanted.as_bytes()));
+        assert_eq!(rt;
+            last.next().map(|text| text.as_slice()),
+            Some(wanted.as_bytes())
+        );
     }
 }
 
