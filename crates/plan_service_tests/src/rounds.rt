@@ -5,13 +5,17 @@ use crate::office::{OFFICE_KEY, SIX, body_of, office, office_digest, read, sent,
 use plan_desk::{Book, Office};
 use plan_http::Routes;
 use plan_store::{SqlBook, StoreFault};
-use sqlite::{Connection, Unknown};
+use sqlite::{Connection, FileFrom, FileStore, Unknown};
 use std::alloc::{AllocError, Global};
 use std::env::temp_dir;
 use std::fs::remove_file;
 use std::hash::{BuildHasher, RandomState};
+use std::io;
 use std::process::Abort;
 use std::test::Fail;
+
+// A book in a file.
+type FileBook = SqlBook<FileStore<FileFrom<Unknown>>>;
 
 const DESKS: [&str; 10] = ["d1", "d2", "d3", "d4", "d5", "d6", "d7", "d8", "d9", "d10"];
 
@@ -211,43 +215,42 @@ fn in_sql_in_memory(rt: HostRuntime) -> Result<(), Fail> {
     Ok(())
 }
 
-// Makes the first rounds over a new database at a path, and closes it.
-fn expect_new_file(rt: &HostRuntime, path: &str) -> Result<(), Fail> {
-    let Ok(conn) = Connection::open_from(rt, path, false, Unknown) else {
-        panic!(rt; "{path} isn't opened");
-    };
-    let Ok(book) = SqlBook::create_in(rt.alloc(), conn, &office_digest()) else {
-        panic!(rt; "no tables are made in {path}");
-    };
-    let Ok(mut office) = Office::new(rt.alloc(), book) else {
-        panic!(rt; "no memory");
-    };
-    expect_first(rt, rt.alloc(), &mut office)?;
-    assert!(rt; office.into_book().into_connection().close().is_ok());
-    Ok(())
+// Returns an office over new tables in a file.
+fn make_office(rt: &HostRuntime, path: &str) -> Option<Office<FileBook>> {
+    let conn = Connection::open_from(rt, path, false, Unknown).ok()?;
+    let book = SqlBook::create_in(rt.alloc(), conn, &office_digest()).ok()?;
+    Office::new(rt.alloc(), book).ok()
 }
 
-// Opens the database at a path, and makes the other rounds.
-fn expect_old_file(rt: &HostRuntime, path: &str) -> Result<(), Fail> {
-    let Ok(book) = SqlBook::open_from(rt, path, Unknown) else {
-        panic!(rt; "the tables in {path} aren't opened again");
-    };
-    let Ok(mut office) = Office::new(rt.alloc(), book) else {
-        panic!(rt; "no memory");
-    };
-    expect_rest(rt, rt.alloc(), &mut office)
+// Returns an office over the tables in a file.
+fn open_office(rt: &HostRuntime, path: &str) -> Option<Office<FileBook>> {
+    let book = SqlBook::open_from(rt, path, Unknown).ok()?;
+    Office::new(rt.alloc(), book).ok()
+}
+
+// Returns the name of a new file in the folder of temporary files.
+fn new_path(rt: &HostRuntime) -> io::Result<String> {
+    let number = RandomState::new(rt)?.hash_one(&0u8);
+    let folder = temp_dir(rt)?;
+    let folder = folder.as_str();
+    Ok(format!(in rt.alloc(); "{folder}/plan-rounds-{number}.db")?)
 }
 
 #[test]
 fn in_sql_in_a_file(rt: HostRuntime) -> Result<(), Fail> {
-    let number = RandomState::new(&rt)?.hash_one(&0u8);
-    let folder = temp_dir(&rt)?;
-    let folder = folder.as_str();
-    let path = format!(in rt.alloc(); "{folder}/plan-rounds-{number}.db")?;
-    expect_new_file(&rt, path.as_str())?;
-    expect_old_file(&rt, path.as_str())?;
+    let path = new_path(&rt)?;
+    let Some(mut office) = make_office(&rt, path.as_str()) else {
+        panic!(rt; "no office is made in {path}");
+    };
+    expect_first(&rt, rt.alloc(), &mut office)?;
+    assert!(rt; office.into_book().into_connection().close().is_ok());
+    let Some(mut office) = open_office(&rt, path.as_str()) else {
+        panic!(rt; "the office in {path} isn't opened again");
+    };
+    expect_rest(&rt, rt.alloc(), &mut office)?;
+    assert!(rt; office.into_book().into_connection().close().is_ok());
+    remove_file(&rt, path.as_str())?;
     let log = format!(in rt.alloc(); "{path}-wal")?;
     remove_file(&rt, log.as_str())?;
-    remove_file(&rt, path.as_str())?;
     Ok(())
 }
