@@ -211,20 +211,26 @@ fn in_sql_in_memory(rt: HostRuntime) -> Result<(), Fail> {
     // No office is made over its tables.
     let conn = office.into_book().into_connection();
     let made = SqlBook::create_in(alloc, conn, &office_digest());
-    assert!(rt; matches!(made, Err((StoreFault::NotOurs, _))));
+    assert!(rt; matches!(&made, Err((StoreFault::NotOurs, _))));
     Ok(())
 }
 
 // Returns an office over new tables in a file.
 fn make_office(rt: &HostRuntime, path: &str) -> Option<Office<FileBook>> {
-    let conn = Connection::open_from(rt, path, false, Unknown).ok()?;
-    let book = SqlBook::create_in(rt.alloc(), conn, &office_digest()).ok()?;
+    let Ok(conn) = Connection::open_from(rt, path, false, Unknown) else {
+        return None;
+    };
+    let Ok(book) = SqlBook::create_in(rt.alloc(), conn, &office_digest()) else {
+        return None;
+    };
     Office::new(rt.alloc(), book).ok()
 }
 
 // Returns an office over the tables in a file.
 fn open_office(rt: &HostRuntime, path: &str) -> Option<Office<FileBook>> {
-    let book = SqlBook::open_from(rt, path, Unknown).ok()?;
+    let Ok(book) = SqlBook::open_from(rt, path, Unknown) else {
+        return None;
+    };
     Office::new(rt.alloc(), book).ok()
 }
 
@@ -249,8 +255,8 @@ fn in_sql_in_a_file(rt: HostRuntime) -> Result<(), Fail> {
     };
     expect_rest(&rt, rt.alloc(), &mut office)?;
     assert!(rt; office.into_book().into_connection().close().is_ok());
-    remove_file(&rt, path.as_str())?;
     let log = format!(in rt.alloc(); "{path}-wal")?;
-    remove_file(&rt, log.as_str())?;
+    let _ = remove_file(&rt, log.as_str());
+    remove_file(&rt, path.as_str())?;
     Ok(())
 }

@@ -32,7 +32,7 @@ fn each_letter_is_placed_at_its_earliest_start(rt: HostRuntime) -> Result<(), Fa
     }
     assert!(rt; tree.full());
     let schedule = tree.schedule(rt.alloc())?;
-    assert_eq!(rt; schedule.starts.as_slice(), &[0, 0, 0, 3, 2, 7]);
+    assert_eq!(rt; schedule.starts.as_slice(), [0, 0, 0, 3, 2, 7].as_slice());
     assert_eq!(rt; schedule.makespan, 7);
     Ok(())
 }
