@@ -19,6 +19,10 @@ mod replays;
 #[cfg(test)]
 mod responses;
 #[cfg(test)]
+mod rounds;
+#[cfg(test)]
 mod tables;
 #[cfg(test)]
 mod visits;
+#[cfg(test)]
+mod worlds;

@@ -25,6 +25,8 @@ mod networks;
 #[cfg(test)]
 mod profiles;
 #[cfg(test)]
+mod project_trees;
+#[cfg(test)]
 mod refusals;
 #[cfg(test)]
 mod searches;

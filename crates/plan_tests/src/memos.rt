@@ -35,34 +35,44 @@ fn asked(memo: &mut Memo, shop: &Shop, budget: u64) -> Result<(Kind, u64, usize)
     Ok((solved.kind, solved.schedule.makespan, memo.len()))
 }
 
-#[test]
-fn keeps_an_answer_for_each_budget(rt: HostRuntime) -> Result<(), Fail> {
-    let shop = shop_of(&rt, rt.alloc(), "2 2\n0 4 1 1\n0 1 1 3\n");
-    let mut memo = Memo::new(rt.alloc())?;
+// Two jobs of two steps on two machines, whose shortest schedule takes 6 time units.
+const PAIR: &str = "2 2\n0 4 1 1\n0 1 1 3\n";
+
+// Asks for a job shop with enough budget, with one less, and with enough again.
+fn expect_budgets(rt: &impl Abort, memo: &mut Memo, shop: &Shop) -> Result<(), ExactFault> {
     assert_eq!(rt; memo.len(), 0);
-    let cases = [
+    for (budget, wanted) in [
         (6, (Kind::Optimal, 6, 1)),
         (5, (Kind::Budget, 8, 2)),
         (6, (Kind::Optimal, 6, 2)),
-    ];
-    for (budget, wanted) in cases {
-        assert_eq!(rt; asked(&mut memo, &shop, budget)?, wanted, "budget {budget}");
+    ] {
+        assert_eq!(rt; asked(memo, shop, budget)?, wanted, "budget {budget}");
     }
-    assert!(rt; matches!(memo.solve(&shop, 0), Err(ExactFault::BadBudget)));
-    assert_eq!(rt; memo.len(), 2);
     Ok(())
 }
 
 #[test]
-fn forgets_the_least_recently_asked(rt: HostRuntime) -> Result<(), Fail> {
+fn keeps_no_refusal(rt: HostRuntime) -> Result<(), Fail> {
+    let shop = shop_of(&rt, rt.alloc(), PAIR);
     let mut memo = Memo::new(rt.alloc())?;
+    assert!(rt; matches!(memo.solve(&shop, 0), Err(ExactFault::BadBudget)));
+    assert_eq!(rt; memo.len(), 0);
+    Ok(())
+}
+
+#[test]
+fn keeps_64_answers_and_gives_those_that_it_forgot_again(rt: HostRuntime) -> Result<(), Fail> {
+    let pair = shop_of(&rt, rt.alloc(), PAIR);
+    let mut memo = Memo::new(rt.alloc())?;
+    expect_budgets(&rt, &mut memo, &pair)?;
     for time in 1..=65 {
         let shop = one_step(&rt, rt.alloc(), time)?;
-        let kept = MOST_KEPT.min(time as usize);
+        let kept = MOST_KEPT.min((time as usize).saturating_add(2));
         assert_eq!(rt; asked(&mut memo, &shop, 1)?, (Kind::Optimal, time, kept));
     }
-    // The second is asked for again, and then the first, which is no longer kept.
-    for time in [2, 1] {
+    // The first question again, whose answer is no longer kept, and two of the others.
+    assert_eq!(rt; asked(&mut memo, &pair, 6)?, (Kind::Optimal, 6, 64));
+    for time in [65, 1] {
         let shop = one_step(&rt, rt.alloc(), time)?;
         assert_eq!(rt; asked(&mut memo, &shop, 1)?, (Kind::Optimal, time, 64));
     }
