@@ -1,4 +1,4 @@
-//! Planner's lists: a table of activities as a project file.
+//! Planner's lists: a table of activities as a project file, a table of orders as a job shop file.
 #![tactic(auto)]
 
 mod cells;
