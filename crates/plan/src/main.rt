@@ -8,7 +8,8 @@ use clap::Error;
 use clap::error::ErrorKind;
 use plan_cli::{
     CliFault, FileOrder, OfficeOrder, Order, ProofWatcher, Rows, SolveWatcher, Task, Unwatched,
-    check_on_files, command, explain_run, help, hint, order_of, run_on_file, template_run,
+    check_on_files, command, explain_run, help, hint, order_of, overrides_of, run_on_file,
+    template_run,
 };
 use plan_io::StdSink;
 use plan_serve::{
@@ -27,6 +28,7 @@ enum Misuse {
     NoText,
     NoCommand,
     OneInput,
+    BadCapacity(String),
 }
 
 impl From<AllocError> for Misuse {
@@ -161,7 +163,11 @@ fn run(rt: &HostRuntime) -> Result<u8, Misuse> {
     let help = help(alloc)?;
     let parsed = command(alloc, help.as_str())?.try_get_matches_from(arguments.as_slice());
     let matches = parsed.map_err(Misuse::Usage)?;
-    let Some(order) = order_of(&matches) else {
+    let given = match overrides_of(alloc, &matches)? {
+        Ok(given) => given,
+        Err(text) => return Err(Misuse::BadCapacity(text.to_string(alloc)?)),
+    };
+    let Some(order) = order_of(&matches, &given) else {
         return Err(Misuse::NoCommand);
     };
     do_order(rt, order)
@@ -189,6 +195,14 @@ fn print_misuse<R: Eprint>(rt: &R, what: &str) -> u8 {
     2
 }
 
+// Prints the error of a text that gives no capacity, and returns the status of usage.
+fn print_bad_capacity(rt: &HostRuntime, text: &str) -> u8 {
+    let _ = eprintln!(rt;
+        "error: invalid value '{text}' for '--capacity <NAME=N>': N is a number from 0 to 10000\n\nFor more information, try '--help'."
+    );
+    2
+}
+
 // Prints the reason why no command starts, and returns the status.
 fn report(rt: &HostRuntime, misuse: &Misuse) -> u8 {
     match misuse {
@@ -196,6 +210,7 @@ fn report(rt: &HostRuntime, misuse: &Misuse) -> u8 {
         Misuse::Usage(error) => print_usage(rt, error),
         Misuse::NoText => print_misuse(rt, "a word of the command line isn't UTF-8"),
         Misuse::NoCommand => print_misuse(rt, "no command"),
+        Misuse::BadCapacity(text) => print_bad_capacity(rt, text),
         Misuse::OneInput => print_misuse(rt, "FILE and STARTS can't both be standard input"),
     }
 }

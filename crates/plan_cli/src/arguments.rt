@@ -42,6 +42,8 @@ enum Form {
     SearchSeconds,
     /// An option with the conflict limit of a search, or none.
     Conflicts,
+    /// An option with the capacity of a resource of a list, any number of times.
+    ListCapacity,
     /// An option without a value.
     Flag,
 }
@@ -130,11 +132,11 @@ const NODES: Argument = Argument {
     help: "how many nodes the search may visit, 1 to 1000000000",
 };
 
-// The option of commands whose rows are those of activities.
+// The option of commands whose rows are those of activities, orders or machines.
 const NAMES: Argument = Argument {
     name: "names",
     form: Form::Flag,
-    help: "print the names of the activities of a project",
+    help: "print the names of activities, orders or machines",
 };
 
 const DATABASE: Argument = Argument {
@@ -156,9 +158,21 @@ const LIST_COMMANDS: [Entry; 2] = [
     },
     Entry {
         name: "import",
-        about: "Converts a list, a CSV table, to a project file",
-        examples: "Examples:\n  plan import examples/house.csv\n  plan chart lft --names examples/house.sm",
-        arguments: &[FILE],
+        about: "Converts a list, a CSV table, to a project or job shop file",
+        examples: "Examples:\n  plan import examples/house.csv\n  plan import --capacity crew=6 examples/house.csv\n  plan import --shop examples/shop.csv",
+        arguments: &[
+            FILE,
+            Argument {
+                name: "capacity",
+                form: Form::ListCapacity,
+                help: "the capacity of a resource, in place of that of the list; may be repeated",
+            },
+            Argument {
+                name: "shop",
+                form: Form::Flag,
+                help: "convert a list of orders to a job shop file",
+            },
+        ],
     },
 ];
 
@@ -207,13 +221,13 @@ const SHOP_COMMANDS: [Entry; 4] = [
         name: "shop",
         about: "Prints a schedule of a job shop by a priority rule",
         examples: "Example:\n  plan shop mwkr examples/shops.txt ft06",
-        arguments: &[SHOP_RULE, FILE, INSTANCE],
+        arguments: &[SHOP_RULE, FILE, INSTANCE, NAMES],
     },
     Entry {
         name: "best",
         about: "Searches for a shortest schedule of a small job shop",
         examples: "Example:\n  plan best 200000 examples/shops.txt ft06",
-        arguments: &[BUDGET, FILE, INSTANCE],
+        arguments: &[BUDGET, FILE, INSTANCE, NAMES],
     },
     Entry {
         name: "prove",
@@ -228,6 +242,7 @@ const SHOP_COMMANDS: [Entry; 4] = [
                 form: Form::Flag,
                 help: "show on standard error how far the search is, every 500000 nodes",
             },
+            NAMES,
         ],
     },
 ];
@@ -387,9 +402,9 @@ fn plain<'a>(alloc: Global, argument: &Argument) -> Arg<'a> {
 }
 
 // Makes an argument of clap.
-fn arg_of<'a>(alloc: Global, argument: &Argument) -> Arg<'a> {
+fn arg_of<'a>(alloc: Global, argument: &Argument) -> Result<Arg<'a>, AllocError> {
     let arg = plain(alloc, argument);
-    match argument.form {
+    Ok(match argument.form {
         Form::Names | Form::Texts => arg.num_args(1..),
         Form::Kind => arg.value_parser(KINDS),
         Form::Port => arg.value_parser(value_parser!(u16).range(1..=65535)),
@@ -409,9 +424,14 @@ fn arg_of<'a>(alloc: Global, argument: &Argument) -> Arg<'a> {
             .long(argument.name)
             .value_name("N")
             .value_parser(value_parser!(u32).range(1..=1000000000)),
+        Form::ListCapacity => arg
+            .long(argument.name)
+            .value_name("NAME=N")
+            .action(ArgAction::Append)
+            .conflicts_with("shop")?,
         Form::Flag => arg.long(argument.name).action(ArgAction::SetTrue),
         _ => arg,
-    }
+    })
 }
 
 // Makes a command of clap.
@@ -420,7 +440,7 @@ fn subcommand<'a>(alloc: Global, entry: &Entry) -> Result<Command<'a>, AllocErro
         .about(entry.about)
         .after_help(entry.examples);
     for argument in entry.arguments {
-        command = command.arg(arg_of(alloc, argument))?;
+        command = command.arg(arg_of(alloc, argument)?)?;
     }
     Ok(command)
 }
