@@ -24,3 +24,4 @@ pub mod ShopTextLemmas
 pub mod NameLineLemmas
 pub mod ShopWriteLemmas
 pub mod ShopReadLemmas
+pub mod ShopNameLemmas

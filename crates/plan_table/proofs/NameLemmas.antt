@@ -1,5 +1,5 @@
 -- The names that the text of a table gives.
-use Rattle.std.proofs.Common.{◌≡◌, ℕ, ◌+◌, ◌≤◌, ◌<◌, Bool, true, false, List, [], ◌∷◌, ◌++◌, Option, Some, None, length, take, drop, codes, refl, sym, ap, ◌∙◌, subst, append_assoc, append-nil, arith, cond}
+use Rattle.std.proofs.Common.{◌≡◌, ℕ, ◌+◌, ◌≤◌, ◌<◌, Bool, true, false, List, [], ◌∷◌, ◌++◌, Some, None, length, drop, codes, refl, sym, ap, ◌∙◌, subst, append_assoc, append-nil, arith, cond}
 use Rattle.std.specs.Prelude.{nat_lt}
 use Rattle.std.specs.List.{AllByRecursion, filter_map, cons_option, position, position_or_len}
 use Rattle.std.specs.Fmt.{decimal}
@@ -7,13 +7,13 @@ use Rattle.std.proofs.Math.Seq.{take-append_seam, drop-append_seam}
 use Rattle.std.proofs.lemmas.Bool.{and_parts, and_from, not-true, not_from_false, lt-ltb, or_parts}
 use Rattle.std.proofs.lemmas.List.{length-append}
 use Rattle.std.proofs.lemmas.List.Elements.{filter_map-append}
-use Rattle.plan_psplib.specs.Lines.{is_blank, lines, numbered_from, raw_lines, trim, trim_start, trim_end, before_trimmed}
+use Rattle.plan_psplib.specs.Lines.{is_blank, numbered_from, trim, trim_start, trim_end, before_trimmed}
 use Rattle.plan_psplib.specs.Numbers.{number}
 use Rattle.plan_psplib.specs.Sections.{begins_with, is_title, information_title, availabilities_title}
 use Rattle.plan_table.specs.Columns.{columns}
 use Rattle.plan_table.specs.Jobs.{table_jobs, capacities_of}
-use Rattle.plan_table.specs.Limits.{IsEntry, IsName, IsSupply, IsTable, IsWithinLimits}
-use Rattle.plan_table.specs.Names.{Name, SaysNames, behind, name_at, name_cut, name_in, name_section, named, names_behind, numbered_name, activity_key, activity_names_of, resource_key, resource_names_of}
+use Rattle.plan_table.specs.Limits.{IsEntry, IsName, IsSupply, IsTable}
+use Rattle.plan_table.specs.Names.{Name, SaysNames, behind, name_at, name_cut, name_in, name_section, named, numbered_name, activity_key, activity_names_of, resource_key, resource_names_of}
 use Rattle.plan_table.specs.Numbered.{numbered}
 use Rattle.plan_table.specs.ProjectText.{project_text, resource_heads}
 use Rattle.plan_table.specs.Table.{Activity, Resource, Table}
@@ -109,7 +109,7 @@ trimmed_start : (text : List ℕ) → trim text ≡ text → trim_start text ≡
 trimmed_start [] is = refl
 trimmed_start (b ∷ bs) is = ap (λ t. cond t (trim_start bs) (b ∷ bs)) (first_inside b bs is)
 
-solid_name : (b : ℕ) (name : List ℕ) → IsName (b ∷ name) → IsSolid (b ∷ name)
+pub solid_name : (b : ℕ) (name : List ℕ) → IsName (b ∷ name) → IsSolid (b ∷ name)
 solid_name b name is = record { some = omega arith; end = ap trim_end (sym (trimmed_start (b ∷ name) is.trimmed)) ∙ is.trimmed }
 
 -- ---- the name of a line
@@ -146,7 +146,7 @@ trim_start_number j rest small =
     subst P (sym d.is) (trim_start-word d.first d.others rest (subst IsWord d.is (word_decimal j small)))
 
 -- what stands behind the key of a line
-behind_key : (j b : ℕ) (name : List ℕ) → j < 1000000000 → IsName (b ∷ name) → name_in (trim_start (decimal j ++ codes " " ++ (b ∷ name))) ≡ Some (record { number = j; name = b ∷ name })
+pub behind_key : (j b : ℕ) (name : List ℕ) → j < 1000000000 → IsName (b ∷ name) → name_in (trim_start (decimal j ++ codes " " ++ (b ∷ name))) ≡ Some (record { number = j; name = b ∷ name })
 behind_key j b name small is =
     ap (λ text. name_in (trim_start text)) (append_assoc (decimal j) (32 ∷ []) (b ∷ name))
     ∙ ap name_in (trim_start_number j (32 ∷ b ∷ name) small) ∙ numbered_line j b name small is
@@ -162,19 +162,19 @@ resource_line_trimmed : (i b : ℕ) (name : List ℕ) → IsName (b ∷ name) �
 resource_line_trimmed i b name is = trim_end-before (resource_key ++ decimal i ++ codes " ") (b ∷ name) (solid_name b name is)
 
 -- the names that lines give
-abbrev gives : List ℕ → List (List ℕ) → List Name
+abbrev pub gives : List ℕ → List (List ℕ) → List Name
 gives key ls = filter_map (λ l. named key (trim l)) ls
 
-names_of_lines : (key : List ℕ) (n : ℕ) (ls : List (List ℕ)) → filter_map (λ line. named key line.text) (numbered_from n ls) ≡ gives key ls
+pub names_of_lines : (key : List ℕ) (n : ℕ) (ls : List (List ℕ)) → filter_map (λ line. named key line.text) (numbered_from n ls) ≡ gives key ls
 names_of_lines key n [] = refl
 names_of_lines key n (l ∷ ls) = ap (cons_option (named key (trim l))) (names_of_lines key (n + 1) ls)
 
 -- ---- the lines of the names
 
-one_name : (key l : List ℕ) (n : Name) → named key (trim l) ≡ Some n → gives key (l ∷ []) ≡ n ∷ []
+pub one_name : (key l : List ℕ) (n : Name) → named key (trim l) ≡ Some n → gives key (l ∷ []) ≡ n ∷ []
 one_name key l n is = ap (λ o. cons_option o []) is
 
-no_name : (key l : List ℕ) → named key (trim l) ≡ None → gives key (l ∷ []) ≡ []
+pub no_name : (key l : List ℕ) → named key (trim l) ≡ None → gives key (l ∷ []) ≡ []
 no_name key l is = ap (λ o. cons_option o []) is
 
 activity_name : (j : ℕ) (name : List ℕ) → j < 1000000000 → IsName name → gives activity_key (name_row j name) ≡ name_at j name

@@ -1,20 +1,18 @@
 -- A line of a name changes nothing of the project that a text says.
-use Rattle.std.proofs.Common.{◌≡◌, ◌≢◌, ℕ, ◌+◌, ◌≤◌, ◌&&◌, ◌||◌, Bool, true, false, List, [], ◌∷◌, ◌++◌, Option, Some, None, length, map, filter, drop, codes, refl, sym, ap, ◌∙◌, subst, append_assoc, cond}
-use Rattle.std.specs.Prelude.{not, All, nat_eq}
-use Rattle.std.specs.List.{list_all, flat_map}
+use Rattle.std.proofs.Common.{◌≡◌, ℕ, ◌+◌, ◌&&◌, ◌||◌, Bool, true, false, List, [], ◌∷◌, ◌++◌, Option, Some, None, length, map, drop, codes, refl, sym, ap, ◌∙◌, subst, append_assoc, cond}
+use Rattle.std.specs.Prelude.{not, nat_eq}
+use Rattle.std.specs.List.{flat_map}
 use Rattle.std.proofs.lemmas.Bool.{and_parts, and_from, not-true, not_from_false, eqb-true, false≢true, or_parts}
 use Rattle.std.proofs.lemmas.List.{map-append}
 use Rattle.std.proofs.lemmas.List.Folds.{list_all-append}
 use Rattle.plan_psplib.specs.Document.{Document}
 use Rattle.plan_psplib.specs.Lines.{NumberedLine, raw_lines, trim, words}
 use Rattle.plan_psplib.specs.Numbers.{number}
-use Rattle.plan_psplib.specs.Plain.{longest_text}
 use Rattle.plan_psplib.specs.Project.{Project, SaysProject}
 use Rattle.plan_psplib.specs.Says.{HasValue, Says, SectionSpells, Spells, precedence_numbers}
 use Rattle.plan_psplib.specs.Sections.{availabilities_title, before_title, begins_with, head_of, information_title, is_kept, is_title, kept_lines, key_line, precedence_title, requests_title, section, section_from}
 use Rattle.plan_psplib.specs.Streams.{LineWord, Stream, words_at, words_of}
-use Rattle.plan_table.specs.NameLines.{EndInInformation, HasNameLine, IsReadable, NameLinesChangeNothing, is_name_line}
-use Rattle.plan_table.specs.Names.{activity_key, resource_key}
+use Rattle.plan_table.specs.NameLines.{HasNameLine, IsReadable, NameLinesChangeNothing, is_name_line}
 use Rattle.plan_table.proofs.RowListLemmas.{no_availabilities, no_requests}
 use Rattle.plan_table.proofs.SectionLemmas.{kept_at, kept_from, no_titles, none_begins, section_past}
 

@@ -1,13 +1,13 @@
 -- The shop of a list of orders is within the limits.
-use Rattle.std.proofs.Common.{◌≡◌, ℕ, zero, suc, ◌+◌, ◌-◌, ◌≤◌, ◌<◌, ◌==◌, ◌||◌, Bool, true, false, List, [], ◌∷◌, ◌++◌, length, map, refl, sym, ap, ◌∙◌, subst, arith, cond}
-use Rattle.std.specs.Prelude.{count_by, filter, min, take}
+use Rattle.std.proofs.Common.{◌≡◌, ℕ, zero, suc, ◌+◌, ◌-◌, ◌≤◌, ◌<◌, ◌==◌, ◌||◌, Bool, true, false, List, [], ◌∷◌, ◌++◌, length, map, refl, sym, ap, ◌∙◌, arith, cond}
+use Rattle.std.specs.Prelude.{count_by, filter, take}
 use Rattle.std.specs.List.{AllByRecursion, list_any, sum_by}
 use Rattle.std.proofs.lemmas.Bool.{eqb-true, ne_eqb}
 use Rattle.std.proofs.lemmas.List.{length-append, length-map, length-take}
 use Rattle.std.proofs.lemmas.List.Elements.{All-from_recursion}
 use Rattle.std.proofs.lemmas.List.Sums.{length-filter, sum_by-append, sum_by-cons}
 use Rattle.plan_orlib.specs.declared.steps.Step.{Step}
-use Rattle.plan_orlib.specs.Shop.{IsJob, IsShop, IsStep, Shop, time_of, total_time}
+use Rattle.plan_orlib.specs.Shop.{IsJob, IsShop, IsStep, time_of, total_time}
 use Rattle.plan_table.specs.declared.shop_table.ShopStep.{ShopStep}
 use Rattle.plan_table.specs.Numbered.{numbered}
 use Rattle.plan_table.specs.ShopTable.{IsShopStep, IsShopTable, ShopTable, idle, idle_on, idle_step, is_of, is_on, padded, shop_job, shop_of, step_of, steps_of}

@@ -1,5 +1,5 @@
 -- The list of orders that a text says is within the limits.
-use Rattle.std.proofs.Common.{◌≡◌, ◌≢◌, ℕ, ◌+◌, ◌≤◌, ◌<◌, ◌==◌, ◌&&◌, Bool, true, false, List, [], ◌∷◌, ◌++◌, Result, Ok, length, refl, sym, ap, ◌∙◌, subst, arith, cond}
+use Rattle.std.proofs.Common.{◌≡◌, ◌≢◌, ℕ, ◌+◌, ◌≤◌, ◌<◌, ◌==◌, ◌&&◌, Bool, true, false, List, [], ◌∷◌, ◌++◌, Ok, length, refl, subst, arith, cond}
 use Rattle.std.specs.Prelude.{nat_le, nat_lt, count_by, drop}
 use Rattle.std.specs.List.{AllByRecursion, sum_by}
 use Rattle.std.proofs.lemmas.Bool.{eqb-true, eqb-false, leb-true, ltb-false, ltb-true}
@@ -11,31 +11,34 @@ use Rattle.plan_table.specs.declared.shop_table.ShopStep.{ShopStep}
 use Rattle.plan_table.specs.Csv.{Row}
 use Rattle.plan_table.specs.Cells.{amount, name, same}
 use Rattle.plan_table.specs.Entries.{is_blank_row}
-use Rattle.plan_table.specs.Limits.{IsName}
-use Rattle.plan_table.specs.Listing.{rows_read}
-use Rattle.plan_table.specs.Reading.{Fault, ◌>>=◌, fault, check}
+use Rattle.plan_table.specs.Reading.{fault, check}
 use Rattle.plan_table.specs.Rows.{first_cell}
-use Rattle.plan_table.specs.ShopReading.{ShopEntries, filled_row, name_added, no_shop_entries, order_fits, order_read, orders_fit, place_from, place_of, shop_finished, shop_header, shop_in, shop_name, shop_row, shop_rows, shop_table_read, step_added, step_read, steps_read, table_of, with_name}
-use Rattle.plan_table.specs.ShopTable.{IsShopStep, IsShopTable, ShopTable, is_of}
-use Rattle.plan_table.proofs.LimitLemmas.{then_ok, same_ok, check_ok, all_push, push_length, amount_small, name_good}
+use Rattle.plan_table.specs.ShopReading.{ShopEntries, filled_row, name_added, no_shop_entries, order_fits, order_read, orders_fit, place_from, place_of, shop_finished, shop_header, shop_in, shop_name, shop_row, shop_rows, step_added, step_read, steps_read, table_of, with_name}
+use Rattle.plan_table.specs.ShopTable.{IsShopName, IsShopStep, IsShopTable, ShopTable, is_of}
+use Rattle.plan_table.proofs.LimitLemmas.{then_ok, same_ok, check_ok, all_push, push_length, amount_small, name_good, name_is}
 use Rattle.plan_table.proofs.TrimLemmas.{trim_trim}
 
 -- ---- names
 
-shop_name_good : (line : ℕ) (cell text : List ℕ) → shop_name line cell ≡ Ok text → trim cell ≡ cell → IsName text
+shop_name_good : (line : ℕ) (cell text : List ℕ) → shop_name line cell ≡ Ok text → trim cell ≡ cell → IsShopName text
 unfolding shop_name
-shop_name_good line cell text is trimmed = by_test (length cell == 0) is
+shop_name_good line cell text is trimmed = by_test (length cell == 0) refl is
   where
-    by_test : (b : Bool) → cond b (fault code.BadId line []) (name line cell) ≡ Ok text → IsName text
-    by_test true is = absurd (cc)
-    by_test false is = name_good line cell text is trimmed
+    by_test : (b : Bool) → (length cell == 0) ≡ b → cond b (fault code.BadId line []) (name line cell) ≡ Ok text → IsShopName text
+    by_test true empty is = absurd (cc)
+    by_test false filled is =
+        let other : length cell ≡ 0 → ⊥ = eqb-false (length cell) 0 filled in
+        record {
+          name = name_good line cell text is trimmed;
+          some = subst (λ (t : List ℕ). 0 < length t) (name_is line cell text is) (omega (arith, other));
+        }
 
 -- names with one that is added
 record AreAdded (most : ℕ) (before after : List (List ℕ)) (k : ℕ) : Type 0 where
   few : length after ≤ most
   place : k < length after
   more : length before ≤ length after
-  names : AllByRecursion IsName after
+  names : AllByRecursion IsShopName after
 
 place_low : (n : ℕ) (names : List (List ℕ)) (text : List ℕ) → place_from n names text ≤ n + length names
 place_low n [] text = omega arith
@@ -46,7 +49,7 @@ place_low n (other ∷ others) text = by_test (place_low (n + 1) others text) (s
     by_test rest false = omega (arith, rest)
 
 added_good : (most line : ℕ) (names : List (List ℕ)) (text : List ℕ) (found : List (List ℕ) × ℕ) → name_added most line names text ≡ Ok found →
-    length names ≤ most → AllByRecursion IsName names → IsName text → AreAdded most names found.0 found.1
+    length names ≤ most → AllByRecursion IsShopName names → IsShopName text → AreAdded most names found.0 found.1
 unfolding name_added
 added_good most line names text found is few good named =
     then_ok (check (nat_lt (place_of names text) most) code.Limit line) _ found is (λ u room is.
@@ -59,15 +62,15 @@ added_good most line names text found is few good named =
     by_test room low false new =
         let size = push_length names text in
         let high = ltb-false (place_of names text) (length names) new in
-        record { few = omega (arith, size, room, high, low); place = omega (arith, size, low); more = omega (arith, size); names = all_push IsName names text good named }
+        record { few = omega (arith, size, room, high, low); place = omega (arith, size, low); more = omega (arith, size); names = all_push IsShopName names text good named }
 
 -- ---- entries
 
 record AreGood (e : ShopEntries) : Type 0 where
   orders : length e.orders ≤ 50
   machines : length e.machines ≤ 20
-  order_names : AllByRecursion IsName e.orders
-  machine_names : AllByRecursion IsName e.machines
+  order_names : AllByRecursion IsShopName e.orders
+  machine_names : AllByRecursion IsShopName e.machines
   steps : AllByRecursion (IsShopStep (length e.orders) (length e.machines)) e.steps
   total : e.total ≡ sum_by (λ (s : ShopStep). s.time) e.steps
   limit : e.total ≤ 1000000

@@ -1,5 +1,5 @@
 -- What the text of a list of orders says: the shop of the list.
-use Rattle.std.proofs.Common.{◌≡◌, ℕ, zero, suc, ◌+◌, ◌≤◌, ◌<◌, ◌==◌, ◌||◌, ◌&&◌, Bool, true, false, List, [], ◌∷◌, ◌++◌, Option, Some, None, Result, Ok, length, map, filter, codes, refl, sym, ap, ◌∙◌, subst, append_assoc, append-nil, arith, cond}
+use Rattle.std.proofs.Common.{◌≡◌, ℕ, ◌+◌, ◌≤◌, ◌<◌, ◌==◌, Bool, true, false, List, [], ◌∷◌, ◌++◌, Option, Some, None, Ok, length, map, codes, refl, sym, ap, ◌∙◌, subst, append_assoc, append-nil, arith, cond}
 use Rattle.std.specs.Prelude.{not, count_by, is_some, nat_eq, nat_le, nat_lt, take}
 use Rattle.std.specs.List.{AllByRecursion, flat_map, list_all, position, position_or_len}
 use Rattle.std.specs.Option.{option_map}
@@ -9,8 +9,8 @@ use Rattle.std.proofs.lemmas.Bool.{and_parts, ne_eqb, not-true, le-leb, le-ltb, 
 use Rattle.std.proofs.lemmas.List.{map-append}
 use Rattle.std.proofs.lemmas.List.Elements.{recursion_from_All}
 use Rattle.std.proofs.lemmas.Slice.Eq.{bytes_eq-Decides}
-use Rattle.plan_psplib.specs.Lines.{NumberedLine, before_trimmed, is_line_feed, is_nonempty, lines, numbered_from, raw_lines, trim, trim_end, words}
-use Rattle.plan_psplib.specs.Numbers.{is_digit, number}
+use Rattle.plan_psplib.specs.Lines.{NumberedLine, before_trimmed, is_line_feed, lines, numbered_from, raw_lines, trim, trim_end, words}
+use Rattle.plan_psplib.specs.Numbers.{number}
 use Rattle.plan_psplib.specs.Plain.{is_zero, no_zero, plain, zero_line}
 use Rattle.plan_psplib.specs.Streams.{LineWord, Stream, before_end, words_at, words_of}
 use Rattle.plan_psplib.specs.Tokens as tokens
@@ -20,18 +20,17 @@ use Rattle.plan_orlib.specs.Instances.{behind_description, begins_with_two_numbe
 use Rattle.plan_orlib.specs.Shop.{IsJob, IsStep}
 use Rattle.plan_orlib.specs.Says.{BeginsWith, Says, job_numbers, shop_numbers}
 use Rattle.plan_table.specs.Columns.{columns, number_column, places_at, spaced}
-use Rattle.plan_table.specs.Limits.{IsName}
 use Rattle.plan_table.specs.Numbered.{numbered}
-use Rattle.plan_table.specs.ShopTable.{IsShopTable, ShopTable, shop_job, shop_of}
-use Rattle.plan_table.specs.ShopText.{instance, job_line, machine_line, number_line, order_line, shop_names_text, shop_numbers_text, shop_text}
-use Rattle.plan_table.proofs.DigitLemmas.{all_weaker, digit_passes}
-use Rattle.plan_table.proofs.LineLemmas.{IsPlain, is_plain, plain_append, plain_decimal, word_then}
+use Rattle.plan_table.specs.ShopTable.{IsShopName, IsShopTable, ShopTable, shop_job, shop_of}
+use Rattle.plan_table.specs.ShopText.{instance, job_line, machine_line, number_line, order_line, shop_text}
+use Rattle.plan_table.proofs.DigitLemmas.{digit_passes}
+use Rattle.plan_table.proofs.LineLemmas.{IsPlain, plain_append, plain_decimal, word_then}
 use Rattle.plan_table.proofs.LawLemmas.{is_some_byte}
 use Rattle.plan_table.proofs.RowLemmas.{IsRow, blank_row, row_is, tail_columns}
 use Rattle.plan_table.proofs.SectionLemmas.{words_at_number}
 use Rattle.plan_table.proofs.ShopJobLemmas.{count_jobs, is_shop, job_good}
 use Rattle.plan_table.proofs.TableTextLemmas.{lines_bytes}
-use Rattle.plan_table.proofs.TextLineLemmas.{IsLines, lines_before, lines_both, numbered_lines, one_line, raw_lines-before}
+use Rattle.plan_table.proofs.TextLineLemmas.{IsLines, lines_both, numbered_lines, one_line, raw_lines-before}
 
 all_both : {A : Type 0} (P : A → Type 0) (xs ys : List A) → AllByRecursion P xs → AllByRecursion P ys → AllByRecursion P (xs ++ ys)
 all_both P [] ys h k = k
@@ -43,10 +42,10 @@ all_along P Q f (x ∷ xs) h = (f x h.0, all_along P Q f xs h.1)
 
 -- ---- plus lines
 
-record IsPlus (l : List ℕ) : Type 0 where
-  before : is_before_description (trim l) ≡ true
-  inside : is_instance (trim l) ≡ false
-  plain : IsPlain l
+pub record IsPlus (l : List ℕ) : Type 0 where
+  pub before : is_before_description (trim l) ≡ true
+  pub inside : is_instance (trim l) ≡ false
+  pub plain : IsPlain l
 
 plus_before : (o : List ℕ) → is_before_description (before_trimmed 43 (before_trimmed 32 o)) ≡ true
 plus_before [] = refl
@@ -65,10 +64,10 @@ plus_line : (rest : List ℕ) → IsPlain rest → IsPlus (43 ∷ 32 ∷ rest)
 plus_line rest plain = record { before = plus_before (trim_end rest); inside = plus_inside (trim_end rest); plain = plain }
 
 -- the lines of the names
-abbrev machine_row : ℕ → List ℕ → List ℕ
+abbrev pub machine_row : ℕ → List ℕ → List ℕ
 machine_row k name = codes "+ machine " ++ decimal k ++ codes " " ++ name
 
-abbrev order_row : ℕ → List ℕ → List ℕ
+abbrev pub order_row : ℕ → List ℕ → List ℕ
 order_row j name = codes "+ job " ++ decimal j ++ codes " " ++ name
 
 machine_is : (k : ℕ) (name : List ℕ) → machine_line k name ≡ machine_row k name ++ 10 ∷ []
@@ -83,17 +82,17 @@ numbered_plain : (front : List ℕ) (k : ℕ) (name : List ℕ) → IsPlain fron
 numbered_plain front k name p small q =
     plain_append (front ++ decimal k ++ codes " ") name (plain_append (front ++ decimal k) (codes " ") (plain_append front (decimal k) p (plain_decimal k small)) refl) q
 
-machines_plus : (k : ℕ) (names : List (List ℕ)) → k + length names ≤ 1000 → AllByRecursion IsName names → AllByRecursion IsPlus (numbered (λ k name. machine_row k name ∷ []) k names)
+machines_plus : (k : ℕ) (names : List (List ℕ)) → k + length names ≤ 1000 → AllByRecursion IsShopName names → AllByRecursion IsPlus (numbered (λ k name. machine_row k name ∷ []) k names)
 machines_plus k [] few h = tt
 machines_plus k (name ∷ names) few h = (
-  plus_line (codes "machine " ++ decimal k ++ codes " " ++ name) (numbered_plain (codes "machine ") k name refl (omega (arith, few)) h.0.plain),
+  plus_line (codes "machine " ++ decimal k ++ codes " " ++ name) (numbered_plain (codes "machine ") k name refl (omega (arith, few)) h.0.name.plain),
   machines_plus (k + 1) names (omega (arith, few)) h.1,
 )
 
-orders_plus : (j : ℕ) (names : List (List ℕ)) → j + length names ≤ 1000 → AllByRecursion IsName names → AllByRecursion IsPlus (numbered (λ j name. order_row j name ∷ []) j names)
+orders_plus : (j : ℕ) (names : List (List ℕ)) → j + length names ≤ 1000 → AllByRecursion IsShopName names → AllByRecursion IsPlus (numbered (λ j name. order_row j name ∷ []) j names)
 orders_plus j [] few h = tt
 orders_plus j (name ∷ names) few h = (
-  plus_line (codes "job " ++ decimal j ++ codes " " ++ name) (numbered_plain (codes "job ") j name refl (omega (arith, few)) h.0.plain),
+  plus_line (codes "job " ++ decimal j ++ codes " " ++ name) (numbered_plain (codes "job ") j name refl (omega (arith, few)) h.0.name.plain),
   orders_plus (j + 1) names (omega (arith, few)) h.1,
 )
 
@@ -132,7 +131,7 @@ row_inside line (n ∷ ns) row some = by_words (words (trim line)) row.reads
     by_words (w ∷ v ∷ u ∷ ws) e = refl
 
 -- the lines of lists of numbers
-abbrev rows_of : List (List ℕ) → List (List ℕ)
+abbrev pub rows_of : List (List ℕ) → List (List ℕ)
 rows_of nss = map (columns 2 4) nss
 
 rows_hold : (P : List ℕ → Type 0) → ((ns : List ℕ) → AreNumbers ns → P (columns 2 4 ns)) → (nss : List (List ℕ)) → AllByRecursion AreNumbers nss → AllByRecursion P (rows_of nss)
@@ -170,10 +169,10 @@ description_at n (p ∷ ls) l rest h other =
     let more = numbered_from (n + 1) (ls ++ l ∷ rest) in
     (further.0, ap (λ b. cond b (behind_description more) more) h.0.before ∙ further.1)
 
-abbrev title : List ℕ
+abbrev pub title : List ℕ
 title = codes "instance shop"
 
-abbrev description : List ℕ
+abbrev pub description : List ℕ
 description = codes "plan import"
 
 -- a text of one instance
@@ -232,7 +231,7 @@ plain_text text short bytes =
 -- ---- the text of a list of orders
 
 -- the numbers of its lines
-abbrev numbers_of : ShopTable → List (List ℕ)
+abbrev pub numbers_of : ShopTable → List (List ℕ)
 numbers_of t = (length t.orders ∷ length t.machines ∷ []) ∷ numbered (λ k _. job_numbers (shop_job t k) ∷ []) 0 t.orders
 
 number_line_is : (ns : List ℕ) → IsLines (number_line ns) (columns 2 4 ns ∷ [])
@@ -243,7 +242,7 @@ job_lines_are : (t : ShopTable) (i : ℕ) (xs : List (List ℕ)) → IsLines (nu
 job_lines_are t i [] = record { before = λ rest. refl }
 job_lines_are t i (x ∷ xs) = lines_both _ _ _ _ (number_line_is (job_numbers (shop_job t i))) (job_lines_are t (i + 1) xs)
 
-abbrev names_of : ShopTable → List (List ℕ)
+abbrev pub names_of : ShopTable → List (List ℕ)
 names_of t = numbered (λ k name. machine_row k name ∷ []) 0 t.machines ++ numbered (λ j name. order_row j name ∷ []) 1 t.orders
 
 regroup : {A : Type 0} (a : A) (b : List A) (c : A) (d : List A) → ((a ∷ []) ++ b ++ c ∷ []) ++ d ≡ a ∷ (b ++ c ∷ d)
@@ -285,8 +284,8 @@ all_numbers t is =
     let machines = is.machines.1 in
     (record { some = omega arith; small = (omega (arith, orders), (omega (arith, machines), tt)) }, jobs_are_numbers t is 0 t.orders (omega arith))
 
-all_plus : (t : ShopTable) → IsShopTable t → AllByRecursion IsPlus (names_of t)
-all_plus t is =
+pub block_plus : (t : ShopTable) → IsShopTable t → AllByRecursion IsPlus (names_of t)
+block_plus t is =
     let orders = is.orders.1 in
     let machines = is.machines.1 in
     all_both IsPlus (numbered (λ k name. machine_row k name ∷ []) 0 t.machines) (numbered (λ j name. order_row j name ∷ []) 1 t.orders)
@@ -295,7 +294,7 @@ all_plus t is =
 all_plain : (t : ShopTable) → IsShopTable t → AllByRecursion IsPlain (title ∷ (names_of t ++ description ∷ rows_of (numbers_of t)))
 all_plain t is = (
   refl,
-  all_both IsPlain (names_of t) (description ∷ rows_of (numbers_of t)) (all_along IsPlus IsPlain (λ l h. h.plain) (names_of t) (all_plus t is))
+  all_both IsPlain (names_of t) (description ∷ rows_of (numbers_of t)) (all_along IsPlus IsPlain (λ l h. h.plain) (names_of t) (block_plus t is))
       (refl, rows_hold IsPlain (λ ns h. (numbers_row ns h).plain) (numbers_of t) (all_numbers t is)),
 )
 
@@ -305,9 +304,14 @@ text_block t is =
     record {
       names = names_of t;
       raw = ap raw_lines (sym (append-nil (shop_text t)) ∙ (text_lines t).before []) ∙ raw_lines-before ls [] (all_plain t is) ∙ append-nil ls;
-      plus = all_plus t is;
+      plus = block_plus t is;
       numbers = all_numbers t is;
     }
+
+pub block_raw : (t : ShopTable) → IsShopTable t → raw_lines (shop_text t) ≡ title ∷ (names_of t ++ description ∷ rows_of (numbers_of t))
+block_raw t is =
+    let ls = title ∷ (names_of t ++ description ∷ rows_of (numbers_of t)) in
+    ap raw_lines (sym (append-nil (shop_text t)) ∙ (text_lines t).before []) ∙ raw_lines-before ls [] (all_plain t is) ∙ append-nil ls
 
 jobs_flat : (t : ShopTable) (i : ℕ) (xs : List (List ℕ)) →
     flat_map (λ ns. ns) (numbered (λ k _. job_numbers (shop_job t k) ∷ []) i xs) ≡ flat_map job_numbers (numbered (λ k _. shop_job t k ∷ []) i xs)

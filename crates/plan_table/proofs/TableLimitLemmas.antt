@@ -5,11 +5,10 @@ use Rattle.std.specs.List.{AllByRecursion, list_any, sum_by}
 use Rattle.std.proofs.lemmas.Bool.{leb-true, ltb-true, lt-ltb}
 use Rattle.std.proofs.lemmas.List.Sums.{sum_by-cons, sum_by_push}
 use Rattle.plan_psplib.specs.Lines.{trim}
-use Rattle.plan_psplib.specs.Plain.{longest_text}
 use Rattle.plan_table.specs.declared.fault.TableCode.TheVariants as code
 use Rattle.plan_table.specs.declared.header.Column.{Column}
 use Rattle.plan_table.specs.declared.header.Column.TheVariants as columns
-use Rattle.plan_table.specs.Csv.{Row, records_of}
+use Rattle.plan_table.specs.Csv.{Row}
 use Rattle.plan_table.specs.Limits.{IsName, IsEntry, IsSupply, IsWithinLimits}
 use Rattle.plan_table.specs.Reading.{◌>>=◌, check}
 use Rattle.plan_table.specs.Cells.{amount, same}

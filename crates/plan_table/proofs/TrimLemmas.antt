@@ -1,5 +1,5 @@
 -- Texts without blanks at their ends.
-use Rattle.std.proofs.Common.{◌≡◌, ℕ, ◌+◌, ◌≤◌, Bool, true, false, List, [], ◌∷◌, length, refl, sym, ap, ◌∙◌, arith, cond}
+use Rattle.std.proofs.Common.{◌≡◌, ℕ, Bool, true, false, List, [], ◌∷◌, refl, sym, ap, ◌∙◌, cond}
 use Rattle.plan_psplib.specs.Lines.{is_blank, trim, trim_start, trim_end, before_trimmed}
 
 -- ---- a trimmed text is trimmed

@@ -18,5 +18,6 @@ pub mod Refused
 pub mod ShopTable
 pub mod ShopReading
 pub mod ShopText
+pub mod ShopNames
 pub use Rattle.plan_psplib.specs.Project
 pub use Rattle.plan_net.specs.Network

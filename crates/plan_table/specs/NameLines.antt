@@ -1,5 +1,5 @@
 -- Lines of names in a project file: the project reader skips them.
-use Rattle.std.specs.Prelude.{◌≡◌, ◌≢◌, ℕ, ◌≤◌, ◌||◌, Bool, true, List, [], ◌∷◌, ◌++◌, All, length, not}
+use Rattle.std.specs.Prelude.{◌≡◌, ◌≢◌, ℕ, ◌≤◌, ◌||◌, Bool, true, List, ◌∷◌, ◌++◌, All, length, not}
 use Rattle.std.specs.List.{list_all}
 use Rattle.plan_psplib.specs.Lines.{raw_lines, trim}
 use Rattle.plan_psplib.specs.Plain.{longest_text}

@@ -1,5 +1,5 @@
 -- What the text of a list of orders says: a job shop.
-use Rattle.std.specs.Prelude.{ℕ, ◌+◌, ◌==◌, ◌&&◌, Bool, true, false, if◌then◌else◌, List, [], ◌∷◌, ◌++◌, Result, Ok, Err, codes, count_by, drop, length, map, nat_le, nat_lt}
+use Rattle.std.specs.Prelude.{ℕ, ◌+◌, ◌==◌, ◌&&◌, Bool, true, false, if◌then◌else◌, List, [], ◌∷◌, ◌++◌, Result, Ok, codes, count_by, drop, length, map, nat_le, nat_lt}
 use Rattle.std.specs.String.{string_bytes}
 use Rattle.plan_net.specs.Limits.{longest_sum}
 use Rattle.plan_psplib.specs.Lines.{trim}

@@ -58,12 +58,17 @@ shop_of t = record { machines = length t.machines; jobs = numbered (λ k _. shop
 abbrev pub IsShopStep : ℕ → ℕ → ShopStep → Type 0
 IsShopStep n m s = (s.order < n) × (s.machine < m) × (s.time ≤ greatest)
 
+-- the name of an order or of a machine isn't empty
+pub record IsShopName (text : List ℕ) : Type 0 where
+  pub name : IsName text
+  pub some : 0 < length text
+
 -- a table within the limits, in which no order has more steps than there are machines
 pub record IsShopTable (t : ShopTable) : Type 0 where
   pub orders : (1 ≤ length t.orders) × (length t.orders ≤ most_jobs)
   pub machines : (1 ≤ length t.machines) × (length t.machines ≤ most_machines)
-  pub order_names : AllByRecursion IsName t.orders
-  pub machine_names : AllByRecursion IsName t.machines
+  pub order_names : AllByRecursion IsShopName t.orders
+  pub machine_names : AllByRecursion IsShopName t.machines
   pub steps : AllByRecursion (IsShopStep (length t.orders) (length t.machines)) t.steps
   pub fit : (k : ℕ) → k < length t.orders → count_by (is_of k) t.steps ≤ length t.machines
   pub total : sum_by (λ s. s.time) t.steps ≤ longest_sum

@@ -5,6 +5,7 @@ ghost use Rattle.std.specs.List.{list_any};
 ghost use Rattle.plan_orlib.specs.Says.{Says, job_numbers};
 ghost use Rattle.plan_psplib.specs.Plain.{longest_text};
 ghost use Rattle.plan_table.specs.Numbered.{numbered};
+ghost use Rattle.plan_table.specs.ShopNames.{SaysShopNames};
 ghost use Rattle.plan_table.specs.ShopTable as shop;
 ghost use Rattle.plan_table.specs.ShopText as spec;
 
@@ -245,6 +246,7 @@ pub fn shop_text(alloc: Global, table: &ShopTable) -> Result<String, TextFault>
     ensures text { IfOk result (λ text. string_bytes text ≡ spec.shop_text table.now) }
     ensures says { IfOk result (λ text. Says spec.instance (string_bytes text)
         (shop.shop_of table.now)) }
+    ensures names { IfOk result (λ text. SaysShopNames (string_bytes text) table.now) }
     ensures long { IsErrOf result TextFault.TooLong →
         longest_text < length (spec.shop_text table.now) }
 {

@@ -66,8 +66,8 @@ fn name_in(text: &[u8]) -> Option<NameLine<'_>>
     }
 }
 
-// What a line names.
-fn named<'a>(key: &[u8], text: &'a [u8]) -> Option<NameLine<'a>>
+/// What a line names.
+pub fn named<'a>(key: &[u8], text: &'a [u8]) -> Option<NameLine<'a>>
     ensures { option_map spec.name_of result ≡ spec.named key.now text.now }
 {
     if text.starts_with(key) {

@@ -1,4 +1,4 @@
-use Rattle.std.proofs.Common.{◌≡◌, ℕ, ◌+◌, ◌++◌, map, take, sym, ap, ◌∙◌, arith}
+use Rattle.std.proofs.Common.{◌≡◌, ◌+◌, ◌++◌, map, take, sym, ap, ◌∙◌, arith}
 use Rattle.std.specs.String.{string_bytes}
 use Rattle.plan_table.specs.ShopTable.{idle, idle_on, step_of}
 use Rattle.plan_table.proofs.NumberedLemmas.{numbered-more}
