@@ -83,7 +83,7 @@ function columnsOf({ line, cells }) {
     const name = cell.trim(), words = name.toLowerCase();
     const head = SYNONYMS.get(words) ?? words;
     const isTwice = columns.some((column) => column.head === head);
-    if (isTwice) fail(`T4 column ${words} twice`, line, place);
+    if (isTwice) fail(`T4 column ${name} twice`, line, place);
     if (head) columns.push({ head, name, place, isResource: !FIXED.includes(head) });
   });
   if (!columns.some(({ head }) => head === "duration")) fail("T3 no column duration", line);

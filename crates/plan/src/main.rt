@@ -8,8 +8,8 @@ use clap::Error;
 use clap::error::ErrorKind;
 use plan_cli::{
     CliFault, FileOrder, OfficeOrder, Order, ProofWatcher, Rows, SolveWatcher, Task, Unwatched,
-    capacities_of, check_on_files, command, explain_run, help, hint, order_of, run_on_file,
-    template_run,
+    capacities_of, check_on_files, command, explain_run, help, hint, order_of, overrides_of,
+    run_on_file, template_run,
 };
 use plan_io::StdSink;
 use plan_serve::{
@@ -212,7 +212,11 @@ fn run(rt: &HostRuntime) -> Result<u8, Misuse> {
         Ok(capacities) => capacities,
         Err(text) => return Err(Misuse::BadCapacity(text.to_string(alloc)?)),
     };
-    let Some(order) = order_of(&matches, &capacities) else {
+    let given = match overrides_of(alloc, &matches)? {
+        Ok(given) => given,
+        Err(text) => return Err(Misuse::BadCapacity(text.to_string(alloc)?)),
+    };
+    let Some(order) = order_of(&matches, &capacities, &given) else {
         return Err(Misuse::NoCommand);
     };
     do_order(rt, order)
@@ -243,7 +247,7 @@ fn print_misuse<R: Eprint>(rt: &R, what: &str) -> u8 {
 // Prints the error of a text that gives no capacity, and returns the status of usage.
 fn print_bad_capacity(rt: &HostRuntime, text: &str) -> u8 {
     let _ = eprintln!(rt;
-        "error: invalid value '{text}' for '--capacity <NAME=N>': N is a number from 0 to 10000000\n\nFor more information, try '--help'."
+        "error: invalid value '{text}' for '--capacity <NAME=N>': N is a number from 0 to 10000\n\nFor more information, try '--help'."
     );
     2
 }

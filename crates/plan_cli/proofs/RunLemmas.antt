@@ -1,5 +1,5 @@
 -- The text or line for the first bytes of a file is that for the whole file.
-use Rattle.std.proofs.Common.{◌≡◌, ◌⊎◌, inl, inr, ℕ, ◌+◌, ◌≤◌, ◌<◌, List, [], Option, Some, None, Result, Ok, Err, length, take, refl, sym, ap, ◌∙◌, subst, arith}
+use Rattle.std.proofs.Common.{◌≡◌, ◌⊎◌, inl, inr, ℕ, ◌+◌, ◌≤◌, ◌<◌, List, [], Option, Some, None, Result, Ok, Err, length, take, map, refl, sym, ap, ◌∙◌, subst, arith}
 use Rattle.std.specs.Prelude.{IfSome, IfOk, IfErr, string_bytes}
 use Rattle.std.specs.Io.KnownBytes.{Consumes}
 use Rattle.std.proofs.lemmas.Bool.{lt-leb, cases_lt}
@@ -30,11 +30,12 @@ use Rattle.plan_cli.specs.declared.capacities.Capacity.{Capacity}
 use Rattle.plan_table.specs.declared.fault.TableCode.TheVariants as table_code
 use Rattle.plan_table.specs.declared.fault.ReadError.{ReadError}
 use Rattle.plan_table.specs.declared.fault.ReadError.TheVariants as errors
-use Rattle.plan_table.specs.Listing.{table_read}
+use Rattle.plan_table.specs.Listing.{rows_read, table_in, table_read_with}
+use Rattle.plan_table.specs.Overrides.{Override, override_of}
+use Rattle.plan_table.specs.ShopReading.{shop_in, shop_table_read}
 use Rattle.plan_table.specs.Reading as reads
-use Rattle.plan_table.specs.Refused.{IsRefused}
-use Rattle.plan_table.specs.Table.{Table}
-use Rattle.plan_cli.specs.ImportRun.{IsImportOf, TellsNoImport}
+use Rattle.plan_table.specs.Refused.{IsRefusedWith}
+use Rattle.plan_cli.specs.ImportRun.{IsImportOf, TellsNoImport, IsShopImportOf, TellsNoShopImport}
 use Rattle.plan_cli.specs.Tasks.{IsTextOf, IsLineOf, ShowsTask}
 use Rattle.plan_cli.specs.declared.tasks.Rows.{Rows}
 use Rattle.plan_cli.specs.declared.tasks.Rows.TheVariants as rows
@@ -351,47 +352,67 @@ no_verdict_front : (listed : List ℕ) → HoldsByFront (TellsWhyNoVerdict liste
 no_verdict_front listed file line (inl first) = inl (line_front file line first)
 no_verdict_front listed file line (inr (p, says, tells)) = inr (p, project_front file p says, tells)
 
--- a table that is too long fails its first check
-long_table : (text : List ℕ) → longest_text < length text → table_read text ≡ reads.fault table_code.TooLong 0 []
-unfolding table_read
-long_table text long = rw (lt-leb (length text) longest_text long)
+-- the records of a text that is too long
+long_rows : (text : List ℕ) → longest_text < length text → rows_read text ≡ reads.fault table_code.TooLong 0 []
+unfolding rows_read
+long_rows text long = rw (lt-leb (length text) longest_text long)
 
--- the table in the front of a file is that in the file
-front_table : (file : List ℕ) → table_read (take (longest_text + 1) file) ≡ table_read file
-front_table file = by_length (cases_lt longest_text (length file))
+-- the records in the front of a file are those in the file
+front_rows : (file : List ℕ) → rows_read (take (longest_text + 1) file) ≡ rows_read file
+front_rows file = by_length (cases_lt longest_text (length file))
   where
     by_length : (longest_text < length file) ⊎ (length file ≤ longest_text)
-        → table_read (take (longest_text + 1) file) ≡ table_read file
-    by_length (inr short) = ap table_read (take_all (longest_text + 1) file (omega (arith, short)))
+        → rows_read (take (longest_text + 1) file) ≡ rows_read file
+    by_length (inr short) = ap rows_read (take_all (longest_text + 1) file (omega (arith, short)))
     by_length (inl long) =
         let m = length-take (longest_text + 1) file in
-        long_table (take (longest_text + 1) file) (omega (arith, m, long)) ∙ sym (long_table file long)
+        long_rows (take (longest_text + 1) file) (omega (arith, m, long)) ∙ sym (long_rows file long)
 
--- a table that was read
-abbrev pub IsRead : Result Table reads.Fault → Type 0
+-- the table in the front of a file is that in the file
+front_table : (given : List Override) (file : List ℕ) → table_read_with given (take (longest_text + 1) file) ≡ table_read_with given file
+front_table given file = ap (λ rows. reads.◌>>=◌ rows (table_in given)) (front_rows file)
+
+-- the list of orders in the front of a file is that in the file
+front_orders : (file : List ℕ) → shop_table_read (take (longest_text + 1) file) ≡ shop_table_read file
+front_orders file = ap (λ rows. reads.◌>>=◌ rows shop_in) (front_rows file)
+
+-- a result that is fine
+abbrev pub IsRead : {A : Type 0} → Result A reads.Fault → Type 0
 IsRead (Ok t) = Unit {0}
 IsRead (Err e) = ⊥
 
-import_front : HoldsByFront IsImportOf
-import_front file text (t, read, shown) = (t, sym (front_table file) ∙ read, shown)
-
--- a table of which the front is refused is refused
-refused_front : (file : List ℕ) (e : ReadError) → IsRefused (take (longest_text + 1) file) e → IsRefused file e
-refused_front file errors.Memory r = tt
-refused_front file (errors.Fault f) (inl read) = inl (sym (front_table file) ∙ read)
-refused_front file (errors.Fault f) (inr (t, read, cycle)) = inr (t, sym (front_table file) ∙ read, cycle)
-
-no_import_front : HoldsByFront TellsNoImport
-no_import_front file line (inl (first, refused, tells)) = inl (first, refused_front file (errors.Fault first) refused, tells)
-no_import_front file line (inr (t, read, tells)) = inr (t, sym (front_table file) ∙ read, tells)
-
--- a table that was read isn't too long
-table_short : (text : List ℕ) (t : Table) → table_read text ≡ Ok t → length text ≤ longest_text
-table_short text t read = by_length (cases_lt longest_text (length text))
+-- records that were read aren't too long
+rows_short : (text : List ℕ) → IsRead (rows_read text) → length text ≤ longest_text
+rows_short text read = by_length (cases_lt longest_text (length text))
   where
     by_length : (longest_text < length text) ⊎ (length text ≤ longest_text) → length text ≤ longest_text
     by_length (inr short) = short
-    by_length (inl long) = absurd (subst IsRead (sym read ∙ long_table text long) tt)
+    by_length (inl long) = absurd (subst IsRead (long_rows text long) read)
+
+-- if something was read from a result, then the result is fine
+was_read : {A B : Type 0} (r : Result A reads.Fault) (next : A → Result B reads.Fault) (t : B) → reads.◌>>=◌ r next ≡ Ok t → IsRead r
+was_read (Ok x) next t e = tt
+was_read (Err f) next t e = subst IsRead (sym e) tt
+
+import_front : (given : List Override) → HoldsByFront (IsImportOf given)
+import_front given file text (t, read, shown) = (t, sym (front_table given file) ∙ read, shown)
+
+-- a table of which the front is refused is refused
+refused_front : (given : List Override) (file : List ℕ) (e : ReadError) → IsRefusedWith given (take (longest_text + 1) file) e → IsRefusedWith given file e
+refused_front given file errors.Memory r = tt
+refused_front given file (errors.Fault f) (inl read) = inl (sym (front_table given file) ∙ read)
+refused_front given file (errors.Fault f) (inr (t, read, cycle)) = inr (t, sym (front_table given file) ∙ read, cycle)
+
+no_import_front : (given : List Override) → HoldsByFront (TellsNoImport given)
+no_import_front given file line (inl (first, refused, tells)) = inl (first, refused_front given file (errors.Fault first) refused, tells)
+no_import_front given file line (inr (t, read, tells)) = inr (t, sym (front_table given file) ∙ read, tells)
+
+shop_import_front : HoldsByFront IsShopImportOf
+shop_import_front file text (t, read, shown) = (t, sym (front_orders file) ∙ read, shown)
+
+no_shop_import_front : HoldsByFront TellsNoShopImport
+no_shop_import_front file line (inl (first, refused, tells)) = inl (first, sym (front_orders file) ∙ refused, tells)
+no_shop_import_front file line (inr (t, read, tells)) = inr (t, sym (front_orders file) ∙ read, tells)
 
 -- the text of a task for the front of a file is that for the file
 task_front : (task : Task) → HoldsByFront (IsTextOf task)
@@ -409,7 +430,8 @@ task_front (task.Prove nodes instance) = proof_front nodes.now instance.now
 task_front (task.BestProject budget) = best_project_front budget.now
 task_front (task.Solve conflicts capacities) = solved_front capacities.now
 task_front (task.SolveShop conflicts instance) = shop_solved_front instance.now
-task_front task.Import = import_front
+task_front (task.Import given) = import_front (map override_of given.now)
+task_front task.ImportShop = shop_import_front
 
 pub task_line_front : (task : Task) → HoldsByFront (IsLineOf task)
 task_line_front task.Dates = line_front
@@ -426,7 +448,8 @@ task_line_front (task.Prove nodes instance) = no_proof_front nodes.now instance.
 task_line_front (task.BestProject budget) = no_best_project_front budget.now
 task_line_front (task.Solve conflicts capacities) = not_solved_front capacities.now
 task_line_front (task.SolveShop conflicts instance) = first_front instance.now
-task_line_front task.Import = no_import_front
+task_line_front (task.Import given) = no_import_front (map override_of given.now)
+task_line_front task.ImportShop = no_shop_import_front
 
 -- a file that says a project isn't too long
 project_short : (file : List ℕ) (p : Project) → SaysProject file p → length file ≤ longest_text
@@ -452,7 +475,8 @@ file_short (task.Prove nodes instance) file text (doc, says, rest) = shop_short 
 file_short (task.BestProject budget) file text (p, says, rest) = project_short file p says
 file_short (task.Solve conflicts capacities) file text (p, says, rest) = project_short file p says
 file_short (task.SolveShop conflicts instance) file text (doc, says, rest) = shop_short instance.now file doc says
-file_short task.Import file text (t, read, shown) = table_short file t read
+file_short (task.Import given) file text (t, read, shown) = rows_short file (was_read (rows_read file) (table_in (map override_of given.now)) t read)
+file_short task.ImportShop file text (t, read, shown) = rows_short file (was_read (rows_read file) shop_in t read)
 
 -- the text of a task with names for the front of a file is that for the file
 named_front : (task : Task) → HoldsByFront (ShowsTask rows.Named task)

@@ -1,40 +1,67 @@
 -- The output of `plan import` for the bytes that it reads (docs/definitions.md, "Runs").
-use Rattle.std.specs.Prelude.{◌≡◌, ◌⊎◌, ◌<◌, ℕ, List, Ok, length, codes}
+use Rattle.std.specs.Prelude.{◌≡◌, ◌⊎◌, ◌<◌, ℕ, List, Ok, Err, length, codes}
 use Rattle.plan_psplib.specs.Plain.{longest_text}
 use Rattle.plan_psplib.specs.Project.{SaysProject}
+use Rattle.plan_orlib.specs.Says.{Says}
 use Rattle.plan_table.specs.declared.fault.TableFault.{TableFault}
 use Rattle.plan_table.specs.declared.fault.ReadError.TheVariants as errors
 use Rattle.plan_table.specs.Jobs.{project_of}
-use Rattle.plan_table.specs.Listing.{table_read}
+use Rattle.plan_table.specs.Listing.{table_read_with}
+use Rattle.plan_table.specs.Overrides.{Override}
 use Rattle.plan_table.specs.ProjectText.{project_text}
 use Rattle.plan_table.specs.Reading.{fault_of}
-use Rattle.plan_table.specs.Refused.{IsRefused}
+use Rattle.plan_table.specs.Refused.{IsRefusedWith}
+use Rattle.plan_table.specs.ShopNames.{SaysShopNames}
+use Rattle.plan_table.specs.ShopReading.{shop_table_read}
+use Rattle.plan_table.specs.ShopTable.{ShopTable, shop_of}
+use Rattle.plan_table.specs.ShopText.{instance, shop_text}
 use Rattle.plan_table.specs.Table.{Table}
 use Rattle.plan_cli.specs.TableFaultText.{fault_text_of}
+
+-- a line gives an error of a table
+abbrev pub TellsTable : TableFault → List ℕ → Type 0
+TellsTable first line = line ≡ fault_text_of (fault_of first)
 
 -- a text is the project file of a table; reading it gives the project of the table
 pub record IsProjectFile (t : Table) (text : List ℕ) : Type 0 where
   pub shown : text ≡ project_text t
   pub says : SaysProject text (project_of t)
 
--- a text is the project file of the table in a file
-abbrev pub IsImportOf : List ℕ → List ℕ → Type 0
-IsImportOf file text = (t : Table) × (table_read file ≡ Ok t) × IsProjectFile t text
-
--- a line gives an error of a table
-abbrev pub TellsTable : TableFault → List ℕ → Type 0
-TellsTable first line = line ≡ fault_text_of (fault_of first)
+-- a text is the project file of the table in a file, with capacities that are given
+abbrev pub IsImportOf : List Override → List ℕ → List ℕ → Type 0
+IsImportOf given file text = (t : Table) × (table_read_with given file ≡ Ok t) × IsProjectFile t text
 
 -- a line gives the first check that a table fails, or else its cycle
-abbrev pub TellsNoTable : List ℕ → List ℕ → Type 0
-TellsNoTable file line =
-    (first : TableFault) × IsRefused file (errors.Fault first) × TellsTable first line
+abbrev pub TellsNoTable : List Override → List ℕ → List ℕ → Type 0
+TellsNoTable given file line =
+    (first : TableFault) × IsRefusedWith given file (errors.Fault first) × TellsTable first line
 
--- a line reports that the project file of a table is longer than the longest text
-abbrev pub TellsLong : Table → List ℕ → Type 0
-TellsLong t line = (longest_text < length (project_text t)) × (line ≡ codes "T1 too long")
+-- a line reports that a file is longer than the longest text
+abbrev pub TellsLong : List ℕ → List ℕ → Type 0
+TellsLong text line = (longest_text < length text) × (line ≡ codes "T1 too long")
 
 -- a line gives the reason why a table becomes no project file
-abbrev pub TellsNoImport : List ℕ → List ℕ → Type 0
-TellsNoImport file line = TellsNoTable file line
-    ⊎ ((t : Table) × (table_read file ≡ Ok t) × TellsLong t line)
+abbrev pub TellsNoImport : List Override → List ℕ → List ℕ → Type 0
+TellsNoImport given file line = TellsNoTable given file line
+    ⊎ ((t : Table) × (table_read_with given file ≡ Ok t) × TellsLong (project_text t) line)
+
+-- a text is the job shop file of a list of orders; reading it gives the job shop of the list and
+-- the names
+pub record IsShopFile (t : ShopTable) (text : List ℕ) : Type 0 where
+  pub shown : text ≡ shop_text t
+  pub says : Says instance text (shop_of t)
+  pub names : SaysShopNames text t
+
+-- a text is the job shop file of the list of orders in a file
+abbrev pub IsShopImportOf : List ℕ → List ℕ → Type 0
+IsShopImportOf file text = (t : ShopTable) × (shop_table_read file ≡ Ok t) × IsShopFile t text
+
+-- a line gives the first check that a list of orders fails
+abbrev pub TellsNoOrders : List ℕ → List ℕ → Type 0
+TellsNoOrders file line =
+    (first : TableFault) × (shop_table_read file ≡ Err (fault_of first)) × TellsTable first line
+
+-- a line gives the reason why a list of orders becomes no job shop file
+abbrev pub TellsNoShopImport : List ℕ → List ℕ → Type 0
+TellsNoShopImport file line = TellsNoOrders file line
+    ⊎ ((t : ShopTable) × (shop_table_read file ≡ Ok t) × TellsLong (shop_text t) line)

@@ -1,6 +1,6 @@
 -- Rows with names: a last column of a table, or the names behind the lines of a chart
 -- (docs/definitions.md, "Runs").
-use Rattle.std.specs.Prelude.{ℕ, ◌-◌, Bool, false, if◌then◌else◌, List, [], ◌∷◌, ◌++◌, Option, Some, None}
+use Rattle.std.specs.Prelude.{ℕ, ◌||◌, ◌-◌, Bool, false, if◌then◌else◌, List, [], ◌∷◌, ◌++◌, Option, Some, None}
 use Rattle.std.specs.Prelude.{codes, bytes_eq, length, take, fold, max, replicate, is_some}
 use Rattle.std.specs.List.{flat_map, slice_split}
 use Rattle.std.specs.Option.{option_map}
@@ -22,10 +22,10 @@ abbrev pub name_at : List Name → Option ℕ → Option (List ℕ)
 name_at names None = None
 name_at names (Some n) = option_map (λ name. name.name) (first_name n names)
 
--- whether a row with these words is the head of a table of activities
+-- whether a row with these words is the head of a table of activities or of steps
 abbrev pub is_head : List (List ℕ) → Bool
 is_head [] = false
-is_head (word ∷ _) = bytes_eq word (codes "act")
+is_head (word ∷ _) = bytes_eq word (codes "act") || bytes_eq word (codes "job")
 
 -- what is added to a row with these words: `name` to the head, else the name of its number
 abbrev pub label_of : List Name → List (List ℕ) → Option (List ℕ)

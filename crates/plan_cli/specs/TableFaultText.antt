@@ -1,5 +1,5 @@
 -- The errors of a table as lines of text (docs/definitions.md, "Runs").
-use Rattle.std.specs.Prelude.{ℕ, List, ◌++◌, codes}
+use Rattle.std.specs.Prelude.{ℕ, List, [], ◌∷◌, ◌++◌, codes}
 use Rattle.std.specs.Fmt.{decimal}
 use Rattle.std.specs.Str.Lossy.{utf8_lossy}
 use Rattle.plan_table.specs.declared.fault.TableCode.{TableCode}
@@ -10,11 +10,16 @@ use Rattle.plan_table.specs.Reading.{Fault}
 abbrev pub lined : List ℕ → ℕ → List ℕ → List ℕ
 lined before line behind = before ++ decimal line ++ behind
 
+-- the column that is missing: that of durations if no other is named
+abbrev pub column_named : List ℕ → List ℕ
+column_named [] = codes "duration"
+column_named (byte ∷ name) = byte ∷ name
+
 -- the line of an error with this code, line and word, without its end
 abbrev pub line_by : TableCode → ℕ → List ℕ → List ℕ
 line_by code.TooLong line word = codes "T1 too long"
 line_by code.NotText line word = codes "T2 not text line " ++ decimal line
-line_by code.NoDuration line word = codes "T3 no column duration"
+line_by code.NoDuration line word = codes "T3 no column " ++ column_named word
 line_by code.ColumnTwice line word = codes "T4 column " ++ word ++ codes " twice"
 line_by code.BadDuration line word = lined (codes "T5 line ") line (codes " duration")
 line_by code.BadId line word = lined (codes "T6 line ") line (codes " id")
@@ -25,6 +30,8 @@ line_by code.NoCapacity line word = codes "T10 no capacity " ++ word
 line_by code.Cycle line word = codes "T11 cycle" ++ word
 line_by code.Limit line word = codes "T12 limit line " ++ decimal line
 line_by code.Cells line word = lined (codes "T13 line ") line (codes " cells")
+line_by code.NoResource line word = codes "T14 no resource " ++ word
+line_by code.TooManySteps line word = codes "T15 steps " ++ word
 
 -- the line of an error; a byte of its word that isn't UTF-8 becomes the replacement character
 abbrev pub fault_text_of : Fault → List ℕ

@@ -1,6 +1,6 @@
 -- The texts and lines of each task, and files that are given by their names (docs/definitions.md,
 -- "Runs").
-use Rattle.std.specs.Prelude.{◌≡◌, ℕ, ◌+◌, ◌≤◌, List, [], Option, Result, Err, IfSome, length, take}
+use Rattle.std.specs.Prelude.{◌≡◌, ℕ, ◌+◌, ◌≤◌, List, [], Option, Result, Err, IfSome, length, take, map}
 use Rattle.std.specs.Prelude.{codes, bytes_eq, if◌then◌else◌}
 use Rattle.plan_gantt.specs.FirstFaults.{TellsFirstFailing, TellsFirstShopFault}
 use Rattle.plan_cli.specs.Run.{IsDateTableOf, ReadsFront}
@@ -14,9 +14,11 @@ use Rattle.plan_cli.specs.BestRun.{IsBestTableOf, TellsWhyNoBest}
 use Rattle.plan_cli.specs.ProveRun.{IsProofTableOf, TellsWhyNoProof}
 use Rattle.plan_cli.specs.BestProjectRun.{IsBestProjectTableOf, TellsWhyNoBestProject}
 use Rattle.plan_cli.specs.SolveRun.{IsSolvedTableOf, TellsWhyNotSolved, IsShopSolvedTableOf}
-use Rattle.plan_cli.specs.ImportRun.{IsImportOf, TellsNoImport}
+use Rattle.plan_cli.specs.ImportRun.{IsImportOf, TellsNoImport, IsShopImportOf, TellsNoShopImport}
 use Rattle.plan_cli.specs.RowNames.{with_names}
 use Rattle.plan_table.specs.Names.{Name, names_behind, activity_key}
+use Rattle.plan_table.specs.Overrides.{override_of}
+use Rattle.plan_table.specs.ShopNames.{instance_names, machine_key, order_key}
 use Rattle.plan_cli.specs.declared.inputs.Inputs as inputs
 use Rattle.plan_cli.specs.declared.tasks.Rows.{Rows}
 use Rattle.plan_cli.specs.declared.tasks.Rows.TheVariants as rows
@@ -43,7 +45,8 @@ IsTextOf (task.Prove nodes instance) = IsProofTableOf nodes.now instance.now
 IsTextOf (task.BestProject budget) = IsBestProjectTableOf budget.now
 IsTextOf (task.Solve conflicts capacities) = IsSolvedTableOf capacities.now
 IsTextOf (task.SolveShop conflicts instance) = IsShopSolvedTableOf instance.now
-IsTextOf task.Import = IsImportOf
+IsTextOf (task.Import given) = IsImportOf (map override_of given.now)
+IsTextOf task.ImportShop = IsShopImportOf
 
 -- the lines with which a task refuses a file
 abbrev pub IsLineOf : Task → List ℕ → List ℕ → Type 0
@@ -62,10 +65,11 @@ IsLineOf (task.Prove nodes instance) = TellsWhyNoProof nodes.now instance.now
 IsLineOf (task.BestProject budget) = TellsWhyNoBestProject budget.now
 IsLineOf (task.Solve conflicts capacities) = TellsWhyNotSolved capacities.now
 IsLineOf (task.SolveShop conflicts instance) = TellsFirstShopFault instance.now
-IsLineOf task.Import = TellsNoImport
+IsLineOf (task.Import given) = TellsNoImport (map override_of given.now)
+IsLineOf task.ImportShop = TellsNoShopImport
 
--- The names of the rows that a task writes for a file. The rows of a project are those of
--- activities. Other rows have no names.
+-- The names of the rows that a task writes for a file. The rows are those of activities in a
+-- project, of orders in a job shop, and of machines in its chart. Other rows have no names.
 abbrev pub names_for : Task → List ℕ → List Name
 names_for task.Dates file = names_behind activity_key file
 names_for (task.Schedule rule) file = names_behind activity_key file
@@ -73,6 +77,12 @@ names_for (task.Chart rule) file = names_behind activity_key file
 names_for (task.Days rule start marks) file = names_behind activity_key file
 names_for (task.BestProject budget) file = names_behind activity_key file
 names_for (task.Solve conflicts capacities) file = names_behind activity_key file
+names_for (task.Shop rule instance) file = instance_names order_key instance.now file
+names_for (task.ShopChart rule instance) file = instance_names machine_key instance.now file
+names_for (task.ShopDays rule start marks instance) file = instance_names order_key instance.now file
+names_for (task.Best budget instance) file = instance_names order_key instance.now file
+names_for (task.Prove nodes instance) file = instance_names order_key instance.now file
+names_for (task.SolveShop conflicts instance) file = instance_names order_key instance.now file
 names_for _ file = []
 
 -- a text is the text of a task for a file, each row with its name

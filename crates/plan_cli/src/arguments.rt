@@ -44,6 +44,8 @@ enum Form {
     Conflicts,
     /// An option with the capacity of a resource, any number of times. It is for projects only.
     Capacity,
+    /// An option with the capacity of a resource of a list, any number of times.
+    ListCapacity,
     /// An option without a value.
     Flag,
     /// An option without a value and without effect, which the help doesn't list.
@@ -134,11 +136,11 @@ const NODES: Argument = Argument {
     help: "how many nodes the search may visit, 1 to 1000000000",
 };
 
-// The option of commands whose rows are those of activities.
+// The option of commands whose rows are those of activities, orders or machines.
 const NAMES: Argument = Argument {
     name: "names",
     form: Form::Flag,
-    help: "print the names of the activities of a project",
+    help: "print the names of activities, orders or machines",
 };
 
 const DATABASE: Argument = Argument {
@@ -160,9 +162,21 @@ const LIST_COMMANDS: [Entry; 2] = [
     },
     Entry {
         name: "import",
-        about: "Converts a list, a CSV table, to a project file",
-        examples: "Examples:\n  plan import examples/house.csv\n  plan chart lft --names examples/house.sm",
-        arguments: &[FILE],
+        about: "Converts a list, a CSV table, to a project or job shop file",
+        examples: "Examples:\n  plan import examples/house.csv\n  plan import --capacity crew=6 examples/house.csv\n  plan import --shop examples/shop.csv",
+        arguments: &[
+            FILE,
+            Argument {
+                name: "capacity",
+                form: Form::ListCapacity,
+                help: "the capacity of a resource, in place of that of the list; may be repeated",
+            },
+            Argument {
+                name: "shop",
+                form: Form::Flag,
+                help: "convert a list of orders to a job shop file",
+            },
+        ],
     },
 ];
 
@@ -211,13 +225,13 @@ const SHOP_COMMANDS: [Entry; 4] = [
         name: "shop",
         about: "Prints a schedule of a job shop by a priority rule",
         examples: "Example:\n  plan shop mwkr examples/shops.txt ft06",
-        arguments: &[SHOP_RULE, FILE, INSTANCE],
+        arguments: &[SHOP_RULE, FILE, INSTANCE, NAMES],
     },
     Entry {
         name: "best",
         about: "Searches for a shortest schedule of a small job shop",
         examples: "Example:\n  plan best 200000 examples/shops.txt ft06",
-        arguments: &[BUDGET, FILE, INSTANCE],
+        arguments: &[BUDGET, FILE, INSTANCE, NAMES],
     },
     Entry {
         name: "prove",
@@ -232,6 +246,7 @@ const SHOP_COMMANDS: [Entry; 4] = [
                 form: Form::OldFlag,
                 help: "",
             },
+            NAMES,
         ],
     },
 ];
@@ -423,6 +438,11 @@ fn arg_of<'a>(alloc: Global, argument: &Argument) -> Result<Arg<'a>, AllocError>
             .value_name("NAME=N")
             .action(ArgAction::Append)
             .conflicts_with("INSTANCE")?,
+        Form::ListCapacity => arg
+            .long(argument.name)
+            .value_name("NAME=N")
+            .action(ArgAction::Append)
+            .conflicts_with("shop")?,
         Form::Flag => arg.long(argument.name).action(ArgAction::SetTrue),
         Form::OldFlag => arg
             .long(argument.name)

@@ -35,6 +35,8 @@ pub(crate) enum Code {
     TableCycle,
     TableLimit,
     BadCells,
+    NoListResource,
+    ManySteps,
     NeedsTooMuch,
     UnknownRule,
     MachineClosed,
@@ -108,6 +110,8 @@ impl Code {
             "T11" => Some(Code::TableCycle),
             "T12" => Some(Code::TableLimit),
             "T13" => Some(Code::BadCells),
+            "T14" => Some(Code::NoListResource),
+            "T15" => Some(Code::ManySteps),
             "S1" => Some(Code::NeedsTooMuch),
             "S3" => Some(Code::UnknownRule),
             "S4" => Some(Code::MachineClosed),
@@ -181,6 +185,8 @@ impl Code {
             Code::TableCycle => "T11",
             Code::TableLimit => "T12",
             Code::BadCells => "T13",
+            Code::NoListResource => "T14",
+            Code::ManySteps => "T15",
             Code::NeedsTooMuch => "S1",
             Code::UnknownRule => "S3",
             Code::MachineClosed => "S4",
@@ -253,6 +259,8 @@ impl Code {
             Code::TableCycle => "the rows form a cycle",
             Code::TableLimit => "the table exceeds a limit",
             Code::BadCells => "a cell too many, or an open quote",
+            Code::NoListResource => "no such resource in the list",
+            Code::ManySteps => "an order has too many steps",
             Code::NeedsTooMuch => "a need exceeds the capacity",
             Code::UnknownRule => "no such priority rule",
             Code::MachineClosed => "a machine is closed",
@@ -354,16 +362,16 @@ impl Code {
                 "T2 not text line N\nLine N isn't UTF-8, or a name in it contains a control character.\nSave the table as CSV UTF-8, and delete line breaks in names.\n"
             }
             Code::NoDurations => {
-                "T3 no column duration\nNo column has the header duration; or the table is empty.\nAdd a header line with a column duration.\n"
+                "T3 no column NAME\nNo column has the header duration (with --shop: order, machine or time); or the table is empty.\nAdd a header line with this column.\n"
             }
             Code::ColumnTwice => {
                 "T4 column NAME twice\nTwo columns have the same header.\nRename or delete one.\n"
             }
             Code::BadDuration => {
-                "T5 line N duration\nThe duration in line N isn't a number: one to nine digits, no sign, no fraction.\nCorrect the duration. For fractions use a finer time unit, for example hours.\n"
+                "T5 line N duration\nThe duration or time in line N isn't a number: one to nine digits, no sign, no fraction.\nCorrect the duration. For fractions use a finer time unit, for example hours.\n"
             }
             Code::BadId => {
-                "T6 line N id\nThe id in line N is empty, has more than 32 characters, or contains a blank, a comma or a semicolon.\nShorten the id, or replace its blanks.\n"
+                "T6 line N id\nThe id in line N is empty, has more than 32 characters, or contains a blank, a comma or a semicolon. With --shop: the name of an order or a machine is empty.\nShorten the id, or replace its blanks.\n"
             }
             Code::IdTwice => {
                 "T7 line N id ID twice\nThe id in line N is the id of an earlier row.\nGive each row its own id.\n"
@@ -375,16 +383,22 @@ impl Code {
                 "T9 line N need RESOURCE\nThe need of this resource in line N, or its capacity, isn't a number: one to nine digits, no sign, no fraction.\nCorrect the cell. If the column isn't a resource, delete it or its header.\n"
             }
             Code::NoCapacity => {
-                "T10 no capacity RESOURCE\nThe resource has no capacity.\nAdd a row with the id capacity and the amounts. If the column isn't a resource, delete it or its header.\n"
+                "T10 no capacity RESOURCE\nThe resource has no capacity.\nAdd a row with the id capacity and the amounts, or the option --capacity NAME=N. If the column isn't a resource, delete it or its header.\n"
             }
             Code::TableCycle => {
                 "T11 cycle A B ..\nThe rows with these ids form a cycle: each precedes the next, and the last precedes A.\nDelete one of these predecessors.\n"
             }
             Code::TableLimit => {
-                "T12 limit line N\nA limit is exceeded in line N: 500 rows, 16 resources, durations and amounts up to 10,000, all durations together up to 1,000,000, names up to 200 bytes.\nChoose a coarser time unit, or split the project.\n"
+                "T12 limit line N\nA limit is exceeded in line N: 500 rows, 16 resources, durations and amounts up to 10,000, all durations together up to 1,000,000, names up to 200 bytes. With --shop: 1 to 50 orders and 1 to 20 machines. Line 0 is the whole list.\nChoose a coarser time unit, or split the project.\n"
             }
             Code::BadCells => {
                 "T13 line N cells\nLine N has more cells than the header, or a quote that opens in line N isn't closed.\nDelete the extra cells, put quotes around a cell with a separator, or close the quote.\n"
+            }
+            Code::NoListResource => {
+                "T14 no resource NAME\nThe option --capacity names a resource that no column of the list has.\nCorrect the name, or delete the option.\n"
+            }
+            Code::ManySteps => {
+                "T15 steps ORDER\nThe order has more steps than the list has machines.\nMerge steps of the order, or split the order.\n"
             }
             Code::NeedsTooMuch => {
                 "S1 activity A resource R\nActivity A takes time and needs more of resource R than its capacity, so it can never start. A is the first such activity and R its first such resource.\nRaise the capacity, or lower the need.\n"

@@ -1,13 +1,21 @@
-//! `plan import`: the project file of a planner's list, a CSV table of activities.
+//! `plan import`: the project file of a planner's list, a CSV table of activities, and the job shop
+//! file of a list of orders.
 
-ghost use Rattle.std.specs.Prelude.{◌≡◌, Ok, IfOk, IfErr, codes};
-ghost use Rattle.plan_table.specs.Listing.{table_read};
+ghost use Rattle.std.specs.Prelude.{◌≡◌, Ok, map, IfOk, IfErr, codes};
+ghost use Rattle.plan_table.specs.Listing.{table_read_with};
+ghost use Rattle.plan_table.specs.Overrides.{override_of};
+ghost use Rattle.plan_table.specs.ProjectText as projects;
+ghost use Rattle.plan_table.specs.ShopReading.{shop_table_read};
+ghost use Rattle.plan_table.specs.ShopText as shops;
 ghost use Rattle.plan_cli.specs.Run.{IfText, Refuses};
 ghost use Rattle.plan_cli.specs.ImportRun as spec;
 
 use crate::fault::{CliFault, refusal_by};
 use crate::table_faults::table_fault_text;
-use plan_table::{ReadError, Table, TableFault, TextFault, project_text, read_table};
+use plan_table::{
+    Override, ReadError, ShopTable, Table, TableFault, TextFault, project_text, read_shop_table,
+    read_table_with, shop_text,
+};
 use std::alloc::Global;
 
 // Returns the error of a table.
@@ -17,30 +25,32 @@ fn table_refusal(alloc: Global, fault: &TableFault) -> CliFault
     refusal_by(table_fault_text(alloc, fault))
 }
 
-// Reads a table.
-#[tactic(auto, using(crate::proofs::ImportLemmas::no_table))]
-fn table_of(alloc: Global, file: &[u8]) -> Result<Table, CliFault>
-    ensures read { IfOk result (λ table. table_read file.now ≡ Ok table) }
-    ensures refused { IfErr result (Refuses (spec.TellsNoTable file.now)) }
-{
-    match read_table(alloc, file) {
-        Ok(table) => Ok(table),
-        Err(ReadError::Memory) => Err(CliFault::Memory),
-        Err(ReadError::Fault(fault)) => Err(table_refusal(alloc, &fault)),
-    }
-}
-
-// Returns the error of a project file that is too long.
+// Returns the error of a file that is too long.
 fn long_refusal(alloc: Global) -> CliFault
     ensures { Refuses (λ line. line ≡ codes "T1 too long") result }
 {
     refusal_by("T1 too long".to_string(alloc))
 }
 
+// Reads a table, with capacities that are given.
+#[tactic(auto, using(crate::proofs::ImportLemmas::no_table))]
+fn table_of(alloc: Global, given: &[Override<'_>], file: &[u8]) -> Result<Table, CliFault>
+    ensures read { IfOk result (λ table.
+        table_read_with (map override_of given.now) file.now ≡ Ok table) }
+    ensures refused { IfErr result (Refuses
+        (spec.TellsNoTable (map override_of given.now) file.now)) }
+{
+    match read_table_with(alloc, given, file) {
+        Ok(table) => Ok(table),
+        Err(ReadError::Memory) => Err(CliFault::Memory),
+        Err(ReadError::Fault(fault)) => Err(table_refusal(alloc, &fault)),
+    }
+}
+
 // Returns the project file of a table.
 fn table_text(alloc: Global, table: &Table) -> Result<String, CliFault>
     ensures made { IfText result (spec.IsProjectFile table.now) }
-    ensures refused { IfErr result (Refuses (spec.TellsLong table.now)) }
+    ensures refused { IfErr result (Refuses (spec.TellsLong (projects.project_text table.now))) }
 {
     match project_text(alloc, table) {
         Ok(text) => Ok(text),
@@ -49,11 +59,50 @@ fn table_text(alloc: Global, table: &Table) -> Result<String, CliFault>
     }
 }
 
-/// Returns the project file of the table in a file.
-pub(crate) fn import_text(alloc: Global, file: &[u8]) -> Result<String, CliFault>
-    ensures made { IfText result (spec.IsImportOf file.now) }
-    ensures refused { IfErr result (Refuses (spec.TellsNoImport file.now)) }
+/// Returns the project file of the table in a file, with capacities that are given.
+pub(crate) fn import_text(
+    alloc: Global,
+    given: &[Override<'_>],
+    file: &[u8],
+) -> Result<String, CliFault>
+    ensures made { IfText result (spec.IsImportOf (map override_of given.now) file.now) }
+    ensures refused { IfErr result (Refuses
+        (spec.TellsNoImport (map override_of given.now) file.now)) }
 {
-    let table = table_of(alloc, file)?;
+    let table = table_of(alloc, given, file)?;
     table_text(alloc, &table)
+}
+
+// Reads a list of orders.
+#[tactic(auto, using(crate::proofs::ImportLemmas::no_orders))]
+fn orders_of(alloc: Global, file: &[u8]) -> Result<ShopTable, CliFault>
+    ensures read { IfOk result (λ table. shop_table_read file.now ≡ Ok table) }
+    ensures refused { IfErr result (Refuses (spec.TellsNoOrders file.now)) }
+{
+    match read_shop_table(alloc, file) {
+        Ok(table) => Ok(table),
+        Err(ReadError::Memory) => Err(CliFault::Memory),
+        Err(ReadError::Fault(fault)) => Err(table_refusal(alloc, &fault)),
+    }
+}
+
+// Returns the job shop file of a list of orders.
+fn orders_text(alloc: Global, table: &ShopTable) -> Result<String, CliFault>
+    ensures made { IfText result (spec.IsShopFile table.now) }
+    ensures refused { IfErr result (Refuses (spec.TellsLong (shops.shop_text table.now))) }
+{
+    match shop_text(alloc, table) {
+        Ok(text) => Ok(text),
+        Err(TextFault::Memory) => Err(CliFault::Memory),
+        Err(TextFault::TooLong) => Err(long_refusal(alloc)),
+    }
+}
+
+/// Returns the job shop file of the list of orders in a file.
+pub(crate) fn shop_import_text(alloc: Global, file: &[u8]) -> Result<String, CliFault>
+    ensures made { IfText result (spec.IsShopImportOf file.now) }
+    ensures refused { IfErr result (Refuses (spec.TellsNoShopImport file.now)) }
+{
+    let table = orders_of(alloc, file)?;
+    orders_text(alloc, &table)
 }

@@ -40,7 +40,7 @@ pub use fault::CliFault;
 pub use files::{check_on_files, check_on_named, run_on_file, run_on_named};
 pub use hints::hint;
 pub use inputs::Inputs;
-pub use orders::{FileOrder, OfficeOrder, Order, capacities_of, order_of};
+pub use orders::{FileOrder, OfficeOrder, Order, capacities_of, order_of, overrides_of};
 pub use runs::{best_project_run, best_run, cpm_run, run_task, schedule_run, shop_run};
 pub use tasks::{Rows, Task};
 pub use templates::{Template, template_run};

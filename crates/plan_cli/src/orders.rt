@@ -5,13 +5,17 @@ use crate::tasks::{Rows, Task};
 use crate::templates::Template;
 use clap::ArgMatches;
 use plan_solve::MOST_CONFLICTS;
+use plan_table::Override;
 use std::alloc::{AllocError, Global};
 
 /// The time limit of `solve` in seconds if no limit is given.
 const DEFAULT_SECONDS: u32 = 10;
 
 /// The greatest capacity, as in a project file.
-const GREATEST_CAPACITY: u64 = 10_000_000;
+const GREATEST_CAPACITY: u64 = 10_000;
+
+/// The greatest capacity of a list.
+const GREATEST_IN_LIST: u32 = 10_000;
 
 /// An order on files.
 #[derive(Clone, Copy)]
@@ -141,7 +145,6 @@ fn days_task<'a>(arguments: &'a ArgMatches<'_>) -> Option<Task<'a>> {
 fn task_of<'a>(name: &str, arguments: &'a ArgMatches<'_>) -> Option<Task<'a>> {
     match name {
         "cpm" => Some(Task::Dates),
-        "import" => Some(Task::Import),
         "names" => Some(Task::Names),
         "chart" => chart_task(arguments),
         "days" => days_task(arguments),
@@ -274,10 +277,58 @@ fn template_of(arguments: &ArgMatches<'_>) -> Option<Template> {
 // Returns the rows that a command prints: with names if it has the option `names` and it is given.
 fn rows_of(name: &str, arguments: &ArgMatches<'_>) -> Rows {
     match name {
-        "cpm" | "schedule" | "best-project" | "solve" | "chart" | "days"
+        "cpm" | "schedule" | "best-project" | "shop" | "best" | "prove" | "solve" | "chart" | "days"
             if arguments.get_flag("names") => { Rows::Named }
         _ => Rows::Plain,
     }
+}
+
+// Returns the capacity that a text such as `crew=6` gives. The name has no control characters,
+// because an error line can contain it.
+fn override_of(text: &str) -> Option<Override<'_>> {
+    let (resource, digits) = text.rsplit_once('=')?;
+    let amount: u32 = digits.parse().ok()?;
+    let is_plain = !resource.is_empty() && !resource.bytes().any(|byte| byte.is_ascii_control());
+    if is_plain && amount <= GREATEST_IN_LIST {
+        Some(Override {
+            resource: resource.as_bytes(),
+            amount,
+        })
+    } else {
+        None
+    }
+}
+
+/// Returns the capacities that the arguments of `import` give, in their order, or the first text
+/// that gives none.
+pub fn overrides_of<'a>(
+    alloc: Global,
+    matches: &'a ArgMatches<'_>,
+) -> Result<Result<Vec<Override<'a>>, &'a str>, AllocError> {
+    let mut overrides = Vec::new(alloc);
+    let Some(("import", arguments)) = matches.subcommand() else {
+        return Ok(Ok(overrides));
+    };
+    for text in arguments.get_strs("capacity").unwrap_or(&[]) {
+        match override_of(text) {
+            Some(given) => overrides.push(given)?,
+            None => return Ok(Err(text)),
+        }
+    }
+    Ok(Ok(overrides))
+}
+
+// Returns the order of `import`.
+fn import_order<'a>(
+    arguments: &'a ArgMatches<'_>,
+    given: &'a [Override<'a>],
+) -> Option<FileOrder<'a>> {
+    let task = if arguments.get_flag("shop") {
+        Task::ImportShop
+    } else {
+        Task::Import { given }
+    };
+    Some(FileOrder::Task(task, arguments.get_str("FILE")?))
 }
 
 // Returns the order of any other command.
@@ -285,8 +336,10 @@ fn file_order<'a>(
     name: &str,
     arguments: &'a ArgMatches<'_>,
     capacities: &'a [Capacity<'a>],
+    given: &'a [Override<'a>],
 ) -> Option<FileOrder<'a>> {
     match name {
+        "import" => import_order(arguments, given),
         "new" => Some(FileOrder::New(template_of(arguments)?)),
         "explain" => Some(FileOrder::Explain(arguments.get_strs("CODE")?)),
         "prove" => proof_order(arguments),
@@ -304,6 +357,7 @@ fn file_order<'a>(
 pub fn order_of<'a>(
     matches: &'a ArgMatches<'_>,
     capacities: &'a [Capacity<'a>],
+    given: &'a [Override<'a>],
 ) -> Option<Order<'a>> {
     let (name, arguments) = matches.subcommand()?;
     match name {
@@ -311,7 +365,7 @@ pub fn order_of<'a>(
             name, arguments,
         )?)),
         _ => Some(Order::File(
-            file_order(name, arguments, capacities)?,
+            file_order(name, arguments, capacities, given)?,
             rows_of(name, arguments),
         )),
     }

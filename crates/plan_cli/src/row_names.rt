@@ -33,12 +33,12 @@ fn front_number(row: &[u8]) -> Option<u64>
     number(Words::new(row).next_word()?)
 }
 
-// Whether a row is the head of a table of activities.
+// Whether a row is the head of a table of activities or of steps.
 fn is_head(row: &[u8]) -> bool
     ensures { result ≡ spec.is_head (words row.now) }
 {
     match Words::new(row).next_word() {
-        Some(word) => word == b"act".as_slice(),
+        Some(word) => word == b"act".as_slice() || word == b"job".as_slice(),
         None => false,
     }
 }

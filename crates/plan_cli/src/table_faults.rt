@@ -1,12 +1,26 @@
 //! The errors of a planner's table as lines of text.
 
-ghost use Rattle.std.specs.Prelude.{◌≡◌, IfOk, string_bytes};
+ghost use Rattle.std.specs.Prelude.{◌≡◌, ◌++◌, IfOk, codes, string_bytes};
 ghost use Rattle.std.specs.Str.Lossy.{utf8_lossy};
 ghost use Rattle.plan_table.specs.Reading.{fault_of};
 ghost use Rattle.plan_cli.specs.TableFaultText as spec;
 
 use plan_table::{TableCode, TableFault};
 use std::alloc::{AllocError, Global};
+
+// Returns the column that is missing: that of durations if no other is named.
+fn column_named(word: &str) -> &str
+    ensures { result.now ≡ spec.column_named word.now }
+{
+    if word.is_empty() { "duration" } else { word }
+}
+
+// Returns the line of an error that names a missing column.
+fn no_column(alloc: Global, column: &str) -> Result<String, AllocError>
+    ensures { IfOk result (λ text. string_bytes text ≡ codes "T3 no column " ++ column.now) }
+{
+    format!(in alloc; "T3 no column {column}")
+}
 
 // Returns the line of an error with this code, line and word.
 fn line_by(alloc: Global, code: TableCode, line: u64, word: &str) -> Result<String, AllocError>
@@ -15,7 +29,7 @@ fn line_by(alloc: Global, code: TableCode, line: u64, word: &str) -> Result<Stri
     match code {
         TableCode::TooLong => "T1 too long".to_string(alloc),
         TableCode::NotText => format!(in alloc; "T2 not text line {line}"),
-        TableCode::NoDuration => "T3 no column duration".to_string(alloc),
+        TableCode::NoDuration => no_column(alloc, column_named(word)),
         TableCode::ColumnTwice => format!(in alloc; "T4 column {word} twice"),
         TableCode::BadDuration => format!(in alloc; "T5 line {line} duration"),
         TableCode::BadId => format!(in alloc; "T6 line {line} id"),
@@ -26,6 +40,8 @@ fn line_by(alloc: Global, code: TableCode, line: u64, word: &str) -> Result<Stri
         TableCode::Cycle => format!(in alloc; "T11 cycle{word}"),
         TableCode::Limit => format!(in alloc; "T12 limit line {line}"),
         TableCode::Cells => format!(in alloc; "T13 line {line} cells"),
+        TableCode::NoResource => format!(in alloc; "T14 no resource {word}"),
+        TableCode::TooManySteps => format!(in alloc; "T15 steps {word}"),
     }
 }
 

@@ -9,7 +9,7 @@ use crate::capacities::Capacity;
 use crate::charts::{chart_text, shop_chart_text};
 use crate::days::{days_text, shop_days_text};
 use crate::fault::CliFault;
-use crate::imports::import_text;
+use crate::imports::{import_text, shop_import_text};
 use crate::names::names_text;
 use crate::proof::proof_text;
 use crate::row_names::with_names;
@@ -18,7 +18,7 @@ use crate::solver::{shop_solution_text, solution_text};
 use crate::tables::{date_text, schedule_text, shop_text};
 use crate::verdicts::check_text;
 use crate::watchers::{ProofWatcher, SolveWatcher};
-use plan_table::{NameLine, activity_names};
+use plan_table::{NameLine, Override, activity_names, machine_names, order_names};
 use std::alloc::{AllocError, Global};
 
 /// A text to print for a project file or for an instance in a job shop file.
@@ -113,9 +113,14 @@ pub enum Task<'a> {
         conflicts: u64,
         instance: &'a str,
     },
-    /// The project file of a planner's list, a CSV table of activities with names. Errors: `T1` to
-    /// `T13`.
-    Import,
+    /// The project file of a planner's list, a CSV table of activities with names, with capacities
+    /// that are given. Errors: `T1` to `T14`.
+    Import {
+        given: &'a [Override<'a>],
+    },
+    /// The job shop file of a list of orders, a CSV table of steps. Errors: `T1` to `T3`, `T5`,
+    /// `T6`, `T12`, `T13`, `T15`.
+    ImportShop,
 }
 
 /// The rows of a text.
@@ -123,7 +128,7 @@ pub enum Task<'a> {
 pub enum Rows {
     /// Without names.
     Plain,
-    /// With the names of activities that the file contains.
+    /// With the names of activities, orders or machines that the file contains.
     Named,
 }
 
@@ -171,7 +176,8 @@ fn text_of<V: ProofWatcher + SolveWatcher>(
             alloc, nodes, instance, file, watcher,
         )?.into_bytes()),
         Task::Names => names_text(alloc, file),
-        Task::Import => Ok(import_text(alloc, file)?.into_bytes()),
+        Task::Import { given } => Ok(import_text(alloc, given, file)?.into_bytes()),
+        Task::ImportShop => Ok(shop_import_text(alloc, file)?.into_bytes()),
     }
 }
 
@@ -190,6 +196,12 @@ fn names_for<'a>(
         | Task::Days { .. }
         | Task::BestProject { .. }
         | Task::Solve { .. } => activity_names(alloc, file),
+        Task::Shop { instance, .. }
+        | Task::ShopDays { instance, .. }
+        | Task::Best { instance, .. }
+        | Task::Prove { instance, .. }
+        | Task::SolveShop { instance, .. } => order_names(alloc, file, instance.as_bytes()),
+        Task::ShopChart { instance, .. } => machine_names(alloc, file, instance.as_bytes()),
         _ => Ok(Vec::new(alloc)),
     }
 }
