@@ -115,10 +115,8 @@ pub fn init_from<F: Start>(rt: &HostRuntime, path: &str, start: F) -> Result<(),
 fn read_named(rt: &HostRuntime, path: &str) -> Result<Vec<u8>, ServeFault>
     ensures { IfErr result (λ e. (e ≡ ServeFault.Memory) ⊎ (e ≡ ServeFault.Input)) }
 {
-    match fs::open(rt, path) {
-        Ok(file) => read_connection(rt.alloc(), &mut StdSource::new(file)),
-        Err(error) => Err(open_fault(&error)),
-    }
+    let file = fs::open(rt, path).map_err(|error| open_fault(&error))?;
+    read_connection(rt.alloc(), &mut StdSource::new(file))
 }
 
 // Adds the bytes of a connection.
@@ -126,10 +124,7 @@ fn add(conns: &mut Vec<Vec<u8>>, conn: Vec<u8>) -> Result<(), ServeFault>
     ensures added { OnOk result (length conns.new.items ≡ length conns.old.items + 1) }
     ensures memory { IfErr result (λ e. e ≡ ServeFault.Memory) }
 {
-    match conns.push(conn) {
-        Ok(()) => Ok(()),
-        Err(_) => Err(ServeFault::Memory),
-    }
+    conns.push(conn).map_err(|_| ServeFault::Memory)
 }
 
 // Reads the bytes of connections, each from a file.
@@ -240,10 +235,7 @@ pub fn replay_from<F: Start, W: Sink>(
     ensures there { OnOk result (IsThere looked) }
     ensures tables { IfErr result (IsOfTables F.Start ⟦<Kept<F> as Store>⟧ looked) }
 {
-    let conns = match read_all(rt, requests) {
-        Ok(conns) => conns,
-        Err(fault) => return Err(fault),
-    };
+    let conns = read_all(rt, requests)?;
     report_at(rt, path, looked, start, Report::Responses(&conns), writer)
 }
 
