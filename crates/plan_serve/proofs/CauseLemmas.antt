@@ -17,7 +17,7 @@ use Rattle.plan_store.specs.declared.fault.StoreFault.TheVariants as store
 use Rattle.plan_store.specs.declared.leftover.Leftover.{Leftover}
 use Rattle.plan_store.specs.OnDisk.{IsRefusedFrom}
 use Rattle.plan_serve.specs.Faults.{fault_of}
-use Rattle.plan_serve.specs.Causes.{IsFileCause, IsOpenCause, IsToldAnew, IsFileFault, IsServeFault, IsShort, IsLookFault, IsOfTables, IsOfTablesAtName}
+use Rattle.plan_serve.specs.Causes.{IsFileCause, IsOpenCause, IsToldAnew, IsFileFault, IsServeFault, IsShort, IsLookFault, IsOfTables, IsOfOpenedTables, IsOfTablesAtName}
 use Rattle.plan_serve.specs.InitRun.{IsInitFault, IsOfTablesThere}
 use Rattle.plan_serve.specs.Reports.{IsWriteFault, IsReportFault, IsReplayFault}
 
@@ -165,10 +165,21 @@ module _ {F S : Type 0} (first : start.Ghosts F) (g : Ghosts S) (looked : Result
   opened_tables Over over (Ok book) (Err told) refused is = over told is
   opened_tables Over over (Err (cause, back)) (Err told) refused is = subst (IsOfTables first g looked) (sym is) (of_refused cause back refused)
 
+  -- the same for one answer of the system
+  pub at_look : (r : Result (Unit {0}) ServeFault) → IfErr r (IsOfOpenedTables first g) → IfErr r (IsOfTables first g looked)
+  at_look (Ok done) is = tt
+  at_look (Err e) is = is looked
+
   -- the same for some answer of the system
   pub tables_at_name : (r : Result (Unit {0}) ServeFault) → IfErr r (IsOfTables first g looked) → IfErr r (IsOfTablesAtName first g)
   tables_at_name (Ok done) is = tt
   tables_at_name (Err e) is = (looked, is)
+
+-- the same for each answer of the system
+pub each_look : {F S : Type 0} (first : start.Ghosts F) (g : Ghosts S) (r : Result (Unit {0}) ServeFault)
+    → ((looked : Result Metadata Error) → IfErr r (IsOfTables first g looked)) → IfErr r (IsOfOpenedTables first g)
+each_look first g (Ok done) is = tt
+each_look first g (Err e) is = is
 
 pub file_tables_there : {F S : Type 0} (first : start.Ghosts F) (g : Ghosts S) (e : ServeFault) → IsFileFault e → IsOfTablesThere first g e
 file_tables_there first g = of_files (IsOfTablesThere first g) tt tt tt tt tt

@@ -1,0 +1,31 @@
+use Rattle.std.proofs.Common.{◌≡◌, refl, sym, subst}
+use Rattle.std.specs.Prelude.{OnOk, IfErr}
+use Rattle.sqlite.specs.Files.{over_files}
+use Rattle.plan_serve.specs.InitRun.{IsOpenedFrom, IsOpenedOnce, IsRefusedOnce, InitsOnFiles, IsOfTablesThere}
+use Rattle.plan_serve.specs.Returned.{InitsOnce}
+use Rattle.plan_serve.proofs.InitLemmas.{makes_office, made_of_more, told_of_more}
+use Rattle.plan_serve.proofs.files.init_file.Goals as goal
+
+pub returns-clause-inits : goal.returns-clause-inits
+returns-clause-inits g c =
+    let old = c.args.place.now.opens.calls in
+    let new = c.init_at.new.place.opens.calls in
+    subst (λ r. InitsOnce (IsOpenedOnce g.F.Start over_files old new) (IsRefusedOnce old new) (c.init_at.new.place ≡ c.args.place.now)
+    (g.R.Source.remaining c.args.reader.now) (g.R.Source.remaining c.init_at.new.reader) r c.close.result.1) (sym c.close.ensures.same)
+    (record {
+      back = c.init_at.result.1;
+      makes = makes_office over_files (IsOpenedOnce g.F.Start over_files old new) (IsRefusedOnce old new) (c.init_at.new.place ≡ c.args.place.now)
+        (g.R.Source.remaining c.args.reader.now) (g.R.Source.remaining c.init_at.new.reader) c.init_at.result.0 c.init_at.result.1
+        c.init_at.ensures.tied c.init_at.ensures.left;
+      ends = c.close.ensures.ends;
+    })
+
+pub returns-clause-made : goal.returns-clause-made
+returns-clause-made g c =
+    subst (λ r. OnOk r (InitsOnFiles g.F.Start over_files)) (sym c.close.ensures.same)
+    (made_of_more over_files _ (IsOpenedFrom g.F.Start over_files) (λ conn opens. opens.1) c.init_at.result.0 c.init_at.ensures.made)
+
+pub returns-clause-tables : goal.returns-clause-tables
+returns-clause-tables g c =
+    subst (λ r. IfErr r (IsOfTablesThere g.F.Start over_files)) (sym c.close.ensures.same)
+    (told_of_more over_files _ (IsOpenedFrom g.F.Start over_files) (λ conn opens. opens.1) c.init_at.result.0 c.init_at.ensures.tables)
