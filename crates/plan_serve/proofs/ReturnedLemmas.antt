@@ -1,11 +1,8 @@
 -- The connection that a command returns, and its closing.
 use Rattle.std.proofs.Common.{◌≡◌, Option, Some, None, Result, Ok, Err, refl, sym, ap, ◌∙◌, subst}
-use Rattle.std.specs.Prelude.{IfOk, IfErr, IfSome, OnOk, MatchResult, option_map}
+use Rattle.std.specs.Prelude.{IfOk, IfErr, IfSome, MatchOption, MatchResult, option_map}
 use Rattle.sqlite_disk.specs.declared.Disk as disk
-use Rattle.sqlite_disk.specs.declared.Files.{Files}
-use Rattle.sqlite_disk.specs.declared.start.Start as start
 use Rattle.sqlite_wal.specs.Reads.{AreClean}
-use Rattle.sqlite_trees.specs.declared.store.Store.{Ghosts}
 use Rattle.sqlite_store.specs.declared.store.FileStore.{FileStore}
 use Rattle.sqlite.specs.declared.error.Error.{Error}
 use Rattle.sqlite.specs.Held.{Held}
@@ -13,11 +10,14 @@ use Rattle.sqlite.specs.Files.{IsClosed}
 use Rattle.sqlite.specs.Closing.{IsCopied}
 use Rattle.plan_store.specs.SqlBooks.{Counted}
 use Rattle.plan_store.specs.declared.fault.StoreFault.{StoreFault}
-use Rattle.plan_store.specs.declared.leftover.Leftover.{Leftover}
-use Rattle.plan_store.specs.OnDisk.{IsTakenFrom, IsRefusedFrom}
 use Rattle.plan_door.specs.declared.fault.ServeFault.{ServeFault}
 use Rattle.plan_serve.specs.Faults.{fault_of}
 use Rattle.plan_serve.specs.Returned.{Closed, IsConnOf, IsShut}
+
+-- a fact about a book that is returned
+pub if_some : {B : Type 0} (next : Option B) (Q : Type 0) (P : B → Type 0) → MatchOption next Q P → IfSome next P
+if_some None Q P is = tt
+if_some (Some book) Q P is = is
 
 -- the connection that is returned is that of the book
 conn_of : {S : Type 0} (Is : Counted S → Type 0) (next : Option (Counted S)) (back : Option (Held S))

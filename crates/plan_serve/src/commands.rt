@@ -90,7 +90,7 @@ fn connection_of<S: Alter + Drop>(book: Option<SqlBook<S>>) -> Option<Connection
 
 // Writes a report of an office over a book, and returns the book, unless memory runs out before the
 // first response.
-#[tactic(auto, using(crate::proofs::CheckLemmas::checks, crate::proofs::CheckLemmas::checks_not, crate::proofs::CheckLemmas::printed, crate::proofs::CheckLemmas::printed_in_part, crate::proofs::ReportLemmas::replays_not))]
+#[tactic(auto, using(crate::proofs::CheckLemmas::checks, crate::proofs::CheckLemmas::checks_not, crate::proofs::CheckLemmas::printed, crate::proofs::CheckLemmas::printed_in_part, crate::proofs::ReportLemmas::replays_not, crate::proofs::ReturnedLemmas::if_some))]
 fn report_over<B: Listing + Drop, W: Sink>(
     alloc: Global,
     mut book: B,

@@ -1,4 +1,4 @@
-use Rattle.std.proofs.Common.{◌≡◌, refl, sym, subst}
+use Rattle.std.proofs.Common.{◌≡◌, sym, subst}
 use Rattle.std.specs.Prelude.{OnOk, IfErr}
 use Rattle.sqlite.specs.Files.{over_files}
 use Rattle.plan_serve.specs.InitRun.{IsOpenedFrom, IsOpenedOnce, IsRefusedOnce, InitsOnFiles, IsOfTablesThere}

@@ -1,11 +1,10 @@
-use Rattle.std.proofs.Common.{◌≡◌, refl, sym, subst}
-use Rattle.std.specs.Prelude.{OnOk, IfErr, IsErrOf}
+use Rattle.std.proofs.Common.{sym, subst}
+use Rattle.std.specs.Prelude.{IfErr, IsErrOf}
 use Rattle.sqlite.specs.Files.{over_files}
 use Rattle.plan_store.specs.SqlBooks.{sql_shelf}
 use Rattle.plan_door.specs.declared.fault.ServeFault.TheVariants as fault
 use Rattle.plan_door.specs.Ports.{IsPortFault, TakesTurns}
 use Rattle.plan_serve.specs.Causes.{IsOfOpenedTables, IsServeFault}
-use Rattle.plan_serve.specs.Ports.{ServesOnFiles}
 use Rattle.plan_serve.specs.Returned.{WorksOnce}
 use Rattle.plan_serve.proofs.CauseLemmas.{port_tables, opened_tables, each_look}
 use Rattle.plan_serve.proofs.ServeLemmas.{serves_on_files, opened_serves}
