@@ -15,8 +15,8 @@ returns-clause-inits g c =
     (record {
       back = c.init_at.result.1;
       makes = makes_office over_files (IsOpenedOnce g.F.Start over_files old new) (IsRefusedOnce old new) (c.init_at.new.place ≡ c.args.place.now)
-        (g.R.Source.remaining c.args.reader.now) (g.R.Source.remaining c.init_at.new.reader) c.init_at.result.0 c.init_at.result.1
-        c.init_at.ensures.tied c.init_at.ensures.left;
+          (g.R.Source.remaining c.args.reader.now) (g.R.Source.remaining c.init_at.new.reader) c.init_at.result.0 c.init_at.result.1
+          c.init_at.ensures.tied c.init_at.ensures.left;
       ends = c.close.ensures.ends;
     })
 

@@ -12,12 +12,12 @@ returns-in-Err-clause-inits g c =
 
 pub returns-in-Err-connect-clause-inits : goal.returns-in-Err-connect-clause-inits
 returns-in-Err-connect-clause-inits g c =
-    subst (λ e. MakesNone g.P.Kept.Store (λ conn. g.P.Place.connects c.args.place.now c.connect.new.place (Ok conn))
-    (λ cause. g.P.Place.connects c.args.place.now c.connect.new.place (Err cause)) (c.connect.new.place ≡ c.args.place.now)
+    subst (λ e. MakesNone g.P.Kept.Store (λ conn. g.P.Place.connects c.args.place.now c.connect.new.self (Ok conn))
+    (λ cause. g.P.Place.connects c.args.place.now c.connect.new.self (Err cause)) (c.connect.new.self ≡ c.args.place.now)
     (g.R.Source.remaining c.args.reader.now) (g.R.Source.remaining c.read_key.new.reader) e None)
     (sym c.store_fault.ensures)
-    (unopened g.P.Kept.Store (λ conn. g.P.Place.connects c.args.place.now c.connect.new.place (Ok conn))
-    (λ cause. g.P.Place.connects c.args.place.now c.connect.new.place (Err cause)) (c.connect.new.place ≡ c.args.place.now)
+    (unopened g.P.Kept.Store (λ conn. g.P.Place.connects c.args.place.now c.connect.new.self (Ok conn))
+    (λ cause. g.P.Place.connects c.args.place.now c.connect.new.self (Err cause)) (c.connect.new.self ≡ c.args.place.now)
     (g.R.Source.remaining c.args.reader.now) (g.R.Source.remaining c.read_key.new.reader) c.in-Ok.digest
     c.in-Ok.ensures.takes c.in-Err-connect.fault c.in-Err-connect.ensures.connected
     c.in-Err-connect.ensures.which)
@@ -36,8 +36,8 @@ returns-in-Ok-create_in-clause-inits g c = (
 
 pub returns-in-Err-create_in-clause-inits : goal.returns-in-Err-create_in-clause-inits
 returns-in-Err-create_in-clause-inits g c =
-    unmade g.P.Kept.Store (λ conn. g.P.Place.connects c.args.place.now c.connect.new.place (Ok conn))
-    (λ cause. g.P.Place.connects c.args.place.now c.connect.new.place (Err cause)) (c.connect.new.place ≡ c.args.place.now)
+    unmade g.P.Kept.Store (λ conn. g.P.Place.connects c.args.place.now c.connect.new.self (Ok conn))
+    (λ cause. g.P.Place.connects c.args.place.now c.connect.new.self (Err cause)) (c.connect.new.self ≡ c.args.place.now)
     (g.R.Source.remaining c.args.reader.now) (g.R.Source.remaining c.read_key.new.reader) c.in-Ok.digest
     c.in-Ok.ensures.takes c.in-Ok-connect.conn c.in-Err-create_in.conn c.in-Err-create_in.fault
     c.init_fault.result c.in-Ok-connect.ensures.connected c.in-Err-create_in.ensures.ours
