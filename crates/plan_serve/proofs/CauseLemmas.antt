@@ -184,6 +184,14 @@ each_look first g (Err e) is = is
 pub file_tables_there : {F S : Type 0} (first : start.Ghosts F) (g : Ghosts S) (e : ServeFault) → IsFileFault e → IsOfTablesThere first g e
 file_tables_there first g = of_files (IsOfTablesThere first g) tt tt tt tt tt
 
+-- ---- an equal result
+
+pub same_ok : (r done : Result (Unit {0}) ServeFault) → r ≡ done → (P : Type 0) → OnOk done P → OnOk r P
+same_ok r done same P h = subst (λ x. OnOk x P) (sym same) h
+
+pub same_err : (r done : Result (Unit {0}) ServeFault) → r ≡ done → (P : ServeFault → Type 0) → IfErr done P → IfErr r P
+same_err r done same P h = subst (λ x. IfErr x P) (sym same) h
+
 -- ---- a result after the cause was found
 
 -- a fact that always holds

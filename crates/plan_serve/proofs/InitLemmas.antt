@@ -1,6 +1,7 @@
 -- The faults of creating the tables of a new office.
-use Rattle.std.proofs.Common.{◌≡◌, ◌≢◌, ◌⊎◌, ◌↔◌, inl, inr, Option, Some, None, Result, Ok, Err, refl, sym, ap, subst}
+use Rattle.std.proofs.Common.{◌≡◌, ◌≢◌, ◌⊎◌, ◌↔◌, inl, inr, ℕ, Option, Some, None, Result, Ok, Err, refl, sym, ap, subst}
 use Rattle.std.specs.Prelude.{OnOk, IfErr}
+use Rattle.sqlite_disk.specs.declared.start.Start as start
 use Rattle.sqlite_trees.specs.declared.store.Store.{Ghosts}
 use Rattle.sqlite.specs.Held.{Held, state}
 use Rattle.plan_rows.specs.World.{Text, Digest}
@@ -13,7 +14,7 @@ use Rattle.plan_store.specs.SqlBooks.{Counted}
 use Rattle.plan_door.specs.Keys.{ReadsKey, TakesKey, first_line}
 use Rattle.plan_door.specs.declared.fault.ServeFault.{ServeFault}
 use Rattle.plan_door.specs.declared.fault.ServeFault.TheVariants as fault
-use Rattle.plan_serve.specs.InitRun.{IsTold, IsLeft, MakesNone, MakesOffice, Inits, HasMade, HasMadeIn, IsInitFault, IsToldThere}
+use Rattle.plan_serve.specs.InitRun.{IsTold, IsLeft, MakesNone, MakesOffice, Inits, HasMade, HasMadeIn, IsInitFault, IsToldThere, IsOpenedFrom, IsOpenedOnce, InitsOnFiles, IsOfTablesThere}
 
 module _ {S : Type 0} (g : Ghosts S) (Opens : Held S → Type 0) (Refuses : StoreFault → Type 0) (Unopened : Type 0) (remaining rest : Option Text) (digest : Digest)
     (reads : ReadsKey remaining rest (Ok digest)) where
@@ -127,7 +128,7 @@ module _ {S : Type 0} (g : Ghosts S) (A B : Held S → Type 0) (weaker : (conn :
   more_told : (e : ServeFault) → IsToldThere g A e → IsToldThere g B e
   more_told fault.Memory is = tt
   more_told fault.Store is = tt
-  more_told fault.NotOurs (back, (conn, same, opens, is)) = (back, (conn, same, weaker conn opens, is))
+  more_told fault.NotOurs (back, (conn, same, opens, used, foreign)) = (back, (conn, same, weaker conn opens, used, foreign))
   more_told fault.Version is = tt
   more_told fault.Key is = tt
   more_told fault.Input is = tt
@@ -140,11 +141,12 @@ module _ {S : Type 0} (g : Ghosts S) (A B : Held S → Type 0) (weaker : (conn :
   more_told fault.PortTaken is = tt
   more_told fault.PortDenied is = tt
 
-  -- the same for a result
-  pub made_of_more : (r : Result (Unit {0}) ServeFault) → OnOk r (HasMade g A) → OnOk r (HasMade g B)
-  made_of_more (Ok done) made = more_made made
-  made_of_more (Err e) made = tt
+module _ {F S : Type 0} (first : start.Ghosts F) (g : Ghosts S) (old new : ℕ) where
+  -- the same for files that were opened once
+  pub made_once : (r : Result (Unit {0}) ServeFault) → OnOk r (HasMade g (IsOpenedOnce first g old new)) → OnOk r (InitsOnFiles first g)
+  made_once (Ok done) made = more_made g (IsOpenedOnce first g old new) (IsOpenedFrom first g) (λ conn opens. opens.1) made
+  made_once (Err e) made = tt
 
-  pub told_of_more : (r : Result (Unit {0}) ServeFault) → IfErr r (IsToldThere g A) → IfErr r (IsToldThere g B)
-  told_of_more (Ok done) told = tt
-  told_of_more (Err e) told = more_told e told
+  pub told_once : (r : Result (Unit {0}) ServeFault) → IfErr r (IsToldThere g (IsOpenedOnce first g old new)) → IfErr r (IsOfTablesThere first g)
+  told_once (Ok done) told = tt
+  told_once (Err e) told = more_told g (IsOpenedOnce first g old new) (IsOpenedFrom first g) (λ conn opens. opens.1) e told

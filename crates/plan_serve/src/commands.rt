@@ -126,7 +126,7 @@ fn report_over<B: Listing + Drop, W: Sink>(
 }
 
 /// Writes a report of the opened office.
-#[tactic(auto, using(crate::proofs::ReturnedLemmas::opened_conn, crate::proofs::ReturnedLemmas::unopened))]
+#[tactic(auto, using(crate::proofs::ReturnedLemmas::unopened))]
 pub(crate) fn report_opened<S: Alter + Drop, W: Sink>(
     alloc: Global,
     opened: Opened<S>,
@@ -166,7 +166,7 @@ pub(crate) fn report_opened<S: Alter + Drop, W: Sink>(
 }
 
 /// Serves connections on a local port, by the opened office.
-#[tactic(auto, using(crate::proofs::ReturnedLemmas::opened_conn, crate::proofs::ReturnedLemmas::unopened))]
+#[tactic(auto, using(crate::proofs::ReturnedLemmas::unopened))]
 pub(crate) fn serve_opened<S: Alter + Drop>(
     rt: &HostRuntime,
     opened: Opened<S>,

@@ -1,9 +1,9 @@
 use Rattle.std.proofs.Common.{◌≡◌, sym, subst}
-use Rattle.std.specs.Prelude.{OnOk, IfErr}
 use Rattle.sqlite.specs.Files.{over_files}
-use Rattle.plan_serve.specs.InitRun.{IsOpenedFrom, IsOpenedOnce, IsRefusedOnce, InitsOnFiles, IsOfTablesThere}
+use Rattle.plan_serve.specs.InitRun.{IsOpenedOnce, IsRefusedOnce, IsOfTablesThere}
 use Rattle.plan_serve.specs.Returned.{InitsOnce}
-use Rattle.plan_serve.proofs.InitLemmas.{makes_office, made_of_more, told_of_more}
+use Rattle.plan_serve.proofs.CauseLemmas.{same_ok, same_err}
+use Rattle.plan_serve.proofs.InitLemmas.{makes_office, made_once, told_once}
 use Rattle.plan_serve.proofs.files.init_file.Goals as goal
 
 pub returns-clause-inits : goal.returns-clause-inits
@@ -22,10 +22,10 @@ returns-clause-inits g c =
 
 pub returns-clause-made : goal.returns-clause-made
 returns-clause-made g c =
-    subst (λ r. OnOk r (InitsOnFiles g.F.Start over_files)) (sym c.close.ensures.same)
-    (made_of_more over_files _ (IsOpenedFrom g.F.Start over_files) (λ conn opens. opens.1) c.init_at.result.0 c.init_at.ensures.made)
+    same_ok c.close.result.0 c.init_at.result.0 c.close.ensures.same _
+    (made_once g.F.Start over_files c.args.place.now.opens.calls c.init_at.new.place.opens.calls c.init_at.result.0 c.init_at.ensures.made)
 
 pub returns-clause-tables : goal.returns-clause-tables
 returns-clause-tables g c =
-    subst (λ r. IfErr r (IsOfTablesThere g.F.Start over_files)) (sym c.close.ensures.same)
-    (told_of_more over_files _ (IsOpenedFrom g.F.Start over_files) (λ conn opens. opens.1) c.init_at.result.0 c.init_at.ensures.tables)
+    same_err c.close.result.0 c.init_at.result.0 c.close.ensures.same (IsOfTablesThere g.F.Start over_files)
+    (told_once g.F.Start over_files c.args.place.now.opens.calls c.init_at.new.place.opens.calls c.init_at.result.0 c.init_at.ensures.tables)

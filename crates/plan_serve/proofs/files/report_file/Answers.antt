@@ -4,9 +4,9 @@ use Rattle.sqlite.specs.Files.{over_files}
 use Rattle.plan_store.specs.SqlBooks.{sql_shelf}
 use Rattle.plan_door.specs.declared.fault.ServeFault.TheVariants as fault
 use Rattle.plan_serve.specs.Causes.{IsOfOpenedTables}
-use Rattle.plan_serve.specs.Reports.{ReportsOnFiles, ReportsTo, KeepsNone, IsReported, IsReportFault, IsWriteFault}
+use Rattle.plan_serve.specs.Reports.{ReportsTo, KeepsNone, IsReported, IsReportFault, IsWriteFault}
 use Rattle.plan_serve.specs.Returned.{WorksOnce}
-use Rattle.plan_serve.proofs.CauseLemmas.{write_tables, opened_tables, each_look}
+use Rattle.plan_serve.proofs.CauseLemmas.{write_tables, opened_tables, each_look, same_ok, same_err}
 use Rattle.plan_serve.proofs.ReportLemmas.{reports_on_files, opened_reports}
 use Rattle.plan_serve.proofs.ReturnedLemmas.{both_ways}
 use Rattle.plan_serve.proofs.files.report_file.Goals as goal
@@ -27,8 +27,7 @@ returns-clause-works g c =
 
 pub returns-clause-reports : goal.returns-clause-reports
 returns-clause-reports g c =
-    subst (λ r. OnOk r (ReportsOnFiles g.F.Start over_files c.args.report (g.W.Sink.taken c.args.writer.now) (g.W.Sink.taken c.report_opened.new.writer)))
-    (sym c.close.ensures.same)
+    same_ok c.close.result.0 c.report_opened.result.0 c.close.ensures.same _
     (reports_on_files g.F.Start over_files (g.W.Sink.taken c.args.writer.now) (g.W.Sink.taken c.report_opened.new.writer) c.args.report c.open_from-opened.result c.report_opened.result.0
     c.open_from-opened.ensures.found c.report_opened.ensures.reports)
 
@@ -60,7 +59,7 @@ returns-clause-which g c =
 
 pub returns-clause-tables : goal.returns-clause-tables
 returns-clause-tables g c =
-    subst (λ r. IfErr r (IsOfOpenedTables g.F.Start over_files)) (sym c.close.ensures.same)
+    same_err c.close.result.0 c.report_opened.result.0 c.close.ensures.same (IsOfOpenedTables g.F.Start over_files)
     (each_look g.F.Start over_files c.report_opened.result.0
     (λ looked. opened_tables g.F.Start over_files looked IsWriteFault (write_tables g.F.Start over_files looked) c.open_from-opened.result c.report_opened.result.0
     c.open_from-opened.ensures.refused c.report_opened.ensures.which))

@@ -6,7 +6,7 @@ use Rattle.plan_door.specs.declared.fault.ServeFault.TheVariants as fault
 use Rattle.plan_door.specs.Ports.{IsPortFault, TakesTurns}
 use Rattle.plan_serve.specs.Causes.{IsOfOpenedTables, IsServeFault}
 use Rattle.plan_serve.specs.Returned.{WorksOnce}
-use Rattle.plan_serve.proofs.CauseLemmas.{port_tables, opened_tables, each_look}
+use Rattle.plan_serve.proofs.CauseLemmas.{port_tables, opened_tables, each_look, same_err}
 use Rattle.plan_serve.proofs.ServeLemmas.{serves_on_files, opened_serves}
 use Rattle.plan_serve.proofs.ReturnedLemmas.{both_ways}
 use Rattle.plan_serve.proofs.files.serve_file.Goals as goal
@@ -36,7 +36,7 @@ returns-clause-which g c =
 
 pub returns-clause-tables : goal.returns-clause-tables
 returns-clause-tables g c =
-    subst (λ r. IfErr r (IsOfOpenedTables g.F.Start over_files)) (sym c.close.ensures.same)
+    same_err c.close.result.0 c.serve_opened.result.0 c.close.ensures.same (IsOfOpenedTables g.F.Start over_files)
     (each_look g.F.Start over_files c.serve_opened.result.0
     (λ looked. opened_tables g.F.Start over_files looked IsPortFault (port_tables g.F.Start over_files looked) c.open_from-opened.result c.serve_opened.result.0
     c.open_from-opened.ensures.refused c.serve_opened.ensures.which))
