@@ -1,6 +1,6 @@
 use Rattle.std.proofs.Common.{◌≡◌, sym, subst}
 use Rattle.sqlite.specs.Files.{over_files}
-use Rattle.plan_serve.specs.InitRun.{IsOpenedOnce, IsRefusedOnce, IsOfTablesThere}
+use Rattle.plan_serve.specs.InitRun.{IsOpenedOnce, IsRefusedOnce, IsInitFault, IsOfTablesThere}
 use Rattle.plan_serve.specs.Returned.{InitsOnce}
 use Rattle.plan_serve.proofs.CauseLemmas.{same_ok, same_err}
 use Rattle.plan_serve.proofs.InitLemmas.{makes_office, made_once, told_once}
@@ -24,6 +24,9 @@ pub returns-clause-made : goal.returns-clause-made
 returns-clause-made g c =
     same_ok c.close.result.0 c.init_at.result.0 c.close.ensures.same _
     (made_once g.F.Start over_files c.args.place.now.opens.calls c.init_at.new.place.opens.calls c.init_at.result.0 c.init_at.ensures.made)
+
+pub returns-clause-which : goal.returns-clause-which
+returns-clause-which g c = same_err c.close.result.0 c.init_at.result.0 c.close.ensures.same IsInitFault c.init_at.ensures.which
 
 pub returns-clause-tables : goal.returns-clause-tables
 returns-clause-tables g c =
