@@ -17,7 +17,7 @@ use Rattle.plan_store.specs.declared.fault.StoreFault.TheVariants as store
 use Rattle.plan_store.specs.declared.leftover.Leftover.{Leftover}
 use Rattle.plan_store.specs.OnDisk.{IsRefusedFrom}
 use Rattle.plan_serve.specs.Faults.{fault_of}
-use Rattle.plan_serve.specs.Causes.{IsFileCause, IsOpenCause, IsToldAnew, IsFileFault, IsServeFault, IsShort, IsLookFault, IsOfTables, IsOfTablesAtName}
+use Rattle.plan_serve.specs.Causes.{IsFileCause, IsOpenCause, IsToldAnew, IsFileFault, IsServeFault, IsShort, IsLookFault, IsOfTables, IsOfOpenedTables, IsOfTablesAtName}
 use Rattle.plan_serve.specs.InitRun.{IsInitFault, IsOfTablesThere}
 use Rattle.plan_serve.specs.Reports.{IsWriteFault, IsReportFault, IsReplayFault}
 
@@ -165,13 +165,32 @@ module _ {F S : Type 0} (first : start.Ghosts F) (g : Ghosts S) (looked : Result
   opened_tables Over over (Ok book) (Err told) refused is = over told is
   opened_tables Over over (Err (cause, back)) (Err told) refused is = subst (IsOfTables first g looked) (sym is) (of_refused cause back refused)
 
+  -- the same for one answer of the system
+  pub at_look : (r : Result (Unit {0}) ServeFault) → IfErr r (IsOfOpenedTables first g) → IfErr r (IsOfTables first g looked)
+  at_look (Ok done) is = tt
+  at_look (Err e) is = is looked
+
   -- the same for some answer of the system
   pub tables_at_name : (r : Result (Unit {0}) ServeFault) → IfErr r (IsOfTables first g looked) → IfErr r (IsOfTablesAtName first g)
   tables_at_name (Ok done) is = tt
   tables_at_name (Err e) is = (looked, is)
 
+-- the same for each answer of the system
+pub each_look : {F S : Type 0} (first : start.Ghosts F) (g : Ghosts S) (r : Result (Unit {0}) ServeFault)
+    → ((looked : Result Metadata Error) → IfErr r (IsOfTables first g looked)) → IfErr r (IsOfOpenedTables first g)
+each_look first g (Ok done) is = tt
+each_look first g (Err e) is = is
+
 pub file_tables_there : {F S : Type 0} (first : start.Ghosts F) (g : Ghosts S) (e : ServeFault) → IsFileFault e → IsOfTablesThere first g e
 file_tables_there first g = of_files (IsOfTablesThere first g) tt tt tt tt tt
+
+-- ---- an equal result
+
+pub same_ok : (r done : Result (Unit {0}) ServeFault) → r ≡ done → (P : Type 0) → OnOk done P → OnOk r P
+same_ok r done same P h = subst (λ x. OnOk x P) (sym same) h
+
+pub same_err : (r done : Result (Unit {0}) ServeFault) → r ≡ done → (P : ServeFault → Type 0) → IfErr done P → IfErr r P
+same_err r done same P h = subst (λ x. IfErr x P) (sym same) h
 
 -- ---- a result after the cause was found
 

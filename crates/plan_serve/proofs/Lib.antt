@@ -3,3 +3,4 @@ pub mod ServeLemmas
 pub mod InitLemmas
 pub mod ReportLemmas
 pub mod CheckLemmas
+pub mod ReturnedLemmas

@@ -82,6 +82,10 @@ module _ {F S : Type 0} (first : start.Ghosts F) (g : Ghosts S) where
   IsOfTables looked fault.Version = AreRefused store.Version
   IsOfTables looked e = Unit {0}
 
+  -- the same, whatever the system answered for the name
+  abbrev pub IsOfOpenedTables : ServeFault → Type 0
+  IsOfOpenedTables e = (looked : Result Metadata Error) → IsOfTables looked e
+
   -- the same, for some answer of the system for the name
   abbrev pub IsOfTablesAtName : ServeFault → Type 0
   IsOfTablesAtName e = (looked : Result Metadata Error) × IsOfTables looked e

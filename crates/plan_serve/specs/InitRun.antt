@@ -1,5 +1,5 @@
 -- The creation of the tables of a new office (docs/definitions.md, "Runs").
-use Rattle.std.specs.Prelude.{◌≡◌, ◌≢◌, ◌⊎◌, false, IsTrue, Option, Some, None, Result, Ok, Err}
+use Rattle.std.specs.Prelude.{◌≡◌, ◌≢◌, ◌⊎◌, ℕ, ◌+◌, false, IsTrue, Option, Some, None, Result, Ok, Err}
 use Rattle.sqlite_disk.specs.declared.start.Start as start
 use Rattle.sqlite_wal.specs.Files.{image_at}
 use Rattle.sqlite_trees.specs.Tree.{Trees}
@@ -47,6 +47,14 @@ abbrev pub IsOpenedFrom : {F S : Type 0} → start.Ghosts F → Ghosts S → Hel
 IsOpenedFrom first g conn =
     IsNew conn × (HasCleanDisk (state g conn) → FindsIn (image_at first) (state g conn))
 
+-- the files were opened once more: their connection is new, or memory ran out, or they can't be
+-- opened
+abbrev pub IsOpenedOnce : {F S : Type 0} → start.Ghosts F → Ghosts S → ℕ → ℕ → Held S → Type 0
+IsOpenedOnce first g old new conn = (new ≡ old + 1) × IsOpenedFrom first g conn
+
+abbrev pub IsRefusedOnce : ℕ → ℕ → StoreFault → Type 0
+IsRefusedOnce old new cause = (new ≡ old + 1) × ((cause ≡ store.NoMemory) ⊎ (cause ≡ store.Store))
+
 module _ {S : Type 0} (g : Ghosts S) (Opens : Held S → Type 0) where
   -- a database was opened that has no table
   abbrev pub IsEmptyThere : Type 0
@@ -77,6 +85,13 @@ module _ {S : Type 0} (g : Ghosts S) (Opens : Held S → Type 0) where
       (digest : Digest) × IsDigestOfKey digest × IsEmptyThere
       × ((after : Held S) × IsNewOffice (state g after) digest)
 
+  -- the same, with the digest of the key that was read, in the database of this connection
+  abbrev pub HasMadeIn : Option Text → Option Text → Option (Held S) → Type 0
+  HasMadeIn remaining rest None = ⊥
+  HasMadeIn remaining rest (Some after) =
+      (digest : Digest) × ReadsKey remaining rest (Ok digest) × IsEmptyThere
+      × IsNewOffice (state g after) digest
+
 -- the same for a database in files
 abbrev pub InitsOnFiles : {F S : Type 0} → start.Ghosts F → Ghosts S → Type 0
 InitsOnFiles first g = HasMade g (IsOpenedFrom first g)
@@ -85,7 +100,8 @@ InitsOnFiles first g = HasMade g (IsOpenedFrom first g)
 abbrev pub IsOfTablesThere : {F S : Type 0} → start.Ghosts F → Ghosts S → ServeFault → Type 0
 IsOfTablesThere first g e = IsToldThere g (IsOpenedFrom first g) e
 
-module _ {S : Type 0} (g : Ghosts S) (Opens : Held S → Type 0) (Refuses : StoreFault → Type 0) where
+module _ {S : Type 0} (g : Ghosts S) (Opens : Held S → Type 0) (Refuses : StoreFault → Type 0)
+    (Unopened : Type 0) where
   -- a database without tables was opened, and is unchanged
   abbrev pub IsLeftThere : Option (Held S) → Digest → Type 0
   IsLeftThere back digest =
@@ -93,11 +109,17 @@ module _ {S : Type 0} (g : Ghosts S) (Opens : Held S → Type 0) (Refuses : Stor
       × ¬ ((state g conn).now.schema ≢ no_schema)
       × IsLeft (state g conn) (state g left) digest
 
+  -- a key was read, and the database can't be opened for this cause
+  abbrev pub IsRefused : Option Text → Option Text → StoreFault → Type 0
+  IsRefused remaining rest cause =
+      (digest : Digest) × ReadsKey remaining rest (Ok digest) × Refuses cause
+
   -- The fault of creating an office, and the connection that is returned, if one was opened.
   -- Without a key no database is opened. With a key the database can't be opened, has the tables of
   -- an office or others, or refuses.
   abbrev pub MakesNone : Option Text → Option Text → ServeFault → Option (Held S) → Type 0
-  MakesNone remaining rest fault.Key back = ReadsKey remaining rest (Err fault.Key) × (back ≡ None)
+  MakesNone remaining rest fault.Key back =
+      ReadsKey remaining rest (Err fault.Key) × (back ≡ None) × Unopened
   MakesNone remaining rest fault.Store back =
       (digest : Digest) × ReadsKey remaining rest (Ok digest)
       × ((Refuses store.Store × (back ≡ None)) ⊎ IsLeftThere back digest)
@@ -106,10 +128,16 @@ module _ {S : Type 0} (g : Ghosts S) (Opens : Held S → Type 0) (Refuses : Stor
   MakesNone remaining rest fault.Taken back =
       (digest : Digest) × ReadsKey remaining rest (Ok digest) × IsOfficeThere g Opens back
   MakesNone remaining rest fault.Memory back =
-      (back ≡ None)
+      ((back ≡ None) × (Unopened ⊎ IsRefused remaining rest store.NoMemory))
       ⊎ ((digest : Digest) × ReadsKey remaining rest (Ok digest) × IsLeftThere back digest)
-  MakesNone remaining rest fault.Input back = back ≡ None
+  MakesNone remaining rest fault.Input back = (back ≡ None) × Unopened
   MakesNone remaining rest e back = ⊥
+
+  -- the result of creating an office, and the connection that is returned
+  abbrev pub MakesOffice : Option Text → Option Text → Result (Unit {0}) ServeFault
+      → Option (Held S) → Type 0
+  MakesOffice remaining rest (Ok _) back = HasMadeIn g Opens remaining rest back
+  MakesOffice remaining rest (Err e) back = MakesNone remaining rest e back
 
   -- the tables of a new office are created, with the digest of the key that was read, or not
   abbrev pub Inits : Option Text → Option Text → Result (Counted S) (ServeFault × Option (Held S))

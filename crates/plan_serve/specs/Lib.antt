@@ -5,3 +5,4 @@ pub mod ReplayFiles
 pub mod Ports
 pub mod CheckRun
 pub mod Reports
+pub mod Returned

@@ -6,11 +6,12 @@ use Rattle.plan_rows.specs.World.{Text}
 use Rattle.plan_rows.specs.Books.{Shelf}
 use Rattle.plan_door.specs.declared.fault.ServeFault.{ServeFault}
 use Rattle.plan_door.specs.declared.fault.ServeFault.TheVariants as fault
-use Rattle.plan_door.specs.ReplayRun.{ReplaysFrom, AreAnswered, AreAnsweredInPart}
+use Rattle.plan_desk.specs.BookSteps.{Quiet}
+use Rattle.plan_door.specs.ReplayRun.{Replays, ReplaysFrom, AreAnswered, AreAnsweredInPart}
 use Rattle.plan_serve.specs.declared.commands.Report.{Report}
 use Rattle.plan_serve.specs.declared.commands.Report.TheVariants as report
 use Rattle.plan_serve.specs.Causes.{IsFileFault}
-use Rattle.plan_serve.specs.CheckRun.{ChecksFrom, ChecksOnFiles, IsPrinted, IsPrintedInPart}
+use Rattle.plan_serve.specs.CheckRun.{Writes, ChecksFrom, ChecksOnFiles, IsPrinted, IsPrintedInPart}
 use Rattle.plan_serve.specs.ReplayFiles.{ReplaysOnFiles}
 
 -- the report of an office over this book was written completely
@@ -18,6 +19,15 @@ abbrev pub ReportsFrom : {B : Type 0} → Shelf B → B → Report → Option Te
 ReportsFrom shelf book report.Rows taken after = ChecksFrom shelf book taken after
 ReportsFrom shelf book (report.Responses conns) taken after =
     ReplaysFrom shelf book (map vec_items conns.now) taken after
+
+-- the report of an office over the old book was written or not, and the office has the new book
+-- after it
+abbrev pub ReportsTo : {B : Type 0} → Shelf B → B → B → Report → Option Text → Option Text
+    → Result (Unit {0}) ServeFault → Type 0
+ReportsTo shelf old new report.Rows taken after result =
+    Quiet shelf old new × Writes shelf old new taken after result
+ReportsTo shelf old new (report.Responses conns) taken after result =
+    Replays shelf old new (map vec_items conns.now) taken after result
 
 -- the report of an office over tables in files was written completely
 abbrev pub ReportsOnFiles : {F S : Type 0} → start.Ghosts F → Ghosts S → Report

@@ -34,11 +34,11 @@ pub(crate) fn check_name(looked: io::Result<Metadata>) -> Result<(), ServeFault>
     ensures there { OnOk result (IsThere looked) }
     ensures which { IfErr result (IsLookFault looked) }
 {
-    match looked {
-        Ok(found) if found.is_file() && found.len() < SHORTEST => Err(ServeFault::NotOurs),
-        Ok(_) => Ok(()),
-        Err(error) => Err(file_fault(error.kind())),
+    let found = looked.map_err(|error| file_fault(error.kind()))?;
+    if found.is_file() && found.len() < SHORTEST {
+        return Err(ServeFault::NotOurs);
     }
+    Ok(())
 }
 
 // The fault of the files of a database, from the result of opening them. If they can be opened, the

@@ -32,15 +32,9 @@ pub fn check_office_run<B: Listing, W: Sink>(
         HasFailed (W.calls writer.old) (W.calls writer.new)
         (W.faults writer.old) (W.faults writer.new) }
 {
-    let summary = match summary_of(alloc, book) {
-        Ok(summary) => summary,
-        Err(fault) => return Err(book_fault(fault)),
-    };
+    let summary = summary_of(alloc, book).map_err(book_fault)?;
     let Ok(text) = summary_text(alloc, &summary) else {
         return Err(ServeFault::Memory);
     };
-    match write_whole(writer, text.as_bytes()) {
-        Ok(()) => Ok(()),
-        Err(_) => Err(ServeFault::Output),
-    }
+    write_whole(writer, text.as_bytes()).map_err(|_| ServeFault::Output)
 }

@@ -1,15 +1,18 @@
 //! The commands on an office in any database.
 
-ghost use Rattle.std.specs.Prelude.{◌≡◌, ◌⊎◌, ◌+◌, ◌≤◌, Ok, is_some, IfOk, IfErr, IfNone, IsSome, IsErrOf, OnOk, OnErr, MatchResult};
+ghost use Rattle.std.specs.Prelude.{◌≡◌, ◌⊎◌, ◌+◌, ◌≤◌, Ok, Err, None, is_some, option_map, IfOk, IfErr, IfSome, IfNone, IsSome, IsErrOf, OnOk, OnErr, MatchResult};
 ghost use Rattle.plan_io.specs.Devices.{most_calls, HasFailed};
-ghost use Rattle.plan_serve.specs.InitRun.{HasMade, IsInitFault, IsToldThere, MakesNone};
+ghost use Rattle.plan_store.specs.SqlBooks.{sql_shelf};
+ghost use Rattle.plan_serve.specs.InitRun.{HasMade, HasMadeIn, IsInitFault, IsToldThere, MakesNone};
 ghost use Rattle.plan_serve.specs.Faults.{fault_of};
-ghost use Rattle.plan_serve.specs.Reports.{ReportsFrom, IsReported, IsReportedInPart, IsWriteFault, KeepsNone};
-ghost use Rattle.plan_door.specs.Ports.{IsPortFault, ServesFrom};
+ghost use Rattle.plan_serve.specs.Reports.{ReportsFrom, ReportsTo, IsReported, IsReportedInPart, IsWriteFault, KeepsNone};
+ghost use Rattle.plan_serve.specs.Returned.{IsConnOf};
+ghost use Rattle.plan_door.specs.Ports.{IsPortFault, ServesFrom, TakesTurns};
 
 use crate::check_office::check_office_run;
 use crate::fault::store_fault;
-use crate::init::{Place, init_run};
+use crate::init::init_run;
+use crate::place::Place;
 use plan_desk::Book;
 use plan_door::{ServeFault, Service, replay_book, serve_book};
 use plan_io::{Sink, Source};
@@ -34,20 +37,27 @@ pub(crate) enum Report<'a> {
 pub(crate) type Ended<S> = (Result<(), ServeFault>, Option<Connection<S>>);
 
 /// Creates the tables of an office, whose key is the first line of a text.
-#[tactic(auto, using(crate::proofs::InitLemmas::init_faults, crate::proofs::InitLemmas::told_there))]
+#[tactic(auto, using(crate::proofs::InitLemmas::init_faults, crate::proofs::InitLemmas::told_there, crate::proofs::InitLemmas::has_made_in))]
 pub(crate) fn init_at<R: Source, P: Place>(
     alloc: Global,
     reader: &mut R,
-    place: P,
+    place: &mut P,
 ) -> Ended<P::Kept>
-    ensures made { OnOk result.0 (HasMade P.Kept.Store (P.opens place)) }
+    ensures made { OnOk result.0
+        (HasMade P.Kept.Store (λ conn. P.connects place.old place.new (Ok conn))) }
     ensures which { IfErr result.0 IsInitFault }
-    ensures tables { IfErr result.0 (IsToldThere P.Kept.Store (P.opens place)) }
-    // The connection is returned, if one was opened.
+    ensures tables { IfErr result.0
+        (IsToldThere P.Kept.Store (λ conn. P.connects place.old place.new (Ok conn))) }
+    // The connection is returned, if one was opened. It has the tables that were created.
     ensures back { OnOk result.0 (IsSome result.1) }
+    ensures tied { OnOk result.0
+        (HasMadeIn P.Kept.Store (λ conn. P.connects place.old place.new (Ok conn))
+        (R.remaining reader.old) (R.remaining reader.new) result.1) }
     ensures left { IfErr result.0 (λ e.
-        MakesNone P.Kept.Store (P.opens place) (P.refuses place)
+        MakesNone P.Kept.Store (λ conn. P.connects place.old place.new (Ok conn))
+        (λ cause. P.connects place.old place.new (Err cause)) (place.new ≡ place.old)
         (R.remaining reader.old) (R.remaining reader.new) e result.1) }
+    ensures once { P.opened place.new ≤ P.opened place.old + 1 }
 {
     match init_run(alloc, reader, place) {
         Ok(book) => (Ok(()), Some(book.into_connection())),
@@ -69,7 +79,8 @@ fn book_of<S: Alter + Drop>(opened: Opened<S>) -> Result<SqlBook<S>, ServeFault>
 
 // The connection of a book.
 fn connection_of<S: Alter + Drop>(book: Option<SqlBook<S>>) -> Option<Connection<S>>
-    ensures { is_some result ≡ is_some book }
+    ensures back { is_some result ≡ is_some book }
+    ensures same { result ≡ option_map (λ book. book.conn) book }
 {
     match book {
         Some(book) => Some(book.into_connection()),
@@ -79,7 +90,7 @@ fn connection_of<S: Alter + Drop>(book: Option<SqlBook<S>>) -> Option<Connection
 
 // Writes a report of an office over a book, and returns the book, unless memory runs out before the
 // first response.
-#[tactic(auto, using(crate::proofs::CheckLemmas::checks, crate::proofs::CheckLemmas::checks_not, crate::proofs::CheckLemmas::printed, crate::proofs::CheckLemmas::printed_in_part, crate::proofs::ReportLemmas::replays_not))]
+#[tactic(auto, using(crate::proofs::CheckLemmas::checks, crate::proofs::CheckLemmas::checks_not, crate::proofs::CheckLemmas::printed, crate::proofs::CheckLemmas::printed_in_part, crate::proofs::ReportLemmas::replays_not, crate::proofs::ReturnedLemmas::if_some))]
 fn report_over<B: Listing + Drop, W: Sink>(
     alloc: Global,
     mut book: B,
@@ -100,6 +111,10 @@ fn report_over<B: Listing + Drop, W: Sink>(
         (W.faults writer.old) (W.faults writer.new) }
     ensures which { IfErr result.0 IsWriteFault }
     ensures back { IfNone result.1 (KeepsNone report.entry result.0) }
+    // The returned book is the one after the report.
+    ensures tied { IfSome result.1
+        (λ after. ReportsTo B.shelf book after report.entry
+        (W.taken writer.old) (W.taken writer.new) result.0) }
 {
     match report {
         Report::Rows => {
@@ -111,6 +126,7 @@ fn report_over<B: Listing + Drop, W: Sink>(
 }
 
 /// Writes a report of the opened office.
+#[tactic(auto, using(crate::proofs::ReturnedLemmas::unopened))]
 pub(crate) fn report_opened<S: Alter + Drop, W: Sink>(
     alloc: Global,
     opened: Opened<S>,
@@ -134,6 +150,12 @@ pub(crate) fn report_opened<S: Alter + Drop, W: Sink>(
     ensures which { IfErr result.0
         (λ told. MatchResult opened (λ _. IsWriteFault told) (λ e. told ≡ fault_of e.0)) }
     ensures back { IfOk opened (λ _. IfNone result.1 (KeepsNone report.entry result.0)) }
+    // The returned connection is that of the book after the report.
+    ensures tied { MatchResult opened
+        (λ book. IsConnOf
+        (λ after. ReportsTo (sql_shelf S.Store) book after report.entry
+        (W.taken writer.old) (W.taken writer.new) result.0) result.1)
+        (λ e. (result.1 ≡ None) × (result.0 ≡ Err (fault_of e.0))) }
 {
     let book = match book_of(opened) {
         Ok(book) => book,
@@ -144,6 +166,7 @@ pub(crate) fn report_opened<S: Alter + Drop, W: Sink>(
 }
 
 /// Serves connections on a local port, by the opened office.
+#[tactic(auto, using(crate::proofs::ReturnedLemmas::unopened))]
 pub(crate) fn serve_opened<S: Alter + Drop>(
     rt: &HostRuntime,
     opened: Opened<S>,
@@ -155,6 +178,11 @@ pub(crate) fn serve_opened<S: Alter + Drop>(
     ensures which { IfErr result.0
         (λ told. MatchResult opened (λ _. IsPortFault told) (λ e. told ≡ fault_of e.0)) }
     ensures back { IfOk opened (λ _. IfNone result.1 (IsErrOf result.0 ServeFault.Memory)) }
+    // The returned connection is that of the book after the turns.
+    ensures tied { MatchResult opened
+        (λ book. IsConnOf
+        (λ after. TakesTurns (sql_shelf S.Store) book after service.now.count result.0) result.1)
+        (λ e. (result.1 ≡ None) × (result.0 ≡ Err (fault_of e.0))) }
 {
     let book = match book_of(opened) {
         Ok(book) => book,

@@ -1,24 +1,26 @@
 //! The commands on files, and on a port.
 
-ghost use Rattle.std.specs.Prelude.{◌≡◌, ◌⊎◌, ◌↔◌, ◌+◌, ◌≤◌, length, IfOk, IfErr, IsErrOf, OnOk};
+ghost use Rattle.std.specs.Prelude.{◌≡◌, ◌⊎◌, ◌↔◌, ◌+◌, ◌≤◌, length, IfOk, IfErr, IsErrOf, OnOk, MatchResult};
 ghost use Rattle.std.specs.IoError.{error_kind};
 ghost use Rattle.plan_io.specs.Devices.{most_calls, HasFailed};
-ghost use Rattle.plan_store.specs.declared.fault.StoreFault.TheVariants.{NoMemory, Store};
-ghost use Rattle.plan_serve.specs.Causes.{IsOfTables, IsOfTablesAtName, IsServeFault, IsThere, IsToldAnew};
+ghost use Rattle.plan_store.specs.SqlBooks.{sql_shelf};
+ghost use Rattle.plan_serve.specs.Causes.{IsOfTables, IsOfTablesAtName, IsOfOpenedTables, IsServeFault, IsThere, IsToldAnew};
 ghost use Rattle.plan_serve.specs.CheckRun.{ChecksOnFiles, IsPrinted, IsPrintedInPart};
-ghost use Rattle.plan_serve.specs.InitRun.{IsOpenedFrom, InitsOnFiles, IsInitFault, IsOfTablesThere};
+ghost use Rattle.plan_serve.specs.InitRun.{IsOpenedOnce, IsRefusedOnce, InitsOnFiles, IsInitFault, IsOfTablesThere};
 ghost use Rattle.plan_door.specs.ReplayRun.{AreAnswered, AreAnsweredInPart};
+ghost use Rattle.plan_door.specs.Ports.{TakesTurns};
 ghost use Rattle.plan_serve.specs.ReplayFiles.{ReplaysOnFiles};
-ghost use Rattle.plan_serve.specs.Reports.{ReportsOnFiles, IsReported, IsReportedInPart, IsReportFault, IsReplayFault};
+ghost use Rattle.plan_serve.specs.Reports.{ReportsOnFiles, ReportsTo, KeepsNone, IsReported, IsReportedInPart, IsReportFault, IsReplayFault};
+ghost use Rattle.plan_serve.specs.Returned.{IsShut, IsEnded, InitsOnce, WorksOnce};
 ghost use Rattle.plan_serve.specs.Ports.{ServesOnFiles};
 
 use crate::causes::{check_name, refusal};
 use crate::commands::{Ended, Report, init_at, report_opened, serve_opened};
-use crate::init::Place;
+use crate::place::Place;
 use plan_door::{ServeFault, Service, read_connection};
-use plan_io::{Sink, StdSource};
+use plan_io::{Sink, Source, StdSource, Tally};
 use plan_store::{SqlBook, StoreFault};
-use sqlite::{Connection, Error, ErrorCode, FileFrom, FileStore, Start, Unknown};
+use sqlite::{Connection, Error, ErrorCode, FileFrom, FileStore, Files, Start, Unknown};
 use sqlite_trees::store::Store;
 use std::alloc::Global;
 use std::fs::{self, Metadata};
@@ -27,24 +29,55 @@ use std::io::{self, ErrorKind};
 // The store of a database in a file.
 type Kept<F> = FileStore<FileFrom<F>>;
 
-// A database in a file, by the name of the file.
+// The closed files of a database, or the error and the store if its log can't be copied.
+type Closed<F> = Result<Files<FileFrom<F>>, (Error, Kept<F>)>;
+
+// The result of a command, and the files that were closed after it.
+type Finished<F> = (Result<(), ServeFault>, Option<Closed<F>>);
+
+// A database in a file, by the name of the file. It can be opened once.
 #[derive(Drop)]
 struct InFile<'a, F: Start> {
     rt: &'a HostRuntime,
     path: &'a str,
-    start: F,
+    start: Option<F>,
+    opens: Tally,
+}
+
+// The place of a database that wasn't opened yet.
+fn in_file<'a, F: Start>(rt: &'a HostRuntime, path: &'a str, start: F) -> InFile<'a, F> {
+    InFile {
+        rt,
+        path,
+        start: Some(start),
+        opens: Tally::new(),
+    }
+}
+
+// Counts one call.
+fn mark(tally: &mut Tally)
+    ensures { tally.new.calls ≡ tally.old.calls + 1 }
+{
+    let made: Result<(), StoreFault> = Ok(());
+    let _ = tally.count(made);
 }
 
 impl<'a, F: Start> Place for InFile<'a, F> {
     type Kept = Kept<F>;
 
+    ghost opened = { λ place. place.opens.calls };
+
     // Its connections are new, with the contents of the files.
-    ghost opens = { λ _ conn. IsOpenedFrom F.Start ⟦<Kept<F> as Store>⟧ conn };
+    ghost connects = { λ old new result. MatchResult result
+        (IsOpenedOnce F.Start ⟦<Kept<F> as Store>⟧ old.opens.calls new.opens.calls)
+        (IsRefusedOnce old.opens.calls new.opens.calls) };
 
-    ghost refuses = { λ _ fault. (fault ≡ NoMemory) ⊎ (fault ≡ Store) };
-
-    fn connect(self, _alloc: Global) -> Result<Connection<Kept<F>>, StoreFault> {
-        match Connection::open_from(self.rt, self.path, false, self.start) {
+    fn connect(&mut self, _alloc: Global) -> Result<Connection<Kept<F>>, StoreFault> {
+        mark(&mut self.opens);
+        let Some(start) = self.start.take() else {
+            return Err(StoreFault::Store);
+        };
+        match Connection::open_from(self.rt, self.path, false, start) {
             Ok(conn) => Ok(conn),
             Err((Error::SqliteFailure(ErrorCode::OutOfMemory), _)) => Err(StoreFault::NoMemory),
             Err(_) => Err(StoreFault::Store),
@@ -52,16 +85,25 @@ impl<'a, F: Start> Place for InFile<'a, F> {
     }
 }
 
-// Closes the database of a command, which copies its log into it, and returns the result of the
-// command. If closing fails, the log stays beside the database, and nothing is lost.
-fn close<F: Start>(ended: Ended<Kept<F>>) -> Result<(), ServeFault>
-    ensures { result ≡ ended.0 }
+// Closes a database, which copies its log into it. If this fails, the log stays beside the database,
+// and nothing is lost.
+#[tactic(auto, using(crate::proofs::ReturnedLemmas::is_shut))]
+fn closed<F: Start>(conn: Connection<Kept<F>>) -> Closed<F>
+    ensures { IsShut conn result }
+{
+    conn.close_files()
+}
+
+// Closes the database of a command.
+fn close<F: Start>(ended: Ended<Kept<F>>) -> Finished<F>
+    ensures same { result.0 ≡ ended.0 }
+    ensures ends { IsEnded ended.1 result.1 }
 {
     let (done, conn) = ended;
-    if let Some(conn) = conn {
-        let _ = conn.close();
+    match conn {
+        Some(conn) => (done, Some(closed(conn))),
+        None => (done, None),
     }
-    done
 }
 
 // The result of a command on the files of this name. A refusal of the store is replaced by its
@@ -107,18 +149,35 @@ pub fn init_from<F: Start>(rt: &HostRuntime, path: &str, start: F) -> Result<(),
     ensures tables { IfErr result (IsOfTablesThere F.Start ⟦<Kept<F> as Store>⟧) }
 {
     let mut input = StdSource::new(rt.reader());
-    let done = close(init_at(rt.alloc(), &mut input, InFile { rt, path, start }));
+    let mut place = in_file(rt, path, start);
+    let (done, files) = init_file(rt.alloc(), &mut input, &mut place);
+    drop(files);
     with_cause(rt, path, done)
+}
+
+// Creates the tables of an office in a file, whose key is the first line of a text, and closes it.
+fn init_file<R: Source, F: Start>(
+    alloc: Global,
+    reader: &mut R,
+    place: &mut InFile<'_, F>,
+) -> Finished<F>
+    ensures inits { InitsOnce
+        (IsOpenedOnce F.Start ⟦<Kept<F> as Store>⟧ place.old.opens.calls place.new.opens.calls)
+        (IsRefusedOnce place.old.opens.calls place.new.opens.calls) (place.new ≡ place.old)
+        (R.remaining reader.old) (R.remaining reader.new) result.0 result.1 }
+    ensures made { OnOk result.0 (InitsOnFiles F.Start ⟦<Kept<F> as Store>⟧) }
+    ensures which { IfErr result.0 IsInitFault }
+    ensures tables { IfErr result.0 (IsOfTablesThere F.Start ⟦<Kept<F> as Store>⟧) }
+{
+    close(init_at(alloc, reader, place))
 }
 
 // Reads the bytes of a connection from the file of this name.
 fn read_named(rt: &HostRuntime, path: &str) -> Result<Vec<u8>, ServeFault>
     ensures { IfErr result (λ e. (e ≡ ServeFault.Memory) ⊎ (e ≡ ServeFault.Input)) }
 {
-    match fs::open(rt, path) {
-        Ok(file) => read_connection(rt.alloc(), &mut StdSource::new(file)),
-        Err(error) => Err(open_fault(&error)),
-    }
+    let file = fs::open(rt, path).map_err(|error| open_fault(&error))?;
+    read_connection(rt.alloc(), &mut StdSource::new(file))
 }
 
 // Adds the bytes of a connection.
@@ -126,10 +185,7 @@ fn add(conns: &mut Vec<Vec<u8>>, conn: Vec<u8>) -> Result<(), ServeFault>
     ensures added { OnOk result (length conns.new.items ≡ length conns.old.items + 1) }
     ensures memory { IfErr result (λ e. e ≡ ServeFault.Memory) }
 {
-    match conns.push(conn) {
-        Ok(()) => Ok(()),
-        Err(_) => Err(ServeFault::Memory),
-    }
+    conns.push(conn).map_err(|_| ServeFault::Memory)
 }
 
 // Reads the bytes of connections, each from a file.
@@ -174,9 +230,41 @@ fn report_at<F: Start, W: Sink>(
     if let Err(fault) = check_name(looked) {
         return Err(fault);
     }
-    let opened = SqlBook::open_from(rt, path, start);
-    let done = close(report_opened(rt.alloc(), opened, report, writer));
+    let (done, files) = report_file(rt, path, start, report, writer);
+    drop(files);
     with_cause(rt, path, done)
+}
+
+// Writes a report of the office in a file, and closes it.
+fn report_file<F: Start, W: Sink>(
+    rt: &HostRuntime,
+    path: &str,
+    start: F,
+    report: Report<'_>,
+    writer: &mut W,
+) -> Finished<F>
+    ensures works { WorksOnce F.Start
+        (λ book after. ReportsTo (sql_shelf ⟦<Kept<F> as Store>⟧) book after report.entry
+        (W.taken writer.old) (W.taken writer.new) result.0)
+        (KeepsNone report.entry result.0) result.0 result.1 }
+    ensures reports { OnOk result.0
+        (ReportsOnFiles F.Start ⟦<Kept<F> as Store>⟧ report.entry
+        (W.taken writer.old) (W.taken writer.new)) }
+    ensures ok { OnOk result.0 (IsReported report.entry (W.taken writer.old) (W.taken writer.new)) }
+    ensures part { IsErrOf result.0 ServeFault.Output
+        → IsReportedInPart report.entry (W.taken writer.old) (W.taken writer.new) }
+    ensures writes { W.calls writer.new ≤ W.calls writer.old + most_calls }
+    ensures quiet { IfErr result.0
+        (λ e. (e ≡ ServeFault.Output) ⊎ (writer.new ≡ writer.old)) }
+    ensures fine { OnOk result.0 (W.faults writer.new ≡ W.faults writer.old) }
+    ensures output { IsErrOf result.0 ServeFault.Output →
+        HasFailed (W.calls writer.old) (W.calls writer.new)
+        (W.faults writer.old) (W.faults writer.new) }
+    ensures which { IfErr result.0 IsReportFault }
+    ensures tables { IfErr result.0 (IsOfOpenedTables F.Start ⟦<Kept<F> as Store>⟧) }
+{
+    let opened = SqlBook::open_from(rt, path, start);
+    close(report_opened(rt.alloc(), opened, report, writer))
 }
 
 /// `plan replay`: serves the connections whose bytes are in files, by the office in the file of
@@ -240,10 +328,7 @@ pub fn replay_from<F: Start, W: Sink>(
     ensures there { OnOk result (IsThere looked) }
     ensures tables { IfErr result (IsOfTables F.Start ⟦<Kept<F> as Store>⟧ looked) }
 {
-    let conns = match read_all(rt, requests) {
-        Ok(conns) => conns,
-        Err(fault) => return Err(fault),
-    };
+    let conns = read_all(rt, requests)?;
     report_at(rt, path, looked, start, Report::Responses(&conns), writer)
 }
 
@@ -340,7 +425,22 @@ pub fn serve_from<F: Start>(
     if let Err(fault) = check_name(looked) {
         return Err(fault);
     }
-    let opened = SqlBook::open_from(rt, path, start);
-    let done = close(serve_opened(rt, opened, service));
+    let (done, files) = serve_file(rt, service, start);
+    drop(files);
     with_cause(rt, path, done)
+}
+
+// Serves connections on a local port, by the office in a file, and closes it.
+fn serve_file<F: Start>(rt: &HostRuntime, service: &Service<'_>, start: F) -> Finished<F>
+    ensures works { WorksOnce F.Start
+        (λ book after. TakesTurns (sql_shelf ⟦<Kept<F> as Store>⟧) book after
+        service.now.count result.0)
+        (IsErrOf result.0 ServeFault.Memory) result.0 result.1 }
+    ensures served { OnOk result.0
+        (ServesOnFiles F.Start ⟦<Kept<F> as Store>⟧ service.now.count) }
+    ensures which { IfErr result.0 IsServeFault }
+    ensures tables { IfErr result.0 (IsOfOpenedTables F.Start ⟦<Kept<F> as Store>⟧) }
+{
+    let opened = SqlBook::open_from(rt, service.database, start);
+    close(serve_opened(rt, opened, service))
 }

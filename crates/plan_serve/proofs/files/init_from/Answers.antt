@@ -1,3 +1,4 @@
+use Rattle.std.proofs.Common.{refl}
 use Rattle.sqlite.specs.Files.{over_files}
 use Rattle.plan_serve.specs.InitRun.{IsInitFault, IsOfTablesThere}
 use Rattle.plan_serve.proofs.CauseLemmas.{told_ok, told_err, file_inits, file_tables_there}
@@ -5,13 +6,13 @@ use Rattle.plan_serve.proofs.files.init_from.Goals as goal
 
 pub returns-clause-made : goal.returns-clause-made
 returns-clause-made g c =
-    told_ok c.init_at.result.0 c.close-done.result c.with_cause.result c.close-done.ensures c.with_cause.ensures _ c.init_at.ensures.made
+    told_ok c.init_file-done.result.0 c.init_file-done.result.0 c.with_cause.result refl c.with_cause.ensures _ c.init_file-done.ensures.made
 
 pub returns-clause-which : goal.returns-clause-which
 returns-clause-which g c =
-    told_err c.init_at.result.0 c.close-done.result c.with_cause.result c.close-done.ensures c.with_cause.ensures IsInitFault c.init_at.ensures.which (λ e was files. file_inits e files)
+    told_err c.init_file-done.result.0 c.init_file-done.result.0 c.with_cause.result refl c.with_cause.ensures IsInitFault c.init_file-done.ensures.which (λ e was files. file_inits e files)
 
 pub returns-clause-tables : goal.returns-clause-tables
 returns-clause-tables g c =
-    told_err c.init_at.result.0 c.close-done.result c.with_cause.result c.close-done.ensures c.with_cause.ensures (IsOfTablesThere g.F.Start over_files)
-    c.init_at.ensures.tables (λ e was files. file_tables_there g.F.Start over_files e files)
+    told_err c.init_file-done.result.0 c.init_file-done.result.0 c.with_cause.result refl c.with_cause.ensures (IsOfTablesThere g.F.Start over_files)
+    c.init_file-done.ensures.tables (λ e was files. file_tables_there g.F.Start over_files e files)
