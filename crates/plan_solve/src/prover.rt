@@ -6,7 +6,7 @@ use crate::lines::Lines;
 use plan_kernel::{Kernel, KernelFault, Lesson, Reason};
 use std::alloc::{AllocError, Global};
 
-/// A kernel, and the lines of what it has learned. All that changes the kernel goes through here.
+/// A kernel, and the lines of its lessons. Each change of the kernel goes through this type.
 #[derive(Drop)]
 pub struct Prover {
     pub kernel: Kernel,
