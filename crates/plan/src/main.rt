@@ -200,6 +200,11 @@ fn args_misuse(error: &io::Error) -> Misuse {
     }
 }
 
+// Returns the misuse of a text that gives no capacity.
+fn bad_capacity(alloc: Global, text: &str) -> Misuse {
+    text.to_string(alloc).map_or(Misuse::NoMemory, Misuse::BadCapacity)
+}
+
 // Reads the command line, runs its order, and returns the status.
 fn run(rt: &HostRuntime) -> Result<u8, Misuse> {
     let alloc = rt.alloc();
@@ -208,14 +213,8 @@ fn run(rt: &HostRuntime) -> Result<u8, Misuse> {
     let help = help(alloc)?;
     let parsed = command(alloc, help.as_str())?.try_get_matches_from(arguments.as_slice());
     let matches = parsed.map_err(Misuse::Usage)?;
-    let capacities = match capacities_of(alloc, &matches)? {
-        Ok(capacities) => capacities,
-        Err(text) => return Err(Misuse::BadCapacity(text.to_string(alloc)?)),
-    };
-    let given = match overrides_of(alloc, &matches)? {
-        Ok(given) => given,
-        Err(text) => return Err(Misuse::BadCapacity(text.to_string(alloc)?)),
-    };
+    let capacities = capacities_of(alloc, &matches)?.map_err(|text| bad_capacity(alloc, text))?;
+    let given = overrides_of(alloc, &matches)?.map_err(|text| bad_capacity(alloc, text))?;
     let Some(order) = order_of(&matches, &capacities, &given) else {
         return Err(Misuse::NoCommand);
     };

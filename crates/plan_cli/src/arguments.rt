@@ -400,6 +400,11 @@ const GROUPS: [Group; 6] = [
     },
 ];
 
+// Returns the commands by task.
+fn groups() -> &'static [Group] {
+    &GROUPS
+}
+
 // Makes an argument of clap without its parser.
 fn plain<'a>(alloc: Global, argument: &Argument) -> Arg<'a> {
     let form = argument.form;
@@ -477,7 +482,7 @@ fn push_row(text: &mut String, entry: &Entry) -> Result<(), AllocError> {
 /// Returns the help of the program: the commands by task, with one line each.
 pub fn help(alloc: Global) -> Result<String, AllocError> {
     let mut text = HELP_START.to_string(alloc)?;
-    for group in &GROUPS {
+    for group in groups() {
         text.push_str("\n")?;
         text.push_str(group.heading)?;
         text.push_str(":\n")?;
@@ -489,16 +494,27 @@ pub fn help(alloc: Global) -> Result<String, AllocError> {
     Ok(text)
 }
 
+// Adds the commands of a group.
+fn with_commands<'a>(
+    alloc: Global,
+    parser: Command<'a>,
+    group: &Group,
+) -> Result<Command<'a>, AllocError> {
+    let mut parser = parser;
+    for entry in group.commands {
+        parser = parser.subcommand(subcommand(alloc, entry)?)?;
+    }
+    Ok(parser)
+}
+
 /// Returns the parser of the command line, which prints this text as its help.
 pub fn command<'a>(alloc: Global, help: &'a str) -> Result<Command<'a>, AllocError> {
     let mut command = Command::new(alloc, "plan")
         .version("0.4.0")
         .override_help(help)
         .subcommand_required(true);
-    for group in &GROUPS {
-        for entry in group.commands {
-            command = command.subcommand(subcommand(alloc, entry)?)?;
-        }
+    for group in groups() {
+        command = with_commands(alloc, command, group)?;
     }
     Ok(command)
 }

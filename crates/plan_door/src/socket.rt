@@ -42,9 +42,8 @@ impl<'a> Acceptor<'a> {
     fn accept(&self) -> io::Result<Option<TcpStream>> {
         self.listener.set_nonblocking(!self.queue.is_empty())?;
         match self.listener.accept() {
-            Ok((stream, _)) => Ok(Some(stream)),
             Err(error) if error.kind() == ErrorKind::WouldBlock => Ok(None),
-            Err(error) => Err(error),
+            accepted => accepted.map(|(stream, _)| Some(stream)),
         }
     }
 

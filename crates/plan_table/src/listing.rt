@@ -163,10 +163,7 @@ fn closed_records(alloc: Global, text: &[u8]) -> Result<Vec<Row>, ReadError>
     requires { length text.now ≤ longest_text }
     ensures { Gives (λ v. map row_of v.items) result (spec.closed (records_of text.now)) }
 {
-    match read_records(alloc, text)? {
-        Ok(rows) => Ok(rows),
-        Err(line) => Err(word_fault(alloc, TableCode::Cells, line, b"")),
-    }
+    read_records(alloc, text)?.map_err(|line| word_fault(alloc, TableCode::Cells, line, b""))
 }
 
 /// The records of the text of a table, or the first check that it fails.
