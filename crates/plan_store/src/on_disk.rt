@@ -78,10 +78,7 @@ fn open_at<F: Start>(
 {
     let files = files_at(rt, path, start)?;
     let options = options(rt)?;
-    match Connection::open_files(rt.alloc(), files, options) {
-        Ok(conn) => Ok(conn),
-        Err((error, _)) => Err(store_fault_of(error)),
-    }
+    Connection::open_files(rt.alloc(), files, options).map_err(|(error, _)| store_fault_of(error))
 }
 
 impl<F: Start> SqlBook<FileStore<FileFrom<F>>> {
