@@ -98,10 +98,7 @@ impl<F: Start> SqlBook<FileStore<FileFrom<F>>> {
         ensures durable { IfOk result (λ b. IsDurable (file_state b.conn)) }
         ensures refused { IfErr result (λ e. IsRefusedFrom F.Start e.0 e.1 over_files) }
     {
-        let conn = match open_at(rt, path, start) {
-            Ok(conn) => conn,
-            Err(fault) => return Err((fault, None)),
-        };
+        let conn = open_at(rt, path, start).map_err(|fault| (fault, None))?;
         match SqlBook::adopt(rt.alloc(), conn) {
             Ok(book) => Ok(book),
             Err((fault, leftover)) => Err((fault, Some(leftover))),
