@@ -1,6 +1,6 @@
 -- The effect of the statements of one transaction on a connection.
 use Rattle.std.proofs.Common.{rules, ◌≡◌, ◌⊎◌, inl, inr, ◌≤◌, ◌<◌, ◌+◌, ℕ, true, false, List, map, drop, get_or, length, Ok, Err, Result, OnOk, IsTrue, refl, sym, subst, ◌∙◌, arith}
-use Rattle.std.specs.Prelude.{MatchResult, IfErr, IsErrAnd, OnErr}
+use Rattle.std.specs.Prelude.{MatchResult, IfOk, IfErr, IsErrAnd, OnErr}
 use Rattle.std.proofs.lemmas.List.{drop_more, drop_all}
 use Rattle.std.specs.Borrow.{Bor}
 use Rattle.sqlite_value.specs.declared.value.ValueRef.{ValueRef}
@@ -27,6 +27,13 @@ pub mapped_ok : {X E D : Type 0} (r : Result X E) (q : Result X D) (x : X) (Post
 mapped_ok (Ok y) q x Post same is = search rules
 mapped_ok (Err e) (Err d) x Post post is = search rules
 mapped_ok (Err e) (Ok y) x Post post is = absurd post
+
+-- a fact of a result that is fine is one of the result whose error is mapped
+pub mapped_if_ok : {X E D : Type 0} (r : Result X E) (q : Result X D) (Post : E → D → Type 0) (P Q : X → Type 0) →
+    MatchResult r (λ y. q ≡ Ok y) (λ e. IsErrAnd q (Post e)) → IfOk r P → ((x : X) → P x → Q x) → IfOk q Q
+mapped_if_ok (Ok y) q Post P Q same it more = subst (λ k. IfOk k Q) (sym same) (more y it)
+mapped_if_ok (Err e) (Err d) Post P Q post it more = tt
+mapped_if_ok (Err e) (Ok d) Post P Q post it more = absurd post
 
 -- an error that is mapped was an error before
 pub mapped_err : {X E D : Type 0} (r : Result X E) (q : Result X D) (d : D) (Post : E → D → Type 0) →

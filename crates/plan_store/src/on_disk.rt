@@ -78,10 +78,7 @@ fn open_at<F: Start>(
 {
     let files = files_at(rt, path, start)?;
     let options = options(rt)?;
-    match Connection::open_files(rt.alloc(), files, options) {
-        Ok(conn) => Ok(conn),
-        Err((error, _)) => Err(store_fault_of(error)),
-    }
+    Connection::open_files(rt.alloc(), files, options).map_err(|(error, _)| store_fault_of(error))
 }
 
 impl<F: Start> SqlBook<FileStore<FileFrom<F>>> {
@@ -101,10 +98,7 @@ impl<F: Start> SqlBook<FileStore<FileFrom<F>>> {
         ensures durable { IfOk result (λ b. IsDurable (file_state b.conn)) }
         ensures refused { IfErr result (λ e. IsRefusedFrom F.Start e.0 e.1 over_files) }
     {
-        let conn = match open_at(rt, path, start) {
-            Ok(conn) => conn,
-            Err(fault) => return Err((fault, None)),
-        };
+        let conn = open_at(rt, path, start).map_err(|fault| (fault, None))?;
         match SqlBook::adopt(rt.alloc(), conn) {
             Ok(book) => Ok(book),
             Err((fault, leftover)) => Err((fault, Some(leftover))),

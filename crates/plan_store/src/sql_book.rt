@@ -167,10 +167,7 @@ impl SqlBook<MemStore> {
         let Ok(conn) = Connection::open_in_memory(alloc) else {
             return Err(StoreFault::NoMemory);
         };
-        match SqlBook::create_in(alloc, conn, digest) {
-            Ok(book) => Ok(book),
-            Err((fault, _)) => Err(fault),
-        }
+        SqlBook::create_in(alloc, conn, digest).map_err(|(fault, _)| fault)
     }
 }
 

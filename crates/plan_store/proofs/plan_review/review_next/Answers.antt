@@ -22,9 +22,12 @@ returns-clause-told g c clean =
     let row = row_if c.advance.new.self.has_row c.advance.new.self.conn.now in
     let was = mapped_ok c.advance.result c.map_err.result _ _ c.map_err.ensures.cases c.in_ok-map_err.was in
     if_all_ok c.review_at.result row c.args.review.now c.review_at.new.review c.review_at.ensures.told
-    (λ next comes. (was_ok c.advance.result _ was (c.advance.ensures.same clean), goes_next g.S.Store c.args.rows.now.conn.now
-        c.advance.new.self.conn.now c.args.review.now c.review_at.new.review row
-        (was_ok c.advance.result _ was (c.advance.ensures.ok clean)) next comes))
+    (λ next comes. (
+      was_ok c.advance.result _ was (c.advance.ensures.same clean),
+      goes_next g.S.Store c.args.rows.now.conn.now
+          c.advance.new.self.conn.now c.args.review.now c.review_at.new.review row
+          (was_ok c.advance.result _ was (c.advance.ensures.ok clean)) next comes,
+    ))
 
 pub returns-in_err-map_err-clause-leaves : goal.returns-in_err-map_err-clause-leaves
 returns-in_err-map_err-clause-leaves g c clean =
