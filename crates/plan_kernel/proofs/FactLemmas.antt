@@ -6,11 +6,11 @@ use Rattle.plan_sgs.proofs.TotalLemmas.{greatest_above}
 use Rattle.plan_kernel.specs.declared.literal.TheConstants.{LIMIT}
 use Rattle.plan_kernel.specs.declared.input.Input.{Input}
 use Rattle.plan_kernel.specs.Inputs.{problem_of}
-use Rattle.plan_kernel.specs.Literals.{at, level}
+use Rattle.plan_kernel.specs.Literals.{at, quantity, level}
 use Rattle.plan_kernel.specs.Clauses.{AreFacts, IsRaisedTo, IsRaised}
 use Rattle.plan_kernel.specs.Kernels.{IsEndReached, AreLatest}
 use Rattle.plan_kernel.proofs.InputLemmas.{count_is, duration_is}
-use Rattle.plan_kernel.proofs.LevelLemmas.{ends_before, quantity_start, level_even, level_odd}
+use Rattle.plan_kernel.proofs.LevelLemmas.{ends_before, quantity_start, quantity_makespan, level_even, level_odd}
 
 -- an activity ends before the upper bound, so that its start leaves at least a value below the
 -- limit
@@ -32,6 +32,46 @@ latest_holds input upper place value old new limit inside are small raised start
         duration_is input place,
       )
 ]
+
+-- the makespan is below the upper bound, so that it leaves at least a value below the limit
+pub makespan_holds : (input : Input) (upper n value : ℕ) (old new : List ℕ) → upper ≤ LIMIT → n ≡ length input.durations.items → AreFacts input upper old
+    → value ≤ LIMIT - upper + 1 → IsRaisedTo old new (2 * n + 1) value → AreFacts input upper new
+makespan_holds input upper n value old new limit is are small raised starts short half = elim (raised half) [
+  | inl kept ↦ omega (arith, kept, are starts short half)
+  | inr (same, most) ↦
+      let all : n ≡ count (problem_of input) = omega (arith, is, count_is input) in
+      omega (
+        arith,
+        most,
+        small,
+        limit,
+        ap (level input starts) same,
+        level_odd input starts n,
+        ap (quantity input starts) all,
+        quantity_makespan input starts,
+        short.less,
+      )
+]
+
+-- the known makespan is reached
+pub makespan_reached : (input : Input) (upper n greatest here new : ℕ) (facts : List ℕ) → n ≡ length input.durations.items → AreFacts input upper facts
+    → IsEndReached input upper greatest → here ≡ at facts (2 * n) → new ≡ max greatest here → IsEndReached input upper new
+makespan_reached input upper n greatest here new facts is are reached fact most starts short =
+    let all : n ≡ count (problem_of input) = omega (arith, is, count_is input) in
+    omega (
+      arith,
+      most,
+      fact,
+      reached starts short,
+      are starts short (2 * n),
+      level_even input starts n,
+      ap (quantity input starts) all,
+      quantity_makespan input starts,
+    )
+
+-- the facts of the activities are not less if facts rise
+pub latest_risen : (input : Input) (upper n : ℕ) (old new : List ℕ) → length new ≡ length old → IsRaised old new → AreLatest input upper old n → AreLatest input upper new n
+latest_risen input upper n old new same raised are i below inside = omega (arith, are i below (omega (arith, inside, same)), raised (2 * i + 1))
 
 -- a known start with its duration is reached
 pub end_reached : (input : Input) (upper place greatest new : ℕ) (facts : List ℕ) → place < length input.durations.items → AreFacts input upper facts

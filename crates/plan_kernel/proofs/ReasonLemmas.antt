@@ -5,7 +5,8 @@ use Rattle.std.proofs.lemmas.Bool.{cases_eq, cases_Bool, cond-true, cond-false, 
 use Rattle.std.proofs.lemmas.List.Elements.{All-contains, All-more, All-weaker, Contains-append_left, Contains-push, Contains-get_or}
 use Rattle.std.proofs.lemmas.List.{take_more, get_or-take, length-take, get_or_default}
 use Rattle.std.proofs.lemmas.List.Quantifiers.{all_pairs_push}
-use Rattle.plan_sgs.specs.Problem.{Problem, count, duration, need, total}
+use Rattle.plan_sgs.specs.Problem.{Problem, count, duration, need, total, makespan}
+use Rattle.plan_sgs.proofs.TotalLemmas.{greatest_above}
 use Rattle.plan_kernel.specs.declared.literal.TheConstants.{LIMIT}
 use Rattle.plan_kernel.specs.declared.literal.Literal.{Literal}
 use Rattle.plan_kernel.specs.declared.input.Arc.{Arc}
@@ -17,8 +18,8 @@ use Rattle.plan_kernel.specs.Inputs.{problem_of, KeepsArc, amount_at}
 use Rattle.plan_kernel.specs.Literals.{at, order_of, quantity, Fails}
 use Rattle.plan_kernel.specs.Clauses.{IsShorter}
 use Rattle.plan_kernel.specs.Reasons.{IsWritable, IsOrder, pair_of, at_least, below, AreApart, IsMember, AreMembers, IsOverloaded, IsWithin}
-use Rattle.plan_kernel.proofs.InputLemmas.{arc_kept, duration_is}
-use Rattle.plan_kernel.proofs.LevelLemmas.{quantity_within, quantity_start, quantity_order, level_even, level_odd}
+use Rattle.plan_kernel.proofs.InputLemmas.{count_is, arc_kept, duration_is}
+use Rattle.plan_kernel.proofs.LevelLemmas.{quantity_within, quantity_start, quantity_makespan, quantity_order, level_even, level_odd}
 use Rattle.plan_kernel.proofs.EnergyLemmas.{window_need, energy_within, overlap_within}
 
 -- no member in particular
@@ -56,6 +57,25 @@ arc_follows input starts arc k value lasts weight later short inside is one othe
     let kept : KeepsArc (problem_of input) starts arc =
     subst (λ (a : Arc). KeepsArc (problem_of input) starts a) (sym is) (arc_kept input starts k arc short.feasible.arcs inside) in
     omega (arith, kept, duration_at, duration_is input arc.from, small, most, start_below input starts arc.from value short one early, start_least input starts arc.to later other late)
+
+-- the clause of an activity and the makespan
+pub end_follows : (input : Input) (starts : List ℕ) (i n value lasts later : ℕ) → IsShorter input LIMIT starts → IsWritable input i → n ≡ length input.durations.items
+    → lasts ≡ at input.durations.items i → later ≤ value + lasts → Fails input starts (below i value) → Fails input starts (at_least n later) → ⊥
+end_follows input starts i n value lasts later short is all duration_at most early late =
+    let p = problem_of input in
+    let same : n ≡ count p = omega (arith, all, count_is input) in
+    let end : at starts i + duration p i ≤ makespan p starts = greatest_above (count p) (λ j. get_or starts j 0 + duration p j) i is.0 in
+    omega (
+      arith,
+      end,
+      duration_at,
+      duration_is input i,
+      most,
+      start_below input starts i value short is early,
+      least_fails input starts n later late,
+      ap (quantity input starts) same,
+      quantity_makespan input starts,
+    )
 
 -- an order that is 1
 order_one : (p : Problem) (starts : List ℕ) (o : Order) → 1 ≤ order_of p starts o → at starts o.first + duration p o.first ≤ at starts o.second

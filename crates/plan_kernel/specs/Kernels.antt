@@ -1,5 +1,5 @@
 -- What a kernel knows of a problem (docs/definitions.md, "Clauses").
-use Rattle.std.specs.Prelude.{◌≡◌, ℕ, ◌+◌, ◌-◌, ◌*◌, min, ◌≤◌, ◌<◌, ◌⊎◌, true, List, [], Vec, Option, Some, None, ◌∷◌, All, Contains, length, get_or}
+use Rattle.std.specs.Prelude.{◌≡◌, ℕ, suc, ◌+◌, ◌-◌, ◌*◌, max, min, ◌≤◌, ◌<◌, ◌⊎◌, true, List, [], Vec, Option, Some, None, ◌∷◌, All, Contains, length, get_or}
 use Rattle.std.specs.declared.alloc.Global.{Global}
 use Rattle.std.specs.List.Sorted.{IsPermutation}
 use Rattle.plan_sgs.specs.Problem.{IsFeasible, makespan, greatest_below}
@@ -68,9 +68,9 @@ pub record IsTrueOf (known : Known) (conflict : Conflict) : Type 0 where
   pub apart : conflict.open ≡ true → IsConflict known.input known.upper conflict.values.items
   pub listed : IsListed conflict.values.items conflict.touched.items
 
--- how many halves there are: two for each activity and for each order
+-- how many halves there are: two for each activity, for the makespan and for each order
 abbrev pub count_halves : Input → ℕ
-count_halves input = 2 * (length input.durations.items + length input.orders.items)
+count_halves input = 2 * (suc (length input.durations.items) + length input.orders.items)
 
 -- the facts say of the first n activities that they end before the upper bound, as far as numbers
 -- go
@@ -79,11 +79,11 @@ AreLatest input upper facts n =
     (i : ℕ) → i < n → 2 * i + 1 < length facts
     → min (LIMIT - upper + 1 + at input.durations.items i) 4294967295 ≤ at facts (2 * i + 1)
 
--- the greatest known start with its duration
+-- the greatest known start with its duration, or the known makespan if that is greater
 abbrev pub end_in : Input → List ℕ → ℕ
 end_in input facts =
-    greatest_below (length input.durations.items)
-    (λ i. at facts (2 * i) + at input.durations.items i)
+    let n = length input.durations.items in
+    max (greatest_below n (λ i. at facts (2 * i) + at input.durations.items i)) (at facts (2 * n))
 
 abbrev pub known_end : Known → ℕ
 known_end known = end_in known.input known.facts.items

@@ -1,6 +1,6 @@
 -- Reasons: the clauses that hold by the problem alone (docs/definitions.md, "Clauses"). Energy as
 -- in Schutt, Feydt, Stuckey and Wallace (2011).
-use Rattle.std.specs.Prelude.{◌≡◌, ◌≢◌, ℕ, ◌+◌, ◌*◌, ◌-◌, ◌≤◌, ◌<◌, List, sum_by, length, get_or, All}
+use Rattle.std.specs.Prelude.{◌≡◌, ◌≢◌, ℕ, suc, ◌+◌, ◌*◌, ◌-◌, ◌≤◌, ◌<◌, List, sum_by, length, get_or, All}
 use Rattle.std.specs.List.{AllPairs}
 use Rattle.plan_sgs.specs.Problem.{Problem, count, duration, need, capacity}
 use Rattle.plan_kernel.specs.declared.literal.TheConstants.{LIMIT}
@@ -24,7 +24,7 @@ pair_of o = record { first = o.first; second = o.second }
 -- an order with its quantity, below the limit
 abbrev pub IsOrder : Input → OrderAt → Type 0
 IsOrder input o =
-    (place : ℕ) × (o.quantity ≡ count (problem_of input) + place)
+    (place : ℕ) × (o.quantity ≡ suc (count (problem_of input)) + place)
     × (get_or input.orders.items place no_order ≡ pair_of o) × (o.quantity < LIMIT)
 
 -- the literal that a quantity is at least a value

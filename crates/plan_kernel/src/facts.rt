@@ -1,6 +1,6 @@
 //! Facts: literals that hold in every feasible schedule that is shorter than the best one.
 
-ghost use Rattle.std.specs.Prelude.{◌≡◌, ◌≤◌, ◌<◌, ℕ, min, length, IfOk};
+ghost use Rattle.std.specs.Prelude.{◌≡◌, ◌≤◌, ◌<◌, ◌+◌, ◌-◌, ◌*◌, ℕ, min, length, IfOk};
 ghost use Rattle.plan_kernel.specs.Literals as literals;
 ghost use Rattle.plan_kernel.specs.Clauses as spec;
 ghost use Rattle.plan_kernel.specs.Kernels as kernels;
@@ -21,14 +21,17 @@ pub fn raise(facts: &mut Vec<u32>, half: usize, value: u32)
     }
 }
 
-// Raises what each activity leaves below the limit to what it leaves if it ends before the upper
-// bound.
+// Raises what each activity and the makespan leave below the limit to what they leave if all
+// activities end before the upper bound.
 pub fn raise_latest(facts: &mut Vec<u32>, input: &Input, upper: u32)
     requires limit { upper ≤ LIMIT }
     requires facts { spec.AreFacts input.now upper facts.old.items }
     ensures facts { spec.AreFacts input.now upper facts.new.items }
     ensures latest { kernels.AreLatest input.now upper facts.new.items
         (length input.now.durations.items) }
+    ensures makespan { 2 * length input.now.durations.items + 1 < length facts.new.items
+        → LIMIT - upper + 1
+        ≤ literals.at facts.new.items (2 * length input.now.durations.items + 1) }
     ensures size { length facts.new.items ≡ length facts.old.items }
 {
     let left = LIMIT - upper + 1;
@@ -36,6 +39,7 @@ pub fn raise_latest(facts: &mut Vec<u32>, input: &Input, upper: u32)
         let half = 2 * place + 1;
         raise(facts, half, left.saturating_add(duration));
     }
+    raise(facts, 2 * input.durations.as_slice().len() + 1, left);
 }
 
 // The facts of a problem of which nothing is known but that all makespans are below the limit.
@@ -44,13 +48,13 @@ pub fn first_facts(alloc: Global, input: &Input) -> Result<Vec<u32>, AllocError>
     ensures size { IfOk result (λ facts. length facts.items ≡ kernels.count_halves input.now) }
 {
     let (durations, orders) = (input.durations.as_slice(), input.orders.as_slice());
-    let halves = 2 * (durations.len() + orders.len());
+    let halves = 2 * (durations.len() + 1 + orders.len());
     let mut facts = vec![in alloc; 0u32; halves]?;
     raise_latest(&mut facts, input, LIMIT);
     Ok(facts)
 }
 
-// The greatest known start with its duration.
+// The greatest known start with its duration, or the known makespan if that is greater.
 pub fn greatest_end(facts: &[u32], input: &Input, upper: u32) -> u32
     requires limit { upper ≤ LIMIT }
     requires facts { spec.AreFacts input.now upper facts.now }
@@ -62,5 +66,5 @@ pub fn greatest_end(facts: &[u32], input: &Input, upper: u32) -> u32
         let half = 2 * place;
         greatest = greatest.max(at(facts, half).saturating_add(duration));
     }
-    greatest
+    greatest.max(at(facts, 2 * input.durations.as_slice().len()))
 }

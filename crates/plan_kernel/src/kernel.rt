@@ -84,8 +84,9 @@ impl Kernel {
         }
     }
 
-    /// A number that no makespan of a feasible list of starts is below: the greatest known start
-    /// with its duration, or the upper bound if that is less or nothing is below it.
+    /// A number that no makespan of a feasible list of starts is below: the known makespan, or the
+    /// greatest known start with its duration if that is greater; or the upper bound if that is less
+    /// or nothing is below it.
     pub fn lower_bound(&self) -> u32
         ensures lower { spec.IsLowerBound self.now.known.input result }
         ensures below { result ≤ self.now.known.upper }
@@ -105,7 +106,7 @@ impl Kernel {
         self.known.found && self.known.refuted
     }
 
-    /// How many halves there are: two for each activity and for each order.
+    /// How many halves there are: two for each activity, for the makespan and for each order.
     pub fn halves(&self) -> usize
         ensures { result ≡ length self.now.known.facts.items }
     {

@@ -6,9 +6,9 @@ ghost use Rattle.plan_kernel.specs.Literals as spec;
 /// No start and no makespan that a clause speaks of is greater.
 pub const LIMIT: u32 = 1_073_741_824;
 
-/// A bound of a quantity `x`, which is the start of activity `x` for `x` below the number `n` of
-/// activities, and 1 or 0 for order `x - n`: whether its first activity ends before its second
-/// starts.
+/// A bound of a quantity `x`. For `x` below the number `n` of activities it is the start of activity
+/// `x`, for `x = n` the makespan, and above it 1 or 0 for order `x - n - 1`: whether its first
+/// activity ends before its second starts.
 ///
 /// Half `2 * x` with value `v` says that the quantity is at least `v`. Half `2 * x + 1` with value
 /// `v` says that the quantity is at most [`LIMIT`] - `v`.

@@ -28,6 +28,12 @@ pub enum Reason<'a> {
         arc: u32,
         value: u32,
     },
+    /// The makespan: the activity starts before `value`, or the makespan is at least `value` +
+    /// duration of the activity.
+    End {
+        activity: u32,
+        value: u32,
+    },
     /// An order that is 1: it is 0, or `first` starts before `value`, or `second` starts at `value`
     /// + duration of `first` or later.
     Before {
@@ -71,7 +77,11 @@ fn ordering(input: &Input, order: u32) -> Option<OrderAt>
     ensures { IfSome result (spec.IsOrder input.now) }
 {
     let place = order as usize;
-    let quantity = input.durations.len().saturating_add(place);
+    let quantity = input
+        .durations
+        .len()
+        .saturating_add(1)
+        .saturating_add(place);
     if place < input.orders.len() && quantity < LIMIT as usize {
         let pair = input.orders[place];
         Some(OrderAt {
@@ -145,6 +155,26 @@ fn fill_arc(
     clause.clear();
     clause.push(below(from, value))?;
     clause.push(at_least(to, value.saturating_add(weight)))?;
+    Ok(true)
+}
+
+// The clause of the makespan and an activity.
+fn fill_end(
+    input: &Input,
+    activity: u32,
+    value: u32,
+    clause: &mut Vec<Literal>,
+) -> Result<bool, AllocError>
+    ensures { IfOk result (λ is. IsTrue is → IsConsequence input.now LIMIT clause.new.items) }
+{
+    let count = input.durations.len();
+    if !is_activity(input, activity) || count >= LIMIT as usize {
+        return Ok(false);
+    }
+    let end = value.saturating_add(at(&input.durations, activity as usize));
+    clause.clear();
+    clause.push(below(activity, value))?;
+    clause.push(at_least(count as u32, end))?;
     Ok(true)
 }
 
@@ -295,6 +325,7 @@ pub fn fill(input: &Input, reason: Reason, clause: &mut Vec<Literal>) -> Result<
     match reason {
         Reason::Kept(_) => Ok(false),
         Reason::Arc { arc, value } => fill_arc(input, arc, value, clause),
+        Reason::End { activity, value } => fill_end(input, activity, value, clause),
         Reason::Before { order, value } => fill_before(input, order, value, clause),
         Reason::After { order, value } => fill_after(input, order, value, clause),
         Reason::Energy {

@@ -3,9 +3,10 @@
 ghost use Rattle.std.specs.Prelude.{◌≡◌};
 
 use crate::activity::Activity;
-use crate::explanation::Explainer;
+use crate::explanation::{Explainer, Why};
 use crate::lists::{is_marked, mark};
 use crate::model::Model;
+use crate::prover::Prover;
 use crate::stop::{Cause, Clash};
 use crate::trail::{NONE, Trail};
 use plan_kernel::{Kernel, Literal};
@@ -78,14 +79,82 @@ impl Analysis {
         }
     }
 
+    // Counts the literal of a half, if it is new and began to hold at an entry or later.
+    fn count_half(&mut self, kernel: &Kernel, trail: &Trail, half: u32, conflict: u64) {
+        let literal = literal_of(kernel, half);
+        if self.is_new(literal, conflict) {
+            self.count(trail, literal, trail.start_of(trail.level()));
+        }
+    }
+
+    // Counts the literals of a quantity.
+    fn count_quantity(&mut self, kernel: &Kernel, trail: &Trail, quantity: u32, conflict: u64) {
+        let half = quantity.wrapping_mul(2);
+        self.count_half(kernel, trail, half, conflict);
+        self.count_half(kernel, trail, half | 1, conflict);
+    }
+
     // Counts the literals of the conflict that began to hold at the last level.
     fn count_all(&mut self, kernel: &Kernel, trail: &Trail, conflict: u64) {
-        let start = trail.start_of(trail.level());
         for &half in kernel.touched() {
-            let literal = literal_of(kernel, half);
-            if self.is_new(literal, conflict) {
-                self.count(trail, literal, start);
+            self.count_half(kernel, trail, half, conflict);
+        }
+    }
+
+    // Counts those that come from a kept clause.
+    fn count_clause(&mut self, kernel: &Kernel, trail: &Trail, clause: u32, conflict: u64) {
+        for &literal in kernel.clause(clause) {
+            self.count_half(kernel, trail, literal.half ^ 1, conflict);
+        }
+    }
+
+    // Counts those that come from an order.
+    fn count_order(
+        &mut self,
+        model: &Model,
+        kernel: &Kernel,
+        trail: &Trail,
+        place: u32,
+        conflict: u64,
+    ) {
+        let order = model.order(place);
+        self.count_quantity(kernel, trail, model.quantity(place), conflict);
+        self.count_quantity(kernel, trail, order.first, conflict);
+        self.count_quantity(kernel, trail, order.second, conflict);
+    }
+
+    // Counts those that come from the members of a window.
+    fn count_members(&mut self, kernel: &Kernel, trail: &Trail, conflict: u64) {
+        for place in 0..self.explainer.members().len() {
+            let activity = self.explainer.member(place);
+            self.count_quantity(kernel, trail, activity, conflict);
+        }
+    }
+
+    // Counts those that come from a reason.
+    fn count_reason(
+        &mut self,
+        model: &Model,
+        kernel: &Kernel,
+        trail: &Trail,
+        why: Why,
+        conflict: u64,
+    ) {
+        match why {
+            Why::Kept(clause) => self.count_clause(kernel, trail, clause, conflict),
+            Why::Arc(place, _) => {
+                let link = model.link(place);
+                self.count_quantity(kernel, trail, link.from, conflict);
+                self.count_quantity(kernel, trail, link.to, conflict);
             }
+            Why::End(activity, _) => {
+                self.count_quantity(kernel, trail, activity, conflict);
+                self.count_quantity(kernel, trail, model.end(), conflict);
+            }
+            Why::Before(order, _) | Why::After(order, _) => {
+                self.count_order(model, kernel, trail, order, conflict);
+            }
+            Why::Energy(_, _, _) => self.count_members(kernel, trail, conflict),
         }
     }
 
@@ -118,13 +187,13 @@ impl Analysis {
         &mut self,
         model: &Model,
         trail: &Trail,
-        kernel: &mut Kernel,
+        prover: &mut Prover,
         clash: Clash,
     ) -> Result<bool, AllocError>
-        ensures { kernel.new.known.input ≡ kernel.old.known.input }
+        ensures { prover.new.kernel.known.input ≡ prover.old.kernel.known.input }
     {
         match self.explainer.explain_clash(model, trail, clash)? {
-            Some(why) => Ok(kernel.begin(self.explainer.reason(why))),
+            Some(why) => prover.begin(self.explainer.reason(why)),
             None => Ok(false),
         }
     }
@@ -134,10 +203,10 @@ impl Analysis {
         &mut self,
         model: &Model,
         trail: &Trail,
-        kernel: &mut Kernel,
+        prover: &mut Prover,
         place: u32,
     ) -> Result<bool, AllocError>
-        ensures { kernel.new.known.input ≡ kernel.old.known.input }
+        ensures { prover.new.kernel.known.input ≡ prover.old.kernel.known.input }
     {
         let Some(entry) = trail.entry(place) else {
             return Ok(false);
@@ -150,33 +219,39 @@ impl Analysis {
             .explainer
             .explain(model, trail, literal, entry.cause, place)?
         {
-            Some(why) => Ok(kernel.begin(self.explainer.reason(why))),
+            Some(why) => prover.begin(self.explainer.reason(why)),
             None => Ok(false),
         }
     }
 
-    // Replaces a literal of the conflict by what it follows from. Returns whether it could be done.
+    // Replaces a literal of the conflict by what it follows from, and counts that. Returns whether
+    // it could be done.
     fn resolve(
         &mut self,
         model: &Model,
         trail: &Trail,
-        kernel: &mut Kernel,
+        prover: &mut Prover,
         place: u32,
+        conflict: u64,
     ) -> Result<bool, AllocError>
-        ensures { kernel.new.known.input ≡ kernel.old.known.input }
+        ensures { prover.new.kernel.known.input ≡ prover.old.kernel.known.input }
     {
         let Some(entry) = trail.entry(place) else {
             return Ok(false);
         };
-        let literal = literal_of(kernel, entry.half);
+        let literal = literal_of(&prover.kernel, entry.half);
         self.uncount(entry.half);
-        match self
+        let why = self
             .explainer
-            .explain(model, trail, literal, entry.cause, place)?
-        {
-            Some(why) => Ok(kernel.resolve(entry.half, self.explainer.reason(why))),
-            None => Ok(false),
+            .explain(model, trail, literal, entry.cause, place)?;
+        let Some(why) = why else {
+            return Ok(false);
+        };
+        if !prover.resolve(entry.half, self.explainer.reason(why))? {
+            return Ok(false);
         }
+        self.count_reason(model, &prover.kernel, trail, why, conflict);
+        Ok(true)
     }
 
     // Whether the conflict has a literal that holds from an entry on, and not before.
@@ -193,17 +268,17 @@ impl Analysis {
         &mut self,
         model: &Model,
         trail: &Trail,
-        kernel: &mut Kernel,
+        prover: &mut Prover,
         activity: &mut Activity,
         used: &mut Vec<u64>,
         conflict: u64,
     ) -> Result<Option<u32>, AllocError>
-        ensures { kernel.new.known.input ≡ kernel.old.known.input }
+        ensures { prover.new.kernel.known.input ≡ prover.old.kernel.known.input }
     {
         self.count = 0;
-        self.count_all(kernel, trail, conflict);
+        self.count_all(&prover.kernel, trail, conflict);
         for place in (0..trail.len()).rev() {
-            if !self.is_met(kernel, trail, place) {
+            if !self.is_met(&prover.kernel, trail, place) {
                 continue;
             }
             let Some(entry) = trail.entry(place) else {
@@ -213,12 +288,11 @@ impl Analysis {
                 self.uncount(entry.half);
                 return Ok(Some(entry.half));
             }
-            activity.bump(literal_of(kernel, entry.half))?;
+            activity.bump(literal_of(&prover.kernel, entry.half))?;
             note_use(entry.cause, used, conflict);
-            if !self.resolve(model, trail, kernel, place)? {
+            if !self.resolve(model, trail, prover, place, conflict)? {
                 break;
             }
-            self.count_all(kernel, trail, conflict);
         }
         Ok(None)
     }

@@ -4,7 +4,8 @@ use crate::lists::{at, empty_rows, mark, push_to, row};
 use plan_kernel::{Input, Order};
 use std::alloc::{AllocError, Global};
 
-/// Activity `to` starts no earlier than `weight` after the start of activity `from`.
+/// Activity `to`, or the makespan if `to` is the number of activities, is no earlier than `weight`
+/// after the start of activity `from`.
 #[derive(Clone, Copy, Drop)]
 pub struct Link {
     pub from: u32,
@@ -22,11 +23,13 @@ pub struct Model {
     pub durations: Vec<u32>,
     needs: Vec<u32>,
     capacities: Vec<u32>,
+    // the arcs, and behind them a link to the makespan from each activity without an arc
     links: Vec<Link>,
+    arcs: u32,
     orders: Vec<Order>,
-    /// For each activity the arcs that begin with it.
+    /// For each activity the links that begin with it.
     pub links_from: Vec<Vec<u32>>,
-    /// For each activity the arcs that end with it.
+    /// For each activity, and then the makespan, the links that end with it.
     pub links_to: Vec<Vec<u32>>,
     /// For each activity its orders.
     pub orders_of: Vec<Vec<u32>>,
@@ -85,15 +88,17 @@ impl Model {
             needs: flat_needs(alloc, input)?,
             capacities: capacities_of(alloc, input)?,
             links: links_of(alloc, input)?,
+            arcs: narrow(input.arcs.len()),
             orders: Vec::from_slice(alloc, input.orders.as_slice())?,
             links_from: empty_rows(alloc, count)?,
-            links_to: empty_rows(alloc, count)?,
+            links_to: empty_rows(alloc, count.saturating_add(1))?,
             orders_of: empty_rows(alloc, count)?,
             users: empty_rows(alloc, kinds)?,
             is_unary: vec![in alloc; true; kinds]?,
             unary_of: empty_rows(alloc, count)?,
         };
         model.list_links()?;
+        model.link_ends()?;
         model.list_orders()?;
         for resource in 0..model.kinds {
             model.list_users(resource)?;
@@ -106,6 +111,20 @@ impl Model {
         for (place, link) in self.links.iter().enumerate() {
             push_to(&mut self.links_from, link.from, narrow(place))?;
             push_to(&mut self.links_to, link.to, narrow(place))?;
+        }
+        Ok(())
+    }
+
+    // Links the activities without successors to the makespan.
+    fn link_ends(&mut self) -> Result<(), AllocError> {
+        for from in 0..self.count {
+            if row(&self.links_from, from).is_empty() {
+                let (place, weight) = (narrow(self.links.len()), self.duration(from));
+                let to = self.count;
+                self.links.push(Link { from, to, weight })?;
+                push_to(&mut self.links_from, from, place)?;
+                push_to(&mut self.links_to, to, place)?;
+            }
         }
         Ok(())
     }
@@ -159,7 +178,7 @@ impl Model {
         at(&self.capacities, resource)
     }
 
-    /// The arc at a place; one from an activity to itself if there is none.
+    /// The link at a place; one from an activity to itself if there is none.
     pub fn link(&self, place: u32) -> Link {
         if (place as usize) < self.links.len() {
             self.links[place as usize]
@@ -189,22 +208,23 @@ impl Model {
         narrow(self.orders.len())
     }
 
-    /// The quantity of an order.
-    pub fn quantity(&self, order: u32) -> u32 {
-        self.count.wrapping_add(order)
+    /// Whether a link is an arc. If not, it leads to the makespan.
+    pub fn is_arc(&self, place: u32) -> bool {
+        place < self.arcs
     }
 
-    /// The one activity without a successor, if it is the only one.
-    pub fn sink(&self) -> Option<u32> {
-        let mut sink = None;
-        for activity in 0..self.count {
-            if row(&self.links_from, activity).is_empty() {
-                if sink.is_some() {
-                    return None;
-                }
-                sink = Some(activity);
-            }
-        }
-        sink
+    /// The quantity of the makespan.
+    pub fn end(&self) -> u32 {
+        self.count
+    }
+
+    /// The quantity of an order.
+    pub fn quantity(&self, order: u32) -> u32 {
+        self.count.wrapping_add(1).wrapping_add(order)
+    }
+
+    /// The order of a quantity behind the makespan.
+    pub fn order_of(&self, quantity: u32) -> u32 {
+        quantity.wrapping_sub(self.count).wrapping_sub(1)
     }
 }

@@ -9,6 +9,7 @@ ghost use Rattle.plan_solve.specs.Solutions as spec;
 
 use crate::bounds::simple_bound;
 use crate::fault::SolveFault;
+use crate::log::{Log, Unlogged};
 use crate::orders::orders_of;
 use crate::schedules::{by_rules, tightened};
 use crate::solvable::Solvable;
@@ -100,10 +101,44 @@ pub fn solve_watched<W: Watcher>(
     ensures told { HearsTruth (problem_of instance.now) conflicts
         (W.was_told watcher.old) (W.was_told watcher.new) }
 {
+    solve_logged(alloc, instance, conflicts, watcher, &mut Unlogged)
+}
+
+/// Does the same, and writes what it proves to a log. With a log it also searches if the bounds that
+/// need no search meet. No clause says what the log gets: a checker of logs checks it.
+pub fn solve_logged<W: Watcher, L: Log>(
+    alloc: Global,
+    instance: &Instance,
+    conflicts: u64,
+    watcher: &mut W,
+    log: &mut L,
+) -> Result<Solved, SolveFault>
+    ensures active { IfOk result (λ solved.
+        IsActive (problem_of instance.now) solved.schedule.starts.items) }
+    ensures makespan { IfOk result (λ solved.
+        solved.schedule.makespan
+        ≡ makespan (problem_of instance.now) solved.schedule.starts.items) }
+    // No feasible schedule has a makespan below it.
+    ensures lower { IfOk result (λ solved.
+        spec.IsLowerBound (problem_of instance.now) solved.lower) }
+    ensures below { IfOk result (λ solved. solved.lower ≤ solved.schedule.makespan) }
+    ensures optimal { IfOk result (λ solved. solved.lower ≡ solved.schedule.makespan
+        → IsShortest (problem_of instance.now) solved.schedule.starts.items) }
+    ensures ends { IfOk result (λ solved.
+        AllEndBy (problem_of instance.now) solved.schedule.starts.items latest_end) }
+    ensures conflicts { IfOk result (λ solved. solved.conflicts ≤ conflicts) }
+    ensures allowed { IfOk result (λ _. spec.IsConflictLimit conflicts) }
+    ensures refused { IfErr result (spec.RefusesSolving conflicts) }
+    // What is refused takes no memory.
+    ensures early { IsErrOf result SolveFault.NoMemory → spec.IsConflictLimit conflicts }
+    // All that the watcher is told is true of the project, whatever the search comes to.
+    ensures told { HearsTruth (problem_of instance.now) conflicts
+        (W.was_told watcher.old) (W.was_told watcher.new) }
+{
     if conflicts == 0 || conflicts > MOST_CONFLICTS {
         return Err(SolveFault::BadConflicts);
     }
-    let searched = searched(alloc, instance, conflicts, watcher);
+    let searched = searched(alloc, instance, conflicts, watcher, log);
     watcher.end();
     Ok(searched?)
 }

@@ -28,20 +28,20 @@ pub struct State {
 
 // What follows along the arcs from an activity that starts later.
 fn push_successors(model: &Model, trail: &mut Trail, activity: u32) -> Result<(), Stop> {
-    for &arc in row(&model.links_from, activity) {
-        let link = model.link(arc);
+    for &place in row(&model.links_from, activity) {
+        let link = model.link(place);
         let value = trail.earliest(activity).saturating_add(link.weight);
-        trail.set(at_least(link.to, value), Cause::Arc(arc))?;
+        trail.set(at_least(link.to, value), Cause::Link(place))?;
     }
     Ok(())
 }
 
-// What follows along the arcs to an activity that starts sooner.
+// What follows along the arcs to an activity that starts sooner, or from an earlier makespan.
 fn push_predecessors(model: &Model, trail: &mut Trail, activity: u32) -> Result<(), Stop> {
-    for &arc in row(&model.links_to, activity) {
-        let link = model.link(arc);
+    for &place in row(&model.links_to, activity) {
+        let link = model.link(place);
         let value = trail.latest(activity);
-        trail.set(at_most(link.from, value, link.weight), Cause::Arc(arc))?;
+        trail.set(at_most(link.from, value, link.weight), Cause::Link(place))?;
     }
     Ok(())
 }
@@ -142,8 +142,10 @@ impl State {
         let quantity = entry.half / 2;
         if quantity < model.count {
             self.propagate_start(model, entry)
+        } else if quantity == model.end() {
+            push_predecessors(model, &mut self.trail, quantity)
         } else {
-            propagate_order(model, &mut self.trail, quantity - model.count)
+            propagate_order(model, &mut self.trail, model.order_of(quantity))
         }
     }
 

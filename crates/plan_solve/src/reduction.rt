@@ -2,6 +2,7 @@
 
 ghost use Rattle.std.specs.Prelude.{◌≡◌};
 
+use crate::prover::Prover;
 use crate::trail::Trail;
 use crate::watches::Watches;
 use plan_kernel::Kernel;
@@ -94,18 +95,19 @@ impl Clauses {
     }
 
     /// Drops about half of the clauses: those of many levels that weren't used of late.
-    pub fn reduce(&mut self, kernel: &mut Kernel, conflict: u64)
-        ensures { kernel.new.known.input ≡ kernel.old.known.input }
+    pub fn reduce(&mut self, prover: &mut Prover, conflict: u64) -> Result<(), AllocError>
+        ensures { prover.new.kernel.known.input ≡ prover.old.kernel.known.input }
     {
-        let limit = self.limit(kernel);
+        let limit = self.limit(&prover.kernel);
         for place in 0..self.levels.len() {
             let clause = (place & 0xffff_ffff) as u32;
-            if !kernel.clause(clause).is_empty() && !self.stays(place, limit, conflict) {
-                kernel.remove(clause);
+            if !prover.kernel.clause(clause).is_empty() && !self.stays(place, limit, conflict) {
+                prover.remove(clause)?;
                 self.count = self.count.saturating_sub(1);
             }
         }
         self.most = self.most.saturating_add(MORE_CLAUSES);
+        Ok(())
     }
 
     /// Watches two literals of each clause that aren't false.

@@ -5,6 +5,9 @@ ghost use Rattle.plan_kernel.specs.Inputs as inputs;
 ghost use Rattle.plan_solve.specs.Progress.{HearsNothing, HearsTruth};
 ghost use Rattle.plan_solve.specs.Solutions.{IsLowerBound};
 
+use crate::lines::Lines;
+use crate::log::Log;
+use crate::prover::prover_of;
 use crate::search::{Advance, Search};
 use crate::solvable::Solvable;
 use crate::stop::Clash;
@@ -17,6 +20,9 @@ const CONFLICTS_BETWEEN: u64 = 64;
 
 /// After how many decisions without a conflict a watcher is asked whether the search should end.
 const DECISIONS_BETWEEN: u32 = 64;
+
+/// How many bytes of lines a log gets together at least, but for the last ones.
+const LINES_TOGETHER: usize = 65_536;
 
 /// What a search comes to: the starts of the best schedule, a lower bound, and how many conflicts
 /// there were.
@@ -72,13 +78,14 @@ fn tell<S: Solvable, W: Watcher>(
 }
 
 /// Searches from a schedule on, with at most so many conflicts.
-pub fn run<S: Solvable, W: Watcher>(
+pub fn run<S: Solvable, W: Watcher, L: Log>(
     alloc: Global,
     source: &S,
     starts: &[u64],
     simple: u64,
     conflicts: u64,
     watcher: &mut W,
+    log: &mut L,
 ) -> Result<Found, AllocError>
     requires simple { IsLowerBound (S.problem source.now) simple }
     ensures lower { IfOk result (λ found. IsLowerBound (S.problem source.now) found.lower) }
@@ -87,17 +94,28 @@ pub fn run<S: Solvable, W: Watcher>(
         (W.was_told watcher.old) (W.was_told watcher.new) }
 {
     let kernel = kernel_of(alloc, source, starts)?;
-    let mut search = Search::new(alloc, kernel)?;
-    let used = search_all(alloc, source, &mut search, simple, conflicts, watcher)?;
-    let starts = match search.kernel.best() {
+    let mut search = Search::new(alloc, prover_of(alloc, kernel, log.is_wanted())?)?;
+    let used = search_all(alloc, source, &mut search, simple, conflicts, watcher, log)?;
+    let lower = search.prover.kernel.lower_bound();
+    search.prover.lines.lower(lower)?;
+    hand_over(&mut search.prover.lines, log, 0);
+    let starts = match search.prover.kernel.best() {
         Some(starts) => Vec::from_slice(alloc, starts)?,
         None => Vec::new(alloc),
     };
     Ok(Found {
         starts,
-        lower: lower_bound(source, &search.kernel, simple),
+        lower: lower_bound(source, &search.prover.kernel, simple),
         conflicts: used,
     })
+}
+
+// Hands the lines of a prover over if there are so many.
+fn hand_over<L: Log>(lines: &mut Lines, log: &mut L, many: usize) {
+    if lines.is_on() && lines.text().len() >= many {
+        let is_wanted = log.write(lines.text());
+        lines.clear(is_wanted);
+    }
 }
 
 // Searches until a clause is false. `None` if nothing is left to search for, or the watcher ends
@@ -107,7 +125,7 @@ fn next_clash<W: Watcher>(
     search: &mut Search,
     watcher: &mut W,
 ) -> Result<Option<Clash>, AllocError>
-    ensures input { search.new.kernel.known.input ≡ search.old.kernel.known.input }
+    ensures input { search.new.prover.kernel.known.input ≡ search.old.prover.kernel.known.input }
     ensures told { HearsNothing (W.was_told watcher.old) (W.was_told watcher.new) }
 {
     for _ in 0..u64::MAX {
@@ -125,17 +143,18 @@ fn next_clash<W: Watcher>(
 
 // Searches until nothing is left, a limit is reached or the watcher ends it. Returns how many
 // conflicts there were.
-fn search_all<S: Solvable, W: Watcher>(
+fn search_all<S: Solvable, W: Watcher, L: Log>(
     alloc: Global,
     source: &S,
     search: &mut Search,
     simple: u64,
     conflicts: u64,
     watcher: &mut W,
+    log: &mut L,
 ) -> Result<u64, AllocError>
-    requires problem { inputs.problem_of search.old.kernel.known.input ≡ S.problem source.now }
+    requires problem { inputs.problem_of search.old.prover.kernel.known.input ≡ S.problem source.now }
     requires simple { IsLowerBound (S.problem source.now) simple }
-    ensures input { search.new.kernel.known.input ≡ search.old.kernel.known.input }
+    ensures input { search.new.prover.kernel.known.input ≡ search.old.prover.kernel.known.input }
     ensures used { IfOk result (λ used. used ≤ conflicts) }
     ensures told { HearsTruth (S.problem source.now) conflicts
         (W.was_told watcher.old) (W.was_told watcher.new) }
@@ -145,7 +164,7 @@ fn search_all<S: Solvable, W: Watcher>(
     }
     for conflict in 0..conflicts {
         if conflict % CONFLICTS_BETWEEN == 0
-            && tell(watcher, source, &search.kernel, simple, conflict)
+            && tell(watcher, source, &search.prover.kernel, simple, conflict)
         {
             return Ok(conflict);
         }
@@ -155,6 +174,7 @@ fn search_all<S: Solvable, W: Watcher>(
         if !search.learn(alloc, clash, conflict + 1)? {
             return Ok(conflict + 1);
         }
+        hand_over(&mut search.prover.lines, log, LINES_TOGETHER);
     }
     Ok(conflicts)
 }

@@ -8,24 +8,24 @@ use crate::lists::at;
 use crate::literals::{at_most, negated};
 use crate::model::Model;
 use crate::propagation::State;
+use crate::prover::Prover;
 use crate::reduction::Clauses;
 use crate::restarts::{is_raising, patience};
 use crate::stop::{Cause, Clash, Stop};
 use crate::trail::{NONE, Trail};
 use crate::watches::literal_at;
-use plan_kernel::{Kernel, KernelFault, Lesson, Literal};
+use plan_kernel::{Kernel, Lesson, Literal};
 use std::alloc::{AllocError, Global};
 
 /// A search. What it holds beside the kernel decides how long it takes, and nothing else.
 #[derive(Drop)]
 pub struct Search {
-    pub kernel: Kernel,
+    pub prover: Prover,
     pub model: Model,
     pub state: State,
     pub clauses: Clauses,
     analysis: Analysis,
     activity: Activity,
-    sink: Option<u32>,
     // whether the next decision at level 0 is to end at the lower bound
     is_raising: bool,
     // how often the search began again, and how many conflicts it may have before it does so next
@@ -47,30 +47,19 @@ fn take_facts(kernel: &Kernel, state: &mut State) -> Result<bool, AllocError> {
     Ok(true)
 }
 
-// Learns from the conflict of the kernel. `None` if it can't be kept.
-fn keep(alloc: Global, kernel: &mut Kernel) -> Result<Option<Lesson>, AllocError>
-    ensures { kernel.new.known.input ≡ kernel.old.known.input }
-{
-    match kernel.keep(alloc) {
-        Ok(lesson) => Ok(Some(lesson)),
-        Err(KernelFault::NoMemory) => Err(AllocError),
-        Err(_) => Ok(None),
-    }
-}
-
 // Makes all entries of level 0 facts.
 fn settle(
     alloc: Global,
     analysis: &mut Analysis,
     model: &Model,
     trail: &Trail,
-    kernel: &mut Kernel,
+    prover: &mut Prover,
 ) -> Result<(), AllocError>
-    ensures { kernel.new.known.input ≡ kernel.old.known.input }
+    ensures { prover.new.kernel.known.input ≡ prover.old.kernel.known.input }
 {
     for place in 0..trail.len() {
-        if analysis.begin_entry(model, trail, kernel, place)? {
-            let _ = keep(alloc, kernel)?;
+        if analysis.begin_entry(model, trail, prover, place)? {
+            let _ = prover.keep(alloc)?;
         }
     }
     Ok(())
@@ -101,24 +90,23 @@ fn places_in(clause: &[Literal], trail: &Trail, half: u32, level: u32) -> (u32, 
 }
 
 impl Search {
-    /// A search over what a kernel knows.
-    pub fn new(alloc: Global, kernel: Kernel) -> Result<Search, AllocError>
-        ensures { IfOk result (λ search. search.kernel ≡ kernel) }
+    /// A search over what a prover knows.
+    pub fn new(alloc: Global, prover: Prover) -> Result<Search, AllocError>
+        ensures { IfOk result (λ search. search.prover ≡ prover) }
     {
+        let kernel = &prover.kernel;
         let model = Model::new(alloc, kernel.input())?;
         let (halves, horizon) = (kernel.halves(), kernel.upper());
         let state = State::new(alloc, &model, halves, horizon)?;
         let activity = Activity::new(alloc, &model, horizon)?;
         let analysis = Analysis::new(alloc, halves)?;
-        let sink = model.sink();
         Ok(Search {
-            kernel,
+            prover,
             model,
             state,
             clauses: Clauses::new(alloc),
             analysis,
             activity,
-            sink,
             is_raising: false,
             restarts: 0,
             left: 0,
@@ -127,14 +115,14 @@ impl Search {
 
     // Takes all facts over. Returns whether they agree.
     fn take_facts(&mut self) -> Result<bool, AllocError>
-        ensures { self.new.kernel ≡ self.old.kernel }
+        ensures { self.new.prover ≡ self.old.prover }
     {
-        take_facts(&self.kernel, &mut self.state)
+        take_facts(&self.prover.kernel, &mut self.state)
     }
 
     /// Takes back all decisions above a level.
     pub fn go_back(&mut self, level: u32) -> Result<(), AllocError>
-        ensures { self.new.kernel ≡ self.old.kernel }
+        ensures { self.new.prover ≡ self.old.prover }
     {
         self.activity.close(level)?;
         self.state.go_back(&self.model, level)
@@ -142,12 +130,13 @@ impl Search {
 
     // Propagates all bounds; at the first levels of a search for lower bounds also by windows.
     fn propagate(&mut self, alloc: Global) -> Result<(), Stop>
-        ensures { self.new.kernel ≡ self.old.kernel }
+        ensures { self.new.prover ≡ self.old.prover }
     {
-        self.state.propagate(alloc, &self.model, &self.kernel)?;
+        self.state
+            .propagate(alloc, &self.model, &self.prover.kernel)?;
         let level = self.state.trail.level();
         if level == 0 || level == 1 && self.is_raising {
-            let horizon = self.kernel.upper();
+            let horizon = self.prover.kernel.upper();
             self.state.check_windows(alloc, &self.model, horizon)?;
         }
         Ok(())
@@ -155,31 +144,31 @@ impl Search {
 
     // Learns from a clause that is false at level 0 that there is nothing to search for any more.
     fn refute(&mut self, alloc: Global, clash: Clash) -> Result<(), AllocError>
-        ensures { self.new.kernel.known.input ≡ self.old.kernel.known.input }
+        ensures { self.new.prover.kernel.known.input ≡ self.old.prover.kernel.known.input }
     {
         settle(
             alloc,
             &mut self.analysis,
             &self.model,
             &self.state.trail,
-            &mut self.kernel,
+            &mut self.prover,
         )?;
         let trail = &self.state.trail;
         if self
             .analysis
-            .begin(&self.model, trail, &mut self.kernel, clash)?
+            .begin(&self.model, trail, &mut self.prover, clash)?
         {
-            let _ = keep(alloc, &mut self.kernel)?;
+            let _ = self.prover.keep(alloc)?;
         }
         Ok(())
     }
 
     // Goes on from a fact that was learned.
     fn take_fact(&mut self, half: u32) -> Result<bool, AllocError>
-        ensures { self.new.kernel ≡ self.old.kernel }
+        ensures { self.new.prover ≡ self.old.prover }
     {
         self.go_back(0)?;
-        let value = self.kernel.fact(half);
+        let value = self.prover.kernel.fact(half);
         match self.state.trail.set(Literal { half, value }, Cause::Fact) {
             Ok(()) => Ok(true),
             Err(Stop::NoMemory) => Err(AllocError),
@@ -196,15 +185,17 @@ impl Search {
         conflict: u64,
         spread: u32,
     ) -> Result<bool, AllocError>
-        ensures { self.new.kernel ≡ self.old.kernel }
+        ensures { self.new.prover ≡ self.old.prover }
     {
         self.clauses.add(clause, spread, conflict)?;
-        let literals = self.kernel.clause(clause);
+        let literals = self.prover.kernel.clause(clause);
         let (first, second) = places_in(literals, &self.state.trail, half ^ 1, back);
         let asserted = literal_at(literals, first);
         self.activity.close(back)?;
         self.state.go_back(&self.model, back)?;
-        self.state.watches.add(&self.kernel, clause, first, second)?;
+        self.state
+            .watches
+            .add(&self.prover.kernel, clause, first, second)?;
         match self.state.trail.set(asserted, Cause::Kept(clause)) {
             Ok(()) => Ok(true),
             Err(Stop::NoMemory) => Err(AllocError),
@@ -214,14 +205,14 @@ impl Search {
 
     // Learns from the conflict, of which one half began to hold at the last level.
     fn learn_half(&mut self, alloc: Global, half: u32, conflict: u64) -> Result<bool, AllocError>
-        ensures { self.new.kernel.known.input ≡ self.old.kernel.known.input }
+        ensures { self.new.prover.kernel.known.input ≡ self.old.prover.kernel.known.input }
     {
-        bump(&self.kernel, &mut self.activity)?;
-        let back = greatest_level(&self.kernel, &self.state.trail, half);
+        bump(&self.prover.kernel, &mut self.activity)?;
+        let back = greatest_level(&self.prover.kernel, &self.state.trail, half);
         let spread = self
             .analysis
-            .spread(&self.kernel, &self.state.trail, conflict);
-        match keep(alloc, &mut self.kernel)? {
+            .spread(&self.prover.kernel, &self.state.trail, conflict);
+        match self.prover.keep(alloc)? {
             Some(Lesson::Refuted) => Ok(false),
             Some(Lesson::Fact(half)) => self.take_fact(half),
             Some(Lesson::Clause(clause)) => self.take_clause(clause, half, back, conflict, spread),
@@ -235,7 +226,7 @@ impl Search {
     /// Learns from a clause that is false, and begins again if it is time to. Returns whether there
     /// is something left to search for.
     pub fn learn(&mut self, alloc: Global, clash: Clash, conflict: u64) -> Result<bool, AllocError>
-        ensures { self.new.kernel.known.input ≡ self.old.kernel.known.input }
+        ensures { self.new.prover.kernel.known.input ≡ self.old.prover.kernel.known.input }
     {
         self.left = self.left.saturating_sub(1);
         if !self.learn_from(alloc, clash, conflict)? {
@@ -249,7 +240,7 @@ impl Search {
 
     // Learns from a clause that is false.
     fn learn_from(&mut self, alloc: Global, clash: Clash, conflict: u64) -> Result<bool, AllocError>
-        ensures { self.new.kernel.known.input ≡ self.old.kernel.known.input }
+        ensures { self.new.prover.kernel.known.input ≡ self.old.prover.kernel.known.input }
     {
         if self.state.trail.level() == 0 {
             self.refute(alloc, clash)?;
@@ -258,20 +249,20 @@ impl Search {
         let trail = &self.state.trail;
         if !self
             .analysis
-            .begin(&self.model, trail, &mut self.kernel, clash)?
+            .begin(&self.model, trail, &mut self.prover, clash)?
         {
             return Ok(false);
         }
-        let level = greatest_level(&self.kernel, &self.state.trail, NONE);
+        let level = greatest_level(&self.prover.kernel, &self.state.trail, NONE);
         if level == 0 {
-            let _ = keep(alloc, &mut self.kernel)?;
+            let _ = self.prover.keep(alloc)?;
             return Ok(false);
         }
         self.go_back(level)?;
         let reduced = self.analysis.reduce(
             &self.model,
             &self.state.trail,
-            &mut self.kernel,
+            &mut self.prover,
             &mut self.activity,
             &mut self.clauses.used,
             conflict,
@@ -284,7 +275,7 @@ impl Search {
 
     // Decides.
     fn decide(&mut self, literal: Literal) -> Result<(), AllocError>
-        ensures { self.new.kernel ≡ self.old.kernel }
+        ensures { self.new.prover ≡ self.old.prover }
     {
         self.activity.open()?;
         self.state.trail.decide(literal)
@@ -292,14 +283,17 @@ impl Search {
 
     // Whether a literal that a quantity is at least a value holds in the best schedule.
     fn is_in_best(&self, literal: Literal) -> bool {
-        let Some(best) = self.kernel.best() else {
+        let Some(best) = self.prover.kernel.best() else {
             return false;
         };
         let quantity = literal.half / 2;
         if quantity < self.model.count {
             return at(best, quantity) >= literal.value;
         }
-        let order = self.model.order(quantity - self.model.count);
+        if quantity == self.model.end() {
+            return self.prover.kernel.upper() >= literal.value;
+        }
+        let order = self.model.order(self.model.order_of(quantity));
         let end = at(best, order.first).saturating_add(self.model.duration(order.first));
         end <= at(best, order.second)
     }
@@ -319,8 +313,8 @@ impl Search {
 
     // The decision to end at the lower bound.
     fn raising(&self) -> Option<Literal> {
-        let sink = self.sink?;
-        let literal = at_most(sink, self.state.trail.earliest(sink), 0);
+        let end = self.model.end();
+        let literal = at_most(end, self.state.trail.earliest(end), 0);
         if self.is_raising && !self.state.trail.is_true(literal) {
             Some(literal)
         } else {
@@ -330,7 +324,7 @@ impl Search {
 
     // Decides. Returns whether an activity was open.
     fn branch(&mut self, alloc: Global) -> Result<bool, AllocError>
-        ensures { self.new.kernel.known.input ≡ self.old.kernel.known.input }
+        ensures { self.new.prover.kernel.known.input ≡ self.old.prover.kernel.known.input }
     {
         if self.state.trail.level() == 0 {
             settle(
@@ -338,7 +332,7 @@ impl Search {
                 &mut self.analysis,
                 &self.model,
                 &self.state.trail,
-                &mut self.kernel,
+                &mut self.prover,
             )?;
             self.state.trail.forget();
             if let Some(literal) = self.raising() {
@@ -361,14 +355,14 @@ impl Search {
 
     // Hands the starts of all activities in. Returns whether there is something left to search for.
     fn improve(&mut self, alloc: Global) -> Result<bool, AllocError>
-        ensures { self.new.kernel.known.input ≡ self.old.kernel.known.input }
+        ensures { self.new.prover.kernel.known.input ≡ self.old.prover.kernel.known.input }
     {
         let mut starts = Vec::with_capacity(alloc, self.model.count as usize)?;
         for activity in 0..self.model.count {
             starts.push(self.state.trail.earliest(activity))?;
         }
         self.go_back(0)?;
-        Ok(self.kernel.lower(starts) && self.take_facts()?)
+        Ok(self.prover.lower(starts)? && self.take_facts()?)
     }
 
     /// Whether the use of resources can be counted.
@@ -378,13 +372,13 @@ impl Search {
 
     // Begins again, if it is time to. Returns whether there is something left to search for.
     fn begin_again(&mut self, alloc: Global, conflict: u64) -> Result<bool, AllocError>
-        ensures { self.new.kernel.known.input ≡ self.old.kernel.known.input }
+        ensures { self.new.prover.kernel.known.input ≡ self.old.prover.kernel.known.input }
     {
         self.go_back(0)?;
         self.is_raising = is_raising(self.restarts);
         self.left = patience(self.restarts);
         self.restarts = self.restarts.wrapping_add(1);
-        if self.clauses.is_full(&self.kernel) {
+        if self.clauses.is_full(&self.prover.kernel) {
             return self.reduce(alloc, conflict);
         }
         Ok(true)
@@ -392,7 +386,7 @@ impl Search {
 
     /// Propagates and decides until a clause is false, for so many decisions at most.
     pub fn advance(&mut self, alloc: Global, decisions: u32) -> Result<Advance, AllocError>
-        ensures { self.new.kernel.known.input ≡ self.old.kernel.known.input }
+        ensures { self.new.prover.kernel.known.input ≡ self.old.prover.kernel.known.input }
     {
         for _ in 0..decisions {
             match self.propagate(alloc) {
@@ -409,7 +403,7 @@ impl Search {
 
     /// Begins. Returns whether there is something to search for.
     pub fn begin(&mut self, alloc: Global) -> Result<bool, AllocError>
-        ensures { self.new.kernel.known.input ≡ self.old.kernel.known.input }
+        ensures { self.new.prover.kernel.known.input ≡ self.old.prover.kernel.known.input }
     {
         if !self.take_facts()? {
             return Ok(false);
@@ -427,7 +421,7 @@ impl Search {
     // Drops clauses that weren't of use, after all decisions were taken back. Returns whether there
     // is something left to search for.
     fn reduce(&mut self, alloc: Global, conflict: u64) -> Result<bool, AllocError>
-        ensures { self.new.kernel.known.input ≡ self.old.kernel.known.input }
+        ensures { self.new.prover.kernel.known.input ≡ self.old.prover.kernel.known.input }
     {
         match self.propagate(alloc) {
             Err(Stop::NoMemory) => return Err(AllocError),
@@ -442,12 +436,15 @@ impl Search {
             &mut self.analysis,
             &self.model,
             &self.state.trail,
-            &mut self.kernel,
+            &mut self.prover,
         )?;
         self.state.trail.forget();
-        self.clauses.reduce(&mut self.kernel, conflict);
-        self.clauses
-            .watch_all(&self.kernel, &self.state.trail, &mut self.state.watches)?;
+        self.clauses.reduce(&mut self.prover, conflict)?;
+        self.clauses.watch_all(
+            &self.prover.kernel,
+            &self.state.trail,
+            &mut self.state.watches,
+        )?;
         Ok(true)
     }
 }

@@ -9,6 +9,7 @@ ghost use Rattle.plan_solve.specs.Solutions as spec;
 
 use crate::fault::SolveFault;
 use crate::lists::{at, put};
+use crate::log::{Log, Unlogged};
 use crate::schedules::shorter;
 use crate::solvable::Solvable;
 use crate::solving::{MOST_CONFLICTS, Solved, searched, searched_from};
@@ -206,10 +207,44 @@ pub fn solve_shop_watched<W: Watcher>(
     ensures told { HearsTruth (problem_of shop.now) conflicts
         (W.was_told watcher.old) (W.was_told watcher.new) }
 {
+    solve_shop_logged(alloc, shop, conflicts, watcher, &mut Unlogged)
+}
+
+/// Does the same, and writes what it proves to a log. With a log it also searches if the bounds that
+/// need no search meet. No clause says what the log gets: a checker of logs checks it.
+pub fn solve_shop_logged<W: Watcher, L: Log>(
+    alloc: Global,
+    shop: &Shop,
+    conflicts: u64,
+    watcher: &mut W,
+    log: &mut L,
+) -> Result<Solved, SolveFault>
+    ensures active { IfOk result (λ solved.
+        IsActive (problem_of shop.now) solved.schedule.starts.items) }
+    ensures makespan { IfOk result (λ solved.
+        solved.schedule.makespan ≡ makespan (problem_of shop.now) solved.schedule.starts.items) }
+    // No feasible schedule has a makespan below it.
+    ensures lower { IfOk result (λ solved.
+        spec.IsLowerBound (problem_of shop.now) solved.lower) }
+    ensures below { IfOk result (λ solved. solved.lower ≤ solved.schedule.makespan) }
+    ensures optimal { IfOk result (λ solved. solved.lower ≡ solved.schedule.makespan
+        → IsShortest (problem_of shop.now) solved.schedule.starts.items) }
+    // All starts can be shown: none is after 10,000,000.
+    ensures within { IfOk result (λ solved.
+        All (λ t. t ≤ 10000000) solved.schedule.starts.items) }
+    ensures conflicts { IfOk result (λ solved. solved.conflicts ≤ conflicts) }
+    ensures allowed { IfOk result (λ _. spec.IsConflictLimit conflicts) }
+    ensures refused { IfErr result (spec.RefusesSolving conflicts) }
+    // What is refused takes no memory.
+    ensures early { IsErrOf result SolveFault.NoMemory → spec.IsConflictLimit conflicts }
+    // All that the watcher is told is true of the shop, whatever the search comes to.
+    ensures told { HearsTruth (problem_of shop.now) conflicts
+        (W.was_told watcher.old) (W.was_told watcher.new) }
+{
     if conflicts == 0 || conflicts > MOST_CONFLICTS {
         return Err(SolveFault::BadConflicts);
     }
-    let searched = searched(alloc, shop, conflicts, watcher);
+    let searched = searched(alloc, shop, conflicts, watcher, log);
     watcher.end();
     Ok(searched?)
 }
@@ -250,7 +285,9 @@ pub fn solve_shop_from<W: Watcher>(
     if conflicts == 0 || conflicts > MOST_CONFLICTS {
         return Err(SolveFault::BadConflicts);
     }
-    let searched = searched_from(alloc, shop, known.schedule, known.lower, conflicts, watcher);
+    let (schedule, lower) = (known.schedule, known.lower);
+    let none = &mut Unlogged;
+    let searched = searched_from(alloc, shop, schedule, lower, conflicts, watcher, none);
     watcher.end();
     Ok(searched?)
 }

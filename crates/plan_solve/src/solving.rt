@@ -4,6 +4,7 @@ ghost use Rattle.std.specs.Prelude.{◌≡◌, ◌≤◌, nat_eq, IfOk};
 ghost use Rattle.plan_solve.specs.Progress.{HearsTruth};
 ghost use Rattle.plan_solve.specs.Solutions as spec;
 
+use crate::log::Log;
 use crate::running::run;
 use crate::schedules::shorter;
 use crate::solvable::Solvable;
@@ -53,13 +54,14 @@ fn best_of<S: Solvable>(
 
 /// Returns the result of a search with at most so many conflicts that starts from a schedule and a
 /// lower bound.
-pub fn searched_from<S: Solvable, W: Watcher>(
+pub fn searched_from<S: Solvable, W: Watcher, L: Log>(
     alloc: Global,
     source: &S,
     schedule: Schedule,
     lower: u64,
     conflicts: u64,
     watcher: &mut W,
+    log: &mut L,
 ) -> Result<Solved, AllocError>
     requires schedule { S.is_schedule source.now schedule }
     requires lower { spec.IsLowerBound (S.problem source.now) lower }
@@ -69,14 +71,15 @@ pub fn searched_from<S: Solvable, W: Watcher>(
     ensures told { HearsTruth (S.problem source.now) conflicts
         (W.was_told watcher.old) (W.was_told watcher.new) }
 {
-    if lower >= schedule.makespan {
+    if lower >= schedule.makespan && !log.is_wanted() {
         return Ok(Solved {
             schedule,
             lower,
             conflicts: 0,
         });
     }
-    let found = run(alloc, source, &schedule.starts, lower, conflicts, watcher)?;
+    let starts = &schedule.starts;
+    let found = run(alloc, source, starts, lower, conflicts, watcher, log)?;
     Ok(Solved {
         schedule: best_of(alloc, source, schedule, &found.starts)?,
         lower: found.lower,
@@ -86,11 +89,12 @@ pub fn searched_from<S: Solvable, W: Watcher>(
 
 /// Returns the result of a search with at most so many conflicts that starts from the schedule of
 /// the rules and a lower bound that takes no search.
-pub fn searched<S: Solvable, W: Watcher>(
+pub fn searched<S: Solvable, W: Watcher, L: Log>(
     alloc: Global,
     source: &S,
     conflicts: u64,
     watcher: &mut W,
+    log: &mut L,
 ) -> Result<Solved, AllocError>
     ensures schedule { IfOk result (λ solved. S.is_schedule source.now solved.schedule) }
     ensures lower { IfOk result (λ solved. spec.IsLowerBound (S.problem source.now) solved.lower) }
@@ -100,5 +104,5 @@ pub fn searched<S: Solvable, W: Watcher>(
 {
     let schedule = source.by_rules(alloc)?;
     let simple = source.simple_bound(alloc)?;
-    searched_from(alloc, source, schedule, simple, conflicts, watcher)
+    searched_from(alloc, source, schedule, simple, conflicts, watcher, log)
 }

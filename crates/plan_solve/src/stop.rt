@@ -12,8 +12,8 @@ pub enum Cause {
     Fact,
     /// A kept clause.
     Kept(u32),
-    /// An arc.
-    Arc(u32),
+    /// An arc, or a link to the makespan.
+    Link(u32),
     /// An order whose first activity goes before its second, with a value of the first.
     Before(u32, u32),
     /// An order whose second activity goes before its first, with a value of the second.

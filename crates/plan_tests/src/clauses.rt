@@ -68,10 +68,33 @@ fn orders_prove_the_optimum(rt: HostRuntime) -> Result<(), Fail> {
     let mut kernel = two_in_turn(&rt)?;
     assert!(rt; kernel.lower(Vec::from_array(alloc, [0, 3])?));
     assert!(rt; kernel.begin(Reason::Before { order: 0, value: 0 }));
-    assert_eq!(rt; kernel.touched(), [4].as_slice(), "the order");
-    assert!(rt; kernel.resolve(4, Reason::After { order: 0, value: 0 }));
+    assert_eq!(rt; kernel.touched(), [6].as_slice(), "the order");
+    assert!(rt; kernel.resolve(6, Reason::After { order: 0, value: 0 }));
     assert!(rt; matches!(kernel.keep(alloc), Ok(Lesson::Refuted)));
     assert!(rt; kernel.is_optimal());
+    Ok(())
+}
+
+#[test]
+fn the_makespan_has_a_greater_lower_bound(rt: HostRuntime) -> Result<(), Fail> {
+    let alloc = rt.alloc();
+    let mut kernel = two_in_turn(&rt)?;
+    assert_eq!(rt; kernel.lower_bound(), 4, "the longest duration");
+    let end = Reason::End {
+        activity: 1,
+        value: 3,
+    };
+    assert!(rt; kernel.begin(end), "a start at 3 and a makespan of 6");
+    assert!(rt; kernel.resolve(2, Reason::Before { order: 0, value: 0 }));
+    assert!(rt; kernel.resolve(6, Reason::After { order: 0, value: 0 }));
+    let end = Reason::End {
+        activity: 0,
+        value: 4,
+    };
+    assert!(rt; kernel.resolve(1, end), "a start at 4 and a makespan of 6");
+    assert!(rt; matches!(kernel.keep(alloc), Ok(Lesson::Fact(4))));
+    assert_eq!(rt; kernel.fact(4), 7, "the makespan");
+    assert_eq!(rt; kernel.lower_bound(), 7);
     Ok(())
 }
 

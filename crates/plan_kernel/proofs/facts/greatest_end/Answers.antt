@@ -1,7 +1,7 @@
 use Rattle.std.proofs.Common.{◌≡◌, ℕ, ◌+◌, ◌*◌, ◌≤◌, ◌⊎◌, inl, inr, List, length, get_or, min, max, ap, arith}
 use Rattle.std.proofs.lemmas.Bool.{cases_lt}
 use Rattle.plan_kernel.specs.Literals.{at}
-use Rattle.plan_kernel.proofs.FactLemmas.{end_reached, end_more}
+use Rattle.plan_kernel.proofs.FactLemmas.{end_reached, end_more, makespan_reached}
 use Rattle.plan_kernel.proofs.facts.greatest_end.Goals as goal
 
 pub loop-place-preserved : goal.loop-place-preserved
@@ -24,3 +24,9 @@ loop-place-preserved c =
       value = end_more (λ (i : ℕ). at c.args.facts.now (2 * i) + at input.durations.items i) place c.loop-place.greatest c.saturating_add.result c.max-greatest.result 4294967295
           c.loop-place.invariant.value sum top;
     }
+
+pub returns-clause-reached : goal.returns-clause-reached
+returns-clause-reached c =
+    let top : c.max.result ≡ max c.loop-place.greatest c.at-2.result = grind (arith, c.max.ensures) in
+    makespan_reached c.args.input.now c.args.upper (length c.as_slice.result.now) c.loop-place.greatest c.at-2.result c.max.result c.args.facts.now
+    (ap length c.as_slice.ensures.value) c.requires.facts c.loop-place.invariant.reached c.at-2.ensures top

@@ -1,7 +1,7 @@
 use Rattle.std.proofs.Common.{◌≡◌, ◌+◌, ◌-◌, ◌∙◌, ℕ, List, min, length, get_or, ap, arith}
 use Rattle.plan_kernel.specs.declared.literal.TheConstants.{LIMIT}
 use Rattle.plan_kernel.specs.Literals.{at}
-use Rattle.plan_kernel.proofs.FactLemmas.{latest_holds, latest_more, latest_all}
+use Rattle.plan_kernel.proofs.FactLemmas.{latest_holds, latest_more, latest_all, latest_risen, makespan_holds}
 use Rattle.plan_kernel.proofs.facts.raise_latest.Goals as goal
 
 pub loop-place-preserved : goal.loop-place-preserved
@@ -22,5 +22,12 @@ loop-place-preserved c =
 
 pub returns-clause-latest : goal.returns-clause-latest
 returns-clause-latest c =
-    latest_all c.args.input.now c.args.upper c.loop-place.facts.items c.loop-place.place (length c.args.input.now.durations.items)
-    (omega (arith, c.loop-place-test.false, ap length c.deref-duration-items.ensures.value)) c.loop-place.invariant.latest
+    let count : ℕ = length c.args.input.now.durations.items in
+    latest_risen c.args.input.now c.args.upper count c.loop-place.facts.items c.raise-2.new.facts.items c.raise-2.ensures.size c.raise-2.ensures.others
+    (latest_all c.args.input.now c.args.upper c.loop-place.facts.items c.loop-place.place count
+    (omega (arith, c.loop-place-test.false, ap length c.deref-duration-items.ensures.value)) c.loop-place.invariant.latest)
+
+pub returns-clause-facts : goal.returns-clause-facts
+returns-clause-facts c =
+    makespan_holds c.args.input.now c.args.upper (length c.as_slice.result.now) (LIMIT - c.args.upper + 1) c.loop-place.facts.items c.raise-2.new.facts.items c.requires.limit
+    (ap length c.as_slice.ensures.value) c.loop-place.invariant.facts (omega arith) c.raise-2.ensures.most

@@ -5,6 +5,6 @@ use Rattle.plan_solve.proofs.running.search_all.Given as goal
 -- the problem stays the same, and what the watcher was told is true
 abbrev pub invariant-loop-conflict : goal.invariant-loop-conflict
 invariant-loop-conflict g l = record {
-  input : l.search.kernel.known.input ≡ l.fn.search.kernel.known.input;
+  input : l.search.prover.kernel.known.input ≡ l.fn.search.prover.kernel.known.input;
   told : HearsTruth (g.S.Solvable.problem l.source) l.conflicts (g.W.Watcher.was_told l.fn.watcher) (g.W.Watcher.was_told l.watcher);
 }

@@ -3,4 +3,4 @@ use Rattle.plan_solve.proofs.analysis.Analysis.reduce.Given as goal
 
 -- the problem stays the same
 abbrev pub invariant-loop-place : goal.invariant-loop-place
-invariant-loop-place l = l.kernel.known.input ≡ l.fn.kernel.known.input
+invariant-loop-place l = l.prover.kernel.known.input ≡ l.fn.prover.kernel.known.input
