@@ -1,13 +1,15 @@
 //! The program `plan`: the commands of the crates `plan_cli` and `plan_serve`.
 #![tactic(auto)]
 
+mod file_log;
 mod progress;
 
+use self::file_log::FileLog;
 use self::progress::ProgressLine;
 use clap::Error;
 use clap::error::ErrorKind;
 use plan_cli::{
-    CliFault, FileOrder, OfficeOrder, Order, Unwatched, capacities_of, check_on_files, command,
+    CliFault, FileOrder, OfficeOrder, Order, Unlogged, Unwatched, capacities_of, check_on_files, command,
     explain_run, help, hint, order_of, run_on_file,
 };
 use plan_io::StdSink;
@@ -71,17 +73,24 @@ fn do_office_order(rt: &HostRuntime, order: OfficeOrder<'_>) -> Result<(), Serve
 fn do_file_order(rt: &HostRuntime, order: FileOrder<'_>) -> Result<(), CliFault> {
     let mut writer = StdSink::new(io::writer(rt));
     match order {
-        FileOrder::Task(task, path) => run_on_file(rt, task, &mut Unwatched, path, &mut writer),
+        FileOrder::Task(task, path) => {
+            let (watcher, log) = (&mut Unwatched, &mut Unlogged);
+            run_on_file(rt, task, watcher, log, path, &mut writer)
+        }
         FileOrder::Watched(task, path) => {
-            run_on_file(rt, task, &mut ProgressLine::new(rt), path, &mut writer)
+            let (watcher, log) = (&mut ProgressLine::new(rt), &mut Unlogged);
+            run_on_file(rt, task, watcher, log, path, &mut writer)
         }
         FileOrder::Solve {
             task,
             file,
             seconds,
+            log,
         } => {
             let mut line = ProgressLine::within(rt, seconds);
-            run_on_file(rt, task, &mut line, file, &mut writer)
+            let mut log = FileLog::create(rt, log)?;
+            run_on_file(rt, task, &mut line, &mut log, file, &mut writer)?;
+            log.end()
         }
         FileOrder::Check { file, starts } => check_on_files(rt, file, starts, &mut writer),
         FileOrder::Explain(words) => {

@@ -39,6 +39,8 @@ enum Form {
     Conflicts,
     /// An option with the capacity of a resource, any number of times. It is for projects only.
     Capacity,
+    /// An option with the name of a file to write. It is for projects only.
+    Output,
     /// An option without a value.
     Flag,
     /// An option without a value and without effect, which the help doesn't list.
@@ -228,6 +230,11 @@ const SCHEDULE_COMMANDS: [Entry; 3] = [
                 form: Form::Capacity,
                 help: "capacity of a resource, for example R2=4, in place of that of the file; may be repeated",
             },
+            Argument {
+                name: "log",
+                form: Form::Output,
+                help: "write what the search proves about a project to this file",
+            },
         ],
     },
     Entry {
@@ -384,6 +391,10 @@ fn arg_of<'a>(alloc: Global, argument: &Argument) -> Result<Arg<'a>, AllocError>
             .long(argument.name)
             .value_name("NAME=N")
             .action(ArgAction::Append)
+            .conflicts_with("INSTANCE")?,
+        Form::Output => arg
+            .long(argument.name)
+            .value_name("LOG")
             .conflicts_with("INSTANCE")?,
         Form::Flag => arg.long(argument.name).action(ArgAction::SetTrue),
         Form::OldFlag => arg

@@ -39,4 +39,4 @@ pub use inputs::Inputs;
 pub use orders::{FileOrder, OfficeOrder, Order, capacities_of, order_of};
 pub use runs::{best_project_run, best_run, cpm_run, run_task, schedule_run, shop_run};
 pub use tasks::Task;
-pub use watchers::{ProofWatcher, SolveWatcher, Unwatched};
+pub use watchers::{Log, ProofWatcher, SolveWatcher, Unlogged, Unwatched};

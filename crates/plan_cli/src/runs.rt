@@ -13,15 +13,16 @@ ghost use Rattle.plan_cli.specs.Tasks.{IsTextOf, IsLineOf};
 use crate::bytes::{read_file, write_text};
 use crate::fault::CliFault;
 use crate::tasks::{Task, text_of};
-use crate::watchers::{ProofWatcher, SolveWatcher, Unwatched};
+use crate::watchers::{Log, ProofWatcher, SolveWatcher, Unlogged, Unwatched};
 use plan_io::{Sink, Source};
 use std::alloc::Global;
 
 // Reads a file, and writes the text of a task for it.
-fn answer<R: Source, W: Sink, V: ProofWatcher + SolveWatcher>(
+fn answer<R: Source, W: Sink, V: ProofWatcher + SolveWatcher, L: Log>(
     alloc: Global,
     task: Task<'_>,
     watcher: &mut V,
+    log: &mut L,
     reader: &mut R,
     writer: &mut W,
 ) -> Result<(), CliFault>
@@ -43,7 +44,7 @@ fn answer<R: Source, W: Sink, V: ProofWatcher + SolveWatcher>(
     ensures output { IsErrOf result CliFault.Output → HasSinkFailed W.Sink writer.old writer.new }
 {
     let file = read_file(alloc, reader)?;
-    let text = text_of(alloc, task, &file, watcher)?;
+    let text = text_of(alloc, task, &file, watcher, log)?;
     write_text(writer, &text)
 }
 
@@ -53,17 +54,18 @@ fn answer<R: Source, W: Sink, V: ProofWatcher + SolveWatcher>(
 /// Nothing is written unless the whole text was made. A call of the reader or of the writer that
 /// fails isn't repeated. If several errors apply, the file's comes first, then the others in the
 /// order of the task's documentation.
-pub fn run_task<R: Source, W: Sink, V: ProofWatcher + SolveWatcher>(
+pub fn run_task<R: Source, W: Sink, V: ProofWatcher + SolveWatcher, L: Log>(
     alloc: Global,
     task: Task<'_>,
     watcher: &mut V,
+    log: &mut L,
     reader: &mut R,
     writer: &mut W,
 ) -> Result<(), CliFault>
     ensures { Runs R.Source W.Sink (IsTextOf task.entry) (IsLineOf task.entry)
         reader.old reader.new writer.old writer.new result }
 {
-    answer(alloc, task, watcher, reader, writer)
+    answer(alloc, task, watcher, log, reader, writer)
 }
 
 /// Runs [`Task::Dates`].
@@ -75,7 +77,7 @@ pub fn cpm_run<R: Source, W: Sink>(
     ensures { Runs R.Source W.Sink IsDateTableOf TellsFirstFailing
         reader.old reader.new writer.old writer.new result }
 {
-    run_task(alloc, Task::Dates, &mut Unwatched, reader, writer)
+    run_task(alloc, Task::Dates, &mut Unwatched, &mut Unlogged, reader, writer)
 }
 
 /// Runs [`Task::Schedule`].
@@ -91,7 +93,7 @@ pub fn schedule_run<R: Source, W: Sink>(
     run_task(
         alloc,
         Task::Schedule { rule },
-        &mut Unwatched,
+        &mut Unwatched, &mut Unlogged,
         reader,
         writer,
     )
@@ -112,7 +114,7 @@ pub fn shop_run<R: Source, W: Sink>(
     run_task(
         alloc,
         Task::Shop { rule, instance },
-        &mut Unwatched,
+        &mut Unwatched, &mut Unlogged,
         reader,
         writer,
     )
@@ -133,7 +135,7 @@ pub fn best_run<R: Source, W: Sink>(
     run_task(
         alloc,
         Task::Best { budget, instance },
-        &mut Unwatched,
+        &mut Unwatched, &mut Unlogged,
         reader,
         writer,
     )
@@ -153,7 +155,7 @@ pub fn best_project_run<R: Source, W: Sink>(
     run_task(
         alloc,
         Task::BestProject { budget },
-        &mut Unwatched,
+        &mut Unwatched, &mut Unlogged,
         reader,
         writer,
     )

@@ -14,7 +14,7 @@ use crate::solutions::{project_best_text, shop_best_text};
 use crate::solver::{shop_solution_text, solution_text};
 use crate::tables::{date_text, schedule_text, shop_text};
 use crate::verdicts::check_text;
-use crate::watchers::{ProofWatcher, SolveWatcher};
+use crate::watchers::{Log, ProofWatcher, SolveWatcher};
 use std::alloc::Global;
 
 /// A text to print for a project file or for an instance in a job shop file.
@@ -113,11 +113,12 @@ pub enum Task<'a> {
 
 /// Returns the text of a task for a file. The watcher is called during a search of `prove` or
 /// `solve`.
-pub(crate) fn text_of<V: ProofWatcher + SolveWatcher>(
+pub(crate) fn text_of<V: ProofWatcher + SolveWatcher, L: Log>(
     alloc: Global,
     task: Task<'_>,
     file: &[u8],
     watcher: &mut V,
+    log: &mut L,
 ) -> Result<Vec<u8>, CliFault>
     ensures made { IfOk result (λ text. IsTextOf task.entry file.now text.items) }
     ensures refused { IfErr result (Refuses (IsLineOf task.entry file.now)) }
@@ -132,7 +133,9 @@ pub(crate) fn text_of<V: ProofWatcher + SolveWatcher>(
         Task::Solve {
             conflicts,
             capacities,
-        } => Ok(solution_text(alloc, conflicts, capacities, file, watcher)?.into_bytes()),
+        } => Ok(solution_text(
+            alloc, conflicts, capacities, file, watcher, log,
+        )?.into_bytes()),
         Task::SolveShop {
             conflicts,
             instance,

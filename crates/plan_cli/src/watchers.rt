@@ -2,6 +2,7 @@
 
 pub use plan_prove::Watcher as ProofWatcher;
 pub use plan_solve::Watcher as SolveWatcher;
+pub use plan_solve::{Log, Unlogged};
 
 /// A watcher that ignores all reports and ends no search.
 #[derive(Drop)]
