@@ -1,15 +1,17 @@
 //! The program `plan`: the commands of the crates `plan_cli` and `plan_serve`.
 #![tactic(auto)]
 
+mod file_log;
 mod progress;
 
+use self::file_log::FileLog;
 use self::progress::ProgressLine;
 use clap::Error;
 use clap::error::ErrorKind;
 use plan_cli::{
-    CliFault, FileOrder, OfficeOrder, Order, ProofWatcher, Rows, SolveWatcher, Task, Unwatched,
-    capacities_of, check_on_files, command, explain_run, help, hint, order_of, overrides_of,
-    run_on_file, template_run,
+    CliFault, FileOrder, Log, OfficeOrder, Order, ProofWatcher, Rows, SolveWatcher, Task, Unlogged,
+    Unwatched, capacities_of, check_on_files, command, explain_run, help, hint, order_of,
+    overrides_of, run_on_file, template_run,
 };
 use plan_io::StdSink;
 use plan_serve::{
@@ -69,30 +71,40 @@ fn do_office_order(rt: &HostRuntime, order: OfficeOrder<'_>) -> Result<(), Serve
 }
 
 // Runs a task on a file, and writes to standard output.
-fn do_task<V: ProofWatcher + SolveWatcher>(
+fn do_task<V: ProofWatcher + SolveWatcher, L: Log>(
     rt: &HostRuntime,
     task: Task<'_>,
     rows: Rows,
     watcher: &mut V,
+    log: &mut L,
     path: &str,
 ) -> Result<(), CliFault> {
     let mut writer = StdSink::new(io::writer(rt));
-    run_on_file(rt, task, rows, watcher, path, &mut writer)
+    run_on_file(rt, task, rows, watcher, log, path, &mut writer)
 }
 
 // Runs an order on files, and writes to standard output.
 fn do_file_order(rt: &HostRuntime, order: FileOrder<'_>, rows: Rows) -> Result<(), CliFault> {
     let mut writer = StdSink::new(io::writer(rt));
     match order {
-        FileOrder::Task(task, path) => do_task(rt, task, rows, &mut Unwatched, path),
+        FileOrder::Task(task, path) => {
+            do_task(rt, task, rows, &mut Unwatched, &mut Unlogged, path)
+        }
         FileOrder::Watched(task, path) => {
-            do_task(rt, task, rows, &mut ProgressLine::new(rt), path)
+            let mut line = ProgressLine::new(rt);
+            do_task(rt, task, rows, &mut line, &mut Unlogged, path)
         }
         FileOrder::Solve {
             task,
             file,
             seconds,
-        } => do_task(rt, task, rows, &mut ProgressLine::within(rt, seconds), file),
+            log,
+        } => {
+            let mut line = ProgressLine::within(rt, seconds);
+            let mut log = FileLog::create(rt, log)?;
+            do_task(rt, task, rows, &mut line, &mut log, file)?;
+            log.end()
+        }
         FileOrder::Check { file, starts } => check_on_files(rt, file, starts, &mut writer),
         FileOrder::New(template) => template_run(template, &mut writer),
         FileOrder::Explain(words) => {
@@ -202,7 +214,8 @@ fn args_misuse(error: &io::Error) -> Misuse {
 
 // Returns the misuse of a text that gives no capacity.
 fn bad_capacity(alloc: Global, text: &str) -> Misuse {
-    text.to_string(alloc).map_or(Misuse::NoMemory, Misuse::BadCapacity)
+    text.to_string(alloc)
+        .map_or(Misuse::NoMemory, Misuse::BadCapacity)
 }
 
 // Reads the command line, runs its order, and returns the status.

@@ -1,5 +1,5 @@
 -- Capacities are replaced one after the other.
-use Rattle.std.proofs.Common.{◌≡◌, ◌∙◌, ◌+◌, ◌<◌, ◌++◌, ◌∷◌, [], ℕ, List, refl, sym, ap, subst, set, get_or, length, take}
+use Rattle.std.proofs.Common.{◌≡◌, ◌∙◌, ◌+◌, ◌<◌, ◌++◌, ◌∷◌, [], ℕ, List, sym, ap, subst, set, get_or, length, take}
 use Rattle.std.proofs.lemmas.List.{take_more, length-set}
 use Rattle.plan_cli.specs.declared.capacities.Capacity.{Capacity}
 use Rattle.plan_cli.specs.Capacities.{IsNameOf, Replaces}

@@ -1,5 +1,5 @@
 -- A text that shows a proof of a job shop shows its solution.
-use Rattle.std.proofs.Common.{◌≡◌, ◌≤◌, ℕ, List, arith}
+use Rattle.std.proofs.Common.{◌≤◌, ℕ, List, arith}
 use Rattle.plan_sgs.specs.Problem.{makespan}
 use Rattle.plan_shop.specs.Shop.{JobShop, problem_of}
 use Rattle.plan_prove.specs.Proofs.{IsProofOf}

@@ -46,6 +46,8 @@ enum Form {
     Capacity,
     /// An option with the capacity of a resource of a list, any number of times.
     ListCapacity,
+    /// An option with the name of a file to write. It is for projects only.
+    Output,
     /// An option without a value.
     Flag,
     /// An option without a value and without effect, which the help doesn't list.
@@ -275,6 +277,11 @@ const SCHEDULE_COMMANDS: [Entry; 3] = [
                 help: "capacity of a resource, for example R2=4, in place of that of the file; may be repeated",
             },
             NAMES,
+            Argument {
+                name: "log",
+                form: Form::Output,
+                help: "write what the search proves about a project to this file",
+            },
         ],
     },
     Entry {
@@ -448,6 +455,10 @@ fn arg_of<'a>(alloc: Global, argument: &Argument) -> Result<Arg<'a>, AllocError>
             .value_name("NAME=N")
             .action(ArgAction::Append)
             .conflicts_with("shop")?,
+        Form::Output => arg
+            .long(argument.name)
+            .value_name("LOG")
+            .conflicts_with("INSTANCE")?,
         Form::Flag => arg.long(argument.name).action(ArgAction::SetTrue),
         Form::OldFlag => arg
             .long(argument.name)

@@ -12,7 +12,7 @@ use crate::fault::CliFault;
 use crate::inputs::{Inputs, SystemInputs};
 use crate::runs::run_task;
 use crate::tasks::{Rows, Task};
-use crate::watchers::{ProofWatcher, SolveWatcher, Unwatched};
+use crate::watchers::{Log, ProofWatcher, SolveWatcher, Unlogged, Unwatched};
 use plan_io::Sink;
 use std::alloc::Global;
 use std::rt::Files;
@@ -20,12 +20,13 @@ use std::rt::Files;
 /// Runs a task on the file with this name, or on standard input if the name is `-`. The watcher is
 /// called during a search of `prove` or `solve`. A file that can't be opened or read is
 /// [`CliFault::Input`].
-pub fn run_on_named<I: Inputs, W: Sink, V: ProofWatcher + SolveWatcher>(
+pub fn run_on_named<I: Inputs, W: Sink, V: ProofWatcher + SolveWatcher, L: Log>(
     alloc: Global,
     inputs: &I,
     task: Task<'_>,
     rows: Rows,
     watcher: &mut V,
+    log: &mut L,
     path: &str,
     writer: &mut W,
 ) -> Result<(), CliFault>
@@ -40,10 +41,10 @@ pub fn run_on_named<I: Inputs, W: Sink, V: ProofWatcher + SolveWatcher>(
 {
     if path == "-" {
         let mut reader = inputs.standard();
-        return run_task(alloc, task, rows, watcher, &mut reader, writer);
+        return run_task(alloc, task, rows, watcher, log, &mut reader, writer);
     }
     let mut reader = inputs.open(path)?;
-    run_task(alloc, task, rows, watcher, &mut reader, writer)
+    run_task(alloc, task, rows, watcher, log, &mut reader, writer)
 }
 
 // Reads the file with this name, or standard input if the name is `-`: at most one byte more than
@@ -89,17 +90,19 @@ pub fn check_on_named<I: Inputs, W: Sink>(
         task,
         Rows::Plain,
         &mut Unwatched,
+        &mut Unlogged,
         path,
         writer,
     )
 }
 
 /// Calls [`run_on_named`] with the system's files and standard input.
-pub fn run_on_file<R: Files + Input + AllocGlobal, W: Sink, V: ProofWatcher + SolveWatcher>(
+pub fn run_on_file<R: Files + Input + AllocGlobal, W: Sink, V: ProofWatcher + SolveWatcher, L: Log>(
     rt: &R,
     task: Task<'_>,
     rows: Rows,
     watcher: &mut V,
+    log: &mut L,
     path: &str,
     writer: &mut W,
 ) -> Result<(), CliFault>
@@ -117,6 +120,7 @@ pub fn run_on_file<R: Files + Input + AllocGlobal, W: Sink, V: ProofWatcher + So
         task,
         rows,
         watcher,
+        log,
         path,
         writer,
     )

@@ -44,4 +44,4 @@ pub use orders::{FileOrder, OfficeOrder, Order, capacities_of, order_of, overrid
 pub use runs::{best_project_run, best_run, cpm_run, run_task, schedule_run, shop_run};
 pub use tasks::{Rows, Task};
 pub use templates::{Template, template_run};
-pub use watchers::{ProofWatcher, SolveWatcher, Unwatched};
+pub use watchers::{Log, ProofWatcher, SolveWatcher, Unlogged, Unwatched};

@@ -24,11 +24,13 @@ pub enum FileOrder<'a> {
     Task(Task<'a>, &'a str),
     /// The same, with a line of progress if standard error is a terminal.
     Watched(Task<'a>, &'a str),
-    /// A task of `solve` on the file with this name, with a time limit in seconds if there is one.
+    /// A task of `solve` on the file with this name, with a time limit in seconds if there is one. What
+    /// it proves is written to the file with the name `log` if there is one.
     Solve {
         task: Task<'a>,
         file: &'a str,
         seconds: Option<u32>,
+        log: Option<&'a str>,
     },
     /// The verdict on the starts in one file, for the project in another.
     Check {
@@ -262,6 +264,7 @@ fn solve_order<'a>(
         task: solve_task(arguments, most, capacities),
         file: arguments.get_str("FILE")?,
         seconds: limit,
+        log: arguments.get_str("log"),
     })
 }
 

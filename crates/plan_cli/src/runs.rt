@@ -13,16 +13,17 @@ ghost use Rattle.plan_cli.specs.Tasks.{IsLineOf, ShowsTask};
 use crate::bytes::{read_file, write_text};
 use crate::fault::CliFault;
 use crate::tasks::{Rows, Task, shown_text};
-use crate::watchers::{ProofWatcher, SolveWatcher, Unwatched};
+use crate::watchers::{Log, ProofWatcher, SolveWatcher, Unlogged, Unwatched};
 use plan_io::{Sink, Source};
 use std::alloc::Global;
 
 // Reads a file, and writes the text of a task for it.
-fn answer<R: Source, W: Sink, V: ProofWatcher + SolveWatcher>(
+fn answer<R: Source, W: Sink, V: ProofWatcher + SolveWatcher, L: Log>(
     alloc: Global,
     task: Task<'_>,
     rows: Rows,
     watcher: &mut V,
+    log: &mut L,
     reader: &mut R,
     writer: &mut W,
 ) -> Result<(), CliFault>
@@ -44,7 +45,7 @@ fn answer<R: Source, W: Sink, V: ProofWatcher + SolveWatcher>(
     ensures output { IsErrOf result CliFault.Output → HasSinkFailed W.Sink writer.old writer.new }
 {
     let file = read_file(alloc, reader)?;
-    let text = shown_text(alloc, task, rows, &file, watcher)?;
+    let text = shown_text(alloc, task, rows, &file, watcher, log)?;
     write_text(writer, &text)
 }
 
@@ -54,18 +55,19 @@ fn answer<R: Source, W: Sink, V: ProofWatcher + SolveWatcher>(
 /// Nothing is written unless the whole text was made. A call of the reader or of the writer that
 /// fails isn't repeated. If several errors apply, the file's comes first, then the others in the
 /// order of the task's documentation.
-pub fn run_task<R: Source, W: Sink, V: ProofWatcher + SolveWatcher>(
+pub fn run_task<R: Source, W: Sink, V: ProofWatcher + SolveWatcher, L: Log>(
     alloc: Global,
     task: Task<'_>,
     rows: Rows,
     watcher: &mut V,
+    log: &mut L,
     reader: &mut R,
     writer: &mut W,
 ) -> Result<(), CliFault>
     ensures { Runs R.Source W.Sink (ShowsTask rows task.entry) (IsLineOf task.entry)
         reader.old reader.new writer.old writer.new result }
 {
-    answer(alloc, task, rows, watcher, reader, writer)
+    answer(alloc, task, rows, watcher, log, reader, writer)
 }
 
 /// Runs [`Task::Dates`].
@@ -82,6 +84,7 @@ pub fn cpm_run<R: Source, W: Sink>(
         Task::Dates,
         Rows::Plain,
         &mut Unwatched,
+        &mut Unlogged,
         reader,
         writer,
     )
@@ -102,6 +105,7 @@ pub fn schedule_run<R: Source, W: Sink>(
         Task::Schedule { rule },
         Rows::Plain,
         &mut Unwatched,
+        &mut Unlogged,
         reader,
         writer,
     )
@@ -124,6 +128,7 @@ pub fn shop_run<R: Source, W: Sink>(
         Task::Shop { rule, instance },
         Rows::Plain,
         &mut Unwatched,
+        &mut Unlogged,
         reader,
         writer,
     )
@@ -146,6 +151,7 @@ pub fn best_run<R: Source, W: Sink>(
         Task::Best { budget, instance },
         Rows::Plain,
         &mut Unwatched,
+        &mut Unlogged,
         reader,
         writer,
     )
@@ -167,6 +173,7 @@ pub fn best_project_run<R: Source, W: Sink>(
         Task::BestProject { budget },
         Rows::Plain,
         &mut Unwatched,
+        &mut Unlogged,
         reader,
         writer,
     )

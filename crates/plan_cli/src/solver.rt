@@ -24,7 +24,7 @@ use plan_orlib::ShopDoc;
 use plan_psplib::ProjectDoc;
 use plan_sgs::Instance;
 use plan_shop::Shop;
-use plan_solve::{MOST_CONFLICTS, SolveFault, Solved, solve_watched};
+use plan_solve::{Log, MOST_CONFLICTS, SolveFault, Solved, solve_logged};
 use std::alloc::{AllocError, Global};
 
 // Returns the line with the lower bound and the makespan, and the table of the schedule.
@@ -50,17 +50,18 @@ fn solution_table(alloc: Global, instance: &Instance, solved: &Solved) -> Result
 }
 
 // Returns the solution of an instance that a search of at most so many conflicts finds.
-fn solved_text<V: SolveWatcher>(
+fn solved_text<V: SolveWatcher, L: Log>(
     alloc: Global,
     conflicts: u64,
     instance: &Instance,
     watcher: &mut V,
+    log: &mut L,
 ) -> Result<String, CliFault>
     requires { IsConflictLimit conflicts }
     ensures made { IfText result (spec.IsSolvedBy instance.now) }
     ensures refused { IfErr result (λ e. e ≡ CliFault.Memory) }
 {
-    match solve_watched(alloc, instance, conflicts, watcher) {
+    match solve_logged(alloc, instance, conflicts, watcher, log) {
         Ok(solved) => Ok(solution_table(alloc, instance, &solved)?),
         Err(SolveFault::NoMemory) => Err(CliFault::Memory),
         Err(SolveFault::BadConflicts) => unreachable!(),
@@ -75,50 +76,54 @@ fn allowed(conflicts: u64) -> u64
 }
 
 // Returns the solution of a project with these capacities.
-fn planned_text<V: SolveWatcher>(
+fn planned_text<V: SolveWatcher, L: Log>(
     alloc: Global,
     conflicts: u64,
     project: &ProjectDoc,
     capacities: &[u64],
     watcher: &mut V,
+    log: &mut L,
 ) -> Result<String, CliFault>
     requires { length capacities.now ≡ length project.now.available }
     ensures made { IfText result (spec.IsSolvedBy (planned project.now capacities.now)) }
     ensures refused { IfErr result (Refuses (TellsNeed (planned project.now capacities.now))) }
 {
     let instance = instance_with(alloc, project, capacities)?;
-    solved_text(alloc, allowed(conflicts), &instance, watcher)
+    solved_text(alloc, allowed(conflicts), &instance, watcher, log)
 }
 
 // Returns the solution of a project with the capacities of its file, some of them replaced.
-fn project_text<V: SolveWatcher>(
+fn project_text<V: SolveWatcher, L: Log>(
     alloc: Global,
     conflicts: u64,
     given: &[Capacity<'_>],
     project: &ProjectDoc,
     watcher: &mut V,
+    log: &mut L,
 ) -> Result<String, CliFault>
     ensures made { IfText result (spec.IsSolvedWith given.now project.now) }
     ensures refused { IfErr result (Refuses (spec.TellsWhyNotPlanned given.now project.now)) }
 {
     let capacities = replaced(alloc, given, project.avail())?;
-    planned_text(alloc, conflicts, project, &capacities, watcher)
+    planned_text(alloc, conflicts, project, &capacities, watcher, log)
 }
 
 /// Returns the solution of the project in a file, with the given capacities in place of those of the
-/// file. The watcher is called during the search, and can stop it.
-pub(crate) fn solution_text<V: SolveWatcher>(
+/// file. The watcher is called during the search, and can stop it. The log gets
+/// what the search proves.
+pub(crate) fn solution_text<V: SolveWatcher, L: Log>(
     alloc: Global,
     conflicts: u64,
     given: &[Capacity<'_>],
     file: &[u8],
     watcher: &mut V,
+    log: &mut L,
 ) -> Result<String, CliFault>
     ensures made { IfText result (spec.IsSolvedTableOf given.now file.now) }
     ensures refused { IfErr result (Refuses (spec.TellsWhyNotSolved given.now file.now)) }
 {
     let project = read_project(alloc, file)?;
-    project_text(alloc, conflicts, given, &project, watcher)
+    project_text(alloc, conflicts, given, &project, watcher, log)
 }
 
 // Returns the solution of a job shop that searches in turns find, each of at most so many conflicts.

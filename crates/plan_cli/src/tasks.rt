@@ -17,7 +17,7 @@ use crate::solutions::{project_best_text, shop_best_text};
 use crate::solver::{shop_solution_text, solution_text};
 use crate::tables::{date_text, schedule_text, shop_text};
 use crate::verdicts::check_text;
-use crate::watchers::{ProofWatcher, SolveWatcher};
+use crate::watchers::{Log, ProofWatcher, SolveWatcher};
 use plan_table::{NameLine, Override, activity_names, machine_names, order_names};
 use std::alloc::{AllocError, Global};
 
@@ -133,11 +133,12 @@ pub enum Rows {
 }
 
 // Returns the text of a task for a file, without names.
-fn text_of<V: ProofWatcher + SolveWatcher>(
+fn text_of<V: ProofWatcher + SolveWatcher, L: Log>(
     alloc: Global,
     task: Task<'_>,
     file: &[u8],
     watcher: &mut V,
+    log: &mut L,
 ) -> Result<Vec<u8>, CliFault>
     ensures made { IfOk result (λ text. IsTextOf task.entry file.now text.items) }
     ensures refused { IfErr result (Refuses (IsLineOf task.entry file.now)) }
@@ -152,7 +153,7 @@ fn text_of<V: ProofWatcher + SolveWatcher>(
         Task::Solve {
             conflicts,
             capacities,
-        } => Ok(solution_text(alloc, conflicts, capacities, file, watcher)?.into_bytes()),
+        } => Ok(solution_text(alloc, conflicts, capacities, file, watcher, log)?.into_bytes()),
         Task::SolveShop {
             conflicts,
             instance,
@@ -207,34 +208,36 @@ fn names_for<'a>(
 }
 
 // Returns the text of a task for a file, with names.
-fn named_text<V: ProofWatcher + SolveWatcher>(
+fn named_text<V: ProofWatcher + SolveWatcher, L: Log>(
     alloc: Global,
     task: Task<'_>,
     file: &[u8],
     watcher: &mut V,
+    log: &mut L,
 ) -> Result<Vec<u8>, CliFault>
     ensures made { IfOk result (λ text. ShowsTask Rows.Named task.entry file.now text.items) }
     ensures refused { IfErr result (Refuses (IsLineOf task.entry file.now)) }
 {
-    let text = text_of(alloc, task, file, watcher)?;
+    let text = text_of(alloc, task, file, watcher, log)?;
     let names = names_for(alloc, task, file)?;
     Ok(with_names(alloc, &names, &text)?)
 }
 
 /// Returns the text of a task for a file, without names or with them. The watcher is called during
 /// a search of `prove` or `solve`.
-pub(crate) fn shown_text<V: ProofWatcher + SolveWatcher>(
+pub(crate) fn shown_text<V: ProofWatcher + SolveWatcher, L: Log>(
     alloc: Global,
     task: Task<'_>,
     rows: Rows,
     file: &[u8],
     watcher: &mut V,
+    log: &mut L,
 ) -> Result<Vec<u8>, CliFault>
     ensures made { IfOk result (λ text. ShowsTask rows task.entry file.now text.items) }
     ensures refused { IfErr result (Refuses (IsLineOf task.entry file.now)) }
 {
     match rows {
-        Rows::Plain => text_of(alloc, task, file, watcher),
-        Rows::Named => named_text(alloc, task, file, watcher),
+        Rows::Plain => text_of(alloc, task, file, watcher, log),
+        Rows::Named => named_text(alloc, task, file, watcher, log),
     }
 }

@@ -1,7 +1,7 @@
 //! Watchers of searches: of `plan prove` by nodes, of `plan solve` by conflicts.
 
 pub use plan_prove::Watcher as ProofWatcher;
-pub use plan_solve::Watcher as SolveWatcher;
+pub use plan_solve::{Log, Unlogged, Watcher as SolveWatcher};
 
 /// A watcher that ignores all reports and ends no search.
 #[derive(Drop)]

@@ -1,6 +1,5 @@
-use Rattle.std.proofs.Common.{rules, ◌∙◌, ◌<◌, ◌+◌, length}
+use Rattle.std.proofs.Common.{rules, ◌∙◌, ◌<◌, length}
 use Rattle.std.proofs.lemmas.List.{length-set}
-use Rattle.plan_cli.specs.Capacities.{IsNameOf}
 use Rattle.plan_cli.proofs.CapacityLemmas.{replaced_more}
 use Rattle.plan_cli.proofs.capacities.replaced.Goals as goal
 
