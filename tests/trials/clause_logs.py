@@ -19,6 +19,7 @@ sys.path.append(os.path.join(TOP, "bench"))
 import clause_log
 import files
 import progen
+from answers import Wrong
 
 
 def logged(words, folder, seed):
@@ -76,16 +77,12 @@ def one_member_less(lines, draw):
 DAMAGES = (more_lower, without_reason, stronger_fact, shorter_schedule, one_member_less)
 
 
-def main():
-    parser = argparse.ArgumentParser(prog="tests/trials/clause_logs.py")
-    parser.add_argument("--projects", type=int, default=50)
-    parser.add_argument("--damaged", type=int, default=20)
-    parser.add_argument("words", nargs=argparse.REMAINDER, metavar="PROGRAM")
-    given = parser.parse_args()
-    wrong, left = [], given.damaged
+def faults(words, projects, damaged):
+    """What is wrong with the logs of drawn projects, and how many damaged logs were tried."""
+    wrong, left = [], damaged
     with tempfile.TemporaryDirectory() as folder:
-        for seed in range(given.projects):
-            text, log = logged(given.words, folder, seed)
+        for seed in range(projects):
+            text, log = logged(words, folder, seed)
             if not accepts(text, log):
                 wrong.append(f"project {seed}: the log is refused")
             damage = DAMAGES[left % len(DAMAGES)]
@@ -94,8 +91,27 @@ def main():
                 left -= 1
                 if accepts(text, "\n".join(damage(lines, draw)) + "\n"):
                     wrong.append(f"project {seed}: accepted in spite of {damage.__name__}")
-    print("\n".join([*wrong, f"{given.projects} logs, {given.damaged - left} damaged ones"]))
-    return 1 if wrong or left else 0
+    if left:
+        wrong.append(f"only {damaged - left} of {damaged} damaged logs were tried")
+    return wrong, damaged - left
+
+
+def try_logs(program, projects, damaged):
+    """The checker accepts the logs of `plan solve` and refuses damaged ones."""
+    wrong, _ = faults([program, "solve"], projects, damaged)
+    if wrong:
+        raise Wrong("; ".join(wrong))
+
+
+def main():
+    parser = argparse.ArgumentParser(prog="tests/trials/clause_logs.py")
+    parser.add_argument("--projects", type=int, default=50)
+    parser.add_argument("--damaged", type=int, default=20)
+    parser.add_argument("words", nargs=argparse.REMAINDER, metavar="PROGRAM")
+    given = parser.parse_args()
+    wrong, tried = faults(given.words, given.projects, given.damaged)
+    print("\n".join([*wrong, f"{given.projects} logs, {tried} damaged ones"]))
+    return 1 if wrong else 0
 
 
 if __name__ == "__main__":

@@ -183,7 +183,7 @@ entry_of code.ManySteps = codes "T15 steps ORDER\nThe order has more steps than 
 entry_of code.NeedsTooMuch = codes "S1 activity A resource R\nActivity A takes time and needs more of resource R than its capacity, so it can never start. A is the first such activity and R its first such resource.\nRaise the capacity, or lower the need.\n"
 entry_of code.UnknownRule = codes "S3 unknown rule\nNo priority rule has this name.\nUse lft, slk, spt, mts or num for a project, spt, mwkr or fcfs for a job shop, in lower case.\n"
 entry_of code.MachineClosed = codes "S4 machine M closed\nMachine M is bound to a code with capacity 0, and a step that takes time needs it. M is the first such machine, counted from 0.\nPublish a capacity of 1 or more for the code, or bind the machine to another code.\n"
-entry_of code.TooLarge = codes "S5 too large\nA search was requested, and the project has more than 40 activities, or the shop more than 100 steps.\nUse plan schedule for the project, plan shop or plan prove for the shop.\n"
+entry_of code.TooLarge = codes "S5 too large\nA search was requested, and the project has more than 40 activities, or the shop more than 100 steps.\nUse plan solve, or plan schedule for the project, plan shop for the shop.\n"
 entry_of code.BadBudget = codes "S6 budget\nThe budget isn't a number from 1 to 200000 in digits, without leading zeros or a sign.\nGive a budget of at most 200000.\n"
 entry_of code.BadNodes = codes "S7 nodes\nThe number of nodes isn't a number from 1 to 1000000000 in digits, without leading zeros or a sign.\nStart with 1000000, which takes some seconds.\n"
 entry_of code.NoResource = codes "S8 no resource NAME\nThe project has no resource with this name.\nName a resource by its number in the file, for example R2=4 for the second.\n"

@@ -82,12 +82,25 @@ struct Entry {
     arguments: &'static [Argument],
 }
 
-/// The commands for one kind of task.
+/// The kind of task of some commands, in the order of the help.
 #[derive(Clone, Copy)]
-struct Group {
-    heading: &'static str,
-    commands: &'static [Entry],
+enum Group {
+    Lists,
+    Projects,
+    JobShops,
+    Schedules,
+    Server,
+    Help,
 }
+
+const GROUPS: [Group; 6] = [
+    Group::Lists,
+    Group::Projects,
+    Group::JobShops,
+    Group::Schedules,
+    Group::Server,
+    Group::Help,
+];
 
 const FILE: Argument = Argument {
     name: "FILE",
@@ -380,36 +393,55 @@ const HELP_COMMANDS: [Entry; 1] = [Entry {
     }],
 }];
 
-const GROUPS: [Group; 6] = [
-    Group {
-        heading: "Lists",
-        commands: &LIST_COMMANDS,
-    },
-    Group {
-        heading: "Projects",
-        commands: &PROJECT_COMMANDS,
-    },
-    Group {
-        heading: "Job shops",
-        commands: &SHOP_COMMANDS,
-    },
-    Group {
-        heading: "Projects and job shops",
-        commands: &SCHEDULE_COMMANDS,
-    },
-    Group {
-        heading: "Server",
-        commands: &SERVER_COMMANDS,
-    },
-    Group {
-        heading: "Help",
-        commands: &HELP_COMMANDS,
-    },
-];
+// Each table of commands has a function of its own, so that no proof contains all tables.
+fn list_commands() -> &'static [Entry] {
+    &LIST_COMMANDS
+}
 
-// Returns the commands by task.
-fn groups() -> &'static [Group] {
-    &GROUPS
+fn project_commands() -> &'static [Entry] {
+    &PROJECT_COMMANDS
+}
+
+fn shop_commands() -> &'static [Entry] {
+    &SHOP_COMMANDS
+}
+
+fn schedule_commands() -> &'static [Entry] {
+    &SCHEDULE_COMMANDS
+}
+
+fn server_commands() -> &'static [Entry] {
+    &SERVER_COMMANDS
+}
+
+fn help_commands() -> &'static [Entry] {
+    &HELP_COMMANDS
+}
+
+impl Group {
+    // Returns the heading of the group in the help.
+    fn heading(self) -> &'static str {
+        match self {
+            Group::Lists => "Lists",
+            Group::Projects => "Projects",
+            Group::JobShops => "Job shops",
+            Group::Schedules => "Projects and job shops",
+            Group::Server => "Server",
+            Group::Help => "Help",
+        }
+    }
+
+    // Returns the commands of the group.
+    fn commands(self) -> &'static [Entry] {
+        match self {
+            Group::Lists => list_commands(),
+            Group::Projects => project_commands(),
+            Group::JobShops => shop_commands(),
+            Group::Schedules => schedule_commands(),
+            Group::Server => server_commands(),
+            Group::Help => help_commands(),
+        }
+    }
 }
 
 // Makes an argument of clap without its parser.
@@ -493,11 +525,11 @@ fn push_row(text: &mut String, entry: &Entry) -> Result<(), AllocError> {
 /// Returns the help of the program: the commands by task, with one line each.
 pub fn help(alloc: Global) -> Result<String, AllocError> {
     let mut text = HELP_START.to_string(alloc)?;
-    for group in groups() {
+    for group in GROUPS {
         text.push_str("\n")?;
-        text.push_str(group.heading)?;
+        text.push_str(group.heading())?;
         text.push_str(":\n")?;
-        for entry in group.commands {
+        for entry in group.commands() {
             push_row(&mut text, entry)?;
         }
     }
@@ -509,10 +541,10 @@ pub fn help(alloc: Global) -> Result<String, AllocError> {
 fn with_commands<'a>(
     alloc: Global,
     parser: Command<'a>,
-    group: &Group,
+    group: Group,
 ) -> Result<Command<'a>, AllocError> {
     let mut parser = parser;
-    for entry in group.commands {
+    for entry in group.commands() {
         parser = parser.subcommand(subcommand(alloc, entry)?)?;
     }
     Ok(parser)
@@ -524,7 +556,7 @@ pub fn command<'a>(alloc: Global, help: &'a str) -> Result<Command<'a>, AllocErr
         .version("0.4.0")
         .override_help(help)
         .subcommand_required(true);
-    for group in groups() {
+    for group in GROUPS {
         command = with_commands(alloc, command, group)?;
     }
     Ok(command)

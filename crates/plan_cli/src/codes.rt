@@ -410,7 +410,7 @@ impl Code {
                 "S4 machine M closed\nMachine M is bound to a code with capacity 0, and a step that takes time needs it. M is the first such machine, counted from 0.\nPublish a capacity of 1 or more for the code, or bind the machine to another code.\n"
             }
             Code::TooLarge => {
-                "S5 too large\nA search was requested, and the project has more than 40 activities, or the shop more than 100 steps.\nUse plan schedule for the project, plan shop or plan prove for the shop.\n"
+                "S5 too large\nA search was requested, and the project has more than 40 activities, or the shop more than 100 steps.\nUse plan solve, or plan schedule for the project, plan shop for the shop.\n"
             }
             Code::BadBudget => {
                 "S6 budget\nThe budget isn't a number from 1 to 200000 in digits, without leading zeros or a sign.\nGive a budget of at most 200000.\n"
