@@ -33,7 +33,7 @@ S1: ["Activity A takes time and needs more of resource R than its capacity, so i
 S4: ["Machine M is bound to a code with capacity 0, and a step that takes time needs it. M is the first such machine, counted from 0.",
 "Publish a capacity of 1 or more for the code, or bind the machine to another code."],
 S5: ["A search was requested, and the project has more than 40 activities, or the shop more than 100 steps.",
-"Use plan schedule for the project, plan shop or plan prove for the shop."],
+"Use plan solve, or plan schedule for the project, plan shop for the shop."],
 G1: ["The first date isn't a date from 1900-01-01 to 2199-12-31 in the form 2024-03-01.",
 "Correct the date."],
 G2: ["The weekday marks aren't seven digits 0 or 1, Monday first, or all of them are 0.",
@@ -70,6 +70,6 @@ E12: ["The calendar is invalid, missing or too short. The cause follows, for exa
 "Look up the code that follows."],
 E90: ["Memory ran out. The input may be valid.",
 "Free memory and try again."],
-E91: ["The database can't be opened, read or written. Causes: the name is a folder's or a device's, or too long; the file isn't an SQLite database, uses UTF-16 or auto_vacuum, was cut or damaged, or has a second name (hard link); its log (-wal) belongs to another file; sqlite3 left a journal (-journal); the disk is full or fails; or a limit on files was reached. A running server has changed nothing.",
-"Find the cause (docs/operations.md has a table), and remove it or restore a backup. A running server continues once a full disk has room."],
+E91: ["The database can't be opened, read or written. Causes: there is no file of this name, or for plan init no such folder; another program, such as a server or sqlite3, has it open; this user may not read and write it, its log (-wal) or their folder, or the file system is read-only; the name is a folder's or a device's, or too long; the file isn't an SQLite database, uses UTF-16 or auto_vacuum, was cut or damaged, or has a second name (hard link); its log belongs to another file; sqlite3 left a journal (-journal); the disk is full or fails; or a limit on files was reached. A running server has changed nothing.",
+"Read the hint, which names the first three causes: PLAN_HINTS=1 prints it. Check the name, which is relative to the current folder, stop the other program (fuser prints its process number), or give the folder and its files to the user that runs plan (chown). Find any other cause (docs/operations.md has a table), and remove it or restore a backup. A running server continues once a full disk has room."],
 };

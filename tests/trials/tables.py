@@ -224,6 +224,9 @@ class Table:
             raise Refused(f"T13 line {line} cells")
 
     def all_capacities(self, given):
+        for name in given:
+            if name not in self.resources:
+                raise Refused(f"T14 no resource {name}")
         amounts = []
         for k, name in enumerate(self.resources):
             own = self.capacities[k] if self.capacities is not None else None

@@ -35,6 +35,7 @@ complete -c plan -n 'contains solve (commandline -opc)' -x -l seconds -d 'time l
 complete -c plan -n 'contains solve (commandline -opc)' -x -l conflicts -d 'conflict limit of each search, 1 to 1000000000'
 complete -c plan -n 'contains solve (commandline -opc)' -x -l capacity -d 'capacity of a resource, for example R2=4, in place of that of the file; may be repeated'
 complete -c plan -n 'contains solve (commandline -opc)' -l names -d 'print the names of activities, orders or machines'
+complete -c plan -n 'contains solve (commandline -opc)' -x -l log -d 'write what the search proves about a project to this file'
 complete -c plan -n 'contains chart (commandline -opc)' -l names -d 'print the names of activities, orders or machines'
 complete -c plan -n 'contains days (commandline -opc)' -l names -d 'print the names of activities, orders or machines'
 complete -c plan -n 'contains serve (commandline -opc)' -x -l patience -d 'time limit of a request, and again of its response, 1 to 60 [default: 2]'
