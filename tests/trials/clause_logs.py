@@ -15,7 +15,7 @@ import tempfile
 
 sys.dont_write_bytecode = True
 TOP = os.path.dirname(os.path.dirname(os.path.dirname(os.path.abspath(__file__))))
-sys.path.append(os.path.join(TOP, "bench"))
+sys.path += [os.path.join(TOP, "bench"), os.path.join(TOP, "tests", "clients")]
 import clause_log
 import files
 import progen
