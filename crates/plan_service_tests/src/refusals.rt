@@ -268,7 +268,7 @@ fn expect_all<B: Book>(rt: &impl Abort, alloc: Global, office: &mut Office<B>) -
 }
 
 // Expects all answers of an office, if there was memory for it.
-fn expect_office<B: Book>(
+fn expect_office<B: Book + Drop>(
     rt: &impl Abort,
     alloc: Global,
     office: Option<Office<B>>,
