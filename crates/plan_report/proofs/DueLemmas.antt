@@ -1,5 +1,5 @@
 -- The successors of an activity, as arcs and as links.
-use Rattle.std.proofs.Common.{ℕ, ◌≡◌, ◌≢◌, ◌+◌, ◌-◌, ◌≤◌, List, length, get_or, Some, refl, sym, ◌∙◌, ap, subst, arith}
+use Rattle.std.proofs.Common.{ℕ, ◌≡◌, ◌≢◌, ◌+◌, ◌-◌, ◌≤◌, List, get_or, Some, refl, sym, ◌∙◌, ap, subst, arith}
 use Rattle.std.specs.List.{slice_get}
 use Rattle.plan_net.specs.Network.{Net, IsActivity, IsArc, lag_of, duration_of}
 use Rattle.plan_net.specs.Limits.{IsSound}

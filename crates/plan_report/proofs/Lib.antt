@@ -2,5 +2,3 @@ pub mod MoveLemmas
 pub mod CandidateLemmas
 pub mod SlackLemmas
 pub mod DueLemmas
-pub mod ReachLemmas
-pub mod ChainLemmas

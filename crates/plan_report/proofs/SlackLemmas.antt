@@ -1,5 +1,5 @@
 -- The latest start of an activity gives its slack.
-use Rattle.std.proofs.Common.{ℕ, ◌≡◌, ◌+◌, ◌-◌, ◌≤◌, ◌<◌, ◌⊎◌, inl, inr, List, length, get_or, set, sym, subst, arith}
+use Rattle.std.proofs.Common.{ℕ, ◌≡◌, ◌+◌, ◌-◌, ◌≤◌, ◌<◌, inl, inr, List, get_or, sym, subst, arith}
 use Rattle.std.proofs.lemmas.Bool.{cases_lt}
 use Rattle.plan_sgs.specs.Problem.{Problem, count, duration, IsFeasible}
 use Rattle.plan_report.specs.Slack.{CanStartAt, IsSlack, IsDue, HasRoomAt, IsLatestStart}
@@ -7,10 +7,13 @@ use Rattle.plan_report.proofs.MoveLemmas.{length_moved, arcs_moved, ends_from_ar
 use Rattle.plan_report.proofs.CandidateLemmas.{candidate_since}
 
 pub slack_is : (p : Problem) (s : List ℕ) (j due t x : ℕ) → IsFeasible p s → j < count p → IsDue p s j due → IsLatestStart p s j due t → get_or s j 0 + x ≡ t → IsSlack p s j x
-slack_is p s j due t x feasible inside is latest start = (subst (CanStartAt p s j) (sym start) can, λ u other.
-    let whole = feasible.each_started in
-    let ends = is.latest (u + duration p j) (ends_by_makespan p s j u whole inside other.no_longer) (ends_from_arcs p s j u whole inside other.feasible.arcs) in
-    omega (arith, start, latest.latest u other.since ends other.feasible.capacities)) where
+slack_is p s j due t x feasible inside is latest start = (
+  subst (CanStartAt p s j) (sym start) can,
+  λ u other.
+      let whole = feasible.each_started in
+      let ends = is.latest (u + duration p j) (ends_by_makespan p s j u whole inside other.no_longer) (ends_from_arcs p s j u whole inside other.feasible.arcs) in
+      omega (arith, start, latest.latest u other.since ends other.feasible.capacities),
+) where
   can : CanStartAt p s j t
   can = record {
     since = latest.since;

@@ -1,4 +1,2 @@
 pub mod Slack
-pub mod Chain
-pub mod SlackText
 pub use Rattle.plan_sgs.specs.Problem

@@ -1,13 +1,13 @@
 -- The slack of activities in a schedule (docs/definitions.md, "Reports").
-use Rattle.std.specs.Prelude.{◌≡◌, ◌≢◌, ℕ, ◌+◌, ◌-◌, ◌≤◌, ◌<◌, List, length, get_or, set, All}
+use Rattle.std.specs.Prelude.{◌≡◌, ◌≢◌, ℕ, ◌+◌, ◌≤◌, ◌<◌, List, length, get_or, set, All}
 use Rattle.plan_net.specs.Network.{IsGreatest}
 use Rattle.plan_sgs.specs.Problem.{Problem, count, duration, all_placed, makespan, KeepsCapacities, IsFeasible}
 use Rattle.plan_sgs.specs.Verdicts.{IsFirstVerdict}
 use Rattle.plan_report.specs.declared.slack.SlackFault.{SlackFault}
 use Rattle.plan_report.specs.declared.slack.SlackFault.TheVariants.{NoMemory, NotFeasible, Late}
 
--- activity j can start at t, which isn't earlier than its start, while all others keep their starts:
--- the schedule stays feasible and gets no longer
+-- activity j can start at t, which isn't earlier than its start, while all others keep their
+-- starts: the schedule stays feasible and gets no longer
 pub record CanStartAt (p : Problem) (s : List ℕ) (j t : ℕ) : Type 0 where
   pub since : get_or s j 0 ≤ t
   pub feasible : IsFeasible p (set s j t)
@@ -22,7 +22,8 @@ pub record AreSlacks (p : Problem) (s slacks : List ℕ) : Type 0 where
   pub whole : length slacks ≡ count p
   pub each : (j : ℕ) → j < count p → IsSlack p s j (get_or slacks j 0)
 
--- the error of a list of starts that has no slack: the list isn't feasible, or else it ends too late
+-- the error of a list of starts that has no slack: the list isn't feasible, or else it ends too
+-- late
 abbrev pub RefusesSlack : Problem → List ℕ → SlackFault → Type 0
 RefusesSlack p s NoMemory = Unit {0}
 RefusesSlack p s (NotFeasible verdict) = IsFirstVerdict p s verdict × (IsFeasible p s → ⊥)

@@ -1,10 +1,6 @@
-//! Reports on schedules: the slack of each activity, and a chain of activities without slack.
+//! Reports on schedules: the slack of each activity.
 #![tactic(auto)]
 
-mod chain;
 mod slack;
-mod texts;
 
-pub use chain::tight_chain;
 pub use slack::{SlackFault, schedule_slack};
-pub use texts::slack_text;

@@ -182,8 +182,8 @@ fn slack_of(instance: &Instance, profile: &Profile, starts: &[u64], makespan: u6
 /// activity `k + 1`; times are whole time units.
 ///
 /// Fails with [`SlackFault::NotFeasible`] and the verdict if the starts break an arc or overload a
-/// resource, else with [`SlackFault::Late`] if the schedule ends after 10,000,000. Any call can fail
-/// with [`SlackFault::NoMemory`].
+/// resource, else with [`SlackFault::Late`] if the schedule ends after 10,000,000. Any call can
+/// fail with [`SlackFault::NoMemory`].
 pub fn schedule_slack(
     alloc: Global,
     instance: &Instance,

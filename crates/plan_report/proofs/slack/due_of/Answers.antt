@@ -1,8 +1,8 @@
-use Rattle.std.proofs.Common.{ℕ, ◌≡◌, ◌+◌, ◌-◌, ◌≤◌, ◌<◌, length, get_or, ap, subst, sym, ◌∙◌, below_more, arith}
+use Rattle.std.proofs.Common.{ℕ, ◌+◌, ◌-◌, ◌≤◌, ◌<◌, length, get_or, ap, subst, sym, ◌∙◌, below_more, arith}
 use Rattle.std.proofs.lemmas.List.Elements.{Contains-get_or}
-use Rattle.plan_net.specs.Network.{Net, IsActivity, IsArc, lag_of, count_of}
+use Rattle.plan_net.specs.Network.{Net, IsArc, lag_of}
 use Rattle.plan_net.proofs.RisingLemmas.{each_of_rising}
-use Rattle.plan_sgs.specs.Problem.{count, duration, makespan}
+use Rattle.plan_sgs.specs.Problem.{count, duration}
 use Rattle.plan_sgs.specs.Instances.{problem_of}
 use Rattle.plan_sgs.proofs.InstanceLemmas.{count-problem}
 use Rattle.plan_sgs.proofs.TotalLemmas.{greatest_above}

@@ -1,10 +1,9 @@
-use Rattle.std.proofs.Common.{ℕ, ◌≡◌, ◌+◌, ◌-◌, ◌≤◌, ◌<◌, length, get_or, refl, sym, ◌∙◌, ap, arith}
-use Rattle.plan_net.specs.Network.{Net, duration_of}
+use Rattle.std.proofs.Common.{◌+◌, ◌-◌, ◌≤◌, ◌<◌, length, sym, ◌∙◌, ap, arith}
 use Rattle.plan_profile.specs.InUse.{in_use, capacities}
 use Rattle.plan_profile.specs.declared.profile.TheConstants.{END}
-use Rattle.plan_sgs.specs.Problem.{count, duration}
+use Rattle.plan_sgs.specs.Problem.{count}
 use Rattle.plan_sgs.specs.Instances.{problem_of}
-use Rattle.plan_sgs.proofs.InstanceLemmas.{count-problem, capacities-problem, duration-problem}
+use Rattle.plan_sgs.proofs.InstanceLemmas.{count-problem, capacities-problem}
 use Rattle.plan_report.proofs.MoveLemmas.{room_from_after, after_from_room, after_from_fits, fits_from_after}
 use Rattle.plan_report.proofs.DueLemmas.{asked_here}
 use Rattle.plan_report.proofs.slack.has_room.Goals as goal

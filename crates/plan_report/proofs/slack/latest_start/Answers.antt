@@ -1,8 +1,7 @@
-use Rattle.std.proofs.Common.{ℕ, ◌≡◌, ◌+◌, ◌-◌, ◌≤◌, ◌<◌, get_or, sym, ◌∙◌, ap, subst, below_more, arith}
+use Rattle.std.proofs.Common.{ℕ, ◌≡◌, ◌+◌, ◌-◌, ◌≤◌, ◌<◌, get_or, sym, ap, subst, below_more, arith}
 use Rattle.std.proofs.lemmas.Bool.{both_ways}
-use Rattle.plan_net.specs.Network.{Net, IsActivity, duration_of}
 use Rattle.plan_sgs.specs.Problem.{count, duration}
-use Rattle.plan_sgs.specs.Instances.{Planned, problem_of}
+use Rattle.plan_sgs.specs.Instances.{problem_of}
 use Rattle.plan_sgs.proofs.InstanceLemmas.{count-problem}
 use Rattle.plan_report.specs.Slack.{HasRoomAt}
 use Rattle.plan_report.proofs.DueLemmas.{same_duration}

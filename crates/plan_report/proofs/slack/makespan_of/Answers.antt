@@ -1,4 +1,4 @@
-use Rattle.std.proofs.Common.{ℕ, suc, max, ◌≡◌, ◌+◌, ◌≤◌, get_or, refl, sym, ◌∙◌, ap, arith}
+use Rattle.std.proofs.Common.{ℕ, suc, max, ◌≡◌, ◌+◌, get_or, refl, sym, ◌∙◌, ap, arith}
 use Rattle.plan_net.specs.Network.{Net, count_of, duration_of}
 use Rattle.plan_sgs.specs.Problem.{greatest_below, count, duration}
 use Rattle.plan_sgs.specs.Instances.{problem_of}

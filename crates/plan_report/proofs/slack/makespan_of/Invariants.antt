@@ -1,5 +1,5 @@
 -- The greatest end so far.
-use Rattle.std.proofs.Common.{◌≡◌, ◌+◌, ◌≤◌, get_or}
+use Rattle.std.proofs.Common.{◌≡◌, ◌+◌, get_or}
 use Rattle.plan_sgs.specs.Problem.{greatest_below, duration}
 use Rattle.plan_sgs.specs.Instances.{problem_of}
 use Rattle.plan_report.proofs.slack.makespan_of.Given as goal

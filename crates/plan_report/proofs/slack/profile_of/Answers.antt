@@ -1,4 +1,4 @@
-use Rattle.std.proofs.Common.{ℕ, ◌≡◌, ◌+◌, ◌-◌, ◌≤◌, ◌<◌, inl, length, get_or, refl, sym, ◌∙◌, ap, arith}
+use Rattle.std.proofs.Common.{ℕ, ◌≡◌, ◌+◌, ◌<◌, inl, length, get_or, refl, sym, ◌∙◌, ap, arith}
 use Rattle.plan_net.specs.Network.{Net, count_of, duration_of}
 use Rattle.plan_profile.specs.InUse.{in_use, capacities}
 use Rattle.plan_profile.specs.declared.profile.TheConstants.{END}
