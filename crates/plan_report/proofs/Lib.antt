@@ -2,3 +2,6 @@ pub mod MoveLemmas
 pub mod CandidateLemmas
 pub mod SlackLemmas
 pub mod DueLemmas
+pub mod LinkLemmas
+pub mod ReachLemmas
+pub mod ChainLemmas

@@ -1,0 +1,10 @@
+use Rattle.std.proofs.Common.{◌≡◌, ◌≤◌, length, ap, arith}
+use Rattle.plan_sgs.specs.Instances.{problem_of}
+use Rattle.plan_report.proofs.ReachLemmas.{closed_more, all_reached}
+use Rattle.plan_report.proofs.chain.reach_all.Goals as goal
+
+pub loop-m-preserved : goal.loop-m-preserved
+loop-m-preserved c =
+    closed_more (problem_of c.args.instance.now) c.args.starts.now c.args.slacks.now c.loop-m.marks.items c.loop-m.reached.items c.loop-m.nexts.items
+    c.reach.new.marks.items c.reach.new.reached.items c.reach.new.nexts.items c.loop-m.m (omega arith) c.loop-m.invariant
+    c.in_ok-reach.ensures.search c.in_ok-reach.ensures.kept c.in_ok-reach.ensures.all
