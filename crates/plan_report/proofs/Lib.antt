@@ -2,3 +2,4 @@ pub mod MoveLemmas
 pub mod CandidateLemmas
 pub mod SlackLemmas
 pub mod DueLemmas
+pub mod CsvLemmas
