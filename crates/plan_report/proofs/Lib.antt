@@ -5,3 +5,4 @@ pub mod DueLemmas
 pub mod LinkLemmas
 pub mod ReachLemmas
 pub mod ChainLemmas
+pub mod CsvLemmas
