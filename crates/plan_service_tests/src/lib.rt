@@ -19,10 +19,6 @@ mod replays;
 #[cfg(test)]
 mod responses;
 #[cfg(test)]
-mod rounds;
-#[cfg(test)]
 mod tables;
 #[cfg(test)]
 mod visits;
-#[cfg(test)]
-mod worlds;
