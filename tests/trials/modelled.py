@@ -49,14 +49,19 @@ def try_conversation():
     return len(exchanges)
 
 
+def is_modelled(words):
+    """Whether the model knows a command: its files are there, and it has no option."""
+    return words[0] in COMMANDS and None not in words and "--names" not in words
+
+
 def calls():
-    """The commands of the tour on files that are there, each with the text under it."""
+    """The commands of the tour that the model knows, each with the text under it."""
     with open(os.path.join(TOP, "examples", "README.md"), encoding="utf-8") as file:
         pieces = file.read().split("\n\n")
     blocks = [[line[4:] for line in piece.split("\n") if line[:4] == "    "] for piece in pieces]
     found = [block for block in blocks if block and block[0].startswith(CALL)]
     read = [(with_files(block[0][len(CALL) :].split()), block[1:]) for block in found]
-    return [(words, lines) for words, lines in read if words[0] in COMMANDS and None not in words]
+    return [(words, lines) for words, lines in read if is_modelled(words)]
 
 
 def with_files(words):
