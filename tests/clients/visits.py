@@ -25,7 +25,7 @@ SHOP_RULES = ["mwkr", "spt", "fcfs"]
 TAB, ENTER, ESCAPE, LEFT, RIGHT = "\ue004", "\ue007", "\ue00c", "\ue012", "\ue014"
 PICTURES = os.path.join(TOP, "docs", "pictures")
 LARGEST_PICTURE = 60000
-HOUSE = "examples/house.sm"
+HOUSE = "tests/clients/files/house.sm"
 
 
 def listed(server):
@@ -166,20 +166,20 @@ def visit_left(browser):
 
 def visit_import(browser):
     """A file is chosen: the plan has the dates, schedules and bars that `plan` prints."""
-    browser.choose("#file", example("house.sm"))
+    browser.choose("#file", os.path.join(TOP, HOUSE))
     wait_plan(browser, 1)
     wait_text(browser, "#import-answer", "house.sm is plan 1.")
     wanted = [["Number", "Title", "Kind", "Makespan"], ["Plan 1", "house", "project", "45"]]
     same("the plans", seen_table(browser, "#plans"), wanted)
     same_project(browser, file_of(HOUSE))
     wait_text(browser, "#days", "No calendar is set")
-    lines = printed("schedule", "lft", example("house.sm"))
+    lines = printed("schedule", "lft", os.path.join(TOP, HOUSE))
     same_table(browser, lines, file_of(HOUSE), slack=slack_in(file_of(HOUSE).decode(), lines))
 
 
 def visit_bars(browser):
     """A bar tells its activity, start and end, under the mouse and by keys; its arcs are drawn."""
-    row = rows_of(printed("schedule", "lft", example("house.sm")))[4]
+    row = rows_of(printed("schedule", "lft", os.path.join(TOP, HOUSE)))[4]
     browser.run("document.querySelector('#drawing').scrollIntoView({ block: 'center' })")
     browser.point("#drawing .bar[data-line='5'] rect")
     words = (f"Activity {row[0]}: {row[2]} to {row[3]}; needs 4 of resource 1; critical by dates alone"
@@ -293,7 +293,7 @@ def visit_calendar(browser):
     shaded."""
     open_plan(browser, 1)
     start, marks = "2024-03-01", "1111100"
-    house = example("house.sm")
+    house = os.path.join(TOP, HOUSE)
     open_tab(browser, "changes")
     same("no calendar yet", "Not set on this computer" in seen(browser, "#calendar-set"), True)
     set_date(browser, "#calendar [name=start]", start)
@@ -643,7 +643,7 @@ def visit_names(browser):
     sign_in(browser)
     open_plan(browser, 6)
     same("a column of names", "name" in seen_table(browser, "#table")[0], False)
-    browser.choose("#names-file", example("house.sm"))
+    browser.choose("#names-file", os.path.join(TOP, HOUSE))
     wait_text(browser, "#names-answer .refusal", "house.sm isn't the file of plan 6")
     browser.choose("#names-file", os.path.join(TOP, "tests", "tables", "list.csv"))
     wait_text(browser, "#names-answer", "list.csv is the file of plan 6.")
