@@ -37,7 +37,7 @@ function fail(words, line, column) {
 const isText = (bytes) => {
   try {
     new TextDecoder("utf-8", { fatal: true }).decode(bytes);
-    return !bytes.includes(0);
+    return true;
   } catch {
     return false;
   }

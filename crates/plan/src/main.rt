@@ -10,7 +10,7 @@ use clap::Error;
 use clap::error::ErrorKind;
 use plan_cli::{
     CliFault, FileOrder, Log, OfficeOrder, Order, ProofWatcher, Rows, SolveWatcher, Task, Unlogged,
-    Unwatched, capacities_of, check_on_files, command, explain_run, help, hint, order_of,
+    Unwatched, capacities_of, command, explain_run, help, hint, listed_on_files, order_of,
     overrides_of, run_on_file, template_run,
 };
 use plan_io::StdSink;
@@ -105,7 +105,9 @@ fn do_file_order(rt: &HostRuntime, order: FileOrder<'_>, rows: Rows) -> Result<(
             do_task(rt, task, rows, &mut line, &mut log, file)?;
             log.end()
         }
-        FileOrder::Check { file, starts } => check_on_files(rt, file, starts, &mut writer),
+        FileOrder::Listed { task, file, starts } => {
+            listed_on_files(rt, task, rows, file, starts, &mut writer)
+        }
         FileOrder::New(template) => template_run(template, &mut writer),
         FileOrder::Explain(words) => {
             let line = words.join(rt.alloc(), " ")?;
@@ -186,9 +188,10 @@ fn print_office_error(rt: &HostRuntime, order: &OfficeOrder<'_>, fault: ServeFau
 fn do_order(rt: &HostRuntime, order: Order<'_>) -> Result<u8, Misuse> {
     match order {
         Order::File(
-            FileOrder::Check {
+            FileOrder::Listed {
                 file: "-",
                 starts: "-",
+                ..
             },
             _,
         ) => Err(Misuse::OneInput),

@@ -10,40 +10,36 @@ use Rattle.plan_gantt.specs.CalendarTable.{IsCalendarTable, HasActivityBeyond}
 use Rattle.plan_gantt.specs.ShopCharts.{IsShopCalendarTable, HasStepBeyond}
 use Rattle.plan_cli.specs.declared.fault.CliFault.{CliFault}
 use Rattle.plan_cli.specs.Run.{Refuses}
-use Rattle.plan_cli.specs.Scheduled.{IsScheduleBy, IsShopScheduleBy, IsMade, IsMadeOfShop}
-use Rattle.plan_cli.specs.DaysRun.{TellsNoCalendar, TellsBeyond, IsDaysBy, IsShopDaysBy, TellsNoProjectDays, TellsNoShopDays}
+use Rattle.plan_cli.specs.declared.origins.Origin.{Origin}
+use Rattle.plan_cli.specs.Scheduled.{IsShopScheduleBy, IsMadeFrom, IsMadeOfShop}
+use Rattle.plan_cli.specs.DaysRun.{TellsNoCalendar, TellsBeyond, IsDaysFrom, IsShopDaysBy, TellsNoDaysFrom, TellsNoShopDays}
 use Rattle.plan_cli.proofs.RunLemmas.{refuses_as}
 
--- the starts of a schedule by the rule with this name
-made_starts : (name : List ℕ) (i : Planned) (m : Schedule) → IsMade name i m
-    → IsScheduleBy name i m.starts.items
-made_starts name i m (rule, named, by) = record { rule = rule; named = named; schedule = by.by }
-
-pub days_shown : (name start marks : List ℕ) (i : Planned) (m : Schedule) (c : Workdays) (net : Net)
+pub days_shown : (from : Origin) (start marks : List ℕ) (i : Planned) (m : Schedule) (c : Workdays) (net : Net)
     (text : List ℕ)
-    → IsMade name i m → IsCalendar start marks c
-    → net ≡ i.project.network → IsCalendarTable c net m.starts.items text → IsDaysBy name start marks i text
-days_shown name start marks i m c net text made is same shown = record {
+    → IsMadeFrom from i m → IsCalendar start marks c
+    → net ≡ i.project.network → IsCalendarTable c net m.starts.items text → IsDaysFrom from start marks i text
+days_shown from start marks i m c net text made is same shown = record {
   starts = m.starts.items;
-  schedule = made_starts name i m made;
+  schedule = made.starts;
   shown = (c, is, subst (λ (n : Net). IsCalendarTable c n m.starts.items text) same shown);
 }
 
-pub no_calendar : (name start marks : List ℕ) (i : Planned) (m : Schedule) (e : CliFault) → IsMade name i m
-    → Refuses (TellsNoCalendar start marks) e → Refuses (TellsNoProjectDays name start marks i) e
-no_calendar name start marks i m e made t =
-    refuses_as (TellsNoCalendar start marks) (TellsNoProjectDays name start marks i) e
-    (λ line tells. inr (record { starts = m.starts.items; schedule = made_starts name i m made; hidden = inl tells })) t
+pub no_calendar : (from : Origin) (start marks : List ℕ) (i : Planned) (m : Schedule) (e : CliFault) → IsMadeFrom from i m
+    → Refuses (TellsNoCalendar start marks) e → Refuses (TellsNoDaysFrom from start marks i) e
+no_calendar from start marks i m e made t =
+    refuses_as (TellsNoCalendar start marks) (TellsNoDaysFrom from start marks i) e
+    (λ line tells. inr (record { starts = m.starts.items; schedule = made.starts; hidden = inl tells })) t
 
-pub days_beyond : (name start marks : List ℕ) (i : Planned) (m : Schedule) (c : Workdays) (net : Net)
+pub days_beyond : (from : Origin) (start marks : List ℕ) (i : Planned) (m : Schedule) (c : Workdays) (net : Net)
     (e : CliFault)
-    → IsMade name i m → IsCalendar start marks c
-    → net ≡ i.project.network → Refuses (TellsBeyond (HasActivityBeyond c net m.starts.items)) e → Refuses (TellsNoProjectDays name start marks i) e
-days_beyond name start marks i m c net e made is same t =
-    refuses_as (TellsBeyond (HasActivityBeyond c net m.starts.items)) (TellsNoProjectDays name start marks i) e
+    → IsMadeFrom from i m → IsCalendar start marks c
+    → net ≡ i.project.network → Refuses (TellsBeyond (HasActivityBeyond c net m.starts.items)) e → Refuses (TellsNoDaysFrom from start marks i) e
+days_beyond from start marks i m c net e made is same t =
+    refuses_as (TellsBeyond (HasActivityBeyond c net m.starts.items)) (TellsNoDaysFrom from start marks i) e
     (λ line tells. inr (record {
       starts = m.starts.items;
-      schedule = made_starts name i m made;
+      schedule = made.starts;
       hidden = inr (c, is, (subst (λ (n : Net). HasActivityBeyond c n m.starts.items) same tells.0, tells.1));
     })) t
 

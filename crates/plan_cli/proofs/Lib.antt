@@ -1,5 +1,7 @@
 pub mod CapacityLemmas
 pub mod RunLemmas
+pub mod PlanLemmas
+pub mod OriginLemmas
 pub mod ScheduledLemmas
 pub mod StartLemmas
 pub mod TurnLemmas

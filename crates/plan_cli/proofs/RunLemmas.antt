@@ -17,15 +17,19 @@ use Rattle.plan_orlib.specs.Shop as docs
 use Rattle.plan_orlib.specs.Says.{Says as ShopSays}
 use Rattle.plan_orlib.specs.ShopText as reading
 use Rattle.plan_gantt.specs.FirstFaults.{TellsFirstFailing, TellsFirstShopFault}
-use Rattle.plan_cli.specs.ChartRun.{IsChartOf, IsShopChartOf}
-use Rattle.plan_cli.specs.DaysRun.{IsDaysOf, IsShopDaysOf, TellsWhyNoDays, TellsWhyNoShopDays}
+use Rattle.plan_gantt.specs.ScheduleText.{IsScheduleTextOf, TellsRefusal}
+use Rattle.plan_gantt.specs.ProjectBestText.{IsBestProjectTextOf, TellsBestProjectRefusal}
+use Rattle.plan_sgs.specs.Instances.{Planned}
+use Rattle.plan_cli.specs.Plans.{IsOfProject, RefusesFile}
+use Rattle.plan_cli.specs.Scheduled.{TellsNotMade}
+use Rattle.plan_cli.specs.ChartRun.{IsChartFrom, IsShopChartOf}
+use Rattle.plan_cli.specs.DaysRun.{IsDaysFrom, IsShopDaysOf, TellsNoDaysFrom, TellsWhyNoShopDays}
 use Rattle.plan_cli.specs.NamesRun.{AreNamesOf, TellsNotPlain}
 use Rattle.plan_cli.specs.CheckRun.{IsVerdictOf, TellsWhyNoVerdict}
 use Rattle.plan_cli.specs.ShopRun.{IsShopTableOf, TellsWhyNoShop}
 use Rattle.plan_cli.specs.BestRun.{IsBestTableOf, TellsWhyNoBest}
 use Rattle.plan_cli.specs.ProveRun.{IsProofTableOf, TellsWhyNoProof}
-use Rattle.plan_cli.specs.BestProjectRun.{IsBestProjectTableOf, TellsWhyNoBestProject}
-use Rattle.plan_cli.specs.SolveRun.{IsSolvedTableOf, TellsWhyNotSolved, IsShopSolvedTableOf}
+use Rattle.plan_cli.specs.SolveRun.{IsSolvedBy, IsShopSolvedTableOf}
 use Rattle.plan_cli.specs.declared.capacities.Capacity.{Capacity}
 use Rattle.plan_table.specs.declared.fault.TableCode.TheVariants as table_code
 use Rattle.plan_table.specs.declared.fault.ReadError.{ReadError}
@@ -41,7 +45,7 @@ use Rattle.plan_cli.specs.declared.tasks.Rows.{Rows}
 use Rattle.plan_cli.specs.declared.tasks.Rows.TheVariants as rows
 use Rattle.plan_cli.specs.declared.tasks.Task.{Task}
 use Rattle.plan_cli.specs.declared.tasks.Task.TheVariants as task
-use Rattle.plan_cli.specs.ScheduleRun.{IsScheduleTableOf, TellsWhyNoSchedule}
+use Rattle.plan_cli.specs.ScheduleRun.{TellsNeed}
 use Rattle.plan_cli.specs.declared.fault.CliFault.{CliFault}
 use Rattle.plan_cli.specs.declared.fault.CliFault.TheVariants as cli
 use Rattle.plan_cli.specs.Run.{IsDateTableOf, Writes, JudgesFront, ReadsFront, Refuses, Tells, Sends}
@@ -188,26 +192,49 @@ judged_bytes IsText IsLine known rest taken after (Err cli.Memory) w = tt
 judged_bytes IsText IsLine known rest taken after (Err cli.Input) w = tt
 judged_bytes IsText IsLine known rest taken after (Err cli.Output) (front, short, e, used, does) = (front, short, tt, tt, does)
 
-schedule_front : (name : List ℕ) → HoldsByFront (IsScheduleTableOf name)
-schedule_front name file text (p, says, table) = (p, project_front file p says, table)
+-- what is written as a text or a line of one kind is written as one of another kind
+writes_as : (IsText IsOther IsLine IsOtherLine : List ℕ → Type 0) (taken after : Option (List ℕ))
+    (r : Result (Unit {0}) CliFault)
+    → ((text : List ℕ) → IsText text → IsOther text) → ((line : List ℕ) → IsLine line → IsOtherLine line)
+    → Writes IsText IsLine taken after r → Writes IsOther IsOtherLine taken after r
+writes_as IsText IsOther IsLine IsOtherLine taken after (Ok u) texts lines (text, is, took) = (text, texts text is, took)
+writes_as IsText IsOther IsLine IsOtherLine taken after (Err (cli.Refused line)) texts lines (is, same) = (lines (string_bytes line) is, same)
+writes_as IsText IsOther IsLine IsOtherLine taken after (Err cli.Memory) texts lines same = same
+writes_as IsText IsOther IsLine IsOtherLine taken after (Err cli.Input) texts lines same = same
+writes_as IsText IsOther IsLine IsOtherLine taken after (Err cli.Output) texts lines (text, n, is, part, took) = (text, n, texts text is, part, took)
 
-why_front : (name : List ℕ) → HoldsByFront (TellsWhyNoSchedule name)
-why_front name file line (inl first) = inl (line_front file line first)
-why_front name file line (inr (p, says, tells)) = inr (p, project_front file p says, tells)
+pub text_as : (IsText IsOther IsLine IsOtherLine : List ℕ → List ℕ → Type 0) (known taken after : Option (List ℕ))
+    (r : Result (Unit {0}) CliFault)
+    → ((file text : List ℕ) → IsText file text → IsOther file text)
+    → ((file line : List ℕ) → IsLine file line → IsOtherLine file line)
+    → IfSome known (λ file. Writes (IsText file) (IsLine file) taken after r)
+    → IfSome known (λ file. Writes (IsOther file) (IsOtherLine file) taken after r)
+text_as IsText IsOther IsLine IsOtherLine None taken after r texts lines w = tt
+text_as IsText IsOther IsLine IsOtherLine (Some file) taken after r texts lines w =
+    writes_as (IsText file) (IsOther file) (IsLine file) (IsOtherLine file) taken after r (texts file) (lines file) w
 
-best_project_front : (budget : List ℕ) → HoldsByFront (IsBestProjectTableOf budget)
-best_project_front budget file text (p, says, table) = (p, project_front file p says, table)
+pub front_as : (IsText IsOther IsLine IsOtherLine : List ℕ → List ℕ → Type 0)
+    (known rest taken after : Option (List ℕ)) (r : Result (Unit {0}) CliFault)
+    → ((file text : List ℕ) → IsText file text → IsOther file text)
+    → ((file line : List ℕ) → IsLine file line → IsOtherLine file line)
+    → ReadsFront IsText IsLine known rest taken after r → ReadsFront IsOther IsOtherLine known rest taken after r
+front_as IsText IsOther IsLine IsOtherLine known rest taken after (Ok u) texts lines (front, short, e, used, does) =
+    (front, short, e, used, writes_as (IsText front) (IsOther front) (IsLine front) (IsOtherLine front) taken after (Ok u) (texts front) (lines front) does)
+front_as IsText IsOther IsLine IsOtherLine known rest taken after (Err (cli.Refused line)) texts lines (front, short, e, used, does) =
+    (front, short, e, used, writes_as (IsText front) (IsOther front) (IsLine front) (IsOtherLine front) taken after (Err (cli.Refused line)) (texts front) (lines front) does)
+front_as IsText IsOther IsLine IsOtherLine known rest taken after (Err cli.Memory) texts lines w = tt
+front_as IsText IsOther IsLine IsOtherLine known rest taken after (Err cli.Input) texts lines w = tt
+front_as IsText IsOther IsLine IsOtherLine known rest taken after (Err cli.Output) texts lines (front, short, e, used, does) =
+    (front, short, e, used, writes_as (IsText front) (IsOther front) (IsLine front) (IsOtherLine front) taken after (Err cli.Output) (texts front) (lines front) does)
 
-no_best_project_front : (budget : List ℕ) → HoldsByFront (TellsWhyNoBestProject budget)
-no_best_project_front budget file line (inl first) = inl (line_front file line first)
-no_best_project_front budget file line (inr (p, says, tells)) = inr (p, project_front file p says, tells)
+-- the text for the project in the front of a file is that for the file
+of_project_front : (given : List Capacity) (IsText : Planned → List ℕ → Type 0) → HoldsByFront (IsOfProject given IsText)
+of_project_front given IsText file text (p, says, shown) = (p, project_front file p says, shown)
 
-solved_front : (given : List Capacity) → HoldsByFront (IsSolvedTableOf given)
-solved_front given file text (p, says, table) = (p, project_front file p says, table)
-
-not_solved_front : (given : List Capacity) → HoldsByFront (TellsWhyNotSolved given)
-not_solved_front given file line (inl first) = inl (line_front file line first)
-not_solved_front given file line (inr (p, says, tells)) = inr (p, project_front file p says, tells)
+-- the line that refuses the front of a file is that for the file
+refuses_file_front : (given : List Capacity) (IsLine : Planned → List ℕ → Type 0) → HoldsByFront (RefusesFile given IsLine)
+refuses_file_front given IsLine file line (inl first) = inl (line_front file line first)
+refuses_file_front given IsLine file line (inr (p, says, tells)) = inr (p, project_front file p says, tells)
 
 -- a shop file that is too long fails its first check
 long_shop : (instance file : List ℕ) → longest_text < length file
@@ -324,18 +351,8 @@ pub told_not_plain : (file : List ℕ) (first : FileFault) (e : CliFault)
 told_not_plain file first e (inl memory) t = refuses_as (Tells first) (TellsNotPlain file) e (λ line tells. absurd (tells.0 memory.0)) t
 told_not_plain file first e (inr failing) t = refuses_as (Tells first) (TellsNotPlain file) e (λ line tells. (first, failing, tells.1)) t
 
-chart_front : (name : List ℕ) → HoldsByFront (IsChartOf name)
-chart_front name file text (p, says, shown) = (p, project_front file p says, shown)
-
 shop_chart_front : (name instance : List ℕ) → HoldsByFront (IsShopChartOf name instance)
 shop_chart_front name instance file text (doc, says, shown) = (doc, says_shop_front instance file doc says, shown)
-
-days_front : (name start marks : List ℕ) → HoldsByFront (IsDaysOf name start marks)
-days_front name start marks file text (p, says, shown) = (p, project_front file p says, shown)
-
-no_days_front : (name start marks : List ℕ) → HoldsByFront (TellsWhyNoDays name start marks)
-no_days_front name start marks file line (inl first) = inl (line_front file line first)
-no_days_front name start marks file line (inr (p, says, tells)) = inr (p, project_front file p says, tells)
 
 shop_days_front : (name start marks instance : List ℕ) → HoldsByFront (IsShopDaysOf name start marks instance)
 shop_days_front name start marks instance file text (doc, says, shown) = (doc, says_shop_front instance file doc says, shown)
@@ -417,36 +434,36 @@ no_shop_import_front file line (inr (t, read, tells)) = inr (t, sym (front_order
 -- the text of a task for the front of a file is that for the file
 task_front : (task : Task) → HoldsByFront (IsTextOf task)
 task_front task.Dates = table_front
-task_front (task.Schedule rule) = schedule_front rule.now
-task_front (task.Chart rule) = chart_front rule.now
+task_front (task.Schedule rule given) = of_project_front given.now (IsScheduleTextOf rule.now)
+task_front (task.Chart from given) = of_project_front given.now (IsChartFrom from)
 task_front (task.ShopChart rule instance) = shop_chart_front rule.now instance.now
-task_front (task.Days rule start marks) = days_front rule.now start.now marks.now
-task_front (task.ShopDays rule start marks instance) = shop_days_front rule.now start.now marks.now instance.now
+task_front (task.Days from dates given) = of_project_front given.now (IsDaysFrom from dates.start.now dates.marks.now)
+task_front (task.ShopDays rule dates instance) = shop_days_front rule.now dates.start.now dates.marks.now instance.now
 task_front task.Names = names_front
 task_front (task.Check starts) = verdict_front starts.now
 task_front (task.Shop rule instance) = shop_front rule.now instance.now
 task_front (task.Best budget instance) = best_front budget.now instance.now
 task_front (task.Prove nodes instance) = proof_front nodes.now instance.now
-task_front (task.BestProject budget) = best_project_front budget.now
-task_front (task.Solve conflicts capacities) = solved_front capacities.now
+task_front (task.BestProject budget given) = of_project_front given.now (IsBestProjectTextOf budget.now)
+task_front (task.Solve conflicts given) = of_project_front given.now IsSolvedBy
 task_front (task.SolveShop conflicts instance) = shop_solved_front instance.now
 task_front (task.Import given) = import_front (map override_of given.now)
 task_front task.ImportShop = shop_import_front
 
 pub task_line_front : (task : Task) → HoldsByFront (IsLineOf task)
 task_line_front task.Dates = line_front
-task_line_front (task.Schedule rule) = why_front rule.now
-task_line_front (task.Chart rule) = why_front rule.now
+task_line_front (task.Schedule rule given) = refuses_file_front given.now (TellsRefusal rule.now)
+task_line_front (task.Chart from given) = refuses_file_front given.now (TellsNotMade from)
 task_line_front (task.ShopChart rule instance) = no_shop_front rule.now instance.now
-task_line_front (task.Days rule start marks) = no_days_front rule.now start.now marks.now
-task_line_front (task.ShopDays rule start marks instance) = no_shop_days_front rule.now start.now marks.now instance.now
+task_line_front (task.Days from dates given) = refuses_file_front given.now (TellsNoDaysFrom from dates.start.now dates.marks.now)
+task_line_front (task.ShopDays rule dates instance) = no_shop_days_front rule.now dates.start.now dates.marks.now instance.now
 task_line_front task.Names = not_plain_front
 task_line_front (task.Check starts) = no_verdict_front starts.now
 task_line_front (task.Shop rule instance) = no_shop_front rule.now instance.now
 task_line_front (task.Best budget instance) = no_best_front budget.now instance.now
 task_line_front (task.Prove nodes instance) = no_proof_front nodes.now instance.now
-task_line_front (task.BestProject budget) = no_best_project_front budget.now
-task_line_front (task.Solve conflicts capacities) = not_solved_front capacities.now
+task_line_front (task.BestProject budget given) = refuses_file_front given.now (TellsBestProjectRefusal budget.now)
+task_line_front (task.Solve conflicts given) = refuses_file_front given.now TellsNeed
 task_line_front (task.SolveShop conflicts instance) = first_front instance.now
 task_line_front (task.Import given) = no_import_front (map override_of given.now)
 task_line_front task.ImportShop = no_shop_import_front
@@ -462,17 +479,17 @@ shop_short instance file doc says = plain_short file says.readable
 -- a file for which a task writes a text isn't too long
 file_short : (task : Task) (file text : List ℕ) → IsTextOf task file text → length file ≤ longest_text
 file_short task.Dates file text (p, says, rest) = project_short file p says
-file_short (task.Schedule rule) file text (p, says, rest) = project_short file p says
-file_short (task.Chart rule) file text (p, says, rest) = project_short file p says
+file_short (task.Schedule rule given) file text (p, says, rest) = project_short file p says
+file_short (task.Chart from given) file text (p, says, rest) = project_short file p says
 file_short (task.ShopChart rule instance) file text (doc, says, rest) = shop_short instance.now file doc says
-file_short (task.Days rule start marks) file text (p, says, rest) = project_short file p says
-file_short (task.ShopDays rule start marks instance) file text (doc, says, rest) = shop_short instance.now file doc says
+file_short (task.Days from dates given) file text (p, says, rest) = project_short file p says
+file_short (task.ShopDays rule dates instance) file text (doc, says, rest) = shop_short instance.now file doc says
 file_short task.Names file text (readable, is) = plain_short file readable
 file_short (task.Check starts) file text (p, says, rest) = project_short file p says
 file_short (task.Shop rule instance) file text (doc, says, rest) = shop_short instance.now file doc says
 file_short (task.Best budget instance) file text (doc, says, rest) = shop_short instance.now file doc says
 file_short (task.Prove nodes instance) file text (doc, says, rest) = shop_short instance.now file doc says
-file_short (task.BestProject budget) file text (p, says, rest) = project_short file p says
+file_short (task.BestProject budget given) file text (p, says, rest) = project_short file p says
 file_short (task.Solve conflicts capacities) file text (p, says, rest) = project_short file p says
 file_short (task.SolveShop conflicts instance) file text (doc, says, rest) = shop_short instance.now file doc says
 file_short (task.Import given) file text (t, read, shown) = rows_short file (was_read (rows_read file) (table_in (map override_of given.now)) t read)

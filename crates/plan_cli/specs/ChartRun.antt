@@ -1,7 +1,6 @@
 -- The output of `plan chart` for the bytes that it reads (docs/definitions.md, "Runs").
 use Rattle.std.specs.Prelude.{◌≡◌, ℕ, List}
 use Rattle.plan_net.specs.Network.{count_of}
-use Rattle.plan_psplib.specs.Project.{Project, SaysProject}
 use Rattle.plan_orlib.specs.Shop as docs
 use Rattle.plan_orlib.specs.Says.{Says}
 use Rattle.plan_sgs.specs.Problem.{makespan}
@@ -12,21 +11,15 @@ use Rattle.plan_shop.specs.Docs.{shop_of}
 use Rattle.plan_gantt.specs.Chart.{chart_text}
 use Rattle.plan_gantt.specs.Charts.{activity_intervals}
 use Rattle.plan_gantt.specs.ShopCharts.{machine_intervals}
-use Rattle.plan_cli.specs.ScheduleRun.{as_available}
-use Rattle.plan_cli.specs.Scheduled.{IsScheduleBy, IsShopScheduleBy}
+use Rattle.plan_cli.specs.Scheduled.{IsScheduleFrom, IsShopScheduleBy}
+use Rattle.plan_cli.specs.declared.origins.Origin.{Origin}
 
--- a text is the chart of an instance's schedule by the rule with this name: one line for each
--- activity, numbered from 1
-pub record IsChartBy (name : List ℕ) (i : Planned) (text : List ℕ) : Type 0 where
+-- a text is the chart of an instance's schedule: one line for each activity, numbered from 1
+pub record IsChartFrom (from : Origin) (i : Planned) (text : List ℕ) : Type 0 where
   pub starts : List ℕ
-  pub schedule : IsScheduleBy name i starts
+  pub schedule : IsScheduleFrom from i starts
   pub shown : text ≡ chart_text (makespan (problem_of i) starts)
       (activity_intervals i.project.network starts) 1 (count_of i.project.network)
-
--- a text is the chart of the project in a file, with the capacities of the file
-abbrev pub IsChartOf : List ℕ → List ℕ → List ℕ → Type 0
-IsChartOf name file text =
-    (p : Project) × SaysProject file p × IsChartBy name (as_available p) text
 
 -- a text is the chart of a shop's schedule by the rule with this name: one line for each machine,
 -- numbered from 0

@@ -2,14 +2,14 @@
 use Rattle.std.specs.Prelude.{◌≡◌, ◌⊎◌, ℕ, List}
 use Rattle.plan_net.specs.Network.{count_of}
 use Rattle.plan_psplib.specs.Project.{Project, SaysProject}
-use Rattle.plan_sgs.specs.Problem.{NeedsFit}
+use Rattle.plan_sgs.specs.Problem.{Problem, IsFeasible, NeedsFit}
 use Rattle.plan_sgs.specs.Instances.{Planned, problem_of}
 use Rattle.plan_sgs.specs.Verdicts.{IsFirstVerdict}
 use Rattle.plan_sgs.specs.declared.verdict.Verdict.{Verdict}
 use Rattle.plan_gantt.specs.FirstFaults.{TellsFirstFailing}
 use Rattle.plan_cli.specs.ScheduleRun.{as_available, TellsNeed}
 use Rattle.plan_cli.specs.Starts.{SaysStarts, TellsNoStarts}
-use Rattle.plan_cli.specs.VerdictText.{verdict_text_of}
+use Rattle.plan_cli.specs.VerdictText.{sentence_of, verdict_text_of}
 
 -- a text gives the first verdict on starts of an instance whose needs are within its capacities
 pub record TellsVerdict (i : Planned) (starts text : List ℕ) : Type 0 where
@@ -44,3 +44,10 @@ TellsNoVerdict listed i line = TellsNeed i line ⊎ TellsBadStarts listed i line
 abbrev pub TellsWhyNoVerdict : List ℕ → List ℕ → List ℕ → Type 0
 TellsWhyNoVerdict listed file line = TellsFirstFailing file line
     ⊎ ((p : Project) × SaysProject file p × TellsNoVerdict listed (as_available p) line)
+
+-- a line gives the first verdict on starts that aren't feasible
+pub record TellsWhyInfeasible (p : Problem) (starts line : List ℕ) : Type 0 where
+  pub infeasible : IsFeasible p starts → ⊥
+  pub verdict : Verdict
+  pub first : IsFirstVerdict p starts verdict
+  pub told : line ≡ sentence_of verdict

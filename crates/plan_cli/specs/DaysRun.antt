@@ -1,6 +1,5 @@
 -- The output of `plan days` for the bytes that it reads (docs/definitions.md, "Runs").
 use Rattle.std.specs.Prelude.{◌≡◌, ◌⊎◌, ℕ, List}
-use Rattle.plan_psplib.specs.Project.{Project, SaysProject}
 use Rattle.plan_orlib.specs.Shop as docs
 use Rattle.plan_orlib.specs.Says.{Says}
 use Rattle.plan_sgs.specs.Instances.{Planned}
@@ -15,11 +14,10 @@ use Rattle.plan_calendar.specs.declared.calendar.CalendarFault.{CalendarFault}
 use Rattle.plan_calendar.specs.declared.calendar.CalendarFault.TheVariants as fault
 use Rattle.plan_gantt.specs.declared.days.DaysFault.{DaysFault}
 use Rattle.plan_gantt.specs.declared.days.DaysFault.TheVariants as days
-use Rattle.plan_gantt.specs.FirstFaults.{TellsFirstFailing, TellsFirstShopFault}
-use Rattle.plan_gantt.specs.ScheduleText.{TellsRefusal}
+use Rattle.plan_gantt.specs.FirstFaults.{TellsFirstShopFault}
 use Rattle.plan_gantt.specs.ShopText.{TellsNoRule}
-use Rattle.plan_cli.specs.ScheduleRun.{as_available}
-use Rattle.plan_cli.specs.Scheduled.{IsScheduleBy, IsShopScheduleBy}
+use Rattle.plan_cli.specs.Scheduled.{IsScheduleFrom, TellsNotMade, IsShopScheduleBy}
+use Rattle.plan_cli.specs.declared.origins.Origin.{Origin}
 
 -- a text shows days of the calendar that two texts spell: its first date and its marks
 abbrev pub ShowsDays : List ℕ → List ℕ → (Workdays → List ℕ → Type 0) → List ℕ → Type 0
@@ -49,33 +47,22 @@ abbrev pub TellsDaysFault : DaysFault → List ℕ → Type 0
 TellsDaysFault first line =
     (first ≡ days.BeyondCalendar) × (line ≡ calendar_fault_text_of fault.BeyondCalendar)
 
--- a text is the table of working days of an instance's schedule by the rule with this name
-pub record IsDaysBy (name start marks : List ℕ) (i : Planned) (text : List ℕ) : Type 0 where
+-- a text is the table of working days of an instance's schedule
+pub record IsDaysFrom (from : Origin) (start marks : List ℕ) (i : Planned) (text : List ℕ) : Type 0 where
   pub starts : List ℕ
-  pub schedule : IsScheduleBy name i starts
+  pub schedule : IsScheduleFrom from i starts
   pub shown : ShowsDays start marks (λ c. IsCalendarTable c i.project.network starts) text
 
--- a text is that of the project in a file, with the capacities of the file
-abbrev pub IsDaysOf : List ℕ → List ℕ → List ℕ → List ℕ → List ℕ → Type 0
-IsDaysOf name start marks file text =
-    (p : Project) × SaysProject file p × IsDaysBy name start marks (as_available p) text
-
 -- a line refuses the days of an instance's schedule, by its schedule
-pub record HidesDays (name start marks : List ℕ) (i : Planned) (line : List ℕ) : Type 0 where
+pub record HidesDays (from : Origin) (start marks : List ℕ) (i : Planned) (line : List ℕ) : Type 0 where
   pub starts : List ℕ
-  pub schedule : IsScheduleBy name i starts
+  pub schedule : IsScheduleFrom from i starts
   pub hidden : TellsNoDays start marks (λ c. HasActivityBeyond c i.project.network starts) line
 
--- a line refuses an instance, or else the days of its schedule
-abbrev pub TellsNoProjectDays : List ℕ → List ℕ → List ℕ → Planned → List ℕ → Type 0
-TellsNoProjectDays name start marks i line =
-    TellsRefusal name i line ⊎ HidesDays name start marks i line
-
--- a line gives the first check that a file fails, or else refuses the days of its project
-abbrev pub TellsWhyNoDays : List ℕ → List ℕ → List ℕ → List ℕ → List ℕ → Type 0
-TellsWhyNoDays name start marks file line = TellsFirstFailing file line
-    ⊎ ((p : Project) × SaysProject file p
-    × TellsNoProjectDays name start marks (as_available p) line)
+-- a line refuses the schedule of an instance, or else its days
+abbrev pub TellsNoDaysFrom : Origin → List ℕ → List ℕ → Planned → List ℕ → Type 0
+TellsNoDaysFrom from start marks i line =
+    TellsNotMade from i line ⊎ HidesDays from start marks i line
 
 -- a text is the table of working days of a shop's schedule by the rule with this name
 pub record IsShopDaysBy (name start marks : List ℕ) (s : JobShop) (text : List ℕ) : Type 0 where

@@ -1,9 +1,11 @@
 pub mod Capacities
 pub mod Faults
 pub mod Run
+pub mod Plans
 pub mod ScheduleRun
 pub mod ShopRun
 pub mod Tasks
+pub mod ListedTasks
 pub use Rattle.plan_net.specs.Network
 pub use Rattle.plan_cpm.specs.Dates
 pub use Rattle.plan_io.specs.Devices

@@ -1,7 +1,7 @@
 -- Schedules by the rule with a name that texts can show (docs/definitions.md, "Runs").
-use Rattle.std.specs.Prelude.{◌≡◌, ℕ, ◌≤◌, List, length, EachIndex, slice_index}
+use Rattle.std.specs.Prelude.{◌≡◌, ◌⊎◌, ℕ, ◌≤◌, List, length, EachIndex, slice_index}
 use Rattle.plan_net.specs.Network.{count_of}
-use Rattle.plan_sgs.specs.Problem.{IsActive, makespan}
+use Rattle.plan_sgs.specs.Problem.{IsActive, IsFeasible, makespan}
 use Rattle.plan_sgs.specs.Instances.{Planned, problem_of}
 use Rattle.plan_sgs.specs.Keys.{rule_text}
 use Rattle.plan_sgs.specs.declared.rule.Rule.{Rule}
@@ -11,8 +11,13 @@ use Rattle.plan_shop.specs.Shop as shops
 use Rattle.plan_shop.specs.Names as shop_names
 use Rattle.plan_shop.specs.declared.rule.ShopRule.{ShopRule}
 use Rattle.plan_gantt.specs.Limits.{latest_start, latest_end}
-use Rattle.plan_gantt.specs.ScheduleText.{IsSchedule}
+use Rattle.plan_gantt.specs.ScheduleText.{IsSchedule, TellsRefusal}
 use Rattle.plan_gantt.specs.ShopText.{rule_starts}
+use Rattle.plan_cli.specs.ScheduleRun.{TellsNeed}
+use Rattle.plan_cli.specs.Starts.{SaysStarts}
+use Rattle.plan_cli.specs.CheckRun.{TellsBadStarts, TellsWhyInfeasible}
+use Rattle.plan_cli.specs.declared.origins.Origin.{Origin}
+use Rattle.plan_cli.specs.declared.origins.Origin.TheVariants as origin
 
 -- the starts are those of the active schedule of an instance by the rule with this name
 pub record IsScheduleBy (name : List ℕ) (i : Planned) (starts : List ℕ) : Type 0 where
@@ -56,3 +61,35 @@ pub record IsMadeOfShopBy (rule : ShopRule) (s : JobShop) (schedule : Schedule) 
 abbrev pub IsMadeOfShop : List ℕ → JobShop → Schedule → Type 0
 IsMadeOfShop name s schedule =
     (rule : ShopRule) × (name ≡ shop_names.rule_text rule) × IsMadeOfShopBy rule s schedule
+
+-- the starts are those of a feasible list in a text
+pub record IsListed (listed : List ℕ) (i : Planned) (starts : List ℕ) : Type 0 where
+  pub said : SaysStarts (count_of i.project.network) listed starts
+  pub feasible : IsFeasible (problem_of i) starts
+
+-- the starts are those of the schedule of an instance
+abbrev pub IsScheduleFrom : Origin → Planned → List ℕ → Type 0
+IsScheduleFrom (origin.Rule name) = IsScheduleBy name.now
+IsScheduleFrom (origin.Starts listed) = IsListed listed.now
+
+-- a schedule of an instance that texts can show, with its makespan
+pub record IsShowable (i : Planned) (schedule : Schedule) : Type 0 where
+  pub makespan : schedule.makespan ≡ makespan (problem_of i) schedule.starts.items
+  pub fits : CanBeShown (count_of i.project.network) schedule
+
+-- the schedule of an instance, with its makespan
+pub record IsMadeFrom (from : Origin) (i : Planned) (schedule : Schedule) : Type 0 where
+  pub starts : IsScheduleFrom from i schedule.starts.items
+  pub showable : IsShowable i schedule
+
+-- a line refuses the starts in a text: the text fails a check, or else they aren't feasible
+abbrev pub TellsNotListed : List ℕ → Planned → List ℕ → Type 0
+TellsNotListed listed i line = TellsBadStarts listed i line
+    ⊎ ((starts : List ℕ) × SaysStarts (count_of i.project.network) listed starts
+    × TellsWhyInfeasible (problem_of i) starts line)
+
+-- a line refuses the schedule of an instance: a need is above its capacity, or else no rule has the
+-- name or the starts are refused
+abbrev pub TellsNotMade : Origin → Planned → List ℕ → Type 0
+TellsNotMade (origin.Rule name) i line = TellsRefusal name.now i line
+TellsNotMade (origin.Starts listed) i line = TellsNeed i line ⊎ TellsNotListed listed.now i line

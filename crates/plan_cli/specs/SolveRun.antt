@@ -1,20 +1,18 @@
 -- The output of `plan solve` for the bytes that it reads (docs/definitions.md, "Runs").
 use Rattle.std.specs.Prelude.{◌≡◌, ◌⊎◌, ℕ, List, ◌++◌}
-use Rattle.plan_psplib.specs.Project.{Project, SaysProject}
 use Rattle.plan_orlib.specs.Shop as docs
 use Rattle.plan_orlib.specs.Says.{Says}
 use Rattle.plan_sgs.specs.Problem.{IsActive, IsShortest, makespan}
-use Rattle.plan_sgs.specs.Instances.{Planned, planned, problem_of}
+use Rattle.plan_sgs.specs.Instances.{Planned, problem_of}
 use Rattle.plan_shop.specs.Shop.{JobShop}
 use Rattle.plan_shop.specs.Shop as shops
 use Rattle.plan_shop.specs.Docs.{shop_of}
 use Rattle.plan_solve.specs.Solutions.{IsLowerBound}
-use Rattle.plan_gantt.specs.FirstFaults.{TellsFirstFailing}
 use Rattle.plan_gantt.specs.ScheduleTable.{schedule_table_text}
 use Rattle.plan_gantt.specs.ShopTable.{shop_table_text}
 use Rattle.plan_cli.specs.ProofText.{IsBoundLine}
 use Rattle.plan_cli.specs.ScheduleRun.{TellsNeed}
-use Rattle.plan_cli.specs.Capacities.{Replaces, TellsUnknown}
+use Rattle.plan_cli.specs.Plans.{IsOfProject, RefusesFile}
 use Rattle.plan_cli.specs.declared.capacities.Capacity.{Capacity}
 
 -- a text is the line with a lower bound and a makespan, and then the table of a schedule
@@ -34,27 +32,14 @@ pub record IsSolvedBy (i : Planned) (text : List ℕ) : Type 0 where
   pub shortest : lower ≡ ends → IsShortest (problem_of i) starts
   pub shown : ShowsSolution i lower starts ends text
 
--- a text shows the solution of a project with given capacities in place of those of its file
-abbrev pub IsSolvedWith : List Capacity → Project → List ℕ → Type 0
-IsSolvedWith given p text = (capacities : List ℕ) × Replaces given p.available capacities
-    × IsSolvedBy (planned p capacities) text
-
--- the same for the project in a file
+-- a text shows the solution of the project in a file with given capacities
 abbrev pub IsSolvedTableOf : List Capacity → List ℕ → List ℕ → Type 0
-IsSolvedTableOf given file text = (p : Project) × SaysProject file p × IsSolvedWith given p text
+IsSolvedTableOf given = IsOfProject given IsSolvedBy
 
--- a line gives the first given capacity of a resource that a project lacks, or else the first need
--- that is above its capacity
-abbrev pub TellsWhyNotPlanned : List Capacity → Project → List ℕ → Type 0
-TellsWhyNotPlanned given p line = TellsUnknown given p.available line
-    ⊎ ((capacities : List ℕ) × Replaces given p.available capacities
-    × TellsNeed (planned p capacities) line)
-
--- a line gives the first check that a file fails, or else the reason why its project can't be
--- planned
+-- a line gives the first check that a file fails, the first given capacity of a resource that its
+-- project lacks, or else the first need that is above its capacity
 abbrev pub TellsWhyNotSolved : List Capacity → List ℕ → List ℕ → Type 0
-TellsWhyNotSolved given file line = TellsFirstFailing file line
-    ⊎ ((p : Project) × SaysProject file p × TellsWhyNotPlanned given p line)
+TellsWhyNotSolved given = RefusesFile given TellsNeed
 
 -- a text is that line, and then the table of a job shop's schedule
 abbrev pub ShowsShopSolution : JobShop → ℕ → List ℕ → ℕ → List ℕ → Type 0

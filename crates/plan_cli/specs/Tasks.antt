@@ -3,16 +3,18 @@
 use Rattle.std.specs.Prelude.{◌≡◌, ℕ, ◌+◌, ◌≤◌, List, [], Option, Result, Err, IfSome, length, take, map}
 use Rattle.std.specs.Prelude.{codes, bytes_eq, if◌then◌else◌}
 use Rattle.plan_gantt.specs.FirstFaults.{TellsFirstFailing, TellsFirstShopFault}
+use Rattle.plan_gantt.specs.ScheduleText.{IsScheduleTextOf, TellsRefusal}
 use Rattle.plan_cli.specs.Run.{IsDateTableOf, ReadsFront}
-use Rattle.plan_cli.specs.ScheduleRun.{IsScheduleTableOf, TellsWhyNoSchedule}
-use Rattle.plan_cli.specs.ChartRun.{IsChartOf, IsShopChartOf}
-use Rattle.plan_cli.specs.DaysRun.{IsDaysOf, IsShopDaysOf, TellsWhyNoDays, TellsWhyNoShopDays}
+use Rattle.plan_cli.specs.Plans.{IsOfProject, RefusesFile}
+use Rattle.plan_cli.specs.Scheduled.{TellsNotMade}
+use Rattle.plan_cli.specs.ChartRun.{IsChartFrom, IsShopChartOf}
+use Rattle.plan_cli.specs.DaysRun.{IsDaysFrom, IsShopDaysOf, TellsNoDaysFrom, TellsWhyNoShopDays}
 use Rattle.plan_cli.specs.NamesRun.{AreNamesOf, TellsNotPlain}
 use Rattle.plan_cli.specs.CheckRun.{IsVerdictOf, TellsWhyNoVerdict}
 use Rattle.plan_cli.specs.ShopRun.{IsShopTableOf, TellsWhyNoShop}
 use Rattle.plan_cli.specs.BestRun.{IsBestTableOf, TellsWhyNoBest}
 use Rattle.plan_cli.specs.ProveRun.{IsProofTableOf, TellsWhyNoProof}
-use Rattle.plan_cli.specs.BestProjectRun.{IsBestProjectTableOf, TellsWhyNoBestProject}
+use Rattle.plan_gantt.specs.ProjectBestText.{IsBestProjectTextOf, TellsBestProjectRefusal}
 use Rattle.plan_cli.specs.SolveRun.{IsSolvedTableOf, TellsWhyNotSolved, IsShopSolvedTableOf}
 use Rattle.plan_cli.specs.ImportRun.{IsImportOf, TellsNoImport, IsShopImportOf, TellsNoShopImport}
 use Rattle.plan_cli.specs.RowNames.{with_names}
@@ -31,18 +33,19 @@ use Rattle.plan_cli.specs.declared.fault.CliFault.TheVariants as fault
 -- the texts that a task writes for a file
 abbrev pub IsTextOf : Task → List ℕ → List ℕ → Type 0
 IsTextOf task.Dates = IsDateTableOf
-IsTextOf (task.Schedule rule) = IsScheduleTableOf rule.now
-IsTextOf (task.Chart rule) = IsChartOf rule.now
+IsTextOf (task.Schedule rule given) = IsOfProject given.now (IsScheduleTextOf rule.now)
+IsTextOf (task.Chart from given) = IsOfProject given.now (IsChartFrom from)
 IsTextOf (task.ShopChart rule instance) = IsShopChartOf rule.now instance.now
-IsTextOf (task.Days rule start marks) = IsDaysOf rule.now start.now marks.now
-IsTextOf (task.ShopDays rule start marks instance) =
-    IsShopDaysOf rule.now start.now marks.now instance.now
+IsTextOf (task.Days from dates given) =
+    IsOfProject given.now (IsDaysFrom from dates.start.now dates.marks.now)
+IsTextOf (task.ShopDays rule dates instance) =
+    IsShopDaysOf rule.now dates.start.now dates.marks.now instance.now
 IsTextOf task.Names = AreNamesOf
 IsTextOf (task.Check starts) = IsVerdictOf starts.now
 IsTextOf (task.Shop rule instance) = IsShopTableOf rule.now instance.now
 IsTextOf (task.Best budget instance) = IsBestTableOf budget.now instance.now
 IsTextOf (task.Prove nodes instance) = IsProofTableOf nodes.now instance.now
-IsTextOf (task.BestProject budget) = IsBestProjectTableOf budget.now
+IsTextOf (task.BestProject budget given) = IsOfProject given.now (IsBestProjectTextOf budget.now)
 IsTextOf (task.Solve conflicts capacities) = IsSolvedTableOf capacities.now
 IsTextOf (task.SolveShop conflicts instance) = IsShopSolvedTableOf instance.now
 IsTextOf (task.Import given) = IsImportOf (map override_of given.now)
@@ -51,18 +54,19 @@ IsTextOf task.ImportShop = IsShopImportOf
 -- the lines with which a task refuses a file
 abbrev pub IsLineOf : Task → List ℕ → List ℕ → Type 0
 IsLineOf task.Dates = TellsFirstFailing
-IsLineOf (task.Schedule rule) = TellsWhyNoSchedule rule.now
-IsLineOf (task.Chart rule) = TellsWhyNoSchedule rule.now
+IsLineOf (task.Schedule rule given) = RefusesFile given.now (TellsRefusal rule.now)
+IsLineOf (task.Chart from given) = RefusesFile given.now (TellsNotMade from)
 IsLineOf (task.ShopChart rule instance) = TellsWhyNoShop rule.now instance.now
-IsLineOf (task.Days rule start marks) = TellsWhyNoDays rule.now start.now marks.now
-IsLineOf (task.ShopDays rule start marks instance) =
-    TellsWhyNoShopDays rule.now start.now marks.now instance.now
+IsLineOf (task.Days from dates given) =
+    RefusesFile given.now (TellsNoDaysFrom from dates.start.now dates.marks.now)
+IsLineOf (task.ShopDays rule dates instance) =
+    TellsWhyNoShopDays rule.now dates.start.now dates.marks.now instance.now
 IsLineOf task.Names = TellsNotPlain
 IsLineOf (task.Check starts) = TellsWhyNoVerdict starts.now
 IsLineOf (task.Shop rule instance) = TellsWhyNoShop rule.now instance.now
 IsLineOf (task.Best budget instance) = TellsWhyNoBest budget.now instance.now
 IsLineOf (task.Prove nodes instance) = TellsWhyNoProof nodes.now instance.now
-IsLineOf (task.BestProject budget) = TellsWhyNoBestProject budget.now
+IsLineOf (task.BestProject budget given) = RefusesFile given.now (TellsBestProjectRefusal budget.now)
 IsLineOf (task.Solve conflicts capacities) = TellsWhyNotSolved capacities.now
 IsLineOf (task.SolveShop conflicts instance) = TellsFirstShopFault instance.now
 IsLineOf (task.Import given) = TellsNoImport (map override_of given.now)
@@ -72,14 +76,14 @@ IsLineOf task.ImportShop = TellsNoShopImport
 -- project, of orders in a job shop, and of machines in its chart. Other rows have no names.
 abbrev pub names_for : Task → List ℕ → List Name
 names_for task.Dates file = names_behind activity_key file
-names_for (task.Schedule rule) file = names_behind activity_key file
-names_for (task.Chart rule) file = names_behind activity_key file
-names_for (task.Days rule start marks) file = names_behind activity_key file
-names_for (task.BestProject budget) file = names_behind activity_key file
+names_for (task.Schedule rule given) file = names_behind activity_key file
+names_for (task.Chart from given) file = names_behind activity_key file
+names_for (task.Days from dates given) file = names_behind activity_key file
+names_for (task.BestProject budget given) file = names_behind activity_key file
 names_for (task.Solve conflicts capacities) file = names_behind activity_key file
 names_for (task.Shop rule instance) file = instance_names order_key instance.now file
 names_for (task.ShopChart rule instance) file = instance_names machine_key instance.now file
-names_for (task.ShopDays rule start marks instance) file = instance_names order_key instance.now file
+names_for (task.ShopDays rule dates instance) file = instance_names order_key instance.now file
 names_for (task.Best budget instance) file = instance_names order_key instance.now file
 names_for (task.Prove nodes instance) file = instance_names order_key instance.now file
 names_for (task.SolveShop conflicts instance) file = instance_names order_key instance.now file
@@ -107,17 +111,6 @@ DoesTask task rows file taken after result =
 -- text has
 abbrev pub AreRead : List ℕ → Option (List ℕ) → Type 0
 AreRead read file = IfSome file (λ bytes. read ≡ take (longest_text + 1) bytes)
-
--- Unless the input fails or memory runs out, the verdict is on the starts that were read, for the
--- project that was read. At most one byte more than the longest text is read.
-abbrev pub DoesCheck : Option (List ℕ) → Option (List ℕ) → Option (List ℕ) → Option (List ℕ)
-    → Result (Unit {0}) CliFault → Type 0
-DoesCheck starts file taken after (Err fault.Memory) = Unit {0}
-DoesCheck starts file taken after (Err fault.Input) = Unit {0}
-DoesCheck starts file taken after result =
-    (listed : List ℕ) × (length listed ≤ longest_text + 1) × AreRead listed starts
-    × ((rest : Option (List ℕ))
-    × ReadsFront (IsVerdictOf listed) (TellsWhyNoVerdict listed) file rest taken after result)
 
 -- the bytes that a name stands for, if they are known: those of standard input for `-`, else those
 -- of the file with this name

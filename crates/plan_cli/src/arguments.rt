@@ -42,12 +42,18 @@ enum Form {
     SearchSeconds,
     /// An option with the conflict limit of a search, or none.
     Conflicts,
-    /// An option with the capacity of a resource, any number of times. It is for projects only.
+    /// An option with the capacity of a resource, any number of times.
     Capacity,
+    /// The same for a command that also takes job shops, which have no such resources.
+    CapacityIfProject,
     /// An option with the capacity of a resource of a list, any number of times.
     ListCapacity,
     /// An option with the name of a file to write. It is for projects only.
     Output,
+    /// A name that isn't given if the option `starts` is.
+    NameUnlessStarts,
+    /// An option with the name of a file of starts.
+    Starts,
     /// An option without a value.
     Flag,
     /// An option without a value and without effect, which the help doesn't list.
@@ -124,6 +130,35 @@ const RULE: Argument = Argument {
     name: "RULE",
     form: Form::Text,
     help: "the priority rule: lft, slk, spt, mts or num; for a job shop spt, mwkr or fcfs",
+};
+
+const CAPACITY_HELP: &str =
+    "capacity of a resource, for example R2=4, in place of that of the file; may be repeated";
+
+const CAPACITY: Argument = Argument {
+    name: "capacity",
+    form: Form::Capacity,
+    help: CAPACITY_HELP,
+};
+
+// The same, for commands that also take job shop files.
+const CAPACITY_IF_PROJECT: Argument = Argument {
+    name: "capacity",
+    form: Form::CapacityIfProject,
+    help: CAPACITY_HELP,
+};
+
+// The file of a command that has the option `starts`.
+const FILE_UNLESS_STARTS: Argument = Argument {
+    name: "FILE",
+    form: Form::NameUnlessStarts,
+    help: "the input file, or - for standard input",
+};
+
+const STARTS: Argument = Argument {
+    name: "starts",
+    form: Form::Starts,
+    help: "show the schedule with these starts; RULE is left out: plan chart --starts STARTS FILE",
 };
 
 const INSTANCE: Argument = Argument {
@@ -205,14 +240,14 @@ const PROJECT_COMMANDS: [Entry; 4] = [
     Entry {
         name: "schedule",
         about: "Prints a schedule of a project by a priority rule",
-        examples: "Example:\n  plan schedule lft examples/house.sm",
-        arguments: &[PROJECT_RULE, FILE, NAMES],
+        examples: "Examples:\n  plan schedule lft examples/house.sm\n  plan schedule --capacity R1=4 lft examples/house.sm",
+        arguments: &[PROJECT_RULE, FILE, CAPACITY, NAMES],
     },
     Entry {
         name: "best-project",
         about: "Searches for a shortest schedule of a project",
         examples: "Example:\n  plan best-project 200000 examples/house.sm",
-        arguments: &[BUDGET, FILE, NAMES],
+        arguments: &[BUDGET, FILE, CAPACITY, NAMES],
     },
     Entry {
         name: "check",
@@ -284,11 +319,7 @@ const SCHEDULE_COMMANDS: [Entry; 3] = [
                 form: Form::Conflicts,
                 help: "conflict limit of each search, 1 to 1000000000",
             },
-            Argument {
-                name: "capacity",
-                form: Form::Capacity,
-                help: "capacity of a resource, for example R2=4, in place of that of the file; may be repeated",
-            },
+            CAPACITY_IF_PROJECT,
             NAMES,
             Argument {
                 name: "log",
@@ -299,14 +330,21 @@ const SCHEDULE_COMMANDS: [Entry; 3] = [
     },
     Entry {
         name: "chart",
-        about: "Draws the schedule by a priority rule",
-        examples: "Examples:\n  plan chart lft examples/house.sm\n  plan chart mwkr examples/shops.txt ft06",
-        arguments: &[RULE, FILE, INSTANCE_IF_SHOP, NAMES],
+        about: "Draws the schedule by a priority rule, or a given one",
+        examples: "Examples:\n  plan chart lft examples/house.sm\n  plan chart mwkr examples/shops.txt ft06\n  plan chart --starts examples/starts.txt examples/six.sm",
+        arguments: &[
+            RULE,
+            FILE_UNLESS_STARTS,
+            INSTANCE_IF_SHOP,
+            STARTS,
+            CAPACITY_IF_PROJECT,
+            NAMES,
+        ],
     },
     Entry {
         name: "days",
-        about: "Prints the calendar days of the schedule by a priority rule",
-        examples: "Examples:\n  plan days lft 2024-03-01 1111100 examples/house.sm\n  plan days mwkr 2024-03-01 1111100 examples/shops.txt ft06",
+        about: "Prints the calendar days of the schedule by a priority rule, or of a given one",
+        examples: "Examples:\n  plan days lft 2024-03-01 1111100 examples/house.sm\n  plan days mwkr 2024-03-01 1111100 examples/shops.txt ft06\n  plan days --starts examples/starts.txt 2024-03-01 1111100 examples/six.sm",
         arguments: &[
             RULE,
             Argument {
@@ -319,8 +357,10 @@ const SCHEDULE_COMMANDS: [Entry; 3] = [
                 form: Form::Text,
                 help: "seven digits, Monday first: 1 for a working day, 0 for a free day",
             },
-            FILE,
+            FILE_UNLESS_STARTS,
             INSTANCE_IF_SHOP,
+            STARTS,
+            CAPACITY_IF_PROJECT,
             NAMES,
         ],
     },
@@ -480,6 +520,10 @@ fn arg_of<'a>(alloc: Global, argument: &Argument) -> Result<Arg<'a>, AllocError>
         Form::Capacity => arg
             .long(argument.name)
             .value_name("NAME=N")
+            .action(ArgAction::Append),
+        Form::CapacityIfProject => arg
+            .long(argument.name)
+            .value_name("NAME=N")
             .action(ArgAction::Append)
             .conflicts_with("INSTANCE")?,
         Form::ListCapacity => arg
@@ -487,6 +531,11 @@ fn arg_of<'a>(alloc: Global, argument: &Argument) -> Result<Arg<'a>, AllocError>
             .value_name("NAME=N")
             .action(ArgAction::Append)
             .conflicts_with("shop")?,
+        Form::NameUnlessStarts => arg.required_unless_present("starts")?,
+        Form::Starts => arg
+            .long(argument.name)
+            .value_name("STARTS")
+            .conflicts_with("INSTANCE")?,
         Form::Output => arg
             .long(argument.name)
             .value_name("LOG")

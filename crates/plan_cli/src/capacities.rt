@@ -61,6 +61,7 @@ pub(crate) fn replaced(
     capacities: &[u64],
 ) -> Result<Vec<u64>, CliFault>
     ensures ok { IfOk result (λ list. spec.Replaces given.now capacities.now list.items) }
+    ensures whole { IfOk result (λ list. length list.items ≡ length capacities.now) }
     ensures refused { IfErr result (Refuses (spec.TellsUnknown given.now capacities.now)) }
 {
     let mut list = Vec::from_slice(alloc, capacities)?;

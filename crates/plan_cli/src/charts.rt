@@ -1,39 +1,72 @@
-//! `plan chart`: the Gantt charts of schedules by a priority rule.
+//! `plan chart`: the Gantt charts of schedules.
 
-ghost use Rattle.std.specs.Prelude.{IfErr};
+ghost use Rattle.std.specs.Prelude.{◌≡◌, IfErr, length};
+ghost use Rattle.plan_sgs.specs.Instances.{planned};
 ghost use Rattle.plan_shop.specs.Docs.{shop_of};
-ghost use Rattle.plan_gantt.specs.ScheduleText.{TellsRefusal};
 ghost use Rattle.plan_gantt.specs.ShopText.{TellsNoRule};
 ghost use Rattle.plan_cli.specs.Run.{IfText, Refuses};
-ghost use Rattle.plan_cli.specs.ScheduleRun.{as_available, TellsWhyNoSchedule};
+ghost use Rattle.plan_cli.specs.Plans.{IsOfProject, PlannedWith, RefusesFile, RefusesWith};
+ghost use Rattle.plan_cli.specs.Scheduled.{TellsNotMade};
 ghost use Rattle.plan_cli.specs.ShopRun.{TellsWhyNoShop};
-ghost use Rattle.plan_cli.specs.ChartRun.{IsChartBy, IsChartOf, IsShopChartBy, IsShopChartOf};
+ghost use Rattle.plan_cli.specs.ChartRun.{IsChartFrom, IsShopChartBy, IsShopChartOf};
 
+use crate::capacities::{Capacity, replaced};
 use crate::fault::CliFault;
-use crate::projects::{read_project, schedule_by};
+use crate::origins::Origin;
+use crate::projects::{read_project, schedule_from};
 use crate::shops::{read_instance, shop_schedule_by};
 use plan_gantt::{chart, shop_chart};
 use plan_orlib::ShopDoc;
 use plan_psplib::ProjectDoc;
 use std::alloc::Global;
 
-// Returns the chart of a project.
-fn project_text(alloc: Global, name: &str, project: &ProjectDoc) -> Result<String, CliFault>
-    ensures made { IfText result (IsChartBy name.now (as_available project.now)) }
-    ensures refused { IfErr result (Refuses (TellsRefusal name.now (as_available project.now))) }
+// Returns the chart of a project with these capacities.
+fn planned_text(
+    alloc: Global,
+    origin: Origin<'_>,
+    project: &ProjectDoc,
+    capacities: &[u64],
+) -> Result<String, CliFault>
+    requires { length capacities.now ≡ length project.now.available }
+    ensures made { IfText result (IsChartFrom origin.entry (planned project.now capacities.now)) }
+    ensures refused { IfErr result (Refuses
+        (TellsNotMade origin.entry (planned project.now capacities.now))) }
 {
-    let schedule = schedule_by(alloc, name, project)?;
+    let schedule = schedule_from(alloc, origin, project, capacities)?;
     let network = project.network();
     Ok(chart(alloc, network, &schedule.starts, schedule.makespan)?)
 }
 
-/// Returns the chart of the project in a file.
-pub(crate) fn chart_text(alloc: Global, name: &str, file: &[u8]) -> Result<String, CliFault>
-    ensures made { IfText result (IsChartOf name.now file.now) }
-    ensures refused { IfErr result (Refuses (TellsWhyNoSchedule name.now file.now)) }
+// Returns the chart of a project with some capacities replaced.
+fn project_text(
+    alloc: Global,
+    origin: Origin<'_>,
+    given: &[Capacity<'_>],
+    project: &ProjectDoc,
+) -> Result<String, CliFault>
+    ensures made { IfText result (λ text.
+        PlannedWith given.now project.now (λ i. IsChartFrom origin.entry i text)) }
+    ensures refused { IfErr result (Refuses
+        (RefusesWith given.now project.now (TellsNotMade origin.entry))) }
+{
+    let capacities = replaced(alloc, given, project.avail())?;
+    planned_text(alloc, origin, project, &capacities)
+}
+
+/// Returns the chart of the project in a file, with the given capacities in place of those of the
+/// file.
+pub(crate) fn chart_text(
+    alloc: Global,
+    origin: Origin<'_>,
+    given: &[Capacity<'_>],
+    file: &[u8],
+) -> Result<String, CliFault>
+    ensures made { IfText result (IsOfProject given.now (IsChartFrom origin.entry) file.now) }
+    ensures refused { IfErr result (Refuses
+        (RefusesFile given.now (TellsNotMade origin.entry) file.now)) }
 {
     let project = read_project(alloc, file)?;
-    project_text(alloc, name, &project)
+    project_text(alloc, origin, given, &project)
 }
 
 // Returns the chart of a job shop.

@@ -1,6 +1,7 @@
-//! `plan days`: the working days of schedules by a priority rule.
+//! `plan days`: the working days of schedules.
 
-ghost use Rattle.std.specs.Prelude.{IfOk, IfErr};
+ghost use Rattle.std.specs.Prelude.{◌≡◌, IfOk, IfErr, length};
+ghost use Rattle.plan_sgs.specs.Instances.{planned};
 ghost use Rattle.plan_net.specs.Network.{count_of};
 ghost use Rattle.plan_shop.specs.Docs.{shop_of};
 ghost use Rattle.plan_shop.specs.Shop.{count_steps};
@@ -8,12 +9,14 @@ ghost use Rattle.plan_calendar.specs.CalendarText.{IsCalendar};
 ghost use Rattle.plan_gantt.specs.CalendarTable.{IsCalendarTable, HasActivityBeyond};
 ghost use Rattle.plan_gantt.specs.ShopCharts.{IsShopCalendarTable, HasStepBeyond};
 ghost use Rattle.plan_cli.specs.Run.{IfText, Refuses};
-ghost use Rattle.plan_cli.specs.ScheduleRun.{as_available};
+ghost use Rattle.plan_cli.specs.Plans.{IsOfProject, PlannedWith, RefusesFile, RefusesWith};
 ghost use Rattle.plan_cli.specs.Scheduled.{CanBeShown};
 ghost use Rattle.plan_cli.specs.DaysRun as spec;
 
+use crate::capacities::{Capacity, replaced};
 use crate::fault::CliFault;
-use crate::projects::{read_project, schedule_by};
+use crate::origins::Origin;
+use crate::projects::{read_project, schedule_from};
 use crate::refusals::{calendar_refusal, days_refusal};
 use crate::shops::{read_instance, shop_schedule_by};
 use plan_gantt::{Calendar, calendar_table, shop_calendar_table};
@@ -23,6 +26,14 @@ use plan_psplib::ProjectDoc;
 use plan_sgs::Schedule;
 use plan_shop::Shop;
 use std::alloc::Global;
+
+/// The texts of a calendar: its first date, `YYYY-MM-DD` from 1900-01-01 to 2199-12-31, and a mark,
+/// `0` or `1`, for each weekday from Monday on.
+#[derive(Clone, Copy, Debug, Drop)]
+pub struct Dates<'a> {
+    pub start: &'a str,
+    pub marks: &'a str,
+}
 
 // Returns the calendar that a first date and the marks of the weekdays spell.
 fn calendar_of(alloc: Global, start: &str, marks: &str) -> Result<Calendar, CliFault>
@@ -50,38 +61,58 @@ fn schedule_days(
     ))
 }
 
-// Returns the working days of a project.
-fn project_text(
+// Returns the working days of a project with these capacities.
+fn planned_text(
     alloc: Global,
-    name: &str,
-    start: &str,
-    marks: &str,
+    origin: Origin<'_>,
+    dates: Dates<'_>,
     project: &ProjectDoc,
+    capacities: &[u64],
 ) -> Result<String, CliFault>
-    ensures made { IfText result
-        (spec.IsDaysBy name.now start.now marks.now (as_available project.now)) }
-    ensures refused { IfErr result (Refuses
-        (spec.TellsNoProjectDays name.now start.now marks.now (as_available project.now))) }
+    requires { length capacities.now ≡ length project.now.available }
+    ensures made { IfText result (spec.IsDaysFrom origin.entry dates.entry.start.now dates.entry.marks.now
+        (planned project.now capacities.now)) }
+    ensures refused { IfErr result (Refuses (spec.TellsNoDaysFrom
+        origin.entry dates.entry.start.now dates.entry.marks.now (planned project.now capacities.now))) }
 {
-    let schedule = schedule_by(alloc, name, project)?;
-    let calendar = calendar_of(alloc, start, marks)?;
+    let schedule = schedule_from(alloc, origin, project, capacities)?;
+    let calendar = calendar_of(alloc, dates.start, dates.marks)?;
     schedule_days(alloc, project.network(), &schedule, &calendar)
 }
 
-/// Returns the working days of the project in a file.
+// Returns the working days of a project with some capacities replaced.
+fn project_text(
+    alloc: Global,
+    origin: Origin<'_>,
+    dates: Dates<'_>,
+    given: &[Capacity<'_>],
+    project: &ProjectDoc,
+) -> Result<String, CliFault>
+    ensures made { IfText result (λ text. PlannedWith given.now project.now (λ i.
+        spec.IsDaysFrom origin.entry dates.entry.start.now dates.entry.marks.now i text)) }
+    ensures refused { IfErr result (Refuses (RefusesWith given.now project.now
+        (spec.TellsNoDaysFrom origin.entry dates.entry.start.now dates.entry.marks.now))) }
+{
+    let capacities = replaced(alloc, given, project.avail())?;
+    planned_text(alloc, origin, dates, project, &capacities)
+}
+
+/// Returns the working days of the project in a file, with the given capacities in place of those
+/// of the file.
 pub(crate) fn days_text(
     alloc: Global,
-    name: &str,
-    start: &str,
-    marks: &str,
+    origin: Origin<'_>,
+    dates: Dates<'_>,
+    given: &[Capacity<'_>],
     file: &[u8],
 ) -> Result<String, CliFault>
-    ensures made { IfText result (spec.IsDaysOf name.now start.now marks.now file.now) }
-    ensures refused { IfErr result (Refuses
-        (spec.TellsWhyNoDays name.now start.now marks.now file.now)) }
+    ensures made { IfText result (IsOfProject given.now
+        (spec.IsDaysFrom origin.entry dates.entry.start.now dates.entry.marks.now) file.now) }
+    ensures refused { IfErr result (Refuses (RefusesFile given.now
+        (spec.TellsNoDaysFrom origin.entry dates.entry.start.now dates.entry.marks.now) file.now)) }
 {
     let project = read_project(alloc, file)?;
-    project_text(alloc, name, start, marks, &project)
+    project_text(alloc, origin, dates, given, &project)
 }
 
 // Returns the working days of a job shop's schedule.
@@ -103,20 +134,14 @@ fn shop_schedule_days(
 }
 
 // Returns the working days of a job shop.
-fn doc_text(
-    alloc: Global,
-    name: &str,
-    start: &str,
-    marks: &str,
-    doc: &ShopDoc,
-) -> Result<String, CliFault>
+fn doc_text(alloc: Global, name: &str, dates: Dates<'_>, doc: &ShopDoc) -> Result<String, CliFault>
     ensures made { IfText result
-        (spec.IsShopDaysBy name.now start.now marks.now (shop_of doc.now)) }
+        (spec.IsShopDaysBy name.now dates.entry.start.now dates.entry.marks.now (shop_of doc.now)) }
     ensures refused { IfErr result (Refuses
-        (spec.TellsNoShopDays name.now start.now marks.now (shop_of doc.now))) }
+        (spec.TellsNoShopDays name.now dates.entry.start.now dates.entry.marks.now (shop_of doc.now))) }
 {
     let (shop, schedule) = shop_schedule_by(alloc, name, doc)?;
-    let calendar = calendar_of(alloc, start, marks)?;
+    let calendar = calendar_of(alloc, dates.start, dates.marks)?;
     shop_schedule_days(alloc, &shop, &schedule, &calendar)
 }
 
@@ -124,16 +149,15 @@ fn doc_text(
 pub(crate) fn shop_days_text(
     alloc: Global,
     name: &str,
-    start: &str,
-    marks: &str,
+    dates: Dates<'_>,
     instance: &str,
     file: &[u8],
 ) -> Result<String, CliFault>
-    ensures made { IfText result
-        (spec.IsShopDaysOf name.now start.now marks.now instance.now file.now) }
-    ensures refused { IfErr result (Refuses
-        (spec.TellsWhyNoShopDays name.now start.now marks.now instance.now file.now)) }
+    ensures made { IfText result (spec.IsShopDaysOf
+        name.now dates.entry.start.now dates.entry.marks.now instance.now file.now) }
+    ensures refused { IfErr result (Refuses (spec.TellsWhyNoShopDays
+        name.now dates.entry.start.now dates.entry.marks.now instance.now file.now)) }
 {
     let doc = read_instance(alloc, instance, file)?;
-    doc_text(alloc, name, start, marks, &doc)
+    doc_text(alloc, name, dates, &doc)
 }

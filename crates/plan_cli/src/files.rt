@@ -5,11 +5,13 @@ ghost use Rattle.std.specs.Prelude.{IfOk, IfErr, IsErrOf, OnOk};
 ghost use Rattle.plan_io.specs.Devices.{most_calls};
 ghost use Rattle.plan_psplib.specs.Plain.{longest_text};
 ghost use Rattle.plan_cli.specs.Run.{HasSinkFailed};
-ghost use Rattle.plan_cli.specs.Tasks.{DoesTask, DoesCheck, AreRead, bytes_behind};
+ghost use Rattle.plan_cli.specs.Tasks.{DoesTask, AreRead, bytes_behind};
+ghost use Rattle.plan_cli.specs.ListedTasks.{DoesListed};
 
 use crate::bytes::read_file;
 use crate::fault::CliFault;
 use crate::inputs::{Inputs, SystemInputs};
+use crate::listed_tasks::{ListedTask, with_starts};
 use crate::runs::run_task;
 use crate::tasks::{Rows, Task};
 use crate::watchers::{Log, ProofWatcher, SolveWatcher, Unlogged, Unwatched};
@@ -61,18 +63,20 @@ fn read_named<I: Inputs>(alloc: Global, inputs: &I, name: &str) -> Result<Vec<u8
     read_file(alloc, &mut inputs.open(name)?)
 }
 
-/// Runs [`Task::Check`] on the files with these names, one of which may be `-` for standard input.
+/// Runs a task on a project's file and a file of starts, one of which may be `-` for standard input.
 /// The file of the starts is read first. A file that can't be opened or read is
 /// [`CliFault::Input`].
-pub fn check_on_named<I: Inputs, W: Sink>(
+pub fn listed_on_named<I: Inputs, W: Sink>(
     alloc: Global,
     inputs: &I,
+    task: ListedTask<'_>,
+    rows: Rows,
     path: &str,
     starts_path: &str,
     writer: &mut W,
 ) -> Result<(), CliFault>
-    // The verdict is on the starts in the one file, for the project in the other.
-    ensures does { DoesCheck
+    // The text of the task is written for the starts in the one file and the project in the other.
+    ensures does { DoesListed task.entry rows
         (bytes_behind I.Inputs inputs.now starts_path.now)
         (bytes_behind I.Inputs inputs.now path.now)
         (W.taken writer.old) (W.taken writer.new) result }
@@ -83,12 +87,11 @@ pub fn check_on_named<I: Inputs, W: Sink>(
     ensures output { IsErrOf result CliFault.Output → HasSinkFailed W.Sink writer.old writer.new }
 {
     let starts = read_named(alloc, inputs, starts_path)?;
-    let task = Task::Check { starts: &starts };
     run_on_named(
         alloc,
         inputs,
-        task,
-        Rows::Plain,
+        with_starts(task, &starts),
+        rows,
         &mut Unwatched,
         &mut Unlogged,
         path,
@@ -126,24 +129,29 @@ pub fn run_on_file<R: Files + Input + AllocGlobal, W: Sink, V: ProofWatcher + So
     )
 }
 
-/// Calls [`check_on_named`] with the system's files and standard input.
-pub fn check_on_files<R: Files + Input + AllocGlobal, W: Sink>(
+/// Calls [`listed_on_named`] with the system's files and standard input.
+pub fn listed_on_files<R: Files + Input + AllocGlobal, W: Sink>(
     rt: &R,
+    task: ListedTask<'_>,
+    rows: Rows,
     path: &str,
     starts_path: &str,
     writer: &mut W,
 ) -> Result<(), CliFault>
-    // The verdict is on the starts that were read, for the project that was read.
-    ensures does { DoesCheck None None (W.taken writer.old) (W.taken writer.new) result }
+    // The text of the task is written for the starts and the project that were read.
+    ensures does { DoesListed task.entry rows None None
+        (W.taken writer.old) (W.taken writer.new) result }
     ensures writes { W.calls writer.new ≤ W.calls writer.old + most_calls }
     // With any other error than that of the output, nothing is written.
     ensures quiet { IfErr result (λ e. (e ≡ CliFault.Output) ⊎ (writer.new ≡ writer.old)) }
     ensures fine { OnOk result (W.faults writer.new ≡ W.faults writer.old) }
     ensures output { IsErrOf result CliFault.Output → HasSinkFailed W.Sink writer.old writer.new }
 {
-    check_on_named(
+    listed_on_named(
         rt.alloc(),
         &SystemInputs::new(rt),
+        task,
+        rows,
         path,
         starts_path,
         writer,

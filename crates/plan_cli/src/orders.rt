@@ -1,6 +1,9 @@
 //! The orders that the arguments of the command line spell.
 
 use crate::capacities::Capacity;
+use crate::days::Dates;
+use crate::listed_tasks::ListedTask;
+use crate::origins::Origin;
 use crate::tasks::{Rows, Task};
 use crate::templates::Template;
 use clap::ArgMatches;
@@ -32,8 +35,9 @@ pub enum FileOrder<'a> {
         seconds: Option<u32>,
         log: Option<&'a str>,
     },
-    /// The verdict on the starts in one file, for the project in another.
-    Check {
+    /// A task on the project in one file and the starts in another.
+    Listed {
+        task: ListedTask<'a>,
         file: &'a str,
         starts: &'a str,
     },
@@ -57,11 +61,11 @@ impl<'a> FileOrder<'a> {
         match self {
             FileOrder::Task(_, path) | FileOrder::Watched(_, path) => Some(shown_name(path)),
             FileOrder::Solve { file, .. } => Some(shown_name(file)),
-            FileOrder::Check { starts, .. } if line.ends_with(" of the starts") => {
+            FileOrder::Listed { starts, .. } if line.ends_with(" of the starts") => {
                 Some(shown_name(starts))
             }
-            FileOrder::Check { file, .. } if line != "I1 file" => Some(shown_name(file)),
-            FileOrder::Check { .. } | FileOrder::New(_) | FileOrder::Explain(_) => None,
+            FileOrder::Listed { file, .. } if line != "I1 file" => Some(shown_name(file)),
+            FileOrder::Listed { .. } | FileOrder::New(_) | FileOrder::Explain(_) => None,
         }
     }
 }
@@ -119,39 +123,58 @@ pub enum Order<'a> {
 }
 
 // Returns the task of `chart`: that of a job shop if an instance is given, else of a project.
-fn chart_task<'a>(arguments: &'a ArgMatches<'_>) -> Option<Task<'a>> {
+fn chart_task<'a>(
+    arguments: &'a ArgMatches<'_>,
+    capacities: &'a [Capacity<'a>],
+) -> Option<Task<'a>> {
     let rule = arguments.get_str("RULE")?;
     Some(match arguments.get_str("INSTANCE") {
         Some(instance) => Task::ShopChart { rule, instance },
-        None => Task::Chart { rule },
+        None => Task::Chart {
+            origin: Origin::Rule(rule),
+            capacities,
+        },
     })
 }
 
 // Returns the task of `days`: that of a job shop if an instance is given, else of a project.
-fn days_task<'a>(arguments: &'a ArgMatches<'_>) -> Option<Task<'a>> {
+fn days_task<'a>(
+    arguments: &'a ArgMatches<'_>,
+    capacities: &'a [Capacity<'a>],
+) -> Option<Task<'a>> {
     let rule = arguments.get_str("RULE")?;
-    let start = arguments.get_str("START")?;
-    let marks = arguments.get_str("MARKS")?;
+    let dates = Dates {
+        start: arguments.get_str("START")?,
+        marks: arguments.get_str("MARKS")?,
+    };
     Some(match arguments.get_str("INSTANCE") {
         Some(instance) => Task::ShopDays {
             rule,
-            start,
-            marks,
+            dates,
             instance,
         },
-        None => Task::Days { rule, start, marks },
+        None => Task::Days {
+            origin: Origin::Rule(rule),
+            dates,
+            capacities,
+        },
     })
 }
 
 // Returns the task of the command with this name.
-fn task_of<'a>(name: &str, arguments: &'a ArgMatches<'_>) -> Option<Task<'a>> {
+fn task_of<'a>(
+    name: &str,
+    arguments: &'a ArgMatches<'_>,
+    capacities: &'a [Capacity<'a>],
+) -> Option<Task<'a>> {
     match name {
         "cpm" => Some(Task::Dates),
         "names" => Some(Task::Names),
-        "chart" => chart_task(arguments),
-        "days" => days_task(arguments),
+        "chart" => chart_task(arguments, capacities),
+        "days" => days_task(arguments, capacities),
         "schedule" => Some(Task::Schedule {
             rule: arguments.get_str("RULE")?,
+            capacities,
         }),
         "shop" => Some(Task::Shop {
             rule: arguments.get_str("RULE")?,
@@ -163,6 +186,7 @@ fn task_of<'a>(name: &str, arguments: &'a ArgMatches<'_>) -> Option<Task<'a>> {
         }),
         "best-project" => Some(Task::BestProject {
             budget: arguments.get_str("BUDGET")?,
+            capacities,
         }),
         _ => None,
     }
@@ -211,6 +235,14 @@ fn capacity_of(text: &str) -> Option<Capacity<'_>> {
     }
 }
 
+// Returns the arguments of a command that has the option `capacity` for the resources of a file.
+fn planning<'a, 'b>(matches: &'a ArgMatches<'b>) -> Option<&'a ArgMatches<'b>> {
+    match matches.subcommand()? {
+        ("schedule" | "best-project" | "solve" | "chart" | "days", arguments) => Some(arguments),
+        _ => None,
+    }
+}
+
 /// Returns the capacities that the arguments give, in their order, or the first text that gives
 /// none.
 pub fn capacities_of<'a>(
@@ -218,7 +250,7 @@ pub fn capacities_of<'a>(
     matches: &'a ArgMatches<'_>,
 ) -> Result<Result<Vec<Capacity<'a>>, &'a str>, AllocError> {
     let mut capacities = Vec::new(alloc);
-    let Some(("solve", arguments)) = matches.subcommand() else {
+    let Some(arguments) = planning(matches) else {
         return Ok(Ok(capacities));
     };
     for text in arguments.get_strs("capacity").unwrap_or(&[]) {
@@ -334,6 +366,59 @@ fn import_order<'a>(
     Some(FileOrder::Task(task, arguments.get_str("FILE")?))
 }
 
+// Returns the order of `chart` with a list of starts: FILE is the first argument.
+fn listed_chart<'a>(
+    arguments: &'a ArgMatches<'_>,
+    starts: &'a str,
+    capacities: &'a [Capacity<'a>],
+) -> Option<FileOrder<'a>> {
+    Some(FileOrder::Listed {
+        task: ListedTask::Chart { capacities },
+        file: arguments.get_str("RULE")?,
+        starts,
+    })
+}
+
+// Returns the order of `days` with a list of starts: START is the first argument.
+fn listed_days<'a>(
+    arguments: &'a ArgMatches<'_>,
+    starts: &'a str,
+    capacities: &'a [Capacity<'a>],
+) -> Option<FileOrder<'a>> {
+    let dates = Dates {
+        start: arguments.get_str("RULE")?,
+        marks: arguments.get_str("START")?,
+    };
+    Some(FileOrder::Listed {
+        task: ListedTask::Days { dates, capacities },
+        file: arguments.get_str("MARKS")?,
+        starts,
+    })
+}
+
+// Returns the order of `chart` or `days` if it has a list of starts.
+fn listed_order<'a>(
+    name: &str,
+    arguments: &'a ArgMatches<'_>,
+    capacities: &'a [Capacity<'a>],
+) -> Option<FileOrder<'a>> {
+    match name {
+        "chart" => listed_chart(arguments, arguments.get_str("starts")?, capacities),
+        "days" => listed_days(arguments, arguments.get_str("starts")?, capacities),
+        _ => None,
+    }
+}
+
+// Returns the order of a command with a task on one file.
+fn plain_order<'a>(
+    name: &str,
+    arguments: &'a ArgMatches<'_>,
+    capacities: &'a [Capacity<'a>],
+) -> Option<FileOrder<'a>> {
+    let task = task_of(name, arguments, capacities)?;
+    Some(FileOrder::Task(task, arguments.get_str("FILE")?))
+}
+
 // Returns the order of any other command.
 fn file_order<'a>(
     name: &str,
@@ -347,11 +432,15 @@ fn file_order<'a>(
         "explain" => Some(FileOrder::Explain(arguments.get_strs("CODE")?)),
         "prove" => proof_order(arguments),
         "solve" => solve_order(arguments, capacities),
-        "check" => Some(FileOrder::Check {
+        "check" => Some(FileOrder::Listed {
+            task: ListedTask::Check,
             file: arguments.get_str("FILE")?,
             starts: arguments.get_str("STARTS")?,
         }),
-        _ => Some(FileOrder::Task(task_of(name, arguments)?, arguments.get_str("FILE")?)),
+        _ => match listed_order(name, arguments, capacities) {
+            Some(order) => Some(order),
+            None => plain_order(name, arguments, capacities),
+        },
     }
 }
 

@@ -102,7 +102,10 @@ pub fn schedule_run<R: Source, W: Sink>(
 {
     run_task(
         alloc,
-        Task::Schedule { rule },
+        Task::Schedule {
+            rule,
+            capacities: &[],
+        },
         Rows::Plain,
         &mut Unwatched,
         &mut Unlogged,
@@ -170,7 +173,10 @@ pub fn best_project_run<R: Source, W: Sink>(
 {
     run_task(
         alloc,
-        Task::BestProject { budget },
+        Task::BestProject {
+            budget,
+            capacities: &[],
+        },
         Rows::Plain,
         &mut Unwatched,
         &mut Unlogged,

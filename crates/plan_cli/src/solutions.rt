@@ -1,17 +1,19 @@
 //! `plan best` and `plan best-project`: the best schedules that a search within a budget finds.
 
-ghost use Rattle.std.specs.Prelude.{IfErr};
+ghost use Rattle.std.specs.Prelude.{◌≡◌, IfErr, length};
+ghost use Rattle.plan_sgs.specs.Instances.{planned};
 ghost use Rattle.plan_shop.specs.Docs.{shop_of};
 ghost use Rattle.plan_gantt.specs.ShopBestText.{IsBestBy, IsBestTextOf, TellsBestRefusal};
 ghost use Rattle.plan_gantt.specs.ProjectBestText.{IsBestProjectBy, IsBestProjectTextOf};
 ghost use Rattle.plan_gantt.specs.ProjectBestText.{TellsNoBestProject, TellsBestProjectRefusal};
 ghost use Rattle.plan_cli.specs.Run.{IfText, Refuses};
-ghost use Rattle.plan_cli.specs.ScheduleRun.{as_available};
+ghost use Rattle.plan_cli.specs.Plans.{IsOfProject, PlannedWith, RefusesFile, RefusesWith};
 ghost use Rattle.plan_cli.specs.BestRun.{IsBestTableOf, TellsSolvingRefusal, TellsWhyNoBest};
 ghost use Rattle.plan_cli.specs.BestProjectRun as projects;
 
+use crate::capacities::{Capacity, replaced};
 use crate::fault::CliFault;
-use crate::projects::{instance_of, read_project};
+use crate::projects::{instance_with, read_project};
 use crate::refusals::exact_refusal;
 use crate::shops::{open_shop, read_instance};
 use plan_exact::{parse_budget, solve_project, solve_shop};
@@ -77,25 +79,51 @@ fn instance_text(alloc: Global, budget: &str, instance: &Instance) -> Result<Str
     solved_text(alloc, budget, instance)
 }
 
-// Returns the text of the best schedule of a project.
-fn project_text(alloc: Global, budget: &str, project: &ProjectDoc) -> Result<String, CliFault>
-    ensures made { IfText result (IsBestProjectTextOf budget.now (as_available project.now)) }
+// Returns the text of the best schedule of a project with these capacities.
+fn planned_text(
+    alloc: Global,
+    budget: &str,
+    project: &ProjectDoc,
+    capacities: &[u64],
+) -> Result<String, CliFault>
+    requires { length capacities.now ≡ length project.now.available }
+    ensures made { IfText result
+        (IsBestProjectTextOf budget.now (planned project.now capacities.now)) }
     ensures refused { IfErr result (Refuses
-        (TellsBestProjectRefusal budget.now (as_available project.now))) }
+        (TellsBestProjectRefusal budget.now (planned project.now capacities.now))) }
 {
-    let instance = instance_of(alloc, project)?;
+    let instance = instance_with(alloc, project, capacities)?;
     instance_text(alloc, budget, &instance)
 }
 
-/// Returns the text of the best schedule of the project in a file.
+// Returns the text of the best schedule of a project with some capacities replaced.
+fn project_text(
+    alloc: Global,
+    budget: &str,
+    given: &[Capacity<'_>],
+    project: &ProjectDoc,
+) -> Result<String, CliFault>
+    ensures made { IfText result (λ text.
+        PlannedWith given.now project.now (λ i. IsBestProjectTextOf budget.now i text)) }
+    ensures refused { IfErr result (Refuses
+        (RefusesWith given.now project.now (TellsBestProjectRefusal budget.now))) }
+{
+    let capacities = replaced(alloc, given, project.avail())?;
+    planned_text(alloc, budget, project, &capacities)
+}
+
+/// Returns the text of the best schedule of the project in a file, with the given capacities in
+/// place of those of the file.
 pub(crate) fn project_best_text(
     alloc: Global,
     budget: &str,
+    given: &[Capacity<'_>],
     file: &[u8],
 ) -> Result<String, CliFault>
-    ensures made { IfText result (projects.IsBestProjectTableOf budget.now file.now) }
-    ensures refused { IfErr result (Refuses (projects.TellsWhyNoBestProject budget.now file.now)) }
+    ensures made { IfText result (IsOfProject given.now (IsBestProjectTextOf budget.now) file.now) }
+    ensures refused { IfErr result (Refuses
+        (RefusesFile given.now (TellsBestProjectRefusal budget.now) file.now)) }
 {
     let project = read_project(alloc, file)?;
-    project_text(alloc, budget, &project)
+    project_text(alloc, budget, given, &project)
 }

@@ -10,6 +10,7 @@ ghost use Rattle.plan_gantt.specs.Limits.{latest_start};
 ghost use Rattle.plan_cli.specs.Run.{IfText, Refuses};
 ghost use Rattle.plan_sgs.specs.Instances.{planned};
 ghost use Rattle.plan_cli.specs.ScheduleRun.{TellsNeed};
+ghost use Rattle.plan_cli.specs.Plans.{PlannedWith, RefusesWith};
 ghost use Rattle.plan_cli.specs.SolveRun as spec;
 
 use crate::capacities::{Capacity, replaced};
@@ -101,8 +102,9 @@ fn project_text<V: SolveWatcher, L: Log>(
     watcher: &mut V,
     log: &mut L,
 ) -> Result<String, CliFault>
-    ensures made { IfText result (spec.IsSolvedWith given.now project.now) }
-    ensures refused { IfErr result (Refuses (spec.TellsWhyNotPlanned given.now project.now)) }
+    ensures made { IfText result (λ text.
+        PlannedWith given.now project.now (λ i. spec.IsSolvedBy i text)) }
+    ensures refused { IfErr result (Refuses (RefusesWith given.now project.now TellsNeed)) }
 {
     let capacities = replaced(alloc, given, project.avail())?;
     planned_text(alloc, conflicts, project, &capacities, watcher, log)

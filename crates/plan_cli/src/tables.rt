@@ -1,14 +1,16 @@
 //! `plan cpm`, `plan schedule` and `plan shop`: the tables of dates and of schedules.
 
-ghost use Rattle.std.specs.Prelude.{IfErr};
+ghost use Rattle.std.specs.Prelude.{◌≡◌, IfErr, length};
 ghost use Rattle.plan_shop.specs.Docs.{shop_of};
 ghost use Rattle.plan_gantt.specs.FirstFaults.{TellsFirstFailing};
 ghost use Rattle.plan_gantt.specs.ScheduleText.{IsScheduleTextOf, TellsRefusal};
 ghost use Rattle.plan_gantt.specs.ShopText.{IsShopTextOf, TellsNoRule};
 ghost use Rattle.plan_cli.specs.Run.{IfText, IsDateTableOf, Refuses};
-ghost use Rattle.plan_cli.specs.ScheduleRun.{as_available, IsScheduleTableOf, TellsWhyNoSchedule};
+ghost use Rattle.plan_sgs.specs.Instances.{planned};
+ghost use Rattle.plan_cli.specs.Plans.{IsOfProject, PlannedWith, RefusesFile, RefusesWith};
 ghost use Rattle.plan_cli.specs.ShopRun.{IsShopTableOf, TellsWhyNoShop};
 
+use crate::capacities::{Capacity, replaced};
 use crate::fault::CliFault;
 use crate::projects::{read_project, schedule_by};
 use crate::shops::{read_instance, shop_schedule_by};
@@ -29,23 +31,53 @@ pub(crate) fn date_text(alloc: Global, file: &[u8]) -> Result<String, CliFault>
     Ok(date_table(alloc, network, &dates)?)
 }
 
-// Returns the schedule table of a project.
-fn project_text(alloc: Global, name: &str, project: &ProjectDoc) -> Result<String, CliFault>
-    ensures made { IfText result (IsScheduleTextOf name.now (as_available project.now)) }
-    ensures refused { IfErr result (Refuses (TellsRefusal name.now (as_available project.now))) }
+// Returns the schedule table of a project with these capacities.
+fn planned_text(
+    alloc: Global,
+    name: &str,
+    project: &ProjectDoc,
+    capacities: &[u64],
+) -> Result<String, CliFault>
+    requires { length capacities.now ≡ length project.now.available }
+    ensures made { IfText result (IsScheduleTextOf name.now (planned project.now capacities.now)) }
+    ensures refused { IfErr result (Refuses
+        (TellsRefusal name.now (planned project.now capacities.now))) }
 {
-    let schedule = schedule_by(alloc, name, project)?;
+    let schedule = schedule_by(alloc, name, project, capacities)?;
     let network = project.network();
     Ok(schedule_table(alloc, network, &schedule.starts, schedule.makespan)?)
 }
 
-/// Returns the schedule table of the project in a file.
-pub(crate) fn schedule_text(alloc: Global, name: &str, file: &[u8]) -> Result<String, CliFault>
-    ensures made { IfText result (IsScheduleTableOf name.now file.now) }
-    ensures refused { IfErr result (Refuses (TellsWhyNoSchedule name.now file.now)) }
+// Returns the schedule table of a project with some capacities replaced.
+fn project_text(
+    alloc: Global,
+    name: &str,
+    given: &[Capacity<'_>],
+    project: &ProjectDoc,
+) -> Result<String, CliFault>
+    ensures made { IfText result (λ text.
+        PlannedWith given.now project.now (λ i. IsScheduleTextOf name.now i text)) }
+    ensures refused { IfErr result (Refuses
+        (RefusesWith given.now project.now (TellsRefusal name.now))) }
+{
+    let capacities = replaced(alloc, given, project.avail())?;
+    planned_text(alloc, name, project, &capacities)
+}
+
+/// Returns the schedule table of the project in a file, with the given capacities in place of those
+/// of the file.
+pub(crate) fn schedule_text(
+    alloc: Global,
+    name: &str,
+    given: &[Capacity<'_>],
+    file: &[u8],
+) -> Result<String, CliFault>
+    ensures made { IfText result (IsOfProject given.now (IsScheduleTextOf name.now) file.now) }
+    ensures refused { IfErr result (Refuses
+        (RefusesFile given.now (TellsRefusal name.now) file.now)) }
 {
     let project = read_project(alloc, file)?;
-    project_text(alloc, name, &project)
+    project_text(alloc, name, given, &project)
 }
 
 // Returns the schedule table of a job shop.

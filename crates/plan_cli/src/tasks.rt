@@ -7,10 +7,11 @@ ghost use Rattle.plan_cli.specs.Tasks.{IsTextOf, IsLineOf, ShowsTask, names_for}
 
 use crate::capacities::Capacity;
 use crate::charts::{chart_text, shop_chart_text};
-use crate::days::{days_text, shop_days_text};
+use crate::days::{Dates, days_text, shop_days_text};
 use crate::fault::CliFault;
 use crate::imports::{import_text, shop_import_text};
 use crate::names::names_text;
+use crate::origins::Origin;
 use crate::proof::proof_text;
 use crate::row_names::with_names;
 use crate::solutions::{project_best_text, shop_best_text};
@@ -33,13 +34,18 @@ pub enum Task<'a> {
     /// The schedule table of a project by a rule: `lft`, `slk`, `spt`, `mts` or `num` (serial
     /// schedule generation, Kelley 1963; rules, Kolisch 1996). Errors of the schedule: `S1` (a need
     /// above the capacity), `S3` (unknown rule).
+    /// The given capacities replace those of the file, here and in other tasks that have them.
+    /// Error: `S8` (no such resource), before the others.
     Schedule {
         rule: &'a str,
+        capacities: &'a [Capacity<'a>],
     },
-    /// The Gantt chart of that schedule: the time units of a cell, and a line of cells for each
-    /// activity.
+    /// The Gantt chart of a project's schedule: the time units of a cell, and a line of cells for
+    /// each activity. Errors of starts that are listed: those of [`Task::Check`], then the verdict
+    /// if they aren't feasible.
     Chart {
-        rule: &'a str,
+        origin: Origin<'a>,
+        capacities: &'a [Capacity<'a>],
     },
     /// The Gantt chart of a job shop's schedule: a line of cells for each machine.
     ShopChart {
@@ -47,19 +53,17 @@ pub enum Task<'a> {
         instance: &'a str,
     },
     /// The working days of a project's schedule, those of the first and of the last time unit of
-    /// each activity. A time unit is a working day. The calendar has a first date, `YYYY-MM-DD`
-    /// from 1900-01-01 to 2199-12-31, and a mark, `0` or `1`, for each weekday from Monday on.
-    /// Errors of the calendar: `G1` (the date), `G2` (the marks), `G3` (a day after 9999-12-31).
+    /// each activity. A time unit is a working day. Errors of the calendar: `G1` (the date), `G2`
+    /// (the marks), `G3` (a day after 9999-12-31).
     Days {
-        rule: &'a str,
-        start: &'a str,
-        marks: &'a str,
+        origin: Origin<'a>,
+        dates: Dates<'a>,
+        capacities: &'a [Capacity<'a>],
     },
     /// The working days of a job shop's schedule, those of each step.
     ShopDays {
         rule: &'a str,
-        start: &'a str,
-        marks: &'a str,
+        dates: Dates<'a>,
         instance: &'a str,
     },
     /// The names of the instances in a job shop file, one on each line, in the order of the file. A
@@ -98,6 +102,7 @@ pub enum Task<'a> {
     /// [`Task::Best`]. Errors: `S1`, then `S5` (more than 40 activities), `S6`.
     BestProject {
         budget: &'a str,
+        capacities: &'a [Capacity<'a>],
     },
     /// A schedule of a project and a lower bound of its least makespan, which a search of at most
     /// this many conflicts finds (lazy clause generation, Ohrimenko, Stuckey and Codish 2009). A
@@ -145,11 +150,17 @@ fn text_of<V: ProofWatcher + SolveWatcher, L: Log>(
 {
     match task {
         Task::Dates => Ok(date_text(alloc, file)?.into_bytes()),
-        Task::Schedule { rule } => Ok(schedule_text(alloc, rule, file)?.into_bytes()),
-        Task::Chart { rule } => Ok(chart_text(alloc, rule, file)?.into_bytes()),
-        Task::Days { rule, start, marks } => Ok(days_text(
-            alloc, rule, start, marks, file,
+        Task::Schedule { rule, capacities } => Ok(schedule_text(
+            alloc, rule, capacities, file,
         )?.into_bytes()),
+        Task::Chart { origin, capacities } => Ok(chart_text(
+            alloc, origin, capacities, file,
+        )?.into_bytes()),
+        Task::Days {
+            origin,
+            dates,
+            capacities,
+        } => Ok(days_text(alloc, origin, dates, capacities, file)?.into_bytes()),
         Task::Solve {
             conflicts,
             capacities,
@@ -158,7 +169,9 @@ fn text_of<V: ProofWatcher + SolveWatcher, L: Log>(
             conflicts,
             instance,
         } => Ok(shop_solution_text(alloc, conflicts, instance, file, watcher)?.into_bytes()),
-        Task::BestProject { budget } => Ok(project_best_text(alloc, budget, file)?.into_bytes()),
+        Task::BestProject { budget, capacities } => Ok(project_best_text(
+            alloc, budget, capacities, file,
+        )?.into_bytes()),
         Task::Check { starts } => Ok(check_text(alloc, starts, file)?.into_bytes()),
         Task::Shop { rule, instance } => Ok(shop_text(alloc, rule, instance, file)?.into_bytes()),
         Task::ShopChart { rule, instance } => Ok(shop_chart_text(
@@ -166,10 +179,9 @@ fn text_of<V: ProofWatcher + SolveWatcher, L: Log>(
         )?.into_bytes()),
         Task::ShopDays {
             rule,
-            start,
-            marks,
+            dates,
             instance,
-        } => Ok(shop_days_text(alloc, rule, start, marks, instance, file)?.into_bytes()),
+        } => Ok(shop_days_text(alloc, rule, dates, instance, file)?.into_bytes()),
         Task::Best { budget, instance } => Ok(shop_best_text(
             alloc, budget, instance, file,
         )?.into_bytes()),

@@ -1,12 +1,16 @@
 //! `plan check`: the first fault in a list of a project's starts, or that they are active.
 
-ghost use Rattle.std.specs.Prelude.{◌≡◌, IfOk, IfErr, string_bytes};
+ghost use Rattle.std.specs.Prelude.{◌≡◌, All, IfOk, IfErr, length, string_bytes};
+ghost use Rattle.plan_net.specs.Network.{count_of};
+ghost use Rattle.plan_profile.specs.Usage.{IsInTime};
+ghost use Rattle.plan_sgs.specs.Instances.{problem_of};
+ghost use Rattle.plan_sgs.specs.Problem.{IsFeasible};
 ghost use Rattle.plan_cli.specs.Run.{IfText, Refuses};
 ghost use Rattle.plan_cli.specs.ScheduleRun.{as_available};
 ghost use Rattle.plan_cli.specs.VerdictText.{sentence_of, verdict_text_of, broken_text, over_text};
 ghost use Rattle.plan_cli.specs.CheckRun as spec;
 
-use crate::fault::CliFault;
+use crate::fault::{CliFault, refusal_by};
 use crate::projects::{instance_of, read_project};
 use crate::starts::read_starts;
 use plan_psplib::ProjectDoc;
@@ -50,6 +54,25 @@ fn verdict_text(alloc: Global, verdict: Verdict) -> Result<String, AllocError>
     let mut text = sentence(alloc, verdict)?;
     text.push_str("\n")?;
     Ok(text)
+}
+
+/// Refuses a list of starts that isn't feasible, with its first verdict.
+pub(crate) fn check_feasible(
+    alloc: Global,
+    instance: &Instance,
+    starts: &[u64],
+) -> Result<(), CliFault>
+    requires whole { length starts.now ≡ count_of instance.now.project.network }
+    requires limit { All IsInTime starts.now }
+    ensures ok { IfOk result (λ _. IsFeasible (problem_of instance.now) starts.now) }
+    ensures refused { IfErr result (Refuses
+        (spec.TellsWhyInfeasible (problem_of instance.now) starts.now)) }
+{
+    let verdict = check(alloc, instance, starts).map_err(|_| CliFault::Memory)?;
+    match verdict {
+        Verdict::Arc(_, _) | Verdict::Over(_, _) => Err(refusal_by(sentence(alloc, verdict))),
+        Verdict::Shift(_) | Verdict::Active => Ok(()),
+    }
 }
 
 // Returns the verdict on the starts in a text, for an instance.

@@ -1,0 +1,32 @@
+-- Tasks on a project and a list of starts, each in a file (docs/definitions.md, "Runs").
+use Rattle.std.specs.Prelude.{◌≡◌, ℕ, ◌+◌, ◌≤◌, List, Option, Result, Err, length}
+use Rattle.plan_psplib.specs.Plain.{longest_text}
+use Rattle.plan_cli.specs.Tasks.{AreRead, DoesTask}
+use Rattle.plan_cli.specs.declared.fault.CliFault.{CliFault}
+use Rattle.plan_cli.specs.declared.fault.CliFault.TheVariants as fault
+use Rattle.plan_cli.specs.declared.listed_tasks.ListedTask.{ListedTask}
+use Rattle.plan_cli.specs.declared.listed_tasks.ListedTask.TheVariants as listed
+use Rattle.plan_cli.specs.declared.origins.Origin.TheVariants as origin
+use Rattle.plan_cli.specs.declared.tasks.Rows.{Rows}
+use Rattle.plan_cli.specs.declared.tasks.Task.{Task}
+use Rattle.plan_cli.specs.declared.tasks.Task.TheVariants as task
+
+-- a task is this one with the starts in a text
+abbrev pub HasStarts : ListedTask → List ℕ → Task → Type 0
+HasStarts listed.Check text (task.Check starts) = starts.now ≡ text
+HasStarts (listed.Chart given) text (task.Chart (origin.Starts starts) capacities) =
+    (capacities ≡ given) × (starts.now ≡ text)
+HasStarts (listed.Days dates given) text (task.Days (origin.Starts starts) shown capacities) =
+    (shown ≡ dates) × (capacities ≡ given) × (starts.now ≡ text)
+HasStarts _ text _ = ⊥
+
+-- Unless the input fails or memory runs out, the task does what it does for the starts that were
+-- read and the project that was read. At most one byte more than the longest text is read of each.
+abbrev pub DoesListed : ListedTask → Rows → Option (List ℕ) → Option (List ℕ) → Option (List ℕ)
+    → Option (List ℕ) → Result (Unit {0}) CliFault → Type 0
+DoesListed t rows starts file taken after (Err fault.Memory) = Unit {0}
+DoesListed t rows starts file taken after (Err fault.Input) = Unit {0}
+DoesListed t rows starts file taken after result =
+    (text : List ℕ) × (length text ≤ longest_text + 1) × AreRead text starts
+    × ((with_starts : Task) × HasStarts t text with_starts
+    × DoesTask with_starts rows file taken after result)

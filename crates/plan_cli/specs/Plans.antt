@@ -1,0 +1,29 @@
+-- Texts and lines for the project in a file, with given capacities in place of those of the file
+-- (docs/definitions.md, "Runs").
+use Rattle.std.specs.Prelude.{◌⊎◌, ℕ, List}
+use Rattle.plan_psplib.specs.Project.{Project, SaysProject}
+use Rattle.plan_sgs.specs.Instances.{Planned, planned}
+use Rattle.plan_gantt.specs.FirstFaults.{TellsFirstFailing}
+use Rattle.plan_cli.specs.Capacities.{Replaces, TellsUnknown}
+use Rattle.plan_cli.specs.declared.capacities.Capacity.{Capacity}
+
+-- this holds of the instance of a project with given capacities
+abbrev pub PlannedWith : List Capacity → Project → (Planned → Type 0) → Type 0
+PlannedWith given p Holds =
+    (capacities : List ℕ) × Replaces given p.available capacities × Holds (planned p capacities)
+
+-- a line gives the first given capacity of a resource that a project lacks, or else it refuses the
+-- project with these capacities
+abbrev pub RefusesWith : List Capacity → Project → (Planned → List ℕ → Type 0) → List ℕ → Type 0
+RefusesWith given p IsLine line =
+    TellsUnknown given p.available line ⊎ PlannedWith given p (λ i. IsLine i line)
+
+-- a text is one for the project in a file, with given capacities
+abbrev pub IsOfProject : List Capacity → (Planned → List ℕ → Type 0) → List ℕ → List ℕ → Type 0
+IsOfProject given IsText file text =
+    (p : Project) × SaysProject file p × PlannedWith given p (λ i. IsText i text)
+
+-- a line gives the first check that a file fails, or else refuses its project
+abbrev pub RefusesFile : List Capacity → (Planned → List ℕ → Type 0) → List ℕ → List ℕ → Type 0
+RefusesFile given IsLine file line = TellsFirstFailing file line
+    ⊎ ((p : Project) × SaysProject file p × RefusesWith given p IsLine line)

@@ -1,0 +1,10 @@
+//! Where a schedule comes from.
+
+/// The schedule that a text shows.
+#[derive(Clone, Copy, Debug, Drop)]
+pub enum Origin<'a> {
+    /// The schedule by the priority rule with this name.
+    Rule(&'a str),
+    /// The feasible schedule whose starts a text lists, one for each activity in order.
+    Starts(&'a [u8]),
+}

@@ -1,0 +1,4 @@
+pub mod MoveLemmas
+pub mod CandidateLemmas
+pub mod SlackLemmas
+pub mod DueLemmas

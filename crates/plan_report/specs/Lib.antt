@@ -1,0 +1,2 @@
+pub mod Slack
+pub use Rattle.plan_sgs.specs.Problem

@@ -1,0 +1,212 @@
+//! The slack of activities in a schedule.
+
+ghost use Rattle.std.specs.Prelude.{◌≡◌, ◌+◌, ◌-◌, ◌≤◌, ◌↔◌, length, get_or, All, IfOk, IfErr};
+ghost use Rattle.std.specs.Prelude.{IsTrue};
+ghost use Rattle.plan_net.specs.Network.{IsActivity, count_of};
+ghost use Rattle.plan_profile.specs.Usage.{IsInTime};
+ghost use Rattle.plan_sgs.specs.Checks.{HoldsBefore};
+ghost use Rattle.plan_sgs.specs.Instances.{problem_of};
+ghost use Rattle.plan_sgs.specs.Placement.{greatest_end};
+ghost use Rattle.plan_sgs.specs.Problem as problem;
+ghost use Rattle.plan_sgs.specs.Problem.{IsFeasible, KeepsCapacities, all_placed, duration};
+ghost use Rattle.plan_report.specs.Slack.{AreSlacks, HasRoomAt, IsDue, IsLatestStart, IsSlack};
+ghost use Rattle.plan_report.specs.Slack.{RefusesSlack};
+
+use plan_profile::{END, Profile};
+use plan_sgs::{Instance, Verdict, check};
+use std::alloc::{AllocError, AllocFailed, Global};
+use thiserror::Error;
+
+/// Why a list of starts has no slack.
+#[derive(Debug, Drop, Error)]
+pub enum SlackFault {
+    /// Memory ran out.
+    #[error("no memory")]
+    NoMemory,
+    /// The starts aren't feasible. The verdict is `Arc` or `Over`.
+    #[error("the schedule isn't feasible")]
+    NotFeasible(Verdict),
+    /// The schedule ends after 10,000,000.
+    #[error("the schedule ends after 10000000")]
+    Late,
+}
+
+impl From<AllocError> for SlackFault {
+    ghost use Rattle.std.specs.Prelude.{◌≡◌};
+    ghost use Rattle.plan_report.specs.declared.slack.SlackFault.TheVariants.{NoMemory};
+
+    ghost from_gives = { λ _ fault. fault ≡ NoMemory };
+
+    fn from(_error: AllocError) -> Self {
+        SlackFault::NoMemory
+    }
+}
+
+impl<T: Drop> From<AllocFailed<T>> for SlackFault {
+    ghost use Rattle.std.specs.Prelude.{◌≡◌};
+    ghost use Rattle.plan_report.specs.declared.slack.SlackFault.TheVariants.{NoMemory};
+
+    ghost from_gives = { λ _ fault. fault ≡ NoMemory };
+
+    fn from(_error: AllocFailed<T>) -> Self {
+        SlackFault::NoMemory
+    }
+}
+
+// Fails if a list of starts isn't feasible.
+fn check_feasible(alloc: Global, instance: &Instance, starts: &[u64]) -> Result<(), SlackFault>
+    requires whole { length starts.now ≡ count_of instance.now.project.network }
+    requires limit { All IsInTime starts.now }
+    ensures ok { IfOk result (λ _. IsFeasible (problem_of instance.now) starts.now) }
+    ensures refused { IfErr result (RefusesSlack (problem_of instance.now) starts.now) }
+{
+    let Ok(verdict) = check(alloc, instance, starts) else {
+        return Err(SlackFault::NoMemory);
+    };
+    match verdict {
+        Verdict::Arc(_, _) => Err(SlackFault::NotFeasible(verdict)),
+        Verdict::Over(_, _) => Err(SlackFault::NotFeasible(verdict)),
+        Verdict::Shift(_) => Ok(()),
+        Verdict::Active => Ok(()),
+    }
+}
+
+/// Returns the makespan of a list of starts: the greatest end of an activity, in whole time units.
+pub fn makespan_of(instance: &Instance, starts: &[u64]) -> u64
+    requires whole { length starts.now ≡ count_of instance.now.project.network }
+    requires limit { All IsInTime starts.now }
+    ensures value { result ≡ problem.makespan (problem_of instance.now) starts.now }
+    ensures ends { result ≤ greatest_end }
+{
+    let network = instance.network();
+    let mut latest = 0u64;
+    for i in 0..network.len() {
+        let end = starts[i] + network.duration(i as u32 + 1);
+        latest = latest.max(end);
+    }
+    latest
+}
+
+// Returns a profile of all activities at their starts.
+fn profile_of(alloc: Global, instance: &Instance, starts: &[u64]) -> Result<Profile, AllocError>
+    requires whole { length starts.now ≡ count_of instance.now.project.network }
+    requires ends { problem.makespan (problem_of instance.now) starts.now ≤ END }
+    requires kept { KeepsCapacities (problem_of instance.now) (all_placed starts.now) }
+    ensures { IfOk result (HoldsBefore END (problem_of instance.now) starts.now) }
+{
+    let network = instance.network();
+    let caps = Vec::from_slice(alloc, instance.caps())?;
+    let mut profile = Profile::new(alloc, caps)?;
+    for k in 0..network.len() {
+        let j = k as u32 + 1;
+        let d = network.duration(j);
+        profile.place(starts[k], d, instance.needs(j))?;
+    }
+    Ok(profile)
+}
+
+// Returns the latest end of activity `j` that its successors and the makespan allow.
+fn due_of(instance: &Instance, starts: &[u64], makespan: u64, j: u32) -> u64
+    requires whole { length starts.now ≡ count_of instance.now.project.network }
+    requires activity { IsActivity instance.now.project.network j }
+    requires feasible { IsFeasible (problem_of instance.now) starts.now }
+    requires makespan { makespan ≡ problem.makespan (problem_of instance.now) starts.now }
+    ensures { IsDue (problem_of instance.now) starts.now (j - 1) result }
+{
+    let network = instance.network();
+    let mut due = makespan;
+    for &h in network.succs(j) {
+        due = due.min(starts[h as usize - 1] - network.lag_between(j, h));
+    }
+    due
+}
+
+// Tests whether activity `j` can start at `t` within the capacities. Until its end in the schedule
+// its needs are part of the usage already.
+fn has_room(instance: &Instance, profile: &Profile, starts: &[u64], j: u32, t: u64) -> bool
+    requires whole { length starts.now ≡ count_of instance.now.project.network }
+    requires activity { IsActivity instance.now.project.network j }
+    requires feasible { IsFeasible (problem_of instance.now) starts.now }
+    requires holds { HoldsBefore END (problem_of instance.now) starts.now profile.now }
+    requires since { get_or starts.now (j - 1) 0 ≤ t }
+    requires ends { t + duration (problem_of instance.now) (j - 1) ≤ END }
+    ensures { IsTrue result ↔ HasRoomAt (problem_of instance.now) starts.now (j - 1) t }
+{
+    let network = instance.network();
+    let needs = instance.needs(j);
+    let start = starts[j as usize - 1];
+    let d = network.duration(j);
+    let from = t.max(start + d);
+    profile.fits(from, t + d - from, needs)
+}
+
+// Returns the latest start from which activity `j` ends by `due` within the capacities. It ends at
+// `due` or at the start of another activity, which has no room beside it.
+fn latest_start(instance: &Instance, profile: &Profile, starts: &[u64], j: u32, due: u64) -> u64
+    requires whole { length starts.now ≡ count_of instance.now.project.network }
+    requires activity { IsActivity instance.now.project.network j }
+    requires feasible { IsFeasible (problem_of instance.now) starts.now }
+    requires holds { HoldsBefore END (problem_of instance.now) starts.now profile.now }
+    requires due { IsDue (problem_of instance.now) starts.now (j - 1) due }
+    requires ends { due ≤ END }
+    ensures { IsLatestStart (problem_of instance.now) starts.now (j - 1) due result }
+{
+    let network = instance.network();
+    let d = network.duration(j);
+    if has_room(instance, profile, starts, j, due - d) {
+        return due - d;
+    }
+    let mut latest = starts[j as usize - 1];
+    for &end in starts {
+        if latest + d < end && end <= due && has_room(instance, profile, starts, j, end - d) {
+            latest = end - d;
+        }
+    }
+    latest
+}
+
+// Returns the slack of activity `j`.
+fn slack_of(instance: &Instance, profile: &Profile, starts: &[u64], makespan: u64, j: u32) -> u64
+    requires whole { length starts.now ≡ count_of instance.now.project.network }
+    requires activity { IsActivity instance.now.project.network j }
+    requires feasible { IsFeasible (problem_of instance.now) starts.now }
+    requires holds { HoldsBefore END (problem_of instance.now) starts.now profile.now }
+    requires makespan { makespan ≡ problem.makespan (problem_of instance.now) starts.now }
+    requires ends { makespan ≤ END }
+    ensures { IsSlack (problem_of instance.now) starts.now (j - 1) result }
+{
+    let due = due_of(instance, starts, makespan, j);
+    latest_start(instance, profile, starts, j, due) - starts[j as usize - 1]
+}
+
+/// Returns the slack of each activity of a schedule: the time by which it can start later while all
+/// others keep their starts and the schedule stays feasible and gets no longer. Index `k` is
+/// activity `k + 1`; times are whole time units.
+///
+/// Fails with [`SlackFault::NotFeasible`] and the verdict if the starts break an arc or overload a
+/// resource, else with [`SlackFault::Late`] if the schedule ends after 10,000,000. Any call can
+/// fail with [`SlackFault::NoMemory`].
+pub fn schedule_slack(
+    alloc: Global,
+    instance: &Instance,
+    starts: &[u64],
+) -> Result<Vec<u64>, SlackFault>
+    requires whole { length starts.now ≡ count_of instance.now.project.network }
+    requires limit { All IsInTime starts.now }
+    ensures feasible { IfOk result (λ _. IsFeasible (problem_of instance.now) starts.now) }
+    ensures slacks { IfOk result (λ slacks.
+        AreSlacks (problem_of instance.now) starts.now slacks.items) }
+    ensures refused { IfErr result (RefusesSlack (problem_of instance.now) starts.now) }
+{
+    check_feasible(alloc, instance, starts)?;
+    let makespan = makespan_of(instance, starts);
+    if makespan > END {
+        return Err(SlackFault::Late);
+    }
+    let profile = profile_of(alloc, instance, starts)?;
+    let mut slacks = Vec::with_capacity(alloc, starts.len())?;
+    for k in 0..instance.network().len() {
+        slacks.push(slack_of(instance, &profile, starts, makespan, k as u32 + 1))?;
+    }
+    Ok(slacks)
+}
