@@ -90,20 +90,20 @@ export async function orRefusal(asking) {
   }
 }
 
-const wordsOf = (line) => line.trim().split(/\s+/);
-
-/** Returns a table of the office by the names of its columns, with the lines around it. */
+/** Returns a table of the office by the names of its columns, with the lines around it; numbers are
+ * numbers. */
 export function tableOf(text) {
-  const lines = text.split("\n").filter((line) => line.trim()).map(wordsOf);
-  const at = lines.findIndex((words) => words[0] === "act" || words[0] === "job");
+  const lines = text.split("\n").filter((line) => line.trim())
+    .map((line) => line.trim().split(/\s+/).map((word) => (/^\d+$/.test(word) ? +word : word)));
+  const at = lines.findIndex(([first]) => first === "act" || first === "job");
   const heads = lines[at] ?? [];
-  const rows = lines.slice(at + 1).filter((words) => /^\d/.test(words[0])).map((words) => ({
+  const isRow = ([first]) => typeof first === "number";
+  const rows = lines.slice(at + 1).filter(isRow).map((words) => ({
     ...Object.fromEntries(heads.map((head, place) => [head, words[place]])),
     isCritical: words.length > heads.length,
   }));
-  const last = lines.at(-1) ?? [""];
-  const total = /^\d/.test(last[0]) ? null : Number(last[1]);
-  return { heads, rows, verdict: at > 0 ? lines[0][0] : "", total };
+  const last = lines.at(-1) ?? [0];
+  return { heads, rows, verdict: at > 0 ? lines[0][0] : "", total: isRow(last) ? null : last[1] };
 }
 
 export async function askTable(path) {

@@ -59,8 +59,8 @@ export function daysTold(pairs) {
   for (const [rows, days] of pairs) {
     days.forEach(({ first, last }, index) => {
       if (first === "-") return;
-      told.set(Number(rows[index].start), dayOf(first));
-      told.set(Number(rows[index].end) - 1, dayOf(last));
+      told.set(rows[index].start, dayOf(first));
+      told.set(rows[index].end - 1, dayOf(last));
     });
   }
   return told;

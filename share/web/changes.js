@@ -3,14 +3,13 @@
 
 import { command, planPath } from "./api.js";
 import { byId, fill, make, onSubmit } from "./dom.js";
-import { recordOf, rememberChange } from "./names.js";
 import { leavePlan, openPlan } from "./plan.js";
 import { dropPlan, showPlans } from "./plans.js";
-import { CODE_KINDS, page } from "./state.js";
+import { CODE_KINDS, page, recordOf, rememberChange } from "./state.js";
 import { namesIn } from "./view.js";
 
 const NOT_HERE = "Not set on this computer; the office doesn't tell it.";
-const boxesOf = (form) => [...form.querySelectorAll("input[type=checkbox]")];
+const boxes = () => [...byId("marks").querySelectorAll("input")];
 
 /** Sends a change of the plan, remembers it, and asks for the plan's pages again. */
 async function changePlan(part, body, valueOf, words) {
@@ -26,8 +25,8 @@ const bind = ({ place, code }) => changePlan("bind",
   (made) => ({ at: made.place, code: made.code }),
   (made) => `${byId("place-word").textContent} ${made.place} is ${made.code}.`);
 
-const setCalendar = ({ start }, form) => changePlan("calendar",
-  { start: start.value, days: boxesOf(form).map(({ checked }) => (checked ? "1" : "0")).join("") },
+const setCalendar = ({ start }) => changePlan("calendar",
+  { start: start.value, days: boxes().map(({ checked }) => Number(checked)).join("") },
   (made) => made,
   (made) => `From ${made.start} on; working days ${made.days}, Monday first.`);
 
@@ -87,9 +86,7 @@ export function showChanges(plan) {
   lag.value = delayed.lag ?? "";
   byId("lag").hidden = !isProject;
   byId("calendar").elements.start.value = calendar?.start ?? "";
-  boxesOf(byId("calendar")).forEach((box, at) => {
-    box.checked = (calendar?.days ?? "1111100")[at] === "1";
-  });
+  boxes().forEach((box, at) => { box.checked = (calendar?.days ?? "1111100")[at] === "1"; });
   byId("calendar-set").textContent = calendar
     ? `Set here on ${calendar.on}; the office doesn't tell it.` : NOT_HERE;
 }

@@ -1,7 +1,7 @@
 // Hand in and check: saves the schedule that is drawn, and checks start times that come from
 // elsewhere with the verdicts of `plan check`.
 
-import { byId, download, fill, letTake, make, onSubmit, refusalNode } from "./dom.js";
+import { byId, download, fill, letTake, make, onSubmit, refusalNode, say } from "./dom.js";
 import { showSchedules, viewNow } from "./plan.js";
 import { makespanOf, verdictOf } from "./slack.js";
 import { csvText, readStarts, StartsFault, startsText } from "./starts.js";
@@ -33,11 +33,10 @@ function save(form) {
 
 /** Returns a verdict about steps and machines in place of activities and resources. */
 function shopWords(line, rows) {
-  const step = (words, number) => `step ${rows[number - 1].step} of job ${rows[number - 1].job}`;
-  return line.replace(/activity (\d+)/, step)
-    .replace(/(?<=before )(\d+)/, step)
+  const step = (_, number) => `step ${rows[number - 1].step} of job ${rows[number - 1].job}`;
+  return line.replace(/activity (\d+)/, step).replace(/(?<=before )(\d+)/, step)
     .replace(/more of resource (\d+) is .*/,
-      (words, number) => `machine ${number - 1} has two steps`);
+      (_, number) => `machine ${number - 1} has two steps`);
 }
 
 /** Checks start times, draws them, and returns the verdict. */
@@ -45,19 +44,19 @@ function checkStarts(text) {
   const { plan } = page;
   const [{ heads, rows }] = plan.schedules.values();
   const isProject = plan.kind === "project";
-  const wanted = rows.map(({ act, job, step }) => (isProject ? act : `${job} ${step}`));
+  const wanted = rows.map(({ act, job, step }) => (isProject ? `${act}` : `${job} ${step}`));
   const starts = readStarts(text, plan.kind, wanted);
   if (!plan.model) throw new StartsFault(`${plan.note} Add the plan's file first.`);
-  const verdict = verdictOf(plan.model, starts);
+  const { line, isFeasible, activity } = verdictOf(plan.model, starts);
   const total = makespanOf(plan.model, starts);
   plan.schedules.set("own", {
-    heads, total, verdict: verdict.line, rows: rows.map((row, at) =>
-      ({ ...row, start: `${starts[at]}`, end: `${starts[at] + Number(row.d)}` })),
+    heads, total, rows: rows.map((row, at) =>
+      ({ ...row, start: starts[at], end: starts[at] + row.d })),
   });
   plan.drawn = "own";
-  const tell = showSchedules();
-  if (verdict.activity !== undefined) tell(verdict.activity);
-  return { ...verdict, total, line: isProject ? verdict.line : shopWords(verdict.line, rows) };
+  const point = showSchedules();
+  if (activity !== undefined) point(activity);
+  return { isFeasible, total, line: isProject ? line : shopWords(line, rows) };
 }
 
 /** Shows the verdict on start times, or why there is none. */
@@ -65,10 +64,10 @@ function showVerdict(text) {
   try {
     const { line, isFeasible, total } = checkStarts(text);
     const meaning = !isFeasible ? "Not feasible."
-      : line === "active" ? "Feasible, and no activity can start earlier by itself."
+      : line === "active" ? "Feasible, and nothing can start earlier by itself."
         : "Feasible, but not active: all others fixed, this one could start earlier.";
     fill("check-answer", make("div", { class: isFeasible ? "verdict" : "refusal", role: "status" },
-      make("strong", {}, line), make("p", {}, `${meaning} Makespan ${total}.`)));
+      make("strong", {}, line), say(`${meaning} Makespan ${total}.`)));
   } catch (fault) {
     if (!(fault instanceof StartsFault)) throw fault;
     fill("check-answer", refusalNode(fault.message));

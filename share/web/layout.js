@@ -72,6 +72,9 @@ export function freeDays({ calendar, origin, span, unit }) {
   return runs;
 }
 
+/** Returns the date of this computer. */
+export const today = () => new Date().toLocaleDateString("en-CA");
+
 export function placeOfDate({ calendar, origin, span }, date) {
   if (!calendar) return null;
   const place = dayOf(date) - origin;

@@ -6,12 +6,12 @@ import { letChange } from "./changes.js";
 import { byId, during, fill, letChoose, letTake, make, onSubmit } from "./dom.js";
 import { letHandIn } from "./handin.js";
 import { forgetFile, letImport, takeFile, takeNames } from "./import.js";
-import { isRemembering, setRemembering } from "./names.js";
-import { letOfficeAct, showPublished, tryOfficeKey } from "./office.js";
-import { clearPaper } from "./paper.js";
 import { leavePlan, letPlanAct, redraw, showPaper } from "./plan.js";
-import { askAgain, askLists, askMakespans, noteAnswered, noteLost, refresh } from "./plans.js";
-import { newPage, page } from "./state.js";
+import {
+  askAgain, askLists, askMakespans, letOfficeAct, noteAnswered, noteLost, refresh, showPublished,
+  tryOfficeKey,
+} from "./plans.js";
+import { isRemembering, newPage, page, setRemembering } from "./state.js";
 import { glossary } from "./words.js";
 
 function showView(name) {
@@ -58,10 +58,8 @@ function leave() {
   for (const form of document.forms) form.reset();
   byId("remember").checked = isRemembering();
   const places = ".answer, #plans, #codes, #published, #drawing, #table, #rules, #dates, #use, "
-    + "#drawn";
-  for (const place of document.querySelectorAll(places)) {
-    place.replaceChildren(...(place.id === "drawn" ? [place.firstElementChild] : []));
-  }
+    + "#drawn label";
+  for (const place of document.querySelectorAll(places)) place.replaceChildren();
   leavePlan();
   forgetFile();
   showView("door");
@@ -70,17 +68,10 @@ function leave() {
 
 function letDrop() {
   const isDesk = () => !byId("desk").hidden;
-  document.addEventListener("dragover", (event) => {
-    event.preventDefault();
-    document.body.classList.toggle("dropping", isDesk());
-  });
-  document.addEventListener("dragleave", () => document.body.classList.remove("dropping"));
-  document.addEventListener("drop", (event) => {
-    event.preventDefault();
-    document.body.classList.remove("dropping");
-    const [file] = event.dataTransfer.files;
-    if (isDesk() && file) takeFile(file);
-  });
+  const mark = (isOver) => document.body.classList.toggle("dropping", isOver);
+  document.addEventListener("dragover", () => mark(isDesk()), true);
+  for (const kind of ["dragleave", "drop"]) document.addEventListener(kind, () => mark(false), true);
+  letTake(document, (file) => isDesk() && takeFile(file));
 }
 
 function letFit() {
@@ -92,7 +83,7 @@ function letFit() {
     redraw();
   }).observe(byId("drawing"));
   addEventListener("beforeprint", showPaper);
-  addEventListener("afterprint", clearPaper);
+  addEventListener("afterprint", () => fill("paper"));
 }
 
 function letHelp() {
@@ -104,6 +95,9 @@ function letHelp() {
 }
 
 function letDescribe() {
+  for (const place of document.querySelectorAll(".wide")) {
+    Object.assign(place, { tabIndex: 0, role: "region" });
+  }
   const name = { pattern: "[a-z0-9][a-z0-9\\-]{0,31}" };
   name.title = "1 to 32 of a to z, 0 to 9 and -, not beginning with -";
   const key = { pattern: "[!-~]{8,64}", title: "8 to 64 characters without a blank" };

@@ -2,16 +2,13 @@
 
 import { ask, askTable, planPath, Refusal, tableOf } from "./api.js";
 import { showChanges } from "./changes.js";
-import { showChart } from "./chart.js";
-import { byId, faultNodes, fill, make, onSubmit, tableNode } from "./dom.js";
+import { fillPaper, showChart } from "./chart.js";
+import { byId, faultNodes, fill, make, onSubmit, say, tableNode, tell } from "./dom.js";
 import { showHandIn } from "./handin.js";
-import { settleCalendar, settleModel } from "./model.js";
-import { recordOf, remember, shapeOf } from "./names.js";
-import { clearPaper, fillPaper } from "./paper.js";
 import { markOpen, showPlans } from "./plans.js";
-import { page, RULES, WORDS_OF_KIND } from "./state.js";
+import { page, recordOf, remember, RULES, shapeOf, WORDS_OF_KIND } from "./state.js";
 import { showTable } from "./table.js";
-import { nameOf, namesIn, viewOf } from "./view.js";
+import { nameOf, namesIn, settleCalendar, settleModel, viewOf } from "./view.js";
 import { COLUMN_WORDS, RULE_WORDS } from "./words.js";
 
 let view = null;
@@ -34,7 +31,7 @@ export async function openPlan(n) {
   } catch (fault) {
     if (page.plan === plan) fill("plan-answer", ...faultNodes(fault));
   }
-  if (page.plan === plan) byId("plan").removeAttribute("aria-busy");
+  if (page.plan === plan) byId("plan").ariaBusy = null;
 }
 
 /** Asks for the schedule by each rule, and for working days until they determine the calendar. */
@@ -47,8 +44,7 @@ async function askSchedules(plan) {
     }
     plan.schedules.set(rule, table);
   }
-  const others = RULES[plan.kind].filter((rule) => rule !== plan.drawn);
-  for (const rule of [plan.drawn, ...others]) {
+  for (const rule of new Set([plan.drawn, ...RULES[plan.kind]])) {
     plan.days.set(rule, await askTable(planPath(plan.n, "days", rule)));
     if (plan.days.get(rule) instanceof Refusal) return;
     settleCalendar(plan);
@@ -61,10 +57,10 @@ const headOf = ({ n, kind }) => `Plan ${n}, a ${WORDS_OF_KIND[kind]}`;
 function awaitPlan(isNew) {
   view = null;
   byId("plan-head").textContent = headOf(page.plan);
-  fill("plan-answer", make("p", { role: "status" }, "Asking the office …"));
+  fill("plan-answer", tell("Asking the office …"));
   byId("plan-body").hidden = true;
   byId("plan").hidden = false;
-  byId("plan").setAttribute("aria-busy", "true");
+  byId("plan").ariaBusy = "true";
   fill("best-answer");
   if (!isNew) return;
   const notices = "#changes .answer, #handin .answer, #import-answer, #plans-answer, "
@@ -77,7 +73,7 @@ function awaitPlan(isNew) {
 export function leavePlan() {
   page.plan = view = null;
   byId("plan").hidden = true;
-  clearPaper();
+  fill("paper");
   markOpen();
 }
 
@@ -107,11 +103,11 @@ function showParts(plan) {
   const { kind, model, note } = plan;
   const { title, names } = namesIn(plan);
   const isProject = kind === "project";
-  byId("plan-head").textContent = headOf(plan) + (title ? `: ${title}` : "");
+  byId("plan-head").textContent = headOf(plan) + (title && `: ${title}`);
   byId("lines-label").hidden = isProject;
   byId("colours-label").hidden = !isProject || !model;
   byId("note").hidden = !note;
-  byId("note-words").textContent = note;
+  byId("note").textContent = note;
   byId("names-zone").hidden = isProject ? Boolean(model) : Object.keys(names).length > 0;
   if (!model) byId("colours").value = "slack";
 }
@@ -124,14 +120,14 @@ export function showSchedules() {
   return showDrawn();
 }
 
-export function showDrawn() {
+function showDrawn() {
   const { plan } = page;
   view = viewOf(plan);
-  const tell = showChart(view);
+  const point = showChart(view);
   showTable(view, `Schedule by ${nameOf(plan, plan.drawn)}`);
   showDayNote(plan);
   showHandIn(view);
-  return tell;
+  return point;
 }
 
 export function redraw() {
@@ -144,11 +140,11 @@ function showDayNote(plan) {
   const refusal = [...plan.days.values()].find((days) => days instanceof Refusal);
   if (view.dates) fill("days");
   else if (!refusal) {
-    fill("days", make("p", {}, "The dates of this schedule aren't known: the office's working days "
-      + "leave several calendars. Set the calendar on this page."));
+    fill("days", say("The dates of this schedule aren't known: the office's working days leave "
+      + "several calendars. Set the calendar on this page."));
   } else if (refusal.message === "E12 G4 no calendar") {
-    fill("days", make("p", {}, "No calendar is set, so times are units of working time, counted "
-      + "from 0."));
+    fill("days",
+      say("No calendar is set, so times are units of working time, counted from 0."));
   } else fill("days", ...faultNodes(refusal));
 }
 
@@ -179,17 +175,16 @@ function showDates(dates) {
   }));
 }
 
-function showRules(plan) {
-  const rules = [...plan.schedules.keys()];
-  const tables = rules.map((rule) => plan.schedules.get(rule));
+function showRules({ schedules }) {
+  const rules = [...schedules.keys()], tables = [...schedules.values()];
   const fixed = tables[0].heads.slice(0, -2);
   const rows = tables[0].rows.map((row, index) => [
     ...fixed.map((head) => row[head]),
     ...tables.map(({ rows: ends }) => `${ends[index].start}–${ends[index].end}`),
   ]);
   const names = rules.map((rule) =>
-    (rule === "best" ? `best (${plan.schedules.get(rule).verdict})` : titled(rule)));
-  const foot = ["makespan", ...fixed.slice(1).map(() => ""), ...tables.map((t) => `${t.total}`)];
+    (rule === "best" ? `best (${schedules.get(rule).verdict})` : titled(rule)));
+  const foot = ["makespan", ...fixed.slice(1).map(() => ""), ...tables.map(({ total }) => total)];
   fill("rules", tableNode({
     caption: "Schedules by rule: start–end", heads: [...fixed.map(titled), ...names], rows, foot,
   }));
@@ -203,11 +198,11 @@ function comparedWords({ kind, schedules }, total) {
     : `The rule ${least} is as good.`;
 }
 
-async function searchBest(fields) {
+async function searchBest({ budget }) {
   const { plan } = page;
   let table;
   try {
-    table = tableOf(await ask(planPath(plan.n, "best", fields.budget.value)));
+    table = tableOf(await ask(planPath(plan.n, "best", budget.value)));
   } catch (fault) {
     if (fault instanceof Refusal && /\bS5\b/.test(fault.message)) fault.more = [solveNode(plan)];
     throw fault;
@@ -216,21 +211,18 @@ async function searchBest(fields) {
   plan.schedules.set("best", table);
   plan.drawn = "best";
   showSchedules();
-  const compared = comparedWords(plan, table.total);
   const meaning = table.verdict === "optimal" ? "no schedule of this plan is shorter"
-    : `the best that was found within ${fields.budget.value} search steps`;
-  return `${table.verdict} ${table.total}: ${meaning}. ${compared}`;
+    : `the best that was found within ${budget.value} search steps`;
+  return `${table.verdict} ${table.total}: ${meaning}. ${comparedWords(plan, table.total)}`;
 }
 
 const solveNode = ({ kind }) => make("p", { class: "solve" },
   "Search on your own computer: run ",
-  make("code", {}, kind === "project" ? "plan solve FILE" : "plan solve FILE INSTANCE"),
+  make("code", {}, `plan solve FILE${kind === "project" ? "" : " INSTANCE"}`),
   ", then drop what it prints on this page, or paste it under \"Hand in and check\". The page "
   + "checks and draws it.");
 
 export function letPlanAct() {
   onSubmit("best", searchBest);
-  for (const name of ["colours", "lines"]) {
-    byId(name).addEventListener("change", () => showDrawn());
-  }
+  for (const name of ["colours", "lines"]) byId(name).addEventListener("change", showDrawn);
 }

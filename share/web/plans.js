@@ -1,12 +1,10 @@
-// The desk's list of plans and the published capacities: asked for at sign-in and when the window
-// gets the focus; and what is done when a connection is lost.
+// The lists of a desk: its plans and the published capacities, asked for at sign-in and when the
+// window gets the focus; the office's own forms; and what is done when a connection is lost.
 
-import { ask, askTable, deskPath, Lost, planPath, Refusal } from "./api.js";
-import { byId, during, fill, make, tableNode } from "./dom.js";
-import { forget, recordOf, remember } from "./names.js";
-import { tryOfficeKey } from "./office.js";
+import { ask, askTable, command, deskPath, Lost, orRefusal, planPath, Refusal } from "./api.js";
+import { byId, during, fill, make, onSubmit, say, tableNode } from "./dom.js";
 import { openPlan, leavePlan } from "./plan.js";
-import { page, RULES, WORDS_OF_KIND } from "./state.js";
+import { forget, page, recordOf, remember, RULES, WORDS_OF_KIND } from "./state.js";
 
 const MOST_MAKESPANS = 20;
 const LEAST_PAUSE = 1000;
@@ -30,16 +28,15 @@ export async function askLists() {
 export function showPlans() {
   const { value } = byId("plans").contains(document.activeElement) ? document.activeElement : {};
   const rows = page.plans.map(({ n, kind }) => {
-    const words = { type: "button", value: n, "data-awaiting": `Plan ${n} …` };
-    const button = make("button", words, `Plan ${n}`);
+    const button = make("button", { value: n }, `Plan ${n}`);
     button.addEventListener("click", () =>
       during(button, byId("plans-answer"), () => openPlan(n)));
     const { title = "", makespan = "" } = recordOf(n);
-    return [button, title, WORDS_OF_KIND[kind], `${makespan}`];
+    return [button, title, WORDS_OF_KIND[kind], makespan];
   });
   const heads = ["Number", "Title", "Kind", "Makespan"];
   fill("plans",
-    rows.length ? tableNode({ heads, rows }) : make("p", {}, "No plans yet. Drop a file below."));
+    rows.length ? tableNode({ heads, rows }) : say("No plans yet. Drop a file below."));
   if (value) byId("plans").querySelector(`[value="${value}"]`)?.focus();
   markOpen();
 }
@@ -51,9 +48,9 @@ export function markOpen() {
   }
 }
 
-export function codesTable(codes, none) {
-  if (!codes.length) return make("p", {}, none);
-  const rows = codes.map(({ code, kind, capacity }) => [code, kind, String(capacity)]);
+function codesTable(codes, none) {
+  if (!codes.length) return say(none);
+  const rows = codes.map(({ code, kind, capacity }) => [code, kind, capacity]);
   return tableNode({ heads: ["Code", "Kind", "Capacity"], rows });
 }
 
@@ -97,6 +94,48 @@ export function dropPlan(n) {
   page.plans = page.plans.filter((plan) => plan.n !== n);
   page.projects.delete(n);
   forget(n);
+}
+
+// -- the office
+
+/** Sends a body that no office takes: `E03` shows that the key is right, and nothing changes. */
+export async function tryOfficeKey() {
+  const answer = await orRefusal(ask("/office/capacities", "POST", "{}"));
+  if (answer.message !== "E03 body") throw answer;
+}
+
+async function publish(fields) {
+  const made = await command("/office/capacities", "POST", {
+    code: fields.code.value, kind: fields.kind.value, capacity: fields.capacity.valueAsNumber,
+  });
+  page.published.set(made.code, made);
+  showPublished();
+  return `${made.code} is a ${made.kind} of ${made.capacity}.`;
+}
+
+export function showPublished() {
+  const codes = [...page.published.values()];
+  fill("published", codesTable(codes, "Nothing was published here yet."));
+}
+
+async function openDesk(fields) {
+  const body = { desk: fields.desk.value, key: fields.key.value };
+  const made = await command("/office/desks", "POST", body);
+  fields.key.value = "";
+  return `Desk ${made.desk} is open.`;
+}
+
+async function setKey(fields) {
+  const path = `/office/desks/${encodeURIComponent(fields.desk.value)}/key`;
+  const made = await command(path, "POST", { key: fields.key.value });
+  fields.key.value = "";
+  return `Desk ${made.desk} has another key.`;
+}
+
+export function letOfficeAct() {
+  onSubmit("publish", publish);
+  onSubmit("open", openDesk);
+  onSubmit("rekey", setKey);
 }
 
 // -- a lost connection

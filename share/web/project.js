@@ -5,6 +5,8 @@
 const TITLES = [
   "PROJECT INFORMATION", "PRECEDENCE RELATIONS", "REQUESTS/DURATIONS", "RESOURCEAVAILABILITIES",
 ];
+// in the place of a title, in files that lists became
+const IMPORTED = "plan import";
 const HEAD = /^(projects|jobs|-|RESOURCES|horizon|initial)/;
 
 /** Returns the trimmed lines that aren't empty and don't consist of stars and hyphens alone. */
@@ -31,24 +33,31 @@ function sectionsOf(text, title) {
 const wordsIn = (text, title) =>
   (sectionsOf(text, title)[0] ?? []).slice(1).flatMap((line) => line.split(/\s+/)).map(Number);
 
-export function namesOf(text) {
+/** Returns the names that lines give by number: of activities or jobs, and of resources or
+ * machines. The first line of a number counts. */
+function namesBy(pattern, lines) {
   const names = new Map(), resources = new Map();
-  const behind = text.slice(text.search(/^\s*RESOURCEAVAILABILITIES/m));
-  for (const line of sectionsOf(behind, "PROJECT INFORMATION").flat()) {
-    const [, kind, number, name] = line.match(/^(name|resource)\s+(\d{1,9})\s+(.+)$/) ?? [];
-    const place = kind === "name" ? names : resources;
+  for (const line of lines) {
+    const [, kind, number, name] = line.match(pattern) ?? [];
+    const place = kind === "name" || kind === "job" ? names : resources;
     if (kind && !place.has(Number(number))) place.set(Number(number), name);
   }
   return { names, resources };
 }
 
+function namesOf(text) {
+  const behind = text.slice(text.search(/^\s*RESOURCEAVAILABILITIES/m));
+  return namesBy(/^(name|resource)\s+(\d{1,9})\s+(.+)$/,
+    sectionsOf(behind, "PROJECT INFORMATION").flat());
+}
+
 /** Returns the title of a project file: the base that PSPLIB names, or its first line if that isn't
  * one of the head; undefined if there is none. */
-export function titleIn(text) {
+function titleIn(text) {
   const [first = "", ...lines] = keptLines(text);
   if (/^file with basedata\b/.test(first)) {
     const words = first.slice(first.indexOf(":") + 1).trim();
-    return words === "plan import" ? undefined : words;
+    return words === IMPORTED ? undefined : words;
   }
   return lines.length && !HEAD.test(first) && !titleOf(first) ? first : undefined;
 }
@@ -96,14 +105,9 @@ function blockOf(text, instance) {
 
 export function readShop(text, instance) {
   const lines = blockOf(text, instance);
-  const names = new Map(), resources = new Map();
-  for (const line of lines) {
-    const [, kind, number, name] = line.match(/^\+\s*(machine|job)\s+(\d{1,9})\s+(.+)$/) ?? [];
-    const place = kind === "job" ? names : resources;
-    if (kind && !place.has(Number(number))) place.set(Number(number), name);
-  }
   const first = lines.find((line) => line && !line.startsWith("+"));
-  return { names, resources, title: instance === "-" ? undefined : first };
+  const title = instance === "-" || first === IMPORTED ? undefined : first;
+  return { ...namesBy(/^\+\s*(machine|job)\s+(\d{1,9})\s+(.+)$/, lines), title };
 }
 
 /** Returns the machine and the time of each step of an instance, in order, as "0:3". */

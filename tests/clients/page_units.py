@@ -182,7 +182,7 @@ def try_known_calendars(modules, draw):
         ahead = {tuple(worked_days(base, week, count - first)) for week in weeks}
         behind = {tuple(days_before(base, week, first)) for week in weeks}
         same(f"one calendar of {told}", chosen is not None, len(ahead) == len(behind) == 1)
-    pairs = [[{"start": "0", "end": "2"}, {"start": "2", "end": "2"}],
+    pairs = [[{"start": 0, "end": 2}, {"start": 2, "end": 2}],
              [{"first": "2024-03-01", "last": "2024-03-04"}, {"first": "-", "last": "-"}]]
     told = modules.values([["calendar", "daysTold", [[pairs]]]])[0]
     same("the days that are told", told, [[0, 19783], [1, 19786]])

@@ -266,8 +266,9 @@ def visit_sort(browser):
         told = browser.run("return document.querySelector('#table [data-head=start]').ariaSort")
         same("the order that is told", told, order)
     browser.click("#table [data-head=number] button")
-    heads, *rows = seen_table(browser, "#table")
-    same("the mark", heads[0], "number ▲")
+    rows = seen_table(browser, "#table")[1:]
+    mark = "return getComputedStyle(document.querySelector('#table [data-head=number] button'), '::after').content"
+    same("the mark", browser.run(mark), '" ▲"')
     same("the numbers", [int(row[0].rstrip("*")) for row in rows], list(range(1, 10)))
 
 
@@ -816,7 +817,7 @@ def visit_refused(browser):
         code, number = line.split()[0], int(line.split()[2])
         said = texts(browser, "#import-answer .refusal p")
         same(f"what the page says of {code}", said, explained(code))
-        marked = browser.run("return [...document.querySelectorAll('.marked td')].map("
+        marked = browser.run("return [...document.querySelectorAll('.marked > *')].map("
                              "(cell) => cell.innerText)")
         lines = file_of(f"examples/{name}").decode().split("\n")
         same("the marked line", marked, [str(number), lines[number - 1]])
@@ -925,7 +926,7 @@ def visit_waiting(browser):
     """)
     browser.click("#best button")
     browser.wait("a button that awaits", "return document.querySelector('#best button').textContent"
-                 " === 'Searching …'")
+                 " === 'Search for the best …'")
     browser.wait("the request", "return Boolean(window.letGo)")
     browser.run("window.letGo()")
     wait_idle(browser)
