@@ -15,7 +15,7 @@ export class Refusal extends Error {}
 
 export class Lost extends Error {}
 
-let hooks = { lost() {}, answered() {}, async unsure() {} };
+let hooks = {};
 
 export function listenTo(functions) {
   hooks = functions;
@@ -32,12 +32,11 @@ function judged(response, text) {
 }
 
 async function exchange(key, method, path, body) {
-  const headers = { "Desk-Key": key };
-  const signal = AbortSignal.timeout(MOST_MILLISECONDS);
   let response, text;
   try {
     response = await fetch(path, {
-      method, headers, body, signal, cache: "no-store", credentials: "omit", redirect: "error",
+      method, headers: { "Desk-Key": key }, body, signal: AbortSignal.timeout(MOST_MILLISECONDS),
+      cache: "no-store", credentials: "omit", redirect: "error",
     });
     text = await response.text();
   } catch {
@@ -48,10 +47,9 @@ async function exchange(key, method, path, body) {
 
 /** Sends a request after all earlier ones were answered. */
 export async function ask(path, method = "GET", body = undefined) {
-  const asking = page;
-  const key = asking.key;
-  const answer = asking.waiting.then(() => exchange(key, method, path, body));
-  asking.waiting = answer.catch(() => {});
+  const { key } = page;
+  const answer = page.waiting.then(() => exchange(key, method, path, body));
+  page.waiting = answer.catch(() => {});
   try {
     await answer;
     hooks.answered();
@@ -90,11 +88,10 @@ export async function orRefusal(asking) {
   }
 }
 
-/** Returns a table of the office by the names of its columns, with the lines around it; numbers are
- * numbers. */
+/** Returns a table of the office by the names of its columns, with the lines around it. */
 export function tableOf(text) {
-  const lines = text.split("\n").filter((line) => line.trim())
-    .map((line) => line.trim().split(/\s+/).map((word) => (/^\d+$/.test(word) ? +word : word)));
+  const lines = text.split("\n").filter((line) => line.trim()).map((line) =>
+    line.trim().split(/\s+/).map((word) => (/^\d+$/.test(word) ? Number(word) : word)));
   const at = lines.findIndex(([first]) => first === "act" || first === "job");
   const heads = lines[at] ?? [];
   const isRow = ([first]) => typeof first === "number";

@@ -37,7 +37,7 @@ const setLag = ({ from, to, lag }) => changePlan("lag",
 
 function isDeleteMeant() {
   const dialog = byId("question");
-  byId("question-words").textContent = `Delete plan ${page.plan.n} of desk ${page.desk} for good?`;
+  dialog.firstElementChild.textContent = `Delete plan ${page.plan.n} of desk ${page.desk} for good?`;
   dialog.returnValue = "no";
   dialog.showModal();
   return new Promise((answer) => {
@@ -54,7 +54,6 @@ async function deletePlan() {
   byId("news").textContent = `Plan ${n} is deleted.`;
 }
 
-/** Shows what was set here of one kind, and returns the last of it. */
 function showSet(place, changes, words) {
   const made = Object.values(changes ?? {}).sort((a, b) => a.time - b.time);
   const told = made.map((change) => `${words(change)} (set here on ${change.on})`);
@@ -62,7 +61,6 @@ function showSet(place, changes, words) {
   return made.at(-1) ?? {};
 }
 
-/** Shows the forms of changes as the kind of the plan has them. */
 export function showChanges(plan) {
   const isProject = plan.kind === "project";
   const { bind: binds, calendar, lag: lags } = recordOf(plan.n).set ?? {};

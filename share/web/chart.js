@@ -97,7 +97,7 @@ function showLinks(view, chart, index) {
   const bars = new Map(view.bars.map((bar) => [bar.index, bar]));
   const middle = (bar) => row * places.get(bar.line) + row / 2;
   const nodes = linksOf(view, index).map(([from, to]) => {
-    const [a, b] = [bars.get(from), bars.get(to)];
+    const a = bars.get(from), b = bars.get(to);
     const x = a.start < a.end ? scale.endOf(a.end) : scale.startOf(a.start, a.end);
     const end = scale.startOf(b.start, b.end);
     const bend = Math.max(x + 4, end - 8);
@@ -121,8 +121,7 @@ function letTell(view, chart) {
     const index = nodes.indexOf(event.target.closest(".bar"));
     if (index >= 0) tell(index);
   };
-  chart.body.addEventListener("pointerover", point);
-  chart.body.addEventListener("pointerdown", point);
+  for (const kind of ["pointerover", "pointerdown"]) chart.body.addEventListener(kind, point);
   chart.body.addEventListener("keydown", (event) => {
     const step = { ArrowRight: 1, ArrowDown: 1, ArrowLeft: -1, ArrowUp: -1 }[event.key];
     if (!step) return;

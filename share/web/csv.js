@@ -9,12 +9,11 @@ const SYNONYMS = new Map([["task", "name"], ["after", FIXED[3]], ["depends on", 
 export const TABLE_FAULTS = {
   T1: ["The list has more than 1,048,576 bytes."],
   T2: ["This line isn't plain text in UTF-8. Save the list as CSV in UTF-8."],
-  T3: ["No column has this name. A list of activities has a column duration; a list of orders has "
-    + "order, and then pairs of machine and time."],
+  T3: ["No column has this name. A list of activities needs duration; a list of orders has order, "
+    + "and then pairs of machine and time."],
   T4: ["Two columns have this name."],
   T5: ["The duration isn't a whole number without a unit."],
-  T6: ["The id or name is missing or too long. An id has at most 32 characters, and no blank, comma "
-    + "or semicolon."],
+  T6: ["The id or name is missing. An id has 1 to 32 characters, and no blank, comma or semicolon."],
   T7: ["Two activities have this id."],
   T8: ["No activity has the id that this predecessor names."],
   T9: ["A need isn't a whole number. An empty cell is 0."],
@@ -83,7 +82,6 @@ export function recordsOf(text, mark = separatorOf(text)) {
   return records;
 }
 
-/** Returns the header of a list and its records that aren't blank. */
 function readList(bytes) {
   const [header = { line: 0, cells: [] }, ...rest] = recordsOf(decoded(bytes));
   return { header, filled: rest.filter(({ cells }) => cells.some((cell) => cell.trim())) };
@@ -105,6 +103,9 @@ function nameOf(text, line, place) {
   return text;
 }
 
+// stands in the place of a title
+export const IMPORTED = "plan import";
+
 // -- activities
 
 function columnsOf({ line, cells }) {
@@ -122,7 +123,7 @@ function columnsOf({ line, cells }) {
   return columns;
 }
 
-/** Reads one row, from left to right. `lines` are the lines of all ids. */
+/** Reads a row, from left to right. `lines` are the lines of all ids. */
 function rowOf({ line, cells }, columns, lines, number) {
   const row = { line, id: String(number), name: "", duration: 0, after: [], needs: [] };
   for (const { head, name, place, isResource } of columns) {
@@ -211,53 +212,33 @@ export function readTable(bytes, given = new Map()) {
   return { rows: made, resources: names, capacities };
 }
 
-const RULER = `${"*".repeat(72)}\n`;
-const spaced = (number, places) => ` ${String(number).padStart(places)}`;
-const columns = (first, further, numbers) =>
-  numbers.map((number, at) => spaced(number, at ? further : first)).join("");
-
-/** Returns the project file of a list, as `plan import` writes it: activities 1 and n + 2 are the
- * start and the end; a list without resources gives one of capacity 0. */
+/** Returns a project file with the project of `plan import`: activities 1 and n + 2 are the start
+ * and the end; a list without resources gives one of capacity 0. */
 export function projectText({ rows, resources, capacities }) {
   const last = rows.length + 2;
   const amounts = resources.length ? capacities : [0];
-  const none = amounts.map(() => 0);
-  const start = { duration: 0, needs: none,
-    successors: rows.flatMap(({ after }, at) => (after.length ? [] : [at + 2])) };
-  const jobs = [start, ...rows.map(({ duration, needs, before }) => ({
-    duration, needs: resources.length ? needs : none,
-    successors: before.length ? before.map((at) => at + 2) : [last],
-  })), { duration: 0, needs: none, successors: [] }];
-  const horizon = jobs.reduce((sum, { duration }) => sum + duration, 0);
-  const heads = amounts.map((_, at) => `  R ${at + 1}`).join("");
-  const arcs = jobs.map(({ successors }, at) => `${String(at + 1).padStart(4)}${spaced(1, 8)}${
-    spaced(successors.length, 10)}${columns(11, 3, successors)}\n`);
-  const requests = jobs.map(({ duration, needs }, at) => `${String(at + 1).padStart(3)}${
-    spaced(1, 6)}${spaced(duration, 5)}${columns(7, 4, needs)}\n`);
-  const names = [...rows.map(({ name }, at) => (name ? `name ${at + 2} ${name}\n` : "")),
-    ...resources.map((name, at) => `resource ${at + 1} ${name}\n`)];
-  return `${RULER}file with basedata            : plan import
-initial value random generator: 1
-${RULER}projects                      :  1
-jobs (incl. supersource/sink ):  ${last}
-horizon                       :  ${horizon}
-RESOURCES
-  - renewable                 :  ${amounts.length}   R
-  - nonrenewable              :  0   N
-  - doubly constrained        :  0   D
-${RULER}PROJECT INFORMATION:
-pronr.  #jobs rel.date duedate tardcost  MPM-Time
-    1${spaced(rows.length, 6)}      0${spaced(horizon, 8)}        0${spaced(horizon, 8)}
-${RULER}PRECEDENCE RELATIONS:
-jobnr.    #modes  #successors   successors
-${arcs.join("")}${RULER}REQUESTS/DURATIONS:
-jobnr. mode duration${heads}
-${"-".repeat(72)}
-${requests.join("")}${RULER}RESOURCEAVAILABILITIES:
-${heads}
-${columns(4, 4, amounts)}
-${RULER}PROJECT INFORMATION:
-${names.join("")}${RULER}`;
+  const firsts = rows.flatMap(({ after }, at) => (after.length ? [] : [at + 2]));
+  const dummy = { duration: 0, needs: [], after: firsts };
+  const jobs = [dummy, ...rows.map(({ duration, needs, before }) => ({
+    duration, needs, after: before.length ? before.map((at) => at + 2) : [last],
+  })), { ...dummy, after: [] }];
+  const lines = (rowOf) => jobs.map((job, at) => `${[at + 1, 1, ...rowOf(job)].join(" ")}\n`).join("");
+  return `projects: 1
+jobs: ${last}
+- renewable: ${amounts.length}
+- nonrenewable: 0
+- doubly constrained: 0
+PRECEDENCE RELATIONS:
+job, modes, successors
+${lines(({ after }) => [after.length, ...after])}REQUESTS/DURATIONS:
+job, mode, duration, needs
+${lines(({ duration, needs }) => [duration, ...amounts.map((_, at) => needs[at] ?? 0)])
+}RESOURCEAVAILABILITIES:
+capacities
+${amounts.join(" ")}
+PROJECT INFORMATION:
+${rows.map(({ name }, at) => (name ? `name ${at + 2} ${name}\n` : "")).join("")
+}${resources.map((name, at) => `resource ${at + 1} ${name}\n`).join("")}`;
 }
 
 // -- orders
@@ -301,18 +282,18 @@ export function readOrders(bytes) {
   return { orders, machines, steps };
 }
 
-/** Returns the job shop file of a list of orders, as `plan import --shop` writes it: an order gets
- * steps of time 0 on machines that it doesn't use. */
+/** Returns the job shop file of a list of orders: an order gets steps of time 0 on machines that it
+ * doesn't use. */
 export function shopText({ orders, machines, steps }) {
   const rows = steps.map((own) => {
     const idle = machines.map((_, machine) => ({ machine, time: 0 }))
       .filter(({ machine }) => !own.some((step) => step.machine === machine));
     return [...own, ...idle.slice(0, machines.length - own.length)]
-      .flatMap(({ machine, time }) => [machine, time]);
+      .map(({ machine, time }) => `${machine} ${time}`).join(" ");
   });
   return ["instance shop", ...machines.map((name, at) => `+ machine ${at} ${name}`),
-    ...orders.map((name, at) => `+ job ${at + 1} ${name}`), "plan import",
-    ...[[orders.length, machines.length], ...rows].map((row) => columns(2, 4, row)), ""].join("\n");
+    ...orders.map((name, at) => `+ job ${at + 1} ${name}`), IMPORTED,
+    `${orders.length} ${machines.length}`, ...rows, ""].join("\n");
 }
 
 const headsOf = (text) => text.replace(/^\ufeff/, "").split(/\r?\n/, 1)[0].toLowerCase()

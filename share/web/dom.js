@@ -52,7 +52,6 @@ export function faultNodes(fault) {
   return [refusalNode(`The page failed: ${fault}`)];
 }
 
-/** Does what a button asks for. The button has dots until the answer has come. */
 export async function during(button, place, action) {
   if (button.ariaDisabled) return;
   const words = button.textContent;
@@ -70,7 +69,6 @@ export async function during(button, place, action) {
   }
 }
 
-/** Lets a form act. The answer is in its place of answers, or below its fields. */
 export function onSubmit(name, action, isMeant = () => true) {
   const form = byId(name);
   const place = byId(`${name}-answer`) ?? make("div", { class: "answer" });

@@ -31,7 +31,7 @@ function save(form) {
   download(`${page.desk}-plan-${view.plan.n}-${view.plan.drawn}.${end}`, type, textOf(view));
 }
 
-/** Returns a verdict about steps and machines in place of activities and resources. */
+// a verdict in steps and machines
 function shopWords(line, rows) {
   const step = (_, number) => `step ${rows[number - 1].step} of job ${rows[number - 1].job}`;
   return line.replace(/activity (\d+)/, step).replace(/(?<=before )(\d+)/, step)
@@ -39,7 +39,6 @@ function shopWords(line, rows) {
       (_, number) => `machine ${number - 1} has two steps`);
 }
 
-/** Checks start times, draws them, and returns the verdict. */
 function checkStarts(text) {
   const { plan } = page;
   const [{ heads, rows }] = plan.schedules.values();
@@ -59,7 +58,6 @@ function checkStarts(text) {
   return { isFeasible, total, line: isProject ? line : shopWords(line, rows) };
 }
 
-/** Shows the verdict on start times, or why there is none. */
 function showVerdict(text) {
   try {
     const { line, isFeasible, total } = checkStarts(text);

@@ -69,7 +69,6 @@ export function forgetFile() {
 
 // -- lists
 
-/** Returns the file that a list becomes. */
 const fileText = (text, bytes, given) => (isOrders(text) ? shopText(readOrders(bytes))
   : isTable(text) ? projectText(readTable(bytes, given)) : text);
 
@@ -141,7 +140,6 @@ function faultyNodes({ name, text }, fault) {
 const linesOf = (text) => text.split("\n").map((line, at) =>
   ({ line: at + 1, cells: [line.replaceAll("\0", "\u2400")] }));
 
-/** Returns the records of a file around a line that is marked, with its cell. */
 function partNode(name, records, line, column) {
   const at = Math.max(0, records.findIndex((record) => record.line === line));
   const rows = records.slice(Math.max(0, at - CONTEXT), at + CONTEXT + 1).map((record) => {
@@ -220,8 +218,7 @@ export async function takeNames(file) {
   showPlan();
 }
 
-/** Returns the instance of a text that is a plan's, - for a project or a file without names;
- * undefined if there is none. */
+// the instance that is a plan's, - for a project; undefined if there is none
 function instanceIn(text, { kind, schedules }) {
   const [{ rows }] = schedules.values();
   if (kind === "shop") {

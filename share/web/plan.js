@@ -15,7 +15,6 @@ let view = null;
 
 export const viewNow = () => view;
 
-/** Asks for all pages of a plan, and shows them, or why there are none. */
 export async function openPlan(n) {
   const { kind } = page.plans.find((plan) => plan.n === n);
   const isNew = page.plan?.n !== n;
@@ -112,8 +111,7 @@ function showParts(plan) {
   if (!model) byId("colours").value = "slack";
 }
 
-/** Shows the schedules: their choice, the tables, and the one that is drawn. Returns the function
- * that points at a row of it. */
+/** Shows the schedules, and returns the function that points at a row. */
 export function showSchedules() {
   showChoice(page.plan);
   showRules(page.plan);

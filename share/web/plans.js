@@ -41,7 +41,6 @@ export function showPlans() {
   markOpen();
 }
 
-/** Marks the plan of the list that is open. */
 export function markOpen() {
   for (const button of byId("plans").querySelectorAll("button")) {
     button.ariaCurrent = Number(button.value) === page.plan?.n ? "true" : null;
@@ -54,7 +53,6 @@ function codesTable(codes, none) {
   return tableNode({ heads: ["Code", "Kind", "Capacity"], rows });
 }
 
-/** Asks for the makespans in the list, one after another, as long as the page is the same. */
 export async function askMakespans() {
   const asking = page;
   for (const { n, kind } of page.plans.slice(0, MOST_MAKESPANS)) {
@@ -65,8 +63,7 @@ export async function askMakespans() {
   showPlans();
 }
 
-/** Asks for the lists when the window gets the focus, and for the open plan if they have changed.
- * */
+/** Asks for the lists, and for the open plan if they have changed. */
 export async function refresh() {
   const now = performance.now();
   if (byId("desk").hidden || page.isUnsure || now - asked < LEAST_PAUSE) return;
@@ -83,7 +80,6 @@ export async function refresh() {
   await showAgain();
 }
 
-/** Asks for the open plan again, or closes it if it isn't in the list any more. */
 async function showAgain() {
   const n = page.plan?.n;
   if (numbers().includes(n)) await openPlan(n);
@@ -140,7 +136,6 @@ export function letOfficeAct() {
 
 // -- a lost connection
 
-/** Shows that no answer came, and what that means for a command that was sent. */
 export function noteLost(words, method) {
   if (!byId("door").hidden) return;
   page.isUnsure ||= method !== "GET";
@@ -157,7 +152,6 @@ export function noteAnswered() {
   byId("lost").hidden ||= !page.isUnsure;
 }
 
-/** Asks for the present state, and shows what is new. */
 export async function askAgain() {
   const before = numbers();
   const isOffice = byId("desk").hidden;

@@ -2,14 +2,13 @@
 // model of a project. The office is the judge of a file; the page reads those that it has
 // accepted.
 
+import { IMPORTED } from "./csv.js";
+
 const TITLES = [
   "PROJECT INFORMATION", "PRECEDENCE RELATIONS", "REQUESTS/DURATIONS", "RESOURCEAVAILABILITIES",
 ];
-// in the place of a title, in files that lists became
-const IMPORTED = "plan import";
 const HEAD = /^(projects|jobs|-|RESOURCES|horizon|initial)/;
 
-/** Returns the trimmed lines that aren't empty and don't consist of stars and hyphens alone. */
 const keptLines = (text) =>
   text.split("\n").map((line) => line.trim()).filter((line) => !/^[*-]*$/.test(line));
 
@@ -33,8 +32,7 @@ function sectionsOf(text, title) {
 const wordsIn = (text, title) =>
   (sectionsOf(text, title)[0] ?? []).slice(1).flatMap((line) => line.split(/\s+/)).map(Number);
 
-/** Returns the names that lines give by number: of activities or jobs, and of resources or
- * machines. The first line of a number counts. */
+// the first line of a number counts
 function namesBy(pattern, lines) {
   const names = new Map(), resources = new Map();
   for (const line of lines) {
@@ -51,8 +49,7 @@ function namesOf(text) {
     sectionsOf(behind, "PROJECT INFORMATION").flat());
 }
 
-/** Returns the title of a project file: the base that PSPLIB names, or its first line if that isn't
- * one of the head; undefined if there is none. */
+/** Returns the base that PSPLIB names, or the first line if it isn't one of the head. */
 function titleIn(text) {
   const [first = "", ...lines] = keptLines(text);
   if (/^file with basedata\b/.test(first)) {
@@ -125,8 +122,7 @@ export function stepsOf(text, instance) {
 export const instancesOf = (text) =>
   [...text.matchAll(/^[ \t]*instance[ \t]+(\S+)[ \t\r]*$/gm)].map((match) => match[1]);
 
-/** Returns the resource of which the greatest part is needed, counted from 1; 0 if none is. If
- * several are needed alike, it is the first of them. */
+/** Returns the first resource of which the greatest part is needed, counted from 1; 0 if none. */
 export function mostNeeded(needs, capacities) {
   const parts = needs.map((need, place) => need / Math.max(1, capacities[place]));
   const greatest = Math.max(0, ...parts);

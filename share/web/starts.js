@@ -48,15 +48,19 @@ export function readStarts(text, kind, wanted) {
   const words = found ? startsIn(found.heads, found.rows, keys, wanted)
     : text.split(/[\s,;]+/).filter(Boolean);
   const numbers = numbersOf(words);
-  if (numbers.length !== wanted.length) {
-    const count = numbers.length;
-    throw new StartsFault(`The file has ${count} start times; ${wanted.length} are needed.`);
+  const { length } = numbers;
+  if (length !== wanted.length) {
+    throw new StartsFault(`The file has ${length} start times; ${wanted.length} are needed.`);
   }
   return numbers;
 }
 
+/** Returns whether a text is a list of start times; numbers are one, unless the first two count the
+ * jobs and machines of a job shop behind them. */
 export function isStarts(text) {
-  return /^[\s\d]+$/.test(text) || Boolean(tableIn(text))
+  const [jobs, machines, ...steps] = text.trim().split(/\s+/);
+  const isShop = jobs * machines > 0 && steps.length === 2 * jobs * machines;
+  return (/^[\s\d]+$/.test(text) && !isShop) || Boolean(tableIn(text))
     || /^\ufeff?(act|job)[,;\t]([^\n]*[,;\t])?start\b/.test(text);
 }
 

@@ -50,7 +50,6 @@ function agrees(model, { dates, schedules }) {
     && verdictOf(model, startsOf(table)).line === "active");
 }
 
-/** Sets the model of a plan, or the reason why there is none. */
 export function settleModel(plan) {
   const [table] = plan.schedules.values();
   plan.model = null;
@@ -96,8 +95,7 @@ export function nameOf(plan, rule) {
   return rule === "best" ? `best ${verdict} ${total}` : `${rule} ${total}`;
 }
 
-/** Returns the title of a plan, and the names of activities or jobs, and of resources or machines,
- * by number; none if they were remembered of a plan with other rows. */
+/** Returns the title and the names of a plan; none if they were remembered of other rows. */
 export function namesIn({ n, schedules }) {
   const { title = "", names = {}, resources = {}, shape } = recordOf(n);
   const [table] = schedules.values();
@@ -171,7 +169,6 @@ function lineNameOf({ number, name, job, jobName, machine, machineName }) {
     : [job, named(`J${job}`, jobName)];
 }
 
-/** Returns the view of the schedule that is drawn. */
 export function viewOf(plan) {
   const table = plan.schedules.get(plan.drawn);
   const starts = startsOf(table);
@@ -187,7 +184,6 @@ export function viewOf(plan) {
   };
 }
 
-/** Returns what the colours and the star mean: pairs of classes and words. */
 export function legendOf({ bars, slack, plan }) {
   const colours = new Map(bars.filter((bar) => bar.legend).map((bar) => [bar.legend, bar.colour]));
   const items = [...colours].sort(([a], [b]) => a.localeCompare(b, "en", { numeric: true }))
@@ -200,8 +196,7 @@ export function legendOf({ bars, slack, plan }) {
   return items;
 }
 
-/** Returns the pairs of bars that are linked to one: predecessors and successors, and in a job shop
- * the steps before and behind it on its machine. */
+/** Returns the pairs of bars that are linked to one, by arcs or by their machine. */
 export function linksOf({ plan, rows }, index) {
   const links = (plan.model?.arcs ?? []).filter(({ from, to }) => from === index || to === index)
     .map(({ from, to }) => [from, to]);

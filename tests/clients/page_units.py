@@ -284,12 +284,64 @@ def try_tables(modules, draw):
 
 
 def same_imports(paths, texts):
-    """`plan import` gives the same project files and errors, to the byte."""
+    """`plan import` gives the same projects and errors."""
     for path in paths:
         with contextlib.suppress(FileNotFoundError), open(path[:-3] + "error", "rb") as file:
             same(f"plan import {path}", plan("import", path), (1, b"", file.read()))
             continue
-        same(f"plan import {path}", plan("import", path), (0, texts[path].encode(), b""))
+        status, out, err = plan("import", path)
+        same(f"plan import {path}", (status, read_sm(out.decode()), err), (0, read_sm(texts[path]), b""))
+
+
+# ---- lists of orders
+
+
+def drawn_orders(draw):
+    """A list of orders as a text, which is often wrong somewhere."""
+    orders, machines = draw.randrange(1, 5), draw.randrange(1, 5)
+    pairs = draw.randrange(1, 4)
+    head = ["order", *(["machine", "time"] * pairs)]
+    cell = lambda: [draw.choice(["saw", "press", " paint ", "lathe", "a, b"][:machines + 1]),
+                    draw.choice(["0", "1", "7", " 12 "])]
+    rows = [[f"order {draw.randrange(orders)}", *sum((cell() for _ in range(draw.randrange(pairs + 1))), [])]
+            for _ in range(draw.randrange(1, 9))]
+    for _ in range(draw.choice([0, 0, 1, 2])):
+        row = draw.choice([head, *rows])
+        row[draw.randrange(len(row))] = draw.choice(["", "x", "10001", "-1", "1.5", "Machine", "n" * 201, "a\tb"])
+    if draw.random() < 0.1:
+        draw.choice([head, *rows]).append(draw.choice(["", "saw"]))
+    out = io.StringIO()
+    csv.writer(out, delimiter=draw.choice(",;"), lineterminator=draw.choice(["\n", "\r\n"])).writerows([head, *rows])
+    return out.getvalue()
+
+
+def large_orders(orders, machines, time):
+    """A list of so many orders, each with a step on each of so many machines."""
+    rows = [f"order {n},{','.join(f'm{k},{time}' for k in range(machines))}" for n in range(orders)]
+    return "\n".join(["order" + ",machine,time" * machines, *rows, ""])
+
+
+def try_orders(modules, draw):
+    """Lists of orders become the job shops, or give the errors, of `plan import --shop`."""
+    texts = [drawn_orders(draw) for _ in range(400)]
+    texts += [large_orders(50, 20, 1), large_orders(51, 1, 1), large_orders(1, 21, 1), large_orders(1, 1, 10001),
+              large_orders(50, 20, 1000), large_orders(50, 20, 1001), "", "order\n", "order,machine\n",
+              "order,machine,time\n", "order,machine,time,machine\n", "order,machine,time\n,saw,1\n",
+              file_of("examples/shop.csv").decode(), '"order","machine","time"\n"a ""b""","saw","3"\n',
+              "order,machine,time\na,saw,1\na,saw,2\n"]
+    results = modules.call([["csv", "readOrders", [{"bytes": list(text.encode())}]] for text in texts])
+    made = iter(modules.values([["csv", "shopText", [result["value"]]] for result in results
+                                if "value" in result]))
+    wrong = 0
+    for text, result in zip(texts, results):
+        status, out, err = plan("import", "--shop", "-", given=text.encode())
+        if "fault" in result:
+            wrong += 1
+            same(f"the error of {text!r}", (1, result["fault"] + "\n"), (status, err.decode()))
+            continue
+        shop = [line.split() for line in next(made).split("\n")]
+        same(f"the job shop of {text!r}", (0, shop), (status, [line.split() for line in out.decode().split("\n")]))
+    same("lists with and without errors", (wrong > 100, len(texts) - wrong > 100), (True, True))
 
 
 def try_records(modules, draw):
@@ -342,12 +394,14 @@ def is_feasible(model, starts):
     return True
 
 
-def brute_slack(model, starts):
-    """The greatest later start of each activity, by trying all of them."""
+def brute_slack(model, starts, places=None):
+    """The greatest later start of each activity, or of those at some places, by trying all of them."""
     d = model["durations"]
     whole = max(s + x for s, x in zip(starts, d))
     slack = []
     for at, start in enumerate(starts):
+        if places is not None and at not in places:
+            continue
         fits = [later for later in range(start, whole - d[at] + 1)
                 if is_feasible(model, [*starts[:at], later, *starts[at + 1:]])]
         slack.append(max(fits) - start)
@@ -490,7 +544,8 @@ def try_starts(modules, draw):
         same(f"the error of {text!r}", words in result.get("fault", ""), True)
     kinds = {table: True, best: True, "1 2 3": True, "act,d,start\n1,0,0": True,
              file_of("examples/house.sm").decode(): False, "id,duration\n": False,
-             file_of("examples/shops.txt").decode(): False}
+             file_of("examples/shops.txt").decode(): False, "0 0": True,
+             file_of("examples/printing.txt").decode(): False}
     found = modules.values([["starts", "isStarts", [text]] for text in kinds])
     same("texts that are start times", found, list(kinds.values()))
     given = [{"act": 1, "name": 'Walls, "north"', "start": 0}, {"act": 2, "name": "=1+1", "start": 4},
@@ -588,7 +643,7 @@ def try_sorting(modules, draw):
     same("orders", [(order > 0) - (order < 0) for order in found], [-1, 1, 1, 1, -1, 0])
 
 
-TRIALS = [try_dates, try_calendar_edges, try_known_calendars, try_tables, try_records, try_slack,
+TRIALS = [try_dates, try_calendar_edges, try_known_calendars, try_tables, try_orders, try_records, try_slack,
           try_verdicts, try_use, try_projects, try_starts, try_layout, try_sorting]
 
 
