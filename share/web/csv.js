@@ -6,25 +6,6 @@ const MOST = { bytes: 1048576, rows: 500, resources: 16, orders: 50, machines: 2
 const FIXED = ["id", "name", "duration", "predecessors"];
 const SYNONYMS = new Map([["task", "name"], ["after", FIXED[3]], ["depends on", FIXED[3]]]);
 
-export const TABLE_FAULTS = {
-  T1: ["The list has more than 1,048,576 bytes."],
-  T2: ["This line isn't plain text in UTF-8. Save the list as CSV in UTF-8."],
-  T3: ["No column has this name. A list of activities needs duration; a list of orders has order, "
-    + "and then pairs of machine and time."],
-  T4: ["Two columns have this name."],
-  T5: ["The duration isn't a whole number without a unit."],
-  T6: ["The id or name is missing. An id has 1 to 32 characters, and no blank, comma or semicolon."],
-  T7: ["Two activities have this id."],
-  T8: ["No activity has the id that this predecessor names."],
-  T9: ["A need isn't a whole number. An empty cell is 0."],
-  T10: ["This resource has no capacity: enter it, or add a row whose id is capacity."],
-  T11: ["These activities wait for each other."],
-  T12: ["This is beyond a limit: 500 activities, 16 resources, 50 orders, 20 machines, 10,000 for a "
-    + "duration or an amount, 1,000,000 for all durations, 200 bytes for a name."],
-  T13: ["This row has more cells than the header, or a quote isn't closed."],
-  T15: ["This order has more steps than there are machines."],
-};
-
 /** An error in a list, with the line and the column of its cell as far as there is one. */
 export class TableFault extends Error {
   constructor(words, line = 0, column = -1) {
@@ -204,7 +185,8 @@ export function readTable(bytes, given = new Map()) {
   const capacities = names.map((name) => given.get(name) ?? found.get(name));
   const lacking = names[capacities.indexOf(undefined)];
   if (lacking) {
-    throw Object.assign(new TableFault(`T10 no capacity ${lacking}`), { names, capacities });
+    throw Object.assign(new TableFault(`T10 no capacity ${lacking}`),
+      { resources: names, capacities });
   }
   const made = linked(rows);
   const cycle = cycleOf(made);

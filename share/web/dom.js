@@ -3,6 +3,7 @@
 
 import { Lost, Refusal } from "./api.js";
 import { FAULTS } from "./faults.js";
+import { LIST_FAULTS } from "./words.js";
 
 export const byId = (name) => document.getElementById(name);
 export const fill = (name, ...nodes) => byId(name).replaceChildren(...nodes);
@@ -37,12 +38,14 @@ export function tableNode({ caption, heads, rows, foot, marks = [] }) {
     ...(foot ? [make("tfoot", {}, row(foot))] : []));
 }
 
+const MEANINGS = { ...FAULTS, ...LIST_FAULTS };
+
 /** Returns an error with the meaning of its last code; `lead` comes first if there is one. */
-export function refusalNode(line, lead = "", faults = FAULTS) {
-  const code = (line.match(/\b[A-Z]\d+\b/g) ?? []).findLast((found) => faults[found]);
+export function refusalNode(line, lead = "") {
+  const code = (line.match(/\b[A-Z]\d+\b/g) ?? []).findLast((found) => MEANINGS[found]);
   return make("div", { class: "refusal", role: "alert" },
     ...(lead ? [say(lead, { class: "lead" })] : []), make("strong", {}, line),
-    ...(faults[code] ?? []).map((words) => say(words)));
+    ...(MEANINGS[code] ?? []).map((words) => say(words)));
 }
 
 export function faultNodes(fault) {

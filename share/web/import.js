@@ -3,8 +3,7 @@
 
 import { command, deskPath, Refusal, shopPath } from "./api.js";
 import {
-  isOrders, isTable, projectText, readOrders, readTable, recordsOf, shopText, TABLE_FAULTS,
-  TableFault,
+  isOrders, isTable, projectText, readOrders, readTable, recordsOf, shopText, TableFault,
 } from "./csv.js";
 import { byId, fill, make, onSubmit, refusalNode, tableNode, tell, wideNode } from "./dom.js";
 import { takeStarts } from "./handin.js";
@@ -18,7 +17,6 @@ import { counted } from "./words.js";
 const LARGEST_FILE = 1048576;
 const CONTEXT = 12;
 const importButton = () => byId("import").querySelector("button");
-const listRefusal = (fault) => refusalNode(fault.message, "", TABLE_FAULTS);
 
 async function bytesOf(file) {
   const isLarge = file.size > LARGEST_FILE;
@@ -34,30 +32,22 @@ export async function takeFile(file) {
   forgetFile();
   fill("import-answer");
   const bytes = await bytesOf(file);
-  if (!bytes) return;
+  if (!bytes) return null;
   const { name } = file;
   const text = new TextDecoder().decode(bytes);
-  if (page.plan && isStarts(text)) {
-    await takeStarts(file);
-    return;
-  }
+  if (page.plan && isStarts(text)) return takeStarts(file);
   const instances = instancesOf(text);
   const isProject = /^\s*PRECEDENCE RELATIONS/m.test(text) || /\.sm$/i.test(name);
   const isList = !isProject && (/\.(csv|tsv)$/i.test(name) || isTable(text) || isOrders(text));
   page.file = { name, bytes, text, isProject: isProject || isTable(text), given: new Map() };
-  showFile(!isProject && !isList, instances);
-  if (isList) showList();
-  else if (isProject || instances.length < 2) byId("import").requestSubmit();
-  else byId("import").elements.instance.focus();
-}
-
-function showFile(isShop, instances) {
-  const { name, bytes } = page.file;
+  const { instance } = byId("import").elements;
   byId("chosen-name").textContent = `${name}, ${bytes.length.toLocaleString("en")} bytes`;
   fill("instances", ...instances.map((value) => make("option", { value })));
-  byId("import").elements.instance.value = instances[0] ?? "-";
-  byId("instance-label").hidden = !isShop;
+  instance.value = instances[0] ?? "-";
+  byId("instance-label").hidden = isProject || isList;
   byId("chosen").hidden = importButton().hidden = false;
+  if (isList) return showList();
+  return isProject || instances.length < 2 ? byId("import").requestSubmit() : instance.focus();
 }
 
 export function forgetFile() {
@@ -82,7 +72,7 @@ function showList() {
     if (!(thrown instanceof TableFault)) throw thrown;
     fault = thrown;
   }
-  const { resources = fault?.names ?? [], capacities = fault?.capacities } = list;
+  const { resources, capacities } = { resources: [], ...fault, ...list };
   importButton().hidden = Boolean(fault);
   fill("preview", ...(fault ? faultyNodes(file, fault)
     : list.orders ? shopNodes(file, list) : projectNodes(file, list)));
@@ -134,7 +124,7 @@ function faultyNodes({ name, text }, fault) {
   const { line, column, message } = fault;
   const isOpen = message.startsWith("T13");
   const records = isOpen ? linesOf(text) : recordsOf(text.replace(/^\ufeff/, ""));
-  return [listRefusal(fault), partNode(name, records, line, isOpen ? -1 : column)];
+  return [refusalNode(message), partNode(name, records, line, isOpen ? -1 : column)];
 }
 
 const linesOf = (text) => text.split("\n").map((line, at) =>
@@ -198,24 +188,22 @@ function noteFile(n, isProject, name, text, instance) {
 export async function takeNames(file) {
   const { plan } = page;
   const bytes = await bytesOf(file);
-  if (!bytes) return;
+  if (!bytes) return null;
   let text = new TextDecoder().decode(bytes);
   try {
     text = fileText(text, bytes);
   } catch (fault) {
     if (!(fault instanceof TableFault)) throw fault;
-    fill("names-answer", listRefusal(fault));
-    return;
+    return fill("names-answer", refusalNode(fault.message));
   }
   const instance = instanceIn(text, plan);
   if (instance === undefined) {
-    fill("names-answer",
+    return fill("names-answer",
       refusalNode(`${file.name} isn't the file of plan ${plan.n}: its durations differ.`));
-    return;
   }
   noteFile(plan.n, plan.kind === "project", file.name, text, instance);
   fill("names-answer", tell(`${file.name} is the file of plan ${plan.n}.`));
-  showPlan();
+  return showPlan();
 }
 
 // the instance that is a plan's, - for a project; undefined if there is none

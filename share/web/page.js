@@ -20,21 +20,15 @@ function showView(name) {
   byId("who").textContent = name === "office" ? "The office" : `Desk ${page.desk}`;
 }
 
-async function trying(words, action) {
-  try {
-    await action();
-  } catch (fault) {
-    if (fault instanceof Refusal && fault.message === "E01 key") fault.lead = words;
-    throw fault;
-  }
-}
+const trying = (words, action) => action().catch((fault) => {
+  if (fault instanceof Refusal && fault.message === "E01 key") fault.lead = words;
+  throw fault;
+});
 
-async function enterDesk(fields) {
-  const entered = newPage();
-  entered.desk = fields.desk.value;
-  entered.key = fields.key.value;
+async function enterDesk({ desk, key }) {
+  Object.assign(newPage(), { desk: desk.value, key: key.value });
   await trying("This desk and key don't match.", askLists);
-  fields.key.value = "";
+  key.value = "";
   leavePlan();
   forgetFile();
   showView("desk");
@@ -42,10 +36,10 @@ async function enterDesk(fields) {
   askMakespans();
 }
 
-async function enterOffice(fields) {
-  newPage().key = fields.key.value;
+async function enterOffice({ key }) {
+  newPage().key = key.value;
   await trying("This isn't the office's key.", tryOfficeKey);
-  fields.key.value = "";
+  key.value = "";
   showPublished();
   showView("office");
   byId("office-head").focus();
@@ -98,8 +92,8 @@ function letDescribe() {
   for (const place of document.querySelectorAll(".wide")) {
     Object.assign(place, { tabIndex: 0, role: "region" });
   }
-  const name = { pattern: "[a-z0-9][a-z0-9\\-]{0,31}" };
-  name.title = "1 to 32 of a to z, 0 to 9 and -, not beginning with -";
+  const name = { pattern: "[a-z0-9][a-z0-9\\-]{0,31}",
+    title: "1 to 32 of a to z, 0 to 9 and -, not beginning with -" };
   const key = { pattern: "[!-~]{8,64}", title: "8 to 64 characters without a blank" };
   const words = { autocomplete: "off", autocapitalize: "none", spellcheck: false, required: true };
   for (const input of document.querySelectorAll("[name=desk], input[name=code]")) {

@@ -100,10 +100,9 @@ export async function tryOfficeKey() {
   if (answer.message !== "E03 body") throw answer;
 }
 
-async function publish(fields) {
-  const made = await command("/office/capacities", "POST", {
-    code: fields.code.value, kind: fields.kind.value, capacity: fields.capacity.valueAsNumber,
-  });
+async function publish({ code, kind, capacity }) {
+  const made = await command("/office/capacities", "POST",
+    { code: code.value, kind: kind.value, capacity: capacity.valueAsNumber });
   page.published.set(made.code, made);
   showPublished();
   return `${made.code} is a ${made.kind} of ${made.capacity}.`;
@@ -114,18 +113,16 @@ export function showPublished() {
   fill("published", codesTable(codes, "Nothing was published here yet."));
 }
 
-async function openDesk(fields) {
-  const body = { desk: fields.desk.value, key: fields.key.value };
-  const made = await command("/office/desks", "POST", body);
-  fields.key.value = "";
-  return `Desk ${made.desk} is open.`;
+async function openDesk({ desk, key }) {
+  await command("/office/desks", "POST", { desk: desk.value, key: key.value });
+  key.value = "";
+  return `Desk ${desk.value} is open.`;
 }
 
-async function setKey(fields) {
-  const path = `/office/desks/${encodeURIComponent(fields.desk.value)}/key`;
-  const made = await command(path, "POST", { key: fields.key.value });
-  fields.key.value = "";
-  return `Desk ${made.desk} has another key.`;
+async function setKey({ desk, key }) {
+  await command(`/office/desks/${encodeURIComponent(desk.value)}/key`, "POST", { key: key.value });
+  key.value = "";
+  return `Desk ${desk.value} has another key.`;
 }
 
 export function letOfficeAct() {
@@ -160,10 +157,10 @@ export async function askAgain() {
   byId("lost").hidden = true;
   for (const node of document.querySelectorAll(".unanswered")) node.remove();
   await showAgain();
+  const missing = (from, list) => from.filter((n) => !list.includes(n));
   const changes = [
-    ...numbers().filter((n) => !before.includes(n)).map((n) => `Plan ${n} is new in the list.`),
-    ...before.filter((n) => !numbers().includes(n))
-      .map((n) => `Plan ${n} isn't in the list any more.`),
+    ...missing(numbers(), before).map((n) => `Plan ${n} is new in the list.`),
+    ...missing(before, numbers()).map((n) => `Plan ${n} isn't in the list any more.`),
   ];
   byId("news").textContent = `The office has answered. ${
     isOffice ? "Each command of this page can safely be sent again."

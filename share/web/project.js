@@ -16,15 +16,12 @@ const titleOf = (line) => TITLES.find((title) => line.startsWith(title));
 
 function sectionsOf(text, title) {
   const sections = [];
-  let lines = null;
+  let own = null;
   for (const line of keptLines(text)) {
     const found = titleOf(line);
-    if (found) {
-      lines = found === title ? [] : null;
-      if (lines) sections.push(lines);
-    } else if (lines) {
-      lines.push(line);
-    }
+    if (found === title) sections.push(own = []);
+    else if (found) own = null;
+    else own?.push(line);
   }
   return sections;
 }
@@ -59,10 +56,8 @@ function titleIn(text) {
   return lines.length && !HEAD.test(first) && !titleOf(first) ? first : undefined;
 }
 
-function valueOf(text, key) {
-  const line = keptLines(text).find((kept) => kept.startsWith(key));
-  return Number((line ?? "").split(":")[1]?.trim().split(/\s+/)[0]);
-}
+const valueOf = (text, key) =>
+  Number(text.match(new RegExp(`^[ \\t]*${key}[^:\n]*:\\s*(\\d+)`, "m"))?.[1]);
 
 /** Returns the model of a project file with its names and its title; null if it can't be read. */
 export function readProject(text) {

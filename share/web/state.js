@@ -22,54 +22,42 @@ export function newPage() {
 }
 
 export const RULES = {
-  project: ["lft", "slk", "spt", "mts", "num"], shop: ["mwkr", "spt", "fcfs"] };
+  project: ["lft", "slk", "spt", "mts", "num"], shop: ["mwkr", "spt", "fcfs"],
+};
 export const CODE_KINDS = { project: "crew", shop: "machine" };
 export const WORDS_OF_KIND = { project: "project", shop: "job shop" };
 
-// the browser's memory, which may be closed
-function storage() {
+// uses the browser's memory, which may be closed, full or damaged: the page goes on without it
+function withMemory(action) {
   try {
-    return globalThis.localStorage;
+    return action(localStorage);
   } catch {
     return undefined;
   }
 }
 
-export const isRemembering = () => storage()?.getItem(SWITCH) !== "1";
+export const isRemembering = () => withMemory((memory) => memory.getItem(SWITCH)) !== "1";
 
 const keyOf = (n) => `${PREFIX}${page.desk}/${n}`;
 
-/** Switches the memory of this computer; switching it off forgets all desks. */
-export function setRemembering(isOn) {
-  const place = storage();
-  if (!place) return;
-  if (isOn) {
-    place.removeItem(SWITCH);
-    for (const [n, record] of page.records) write(n, record);
-    return;
-  }
-  for (const key of Object.keys(place)) if (key.startsWith(PREFIX)) place.removeItem(key);
-  place.setItem(SWITCH, "1");
-}
+const write = (n, record) => isRemembering()
+  && withMemory((memory) => memory.setItem(keyOf(n), JSON.stringify(record)));
 
-function write(n, record) {
-  if (!isRemembering()) return;
-  try {
-    storage()?.setItem(keyOf(n), JSON.stringify(record));
-  } catch {
-    // the memory is full: the page goes on without it
+/** Switches the memory of this computer; switching it off forgets all desks. */
+export const setRemembering = (isOn) => withMemory((memory) => {
+  if (isOn) {
+    memory.removeItem(SWITCH);
+    page.records.forEach((record, n) => write(n, record));
+  } else {
+    for (const key of Object.keys(memory)) if (key.startsWith(PREFIX)) memory.removeItem(key);
+    memory.setItem(SWITCH, "1");
   }
-}
+});
 
 /** Returns the record of a plan: { title, names, resources, shape, makespan, set }. */
 export function recordOf(n) {
   if (!page.records.has(n)) {
-    let record = null;
-    try {
-      record = JSON.parse(storage()?.getItem(keyOf(n)) ?? null);
-    } catch {
-      // a record that can't be read is none
-    }
+    const record = withMemory((memory) => JSON.parse(memory.getItem(keyOf(n))));
     page.records.set(n, record ?? {});
   }
   return page.records.get(n);
@@ -83,17 +71,11 @@ export function remember(n, members) {
 
 export function forget(n) {
   page.records.delete(n);
-  storage()?.removeItem(keyOf(n));
+  withMemory((memory) => memory.removeItem(keyOf(n)));
 }
 
-/** Returns a short text that is the same for plans of the same rows. */
-export function shapeOf(rows) {
-  let code = 2166136261;
-  for (const letter of rows.map(({ d, mach = "" }) => `${d}:${mach}`).join()) {
-    code = Math.imul(code ^ letter.codePointAt(0), 16777619) >>> 0;
-  }
-  return `${rows.length}-${code.toString(16)}`;
-}
+/** Returns a text that is the same for plans of the same rows. */
+export const shapeOf = (rows) => rows.map(({ d, mach = "" }) => `${d}:${mach}`).join();
 
 export function rememberChange(n, kind, value) {
   const now = new Date();

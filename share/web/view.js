@@ -99,8 +99,8 @@ export function nameOf(plan, rule) {
 export function namesIn({ n, schedules }) {
   const { title = "", names = {}, resources = {}, shape } = recordOf(n);
   const [table] = schedules.values();
-  const isSame = !shape || !table || shape === shapeOf(table.rows);
-  return isSame ? { title, names, resources } : { title: "", names: {}, resources: {} };
+  const isOther = shape && table && shape !== shapeOf(table.rows);
+  return isOther ? { title: "", names: {}, resources: {} } : { title, names, resources };
 }
 
 function rowsOf(plan, table, dates, slack) {
