@@ -162,7 +162,8 @@ function useNodes(view, scale, width) {
 
 export function showChart(view) {
   const width = Math.max(280, byId("drawing").clientWidth || 320);
-  const chart = chartOf(view, width, view.lines, heightOfRows(view.lines.length));
+  const lines = [...view.lineNames.keys()];
+  const chart = chartOf(view, width, lines, heightOfRows(lines.length));
   Object.assign(chart.body, { tabIndex: 0, role: "application",
     ariaLabel: "Chart; arrow keys go from bar to bar" });
   byId("caption").textContent = captionOf(view);
@@ -187,7 +188,7 @@ function headNode(view, place, count) {
 const titleOf = (plan) => namesIn(plan).title || `Plan ${plan.n}`;
 
 export function fillPaper(view) {
-  const pages = pagesOf(view.lines, SHEET.lines);
+  const pages = pagesOf([...view.lineNames.keys()], SHEET.lines);
   const charts = pages.map((lines, index) => {
     const isDense = lines.length > 24;
     const { axis, body, scale } = chartOf(view, SHEET.width, lines, isDense ? 14 : 22);

@@ -92,8 +92,8 @@ function letDescribe() {
   for (const place of document.querySelectorAll(".wide")) {
     Object.assign(place, { tabIndex: 0, role: "region" });
   }
-  const name = { pattern: "[a-z0-9][a-z0-9\\-]{0,31}",
-    title: "1 to 32 of a to z, 0 to 9 and -, not beginning with -" };
+  const name = { pattern: "[a-z0-9][a-z0-9\\-]{0,31}" };
+  name.title = "1 to 32 of a to z, 0 to 9 and -, not beginning with -";
   const key = { pattern: "[!-~]{8,64}", title: "8 to 64 characters without a blank" };
   const words = { autocomplete: "off", autocapitalize: "none", spellcheck: false, required: true };
   for (const input of document.querySelectorAll("[name=desk], input[name=code]")) {

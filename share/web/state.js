@@ -22,8 +22,7 @@ export function newPage() {
 }
 
 export const RULES = {
-  project: ["lft", "slk", "spt", "mts", "num"], shop: ["mwkr", "spt", "fcfs"],
-};
+  project: ["lft", "slk", "spt", "mts", "num"], shop: ["mwkr", "spt", "fcfs"] };
 export const CODE_KINDS = { project: "crew", shop: "machine" };
 export const WORDS_OF_KIND = { project: "project", shop: "job shop" };
 

@@ -136,7 +136,7 @@ function projectBars({ plan, rows, slack }) {
       (need ? `; needs ${need} of ${resourceName(place + 1)}` : "")).join("");
     const bySlack = slack ? (row.slack ? "loose" : "tight") : "plain";
     return {
-      ...row, line: row.number, isAlone: true,
+      ...row, line: row.number, lineName: named(row.number, row.name), isAlone: true,
       labels: [`${row.number}${row.isCritical ? "*" : ""}`],
       colour: isByResource ? `c${most ? (most - 1) % 16 : "none"}` : bySlack,
       legend: isByResource && (most ? resourceName(most) : "no resource"),
@@ -145,28 +145,21 @@ function projectBars({ plan, rows, slack }) {
   });
 }
 
-const isByMachine = () => byId("lines").value === "mach";
-
 function shopBars({ rows }) {
   const bars = rows.map((row) => {
     const { job, step, machine, jobName, machineName } = row;
     const words = `Job ${named(job, jobName)}, step ${step}, machine ${named(machine, machineName)}`;
-    const bar = isByMachine()
-      ? { line: machine, key: job, labels: [jobName, `${job}.${step}`, `${job}`],
-        legend: jobName || `job ${job}` }
-      : { line: job, key: machine, labels: [machineName, `M${machine}`, `${machine}`],
+    const bar = byId("lines").value === "mach"
+      ? { line: machine, lineName: named(`M${machine}`, machineName), key: job,
+        labels: [jobName, `${job}.${step}`, `${job}`], legend: jobName || `job ${job}` }
+      : { line: job, lineName: named(`J${job}`, jobName), key: machine,
+        labels: [machineName, `M${machine}`, `${machine}`],
         legend: machineName || `machine ${machine}` };
     return { ...row, ...bar, words: words + timesOf(row) };
   });
   bars.sort((a, b) => a.line - b.line || a.start - b.start || a.index - b.index);
   const colours = coloursOf(bars);
   return bars.map((bar) => ({ ...bar, colour: `c${colours.get(bar.key)}` }));
-}
-
-function lineNameOf({ number, name, job, jobName, machine, machineName }) {
-  if (number) return [number, named(number, name)];
-  return isByMachine() ? [machine, named(`M${machine}`, machineName)]
-    : [job, named(`J${job}`, jobName)];
 }
 
 export function viewOf(plan) {
@@ -180,7 +173,7 @@ export function viewOf(plan) {
   return {
     plan, starts, slack, rows, bars, total: Math.max(...rows.map(({ end }) => end)),
     isNamed: rows.some(({ name }) => name), dates, calendar: dates && plan.calendar,
-    lines: [...new Set(bars.map(({ line }) => line))], lineNames: new Map(rows.map(lineNameOf)),
+    lineNames: new Map(bars.map(({ line, lineName }) => [line, lineName])),
   };
 }
 
