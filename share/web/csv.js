@@ -6,7 +6,7 @@ const MOST = { bytes: 1048576, rows: 500, resources: 16, orders: 50, machines: 2
 const FIXED = ["id", "name", "duration", "predecessors"];
 const SYNONYMS = new Map([["task", "name"], ["after", FIXED[3]], ["depends on", FIXED[3]]]);
 
-/** An error in a list, with the line and the column of its cell as far as there is one. */
+// the line and the column of the cell, as far as there is one
 export class TableFault extends Error {
   constructor(words, line = 0, column = -1) {
     super(words);
@@ -129,7 +129,7 @@ function rowOf({ line, cells }, columns, lines, number) {
   return row;
 }
 
-/** Returns the first cycle of rows, each a predecessor of the next one; null if there is none. */
+// each row of a cycle is a predecessor of the next one
 function cycleOf(rows) {
   const done = new Set();
   const firstIn = (places, path) => {

@@ -120,8 +120,8 @@ export function letTake(place, take) {
   });
 }
 
-export function download(name, type, text) {
-  const address = URL.createObjectURL(new Blob([text], { type }));
+export function download(name, text) {
+  const address = URL.createObjectURL(new Blob([text]));
   make("a", { href: address, download: name }).click();
   setTimeout(() => URL.revokeObjectURL(address), 10000);
 }

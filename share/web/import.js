@@ -6,11 +6,9 @@ import {
   isOrders, isTable, projectText, readOrders, readTable, recordsOf, shopText, TableFault,
 } from "./csv.js";
 import { byId, fill, make, onSubmit, refusalNode, tableNode, tell, wideNode } from "./dom.js";
-import { takeStarts } from "./handin.js";
-import { openPlan, showPlan } from "./plan.js";
+import { openPlan, showPlan, takeStarts } from "./plan.js";
 import { showPlans } from "./plans.js";
-import { instancesOf, readProject, readShop, stepsOf } from "./project.js";
-import { isStarts } from "./starts.js";
+import { instancesOf, isStarts, readProject, readShop, stepsOf } from "./project.js";
 import { page, remember, shapeOf } from "./state.js";
 import { counted } from "./words.js";
 
@@ -208,7 +206,7 @@ export async function takeNames(file) {
 
 // the instance that is a plan's, - for a project; undefined if there is none
 function instanceIn(text, { kind, schedules }) {
-  const [{ rows }] = schedules.values();
+  const [{ rows } = { rows: [] }] = schedules.values();
   if (kind === "shop") {
     const wanted = rows.map(({ mach, d }) => `${mach}:${d}`).join();
     return [...instancesOf(text), "-"].find((name) => stepsOf(text, name).join() === wanted);

@@ -4,7 +4,6 @@
 import { listenTo, Refusal } from "./api.js";
 import { letChange } from "./changes.js";
 import { byId, during, fill, letChoose, letTake, make, onSubmit } from "./dom.js";
-import { letHandIn } from "./handin.js";
 import { forgetFile, letImport, takeFile, takeNames } from "./import.js";
 import { leavePlan, letPlanAct, redraw, showPaper } from "./plan.js";
 import {
@@ -108,7 +107,6 @@ function letAct() {
   letImport();
   letPlanAct();
   letChange();
-  letHandIn();
   letOfficeAct();
   letChoose(byId("tabs"));
   letTake(byId("names-zone"), takeNames);

@@ -1,19 +1,21 @@
-// The plan that is open: asks for its pages, and shows its schedules as a chart and as tables.
+// The plan that is open: asks for its pages, shows its schedules as a chart and as tables, saves
+// them, and checks start times from elsewhere with the verdicts of `plan check`.
 
 import { ask, askTable, planPath, Refusal, tableOf } from "./api.js";
 import { showChanges } from "./changes.js";
 import { fillPaper, showChart } from "./chart.js";
-import { byId, faultNodes, fill, make, onSubmit, say, tableNode, tell } from "./dom.js";
-import { showHandIn } from "./handin.js";
+import {
+  byId, download, faultNodes, fill, letTake, make, onSubmit, refusalNode, say, tableNode, tell,
+} from "./dom.js";
 import { markOpen, showPlans } from "./plans.js";
+import { csvText, readStarts, StartsFault, startsText } from "./project.js";
+import { makespanOf, verdictOf } from "./slack.js";
 import { page, recordOf, remember, RULES, shapeOf, WORDS_OF_KIND } from "./state.js";
 import { showTable } from "./table.js";
 import { nameOf, namesIn, settleCalendar, settleModel, viewOf } from "./view.js";
 import { COLUMN_WORDS, RULE_WORDS } from "./words.js";
 
 let view = null;
-
-export const viewNow = () => view;
 
 export async function openPlan(n) {
   const { kind } = page.plans.find((plan) => plan.n === n);
@@ -94,8 +96,8 @@ export function showPlan() {
   showParts(plan);
   showChanges(plan);
   showDates(plan.dates);
+  byId("handin-words").textContent = "There is no schedule to hand in.";
   if (table) showSchedules();
-  else showHandIn(null);
 }
 
 function showParts(plan) {
@@ -112,7 +114,7 @@ function showParts(plan) {
 }
 
 /** Shows the schedules, and returns the function that points at a row. */
-export function showSchedules() {
+function showSchedules() {
   showChoice(page.plan);
   showRules(page.plan);
   return showDrawn();
@@ -124,7 +126,7 @@ function showDrawn() {
   const point = showChart(view);
   showTable(view, `Schedule by ${nameOf(plan, plan.drawn)}`);
   showDayNote(plan);
-  showHandIn(view);
+  byId("handin-words").textContent = `The schedule that is drawn: ${nameOf(plan, plan.drawn)}.`;
   return point;
 }
 
@@ -220,7 +222,79 @@ const solveNode = ({ kind }) => make("p", { class: "solve" },
   ", then drop what it prints on this page, or paste it under \"Hand in and check\". The page "
   + "checks and draws it.");
 
+// -- hand in and check
+
+const rowsFor = ({ rows, isNamed, dates }) =>
+  rows.map(({ number: act, job, step, machine: mach, d, start, end, name, first, last }) => ({
+    ...(act ? { act } : { job, step, mach }), d, start, end,
+    ...(isNamed && { name }), ...(dates && { first, last }),
+  }));
+
+// members of JSON are in the order of the alphabet
+const TEXTS = {
+  csv: () => csvText(rowsFor(view)),
+  json: () => `${JSON.stringify({
+    desk: page.desk, makespan: view.total, plan: view.plan.n, rows: rowsFor(view),
+    schedule: view.plan.drawn, title: namesIn(view.plan).title,
+  }, null, 1)}\n`,
+  "starts.txt": () => startsText(view.rows),
+};
+
+function save(form) {
+  if (view) download(`${page.desk}-plan-${view.plan.n}-${view.plan.drawn}.${form}`, TEXTS[form]());
+}
+
+// a verdict in steps and machines
+function shopWords(line, rows) {
+  const step = (_, number) => `step ${rows[number - 1].step} of job ${rows[number - 1].job}`;
+  return line.replace(/activity (\d+)/, step).replace(/(?<=before )(\d+)/, step)
+    .replace(/more of resource (\d+) is .*/,
+      (_, number) => `machine ${number - 1} has two steps`);
+}
+
+function checkStarts(text) {
+  const { plan } = page, { model, note, schedules } = plan;
+  const [{ heads, rows } = { rows: [] }] = schedules.values();
+  const isProject = plan.kind === "project";
+  const wanted = rows.map(({ act, job, step }) => (isProject ? `${act}` : `${job} ${step}`));
+  if (!model) {
+    throw new StartsFault(note ? `${note} Add the plan's file first.` : "There is no schedule.");
+  }
+  const starts = readStarts(text, plan.kind, wanted);
+  const { line, isFeasible, activity } = verdictOf(model, starts);
+  const total = makespanOf(model, starts);
+  schedules.set("own", { heads, total, rows: rows.map((row, at) =>
+    ({ ...row, start: starts[at], end: starts[at] + row.d })) });
+  plan.drawn = "own";
+  const point = showSchedules();
+  if (activity !== undefined) point(activity);
+  return { isFeasible, total, line: isProject ? line : shopWords(line, rows) };
+}
+
+function showVerdict(text) {
+  try {
+    const { line, isFeasible, total } = checkStarts(text);
+    const meaning = !isFeasible ? "Not feasible."
+      : line === "active" ? "Feasible, and nothing can start earlier by itself."
+        : "Feasible, but not active: all others fixed, this one could start earlier.";
+    fill("check-answer", make("div", { class: isFeasible ? "verdict" : "refusal", role: "status" },
+      make("strong", {}, line), say(`${meaning} Makespan ${total}.`)));
+  } catch (fault) {
+    if (!(fault instanceof StartsFault)) throw fault;
+    fill("check-answer", refusalNode(fault.message));
+  }
+  byId("check-answer").scrollIntoView({ block: "nearest" });
+}
+
+export async function takeStarts(file) {
+  byId("tab-handin").click();
+  showVerdict(await file.text());
+}
+
 export function letPlanAct() {
   onSubmit("best", searchBest);
+  onSubmit("check", async ({ starts }) => showVerdict(starts.value));
+  letTake(byId("check-zone"), takeStarts);
+  byId("saves").addEventListener("click", ({ target: { value } }) => value && save(value));
   for (const name of ["colours", "lines"]) byId(name).addEventListener("change", showDrawn);
 }

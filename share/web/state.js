@@ -1,6 +1,5 @@
-// The state of the page: who is signed in, the plans of the desk, and the plan that is open; and
-// what this browser remembers of plans: titles, names, and the changes that were made here. Keys
-// are never stored. With the switch off, all of it ends with the page.
+// The state of the page, and what this browser remembers of plans: titles, names, and the changes
+// that were made here. Keys are never stored. With the switch off, all of it ends with the page.
 
 const SWITCH = "plan/forget";
 const PREFIX = "plan/of/";

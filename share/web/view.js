@@ -1,6 +1,5 @@
 // What is shown of a plan: its model, which is what its file and this browser's changes say as far
 // as the office's tables agree with it; and the rows, bars and words of the schedule that is drawn.
-// Slack, verdicts and the use of resources come from the model alone.
 
 import {
   calendarFrom, calendarsOf, datesOf, dayAt, daysTold, onlyCalendar,

@@ -23,8 +23,8 @@ const TERMS = {
   "Bind": "give a resource or machine a published capacity in place of the file's.",
   "Makespan": "the time from the start to the last end.",
   "Rule": "decides which activity is placed next: the one with ..",
-  "Float": "how far an activity can slip if crews are not counted. A star marks float 0. If crews "
-    + "bind, a starred activity may have slack, and one without a star may have none.",
+  "Float": "how far an activity can slip if crews are not counted; a star marks float 0. If crews "
+    + "bind, a starred activity may have slack, and another may have none.",
   "Slack": "how much later an activity can start in the schedule that is drawn, all others fixed, "
     + "so that it stays feasible and no longer. It comes from the plan's file and the changes made "
     + "in this browser; if the office's dates or schedules differ from these, it isn't shown.",
@@ -45,8 +45,8 @@ export const LIST_FAULTS = {
   T9: ["A need isn't a whole number. An empty cell is 0."],
   T10: ["This resource has no capacity: enter it, or add a row whose id is capacity."],
   T11: ["These activities wait for each other."],
-  T12: ["This is beyond a limit: 500 activities, 16 resources, 50 orders, 20 machines, 10,000 for a "
-    + "duration or an amount, 1,000,000 for all durations, 200 bytes for a name."],
+  T12: ["The limits are 500 activities, 16 resources, 50 orders, 20 machines, 10,000 for a duration "
+    + "or an amount, 1,000,000 for all durations, and 200 bytes for a name."],
   T13: ["This row has more cells than the header, or a quote isn't closed."],
   T15: ["This order has more steps than there are machines."],
 };

@@ -1,5 +1,5 @@
 """Compares the modules of the browser page that compute (calendar, csv, slack, layout, project,
-starts, table) with Python's datetime and csv, with plain models, and with `plan`. Needs node.
+table) with Python's datetime and csv, with plain models, and with `plan`. Needs node.
 """
 
 import contextlib
@@ -530,27 +530,27 @@ def try_starts(modules, draw):
         table: starts, best: bests, " ".join(map(str, starts)): starts,
         "\n".join(map(str, starts)) + "\n": starts, "\n".join(lines): starts,
     }
-    calls = [["starts", "readStarts", [text, "project", wanted]] for text in texts]
+    calls = [["project", "readStarts", [text, "project", wanted]] for text in texts]
     for found, (text, model) in zip(modules.values(calls), texts.items()):
         same(f"the starts in {text!r}", found, model)
     steps = [f"{job} {step}" for job in range(1, 7) for step in range(1, 7)]
     shop = plan("shop", "spt", shops, "ft06")[1].decode()
-    found = modules.values([["starts", "readStarts", [shop, "shop", steps]]])[0]
+    found = modules.values([["project", "readStarts", [shop, "shop", steps]]])[0]
     same("the starts of a shop", found, [int(line.split()[4]) for line in shop.split("\n")[1:-2]])
     wrong = {"1 2 3": "3 start times; 14", "1 2 x": "x isn't", "-1": "-1 isn't",
              "act,start\n1,0\n": "no start of 2", "0 " * 13 + "10000001": "10000001 isn't"}
-    results = modules.call([["starts", "readStarts", [text, "project", wanted]] for text in wrong])
+    results = modules.call([["project", "readStarts", [text, "project", wanted]] for text in wrong])
     for result, (text, words) in zip(results, wrong.items()):
         same(f"the error of {text!r}", words in result.get("fault", ""), True)
     kinds = {table: True, best: True, "1 2 3": True, "act,d,start\n1,0,0": True,
              file_of("examples/house.sm").decode(): False, "id,duration\n": False,
              file_of("examples/shops.txt").decode(): False, "0 0": True,
              file_of("examples/printing.txt").decode(): False}
-    found = modules.values([["starts", "isStarts", [text]] for text in kinds])
+    found = modules.values([["project", "isStarts", [text]] for text in kinds])
     same("texts that are start times", found, list(kinds.values()))
     given = [{"act": 1, "name": 'Walls, "north"', "start": 0}, {"act": 2, "name": "=1+1", "start": 4},
              {"act": 3, "name": "-x", "start": 5}]
-    text = modules.values([["starts", "csvText", [given]]])[0]
+    text = modules.values([["project", "csvText", [given]]])[0]
     same("CSV that is written", list(csv.reader(io.StringIO(text))), [
         ["act", "name", "start"], ["1", 'Walls, "north"', "0"], ["2", "'=1+1", "4"],
         ["3", "'-x", "5"]])

@@ -533,7 +533,7 @@ def downloaded(browser, office, button):
     os.makedirs(room, exist_ok=True)
     browser.devtools("Browser.setDownloadBehavior", behavior="allow", downloadPath=room)
     open_tab(browser, "handin")
-    browser.click(f"#save-{button}")
+    browser.click(f"#saves [value^={button}]")
     for _ in range(300):
         names = [name for name in os.listdir(room) if not name.endswith(".crdownload")]
         if names:
