@@ -2,7 +2,7 @@
 // last values that this browser set, because the office has no route that returns them.
 
 import { command, planPath } from "./api.js";
-import { byId, fill, make, onSubmit } from "./dom.js";
+import { byId, fill, make, onSubmit, put } from "./dom.js";
 import { leavePlan, openPlan } from "./plan.js";
 import { dropPlan, showPlans } from "./plans.js";
 import { CODE_KINDS, page, recordOf, rememberChange } from "./state.js";
@@ -36,8 +36,8 @@ const setLag = ({ from, to, lag }) => changePlan("lag",
   (made) => `At least ${made.lag} between ${made.from} and ${made.to}.`);
 
 function isDeleteMeant() {
-  const dialog = byId("question");
-  dialog.firstElementChild.textContent = `Delete plan ${page.plan.n} of desk ${page.desk} for good?`;
+  const dialog = byId("question"), { desk, plan: { n } } = page;
+  dialog.firstElementChild.textContent = `Delete plan ${n} of desk ${desk} for good?`;
   dialog.returnValue = "no";
   dialog.showModal();
   return new Promise((answer) => {
@@ -51,13 +51,13 @@ async function deletePlan() {
   leavePlan();
   showPlans();
   byId("plans-head").focus();
-  byId("news").textContent = `Plan ${n} is deleted.`;
+  put("news", `Plan ${n} is deleted.`);
 }
 
 function showSet(place, changes, words) {
   const made = Object.values(changes ?? {}).sort((a, b) => a.time - b.time);
   const told = made.map((change) => `${words(change)} (set here on ${change.on})`);
-  byId(place).textContent = told.join("; ") || NOT_HERE;
+  put(place, told.join("; ") || NOT_HERE);
   return made.at(-1) ?? {};
 }
 
@@ -69,7 +69,7 @@ export function showChanges(plan) {
   const count = plan.model?.capacities.length ?? (isProject ? 16 : 20);
   place.min = isProject ? 1 : 0;
   place.max = isProject ? count : count - 1;
-  byId("place-word").textContent = word;
+  put("place-word", word);
   fill("places", ...Object.entries(namesIn(plan).resources)
     .map(([value, name]) => make("option", { value }, name)));
   code.replaceChildren(...page.codes.filter(({ kind }) => kind === CODE_KINDS[plan.kind])
@@ -85,8 +85,8 @@ export function showChanges(plan) {
   byId("lag").hidden = !isProject;
   byId("calendar").elements.start.value = calendar?.start ?? "";
   boxes().forEach((box, at) => { box.checked = (calendar?.days ?? "1111100")[at] === "1"; });
-  byId("calendar-set").textContent = calendar
-    ? `Set here on ${calendar.on}; the office doesn't tell it.` : NOT_HERE;
+  put("calendar-set", calendar
+    ? `Set here on ${calendar.on}; the office doesn't tell it.` : NOT_HERE);
 }
 
 export function letChange() {

@@ -1,7 +1,7 @@
 // The Gantt chart of a view and the use of its resources, as SVG: for the screen with bars that
 // tell their words; and for paper, A4 on its side: charts of 40 lines, and then the table.
 
-import { byId, draw, fill, make, say } from "./dom.js";
+import { byId, draw, fill, make, put, say } from "./dom.js";
 import {
   freeDays, heightOfRows, labelFor, marksOn, pagesOf, placeOfDate, scaleOf, shortened, today,
   widthOf,
@@ -114,7 +114,7 @@ function letTell(view, chart) {
     nodes[current]?.classList.remove("told");
     current = index;
     nodes[index].classList.add("told");
-    byId("told").textContent = chart.bars[index].words;
+    put("told", chart.bars[index].words);
     showLinks(view, chart, chart.bars[index].index);
   };
   const point = (event) => {
@@ -166,8 +166,8 @@ export function showChart(view) {
   const chart = chartOf(view, width, lines, heightOfRows(lines.length));
   Object.assign(chart.body, { tabIndex: 0, role: "application",
     ariaLabel: "Chart; arrow keys go from bar to bar" });
-  byId("caption").textContent = captionOf(view);
-  byId("told").textContent = "Point at a bar, or go from bar to bar by the arrow keys.";
+  put("caption", captionOf(view));
+  put("told", "Point at a bar, or go from bar to bar by the arrow keys.");
   fill("drawing", chart.axis, chart.body);
   fill("legend", ...legendNodes(view));
   fill("use", ...useNodes(view, chart.scale, width));

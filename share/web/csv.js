@@ -204,7 +204,8 @@ export function projectText({ rows, resources, capacities }) {
   const jobs = [dummy, ...rows.map(({ duration, needs, before }) => ({
     duration, needs, after: before.length ? before.map((at) => at + 2) : [last],
   })), { ...dummy, after: [] }];
-  const lines = (rowOf) => jobs.map((job, at) => `${[at + 1, 1, ...rowOf(job)].join(" ")}\n`).join("");
+  const lines = (wordsOf) =>
+    jobs.map((job, at) => `${[at + 1, 1, ...wordsOf(job)].join(" ")}\n`).join("");
   return `projects: 1
 jobs: ${last}
 - renewable: ${amounts.length}

@@ -7,6 +7,9 @@ import { LIST_FAULTS } from "./words.js";
 
 export const byId = (name) => document.getElementById(name);
 export const fill = (name, ...nodes) => byId(name).replaceChildren(...nodes);
+export const put = (name, words) => { byId(name).textContent = words; };
+export const clear = (css) =>
+  document.querySelectorAll(css).forEach((place) => place.replaceChildren());
 
 function dressed(node, attributes, children) {
   for (const [name, value] of Object.entries(attributes)) {

@@ -5,11 +5,11 @@ import { command, deskPath, Refusal, shopPath } from "./api.js";
 import {
   isOrders, isTable, projectText, readOrders, readTable, recordsOf, shopText, TableFault,
 } from "./csv.js";
-import { byId, fill, make, onSubmit, refusalNode, tableNode, tell, wideNode } from "./dom.js";
+import { byId, fill, make, onSubmit, put, refusalNode, tableNode, tell, wideNode } from "./dom.js";
 import { openPlan, showPlan, takeStarts } from "./plan.js";
 import { showPlans } from "./plans.js";
 import { instancesOf, isStarts, readProject, readShop, stepsOf } from "./project.js";
-import { page, remember, shapeOf } from "./state.js";
+import { page, remember } from "./state.js";
 import { counted } from "./words.js";
 
 const LARGEST_FILE = 1048576;
@@ -39,7 +39,7 @@ export async function takeFile(file) {
   const isList = !isProject && (/\.(csv|tsv)$/i.test(name) || isTable(text) || isOrders(text));
   page.file = { name, bytes, text, isProject: isProject || isTable(text), given: new Map() };
   const { instance } = byId("import").elements;
-  byId("chosen-name").textContent = `${name}, ${bytes.length.toLocaleString("en")} bytes`;
+  put("chosen-name", `${name}, ${bytes.length.toLocaleString("en")} bytes`);
   fill("instances", ...instances.map((value) => make("option", { value })));
   instance.value = instances[0] ?? "-";
   byId("instance-label").hidden = isProject || isList;
@@ -167,7 +167,7 @@ async function importFile({ instance: { value } }) {
   noteFile(made.n, isProject, file.name, text, instance);
   page.plans = [...page.plans.filter(({ n }) => n !== made.n), made];
   showPlans();
-  if (isList) forgetFile();
+  if (instancesOf(text).length < 2) forgetFile();
   await openPlan(made.n);
   return `${file.name} is plan ${made.n}.`;
 }
@@ -178,8 +178,8 @@ function noteFile(n, isProject, name, text, instance) {
   if (isProject) page.projects.set(n, found);
   remember(n, {
     title: found.title ?? name.replace(/\.[^.]*$/, ""),
-    shape: isProject ? shapeOf(found.durations.map((d) => ({ d }))) : undefined,
-    names: Object.fromEntries(found.names), resources: Object.fromEntries(found.resources),
+    shape: undefined, names: Object.fromEntries(found.names),
+    resources: Object.fromEntries(found.resources),
   });
 }
 

@@ -3,7 +3,7 @@
 
 import { listenTo, Refusal } from "./api.js";
 import { letChange } from "./changes.js";
-import { byId, during, fill, letChoose, letTake, make, onSubmit } from "./dom.js";
+import { byId, clear, during, fill, letChoose, letTake, make, onSubmit, put } from "./dom.js";
 import { forgetFile, letImport, takeFile, takeNames } from "./import.js";
 import { leavePlan, letPlanAct, redraw, showPaper } from "./plan.js";
 import {
@@ -16,7 +16,7 @@ import { glossary } from "./words.js";
 function showView(name) {
   for (const view of ["door", "desk", "office"]) byId(view).hidden = view !== name;
   byId("leave").hidden = byId("who").hidden = name === "door";
-  byId("who").textContent = name === "office" ? "The office" : `Desk ${page.desk}`;
+  put("who", name === "office" ? "The office" : `Desk ${page.desk}`);
 }
 
 const trying = (words, action) => action().catch((fault) => {
@@ -47,12 +47,10 @@ async function enterOffice({ key }) {
 function leave() {
   newPage();
   byId("lost").hidden = true;
-  byId("news").textContent = "";
+  put("news", "");
   for (const form of document.forms) form.reset();
   byId("remember").checked = isRemembering();
-  const places = ".answer, #plans, #codes, #published, #drawing, #table, #rules, #dates, #use, "
-    + "#drawn label";
-  for (const place of document.querySelectorAll(places)) place.replaceChildren();
+  clear(".answer, .wide, #published, #drawing, #use, #drawn label");
   leavePlan();
   forgetFile();
   showView("door");
@@ -62,8 +60,8 @@ function leave() {
 function letDrop() {
   const isDesk = () => !byId("desk").hidden;
   const mark = (isOver) => document.body.classList.toggle("dropping", isOver);
-  document.addEventListener("dragover", () => mark(isDesk()), true);
-  for (const kind of ["dragleave", "drop"]) document.addEventListener(kind, () => mark(false), true);
+  addEventListener("dragover", () => mark(isDesk()), true);
+  for (const kind of ["dragleave", "drop"]) addEventListener(kind, () => mark(false), true);
   letTake(document, (file) => isDesk() && takeFile(file));
 }
 

@@ -5,7 +5,8 @@ import { ask, askTable, planPath, Refusal, tableOf } from "./api.js";
 import { showChanges } from "./changes.js";
 import { fillPaper, showChart } from "./chart.js";
 import {
-  byId, download, faultNodes, fill, letTake, make, onSubmit, refusalNode, say, tableNode, tell,
+  byId, clear, download, faultNodes, fill, letTake, make, onSubmit, put, refusalNode, say,
+  tableNode, tell,
 } from "./dom.js";
 import { markOpen, showPlans } from "./plans.js";
 import { csvText, readStarts, StartsFault, startsText } from "./project.js";
@@ -57,16 +58,14 @@ const headOf = ({ n, kind }) => `Plan ${n}, a ${WORDS_OF_KIND[kind]}`;
 
 function awaitPlan(isNew) {
   view = null;
-  byId("plan-head").textContent = headOf(page.plan);
+  put("plan-head", headOf(page.plan));
   fill("plan-answer", tell("Asking the office …"));
   byId("plan-body").hidden = true;
   byId("plan").hidden = false;
   byId("plan").ariaBusy = "true";
   fill("best-answer");
   if (!isNew) return;
-  const notices = "#changes .answer, #handin .answer, #import-answer, #plans-answer, "
-    + "#names-answer, #news";
-  for (const place of document.querySelectorAll(notices)) place.replaceChildren();
+  clear("#changes .answer, #handin .answer, #import-answer, #plans-answer, #names-answer, #news");
   byId("tab-table").click();
   byId("plan-head").focus();
 }
@@ -96,7 +95,7 @@ export function showPlan() {
   showParts(plan);
   showChanges(plan);
   showDates(plan.dates);
-  byId("handin-words").textContent = "There is no schedule to hand in.";
+  put("handin-words", "There is no schedule to hand in.");
   if (table) showSchedules();
 }
 
@@ -104,11 +103,11 @@ function showParts(plan) {
   const { kind, model, note } = plan;
   const { title, names } = namesIn(plan);
   const isProject = kind === "project";
-  byId("plan-head").textContent = headOf(plan) + (title && `: ${title}`);
+  put("plan-head", headOf(plan) + (title && `: ${title}`));
   byId("lines-label").hidden = isProject;
   byId("colours-label").hidden = !isProject || !model;
   byId("note").hidden = !note;
-  byId("note").textContent = note;
+  put("note", note);
   byId("names-zone").hidden = isProject ? Boolean(model) : Object.keys(names).length > 0;
   if (!model) byId("colours").value = "slack";
 }
@@ -126,7 +125,7 @@ function showDrawn() {
   const point = showChart(view);
   showTable(view, `Schedule by ${nameOf(plan, plan.drawn)}`);
   showDayNote(plan);
-  byId("handin-words").textContent = `The schedule that is drawn: ${nameOf(plan, plan.drawn)}.`;
+  put("handin-words", `The schedule that is drawn: ${nameOf(plan, plan.drawn)}.`);
   return point;
 }
 
@@ -263,8 +262,10 @@ function checkStarts(text) {
   const starts = readStarts(text, plan.kind, wanted);
   const { line, isFeasible, activity } = verdictOf(model, starts);
   const total = makespanOf(model, starts);
-  schedules.set("own", { heads, total, rows: rows.map((row, at) =>
-    ({ ...row, start: starts[at], end: starts[at] + row.d })) });
+  schedules.set("own", {
+    heads, total, verdict: isFeasible ? "" : " (not feasible)",
+    rows: rows.map((row, at) => ({ ...row, start: starts[at], end: starts[at] + row.d })),
+  });
   plan.drawn = "own";
   const point = showSchedules();
   if (activity !== undefined) point(activity);

@@ -2,7 +2,7 @@
 // window gets the focus; the office's own forms; and what is done when a connection is lost.
 
 import { ask, askTable, command, deskPath, Lost, orRefusal, planPath, Refusal } from "./api.js";
-import { byId, during, fill, make, onSubmit, say, tableNode } from "./dom.js";
+import { byId, during, fill, make, onSubmit, put, say, tableNode } from "./dom.js";
 import { openPlan, leavePlan } from "./plan.js";
 import { forget, page, recordOf, remember, RULES, WORDS_OF_KIND } from "./state.js";
 
@@ -140,9 +140,9 @@ export function noteLost(words, method) {
     ? "A command was on its way, and it isn't known whether it was carried out. "
       + "Nothing is sent again before the office has been asked."
     : "Nothing has changed. The page shows what was answered before.";
-  byId("lost-words").textContent = `The connection is lost. ${words} ${meaning}`;
+  put("lost-words", `The connection is lost. ${words} ${meaning}`);
   byId("lost").hidden = false;
-  byId("news").textContent = "";
+  put("news", "");
 }
 
 export function noteAnswered() {
@@ -162,7 +162,7 @@ export async function askAgain() {
     ...missing(numbers(), before).map((n) => `Plan ${n} is new in the list.`),
     ...missing(before, numbers()).map((n) => `Plan ${n} isn't in the list any more.`),
   ];
-  byId("news").textContent = `The office has answered. ${
+  put("news", `The office has answered. ${
     isOffice ? "Each command of this page can safely be sent again."
-      : changes.join(" ") || "The list has the same plans as before."}`;
+      : changes.join(" ") || "The list has the same plans as before."}`);
 }

@@ -9,9 +9,10 @@ let sorting = { n: 0, head: "", isDown: false };
 const nameOf = (head) => ({ first: "first day", last: "last day" })[head] ?? head;
 
 /** Returns the members of a row that are known, which are the columns. */
-const columnsOf = ({ plan, isNamed, dates, slack }) => [
-  ...(plan.kind === "shop" ? ["job", "step", "machine"] : isNamed ? ["number", "name"] : ["number"]),
-  "start", "end", ...(dates ? ["first", "last"] : []), ...(plan.dates?.rows ? ["float"] : []),
+const columnsOf = ({ plan: { kind, dates }, isNamed, dates: days, slack }) => [
+  ...(kind === "shop" ? ["job", "step", "machine"] : ["number"]),
+  ...(kind === "project" && isNamed ? ["name"] : []), "start", "end",
+  ...(days ? ["first", "last"] : []), ...(dates?.rows ? ["float"] : []),
   ...(slack ? ["slack"] : []),
 ];
 

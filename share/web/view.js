@@ -91,7 +91,7 @@ function datesIn(plan, rule) {
 
 export function nameOf(plan, rule) {
   const { verdict, total } = plan.schedules.get(rule);
-  return rule === "best" ? `best ${verdict} ${total}` : `${rule} ${total}`;
+  return rule === "best" ? `best ${verdict} ${total}` : `${rule} ${total}${verdict}`;
 }
 
 /** Returns the title and the names of a plan; none if they were remembered of other rows. */
@@ -147,7 +147,8 @@ function projectBars({ plan, rows, slack }) {
 function shopBars({ rows }) {
   const bars = rows.map((row) => {
     const { job, step, machine, jobName, machineName } = row;
-    const words = `Job ${named(job, jobName)}, step ${step}, machine ${named(machine, machineName)}`;
+    const words =
+      `Job ${named(job, jobName)}, step ${step}, machine ${named(machine, machineName)}`;
     const bar = byId("lines").value === "mach"
       ? { line: machine, lineName: named(`M${machine}`, machineName), key: job,
         labels: [jobName, `${job}.${step}`, `${job}`], legend: jobName || `job ${job}` }

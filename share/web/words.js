@@ -39,14 +39,14 @@ export const LIST_FAULTS = {
     + "and then pairs of machine and time."],
   T4: ["Two columns have this name."],
   T5: ["The duration isn't a whole number without a unit."],
-  T6: ["The id or name is missing. An id has 1 to 32 characters, and no blank, comma or semicolon."],
+  T6: ["The id or name is missing. An id has 1 to 32 characters, no blank, comma or semicolon."],
   T7: ["Two activities have this id."],
   T8: ["No activity has the id that this predecessor names."],
   T9: ["A need isn't a whole number. An empty cell is 0."],
   T10: ["This resource has no capacity: enter it, or add a row whose id is capacity."],
   T11: ["These activities wait for each other."],
-  T12: ["The limits are 500 activities, 16 resources, 50 orders, 20 machines, 10,000 for a duration "
-    + "or an amount, 1,000,000 for all durations, and 200 bytes for a name."],
+  T12: ["The limits are 500 activities, 16 resources, 50 orders, 20 machines, 10,000 for a "
+    + "duration or an amount, 1,000,000 for all durations, and 200 bytes for a name."],
   T13: ["This row has more cells than the header, or a quote isn't closed."],
   T15: ["This order has more steps than there are machines."],
 };

@@ -518,6 +518,9 @@ def visit_check(browser):
         found = "refusal" if "start" in line and "before" in line or "needed" in line else "verdict"
         same("its colour", browser.run("return document.querySelector('#check-answer > div')"
                                        ".className"), found)
+        named = f"own {max(ends)}" + (" (not feasible)" if found == "refusal" else "")
+        same("its name", seen(browser, "#drawn label:last-child").strip(), named)
+        same("its caption", named in seen(browser, "#caption"), True)
         if line.startswith("activity"):
             wait_text(browser, "#told", f"Activity {line.split()[1]}: ")
     browser.choose("#check-file", example("late.txt"))
@@ -1115,8 +1118,8 @@ def open_north(browser, office):
 
 
 def visit_pictures(browser, office):
-    """A project from a table, a job shop in the dark, and a table that is refused, where pictures are
-    wanted."""
+    """A project and a job shop from lists, a job shop in the dark, and a list with an error, if pictures
+    are wanted."""
     if "--pictures" not in sys.argv:
         return
     browser.resize(1120, 760)
@@ -1150,6 +1153,16 @@ def visit_pictures(browser, office):
     browser.run("scrollTo(0, 0)")
     shot(browser, "shop.png")
     browser.darken("light")
+    drop(browser, "shop.csv", file_of("examples/shop.csv").decode())
+    wait_text(browser, "#preview", "becomes a job shop")
+    submit(browser, "import")
+    wait_plan(browser, 4)
+    set_date(browser, "#calendar [name=start]", "2024-03-01")
+    submit(browser, "calendar")
+    open_tab(browser, "table")
+    browser.run("document.querySelector('#plan').scrollIntoView()")
+    browser.point("#drawing .bar[data-line='0'] rect")
+    shot(browser, "orders.png")
     drop(browser, "house.csv", table.replace("G H", "G X"))
     wait_text(browser, "#preview strong", "T8")
     browser.run("scrollTo(0, 0)")
