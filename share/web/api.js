@@ -10,7 +10,6 @@ const WORDS_IN_FRONT = {
   429: "Too many requests came in a short time. Wait a moment, and try again.",
 };
 
-/** An error line of the office, or of the server in front of it. */
 export class Refusal extends Error {}
 
 export class Lost extends Error {}
@@ -88,7 +87,7 @@ export async function orRefusal(asking) {
   }
 }
 
-/** Returns a table of the office by the names of its columns, with the lines around it. */
+/** Returns the rows of a table by the names of its columns, with the lines around it. */
 export function tableOf(text) {
   const lines = text.split("\n").filter((line) => line.trim()).map((line) =>
     line.trim().split(/\s+/).map((word) => (/^\d+$/.test(word) ? Number(word) : word)));

@@ -11,7 +11,6 @@ import { namesIn } from "./view.js";
 const NOT_HERE = "Not set on this computer; the office doesn't tell it.";
 const boxes = () => [...byId("marks").querySelectorAll("input")];
 
-/** Sends a change of the plan, remembers it, and asks for the plan's pages again. */
 async function changePlan(part, body, valueOf, words) {
   const { n } = page.plan;
   const made = await command(planPath(n, part), "POST", body);

@@ -104,7 +104,7 @@ function columnsOf({ line, cells }) {
   return columns;
 }
 
-/** Reads a row, from left to right. `lines` are the lines of all ids. */
+// from left to right; `lines` are the lines of all ids
 function rowOf({ line, cells }, columns, lines, number) {
   const row = { line, id: String(number), name: "", duration: 0, after: [], needs: [] };
   for (const { head, name, place, isResource } of columns) {
@@ -151,8 +151,7 @@ function linked(rows) {
   return made;
 }
 
-/** Reads a list of activities. `given` are capacities by the name of the resource, which override
- * those in the list. */
+/** Reads a list of activities. `given` are capacities that override those in the list. */
 export function readTable(bytes, given = new Map()) {
   const { header, filled } = readList(bytes);
   const columns = columnsOf(header);
@@ -194,8 +193,8 @@ export function readTable(bytes, given = new Map()) {
   return { rows: made, resources: names, capacities };
 }
 
-/** Returns a project file with the project of `plan import`: activities 1 and n + 2 are the start
- * and the end; a list without resources gives one of capacity 0. */
+/** Returns a project file: activities 1 and n + 2 are the start and the end; a list without
+ * resources gives one of capacity 0. */
 export function projectText({ rows, resources, capacities }) {
   const last = rows.length + 2;
   const amounts = resources.length ? capacities : [0];
@@ -265,8 +264,7 @@ export function readOrders(bytes) {
   return { orders, machines, steps };
 }
 
-/** Returns the job shop file of a list of orders: an order gets steps of time 0 on machines that it
- * doesn't use. */
+/** Returns a job shop file: an order gets steps of time 0 on machines that it doesn't use. */
 export function shopText({ orders, machines, steps }) {
   const rows = steps.map((own) => {
     const idle = machines.map((_, machine) => ({ machine, time: 0 }))

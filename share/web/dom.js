@@ -43,7 +43,7 @@ export function tableNode({ caption, heads, rows, foot, marks = [] }) {
 
 const MEANINGS = { ...FAULTS, ...LIST_FAULTS };
 
-/** Returns an error with the meaning of its last code; `lead` comes first if there is one. */
+/** Returns an error with the meaning of its last code. */
 export function refusalNode(line, lead = "") {
   const code = (line.match(/\b[A-Z]\d+\b/g) ?? []).findLast((found) => MEANINGS[found]);
   return make("div", { class: "refusal", role: "alert" },

@@ -46,8 +46,6 @@ E03: ["The body isn't a JSON object with all required members, each of its type 
 "Compare the body with docs/api.md."],
 E04: ["There is a desk of this name already.",
 "Choose another name, or give the desk a new key."],
-E05: ["The office has not published this code.",
-"Request the capacities, or publish the code."],
 E06: ["The code is published as the other kind, or bound to a plan of the other kind. Projects use crews, job shops use machines.",
 "Choose another code."],
 E08: ["The desk holds 100 plans, the maximum.",

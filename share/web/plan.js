@@ -36,7 +36,7 @@ export async function openPlan(n) {
   if (page.plan === plan) byId("plan").ariaBusy = null;
 }
 
-/** Asks for the schedule by each rule, and for working days until they determine the calendar. */
+// working days are asked for until they determine the calendar
 async function askSchedules(plan) {
   for (const rule of RULES[plan.kind]) {
     const table = await askTable(planPath(plan.n, "schedule", rule));

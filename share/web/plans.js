@@ -14,8 +14,8 @@ const numbers = () => page.plans.map(({ n }) => n);
 
 const isSame = (a, b) => JSON.stringify(a) === JSON.stringify(b);
 
-/** Asks for the list of plans and for the published capacities. Lists that are the same stay,
- * because a click that gives the window the focus would miss a new button. */
+/** Asks for both lists. Plans that are the same stay, because a click that gives the window the
+ * focus would miss a new button. */
 export async function askLists() {
   const { plans } = await ask(deskPath("plans"));
   const isOld = isSame(plans, page.plans);

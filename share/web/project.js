@@ -58,7 +58,7 @@ function titleIn(text) {
 const valueOf = (text, key) =>
   Number(text.match(new RegExp(`^[ \\t]*${key}[^:\n]*:\\s*(\\d+)`, "m"))?.[1]);
 
-/** Returns the model of a project file with its names and its title; null if it can't be read. */
+/** Returns the model of a project with its names and title; null if it can't be read. */
 export function readProject(text) {
   const count = valueOf(text, "jobs");
   const width = valueOf(text, "- renewable");
@@ -127,7 +127,6 @@ export function mostNeeded(needs, capacities) {
 
 const MOST_START = 10000000;
 
-/** A list of start times that can't be read, with the reason. */
 export class StartsFault extends Error {}
 
 function numbersOf(words) {
@@ -162,8 +161,7 @@ function csvIn(text) {
   return { heads: header.cells.map((cell) => cell.trim()), rows: rest.map(({ cells }) => cells) };
 }
 
-/** Reads start times. `kind` is project or shop; `wanted` numbers the plan's rows: "3", or "1 2"
- * for step 2 of job 1. */
+/** Reads start times. `wanted` numbers the plan's rows: "3", or "1 2" for step 2 of job 1. */
 export function readStarts(text, kind, wanted) {
   const found = tableIn(text) ?? csvIn(text);
   const keys = kind === "project" ? ["act"] : ["job", "step"];
@@ -186,7 +184,7 @@ export function isStarts(text) {
     || /^\ufeff?(act|job)[,;\t]([^\n]*[,;\t])?start\b/.test(text);
 }
 
-/** Returns a cell of CSV; a text that a spreadsheet would take for a formula gets a quote sign. */
+// a text that a spreadsheet would take for a formula gets a quote sign
 function cellOf(value) {
   const text = /^[=+\-@\t\r]/.test(value) && !/^-?\d/.test(value) ? `'${value}` : String(value);
   return /[",;\n\r]/.test(text) ? `"${text.replaceAll('"', '""')}"` : text;

@@ -37,7 +37,7 @@ function projectModel(plan) {
   return { ...project, arcs, capacities };
 }
 
-/** Returns whether the office's tables are those of a model: its dates and active schedules. */
+// the office's dates and active schedules are those of the model
 function agrees(model, { dates, schedules }) {
   const isSame = (head, side) => {
     const numbers = dates.rows.map((row) => row[head]);
@@ -79,8 +79,7 @@ export function settleCalendar(plan) {
   plan.calendar = isTold ? own : onlyCalendar(calendarsOf(told), total);
 }
 
-/** Returns the dates of a schedule of a plan, one for each row; null if they aren't known. The
- * office's own dates come first. */
+// the office's dates, or else those of the calendar if it is known
 function datesIn(plan, rule) {
   const days = plan.days.get(rule);
   if (days?.rows) return days.rows.map((row) => (row.first === "-" ? null : row));
