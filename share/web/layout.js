@@ -8,8 +8,8 @@ const COLOURS = 16;
 
 export const widthOf = (text) => text.length * LETTER;
 
-/** Returns the scale of an axis. Without a calendar a unit is a unit of working time, with one a day,
- * free days included. */
+/** Returns the scale of an axis. Without a calendar a unit is a unit of working time, with one it
+ * is a day, free days included. */
 export function scaleOf(calendar, total, left, right) {
   const known = calendar && dayAt(calendar, 0) !== null && dayAt(calendar, total) !== null;
   const origin = known ? dayAt(calendar, 0) : 0;

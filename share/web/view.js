@@ -183,6 +183,7 @@ export function legendOf({ bars, slack, plan }) {
   if (plan.kind === "project" && !items.length && slack) {
     items.push(["bar tight", "no slack in this schedule"]);
     items.push(["bar loose", "slack: it can start later by itself"]);
+    items.push(["", "slack by the plan's file and the changes set here"]);
   }
   if (bars.some(({ isCritical }) => isCritical)) items.push(["", `* ${STARRED}`]);
   return items;

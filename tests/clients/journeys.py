@@ -97,9 +97,12 @@ def journey_foreman(browser, office):
     lines = printed("best", "200000", "-", "shop", given=given)
     wait_text(browser, "#best-answer", f"{lines[0]}: ")
     same("the rules beside it", len(seen_table(browser, "#rules")[0]), 4 + 3 + 1)
-    heads, *rows = csv.reader(io.StringIO(downloaded(browser, office, "csv")[1]))
+    name, text = downloaded(browser, office, "csv")
+    heads, *rows = csv.reader(io.StringIO(text))
     at = [heads.index(head) for head in ("job", "step", "mach", "d", "start", "end")]
     same("the CSV", [[row[place] for place in at] for row in rows], [row[:6] for row in rows_of(lines)])
+    drop(browser, name, text)
+    wait_text(browser, "#check-answer strong", "active")
     browser.click("#leave")
 
 

@@ -200,6 +200,7 @@ def visit_bars(browser):
     legend = " ".join(texts(browser, "#legend li"))
     same("the legend", "may not slip" in legend, False)
     same("the star", "* critical by dates alone (crews not counted)" in legend, True)
+    same("where slack is from", "slack by the plan's file and the changes set here" in legend, True)
 
 
 def bar_classes(browser):
@@ -1071,6 +1072,10 @@ def visit_orders(browser):
     starts_are(browser, "0 3 5 3 7 8 13 17 20", "step 1 of job 3 can start earlier")
     wait_text(browser, "#told", "Job 3 order 4713, step 1, machine 1 press: 13 to 17")
     wait_text(browser, "#check-answer", "Makespan 20.")
+    lines = printed("solve", "-", "shop", given=given)
+    drop(browser, "solved.txt", "\n".join([*lines, ""]))
+    wait_text(browser, "#check-answer", f"Makespan {makespan_of(lines)}.")
+    wait_text(browser, "#check-answer p", "Feasible")
 
 
 def visit_quiet(browser):
