@@ -10,12 +10,11 @@ const WORDS_IN_FRONT = {
   429: "Too many requests came in a short time. Wait a moment, and try again.",
 };
 
-/** An error line of the office, or of the server in front of it. */
 export class Refusal extends Error {}
 
 export class Lost extends Error {}
 
-let hooks = { lost() {}, answered() {}, async unsure() {} };
+let hooks = {};
 
 export function listenTo(functions) {
   hooks = functions;
@@ -32,12 +31,11 @@ function judged(response, text) {
 }
 
 async function exchange(key, method, path, body) {
-  const headers = { "Desk-Key": key };
-  const signal = AbortSignal.timeout(MOST_MILLISECONDS);
   let response, text;
   try {
     response = await fetch(path, {
-      method, headers, body, signal, cache: "no-store", credentials: "omit", redirect: "error",
+      method, headers: { "Desk-Key": key }, body, signal: AbortSignal.timeout(MOST_MILLISECONDS),
+      cache: "no-store", credentials: "omit", redirect: "error",
     });
     text = await response.text();
   } catch {
@@ -48,10 +46,9 @@ async function exchange(key, method, path, body) {
 
 /** Sends a request after all earlier ones were answered. */
 export async function ask(path, method = "GET", body = undefined) {
-  const asking = page;
-  const key = asking.key;
-  const answer = asking.waiting.then(() => exchange(key, method, path, body));
-  asking.waiting = answer.catch(() => {});
+  const { key } = page;
+  const answer = page.waiting.then(() => exchange(key, method, path, body));
+  page.waiting = answer.catch(() => {});
   try {
     await answer;
     hooks.answered();
@@ -90,20 +87,19 @@ export async function orRefusal(asking) {
   }
 }
 
-const wordsOf = (line) => line.trim().split(/\s+/);
-
-/** Returns a table of the office by the names of its columns, with the lines around it. */
+/** Returns the rows of a table by the names of its columns, with the lines around it. */
 export function tableOf(text) {
-  const lines = text.split("\n").filter((line) => line.trim()).map(wordsOf);
-  const at = lines.findIndex((words) => words[0] === "act" || words[0] === "job");
+  const lines = text.split("\n").filter((line) => line.trim()).map((line) =>
+    line.trim().split(/\s+/).map((word) => (/^\d+$/.test(word) ? Number(word) : word)));
+  const at = lines.findIndex(([first]) => first === "act" || first === "job");
   const heads = lines[at] ?? [];
-  const rows = lines.slice(at + 1).filter((words) => /^\d/.test(words[0])).map((words) => ({
+  const isRow = ([first]) => typeof first === "number";
+  const rows = lines.slice(at + 1).filter(isRow).map((words) => ({
     ...Object.fromEntries(heads.map((head, place) => [head, words[place]])),
     isCritical: words.length > heads.length,
   }));
-  const last = lines.at(-1) ?? [""];
-  const total = /^\d/.test(last[0]) ? null : Number(last[1]);
-  return { heads, rows, verdict: at > 0 ? lines[0][0] : "", total };
+  const last = lines.at(-1) ?? [0];
+  return { heads, rows, verdict: at > 0 ? lines[0][0] : "", total: isRow(last) ? null : last[1] };
 }
 
 export async function askTable(path) {

@@ -17,31 +17,28 @@ export const dateOf = (day) => new Date(day * 86400000).toISOString().slice(0, 1
 
 export const weekdayOf = (day) => (((day + 3) % 7) + 7) % 7;
 
+export const isWorked = ({ marks }, day) => marks[weekdayOf(day)];
+
 export function calendarFrom(start, digits) {
-  const day = dayOf(start);
-  if (day === null || start < "1900-01-01" || start > "2199-12-31") return null;
+  const first = dayOf(start);
+  if (first === null || start < "1900-01-01" || start > "2199-12-31") return null;
   if (!/^[01]{7}$/.test(digits) || digits === "0000000") return null;
   const marks = [...digits].map((digit) => digit === "1");
-  const wait = WEEK.find((days) => marks[weekdayOf(day + days)]);
-  return { at: 0, day: day + wait, marks };
+  const day = WEEK.map((days) => first + days).find((next) => isWorked({ marks }, next));
+  return { at: 0, day, marks };
 }
-
-const offsetsOf = ({ day, marks }) =>
-  WEEK.filter((offset) => marks[weekdayOf(day + offset)]);
 
 /** Returns the day of a unit of time; null after 9999-12-31. */
 export function dayAt(calendar, time) {
-  const offsets = offsetsOf(calendar);
+  const offsets = WEEK.filter((offset) => isWorked(calendar, calendar.day + offset));
   const ahead = time - calendar.at;
   const weeks = Math.floor(ahead / offsets.length);
   const day = calendar.day + 7 * weeks + offsets[ahead - weeks * offsets.length];
   return day > LAST_DAY ? null : day;
 }
 
-export const isWorked = ({ marks }, day) => marks[weekdayOf(day)];
-
-/** Returns the first and the last date of each interval; null for those that take no time.
- * The whole is null if a date would be after 9999-12-31. */
+/** Returns the first and the last date of each interval; null for those that take no time, and for
+ * all if a date would be after 9999-12-31. */
 export function datesOf(calendar, intervals) {
   const dates = [];
   for (const { start, end } of intervals) {
@@ -52,15 +49,15 @@ export function datesOf(calendar, intervals) {
   return dates;
 }
 
-/** Returns the days of times that tables of the office tell: pairs of a table's rows with `start`
- * and `end`, and its rows with `first` and `last`. */
+/** Returns the days of times that tables of the office tell: pairs of rows with `start` and `end`,
+ * and of rows with `first` and `last`. */
 export function daysTold(pairs) {
   const told = new Map();
   for (const [rows, days] of pairs) {
     days.forEach(({ first, last }, index) => {
-      if (first === "-") return;
-      told.set(Number(rows[index].start), dayOf(first));
-      told.set(Number(rows[index].end) - 1, dayOf(last));
+      if (first !== "-") {
+        told.set(rows[index].start, dayOf(first)).set(rows[index].end - 1, dayOf(last));
+      }
     });
   }
   return told;
@@ -69,24 +66,15 @@ export function daysTold(pairs) {
 /** Returns all calendars that give these days to these times, at most 64. */
 export function calendarsOf(told) {
   if (!told.size) return [];
-  const times = [...told].sort((a, b) => a[0] - b[0]);
-  const [at, day] = times[0];
-  const found = [];
-  for (let bits = 1; bits < 128; bits += 1) {
-    const marks = WEEK.map((place) => Boolean(bits & (1 << place)));
-    const calendar = { at, day, marks };
-    const isSame = ([time, wanted]) => dayAt(calendar, time) === wanted;
-    if (marks[weekdayOf(day)] && times.every(isSame)) found.push(calendar);
-  }
-  return found;
+  const [[at, day]] = [...told].sort((a, b) => a[0] - b[0]);
+  return Array.from({ length: 127 }, (_, bits) =>
+    ({ at, day, marks: WEEK.map((place) => Boolean((bits + 1) & (1 << place))) }))
+    .filter((calendar) => isWorked(calendar, day)
+      && [...told].every(([time, wanted]) => dayAt(calendar, time) === wanted));
 }
 
-/** Returns the one calendar that a table of working days leaves, up to a time; null if several
- * differ before that time. */
+/** Returns one of the calendars if all give the same days up to a time; null if they don't. */
 export function onlyCalendar(calendars, total) {
-  if (!calendars.length) return null;
-  const days = (calendar) =>
-    Array.from({ length: total }, (_, time) => dayAt(calendar, time)).join();
-  const first = days(calendars[0]);
-  return calendars.every((calendar) => days(calendar) === first) ? calendars[0] : null;
+  const daysOf = (calendar) => Array.from({ length: total }, (_, at) => dayAt(calendar, at)).join();
+  return new Set(calendars.map(daysOf)).size === 1 ? calendars[0] : null;
 }

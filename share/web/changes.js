@@ -2,17 +2,15 @@
 // last values that this browser set, because the office has no route that returns them.
 
 import { command, planPath } from "./api.js";
-import { byId, fill, make, onSubmit } from "./dom.js";
-import { recordOf, rememberChange } from "./names.js";
+import { byId, fill, make, onSubmit, put } from "./dom.js";
 import { leavePlan, openPlan } from "./plan.js";
 import { dropPlan, showPlans } from "./plans.js";
-import { CODE_KINDS, page } from "./state.js";
+import { CODE_KINDS, page, recordOf, rememberChange } from "./state.js";
 import { namesIn } from "./view.js";
 
 const NOT_HERE = "Not set on this computer; the office doesn't tell it.";
-const boxesOf = (form) => [...form.querySelectorAll("input[type=checkbox]")];
+const boxes = () => [...byId("marks").querySelectorAll("input")];
 
-/** Sends a change of the plan, remembers it, and asks for the plan's pages again. */
 async function changePlan(part, body, valueOf, words) {
   const { n } = page.plan;
   const made = await command(planPath(n, part), "POST", body);
@@ -26,8 +24,8 @@ const bind = ({ place, code }) => changePlan("bind",
   (made) => ({ at: made.place, code: made.code }),
   (made) => `${byId("place-word").textContent} ${made.place} is ${made.code}.`);
 
-const setCalendar = ({ start }, form) => changePlan("calendar",
-  { start: start.value, days: boxesOf(form).map(({ checked }) => (checked ? "1" : "0")).join("") },
+const setCalendar = ({ start }) => changePlan("calendar",
+  { start: start.value, days: boxes().map(({ checked }) => Number(checked)).join("") },
   (made) => made,
   (made) => `From ${made.start} on; working days ${made.days}, Monday first.`);
 
@@ -37,8 +35,8 @@ const setLag = ({ from, to, lag }) => changePlan("lag",
   (made) => `At least ${made.lag} between ${made.from} and ${made.to}.`);
 
 function isDeleteMeant() {
-  const dialog = byId("question");
-  byId("question-words").textContent = `Delete plan ${page.plan.n} of desk ${page.desk} for good?`;
+  const dialog = byId("question"), { desk, plan: { n } } = page;
+  dialog.firstElementChild.textContent = `Delete plan ${n} of desk ${desk} for good?`;
   dialog.returnValue = "no";
   dialog.showModal();
   return new Promise((answer) => {
@@ -52,18 +50,16 @@ async function deletePlan() {
   leavePlan();
   showPlans();
   byId("plans-head").focus();
-  byId("news").textContent = `Plan ${n} is deleted.`;
+  put("news", `Plan ${n} is deleted.`);
 }
 
-/** Shows what was set here of one kind, and returns the last of it. */
 function showSet(place, changes, words) {
   const made = Object.values(changes ?? {}).sort((a, b) => a.time - b.time);
   const told = made.map((change) => `${words(change)} (set here on ${change.on})`);
-  byId(place).textContent = told.join("; ") || NOT_HERE;
+  put(place, told.join("; ") || NOT_HERE);
   return made.at(-1) ?? {};
 }
 
-/** Shows the forms of changes as the kind of the plan has them. */
 export function showChanges(plan) {
   const isProject = plan.kind === "project";
   const { bind: binds, calendar, lag: lags } = recordOf(plan.n).set ?? {};
@@ -72,7 +68,7 @@ export function showChanges(plan) {
   const count = plan.model?.capacities.length ?? (isProject ? 16 : 20);
   place.min = isProject ? 1 : 0;
   place.max = isProject ? count : count - 1;
-  byId("place-word").textContent = word;
+  put("place-word", word);
   fill("places", ...Object.entries(namesIn(plan).resources)
     .map(([value, name]) => make("option", { value }, name)));
   code.replaceChildren(...page.codes.filter(({ kind }) => kind === CODE_KINDS[plan.kind])
@@ -87,11 +83,9 @@ export function showChanges(plan) {
   lag.value = delayed.lag ?? "";
   byId("lag").hidden = !isProject;
   byId("calendar").elements.start.value = calendar?.start ?? "";
-  boxesOf(byId("calendar")).forEach((box, at) => {
-    box.checked = (calendar?.days ?? "1111100")[at] === "1";
-  });
-  byId("calendar-set").textContent = calendar
-    ? `Set here on ${calendar.on}; the office doesn't tell it.` : NOT_HERE;
+  boxes().forEach((box, at) => { box.checked = (calendar?.days ?? "1111100")[at] === "1"; });
+  put("calendar-set", calendar
+    ? `Set here on ${calendar.on}; the office doesn't tell it.` : NOT_HERE);
 }
 
 export function letChange() {

@@ -1,16 +1,20 @@
 // The Gantt chart of a view and the use of its resources, as SVG: for the screen with bars that
-// tell their words, and for paper.
+// tell their words; and for paper, A4 on its side: charts of 40 lines, and then the table.
 
-import { byId, draw, fill, make } from "./dom.js";
+import { byId, draw, fill, make, put, say } from "./dom.js";
 import {
-  freeDays, heightOfRows, labelFor, marksOn, placeOfDate, scaleOf, shortened, widthOf,
+  freeDays, heightOfRows, labelFor, marksOn, pagesOf, placeOfDate, scaleOf, shortened, today,
+  widthOf,
 } from "./layout.js";
 import { useOf } from "./slack.js";
+import { page, WORDS_OF_KIND } from "./state.js";
+import { paperTable } from "./table.js";
 import { legendOf, linksOf, nameOf, namesIn } from "./view.js";
 
 const AXIS = 22;
 const RIGHT = 26;
 const USE = 56;
+const SHEET = { width: 1040, lines: 40 };
 
 const lineNode = (name, x1, y1, x2, y2) => draw("line", { class: name, x1, y1, x2, y2 });
 const textNode = (name, x, y, ...words) => draw("text", { class: name, x, y }, ...words);
@@ -24,18 +28,15 @@ function roomForNames({ lineNames, plan }, width) {
 
 function behindNodes(scale, height) {
   const { x, unit } = scale;
-  const now = new Date();
-  const date = new Date(now - now.getTimezoneOffset() * 60000).toISOString().slice(0, 10);
-  const today = placeOfDate(scale, date);
-  const nodes = [
+  const now = placeOfDate(scale, today());
+  const upright = (name, place, ...words) => draw("line",
+    { class: name, x1: x(place), x2: x(place), y2: height }, ...words.map(titleNode));
+  return [
     ...freeDays(scale).map(({ place, days }) =>
-      draw("rect", { class: "free", x: x(place), y: 0, width: days * unit, height })),
-    ...marksOn(scale).map(({ place }) => lineNode("grid", x(place), 0, x(place), height)),
+      draw("rect", { class: "free", x: x(place), width: days * unit, height })),
+    ...marksOn(scale).map(({ place }) => upright("grid", place)),
+    ...(now === null ? [] : [upright("today", now, "today")]),
   ];
-  if (today === null) return nodes;
-  const line = lineNode("today", x(today), 0, x(today), height);
-  line.append(titleNode(`today, ${date}`));
-  return [...nodes, line];
 }
 
 const axisSvg = (scale, width) =>
@@ -64,7 +65,7 @@ function barNode(bar, y, height, scale) {
   ...(behind ? [textNode("behind", end + 7, y + height / 2, behind)] : []));
 }
 
-export function chartOf(view, width, lines, row) {
+function chartOf(view, width, lines, row) {
   const scale = scaleOf(view.calendar, view.total, roomForNames(view, width), width - RIGHT);
   const { left, right } = scale;
   const height = row * lines.length + 3, gap = row > 16 ? 3 : 1.5;
@@ -81,11 +82,11 @@ export function chartOf(view, width, lines, row) {
   return { axis: axisSvg(scale, width), body, scale, bars, places, row };
 }
 
-export const legendNodes = (view) => legendOf(view).map(([name, words]) => make("li", {},
+const legendNodes = (view) => legendOf(view).map(([name, words]) => make("li", {},
   ...(name ? [draw("svg", { viewBox: "0 0 20 12", "aria-hidden": "true" },
     draw("g", { class: name }, shapeNode(1, 1, 18, 10)))] : []), ` ${words}`));
 
-export function captionOf({ plan, calendar }) {
+function captionOf({ plan, calendar }) {
   const unit = calendar ? "weeks begin on Monday, free days are shaded" : "working time from 0";
   const rows = plan.kind === "project" ? "Activities" : "Steps";
   return `${rows} by ${nameOf(plan, plan.drawn)}; ${unit}`;
@@ -96,7 +97,7 @@ function showLinks(view, chart, index) {
   const bars = new Map(view.bars.map((bar) => [bar.index, bar]));
   const middle = (bar) => row * places.get(bar.line) + row / 2;
   const nodes = linksOf(view, index).map(([from, to]) => {
-    const [a, b] = [bars.get(from), bars.get(to)];
+    const a = bars.get(from), b = bars.get(to);
     const x = a.start < a.end ? scale.endOf(a.end) : scale.startOf(a.start, a.end);
     const end = scale.startOf(b.start, b.end);
     const bend = Math.max(x + 4, end - 8);
@@ -113,15 +114,14 @@ function letTell(view, chart) {
     nodes[current]?.classList.remove("told");
     current = index;
     nodes[index].classList.add("told");
-    byId("told").textContent = chart.bars[index].words;
+    put("told", chart.bars[index].words);
     showLinks(view, chart, chart.bars[index].index);
   };
   const point = (event) => {
     const index = nodes.indexOf(event.target.closest(".bar"));
     if (index >= 0) tell(index);
   };
-  chart.body.addEventListener("pointerover", point);
-  chart.body.addEventListener("pointerdown", point);
+  for (const kind of ["pointerover", "pointerdown"]) chart.body.addEventListener(kind, point);
   chart.body.addEventListener("keydown", (event) => {
     const step = { ArrowRight: 1, ArrowDown: 1, ArrowLeft: -1, ArrowUp: -1 }[event.key];
     if (!step) return;
@@ -151,7 +151,7 @@ function useSvg(steps, resource, capacity, name, scale, width, total) {
   lineNode("most", left, y(capacity), right, y(capacity)));
 }
 
-export function useNodes(view, scale, width) {
+function useNodes(view, scale, width) {
   const { plan: { kind, model, ...plan }, starts, total } = view;
   if (kind !== "project" || !model) return [];
   const { resources } = namesIn(plan);
@@ -162,14 +162,42 @@ export function useNodes(view, scale, width) {
 
 export function showChart(view) {
   const width = Math.max(280, byId("drawing").clientWidth || 320);
-  const chart = chartOf(view, width, view.lines, heightOfRows(view.lines.length));
+  const lines = [...view.lineNames.keys()];
+  const chart = chartOf(view, width, lines, heightOfRows(lines.length));
   Object.assign(chart.body, { tabIndex: 0, role: "application",
     ariaLabel: "Chart; arrow keys go from bar to bar" });
-  byId("caption").textContent = captionOf(view);
-  byId("told").textContent = "Point at a bar, or go from bar to bar by the arrow keys.";
+  put("caption", captionOf(view));
+  put("told", "Point at a bar, or go from bar to bar by the arrow keys.");
   fill("drawing", chart.axis, chart.body);
   fill("legend", ...legendNodes(view));
   fill("use", ...useNodes(view, chart.scale, width));
   const tell = letTell(view, chart);
   return (index) => tell(chart.bars.findIndex((bar) => bar.index === index));
+}
+
+// -- paper
+
+function headNode(view, place, count) {
+  const { plan } = view;
+  const pages = count > 1 ? `; chart ${place} of ${count}` : "";
+  return make("header", {}, make("h2", {}, titleOf(plan)),
+    say(`desk ${page.desk}, plan ${plan.n}, a ${WORDS_OF_KIND[plan.kind]}; schedule by ${
+      nameOf(plan, plan.drawn)}; printed on ${today()}${pages}`));
+}
+
+const titleOf = (plan) => namesIn(plan).title || `Plan ${plan.n}`;
+
+export function fillPaper(view) {
+  const pages = pagesOf([...view.lineNames.keys()], SHEET.lines);
+  const charts = pages.map((lines, index) => {
+    const isDense = lines.length > 24;
+    const { axis, body, scale } = chartOf(view, SHEET.width, lines, isDense ? 14 : 22);
+    const isLast = index === pages.length - 1;
+    const uses = isLast && !isDense ? useNodes(view, scale, SHEET.width).slice(0, 4) : [];
+    return make("section", { class: "sheet" }, headNode(view, index + 1, pages.length), axis, body,
+      make("ul", { class: "legend" }, ...legendNodes(view)), ...uses,
+      say(captionOf(view), { class: "hint" }));
+  });
+  fill("paper", ...charts, make("section", { class: "sheet rows" },
+    paperTable(view, `${titleOf(view.plan)}: ${captionOf(view)}`)));
 }

@@ -1,28 +1,12 @@
-// A table of activities, as spreadsheets save it, and the project file that it becomes: the rules
-// and the error codes T1 to T13 of `plan import`.
+// Lists that spreadsheets save, and the files that they become: a list of activities a project, a
+// list of orders a job shop. The rules and the error codes are those of `plan import`.
 
-const MOST = { bytes: 1048576, rows: 500, resources: 16, amount: 10000, work: 1000000, name: 200 };
+const MOST = { bytes: 1048576, rows: 500, resources: 16, orders: 50, machines: 20, amount: 10000,
+  work: 1000000, name: 200 };
 const FIXED = ["id", "name", "duration", "predecessors"];
 const SYNONYMS = new Map([["task", "name"], ["after", FIXED[3]], ["depends on", FIXED[3]]]);
 
-export const TABLE_FAULTS = {
-  T1: ["The table has more than 1,048,576 bytes."],
-  T2: ["This line isn't plain text in UTF-8. Save the table as CSV in UTF-8."],
-  T3: ["No column is named duration: name the one with the working days so."],
-  T4: ["Two columns have this name."],
-  T5: ["The duration isn't a whole number without a unit."],
-  T6: ["An id has 1 to 32 characters, and no blank, comma or semicolon."],
-  T7: ["Two activities have this id."],
-  T8: ["No activity has the id that this predecessor names."],
-  T9: ["A need isn't a whole number. An empty cell is 0."],
-  T10: ["This resource has no capacity: enter it, or add a row whose id is capacity."],
-  T11: ["These activities wait for each other."],
-  T12: ["This is beyond a limit: 500 activities, 16 resources, 10,000 for a duration or an amount, "
-    + "1,000,000 for all durations, 200 bytes for a name."],
-  T13: ["This row has more cells than the header, or a quote isn't closed."],
-};
-
-/** An error in a table, with the line and the column of its cell as far as there is one. */
+// the line and the column of the cell, as far as there is one
 export class TableFault extends Error {
   constructor(words, line = 0, column = -1) {
     super(words);
@@ -33,6 +17,8 @@ export class TableFault extends Error {
 function fail(words, line, column) {
   throw new TableFault(words, line, column);
 }
+
+const failAtLimit = (line, column) => fail(`T12 limit line ${line}`, line, column);
 
 const isText = (bytes) => {
   try {
@@ -77,6 +63,32 @@ export function recordsOf(text, mark = separatorOf(text)) {
   return records;
 }
 
+function readList(bytes) {
+  const [header = { line: 0, cells: [] }, ...rest] = recordsOf(decoded(bytes));
+  return { header, filled: rest.filter(({ cells }) => cells.some((cell) => cell.trim())) };
+}
+
+function checkCount({ cells }, { line, cells: { length } }) {
+  if (length > cells.length) fail(`T13 line ${line} cells`, line, cells.length);
+}
+
+function amountOf(text, words, line, place) {
+  if (!/^\d{1,9}$/.test(text)) fail(words, line, place);
+  if (Number(text) > MOST.amount) failAtLimit(line, place);
+  return Number(text);
+}
+
+function nameOf(text, line, place) {
+  if (new TextEncoder().encode(text).length > MOST.name) failAtLimit(line, place);
+  if (/[\u0000-\u001f]/.test(text)) fail(`T2 not text line ${line}`, line, place);
+  return text;
+}
+
+// stands in the place of a title
+export const IMPORTED = "plan import";
+
+// -- activities
+
 function columnsOf({ line, cells }) {
   const columns = [];
   cells.forEach((cell, place) => {
@@ -88,17 +100,11 @@ function columnsOf({ line, cells }) {
   });
   if (!columns.some(({ head }) => head === "duration")) fail("T3 no column duration", line);
   const extra = columns.filter(({ isResource }) => isResource)[MOST.resources];
-  if (extra) fail(`T12 limit line ${line}`, line, extra.place);
+  if (extra) failAtLimit(line, extra.place);
   return columns;
 }
 
-function amountOf(text, words, line, place) {
-  if (!/^\d{1,9}$/.test(text)) fail(words, line, place);
-  if (Number(text) > MOST.amount) fail(`T12 limit line ${line}`, line, place);
-  return Number(text);
-}
-
-/** Reads one row, from left to right. `lines` are the lines of all ids. */
+// from left to right; `lines` are the lines of all ids
 function rowOf({ line, cells }, columns, lines, number) {
   const row = { line, id: String(number), name: "", duration: 0, after: [], needs: [] };
   for (const { head, name, place, isResource } of columns) {
@@ -111,9 +117,7 @@ function rowOf({ line, cells }, columns, lines, number) {
       if (lines.get(text) !== line) failHere(`T7 line ${line} id ${text} twice`);
       row.id = text;
     } else if (head === "name") {
-      if (/[\u0000-\u001f]/.test(text)) failHere(`T2 not text line ${line}`);
-      if (new TextEncoder().encode(text).length > MOST.name) failHere(`T12 limit line ${line}`);
-      row.name = text;
+      row.name = nameOf(text, line, place);
     } else if (head === "duration") {
       row.duration = amountOf(text, `T5 line ${line} duration`, line, place);
     } else {
@@ -125,23 +129,18 @@ function rowOf({ line, cells }, columns, lines, number) {
   return row;
 }
 
-/** Returns the first cycle of rows, each a predecessor of the next one; null if there is none. */
+// each row of a cycle is a predecessor of the next one
 function cycleOf(rows) {
   const done = new Set();
-  const visit = (at, path) => {
-    if (path.includes(at)) return path.slice(path.indexOf(at));
-    if (done.has(at)) return null;
-    done.add(at);
-    return first(rows[at].before, (next) => visit(next, [...path, at]));
-  };
-  const first = (places, find) => {
-    for (const place of places) {
-      const found = find(place);
-      if (found) return found;
+  const firstIn = (places, path) => {
+    for (const at of places) {
+      if (path.includes(at)) return path.slice(path.indexOf(at));
+      const cycle = done.has(at) ? null : firstIn(done.add(at) && rows[at].before, [...path, at]);
+      if (cycle) return cycle;
     }
     return null;
   };
-  return first(rows.keys(), (at) => visit(at, []));
+  return firstIn(rows.keys(), []);
 }
 
 function linked(rows) {
@@ -152,18 +151,16 @@ function linked(rows) {
   return made;
 }
 
-/** Reads a table. `given` are capacities by the name of the resource, which override the table's.
- * */
+/** Reads a list of activities. `given` are capacities that override those in the list. */
 export function readTable(bytes, given = new Map()) {
-  const [header = { line: 1, cells: [] }, ...rest] = recordsOf(decoded(bytes));
+  const { header, filled } = readList(bytes);
   const columns = columnsOf(header);
   const resources = columns.filter(({ isResource }) => isResource);
   const idPlace = columns.find(({ head }) => head === "id")?.place;
   const idOf = ({ cells }) => (cells[idPlace] ?? "").trim();
-  const filled = rest.filter(({ cells }) => cells.some((cell) => cell.trim()));
-  const listed = filled.filter((record) => idOf(record) !== "capacity");
+  const isCapacity = (record) => idOf(record) === "capacity";
   const lines = new Map();
-  listed.forEach((record, at) => {
+  filled.filter((record) => !isCapacity(record)).forEach((record, at) => {
     const id = idPlace === undefined ? String(at + 1) : idOf(record);
     if (id && !lines.has(id)) lines.set(id, record.line);
   });
@@ -171,9 +168,8 @@ export function readTable(bytes, given = new Map()) {
   let work = 0;
   for (const record of filled) {
     const { line, cells } = record;
-    const most = header.cells.length;
-    if (cells.length > most) fail(`T13 line ${line} cells`, line, most);
-    if (idOf(record) === "capacity") {
+    checkCount(header, record);
+    if (isCapacity(record)) {
       for (const { place, name } of resources) {
         const text = (cells[place] ?? "").trim();
         if (text) found.set(name, amountOf(text, `T9 line ${line} need ${name}`, line, place));
@@ -182,13 +178,14 @@ export function readTable(bytes, given = new Map()) {
     }
     rows.push(rowOf(record, columns, lines, rows.length + 1));
     work += rows.at(-1).duration;
-    if (rows.length > MOST.rows || work > MOST.work) fail(`T12 limit line ${line}`, line);
+    if (rows.length > MOST.rows || work > MOST.work) failAtLimit(line);
   }
   const names = resources.map(({ name }) => name);
   const capacities = names.map((name) => given.get(name) ?? found.get(name));
   const lacking = names[capacities.indexOf(undefined)];
   if (lacking) {
-    throw Object.assign(new TableFault(`T10 no capacity ${lacking}`), { names, capacities });
+    throw Object.assign(new TableFault(`T10 no capacity ${lacking}`),
+      { resources: names, capacities });
   }
   const made = linked(rows);
   const cycle = cycleOf(made);
@@ -196,50 +193,92 @@ export function readTable(bytes, given = new Map()) {
   return { rows: made, resources: names, capacities };
 }
 
-const RULER = `${"*".repeat(72)}\n`;
-const spaced = (number, places) => ` ${String(number).padStart(places)}`;
-const columns = (first, further, numbers) =>
-  numbers.map((number, at) => spaced(number, at ? further : first)).join("");
-
-/** Returns the project file of a table, as `plan import` writes it: activities 1 and n + 2 are the
- * start and the end; a table without resources gives one of capacity 0. */
+/** Returns a project file: activities 1 and n + 2 are the start and the end; a list without
+ * resources gives one of capacity 0. */
 export function projectText({ rows, resources, capacities }) {
   const last = rows.length + 2;
   const amounts = resources.length ? capacities : [0];
-  const none = amounts.map(() => 0);
-  const start = { duration: 0, needs: none,
-    successors: rows.flatMap(({ after }, at) => (after.length ? [] : [at + 2])) };
-  const jobs = [start, ...rows.map(({ duration, needs, before }) => ({
-    duration, needs: resources.length ? needs : none,
-    successors: before.length ? before.map((at) => at + 2) : [last],
-  })), { duration: 0, needs: none, successors: [] }];
-  const horizon = jobs.reduce((sum, { duration }) => sum + duration, 0);
-  const heads = amounts.map((_, at) => `  R ${at + 1}`).join("");
-  return [
-    RULER, "file with basedata            : plan import\n",
-    "initial value random generator: 1\n", RULER,
-    "projects                      :  1\n", `jobs (incl. supersource/sink ):  ${last}\n`,
-    `horizon                       :  ${horizon}\nRESOURCES\n`,
-    `  - renewable                 :  ${amounts.length}   R\n`,
-    "  - nonrenewable              :  0   N\n  - doubly constrained        :  0   D\n", RULER,
-    "PROJECT INFORMATION:\npronr.  #jobs rel.date duedate tardcost  MPM-Time\n",
-    `    1${spaced(rows.length, 6)}      0${spaced(horizon, 8)}        0${spaced(horizon, 8)}\n`,
-    RULER,
-    "PRECEDENCE RELATIONS:\njobnr.    #modes  #successors   successors\n",
-    ...jobs.map(({ successors }, at) => `${String(at + 1).padStart(4)}${spaced(1, 8)}`
-      + `${spaced(successors.length, 10)}${columns(11, 3, successors)}\n`), RULER,
-    `REQUESTS/DURATIONS:\njobnr. mode duration${heads}\n${"-".repeat(72)}\n`,
-    ...jobs.map(({ duration, needs }, at) => `${String(at + 1).padStart(3)}${spaced(1, 6)}`
-      + `${spaced(duration, 5)}${columns(7, 4, needs)}\n`), RULER,
-    `RESOURCEAVAILABILITIES:\n${heads}\n${columns(4, 4, amounts)}\n`, RULER,
-    "PROJECT INFORMATION:\n",
-    ...rows.map(({ name }, at) => (name ? `name ${at + 2} ${name}\n` : "")),
-    ...resources.map((name, at) => `resource ${at + 1} ${name}\n`), RULER,
-  ].join("");
+  const firsts = rows.flatMap(({ after }, at) => (after.length ? [] : [at + 2]));
+  const dummy = { duration: 0, needs: [], after: firsts };
+  const jobs = [dummy, ...rows.map(({ duration, needs, before }) => ({
+    duration, needs, after: before.length ? before.map((at) => at + 2) : [last],
+  })), { ...dummy, after: [] }];
+  const lines = (wordsOf) =>
+    jobs.map((job, at) => `${[at + 1, 1, ...wordsOf(job)].join(" ")}\n`).join("");
+  return `projects: 1
+jobs: ${last}
+- renewable: ${amounts.length}
+- nonrenewable: 0
+- doubly constrained: 0
+PRECEDENCE RELATIONS:
+job, modes, successors
+${lines(({ after }) => [after.length, ...after])}REQUESTS/DURATIONS:
+job, mode, duration, needs
+${lines(({ duration, needs }) => [duration, ...amounts.map((_, at) => needs[at] ?? 0)])
+}RESOURCEAVAILABILITIES:
+capacities
+${amounts.join(" ")}
+PROJECT INFORMATION:
+${rows.map(({ name }, at) => (name ? `name ${at + 2} ${name}\n` : "")).join("")
+}${resources.map((name, at) => `resource ${at + 1} ${name}\n`).join("")}`;
 }
 
-export function isTable(text) {
-  const header = text.replace(/^\ufeff/, "").split(/\r?\n/, 1)[0].toLowerCase();
-  const cells = header.split(/[\t;,]/).map((cell) => cell.trim().replace(/^"(.*)"$/, "$1").trim());
-  return cells.includes("duration");
+// -- orders
+
+function checkOrderHeader({ cells }) {
+  for (let at = 0; at < Math.max(3, cells.length | 1); at += 1) {
+    const head = at % 2 ? "machine" : at ? "time" : "order";
+    if (cells[at]?.trim().toLowerCase() !== head) fail(`T3 no column ${head}`, 0, at);
+  }
 }
+
+/** Reads a list of orders: each row is an order with pairs of a machine and a time. */
+export function readOrders(bytes) {
+  const { header, filled } = readList(bytes);
+  checkOrderHeader(header);
+  const orders = [], machines = [], steps = [];
+  let work = 0;
+  for (const record of filled) {
+    const { line, cells } = record;
+    const cell = (place) => (cells[place] ?? "").trim();
+    const nameAt = (place) => (cell(place) ? nameOf(cell(place), line, place)
+      : fail(`T6 line ${line} id`, line, place));
+    const numberOf = (names, most, name, place) => {
+      if (!names.includes(name)) names.push(name);
+      return names.length > most ? failAtLimit(line, place) : names.indexOf(name);
+    };
+    const own = steps[numberOf(orders, MOST.orders, nameAt(0), 0)] ??= [];
+    for (let place = 1; place < cells.length; place += 2) {
+      if (!cell(place) && !cell(place + 1)) continue;
+      const name = nameAt(place);
+      const time = amountOf(cell(place + 1), `T5 line ${line} duration`, line, place + 1);
+      own.push({ machine: numberOf(machines, MOST.machines, name, place), time });
+      work += time;
+      if (work > MOST.work) failAtLimit(line, place + 1);
+    }
+    checkCount(header, record);
+  }
+  if (!machines.length) failAtLimit(0);
+  const long = orders[steps.findIndex(({ length }) => length > machines.length)];
+  if (long) fail(`T15 steps ${long}`);
+  return { orders, machines, steps };
+}
+
+/** Returns a job shop file: an order gets steps of time 0 on machines that it doesn't use. */
+export function shopText({ orders, machines, steps }) {
+  const rows = steps.map((own) => {
+    const idle = machines.map((_, machine) => ({ machine, time: 0 }))
+      .filter(({ machine }) => !own.some((step) => step.machine === machine));
+    return [...own, ...idle.slice(0, machines.length - own.length)]
+      .map(({ machine, time }) => `${machine} ${time}`).join(" ");
+  });
+  return ["instance shop", ...machines.map((name, at) => `+ machine ${at} ${name}`),
+    ...orders.map((name, at) => `+ job ${at + 1} ${name}`), IMPORTED,
+    `${orders.length} ${machines.length}`, ...rows, ""].join("\n");
+}
+
+const headsOf = (text) => text.replace(/^\ufeff/, "").split(/\r?\n/, 1)[0].toLowerCase()
+  .split(/[\t;,]/).map((cell) => cell.trim().replace(/^"(.*)"$/, "$1").trim());
+
+export const isTable = (text) => headsOf(text).includes("duration");
+export const isOrders = (text) => headsOf(text)[0] === "order" && !isTable(text);

@@ -3,15 +3,17 @@
 
 import { Lost, Refusal } from "./api.js";
 import { FAULTS } from "./faults.js";
+import { LIST_FAULTS } from "./words.js";
 
 export const byId = (name) => document.getElementById(name);
 export const fill = (name, ...nodes) => byId(name).replaceChildren(...nodes);
+export const put = (name, words) => { byId(name).textContent = words; };
+export const clear = (css) =>
+  document.querySelectorAll(css).forEach((place) => place.replaceChildren());
 
 function dressed(node, attributes, children) {
   for (const [name, value] of Object.entries(attributes)) {
-    if (value !== null && value !== undefined && value !== false) {
-      node.setAttribute(name, value === true ? "" : value);
-    }
+    if (value || value === 0 || value === "") node.setAttribute(name, value === true ? "" : value);
   }
   node.append(...children);
   return node;
@@ -23,8 +25,11 @@ export const make = (tag, attributes = {}, ...children) =>
 export const draw = (tag, attributes = {}, ...children) =>
   dressed(document.createElementNS("http://www.w3.org/2000/svg", tag), attributes, children);
 
+export const say = (words, attributes = {}) => make("p", attributes, words);
+export const tell = (words) => say(words, { role: "status" });
+
 export const wideNode = (name, child) =>
-  make("div", { class: "wide", tabindex: "0", role: "region", "aria-label": name }, child);
+  make("div", { class: "wide", tabindex: 0, role: "region", "aria-label": name }, child);
 
 export function tableNode({ caption, heads, rows, foot, marks = [] }) {
   const row = ([first, ...cells], index) => make("tr", { class: marks[index] && "critical" },
@@ -36,12 +41,14 @@ export function tableNode({ caption, heads, rows, foot, marks = [] }) {
     ...(foot ? [make("tfoot", {}, row(foot))] : []));
 }
 
-/** Returns an error with the meaning of its last code; `lead` comes first if there is one. */
-export function refusalNode(line, lead = "", faults = FAULTS) {
-  const code = (line.match(/\b[A-Z]\d+\b/g) ?? []).findLast((found) => faults[found]);
+const MEANINGS = { ...FAULTS, ...LIST_FAULTS };
+
+/** Returns an error with the meaning of its last code. */
+export function refusalNode(line, lead = "") {
+  const code = (line.match(/\b[A-Z]\d+\b/g) ?? []).findLast((found) => MEANINGS[found]);
   return make("div", { class: "refusal", role: "alert" },
-    ...(lead ? [make("p", { class: "lead" }, lead)] : []), make("strong", {}, line),
-    ...(faults[code] ?? []).map((words) => make("p", {}, words)));
+    ...(lead ? [say(lead, { class: "lead" })] : []), make("strong", {}, line),
+    ...(MEANINGS[code] ?? []).map((words) => say(words)));
 }
 
 export function faultNodes(fault) {
@@ -51,41 +58,40 @@ export function faultNodes(fault) {
   return [refusalNode(`The page failed: ${fault}`)];
 }
 
-/** Does what a button asks for. The button says so until the answer has come. */
 export async function during(button, place, action) {
-  if (button.getAttribute("aria-disabled") === "true") return;
-  const words = [...button.childNodes];
-  button.replaceChildren(button.dataset.awaiting);
-  button.setAttribute("aria-disabled", "true");
+  if (button.ariaDisabled) return;
+  const words = button.textContent;
+  button.textContent = `${words} …`;
+  button.ariaDisabled = "true";
   place.replaceChildren();
   try {
     const told = await action();
-    if (told) place.append(make("p", { role: "status" }, told));
+    if (told) place.append(tell(told));
   } catch (fault) {
     place.replaceChildren(...faultNodes(fault));
   } finally {
-    button.replaceChildren(...words);
-    button.removeAttribute("aria-disabled");
+    button.textContent = words;
+    button.ariaDisabled = null;
   }
 }
 
 export function onSubmit(name, action, isMeant = () => true) {
   const form = byId(name);
+  const place = byId(`${name}-answer`) ?? make("div", { class: "answer" });
+  if (!place.parentNode) form.append(place);
   form.addEventListener("submit", async (event) => {
     event.preventDefault();
-    const place = form.querySelector(".answer") ?? byId(`${name}-answer`);
     if (!(await isMeant())) return;
-    during(form.querySelector("button:not([type=button])"), place,
-      () => action(form.elements, form));
+    during(form.querySelector("button"), place, () => action(form.elements, form));
   });
 }
 
 export function letChoose(list) {
-  const tabs = [...list.querySelectorAll("[role=tab]")];
+  const tabs = [...list.children];
   const choose = (tab) => {
     for (const other of tabs) {
       const isChosen = other === tab;
-      other.setAttribute("aria-selected", String(isChosen));
+      other.ariaSelected = String(isChosen);
       other.tabIndex = isChosen ? 0 : -1;
       byId(other.getAttribute("aria-controls")).hidden = !isChosen;
     }
@@ -93,35 +99,32 @@ export function letChoose(list) {
   list.addEventListener("click", ({ target }) => tabs.includes(target) && choose(target));
   list.addEventListener("keydown", (event) => {
     const step = { ArrowRight: 1, ArrowLeft: -1 }[event.key];
-    const at = tabs.indexOf(document.activeElement);
-    if (!step || at < 0) return;
+    if (!step) return;
     event.preventDefault();
-    const next = tabs[(at + step + tabs.length) % tabs.length];
+    const next = tabs[(tabs.indexOf(event.target) + step + tabs.length) % tabs.length];
     choose(next);
     next.focus();
   });
+  choose(tabs[0]);
 }
 
+/** Lets a place take files that are dropped on it, or chosen in its first field of files. */
 export function letTake(place, take) {
   place.addEventListener("dragover", (event) => event.preventDefault());
   place.addEventListener("drop", (event) => {
     event.preventDefault();
     event.stopPropagation();
-    document.body.classList.remove("dropping");
     const [file] = event.dataTransfer.files;
     if (file) take(file);
   });
-  place.querySelector("input[type=file]").addEventListener("change", ({ target }) => {
+  place.querySelector("[type=file]").addEventListener("change", ({ target }) => {
     if (target.files.length) take(target.files[0]);
     target.value = "";
   });
 }
 
-export function download(name, type, text) {
-  const address = URL.createObjectURL(new Blob([text], { type }));
-  const link = make("a", { href: address, download: name });
-  document.body.append(link);
-  link.click();
-  link.remove();
+export function download(name, text) {
+  const address = URL.createObjectURL(new Blob([text]));
+  make("a", { href: address, download: name }).click();
   setTimeout(() => URL.revokeObjectURL(address), 10000);
 }

@@ -1,28 +1,26 @@
-// Importing a file: project files and job shop files are sent as they are; a table of a
-// spreadsheet is shown with the project that it becomes, and sent as a project file.
+// Importing a file: project files and job shop files are sent as they are; a list of a spreadsheet
+// is shown with the project or the job shop that it becomes, and sent as its file.
 
 import { command, deskPath, Refusal, shopPath } from "./api.js";
-import { isTable, projectText, readTable, recordsOf, TABLE_FAULTS, TableFault } from "./csv.js";
-import { byId, fill, make, onSubmit, refusalNode, tableNode, wideNode } from "./dom.js";
-import { takeStarts } from "./handin.js";
-import { remember, shapeOf } from "./names.js";
-import { openPlan, showPlan } from "./plan.js";
+import {
+  isOrders, isTable, projectText, readOrders, readTable, recordsOf, shopText, TableFault,
+} from "./csv.js";
+import { byId, fill, make, onSubmit, put, refusalNode, tableNode, tell, wideNode } from "./dom.js";
+import { openPlan, showPlan, takeStarts } from "./plan.js";
 import { showPlans } from "./plans.js";
-import { instancesOf, readProject, readShop, stepsOf } from "./project.js";
-import { page } from "./state.js";
-import { isStarts } from "./starts.js";
+import { instancesOf, isStarts, readProject, readShop, stepsOf } from "./project.js";
+import { page, remember } from "./state.js";
 import { counted } from "./words.js";
 
 const LARGEST_FILE = 1048576;
 const CONTEXT = 12;
 const importButton = () => byId("import").querySelector("button");
-const tableRefusal = (fault) => refusalNode(fault.message, "", TABLE_FAULTS);
 
 async function bytesOf(file) {
   const isLarge = file.size > LARGEST_FILE;
   const content = isLarge ? null : await file.arrayBuffer().catch(() => null);
   if (content) return new Uint8Array(content);
-  const words = isLarge ? "H2 too large: at most 1,048,576 bytes are taken" : "it can't be read";
+  const words = isLarge ? "It has more than 1,048,576 bytes" : "It can't be read";
   fill("import-answer", refusalNode(`${file.name} was not sent. ${words}.`));
   return null;
 }
@@ -32,36 +30,22 @@ export async function takeFile(file) {
   forgetFile();
   fill("import-answer");
   const bytes = await bytesOf(file);
-  if (!bytes) return;
+  if (!bytes) return null;
   const { name } = file;
   const text = new TextDecoder().decode(bytes);
-  if (page.plan && isStarts(text)) {
-    await takeStarts(file);
-    return;
-  }
+  if (page.plan && isStarts(text)) return takeStarts(file);
   const instances = instancesOf(text);
   const isProject = /^\s*PRECEDENCE RELATIONS/m.test(text) || /\.sm$/i.test(name);
-  const isList = !isProject && (/\.(csv|tsv)$/i.test(name) || isTable(text));
-  page.file = { name, bytes, text, given: new Map() };
-  showFile(isProject || isList ? "project" : "shop", instances);
-  if (isList) showTableFile();
-  else if (isProject || instances.length < 2) byId("import").requestSubmit();
-  else byId("import").elements.instance.focus();
-}
-
-function showFile(kind, instances) {
-  const fields = byId("import").elements;
-  const { name, bytes } = page.file;
-  byId("chosen-name").textContent = `${name}, ${bytes.length.toLocaleString("en")} bytes`;
+  const isList = !isProject && (/\.(csv|tsv)$/i.test(name) || isTable(text) || isOrders(text));
+  page.file = { name, bytes, text, isProject: isProject || isTable(text), given: new Map() };
+  const { instance } = byId("import").elements;
+  put("chosen-name", `${name}, ${bytes.length.toLocaleString("en")} bytes`);
   fill("instances", ...instances.map((value) => make("option", { value })));
-  fields.kind.value = kind;
-  fields.instance.value = instances[0] ?? "-";
-  byId("chosen").hidden = byId("kinds").hidden = importButton().hidden = false;
-  showInstance();
-}
-
-function showInstance() {
-  byId("instance-label").hidden = byId("import").elements.kind.value !== "shop";
+  instance.value = instances[0] ?? "-";
+  byId("instance-label").hidden = isProject || isList;
+  byId("chosen").hidden = importButton().hidden = false;
+  if (isList) return showList();
+  return isProject || instances.length < 2 ? byId("import").requestSubmit() : instance.focus();
 }
 
 export function forgetFile() {
@@ -71,24 +55,25 @@ export function forgetFile() {
   fill("capacities");
 }
 
-// -- tables
+// -- lists
 
-function showTableFile() {
+const fileText = (text, bytes, given) => (isOrders(text) ? shopText(readOrders(bytes))
+  : isTable(text) ? projectText(readTable(bytes, given)) : text);
+
+function showList() {
   const { file } = page;
-  byId("kinds").hidden = true;
   byId("preview").hidden = false;
-  let fault = null;
+  let fault = null, list = {};
   try {
-    file.table = readTable(file.bytes, file.given);
+    list = isOrders(file.text) ? readOrders(file.bytes) : readTable(file.bytes, file.given);
   } catch (thrown) {
     if (!(thrown instanceof TableFault)) throw thrown;
     fault = thrown;
-    file.table = null;
   }
-  const { resources = fault.names ?? [], capacities = fault.capacities ?? [] } = file.table ?? {};
+  const { resources, capacities } = { resources: [], ...fault, ...list };
   importButton().hidden = Boolean(fault);
-  fill("preview", ...(fault
-    ? [tableRefusal(fault), ...cellNodes(file, fault)] : projectNodes(file)));
+  fill("preview", ...(fault ? faultyNodes(file, fault)
+    : list.orders ? shopNodes(file, list) : projectNodes(file, list)));
   fill("capacities", ...resources.map((name, at) => capacityNode(name, capacities[at])));
   if (!fault) importButton().focus();
   byId("preview").scrollIntoView({ block: "nearest" });
@@ -100,62 +85,81 @@ function capacityNode(name, value) {
   input.addEventListener("change", () => {
     if (input.value && input.validity.valid) given.set(name, input.valueAsNumber);
     else given.delete(name);
-    showTableFile();
+    showList();
   });
   return make("label", {}, `Capacity of ${name}`, input);
 }
 
-function projectNodes({ name, table: { rows, resources, capacities } }) {
+const previewNodes = (name, kind, parts, table) => [
+  tell(`${name} becomes a ${kind} of ${parts}. Look at it, then import it.`),
+  wideNode(`The ${kind}`, tableNode(table)),
+];
+
+function projectNodes({ name }, { rows, resources, capacities }) {
   const arcs = rows.reduce((sum, { after }) => sum + after.length, 0);
   const caps = resources.map((resource, at) => `${resource} ${capacities[at]}`).join(", ");
-  return [
-    make("p", { role: "status" }, `${name} becomes a project of `
-      + `${counted(rows.length, "activity", "activities")}, with a start and an end around them, `
-      + `${counted(arcs, "arc")} and ${counted(resources.length, "resource")}. `
-      + "Look at it, then import it."),
-    wideNode("The project", tableNode({
-      caption: caps ? `Capacities: ${caps}` : "No resources",
-      heads: ["number", "id", "name", "duration", "predecessors", ...resources],
-      rows: rows.map((row, at) => [`${at + 2}`, row.id, row.name, `${row.duration}`,
-        row.after.map((place) => place + 2).join(" "), ...row.needs.map(String)]),
-    })),
-  ];
+  return previewNodes(name, "project", `${counted(rows.length, "activity", "activities")}, with a `
+    + `start and an end around them, ${counted(arcs, "arc")} and ${
+      counted(resources.length, "resource")}`, {
+    caption: caps && `Capacities: ${caps}`,
+    heads: ["number", "id", "name", "duration", "predecessors", ...resources],
+    rows: rows.map((row, at) => [at + 2, row.id, row.name, row.duration,
+      row.after.map((place) => place + 2).join(" "), ...row.needs]),
+  });
 }
 
-function cellNodes({ name, text }, { line, column, message }) {
-  if (/^T13/.test(message)) return textNodes(name, text, line);
-  const records = recordsOf(text.replace(/^\ufeff/, ""));
+function shopNodes({ name }, { orders, machines, steps }) {
+  const wordsOf = ({ machine, time }) => `${machines[machine]} ${time}`;
+  return previewNodes(name, "job shop", `${counted(orders.length, "order")} on ${
+    counted(machines.length, "machine")}`, {
+    heads: ["job", "order", "steps"],
+    rows: orders.map((order, at) => [at + 1, order, steps[at].map(wordsOf).join(", ")]),
+  });
+}
+
+// an unclosed quote hides where the cells are
+function faultyNodes({ name, text }, fault) {
+  const { line, column, message } = fault;
+  const isOpen = message.startsWith("T13");
+  const records = isOpen ? linesOf(text) : recordsOf(text.replace(/^\ufeff/, ""));
+  return [refusalNode(message), partNode(name, records, line, isOpen ? -1 : column)];
+}
+
+const linesOf = (text) => text.split("\n").map((line, at) =>
+  ({ line: at + 1, cells: [line.replaceAll("\0", "\u2400")] }));
+
+function partNode(name, records, line, column) {
   const at = Math.max(0, records.findIndex((record) => record.line === line));
   const rows = records.slice(Math.max(0, at - CONTEXT), at + CONTEXT + 1).map((record) => {
     const isMarked = record.line === line;
     const cells = record.cells.map((cell, place) =>
       make("td", { class: isMarked && place === column && "wrong" }, cell));
-    return make("tr", { class: isMarked && "marked" },
-      make("th", { scope: "row", class: "number" }, `${record.line}`), ...cells);
+    return make("tr", { class: isMarked && "marked", "aria-current": isMarked && "true" },
+      make("th", { scope: "row" }, record.line), ...cells);
   });
-  const caption = line ? `Line ${line} of ${name}` : name;
-  return [wideNode("The table", make("table", { class: "cells" }, make("caption", {}, caption),
-    make("tbody", {}, ...rows)))];
+  return wideNode("The file", make("table", { class: "part" },
+    make("caption", {}, line ? `Line ${line} of ${name}` : name), make("tbody", {}, ...rows)));
 }
 
 // -- sending
 
-async function importFile(fields) {
+async function importFile({ instance: { value } }) {
   const { file } = page;
-  const isProject = fields.kind.value === "project";
-  const instance = fields.instance.value || "-";
+  const { isProject } = file;
+  const text = fileText(file.text, file.bytes, file.given);
+  const isList = text !== file.text;
+  const instance = isList && !isProject ? "shop" : value || "-";
   const path = isProject ? deskPath("projects") : shopPath(instance);
   if (!path) {
     throw new Refusal("This name can't be sent: a name in an address has no blank, no / and no %. "
       + "Rename the instance in the file.");
   }
-  const text = file.table ? projectText(file.table) : file.text;
   let made;
   try {
-    made = await command(path, "POST", new Blob([file.table ? text : file.bytes]));
+    made = await command(path, "POST", new Blob([isList ? text : file.bytes]));
   } catch (fault) {
     const named = fault.message.match(/^E10 .*?\bline (\d+)/);
-    if (named) fault.more = textNodes(file.name, text, Number(named[1]));
+    if (named) fault.more = [partNode(file.name, linesOf(text), Number(named[1]))];
     throw fault;
   } finally {
     byId("import-answer").scrollIntoView({ block: "nearest" });
@@ -163,7 +167,7 @@ async function importFile(fields) {
   noteFile(made.n, isProject, file.name, text, instance);
   page.plans = [...page.plans.filter(({ n }) => n !== made.n), made];
   showPlans();
-  if (file.table) forgetFile();
+  if (instancesOf(text).length < 2) forgetFile();
   await openPlan(made.n);
   return `${file.name} is plan ${made.n}.`;
 }
@@ -171,44 +175,38 @@ async function importFile(fields) {
 function noteFile(n, isProject, name, text, instance) {
   const found = isProject ? readProject(text) : readShop(text, instance);
   if (!found) return;
-  const plain = !isProject && instance !== "-" ? instance : name.replace(/\.[^.]*$/, "");
   if (isProject) page.projects.set(n, found);
   remember(n, {
-    title: found.title ?? plain,
-    shape: isProject ? shapeOf(found.durations.map((d) => ({ d }))) : undefined,
-    names: Object.fromEntries(found.names), resources: Object.fromEntries(found.resources),
+    title: found.title ?? name.replace(/\.[^.]*$/, ""),
+    shape: undefined, names: Object.fromEntries(found.names),
+    resources: Object.fromEntries(found.resources),
   });
 }
 
 export async function takeNames(file) {
   const { plan } = page;
-  const place = byId("names-answer");
   const bytes = await bytesOf(file);
-  if (!bytes) return;
+  if (!bytes) return null;
   let text = new TextDecoder().decode(bytes);
   try {
-    if (isTable(text)) text = projectText(readTable(bytes));
+    text = fileText(text, bytes);
   } catch (fault) {
     if (!(fault instanceof TableFault)) throw fault;
-    place.replaceChildren(tableRefusal(fault));
-    return;
+    return fill("names-answer", refusalNode(fault.message));
   }
   const instance = instanceIn(text, plan);
   if (instance === undefined) {
-    place.replaceChildren(
+    return fill("names-answer",
       refusalNode(`${file.name} isn't the file of plan ${plan.n}: its durations differ.`));
-    return;
   }
   noteFile(plan.n, plan.kind === "project", file.name, text, instance);
-  place.replaceChildren(
-    make("p", { role: "status" }, `${file.name} is the file of plan ${plan.n}.`));
-  showPlan();
+  fill("names-answer", tell(`${file.name} is the file of plan ${plan.n}.`));
+  return showPlan();
 }
 
-/** Returns the instance of a text that is a plan's, - for a project or a file without names;
- * undefined if there is none. */
+// the instance that is a plan's, - for a project; undefined if there is none
 function instanceIn(text, { kind, schedules }) {
-  const [{ rows }] = schedules.values();
+  const [{ rows } = { rows: [] }] = schedules.values();
   if (kind === "shop") {
     const wanted = rows.map(({ mach, d }) => `${mach}:${d}`).join();
     return [...instancesOf(text), "-"].find((name) => stepsOf(text, name).join() === wanted);
@@ -216,25 +214,4 @@ function instanceIn(text, { kind, schedules }) {
   return readProject(text)?.durations.join() === rows.map(({ d }) => d).join() ? "-" : undefined;
 }
 
-/** Returns the lines of a text around one that is marked. */
-function textNodes(name, text, at) {
-  const first = Math.max(1, at - CONTEXT);
-  const shown = text.split("\n").slice(first - 1, at + CONTEXT).map((line, index) => {
-    const isMarked = first + index === at;
-    return make("tr", { class: isMarked && "marked", "aria-current": isMarked && "true" },
-      make("td", { class: "number" }, `${first + index}`),
-      make("td", {}, line.replaceAll("\0", "\u2400")));
-  });
-  const caption = make("caption", {}, at ? `Line ${at} of ${name}` : `${name} as a whole`);
-  return [wideNode("The file",
-    make("table", { class: "text" }, caption, make("tbody", {}, ...shown)))];
-}
-
-export function letImport() {
-  onSubmit("import", importFile);
-  byId("file").addEventListener("change", ({ target }) => {
-    if (target.files.length) takeFile(target.files[0]);
-    target.value = "";
-  });
-  byId("kinds").addEventListener("change", showInstance);
-}
+export const letImport = () => onSubmit("import", importFile);

@@ -4,12 +4,12 @@
 import { dateOf, dayAt, dayOf, isWorked, weekdayOf } from "./calendar.js";
 
 const LETTER = 6.6;
-export const COLOURS = 16;
+const COLOURS = 16;
 
 export const widthOf = (text) => text.length * LETTER;
 
-/** Returns the scale of an axis from `left` to `right`. Without a calendar a unit is a unit of
- * working time, with one it is a day, free days included. */
+/** Returns the scale of an axis. Without a calendar a unit is a unit of working time, with one it
+ * is a day, free days included. */
 export function scaleOf(calendar, total, left, right) {
   const known = calendar && dayAt(calendar, 0) !== null && dayAt(calendar, total) !== null;
   const origin = known ? dayAt(calendar, 0) : 0;
@@ -45,25 +45,23 @@ export function marksOn(scale) {
   const { calendar, origin, span, unit, left, right } = scale;
   if (!calendar) {
     const step = roundUnits(46, unit);
-    const count = Math.floor(span / step) + 1;
-    return Array.from({ length: count }, (_, k) => ({ place: k * step, words: `${k * step}` }));
+    return Array.from({ length: Math.floor(span / step) + 1 },
+      (_, k) => ({ place: k * step, words: `${k * step}` }));
   }
-  const days = lineDays(scale);
   let free = -Infinity;
-  return [...new Set([origin, ...days])].map((day) => {
-    const words = dateOf(day);
-    const begin = left + (day - origin) * unit;
-    const isRoom = begin >= free && begin + widthOf(words) <= right + 24;
-    if (isRoom) free = begin + widthOf(words) + 10;
-    return { place: day - origin, words: isRoom ? words : "" };
+  return [...new Set([origin, ...lineDays(scale)])].map((day) => {
+    const words = dateOf(day), place = day - origin;
+    const begin = left + place * unit, end = begin + widthOf(words);
+    if (begin < free || end > right + 24) return { place, words: "" };
+    free = end + 10;
+    return { place, words };
   });
 }
 
 /** Returns the free days of an axis as runs of days; none if a day is too narrow to be seen. */
 export function freeDays({ calendar, origin, span, unit }) {
   const runs = [];
-  if (!calendar || unit < 1) return runs;
-  for (let place = 0; place < span; place += 1) {
+  for (let place = 0; calendar && unit >= 1 && place < span; place += 1) {
     if (isWorked(calendar, origin + place)) continue;
     const last = runs.at(-1);
     if (last && last.place + last.days === place) last.days += 1;
@@ -71,6 +69,8 @@ export function freeDays({ calendar, origin, span, unit }) {
   }
   return runs;
 }
+
+export const today = () => new Date().toLocaleDateString("en-CA");
 
 export function placeOfDate({ calendar, origin, span }, date) {
   if (!calendar) return null;
@@ -80,19 +80,17 @@ export function placeOfDate({ calendar, origin, span }, date) {
 
 export const heightOfRows = (count) => (count <= 40 ? 22 : count <= 80 ? 16 : 12);
 
-/** Returns a colour for each key of the bars. Keys that are next to each other on a line get
- * different colours as long as there are enough. */
+/** Returns a colour for each key of the bars, which are in the order of lines and starts.
+ * Neighbours get different colours as long as there are enough. */
 export function coloursOf(bars) {
   const keys = [...new Set(bars.map(({ key }) => key))].sort((a, b) => a - b);
   if (keys.length <= COLOURS) return new Map(keys.map((key, index) => [key, index]));
   const beside = new Map(keys.map((key) => [key, new Set()]));
-  const order = [...bars].sort((a, b) => a.line - b.line || a.start - b.start);
-  order.forEach((bar, index) => {
-    const next = order[index + 1];
-    if (next && next.line === bar.line && next.key !== bar.key) {
-      beside.get(bar.key).add(next.key);
-      beside.get(next.key).add(bar.key);
-    }
+  bars.slice(1).forEach(({ line, key }, index) => {
+    const other = bars[index];
+    if (other.line !== line || other.key === key) return;
+    beside.get(key).add(other.key);
+    beside.get(other.key).add(key);
   });
   const colours = new Map();
   for (const key of keys.sort((a, b) => beside.get(b).size - beside.get(a).size)) {
@@ -111,8 +109,6 @@ export function shortened(text, width) {
   return text.length <= most ? text : `${text.slice(0, most - 1)}…`;
 }
 
-export function pagesOf(lines, most = 40) {
-  const pages = [];
-  for (let at = 0; at < lines.length; at += most) pages.push(lines.slice(at, at + most));
-  return pages;
-}
+export const pagesOf = (lines, most = 40) =>
+  Array.from({ length: Math.ceil(lines.length / most) },
+    (_, page) => lines.slice(page * most, (page + 1) * most));

@@ -3,38 +3,31 @@
 
 import { listenTo, Refusal } from "./api.js";
 import { letChange } from "./changes.js";
-import { byId, during, fill, letChoose, letTake, make, onSubmit } from "./dom.js";
-import { letHandIn } from "./handin.js";
+import { byId, clear, during, fill, letChoose, letTake, make, onSubmit, put } from "./dom.js";
 import { forgetFile, letImport, takeFile, takeNames } from "./import.js";
-import { isRemembering, setRemembering } from "./names.js";
-import { letOfficeAct, showPublished, tryOfficeKey } from "./office.js";
-import { clearPaper } from "./paper.js";
 import { leavePlan, letPlanAct, redraw, showPaper } from "./plan.js";
-import { askAgain, askLists, askMakespans, noteAnswered, noteLost, refresh } from "./plans.js";
-import { newPage, page } from "./state.js";
+import {
+  askAgain, askLists, askMakespans, letOfficeAct, noteAnswered, noteLost, refresh, showPublished,
+  tryOfficeKey,
+} from "./plans.js";
+import { isRemembering, newPage, page, setRemembering } from "./state.js";
 import { glossary } from "./words.js";
 
 function showView(name) {
   for (const view of ["door", "desk", "office"]) byId(view).hidden = view !== name;
   byId("leave").hidden = byId("who").hidden = name === "door";
-  byId("who").textContent = name === "office" ? "The office" : `Desk ${page.desk}`;
+  put("who", name === "office" ? "The office" : `Desk ${page.desk}`);
 }
 
-async function trying(words, action) {
-  try {
-    await action();
-  } catch (fault) {
-    if (fault instanceof Refusal && fault.message === "E01 key") fault.lead = words;
-    throw fault;
-  }
-}
+const trying = (words, action) => action().catch((fault) => {
+  if (fault instanceof Refusal && fault.message === "E01 key") fault.lead = words;
+  throw fault;
+});
 
-async function enterDesk(fields) {
-  const entered = newPage();
-  entered.desk = fields.desk.value;
-  entered.key = fields.key.value;
+async function enterDesk({ desk, key }) {
+  Object.assign(newPage(), { desk: desk.value, key: key.value });
   await trying("This desk and key don't match.", askLists);
-  fields.key.value = "";
+  key.value = "";
   leavePlan();
   forgetFile();
   showView("desk");
@@ -42,10 +35,10 @@ async function enterDesk(fields) {
   askMakespans();
 }
 
-async function enterOffice(fields) {
-  newPage().key = fields.key.value;
+async function enterOffice({ key }) {
+  newPage().key = key.value;
   await trying("This isn't the office's key.", tryOfficeKey);
-  fields.key.value = "";
+  key.value = "";
   showPublished();
   showView("office");
   byId("office-head").focus();
@@ -54,14 +47,10 @@ async function enterOffice(fields) {
 function leave() {
   newPage();
   byId("lost").hidden = true;
-  byId("news").textContent = "";
+  put("news", "");
   for (const form of document.forms) form.reset();
   byId("remember").checked = isRemembering();
-  const places = ".answer, #plans, #codes, #published, #drawing, #table, #rules, #dates, #use, "
-    + "#drawn";
-  for (const place of document.querySelectorAll(places)) {
-    place.replaceChildren(...(place.id === "drawn" ? [place.firstElementChild] : []));
-  }
+  clear(".answer, .wide, #published, #drawing, #use, #drawn label");
   leavePlan();
   forgetFile();
   showView("door");
@@ -70,17 +59,10 @@ function leave() {
 
 function letDrop() {
   const isDesk = () => !byId("desk").hidden;
-  document.addEventListener("dragover", (event) => {
-    event.preventDefault();
-    document.body.classList.toggle("dropping", isDesk());
-  });
-  document.addEventListener("dragleave", () => document.body.classList.remove("dropping"));
-  document.addEventListener("drop", (event) => {
-    event.preventDefault();
-    document.body.classList.remove("dropping");
-    const [file] = event.dataTransfer.files;
-    if (isDesk() && file) takeFile(file);
-  });
+  const mark = (isOver) => document.body.classList.toggle("dropping", isOver);
+  addEventListener("dragover", () => mark(isDesk()), true);
+  for (const kind of ["dragleave", "drop"]) addEventListener(kind, () => mark(false), true);
+  letTake(document, (file) => isDesk() && takeFile(file));
 }
 
 function letFit() {
@@ -92,7 +74,7 @@ function letFit() {
     redraw();
   }).observe(byId("drawing"));
   addEventListener("beforeprint", showPaper);
-  addEventListener("afterprint", clearPaper);
+  addEventListener("afterprint", () => fill("paper"));
 }
 
 function letHelp() {
@@ -104,6 +86,9 @@ function letHelp() {
 }
 
 function letDescribe() {
+  for (const place of document.querySelectorAll(".wide")) {
+    Object.assign(place, { tabIndex: 0, role: "region" });
+  }
   const name = { pattern: "[a-z0-9][a-z0-9\\-]{0,31}" };
   name.title = "1 to 32 of a to z, 0 to 9 and -, not beginning with -";
   const key = { pattern: "[!-~]{8,64}", title: "8 to 64 characters without a blank" };
@@ -120,7 +105,6 @@ function letAct() {
   letImport();
   letPlanAct();
   letChange();
-  letHandIn();
   letOfficeAct();
   letChoose(byId("tabs"));
   letTake(byId("names-zone"), takeNames);

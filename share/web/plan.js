@@ -1,24 +1,23 @@
-// The plan that is open: asks for its pages, and shows its schedules as a chart and as tables.
+// The plan that is open: asks for its pages, shows its schedules as a chart and as tables, saves
+// them, and checks start times from elsewhere with the verdicts of `plan check`.
 
 import { ask, askTable, planPath, Refusal, tableOf } from "./api.js";
 import { showChanges } from "./changes.js";
-import { showChart } from "./chart.js";
-import { byId, faultNodes, fill, make, onSubmit, tableNode } from "./dom.js";
-import { showHandIn } from "./handin.js";
-import { settleCalendar, settleModel } from "./model.js";
-import { recordOf, remember, shapeOf } from "./names.js";
-import { clearPaper, fillPaper } from "./paper.js";
+import { fillPaper, showChart } from "./chart.js";
+import {
+  byId, clear, download, faultNodes, fill, letTake, make, onSubmit, put, refusalNode, say,
+  tableNode, tell,
+} from "./dom.js";
 import { markOpen, showPlans } from "./plans.js";
-import { page, RULES, WORDS_OF_KIND } from "./state.js";
+import { csvText, readStarts, StartsFault, startsText } from "./project.js";
+import { makespanOf, verdictOf } from "./slack.js";
+import { page, recordOf, remember, RULES, shapeOf, WORDS_OF_KIND } from "./state.js";
 import { showTable } from "./table.js";
-import { nameOf, namesIn, viewOf } from "./view.js";
+import { nameOf, namesIn, settleCalendar, settleModel, viewOf } from "./view.js";
 import { COLUMN_WORDS, RULE_WORDS } from "./words.js";
 
 let view = null;
 
-export const viewNow = () => view;
-
-/** Asks for all pages of a plan, and shows them, or why there are none. */
 export async function openPlan(n) {
   const { kind } = page.plans.find((plan) => plan.n === n);
   const isNew = page.plan?.n !== n;
@@ -34,10 +33,10 @@ export async function openPlan(n) {
   } catch (fault) {
     if (page.plan === plan) fill("plan-answer", ...faultNodes(fault));
   }
-  if (page.plan === plan) byId("plan").removeAttribute("aria-busy");
+  if (page.plan === plan) byId("plan").ariaBusy = null;
 }
 
-/** Asks for the schedule by each rule, and for working days until they determine the calendar. */
+// working days are asked for until they determine the calendar
 async function askSchedules(plan) {
   for (const rule of RULES[plan.kind]) {
     const table = await askTable(planPath(plan.n, "schedule", rule));
@@ -47,8 +46,7 @@ async function askSchedules(plan) {
     }
     plan.schedules.set(rule, table);
   }
-  const others = RULES[plan.kind].filter((rule) => rule !== plan.drawn);
-  for (const rule of [plan.drawn, ...others]) {
+  for (const rule of new Set([plan.drawn, ...RULES[plan.kind]])) {
     plan.days.set(rule, await askTable(planPath(plan.n, "days", rule)));
     if (plan.days.get(rule) instanceof Refusal) return;
     settleCalendar(plan);
@@ -60,16 +58,14 @@ const headOf = ({ n, kind }) => `Plan ${n}, a ${WORDS_OF_KIND[kind]}`;
 
 function awaitPlan(isNew) {
   view = null;
-  byId("plan-head").textContent = headOf(page.plan);
-  fill("plan-answer", make("p", { role: "status" }, "Asking the office …"));
+  put("plan-head", headOf(page.plan));
+  fill("plan-answer", tell("Asking the office …"));
   byId("plan-body").hidden = true;
   byId("plan").hidden = false;
-  byId("plan").setAttribute("aria-busy", "true");
+  byId("plan").ariaBusy = "true";
   fill("best-answer");
   if (!isNew) return;
-  const notices = "#changes .answer, #handin .answer, #import-answer, #plans-answer, "
-    + "#names-answer, #news";
-  for (const place of document.querySelectorAll(notices)) place.replaceChildren();
+  clear("#changes .answer, #handin .answer, #import-answer, #plans-answer, #names-answer, #news");
   byId("tab-table").click();
   byId("plan-head").focus();
 }
@@ -77,7 +73,7 @@ function awaitPlan(isNew) {
 export function leavePlan() {
   page.plan = view = null;
   byId("plan").hidden = true;
-  clearPaper();
+  fill("paper");
   markOpen();
 }
 
@@ -99,39 +95,38 @@ export function showPlan() {
   showParts(plan);
   showChanges(plan);
   showDates(plan.dates);
+  put("handin-words", "There is no schedule to hand in.");
   if (table) showSchedules();
-  else showHandIn(null);
 }
 
 function showParts(plan) {
   const { kind, model, note } = plan;
   const { title, names } = namesIn(plan);
   const isProject = kind === "project";
-  byId("plan-head").textContent = headOf(plan) + (title ? `: ${title}` : "");
+  put("plan-head", headOf(plan) + (title && `: ${title}`));
   byId("lines-label").hidden = isProject;
   byId("colours-label").hidden = !isProject || !model;
   byId("note").hidden = !note;
-  byId("note-words").textContent = note;
+  put("note", note);
   byId("names-zone").hidden = isProject ? Boolean(model) : Object.keys(names).length > 0;
   if (!model) byId("colours").value = "slack";
 }
 
-/** Shows the schedules: their choice, the tables, and the one that is drawn. Returns the function
- * that points at a row of it. */
-export function showSchedules() {
+/** Shows the schedules, and returns the function that points at a row. */
+function showSchedules() {
   showChoice(page.plan);
   showRules(page.plan);
   return showDrawn();
 }
 
-export function showDrawn() {
+function showDrawn() {
   const { plan } = page;
   view = viewOf(plan);
-  const tell = showChart(view);
+  const point = showChart(view);
   showTable(view, `Schedule by ${nameOf(plan, plan.drawn)}`);
   showDayNote(plan);
-  showHandIn(view);
-  return tell;
+  put("handin-words", `The schedule that is drawn: ${nameOf(plan, plan.drawn)}.`);
+  return point;
 }
 
 export function redraw() {
@@ -144,11 +139,11 @@ function showDayNote(plan) {
   const refusal = [...plan.days.values()].find((days) => days instanceof Refusal);
   if (view.dates) fill("days");
   else if (!refusal) {
-    fill("days", make("p", {}, "The dates of this schedule aren't known: the office's working days "
-      + "leave several calendars. Set the calendar on this page."));
+    fill("days", say("The dates of this schedule aren't known: the office's working days leave "
+      + "several calendars. Set the calendar on this page."));
   } else if (refusal.message === "E12 G4 no calendar") {
-    fill("days", make("p", {}, "No calendar is set, so times are units of working time, counted "
-      + "from 0."));
+    fill("days",
+      say("No calendar is set, so times are units of working time, counted from 0."));
   } else fill("days", ...faultNodes(refusal));
 }
 
@@ -179,17 +174,16 @@ function showDates(dates) {
   }));
 }
 
-function showRules(plan) {
-  const rules = [...plan.schedules.keys()];
-  const tables = rules.map((rule) => plan.schedules.get(rule));
+function showRules({ schedules }) {
+  const rules = [...schedules.keys()], tables = [...schedules.values()];
   const fixed = tables[0].heads.slice(0, -2);
   const rows = tables[0].rows.map((row, index) => [
     ...fixed.map((head) => row[head]),
     ...tables.map(({ rows: ends }) => `${ends[index].start}–${ends[index].end}`),
   ]);
   const names = rules.map((rule) =>
-    (rule === "best" ? `best (${plan.schedules.get(rule).verdict})` : titled(rule)));
-  const foot = ["makespan", ...fixed.slice(1).map(() => ""), ...tables.map((t) => `${t.total}`)];
+    (rule === "best" ? `best (${schedules.get(rule).verdict})` : titled(rule)));
+  const foot = ["makespan", ...fixed.slice(1).map(() => ""), ...tables.map(({ total }) => total)];
   fill("rules", tableNode({
     caption: "Schedules by rule: start–end", heads: [...fixed.map(titled), ...names], rows, foot,
   }));
@@ -203,11 +197,11 @@ function comparedWords({ kind, schedules }, total) {
     : `The rule ${least} is as good.`;
 }
 
-async function searchBest(fields) {
+async function searchBest({ budget }) {
   const { plan } = page;
   let table;
   try {
-    table = tableOf(await ask(planPath(plan.n, "best", fields.budget.value)));
+    table = tableOf(await ask(planPath(plan.n, "best", budget.value)));
   } catch (fault) {
     if (fault instanceof Refusal && /\bS5\b/.test(fault.message)) fault.more = [solveNode(plan)];
     throw fault;
@@ -216,21 +210,92 @@ async function searchBest(fields) {
   plan.schedules.set("best", table);
   plan.drawn = "best";
   showSchedules();
-  const compared = comparedWords(plan, table.total);
   const meaning = table.verdict === "optimal" ? "no schedule of this plan is shorter"
-    : `the best that was found within ${fields.budget.value} search steps`;
-  return `${table.verdict} ${table.total}: ${meaning}. ${compared}`;
+    : `the best that was found within ${budget.value} search steps`;
+  return `${table.verdict} ${table.total}: ${meaning}. ${comparedWords(plan, table.total)}`;
 }
 
 const solveNode = ({ kind }) => make("p", { class: "solve" },
   "Search on your own computer: run ",
-  make("code", {}, kind === "project" ? "plan solve FILE" : "plan solve FILE INSTANCE"),
+  make("code", {}, `plan solve FILE${kind === "project" ? "" : " INSTANCE"}`),
   ", then drop what it prints on this page, or paste it under \"Hand in and check\". The page "
   + "checks and draws it.");
 
+// -- hand in and check
+
+const rowsFor = ({ rows, isNamed, dates }) =>
+  rows.map(({ number: act, job, step, machine: mach, d, start, end, name, first, last }) => ({
+    ...(act ? { act } : { job, step, mach }), d, start, end,
+    ...(isNamed && { name }), ...(dates && { first, last }),
+  }));
+
+// members of JSON are in the order of the alphabet
+const TEXTS = {
+  csv: () => csvText(rowsFor(view)),
+  json: () => `${JSON.stringify({
+    desk: page.desk, makespan: view.total, plan: view.plan.n, rows: rowsFor(view),
+    schedule: view.plan.drawn, title: namesIn(view.plan).title,
+  }, null, 1)}\n`,
+  "starts.txt": () => startsText(view.rows),
+};
+
+function save(form) {
+  if (view) download(`${page.desk}-plan-${view.plan.n}-${view.plan.drawn}.${form}`, TEXTS[form]());
+}
+
+// a verdict in steps and machines
+function shopWords(line, rows) {
+  const step = (_, number) => `step ${rows[number - 1].step} of job ${rows[number - 1].job}`;
+  return line.replace(/activity (\d+)/, step).replace(/(?<=before )(\d+)/, step)
+    .replace(/more of resource (\d+) is .*/,
+      (_, number) => `machine ${number - 1} has two steps`);
+}
+
+function checkStarts(text) {
+  const { plan } = page, { model, note, schedules } = plan;
+  const [{ heads, rows } = { rows: [] }] = schedules.values();
+  const isProject = plan.kind === "project";
+  const wanted = rows.map(({ act, job, step }) => (isProject ? `${act}` : `${job} ${step}`));
+  if (!model) {
+    throw new StartsFault(note ? `${note} Add the plan's file first.` : "There is no schedule.");
+  }
+  const starts = readStarts(text, plan.kind, wanted);
+  const { line, isFeasible, activity } = verdictOf(model, starts);
+  const total = makespanOf(model, starts);
+  schedules.set("own", {
+    heads, total, verdict: isFeasible ? "" : " (not feasible)",
+    rows: rows.map((row, at) => ({ ...row, start: starts[at], end: starts[at] + row.d })),
+  });
+  plan.drawn = "own";
+  const point = showSchedules();
+  if (activity !== undefined) point(activity);
+  return { isFeasible, total, line: isProject ? line : shopWords(line, rows) };
+}
+
+function showVerdict(text) {
+  try {
+    const { line, isFeasible, total } = checkStarts(text);
+    const meaning = !isFeasible ? "Not feasible."
+      : line === "active" ? "Feasible, and nothing can start earlier by itself."
+        : "Feasible, but not active: all others fixed, this one could start earlier.";
+    fill("check-answer", make("div", { class: isFeasible ? "verdict" : "refusal", role: "status" },
+      make("strong", {}, line), say(`${meaning} Makespan ${total}.`)));
+  } catch (fault) {
+    if (!(fault instanceof StartsFault)) throw fault;
+    fill("check-answer", refusalNode(fault.message));
+  }
+  byId("check-answer").scrollIntoView({ block: "nearest" });
+}
+
+export async function takeStarts(file) {
+  byId("tab-handin").click();
+  showVerdict(await file.text());
+}
+
 export function letPlanAct() {
   onSubmit("best", searchBest);
-  for (const name of ["colours", "lines"]) {
-    byId(name).addEventListener("change", () => showDrawn());
-  }
+  onSubmit("check", async ({ starts }) => showVerdict(starts.value));
+  letTake(byId("check-zone"), takeStarts);
+  byId("saves").addEventListener("click", ({ target: { value } }) => value && save(value));
+  for (const name of ["colours", "lines"]) byId(name).addEventListener("change", showDrawn);
 }

@@ -1,12 +1,10 @@
-// The desk's list of plans and the published capacities: asked for at sign-in and when the window
-// gets the focus; and what is done when a connection is lost.
+// The lists of a desk: its plans and the published capacities, asked for at sign-in and when the
+// window gets the focus; the office's own forms; and what is done when a connection is lost.
 
-import { ask, askTable, deskPath, Lost, planPath, Refusal } from "./api.js";
-import { byId, during, fill, make, tableNode } from "./dom.js";
-import { forget, recordOf, remember } from "./names.js";
-import { tryOfficeKey } from "./office.js";
+import { ask, askTable, command, deskPath, Lost, orRefusal, planPath, Refusal } from "./api.js";
+import { byId, during, fill, make, onSubmit, put, say, tableNode } from "./dom.js";
 import { openPlan, leavePlan } from "./plan.js";
-import { page, RULES, WORDS_OF_KIND } from "./state.js";
+import { forget, page, recordOf, remember, RULES, WORDS_OF_KIND } from "./state.js";
 
 const MOST_MAKESPANS = 20;
 const LEAST_PAUSE = 1000;
@@ -16,8 +14,8 @@ const numbers = () => page.plans.map(({ n }) => n);
 
 const isSame = (a, b) => JSON.stringify(a) === JSON.stringify(b);
 
-/** Asks for the list of plans and for the published capacities. Lists that are the same stay,
- * because a click that gives the window the focus would miss a new button. */
+/** Asks for both lists. Plans that are the same stay, because a click that gives the window the
+ * focus would miss a new button. */
 export async function askLists() {
   const { plans } = await ask(deskPath("plans"));
   const isOld = isSame(plans, page.plans);
@@ -30,34 +28,31 @@ export async function askLists() {
 export function showPlans() {
   const { value } = byId("plans").contains(document.activeElement) ? document.activeElement : {};
   const rows = page.plans.map(({ n, kind }) => {
-    const words = { type: "button", value: n, "data-awaiting": `Plan ${n} …` };
-    const button = make("button", words, `Plan ${n}`);
+    const button = make("button", { value: n }, `Plan ${n}`);
     button.addEventListener("click", () =>
       during(button, byId("plans-answer"), () => openPlan(n)));
     const { title = "", makespan = "" } = recordOf(n);
-    return [button, title, WORDS_OF_KIND[kind], `${makespan}`];
+    return [button, title, WORDS_OF_KIND[kind], makespan];
   });
   const heads = ["Number", "Title", "Kind", "Makespan"];
   fill("plans",
-    rows.length ? tableNode({ heads, rows }) : make("p", {}, "No plans yet. Drop a file below."));
+    rows.length ? tableNode({ heads, rows }) : say("No plans yet. Drop a file below."));
   if (value) byId("plans").querySelector(`[value="${value}"]`)?.focus();
   markOpen();
 }
 
-/** Marks the plan of the list that is open. */
 export function markOpen() {
   for (const button of byId("plans").querySelectorAll("button")) {
     button.ariaCurrent = Number(button.value) === page.plan?.n ? "true" : null;
   }
 }
 
-export function codesTable(codes, none) {
-  if (!codes.length) return make("p", {}, none);
-  const rows = codes.map(({ code, kind, capacity }) => [code, kind, String(capacity)]);
+function codesTable(codes, none) {
+  if (!codes.length) return say(none);
+  const rows = codes.map(({ code, kind, capacity }) => [code, kind, capacity]);
   return tableNode({ heads: ["Code", "Kind", "Capacity"], rows });
 }
 
-/** Asks for the makespans in the list, one after another, as long as the page is the same. */
 export async function askMakespans() {
   const asking = page;
   for (const { n, kind } of page.plans.slice(0, MOST_MAKESPANS)) {
@@ -68,8 +63,7 @@ export async function askMakespans() {
   showPlans();
 }
 
-/** Asks for the lists when the window gets the focus, and for the open plan if they have changed.
- * */
+/** Asks for the lists, and for the open plan if they have changed. */
 export async function refresh() {
   const now = performance.now();
   if (byId("desk").hidden || page.isUnsure || now - asked < LEAST_PAUSE) return;
@@ -86,7 +80,6 @@ export async function refresh() {
   await showAgain();
 }
 
-/** Asks for the open plan again, or closes it if it isn't in the list any more. */
 async function showAgain() {
   const n = page.plan?.n;
   if (numbers().includes(n)) await openPlan(n);
@@ -99,9 +92,47 @@ export function dropPlan(n) {
   forget(n);
 }
 
+// -- the office
+
+/** Sends a body that no office takes: `E03` shows that the key is right, and nothing changes. */
+export async function tryOfficeKey() {
+  const answer = await orRefusal(ask("/office/capacities", "POST", "{}"));
+  if (answer.message !== "E03 body") throw answer;
+}
+
+async function publish({ code, kind, capacity }) {
+  const made = await command("/office/capacities", "POST",
+    { code: code.value, kind: kind.value, capacity: capacity.valueAsNumber });
+  page.published.set(made.code, made);
+  showPublished();
+  return `${made.code} is a ${made.kind} of ${made.capacity}.`;
+}
+
+export function showPublished() {
+  const codes = [...page.published.values()];
+  fill("published", codesTable(codes, "Nothing was published here yet."));
+}
+
+async function openDesk({ desk, key }) {
+  await command("/office/desks", "POST", { desk: desk.value, key: key.value });
+  key.value = "";
+  return `Desk ${desk.value} is open.`;
+}
+
+async function setKey({ desk, key }) {
+  await command(`/office/desks/${encodeURIComponent(desk.value)}/key`, "POST", { key: key.value });
+  key.value = "";
+  return `Desk ${desk.value} has another key.`;
+}
+
+export function letOfficeAct() {
+  onSubmit("publish", publish);
+  onSubmit("open", openDesk);
+  onSubmit("rekey", setKey);
+}
+
 // -- a lost connection
 
-/** Shows that no answer came, and what that means for a command that was sent. */
 export function noteLost(words, method) {
   if (!byId("door").hidden) return;
   page.isUnsure ||= method !== "GET";
@@ -109,16 +140,15 @@ export function noteLost(words, method) {
     ? "A command was on its way, and it isn't known whether it was carried out. "
       + "Nothing is sent again before the office has been asked."
     : "Nothing has changed. The page shows what was answered before.";
-  byId("lost-words").textContent = `The connection is lost. ${words} ${meaning}`;
+  put("lost-words", `The connection is lost. ${words} ${meaning}`);
   byId("lost").hidden = false;
-  byId("news").textContent = "";
+  put("news", "");
 }
 
 export function noteAnswered() {
   byId("lost").hidden ||= !page.isUnsure;
 }
 
-/** Asks for the present state, and shows what is new. */
 export async function askAgain() {
   const before = numbers();
   const isOffice = byId("desk").hidden;
@@ -127,12 +157,12 @@ export async function askAgain() {
   byId("lost").hidden = true;
   for (const node of document.querySelectorAll(".unanswered")) node.remove();
   await showAgain();
+  const missing = (from, list) => from.filter((n) => !list.includes(n));
   const changes = [
-    ...numbers().filter((n) => !before.includes(n)).map((n) => `Plan ${n} is new in the list.`),
-    ...before.filter((n) => !numbers().includes(n))
-      .map((n) => `Plan ${n} isn't in the list any more.`),
+    ...missing(numbers(), before).map((n) => `Plan ${n} is new in the list.`),
+    ...missing(before, numbers()).map((n) => `Plan ${n} isn't in the list any more.`),
   ];
-  byId("news").textContent = `The office has answered. ${
+  put("news", `The office has answered. ${
     isOffice ? "Each command of this page can safely be sent again."
-      : changes.join(" ") || "The list has the same plans as before."}`;
+      : changes.join(" ") || "The list has the same plans as before."}`);
 }

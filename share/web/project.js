@@ -1,13 +1,13 @@
-// Project files and job shop files, read as far as the page needs them: names, titles, and the
-// model of a project. The office is the judge of a file; the page reads those that it has
-// accepted.
+// Files that the page reads as far as it needs them: of a project its model, names and title, of a
+// job shop names and steps, and start times in several forms. The office is the judge of a file.
+
+import { IMPORTED, recordsOf } from "./csv.js";
 
 const TITLES = [
   "PROJECT INFORMATION", "PRECEDENCE RELATIONS", "REQUESTS/DURATIONS", "RESOURCEAVAILABILITIES",
 ];
 const HEAD = /^(projects|jobs|-|RESOURCES|horizon|initial)/;
 
-/** Returns the trimmed lines that aren't empty and don't consist of stars and hyphens alone. */
 const keptLines = (text) =>
   text.split("\n").map((line) => line.trim()).filter((line) => !/^[*-]*$/.test(line));
 
@@ -15,15 +15,12 @@ const titleOf = (line) => TITLES.find((title) => line.startsWith(title));
 
 function sectionsOf(text, title) {
   const sections = [];
-  let lines = null;
+  let own = null;
   for (const line of keptLines(text)) {
     const found = titleOf(line);
-    if (found) {
-      lines = found === title ? [] : null;
-      if (lines) sections.push(lines);
-    } else if (lines) {
-      lines.push(line);
-    }
+    if (found === title) sections.push(own = []);
+    else if (found) own = null;
+    else own?.push(line);
   }
   return sections;
 }
@@ -31,34 +28,37 @@ function sectionsOf(text, title) {
 const wordsIn = (text, title) =>
   (sectionsOf(text, title)[0] ?? []).slice(1).flatMap((line) => line.split(/\s+/)).map(Number);
 
-export function namesOf(text) {
+// the first line of a number counts
+function namesBy(pattern, lines) {
   const names = new Map(), resources = new Map();
-  const behind = text.slice(text.search(/^\s*RESOURCEAVAILABILITIES/m));
-  for (const line of sectionsOf(behind, "PROJECT INFORMATION").flat()) {
-    const [, kind, number, name] = line.match(/^(name|resource)\s+(\d{1,9})\s+(.+)$/) ?? [];
-    const place = kind === "name" ? names : resources;
+  for (const line of lines) {
+    const [, kind, number, name] = line.match(pattern) ?? [];
+    const place = kind === "name" || kind === "job" ? names : resources;
     if (kind && !place.has(Number(number))) place.set(Number(number), name);
   }
   return { names, resources };
 }
 
-/** Returns the title of a project file: the base that PSPLIB names, or its first line if that isn't
- * one of the head; undefined if there is none. */
-export function titleIn(text) {
+function namesOf(text) {
+  const behind = text.slice(text.search(/^\s*RESOURCEAVAILABILITIES/m));
+  return namesBy(/^(name|resource)\s+(\d{1,9})\s+(.+)$/,
+    sectionsOf(behind, "PROJECT INFORMATION").flat());
+}
+
+/** Returns the base that PSPLIB names, or the first line if it isn't one of the head. */
+function titleIn(text) {
   const [first = "", ...lines] = keptLines(text);
   if (/^file with basedata\b/.test(first)) {
     const words = first.slice(first.indexOf(":") + 1).trim();
-    return words === "plan import" ? undefined : words;
+    return words === IMPORTED ? undefined : words;
   }
   return lines.length && !HEAD.test(first) && !titleOf(first) ? first : undefined;
 }
 
-function valueOf(text, key) {
-  const line = keptLines(text).find((kept) => kept.startsWith(key));
-  return Number((line ?? "").split(":")[1]?.trim().split(/\s+/)[0]);
-}
+const valueOf = (text, key) =>
+  Number(text.match(new RegExp(`^[ \\t]*${key}[^:\n]*:\\s*(\\d+)`, "m"))?.[1]);
 
-/** Returns the model of a project file with its names and its title; null if it can't be read. */
+/** Returns the model of a project with its names and title; null if it can't be read. */
 export function readProject(text) {
   const count = valueOf(text, "jobs");
   const width = valueOf(text, "- renewable");
@@ -96,14 +96,9 @@ function blockOf(text, instance) {
 
 export function readShop(text, instance) {
   const lines = blockOf(text, instance);
-  const names = new Map(), resources = new Map();
-  for (const line of lines) {
-    const [, kind, number, name] = line.match(/^\+\s*(machine|job)\s+(\d{1,9})\s+(.+)$/) ?? [];
-    const place = kind === "job" ? names : resources;
-    if (kind && !place.has(Number(number))) place.set(Number(number), name);
-  }
   const first = lines.find((line) => line && !line.startsWith("+"));
-  return { names, resources, title: instance === "-" ? undefined : first };
+  const title = instance === "-" || first === IMPORTED ? undefined : first;
+  return { ...namesBy(/^\+\s*(machine|job)\s+(\d{1,9})\s+(.+)$/, lines), title };
 }
 
 /** Returns the machine and the time of each step of an instance, in order, as "0:3". */
@@ -121,10 +116,82 @@ export function stepsOf(text, instance) {
 export const instancesOf = (text) =>
   [...text.matchAll(/^[ \t]*instance[ \t]+(\S+)[ \t\r]*$/gm)].map((match) => match[1]);
 
-/** Returns the resource of which the greatest part is needed, counted from 1; 0 if none is. If
- * several are needed alike, it is the first of them. */
+/** Returns the first resource of which the greatest part is needed, counted from 1; 0 if none. */
 export function mostNeeded(needs, capacities) {
   const parts = needs.map((need, place) => need / Math.max(1, capacities[place]));
   const greatest = Math.max(0, ...parts);
   return greatest > 0 ? parts.indexOf(greatest) + 1 : 0;
 }
+
+// -- start times
+
+const MOST_START = 10000000;
+
+export class StartsFault extends Error {}
+
+function numbersOf(words) {
+  const wrong = words.find((word) => !/^\d{1,9}$/.test(word) || Number(word) > MOST_START);
+  if (wrong !== undefined) {
+    throw new StartsFault(`${wrong} isn't a start time from 0 to 10,000,000.`);
+  }
+  return words.map(Number);
+}
+
+function startsIn(heads, rows, keys, wanted) {
+  const at = heads.indexOf("start");
+  const places = keys.map((key) => heads.indexOf(key));
+  const found = new Map(rows.map((row) => [places.map((place) => row[place]).join(" "), row[at]]));
+  return wanted.map((key) => {
+    if (!found.has(key)) throw new StartsFault(`The file has no start of ${key}.`);
+    return found.get(key);
+  });
+}
+
+function tableIn(text) {
+  const lines = text.split("\n").map((line) => line.trim().split(/\s+/));
+  const at = lines.findIndex((words) => /^(act|job)$/.test(words[0]) && words.includes("start"));
+  if (at < 0) return null;
+  return { heads: lines[at], rows: lines.slice(at + 1).filter((words) => /^\d+$/.test(words[0])) };
+}
+
+function csvIn(text) {
+  const plain = text.replace(/^\ufeff/, "");
+  if (!/^[^\n]*\bstart\b/.test(plain) || !/^[^\n]*[,;\t]/.test(plain)) return null;
+  const [header, ...rest] = recordsOf(plain);
+  return { heads: header.cells.map((cell) => cell.trim()), rows: rest.map(({ cells }) => cells) };
+}
+
+/** Reads start times. `wanted` numbers the plan's rows: "3", or "1 2" for step 2 of job 1. */
+export function readStarts(text, kind, wanted) {
+  const found = tableIn(text) ?? csvIn(text);
+  const keys = kind === "project" ? ["act"] : ["job", "step"];
+  const words = found ? startsIn(found.heads, found.rows, keys, wanted)
+    : text.split(/[\s,;]+/).filter(Boolean);
+  const numbers = numbersOf(words);
+  const { length } = numbers;
+  if (length !== wanted.length) {
+    throw new StartsFault(`The file has ${length} start times; ${wanted.length} are needed.`);
+  }
+  return numbers;
+}
+
+/** Returns whether a text is a list of start times; numbers are one, unless the first two count the
+ * jobs and machines of a job shop behind them. */
+export function isStarts(text) {
+  const [jobs, machines, ...steps] = text.trim().split(/\s+/);
+  const isShop = jobs * machines > 0 && steps.length === 2 * jobs * machines;
+  return (/^[\s\d]+$/.test(text) && !isShop) || Boolean(tableIn(text))
+    || /^\ufeff?(act|job)[,;\t]([^\n]*[,;\t])?start\b/.test(text);
+}
+
+// a text that a spreadsheet would take for a formula gets a quote sign
+function cellOf(value) {
+  const text = /^[=+\-@\t\r]/.test(value) && !/^-?\d/.test(value) ? `'${value}` : String(value);
+  return /[",;\n\r]/.test(text) ? `"${text.replaceAll('"', '""')}"` : text;
+}
+
+export const csvText = (rows) =>
+  [Object.keys(rows[0]), ...rows.map(Object.values)]
+    .map((cells) => `${cells.map((cell) => cellOf(String(cell ?? ""))).join(",")}\n`).join("");
+
+export const startsText = (rows) => rows.map(({ start }) => `${start}\n`).join("");

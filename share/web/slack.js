@@ -4,41 +4,24 @@
 // A model is { durations, arcs, needs, capacities }: arcs are { from, to, lag }, activities and
 // resources are counted from 0. A schedule is a list of starts.
 
-export const makespanOf = ({ durations }, starts) =>
-  Math.max(0, ...starts.map((start, place) => start + durations[place]));
+const endsOf = ({ durations }, starts) => starts.map((start, place) => start + durations[place]);
 
-function brokenArc({ arcs, durations }, starts) {
-  const broken = arcs.filter(({ from, to, lag }) =>
-    starts[to] < starts[from] + durations[from] + lag);
-  broken.sort((a, b) => a.from - b.from || a.to - b.to);
-  return broken[0] ?? null;
-}
+export const makespanOf = (model, starts) => Math.max(0, ...endsOf(model, starts));
 
 /** Returns the use of each resource as steps { time, used }, each up to the next one's time. */
-export function useOf({ durations, needs, capacities }, starts) {
-  const times = new Set([0]);
+export function useOf(model, starts) {
+  const { durations, needs, capacities } = model;
+  const ends = endsOf(model, starts);
+  const working = starts.flatMap((start, place) => (durations[place] ? [start, ends[place]] : []));
+  const times = [...new Set([0, ...working])].sort((a, b) => a - b);
+  const steps = times.map((time) => ({ time, used: capacities.map(() => 0) }));
   starts.forEach((start, place) => {
-    if (durations[place]) times.add(start).add(start + durations[place]);
-  });
-  const order = [...times].sort((a, b) => a - b);
-  const places = new Map(order.map((time, index) => [time, index]));
-  const steps = order.map((time) => ({ time, used: capacities.map(() => 0) }));
-  starts.forEach((start, place) => {
-    if (!durations[place]) return;
-    const end = places.get(start + durations[place]);
-    for (let at = places.get(start); at < end; at += 1) {
-      needs[place].forEach((need, resource) => { steps[at].used[resource] += need; });
+    for (const { time, used } of steps) {
+      if (time < start || time >= ends[place]) continue;
+      needs[place].forEach((need, resource) => { used[resource] += need; });
     }
   });
   return steps;
-}
-
-function overload(model, starts) {
-  for (const { time, used } of useOf(model, starts)) {
-    const resource = used.findIndex((amount, place) => amount > model.capacities[place]);
-    if (resource >= 0) return { time, resource };
-  }
-  return null;
 }
 
 /** Returns a function that tests whether one activity fits at a start, all others fixed; arcs are
@@ -47,20 +30,15 @@ function fitter(model, starts) {
   const steps = useOf(model, starts);
   const { durations, needs, capacities } = model;
   return (place, start) => {
-    const end = start + durations[place];
-    if (start === end) return true;
-    const own = [starts[place], starts[place] + durations[place]];
-    let index = Math.max(0, steps.findLastIndex(({ time }) => time <= start));
-    for (; index < steps.length && steps[index].time < end; index += 1) {
-      const { time, used } = steps[index];
+    const end = start + durations[place], own = starts[place];
+    return steps.every(({ time, used }, index) => {
       const next = steps[index + 1]?.time ?? Infinity;
+      if (next <= start || time >= end) return true;
       // the activity's own start and end are times of steps, so a step is inside or outside of it
-      const isOwn = time >= own[0] && next <= own[1];
-      const isOver = capacities.some((capacity, resource) =>
-        used[resource] + (isOwn ? 0 : needs[place][resource]) > capacity);
-      if (isOver) return false;
-    }
-    return true;
+      const isOwn = time >= own && next <= own + durations[place];
+      return capacities.every((capacity, resource) =>
+        used[resource] + (isOwn ? 0 : needs[place][resource]) <= capacity);
+    });
   };
 }
 
@@ -79,32 +57,30 @@ export function boundsOf({ durations, arcs }, starts) {
 function firstShift(model, starts) {
   const fits = fitter(model, starts);
   const { earliest } = boundsOf(model, starts);
-  const ends = starts.map((start, place) => start + model.durations[place]);
-  return starts.findIndex((start, place) => {
-    const tries = [earliest[place], ...ends.filter((end) => end > earliest[place])];
-    return tries.some((time) => time < start && fits(place, time));
-  });
+  const ends = endsOf(model, starts);
+  return starts.findIndex((start, place) => [earliest[place], ...ends]
+    .some((time) => time >= earliest[place] && time < start && fits(place, time)));
 }
 
-/** Returns the verdict on a schedule, in the words of `plan check`, with the activity, time or
- * resource that it names. */
+/** Returns the verdict on a schedule, in the words of `plan check`, with the activity that it
+ * names. */
 export function verdictOf(model, starts) {
-  const arc = brokenArc(model, starts);
-  if (arc) {
-    const line = `activity ${arc.to + 1} starts before ${arc.from + 1} ends`;
-    return { line, isFeasible: false, activity: arc.to };
+  const ends = endsOf(model, starts);
+  const broken = model.arcs.filter(({ from, to, lag }) => starts[to] < ends[from] + lag);
+  broken.sort((a, b) => a.from - b.from || a.to - b.to);
+  for (const { from, to } of broken) {
+    const line = `activity ${to + 1} starts before ${from + 1} ends`;
+    return { line, isFeasible: false, activity: to };
   }
-  const over = overload(model, starts);
-  if (over) {
-    const { time, resource } = over;
+  for (const { time, used } of useOf(model, starts)) {
+    const resource = used.findIndex((amount, place) => amount > model.capacities[place]);
+    if (resource < 0) continue;
     const line = `at time ${time} more of resource ${resource + 1} is needed than there is`;
-    return { line, isFeasible: false, time };
+    return { line, isFeasible: false };
   }
   const activity = firstShift(model, starts);
-  if (activity >= 0) {
-    return { line: `activity ${activity + 1} can start earlier`, isFeasible: true, activity };
-  }
-  return { line: "active", isFeasible: true };
+  if (activity < 0) return { line: "active", isFeasible: true };
+  return { line: `activity ${activity + 1} can start earlier`, isFeasible: true, activity };
 }
 
 /** Returns the slack of each activity of a feasible schedule: its greatest later start that keeps
@@ -113,9 +89,8 @@ export function slackOf(model, starts) {
   const fits = fitter(model, starts);
   const { latest } = boundsOf(model, starts);
   return starts.map((start, place) => {
-    const ends = starts.map((begin) => begin - model.durations[place]);
-    const tries = [latest[place], ...ends].filter((time) => time > start && time <= latest[place]);
-    const found = tries.sort((a, b) => b - a).find((time) => fits(place, time));
-    return (found ?? start) - start;
+    const tries = [latest[place], ...starts.map((begin) => begin - model.durations[place])]
+      .filter((time) => time > start && time <= latest[place]).sort((a, b) => b - a);
+    return (tries.find((time) => fits(place, time)) ?? start) - start;
   });
 }

@@ -1,17 +1,25 @@
 // The table of a schedule: one row per activity or step, sorted by any of its columns.
 
 import { byId, fill, make } from "./dom.js";
+import { named } from "./view.js";
 import { COLUMN_WORDS } from "./words.js";
 
-const NAMES = { first: "first day", last: "last day" };
 let sorting = { n: 0, head: "", isDown: false };
 
+const nameOf = (head) => ({ first: "first day", last: "last day" })[head] ?? head;
+
 /** Returns the members of a row that are known, which are the columns. */
-const columnsOf = ({ plan, isNamed, dates, slack }) => [
-  ...(plan.kind === "project" ? ["number"] : ["job", "step", "machine"]),
-  ...(isNamed ? ["name"] : []), "start", "end", ...(dates ? ["first", "last"] : []),
-  ...(plan.dates?.rows ? ["float"] : []), ...(slack ? ["slack"] : []),
+const columnsOf = ({ plan: { kind, dates }, isNamed, dates: days, slack }) => [
+  ...(kind === "shop" ? ["job", "step", "machine"] : ["number"]),
+  ...(kind === "project" && isNamed ? ["name"] : []), "start", "end",
+  ...(days ? ["first", "last"] : []), ...(dates?.rows ? ["float"] : []),
+  ...(slack ? ["slack"] : []),
 ];
+
+function wordsOf(row, head) {
+  if (head === "number" && row.isCritical) return `${row.number}*`;
+  return named(row[head], row[`${head}Name`]);
+}
 
 /** Returns the order of two cells: numbers as numbers, texts by the alphabet, empty ones last. */
 export function compare(a, b) {
@@ -20,52 +28,41 @@ export function compare(a, b) {
   return a.localeCompare(b, "en", { numeric: true });
 }
 
-const classOf = (head) => head === "name" && "words";
-
-function headNode(head, show) {
-  const { isDown } = sorting, isThis = sorting.head === head;
-  const name = NAMES[head] ?? head;
-  const title = COLUMN_WORDS[head] ?? `the ${name}`;
-  const button = make("button", { type: "button", title }, name,
-    make("span", { "aria-hidden": "true" }, isThis ? (isDown ? " ▼" : " ▲") : ""));
-  button.addEventListener("click", () => {
-    sorting.isDown = isThis && !isDown;
-    sorting.head = head;
-    show();
-    byId("table").querySelector(`[data-head=${head}] button`).focus();
-  });
-  const order = isThis && (isDown ? "descending" : "ascending");
-  return make("th",
-    { scope: "col", class: classOf(head), "aria-sort": order, "data-head": head }, button);
-}
-
-function tableOf(columns, rows, heads, words) {
-  const cells = (row) => columns.map((head, at) => (at
-    ? make("td", { class: classOf(head) }, `${row[head]}`)
-    : make("th", { scope: "row" }, `${row[head]}${row.isCritical ? "*" : ""}`)));
+function tableOf(view, rows, titleOf, words) {
+  const columns = columnsOf(view);
+  const classOf = (head) => view.isNamed && /^(name|job|machine)$/.test(head) && "words";
+  const cells = (row) => columns.map((head, at) =>
+    make(at ? "td" : "th", { class: classOf(head), scope: !at && "row" }, wordsOf(row, head)));
   return make("table", {}, make("caption", {}, words),
-    make("thead", {}, make("tr", {}, ...heads)),
+    make("thead", {}, make("tr", {}, ...columns.map((head) =>
+      make("th", { scope: "col", class: classOf(head), "data-head": head }, titleOf(head))))),
     make("tbody", {}, ...rows.map((row) =>
       make("tr", { class: row.isCritical && "critical" }, ...cells(row)))));
 }
 
 export function showTable(view, words) {
   const { n } = view.plan;
-  const columns = columnsOf(view);
   if (sorting.n !== n) sorting = { n, head: "", isDown: false };
   const { head, isDown } = sorting;
+  const isSorted = columnsOf(view).includes(head);
   const sign = isDown ? -1 : 1;
-  const rows = columns.includes(head)
+  const rows = isSorted
     ? [...view.rows].sort((a, b) => sign * compare(a[head], b[head]) || a.index - b.index)
     : view.rows;
-  const show = () => showTable(view, words);
-  fill("table", tableOf(columns, rows, columns.map((column) => headNode(column, show)), words));
+  const headNode = (column) => byId("table").querySelector(`[data-head=${column}]`);
+  const buttonOf = (column) => {
+    const title = COLUMN_WORDS[column] ?? `the ${nameOf(column)}`;
+    const button = make("button", { title }, nameOf(column));
+    button.addEventListener("click", () => {
+      sorting = { n, head: column, isDown: column === head && !isDown };
+      showTable(view, words);
+      headNode(column).firstChild.focus();
+    });
+    return button;
+  };
+  fill("table", tableOf(view, rows, buttonOf, words));
+  if (isSorted) headNode(head).ariaSort = isDown ? "descending" : "ascending";
 }
 
 /** Returns the table for paper: in the order of the plan, without buttons. */
-export function paperTable(view, words) {
-  const columns = columnsOf(view);
-  const heads = columns.map((head) =>
-    make("th", { scope: "col", class: classOf(head) }, NAMES[head] ?? head));
-  return tableOf(columns, view.rows, heads, words);
-}
+export const paperTable = (view, words) => tableOf(view, view.rows, nameOf, words);

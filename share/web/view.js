@@ -1,59 +1,129 @@
-// What is shown of a plan's schedule: its rows, its bars with their colours and words, and what the
-// colours mean.
+// What is shown of a plan: its model, which is what its file and this browser's changes say as far
+// as the office's tables agree with it; and the rows, bars and words of the schedule that is drawn.
 
+import {
+  calendarFrom, calendarsOf, datesOf, dayAt, daysTold, onlyCalendar,
+} from "./calendar.js";
 import { byId } from "./dom.js";
 import { coloursOf } from "./layout.js";
-import { datesIn, startsOf } from "./model.js";
-import { recordOf, shapeOf } from "./names.js";
 import { mostNeeded } from "./project.js";
-import { slackOf, verdictOf } from "./slack.js";
+import { boundsOf, slackOf, verdictOf } from "./slack.js";
+import { page, recordOf, shapeOf } from "./state.js";
 
 const STARRED = "critical by dates alone (crews not counted)";
 
-export function nameOf(plan, rule) {
-  const { verdict, total } = plan.schedules.get(rule);
-  return rule === "best" ? `best ${verdict} ${total}` : `${rule} ${total}`;
+export const startsOf = (table) => table.rows.map(({ start }) => start);
+
+// a machine is a resource of 1; each step waits for the one before it
+function shopModel({ rows }) {
+  const machines = [...Array(Math.max(...rows.map(({ mach }) => mach)) + 1).keys()];
+  return {
+    durations: rows.map(({ d }) => d),
+    arcs: rows.flatMap(({ step }, to) => (step > 1 ? [{ from: to - 1, to, lag: 0 }] : [])),
+    needs: rows.map(({ mach }) => machines.map((machine) => Number(machine === mach))),
+    capacities: machines.map(() => 1),
+  };
 }
 
-/** Returns the title of a plan, and the names of activities or jobs, and of resources or machines,
- * by number; none if they were remembered of a plan with other rows. */
+function projectModel(plan) {
+  const project = page.projects.get(plan.n);
+  if (!project) return null;
+  const { lag: lags = {}, bind: binds = {} } = recordOf(plan.n).set ?? {};
+  const arcs = project.arcs.map((arc) =>
+    ({ ...arc, lag: lags[`${arc.from + 1}-${arc.to + 1}`]?.lag ?? 0 }));
+  const bound = (code) => page.codes.find((found) => found.code === code)?.capacity;
+  const capacities = project.capacities.map((capacity, place) =>
+    bound(binds[place + 1]?.code) ?? capacity);
+  return { ...project, arcs, capacities };
+}
+
+// the office's dates and active schedules are those of the model
+function agrees(model, { dates, schedules }) {
+  const isSame = (head, side) => {
+    const numbers = dates.rows.map((row) => row[head]);
+    return boundsOf(model, numbers)[side].join() === numbers.join();
+  };
+  const areDates = !dates?.rows || (isSame("ES", "earliest") && isSame("LS", "latest"));
+  return areDates && [...schedules.values()].every((table) =>
+    table.rows.map(({ d }) => d).join() === model.durations.join()
+    && verdictOf(model, startsOf(table)).line === "active");
+}
+
+export function settleModel(plan) {
+  const [table] = plan.schedules.values();
+  plan.model = null;
+  plan.note = "";
+  if (!table) return;
+  const model = plan.kind === "shop" ? shopModel(table) : projectModel(plan);
+  if (!model) {
+    plan.note = "Slack isn't known, because this page hasn't read the plan's file.";
+  } else if (!agrees(model, plan)) {
+    plan.note = "Slack isn't known: the office's plan differs from the file, because somebody "
+      + "bound a resource or set a lag elsewhere.";
+  } else {
+    plan.model = model;
+  }
+}
+
+/** Sets the calendar of a plan as far as the office's working days determine it. */
+export function settleCalendar(plan) {
+  const pairs = [...plan.days].filter(([, days]) => days.rows)
+    .map(([rule, days]) => [plan.schedules.get(rule).rows, days.rows]);
+  plan.calendar = null;
+  if (!pairs.length) return;
+  const told = daysTold(pairs);
+  const set = recordOf(plan.n).set?.calendar;
+  const own = set && calendarFrom(set.start, set.days);
+  const isTold = own && [...told].every(([time, day]) => dayAt(own, time) === day);
+  const total = Math.max(...[...plan.schedules.values()].map((table) => table.total));
+  plan.calendar = isTold ? own : onlyCalendar(calendarsOf(told), total);
+}
+
+// the office's dates, or else those of the calendar if it is known
+function datesIn(plan, rule) {
+  const days = plan.days.get(rule);
+  if (days?.rows) return days.rows.map((row) => (row.first === "-" ? null : row));
+  return plan.calendar && datesOf(plan.calendar, plan.schedules.get(rule).rows);
+}
+
+// -- the schedule that is drawn
+
+export function nameOf(plan, rule) {
+  const { verdict, total } = plan.schedules.get(rule);
+  return rule === "best" ? `best ${verdict} ${total}` : `${rule} ${total}${verdict}`;
+}
+
+/** Returns the title and the names of a plan; none if they were remembered of other rows. */
 export function namesIn({ n, schedules }) {
   const { title = "", names = {}, resources = {}, shape } = recordOf(n);
   const [table] = schedules.values();
-  const isSame = !shape || !table || shape === shapeOf(table.rows);
-  return isSame ? { title, names, resources } : { title: "", names: {}, resources: {} };
+  const isOther = shape && table && shape !== shapeOf(table.rows);
+  return isOther ? { title: "", names: {}, resources: {} } : { title, names, resources };
 }
 
-function rowsOf(plan, table, slack) {
+function rowsOf(plan, table, dates, slack) {
   const { names, resources } = namesIn(plan);
-  const dates = datesIn(plan, plan.drawn);
-  return table.rows.map((row, index) => {
-    const { TF, isCritical = false } = plan.dates?.rows?.[index] ?? {};
-    const both = {
-      index, start: Number(row.start), end: Number(row.end), d: Number(row.d),
-      first: dates?.[index]?.first ?? "", last: dates?.[index]?.last ?? "",
-      slack: slack?.[index] ?? "", isCritical,
-    };
-    if (plan.kind === "project") {
-      return { ...both, number: Number(row.act), name: names[row.act] ?? "", float: Number(TF) };
-    }
-    const jobName = names[row.job] ?? "", machineName = resources[row.mach] ?? "";
-    return {
-      ...both, job: Number(row.job), step: Number(row.step), machine: Number(row.mach),
-      jobName, machineName, name: [jobName, machineName].filter(Boolean).join(", "),
-    };
+  return table.rows.map(({ act, job, step, mach, d, start, end }, index) => {
+    const { TF: float, isCritical = false } = plan.dates?.rows?.[index] ?? {};
+    const { first = "", last = "" } = dates?.[index] ?? {};
+    const both = { index, start, end, d, first, last, slack: slack?.[index] ?? "", isCritical };
+    if (act) return { ...both, number: act, name: names[act] ?? "", float };
+    const jobName = names[job] ?? "", machineName = resources[mach] ?? "";
+    const name = [jobName, machineName].filter(Boolean).join(", ");
+    return { ...both, job, step, machine: mach, jobName, machineName, name };
   });
 }
 
-const named = (name) => (name ? ` ${name}` : "");
+export const named = (number, name) => (name ? `${number} ${name}` : `${number}`);
 
 function timesOf({ start, end, first, last, slack, isCritical }, needed = "") {
-  const dates = first ? `, ${first} to ${last}` : "";
+  const dates = first && `, ${first} to ${last}`;
   const known = slack === "" ? "" : `; ${slack ? `slack ${slack}` : "no slack"} in this schedule`;
   return `: ${start} to ${end}${dates}${needed}${isCritical ? `; ${STARRED}` : ""}${known}`;
 }
 
-function projectBars({ plan: { model, ...plan }, rows, slack }) {
+function projectBars({ plan, rows, slack }) {
+  const { model } = plan;
   const { resources } = namesIn(plan);
   const isByResource = byId("colours").value === "resource" && model;
   const resourceName = (place) => resources[place] ?? `resource ${place}`;
@@ -64,60 +134,48 @@ function projectBars({ plan: { model, ...plan }, rows, slack }) {
       (need ? `; needs ${need} of ${resourceName(place + 1)}` : "")).join("");
     const bySlack = slack ? (row.slack ? "loose" : "tight") : "plain";
     return {
-      ...row, line: row.number, isAlone: true,
+      ...row, line: row.number, lineName: named(row.number, row.name), isAlone: true,
       labels: [`${row.number}${row.isCritical ? "*" : ""}`],
       colour: isByResource ? `c${most ? (most - 1) % 16 : "none"}` : bySlack,
-      legend: isByResource ? (most ? resourceName(most) : "no resource") : "",
-      words: `Activity ${row.number}${named(row.name)}${timesOf(row, needed)}`,
+      legend: isByResource && (most ? resourceName(most) : "no resource"),
+      words: `Activity ${named(row.number, row.name)}${timesOf(row, needed)}`,
     };
   });
 }
 
 function shopBars({ rows }) {
-  const isMachine = byId("lines").value === "mach";
   const bars = rows.map((row) => {
     const { job, step, machine, jobName, machineName } = row;
-    return {
-      ...row, line: isMachine ? machine : job, key: isMachine ? job : machine,
-      labels: isMachine ? [jobName, `${job}.${step}`, `${job}`]
-        : [machineName, `M${machine}`, `${machine}`],
-      legend: isMachine ? jobName || `job ${job}` : machineName || `machine ${machine}`,
-      words: `Job ${job}${named(jobName)}, step ${step}, machine ${machine}${named(machineName)}`
-        + timesOf(row),
-    };
+    const words =
+      `Job ${named(job, jobName)}, step ${step}, machine ${named(machine, machineName)}`;
+    const bar = byId("lines").value === "mach"
+      ? { line: machine, lineName: named(`M${machine}`, machineName), key: job,
+        labels: [jobName, `${job}.${step}`, `${job}`], legend: jobName || `job ${job}` }
+      : { line: job, lineName: named(`J${job}`, jobName), key: machine,
+        labels: [machineName, `M${machine}`, `${machine}`],
+        legend: machineName || `machine ${machine}` };
+    return { ...row, ...bar, words: words + timesOf(row) };
   });
   bars.sort((a, b) => a.line - b.line || a.start - b.start || a.index - b.index);
   const colours = coloursOf(bars);
   return bars.map((bar) => ({ ...bar, colour: `c${colours.get(bar.key)}` }));
 }
 
-function lineNames({ plan, rows }) {
-  const isMachine = byId("lines").value === "mach";
-  return new Map(rows.map((row) => {
-    if (plan.kind === "project") return [row.number, `${row.number}${named(row.name)}`];
-    return isMachine ? [row.machine, `M${row.machine}${named(row.machineName)}`]
-      : [row.job, `J${row.job}${named(row.jobName)}`];
-  }));
-}
-
-/** Returns the view of the schedule that is drawn. */
 export function viewOf(plan) {
   const table = plan.schedules.get(plan.drawn);
   const starts = startsOf(table);
   const isSound = plan.model && verdictOf(plan.model, starts).isFeasible;
   const slack = isSound ? slackOf(plan.model, starts) : null;
-  const view = { plan, starts, slack, rows: rowsOf(plan, table, slack) };
-  view.total = Math.max(...view.rows.map(({ end }) => end));
-  view.isNamed = view.rows.some(({ name }) => name);
-  view.dates = Boolean(datesIn(plan, plan.drawn));
-  view.calendar = view.dates ? plan.calendar : null;
-  view.bars = plan.kind === "project" ? projectBars(view) : shopBars(view);
-  view.lines = [...new Set(view.bars.map(({ line }) => line))];
-  view.lineNames = lineNames(view);
-  return view;
+  const dates = datesIn(plan, plan.drawn);
+  const rows = rowsOf(plan, table, dates, slack);
+  const bars = plan.kind === "project" ? projectBars({ plan, rows, slack }) : shopBars({ rows });
+  return {
+    plan, starts, slack, rows, bars, total: Math.max(...rows.map(({ end }) => end)),
+    isNamed: rows.some(({ name }) => name), dates, calendar: dates && plan.calendar,
+    lineNames: new Map(bars.map(({ line, lineName }) => [line, lineName])),
+  };
 }
 
-/** Returns what the colours and the star mean: pairs of classes and words. */
 export function legendOf({ bars, slack, plan }) {
   const colours = new Map(bars.filter((bar) => bar.legend).map((bar) => [bar.legend, bar.colour]));
   const items = [...colours].sort(([a], [b]) => a.localeCompare(b, "en", { numeric: true }))
@@ -125,13 +183,13 @@ export function legendOf({ bars, slack, plan }) {
   if (plan.kind === "project" && !items.length && slack) {
     items.push(["bar tight", "no slack in this schedule"]);
     items.push(["bar loose", "slack: it can start later by itself"]);
+    items.push(["", "slack by the plan's file and the changes set here"]);
   }
   if (bars.some(({ isCritical }) => isCritical)) items.push(["", `* ${STARRED}`]);
   return items;
 }
 
-/** Returns the pairs of bars that are linked to one: predecessors and successors, and in a job shop
- * the steps before and behind it on its machine. */
+/** Returns the pairs of bars that are linked to one, by arcs or by their machine. */
 export function linksOf({ plan, rows }, index) {
   const links = (plan.model?.arcs ?? []).filter(({ from, to }) => from === index || to === index)
     .map(({ from, to }) => [from, to]);

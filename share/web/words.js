@@ -1,4 +1,4 @@
-// The words of the page: what rules, columns and terms mean, for tooltips and for the help panel.
+// The words of the page: what rules, columns, terms and the errors of lists mean.
 
 export const RULE_WORDS = {
   lft: "least latest finish: the activity that must end first",
@@ -23,13 +23,32 @@ const TERMS = {
   "Bind": "give a resource or machine a published capacity in place of the file's.",
   "Makespan": "the time from the start to the last end.",
   "Rule": "decides which activity is placed next: the one with ..",
-  "Float": "how far an activity can slip if crews are not counted. A star marks float 0. If crews "
-    + "bind, a starred activity may have slack, and one without a star may have none.",
+  "Float": "how far an activity can slip if crews are not counted; a star marks float 0. If crews "
+    + "bind, a starred activity may have slack, and another may have none.",
   "Slack": "how much later an activity can start in the schedule that is drawn, all others fixed, "
     + "so that it stays feasible and no longer. It comes from the plan's file and the changes made "
     + "in this browser; if the office's dates or schedules differ from these, it isn't shown.",
   "Search steps": "the budget of a search; 200,000 take some seconds.",
   "Lag": "the least time between the end of an activity and the start of its successor.",
+};
+
+export const LIST_FAULTS = {
+  T1: ["The list has more than 1,048,576 bytes."],
+  T2: ["This line isn't plain text in UTF-8. Save the list as CSV in UTF-8."],
+  T3: ["No column has this name. A list of activities needs duration; a list of orders has order, "
+    + "and then pairs of machine and time."],
+  T4: ["Two columns have this name."],
+  T5: ["The duration isn't a whole number without a unit."],
+  T6: ["The id or name is missing. An id has 1 to 32 characters, no blank, comma or semicolon."],
+  T7: ["Two activities have this id."],
+  T8: ["No activity has the id that this predecessor names."],
+  T9: ["A need isn't a whole number. An empty cell is 0."],
+  T10: ["This resource has no capacity: enter it, or add a row whose id is capacity."],
+  T11: ["These activities wait for each other."],
+  T12: ["The limits are 500 activities, 16 resources, 50 orders, 20 machines, 10,000 for a "
+    + "duration or an amount, 1,000,000 for all durations, and 200 bytes for a name."],
+  T13: ["This row has more cells than the header, or a quote isn't closed."],
+  T15: ["This order has more steps than there are machines."],
 };
 
 /** Returns the terms of the help panel with their meanings. */

@@ -1,5 +1,5 @@
 """Compares the modules of the browser page that compute (calendar, csv, slack, layout, project,
-starts, table) with Python's datetime and csv, with plain models, and with `plan`. Needs node.
+table) with Python's datetime and csv, with plain models, and with `plan`. Needs node.
 """
 
 import contextlib
@@ -182,7 +182,7 @@ def try_known_calendars(modules, draw):
         ahead = {tuple(worked_days(base, week, count - first)) for week in weeks}
         behind = {tuple(days_before(base, week, first)) for week in weeks}
         same(f"one calendar of {told}", chosen is not None, len(ahead) == len(behind) == 1)
-    pairs = [[{"start": "0", "end": "2"}, {"start": "2", "end": "2"}],
+    pairs = [[{"start": 0, "end": 2}, {"start": 2, "end": 2}],
              [{"first": "2024-03-01", "last": "2024-03-04"}, {"first": "-", "last": "-"}]]
     told = modules.values([["calendar", "daysTold", [[pairs]]]])[0]
     same("the days that are told", told, [[0, 19783], [1, 19786]])
@@ -284,12 +284,64 @@ def try_tables(modules, draw):
 
 
 def same_imports(paths, texts):
-    """`plan import` gives the same project files and errors, to the byte."""
+    """`plan import` gives the same projects and errors."""
     for path in paths:
         with contextlib.suppress(FileNotFoundError), open(path[:-3] + "error", "rb") as file:
             same(f"plan import {path}", plan("import", path), (1, b"", file.read()))
             continue
-        same(f"plan import {path}", plan("import", path), (0, texts[path].encode(), b""))
+        status, out, err = plan("import", path)
+        same(f"plan import {path}", (status, read_sm(out.decode()), err), (0, read_sm(texts[path]), b""))
+
+
+# ---- lists of orders
+
+
+def drawn_orders(draw):
+    """A list of orders as a text, which is often wrong somewhere."""
+    orders, machines = draw.randrange(1, 5), draw.randrange(1, 5)
+    pairs = draw.randrange(1, 4)
+    head = ["order", *(["machine", "time"] * pairs)]
+    cell = lambda: [draw.choice(["saw", "press", " paint ", "lathe", "a, b"][:machines + 1]),
+                    draw.choice(["0", "1", "7", " 12 "])]
+    rows = [[f"order {draw.randrange(orders)}", *sum((cell() for _ in range(draw.randrange(pairs + 1))), [])]
+            for _ in range(draw.randrange(1, 9))]
+    for _ in range(draw.choice([0, 0, 1, 2])):
+        row = draw.choice([head, *rows])
+        row[draw.randrange(len(row))] = draw.choice(["", "x", "10001", "-1", "1.5", "Machine", "n" * 201, "a\tb"])
+    if draw.random() < 0.1:
+        draw.choice([head, *rows]).append(draw.choice(["", "saw"]))
+    out = io.StringIO()
+    csv.writer(out, delimiter=draw.choice(",;"), lineterminator=draw.choice(["\n", "\r\n"])).writerows([head, *rows])
+    return out.getvalue()
+
+
+def large_orders(orders, machines, time):
+    """A list of so many orders, each with a step on each of so many machines."""
+    rows = [f"order {n},{','.join(f'm{k},{time}' for k in range(machines))}" for n in range(orders)]
+    return "\n".join(["order" + ",machine,time" * machines, *rows, ""])
+
+
+def try_orders(modules, draw):
+    """Lists of orders become the job shops, or give the errors, of `plan import --shop`."""
+    texts = [drawn_orders(draw) for _ in range(400)]
+    texts += [large_orders(50, 20, 1), large_orders(51, 1, 1), large_orders(1, 21, 1), large_orders(1, 1, 10001),
+              large_orders(50, 20, 1000), large_orders(50, 20, 1001), "", "order\n", "order,machine\n",
+              "order,machine,time\n", "order,machine,time,machine\n", "order,machine,time\n,saw,1\n",
+              file_of("examples/shop.csv").decode(), '"order","machine","time"\n"a ""b""","saw","3"\n',
+              "order,machine,time\na,saw,1\na,saw,2\n"]
+    results = modules.call([["csv", "readOrders", [{"bytes": list(text.encode())}]] for text in texts])
+    made = iter(modules.values([["csv", "shopText", [result["value"]]] for result in results
+                                if "value" in result]))
+    wrong = 0
+    for text, result in zip(texts, results):
+        status, out, err = plan("import", "--shop", "-", given=text.encode())
+        if "fault" in result:
+            wrong += 1
+            same(f"the error of {text!r}", (1, result["fault"] + "\n"), (status, err.decode()))
+            continue
+        shop = [line.split() for line in next(made).split("\n")]
+        same(f"the job shop of {text!r}", (0, shop), (status, [line.split() for line in out.decode().split("\n")]))
+    same("lists with and without errors", (wrong > 100, len(texts) - wrong > 100), (True, True))
 
 
 def try_records(modules, draw):
@@ -342,12 +394,14 @@ def is_feasible(model, starts):
     return True
 
 
-def brute_slack(model, starts):
-    """The greatest later start of each activity, by trying all of them."""
+def brute_slack(model, starts, places=None):
+    """The greatest later start of each activity, or of those at some places, by trying all of them."""
     d = model["durations"]
     whole = max(s + x for s, x in zip(starts, d))
     slack = []
     for at, start in enumerate(starts):
+        if places is not None and at not in places:
+            continue
         fits = [later for later in range(start, whole - d[at] + 1)
                 if is_feasible(model, [*starts[:at], later, *starts[at + 1:]])]
         slack.append(max(fits) - start)
@@ -476,26 +530,27 @@ def try_starts(modules, draw):
         table: starts, best: bests, " ".join(map(str, starts)): starts,
         "\n".join(map(str, starts)) + "\n": starts, "\n".join(lines): starts,
     }
-    calls = [["starts", "readStarts", [text, "project", wanted]] for text in texts]
+    calls = [["project", "readStarts", [text, "project", wanted]] for text in texts]
     for found, (text, model) in zip(modules.values(calls), texts.items()):
         same(f"the starts in {text!r}", found, model)
     steps = [f"{job} {step}" for job in range(1, 7) for step in range(1, 7)]
     shop = plan("shop", "spt", shops, "ft06")[1].decode()
-    found = modules.values([["starts", "readStarts", [shop, "shop", steps]]])[0]
+    found = modules.values([["project", "readStarts", [shop, "shop", steps]]])[0]
     same("the starts of a shop", found, [int(line.split()[4]) for line in shop.split("\n")[1:-2]])
     wrong = {"1 2 3": "3 start times; 14", "1 2 x": "x isn't", "-1": "-1 isn't",
              "act,start\n1,0\n": "no start of 2", "0 " * 13 + "10000001": "10000001 isn't"}
-    results = modules.call([["starts", "readStarts", [text, "project", wanted]] for text in wrong])
+    results = modules.call([["project", "readStarts", [text, "project", wanted]] for text in wrong])
     for result, (text, words) in zip(results, wrong.items()):
         same(f"the error of {text!r}", words in result.get("fault", ""), True)
     kinds = {table: True, best: True, "1 2 3": True, "act,d,start\n1,0,0": True,
              file_of("examples/house.sm").decode(): False, "id,duration\n": False,
-             file_of("examples/shops.txt").decode(): False}
-    found = modules.values([["starts", "isStarts", [text]] for text in kinds])
+             file_of("examples/shops.txt").decode(): False, "0 0": True,
+             file_of("examples/printing.txt").decode(): False}
+    found = modules.values([["project", "isStarts", [text]] for text in kinds])
     same("texts that are start times", found, list(kinds.values()))
     given = [{"act": 1, "name": 'Walls, "north"', "start": 0}, {"act": 2, "name": "=1+1", "start": 4},
              {"act": 3, "name": "-x", "start": 5}]
-    text = modules.values([["starts", "csvText", [given]]])[0]
+    text = modules.values([["project", "csvText", [given]]])[0]
     same("CSV that is written", list(csv.reader(io.StringIO(text))), [
         ["act", "name", "start"], ["1", 'Walls, "north"', "0"], ["2", "'=1+1", "4"],
         ["3", "'-x", "5"]])
@@ -588,7 +643,7 @@ def try_sorting(modules, draw):
     same("orders", [(order > 0) - (order < 0) for order in found], [-1, 1, 1, 1, -1, 0])
 
 
-TRIALS = [try_dates, try_calendar_edges, try_known_calendars, try_tables, try_records, try_slack,
+TRIALS = [try_dates, try_calendar_edges, try_known_calendars, try_tables, try_orders, try_records, try_slack,
           try_verdicts, try_use, try_projects, try_starts, try_layout, try_sorting]
 
 

@@ -23,20 +23,25 @@ def chunk(kind, content):
 
 def nearest(left, above, corner):
     """Paeth's choice of three neighbours."""
-    guess = left + above - corner
-    return min((left, above, corner), key=lambda value: abs(guess - value))
+    at_left, at_above = abs(above - corner), abs(left - corner)
+    at_corner = abs(left + above - 2 * corner)
+    if at_left <= at_above and at_left <= at_corner:
+        return left
+    return above if at_above <= at_corner else corner
 
 
 def unfiltered(kind, line, above, width):
     """A line of bytes without its filter; a pixel has so many bytes."""
     line = bytearray(line)
-    for place, byte in enumerate(line):
+    if kind == 2:
+        return bytearray((byte + up) & 255 for byte, up in zip(line, above))
+    for place in range(len(line) if kind else 0):
         left = line[place - width] if place >= width else 0
         corner = above[place - width] if place >= width else 0
-        up = above[place]
-        guesses = [0, left, up, (left + up) // 2]
-        guess = guesses[kind] if kind < 4 else nearest(left, up, corner)
-        line[place] = (byte + guess) & 255
+        guess = left if kind == 1 else (left + above[place]) // 2
+        if kind == 4:
+            guess = nearest(left, above[place], corner)
+        line[place] = (line[place] + guess) & 255
     return line
 
 

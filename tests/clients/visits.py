@@ -200,6 +200,7 @@ def visit_bars(browser):
     legend = " ".join(texts(browser, "#legend li"))
     same("the legend", "may not slip" in legend, False)
     same("the star", "* critical by dates alone (crews not counted)" in legend, True)
+    same("where slack is from", "slack by the plan's file and the changes set here" in legend, True)
 
 
 def bar_classes(browser):
@@ -266,18 +267,19 @@ def visit_sort(browser):
         told = browser.run("return document.querySelector('#table [data-head=start]').ariaSort")
         same("the order that is told", told, order)
     browser.click("#table [data-head=number] button")
-    heads, *rows = seen_table(browser, "#table")
-    same("the mark", heads[0], "number ▲")
+    rows = seen_table(browser, "#table")[1:]
+    mark = "return getComputedStyle(document.querySelector('#table [data-head=number] button'), '::after').content"
+    same("the mark", browser.run(mark), '" ▲"')
     same("the numbers", [int(row[0].rstrip("*")) for row in rows], list(range(1, 10)))
 
 
 # ---- the calendar
 
 
-def days_by(rule, start, marks, path):
-    """The first and the last day of each activity, as `plan days` prints them."""
-    rows = rows_of(printed("days", rule, start, marks, path))
-    return [["", ""] if row[1] == "-" else row[1:] for row in rows]
+def days_by(rule, start, marks, path, instance=(), given=b""):
+    """The first and the last day of each activity or step, as `plan days` prints them."""
+    rows = rows_of(printed("days", rule, start, marks, path, *instance, given=given))
+    return [["", ""] if row[-1] == "-" else row[-2:] for row in rows]
 
 
 def places_in(start, marks, last):
@@ -517,6 +519,9 @@ def visit_check(browser):
         found = "refusal" if "start" in line and "before" in line or "needed" in line else "verdict"
         same("its colour", browser.run("return document.querySelector('#check-answer > div')"
                                        ".className"), found)
+        named = f"own {max(ends)}" + (" (not feasible)" if found == "refusal" else "")
+        same("its name", seen(browser, "#drawn label:last-child").strip(), named)
+        same("its caption", named in seen(browser, "#caption"), True)
         if line.startswith("activity"):
             wait_text(browser, "#told", f"Activity {line.split()[1]}: ")
     browser.choose("#check-file", example("late.txt"))
@@ -532,7 +537,7 @@ def downloaded(browser, office, button):
     os.makedirs(room, exist_ok=True)
     browser.devtools("Browser.setDownloadBehavior", behavior="allow", downloadPath=room)
     open_tab(browser, "handin")
-    browser.click(f"#save-{button}")
+    browser.click(f"#saves [value^={button}]")
     for _ in range(300):
         names = [name for name in os.listdir(room) if not name.endswith(".crdownload")]
         if names:
@@ -727,8 +732,10 @@ def visit_colours(browser):
     drop(browser, "big.txt", large_shop())
     wait_plan(browser, 8)
     rows = rows_of(printed("shop", "mwkr", "-", "big", given=large_shop().encode()))
-    slack = brute_slack(shop_model(rows), [int(row[4]) for row in rows])
-    same("the slack of the steps", column(browser, "slack"), [str(number) for number in slack])
+    places = range(0, len(rows), 11)
+    slack = brute_slack(shop_model(rows), [int(row[4]) for row in rows], places)
+    found = column(browser, "slack")
+    same("the slack of the steps", [found[at] for at in places], [str(number) for number in slack])
     same("some slack", any(slack), True)
     for lines, count, other in (("mach", 10, 15), ("job", 15, 10)):
         browser.click(f"#lines option[value={lines}]")
@@ -816,7 +823,7 @@ def visit_refused(browser):
         code, number = line.split()[0], int(line.split()[2])
         said = texts(browser, "#import-answer .refusal p")
         same(f"what the page says of {code}", said, explained(code))
-        marked = browser.run("return [...document.querySelectorAll('.marked td')].map("
+        marked = browser.run("return [...document.querySelectorAll('.marked > *')].map("
                              "(cell) => cell.innerText)")
         lines = file_of(f"examples/{name}").decode().split("\n")
         same("the marked line", marked, [str(number), lines[number - 1]])
@@ -856,7 +863,7 @@ def visit_delete(browser):
     open_tab(browser, "changes")
     for answer, told in (("no", "Plan 2, a project"), ("yes", "Plan 2 is deleted.")):
         browser.click("#delete button")
-        wait_text(browser, "#question-words", f"Delete plan 2 of desk {DESK} for good?")
+        wait_text(browser, "#question p", f"Delete plan 2 of desk {DESK} for good?")
         browser.click(f"#question [value={answer}]")
         browser.wait("no question", "return !question.open")
         wait_text(browser, "#plan-head, #news", told)
@@ -925,7 +932,7 @@ def visit_waiting(browser):
     """)
     browser.click("#best button")
     browser.wait("a button that awaits", "return document.querySelector('#best button').textContent"
-                 " === 'Searching …'")
+                 " === 'Search for the best …'")
     browser.wait("the request", "return Boolean(window.letGo)")
     browser.run("window.letGo()")
     wait_idle(browser)
@@ -1020,6 +1027,57 @@ def visit_paper(browser):
     same("the page afterwards", browser.run("return paper.childElementCount"), 0)
 
 
+def starts_are(browser, starts, line):
+    """The page's verdict on start times, and the makespan."""
+    browser.run("check.elements.starts.value = arguments[0]", starts)
+    submit(browser, "check")
+    same(f"the verdict on {starts}", seen(browser, "#check-answer strong"), line)
+
+
+def visit_orders(browser):
+    """A list of orders is shown with the job shop that it becomes. The table of its schedule has the
+    names of orders and machines and the working days; start times get a verdict in steps."""
+    text = file_of("examples/shop.csv").decode()
+    drop(browser, "orders.csv", text.replace("press,4", "press,four", 1))
+    wait_text(browser, "#preview strong", "T5 line 7 duration")
+    same("the cell", texts(browser, "#preview .wrong"), ["four"])
+    drop(browser, "orders.csv", text)
+    wait_text(browser, "#preview", "orders.csv becomes a job shop of 3 orders on 3 machines.")
+    wanted = [["job", "order", "steps"], ["1", "order 4711", "saw 3, press 2, paint 2"],
+              ["2", "order 4712", "saw 2, paint 1, press 4"], ["3", "order 4713", "press 4, paint 3"]]
+    same("the job shop", seen_table(browser, "#preview"), wanted)
+    same_senses("a list of orders", browser)
+    submit(browser, "import")
+    wait_plan(browser, 13)
+    wait_text(browser, "#plan-head", "Plan 13, a job shop: orders")
+    same("the names' zone", browser.run("return document.getElementById('names-zone').hidden"), True)
+    set_date(browser, "#calendar [name=start]", "2024-03-01")
+    submit(browser, "calendar")
+    given = "\n".join(printed("import", "--shop", example("shop.csv"))).encode()
+    machines = ["saw", "press", "paint"]
+    for rule in SHOP_RULES:
+        browser.click(f"#drawn [value={rule}]")
+        rows = rows_of(printed("shop", rule, "-", "shop", given=given))
+        days = days_by(rule, "2024-03-01", "1111100", "-", ["shop"], given)
+        slack = brute_slack(shop_model(rows), [int(row[4]) for row in rows])
+        wanted = [["job", "step", "machine", "start", "end", "first day", "last day", "slack"]]
+        wanted += [[f"{row[0]} order {4710 + int(row[0])}", row[1], f"{row[2]} {machines[int(row[2])]}",
+                    *row[4:6], *dates, str(s)] for row, dates, s in zip(rows, days, slack)]
+        same(f"the table by {rule}", seen_table(browser, "#table"), wanted)
+        starts_are(browser, " ".join(row[4] for row in rows), "active")
+    # worked out by hand: a step too early, the saw twice, a feasible schedule, and the press later
+    starts_are(browser, "0 0 0 0 0 0 0 0 0", "step 2 of job 1 starts before step 1 of job 1 ends")
+    starts_are(browser, "0 3 5 1 7 8 12 16 19", "at time 1 machine 0 has two steps")
+    starts_are(browser, "0 3 5 3 7 8 12 16 19", "active")
+    starts_are(browser, "0 3 5 3 7 8 13 17 20", "step 1 of job 3 can start earlier")
+    wait_text(browser, "#told", "Job 3 order 4713, step 1, machine 1 press: 13 to 17")
+    wait_text(browser, "#check-answer", "Makespan 20.")
+    lines = printed("solve", "-", "shop", given=given)
+    drop(browser, "solved.txt", "\n".join([*lines, ""]))
+    wait_text(browser, "#check-answer", f"Makespan {makespan_of(lines)}.")
+    wait_text(browser, "#check-answer p", "Feasible")
+
+
 def visit_quiet(browser):
     """The browser complains of nothing but the refusals that were asked for."""
     asked_for = ("the server responded with a status of", "net::ERR")
@@ -1065,8 +1123,8 @@ def open_north(browser, office):
 
 
 def visit_pictures(browser, office):
-    """A project from a table, a job shop in the dark, and a table that is refused, where pictures are
-    wanted."""
+    """A project and a job shop from lists, a job shop in the dark, and a list with an error, if pictures
+    are wanted."""
     if "--pictures" not in sys.argv:
         return
     browser.resize(1120, 760)
@@ -1100,6 +1158,16 @@ def visit_pictures(browser, office):
     browser.run("scrollTo(0, 0)")
     shot(browser, "shop.png")
     browser.darken("light")
+    drop(browser, "shop.csv", file_of("examples/shop.csv").decode())
+    wait_text(browser, "#preview", "becomes a job shop")
+    submit(browser, "import")
+    wait_plan(browser, 4)
+    set_date(browser, "#calendar [name=start]", "2024-03-01")
+    submit(browser, "calendar")
+    open_tab(browser, "table")
+    browser.run("document.querySelector('#plan').scrollIntoView()")
+    browser.point("#drawing .bar[data-line='0'] rect")
+    shot(browser, "orders.png")
     drop(browser, "house.csv", table.replace("G H", "G X"))
     wait_text(browser, "#preview strong", "T8")
     browser.run("scrollTo(0, 0)")
@@ -1125,6 +1193,6 @@ VISIT = [
     visit_use, visit_sort, visit_calendar, visit_today, visit_bind, visit_lag, visit_elsewhere,
     visit_best, visit_large, visit_check, visit_save, visit_table, visit_capacity, visit_names, visit_other,
     visit_shop, visit_colours, visit_links, visit_focus, visit_closed, visit_refused, visit_keys, visit_delete,
-    visit_lost, visit_found, visit_waiting, visit_sizes, visit_senses, visit_paper, visit_quiet,
-    visit_pictures,
+    visit_lost, visit_found, visit_waiting, visit_sizes, visit_senses, visit_paper, visit_orders,
+    visit_quiet, visit_pictures,
 ]

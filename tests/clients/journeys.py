@@ -1,0 +1,109 @@
+"""The three journeys of examples/README.md, "A desk in the browser", step by step, at the desks of
+share/web/try.
+"""
+
+import csv
+import datetime
+import importlib.machinery
+import importlib.util
+import io
+import os
+
+from exchanges import file_of
+from front import WEB
+from page_units import worked_days
+from pages import (
+    drop, example, makespan_of, open_tab, printed, rows_of, seen, seen_table, set_date, submit, texts,
+    wait_plan, wait_text,
+)
+from programs import same
+from visits import column, downloaded, sign_in
+
+
+def fill_desks(port):
+    """Opens the desks of share/web/try."""
+    loader = importlib.machinery.SourceFileLoader("shown", os.path.join(WEB, "try"))
+    shown = importlib.util.module_from_spec(importlib.util.spec_from_loader("shown", loader))
+    loader.exec_module(shown)
+    shown.fill(port)
+
+
+def enter(browser, desk):
+    """Signs in from the first page."""
+    sign_in(browser, desk, f"{desk}-key-1")
+    browser.wait("its plans", "return document.querySelector('#plans button')")
+
+
+def drop_example(browser, name):
+    drop(browser, name, file_of(f"examples/{name}").decode())
+
+
+def journey_planner(browser):
+    """A list becomes a plan with names, days and weeks, and is printed."""
+    enter(browser, "north")
+    drop_example(browser, "house.csv")
+    wait_text(browser, "#preview", "house.csv becomes a project of 12 activities")
+    submit(browser, "import")
+    wait_plan(browser, 4)
+    names = list(csv.DictReader(io.StringIO(file_of("examples/house.csv").decode())))
+    same("the names", column(browser, "name")[1:-1], [row["name"] for row in names[:-1]])
+    lines = printed("schedule", "lft", example("house.sm"))
+    same("the starts", column(browser, "start"), [row[2] for row in rows_of(lines)])
+    set_date(browser, "#calendar [name=start]", "2024-03-01")
+    submit(browser, "calendar")
+    open_tab(browser, "table")
+    days = worked_days(datetime.date(2024, 3, 1), "1111100", int(makespan_of(lines)))
+    wanted = ["" if row[2] == row[3] else str(days[int(row[3]) - 1]) for row in rows_of(lines)]
+    same("the last days", column(browser, "last day"), wanted)
+    same("weeks", "weeks begin on Monday" in seen(browser, "#caption"), True)
+    sheets = browser.printed()
+    same("the sheets", sheets.count(b"/Type /Page\n"), 2)
+    browser.click("#leave")
+
+
+def journey_student(browser, office):
+    """The best schedule is saved, and start times from elsewhere get a verdict."""
+    enter(browser, "north")
+    drop_example(browser, "five.sm")
+    wait_plan(browser, 5)
+    submit(browser, "best")
+    lines = printed("best-project", "200000", example("five.sm"))
+    same("the office proves it", lines[0].split()[0], "optimal")
+    wait_text(browser, "#best-answer", f"{lines[0]}: no schedule of this plan is shorter.")
+    name, text = downloaded(browser, office, "starts")
+    same("the name of the file", name, "north-plan-5-best.starts.txt")
+    same("the start times", text.split(), [row[2] for row in rows_of(lines)])
+    drop_example(browser, "six.sm")
+    wait_plan(browser, 6)
+    drop_example(browser, "late.txt")
+    wait_text(browser, "#check-answer strong", "activity 6 can start earlier")
+    browser.click("#leave")
+
+
+def journey_foreman(browser, office):
+    """A list of orders becomes a job shop, whose best schedule is saved as CSV."""
+    enter(browser, "south")
+    drop_example(browser, "shop.csv")
+    wait_text(browser, "#preview", "shop.csv becomes a job shop of 3 orders on 3 machines.")
+    submit(browser, "import")
+    wait_plan(browser, 4)
+    same("the machines", [words.split("M")[1][2:] for words in texts(browser, "#drawing .name")],
+         ["saw", "press", "paint"])
+    browser.run("document.querySelector('#drawing').scrollIntoView({ block: 'center' })")
+    browser.point("#drawing .bar[data-line='0'] rect")
+    wait_text(browser, "#told", "Job ")
+    submit(browser, "best")
+    given = "\n".join(printed("import", "--shop", example("shop.csv"))).encode()
+    lines = printed("best", "200000", "-", "shop", given=given)
+    wait_text(browser, "#best-answer", f"{lines[0]}: ")
+    same("the rules beside it", len(seen_table(browser, "#rules")[0]), 4 + 3 + 1)
+    name, text = downloaded(browser, office, "csv")
+    heads, *rows = csv.reader(io.StringIO(text))
+    at = [heads.index(head) for head in ("job", "step", "mach", "d", "start", "end")]
+    same("the CSV", [[row[place] for place in at] for row in rows], [row[:6] for row in rows_of(lines)])
+    drop(browser, name, text)
+    wait_text(browser, "#check-answer strong", "active")
+    browser.click("#leave")
+
+
+JOURNEYS = [journey_planner, journey_student, journey_foreman]
