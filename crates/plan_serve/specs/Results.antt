@@ -37,8 +37,8 @@ abbrev pub IsReadFault : ServeFault → Type 0
 IsReadFault e = (e ≡ fault.Memory) ⊎ (e ≡ fault.Input)
 
 module _ {F D : Type 0} {g : disk.Ghosts D} (first : start.Ghosts F) where
-  -- The tables of an office were created, or not, in the files, by the key of a text. The connection
-  -- was closed.
+  -- The tables of an office were created, or not, in the files, by the key of a text. The
+  -- connection was closed.
   abbrev pub InitsAtName : Option Text → Option Text → Result (Unit {0}) ServeFault
       → Option (Closed D g) → Type 0
   InitsAtName remaining rest told closed =
@@ -47,9 +47,9 @@ module _ {F D : Type 0} {g : disk.Ghosts D} (first : start.Ghosts F) where
       × IsToldOf done closed told
 
   module _ (looked : Result Metadata io.Error) where
-    -- If the system's answer excludes an office, nothing was opened, and the result is the fault for
-    -- the answer. Otherwise the tables in the files were opened, an office over them did this work,
-    -- and its connection was closed.
+    -- If the system's answer excludes an office, nothing was opened, and the result is the fault
+    -- for the answer. Otherwise the tables in the files were opened, an office over them did this
+    -- work, and its connection was closed.
     abbrev pub WorksAtName : (Result (Unit {0}) ServeFault → Counted (FileStore D g)
         → Counted (FileStore D g) → Type 0) → (Result (Unit {0}) ServeFault → Type 0)
         → Result (Unit {0}) ServeFault → Option (Closed D g) → Type 0
@@ -62,7 +62,8 @@ module _ {F D : Type 0} {g : disk.Ghosts D} (first : start.Ghosts F) where
     abbrev pub ReportsAtName : Report → Option Text → Option Text → Result (Unit {0}) ServeFault
         → Option (Closed D g) → Type 0
     ReportsAtName report taken after told closed =
-        WorksAtName (λ done old new. ReportsTo (sql_shelf over_files) old new report taken after done)
+        WorksAtName
+        (λ done old new. ReportsTo (sql_shelf over_files) old new report taken after done)
         (KeepsNone report) told closed
 
     -- the rows were summarized, and the summary was written or not
@@ -80,7 +81,8 @@ module _ {F D : Type 0} {g : disk.Ghosts D} (first : start.Ghosts F) where
     ReplaysAtName count taken after told closed =
         ((closed ≡ None) × MatchResult told (λ _. ⊥) IsReadFault)
         ⊎ ((conns : List Text) × (length conns ≡ count)
-        × WorksAtName (λ done old new. Replays (sql_shelf over_files) old new conns taken after done)
+        × WorksAtName
+        (λ done old new. Replays (sql_shelf over_files) old new conns taken after done)
         (λ done. IsErrOf done fault.Memory) told closed)
 
     -- `count` turns were served, or less if an error ended them

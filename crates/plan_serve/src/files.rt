@@ -33,8 +33,8 @@ type Kept<F> = FileStore<FileFrom<F>>;
 /// The closed files of a database, or the error and the store if its log can't be copied.
 pub type ClosedFiles<F> = Result<Files<FileFrom<F>>, (Error, FileStore<FileFrom<F>>)>;
 
-/// The result of a command, and the files that it closed. It closes none if it opened none, if their
-/// tables were refused, or if memory ran out before the first connection was served.
+/// The result of a command, and the files that it closed. It closes none if it opened none, if
+/// their tables were refused, or if memory ran out before the first connection was served.
 pub type ResultAndFiles<F> = (Result<(), ServeFault>, Option<ClosedFiles<F>>);
 
 // A database in a file, by the name of the file. It can be opened once.
@@ -87,8 +87,8 @@ impl<'a, F: Start> Place for InFile<'a, F> {
     }
 }
 
-// Closes a database, which copies its log into it. If this fails, the log stays beside the database,
-// and nothing is lost.
+// Closes a database, which copies its log into it. If this fails, the log stays beside the
+// database, and nothing is lost.
 #[tactic(auto, using(crate::proofs::ReturnedLemmas::is_shut))]
 fn closed<F: Start>(conn: Connection<Kept<F>>) -> ClosedFiles<F>
     ensures { IsShut conn result }
@@ -153,8 +153,8 @@ pub fn init_on_file(rt: &HostRuntime, path: &str) -> Result<(), ServeFault>
     init_from(rt, &mut StdSource::new(rt.reader()), path, Unknown).0
 }
 
-/// The same, with the key in the first line of a text, and with a start that stands for the contents
-/// of the files. Returns the files that it closed.
+/// The same, with the key in the first line of a text, and with a start that stands for the
+/// contents of the files. Returns the files that it closed.
 pub fn init_from<R: Source, F: Start>(
     rt: &HostRuntime,
     reader: &mut R,
@@ -230,8 +230,8 @@ fn report_at<F: Start, W: Sink>(
     report: Report<'_>,
     writer: &mut W,
 ) -> ResultAndFiles<F>
-    ensures works { ReportsAtName F.Start looked report.entry (W.taken writer.old) (W.taken writer.new)
-        result.0 result.1 }
+    ensures works { ReportsAtName F.Start looked report.entry (W.taken writer.old)
+        (W.taken writer.new) result.0 result.1 }
     ensures reports { OnOk result.0
         (ReportsOnFiles F.Start ⟦<Kept<F> as Store>⟧ report.entry
         (W.taken writer.old) (W.taken writer.new)) }
