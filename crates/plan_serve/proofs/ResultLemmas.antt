@@ -1,6 +1,6 @@
 -- The result of a command on files, from what it did.
-use Rattle.std.proofs.Common.{◌≡◌, ◌⊎◌, inl, inr, ℕ, Bool, Option, Some, None, Result, Ok, Err, refl, sym, subst}
-use Rattle.std.specs.Prelude.{IfSome, IsTrue, is_some}
+use Rattle.std.proofs.Common.{◌≡◌, inl, inr, ℕ, Option, Some, None, Result, Err, refl}
+use Rattle.std.specs.Prelude.{IsTrue, is_some}
 use Rattle.std.specs.declared.fs.attrs.Metadata.{Metadata}
 use Rattle.std_io.specs.declared.io.error.Error as io
 use Rattle.sqlite_disk.specs.declared.Disk as disk
@@ -13,7 +13,7 @@ use Rattle.plan_door.specs.declared.fault.ServeFault.{ServeFault}
 use Rattle.plan_serve.specs.Causes.{IsThere, IsLookFault, IsToldAnew}
 use Rattle.plan_serve.specs.InitRun.{IsOpenedFrom, IsOpenedOnce, IsRefusedOnce}
 use Rattle.plan_serve.specs.Returned.{Closed, InitsOnce, WorksOnce}
-use Rattle.plan_serve.specs.Results.{IsToldOf, IsUnopened, IsReadFault, InitsAtName, WorksAtName, ReportsAtName, ReplaysAtName}
+use Rattle.plan_serve.specs.Results.{IsToldOf, IsUnopened, IsReadFault, InitsAtName, WorksAtName, ReplaysAtName}
 use Rattle.plan_serve.proofs.InitLemmas.{more_makes}
 
 -- the result is the same if files were closed
@@ -46,10 +46,10 @@ module _ {F D : Type 0} {g : disk.Ghosts D} (first : start.Ghosts F) where
     at_name done told closed there works anew same = inr (there, (done, works, told_of done told closed anew same))
 
     -- nothing was opened
-    pub not_at_name : (e : ServeFault) → IsLookFault looked e → WorksAtName {F} {D} {g} first looked Does Lost (Err e) None
-    not_at_name e is = inl (refl, is)
+    pub not_at_name : (e : ServeFault) (closed : Option (Closed D g)) → closed ≡ None → IsLookFault looked e → WorksAtName first looked Does Lost (Err e) closed
+    not_at_name e closed none is = inl (none, is)
 
   -- a file of requests can't be read
-  pub unread : (looked : Result Metadata io.Error) (count : ℕ) (taken after : Option Text) (e : ServeFault) → IsReadFault e
-      → ReplaysAtName {F} {D} {g} first looked count taken after (Err e) None
-  unread looked count taken after e is = inl (refl, is)
+  pub unread : (looked : Result Metadata io.Error) (count : ℕ) (taken after : Option Text) (e : ServeFault) (closed : Option (Closed D g)) → closed ≡ None → IsReadFault e
+      → ReplaysAtName first looked count taken after (Err e) closed
+  unread looked count taken after e closed none is = inl (none, is)
