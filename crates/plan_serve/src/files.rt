@@ -289,7 +289,6 @@ fn report_file<F: Start, W: Sink>(
 
 /// `plan replay`: serves the connections whose bytes are in files, by the office in the file of
 /// this name, and writes the responses. All files are read before the office is opened.
-#[tactic(auto, using(crate::proofs::CauseLemmas::tables_at_name))]
 pub fn replay_on_files<W: Sink>(
     rt: &HostRuntime,
     path: &str,
@@ -359,7 +358,6 @@ pub fn replay_from<F: Start, W: Sink>(
 
 /// `plan check-office`: checks every row of the office in the file of this name. It writes the
 /// number of rows in each table and a digest of the rows.
-#[tactic(auto, using(crate::proofs::CauseLemmas::tables_at_name))]
 pub fn check_office_on_file<W: Sink>(
     rt: &HostRuntime,
     path: &str,
@@ -420,7 +418,6 @@ pub fn check_office_from<F: Start, W: Sink>(
 
 /// `plan serve`: serves `service.count` connections on a local port, by the office in a file. The
 /// office is opened before the port.
-#[tactic(auto, using(crate::proofs::CauseLemmas::tables_at_name))]
 pub fn serve_on_port(rt: &HostRuntime, service: &Service<'_>) -> Result<(), ServeFault>
     ensures served { OnOk result
         (ServesOnFiles ⟦<Unknown as Start>⟧ ⟦<Kept<Unknown> as Store>⟧ service.now.count) }
@@ -455,7 +452,10 @@ pub fn serve_from<F: Start>(
         return (Err(fault), None);
     }
     let (done, files) = serve_file(rt, service, start);
-    (with_cause(rt, service.database, done, files.is_some()), files)
+    (
+        with_cause(rt, service.database, done, files.is_some()),
+        files,
+    )
 }
 
 // Serves connections on a local port, by the office in a file, and closes it.

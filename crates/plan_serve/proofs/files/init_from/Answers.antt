@@ -21,7 +21,7 @@ returns-clause-tables g c =
 
 pub returns-clause-inits : goal.returns-clause-inits
 returns-clause-inits g c =
-    inits_at_name g.F.Start c.in_file.result.opens.calls c.init_file-done.new.place.opens.calls (c.init_file-done.new.place ≡ c.in_file.result)
+    inits_at_name g.F.Start c.in_file-place.result.opens.calls c.init_file-done.new.place.opens.calls (c.init_file-done.new.place ≡ c.in_file-place.result)
     (g.R.Source.remaining c.args.reader.now) (g.R.Source.remaining c.init_file-done.new.reader)
     c.init_file-done.result.0 c.with_cause.result c.init_file-done.result.1
     c.init_file-done.ensures.inits c.with_cause.ensures.told (λ has. c.with_cause.ensures.same (subst IsTrue (sym c.is_some.ensures) has))

@@ -1,0 +1,5 @@
+use Rattle.plan_serve.proofs.CauseLemmas.{tables_at_name}
+use Rattle.plan_serve.proofs.files.replay_on_files.Goals as goal
+
+pub returns-clause-tables : goal.returns-clause-tables
+returns-clause-tables g c = tables_at_name _ _ c.metadata.result c.replay_from.result.0 c.replay_from.ensures.tables

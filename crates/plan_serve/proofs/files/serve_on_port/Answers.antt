@@ -1,0 +1,5 @@
+use Rattle.plan_serve.proofs.CauseLemmas.{tables_at_name}
+use Rattle.plan_serve.proofs.files.serve_on_port.Goals as goal
+
+pub returns-clause-tables : goal.returns-clause-tables
+returns-clause-tables g c = tables_at_name _ _ c.metadata-looked.result c.serve_from.result.0 c.serve_from.ensures.tables
