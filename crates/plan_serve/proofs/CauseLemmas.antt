@@ -19,7 +19,7 @@ use Rattle.plan_store.specs.OnDisk.{IsRefusedFrom}
 use Rattle.plan_serve.specs.Faults.{fault_of}
 use Rattle.plan_serve.specs.Causes.{IsFileCause, IsOpenCause, IsToldAnew, IsFileFault, IsServeFault, IsShort, IsLookFault, IsOfTables, IsOfOpenedTables, IsOfTablesAtName}
 use Rattle.plan_serve.specs.InitRun.{IsInitFault, IsOfTablesThere}
-use Rattle.plan_serve.specs.Reports.{IsWriteFault, IsReportFault, IsReplayFault}
+use Rattle.plan_serve.specs.Reports.{IsWriteFault, IsReportFault}
 
 -- ---- facts about each fault of a kind
 

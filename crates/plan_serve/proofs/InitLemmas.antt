@@ -14,7 +14,7 @@ use Rattle.plan_store.specs.SqlBooks.{Counted}
 use Rattle.plan_door.specs.Keys.{ReadsKey, TakesKey, first_line}
 use Rattle.plan_door.specs.declared.fault.ServeFault.{ServeFault}
 use Rattle.plan_door.specs.declared.fault.ServeFault.TheVariants as fault
-use Rattle.plan_serve.specs.InitRun.{IsTold, IsLeft, MakesNone, MakesOffice, Inits, HasMade, HasMadeIn, IsInitFault, IsToldThere, IsOpenedFrom, IsOpenedOnce, InitsOnFiles, IsOfTablesThere}
+use Rattle.plan_serve.specs.InitRun.{IsTold, IsLeft, MakesNone, MakesOffice, Inits, HasMade, HasMadeIn, IsInitFault, IsToldThere, IsOpenedFrom, IsOpenedOnce, InitsOnFiles, IsOfTablesThere, IsLeftThere, IsRefused}
 
 module _ {S : Type 0} (g : Ghosts S) (Opens : Held S → Type 0) (Refuses : StoreFault → Type 0) (Unopened : Type 0) (remaining rest : Option Text) (digest : Digest)
     (reads : ReadsKey remaining rest (Ok digest)) where
@@ -150,3 +150,36 @@ module _ {F S : Type 0} (first : start.Ghosts F) (g : Ghosts S) (old new : ℕ) 
   pub told_once : (r : Result (Unit {0}) ServeFault) → IfErr r (IsToldThere g (IsOpenedOnce first g old new)) → IfErr r (IsOfTablesThere first g)
   told_once (Ok done) told = tt
   told_once (Err e) told = more_told g (IsOpenedOnce first g old new) (IsOpenedFrom first g) (λ conn opens. opens.1) e told
+
+module _ {S : Type 0} (g : Ghosts S) (A B : Held S → Type 0) (R Q : StoreFault → Type 0) (U V : Type 0) (opened : (conn : Held S) → A conn → B conn)
+    (refused : (cause : StoreFault) → R cause → Q cause) (free : U → V) (remaining rest : Option Text) where
+  -- the same for more connections, and for more causes
+  more_left : (back : Option (Held S)) (digest : Digest) → IsLeftThere g A R U back digest → IsLeftThere g B Q V back digest
+  more_left back digest (conn, left, same, opens, empty, kept) = (conn, left, same, opened conn opens, empty, kept)
+
+  more_refused : (cause : StoreFault) → IsRefused g A R U remaining rest cause → IsRefused g B Q V remaining rest cause
+  more_refused cause (digest, reads, refuses) = (digest, reads, refused cause refuses)
+
+  more_none : (e : ServeFault) (back : Option (Held S)) → MakesNone g A R U remaining rest e back → MakesNone g B Q V remaining rest e back
+  more_none fault.Key back (reads, none, unopened) = (reads, none, free unopened)
+  more_none fault.Store back (digest, reads, inl (refuses, none)) = (digest, reads, inl (refused store.Store refuses, none))
+  more_none fault.Store back (digest, reads, inr left) = (digest, reads, inr (more_left back digest left))
+  more_none fault.NotOurs back (digest, reads, (conn, same, opens, used, foreign)) = (digest, reads, (conn, same, opened conn opens, used, foreign))
+  more_none fault.Taken back (digest, reads, (conn, same, opens, is)) = (digest, reads, (conn, same, opened conn opens, is))
+  more_none fault.Memory back (inl (none, inl unopened)) = inl (none, inl (free unopened))
+  more_none fault.Memory back (inl (none, inr is)) = inl (none, inr (more_refused store.NoMemory is))
+  more_none fault.Memory back (inr (digest, reads, left)) = inr (digest, reads, more_left back digest left)
+  more_none fault.Input back (none, unopened) = (none, free unopened)
+  more_none fault.Version back none = absurd none
+  more_none fault.Socket back none = absurd none
+  more_none fault.Output back none = absurd none
+  more_none fault.Locked back none = absurd none
+  more_none fault.Missing back none = absurd none
+  more_none fault.Denied back none = absurd none
+  more_none fault.PortTaken back none = absurd none
+  more_none fault.PortDenied back none = absurd none
+
+  pub more_makes : (r : Result (Unit {0}) ServeFault) (back : Option (Held S)) → MakesOffice g A R U remaining rest r back → MakesOffice g B Q V remaining rest r back
+  more_makes (Ok done) None made = absurd made
+  more_makes (Ok done) (Some after) (digest, reads, (conn, opens, empty), office) = (digest, reads, (conn, opened conn opens, empty), office)
+  more_makes (Err e) back none = more_none e back none

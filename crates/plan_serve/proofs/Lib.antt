@@ -4,3 +4,4 @@ pub mod InitLemmas
 pub mod ReportLemmas
 pub mod CheckLemmas
 pub mod ReturnedLemmas
+pub mod ResultLemmas

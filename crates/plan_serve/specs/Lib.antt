@@ -6,3 +6,4 @@ pub mod Ports
 pub mod CheckRun
 pub mod Reports
 pub mod Returned
+pub mod Results

@@ -49,8 +49,8 @@ module _ {D : Type 0} {g : disk.Ghosts D} where
     pub makes : MakesOffice over_files Opens Refuses Unopened remaining rest result back
     pub ends : IsEnded back closed
 
-  -- The tables in files were opened, an office over them made a step, and its connection was closed.
-  -- In one case the connection is lost. If the tables can't be opened, there is no step.
+  -- The tables in files were opened, an office over them made a step, and its connection was
+  -- closed. In one case the connection is lost. If the tables can't be opened, there is no step.
   pub record WorksOnce {F : Type 0} (first : start.Ghosts F)
       (Does : Counted (FileStore D g) → Counted (FileStore D g) → Type 0) (Lost : Type 0)
       (result : Result (Unit {0}) ServeFault) (closed : Option (Closed D g)) : Type 0 where

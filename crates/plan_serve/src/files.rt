@@ -1,6 +1,6 @@
 //! The commands on files, and on a port.
 
-ghost use Rattle.std.specs.Prelude.{◌≡◌, ◌⊎◌, ◌↔◌, ◌+◌, ◌≤◌, length, IfOk, IfErr, IsErrOf, OnOk, MatchResult};
+ghost use Rattle.std.specs.Prelude.{◌≡◌, ◌⊎◌, ◌↔◌, ◌+◌, ◌≤◌, length, IfOk, IfErr, IsTrue, IsErrOf, OnOk, MatchResult};
 ghost use Rattle.std.specs.IoError.{error_kind};
 ghost use Rattle.plan_io.specs.Devices.{most_calls, HasFailed};
 ghost use Rattle.plan_store.specs.SqlBooks.{sql_shelf};
@@ -13,6 +13,7 @@ ghost use Rattle.plan_serve.specs.ReplayFiles.{ReplaysOnFiles};
 ghost use Rattle.plan_serve.specs.Reports.{ReportsOnFiles, ReportsTo, KeepsNone, IsReported, IsReportedInPart, IsReportFault, IsReplayFault};
 ghost use Rattle.plan_serve.specs.Returned.{IsShut, IsEnded, InitsOnce, WorksOnce};
 ghost use Rattle.plan_serve.specs.Ports.{ServesOnFiles};
+ghost use Rattle.plan_serve.specs.Results.{InitsAtName, ReportsAtName, ChecksAtName, ReplaysAtName, ServesAtName};
 
 use crate::causes::{check_name, refusal};
 use crate::commands::{Ended, Report, init_at, report_opened, serve_opened};
@@ -29,11 +30,12 @@ use std::io::{self, ErrorKind};
 // The store of a database in a file.
 type Kept<F> = FileStore<FileFrom<F>>;
 
-// The closed files of a database, or the error and the store if its log can't be copied.
-type Closed<F> = Result<Files<FileFrom<F>>, (Error, Kept<F>)>;
+/// The closed files of a database, or the error and the store if its log can't be copied.
+pub type ClosedFiles<F> = Result<Files<FileFrom<F>>, (Error, FileStore<FileFrom<F>>)>;
 
-// The result of a command, and the files that were closed after it.
-type Finished<F> = (Result<(), ServeFault>, Option<Closed<F>>);
+/// The result of a command, and the files that it closed. It closes none if it opened none, if
+/// their tables were refused, or if memory ran out before the first connection was served.
+pub type ResultAndFiles<F> = (Result<(), ServeFault>, Option<ClosedFiles<F>>);
 
 // A database in a file, by the name of the file. It can be opened once.
 #[derive(Drop)]
@@ -85,17 +87,17 @@ impl<'a, F: Start> Place for InFile<'a, F> {
     }
 }
 
-// Closes a database, which copies its log into it. If this fails, the log stays beside the database,
-// and nothing is lost.
+// Closes a database, which copies its log into it. If this fails, the log stays beside the
+// database, and nothing is lost.
 #[tactic(auto, using(crate::proofs::ReturnedLemmas::is_shut))]
-fn closed<F: Start>(conn: Connection<Kept<F>>) -> Closed<F>
+fn closed<F: Start>(conn: Connection<Kept<F>>) -> ClosedFiles<F>
     ensures { IsShut conn result }
 {
     conn.close_files()
 }
 
 // Closes the database of a command.
-fn close<F: Start>(ended: Ended<Kept<F>>) -> Finished<F>
+fn close<F: Start>(ended: Ended<Kept<F>>) -> ResultAndFiles<F>
     ensures same { result.0 ≡ ended.0 }
     ensures ends { IsEnded ended.1 result.1 }
 {
@@ -107,10 +109,20 @@ fn close<F: Start>(ended: Ended<Kept<F>>) -> Finished<F>
 }
 
 // The result of a command on the files of this name. A refusal of the store is replaced by its
-// cause, any other result stays.
-fn with_cause(rt: &HostRuntime, path: &str, done: Result<(), ServeFault>) -> Result<(), ServeFault>
-    ensures { IsToldAnew done result }
+// cause, any other result stays. Files that a command has closed were opened and are still locked,
+// so with them the result stays too.
+fn with_cause(
+    rt: &HostRuntime,
+    path: &str,
+    done: Result<(), ServeFault>,
+    has_files: bool,
+) -> Result<(), ServeFault>
+    ensures told { IsToldAnew done result }
+    ensures same { IsTrue has_files → result ≡ done }
 {
+    if has_files {
+        return done;
+    }
     match done {
         Err(ServeFault::Store) => Err(refusal(rt, path, Unknown)),
         done => done,
@@ -138,21 +150,28 @@ pub fn init_on_file(rt: &HostRuntime, path: &str) -> Result<(), ServeFault>
     ensures tables { IfErr result
         (IsOfTablesThere ⟦<Unknown as Start>⟧ ⟦<Kept<Unknown> as Store>⟧) }
 {
-    init_from(rt, path, Unknown)
+    init_from(rt, &mut StdSource::new(rt.reader()), path, Unknown).0
 }
 
-/// The same, with a start that stands for the contents of the files.
-pub fn init_from<F: Start>(rt: &HostRuntime, path: &str, start: F) -> Result<(), ServeFault>
-    ensures made { OnOk result (InitsOnFiles F.Start ⟦<Kept<F> as Store>⟧) }
-    ensures which { IfErr result IsInitFault }
+/// The same, with the key in the first line of a text, and with a start that stands for the
+/// contents of the files. Returns the files that it closed.
+pub fn init_from<R: Source, F: Start>(
+    rt: &HostRuntime,
+    reader: &mut R,
+    path: &str,
+    start: F,
+) -> ResultAndFiles<F>
+    // The closed files have the tables that were made, with the digest of the key that was read.
+    ensures inits { InitsAtName F.Start (R.remaining reader.old) (R.remaining reader.new)
+        result.0 result.1 }
+    ensures made { OnOk result.0 (InitsOnFiles F.Start ⟦<Kept<F> as Store>⟧) }
+    ensures which { IfErr result.0 IsInitFault }
     // A fault about tables, an office's or others, is about a database that was opened.
-    ensures tables { IfErr result (IsOfTablesThere F.Start ⟦<Kept<F> as Store>⟧) }
+    ensures tables { IfErr result.0 (IsOfTablesThere F.Start ⟦<Kept<F> as Store>⟧) }
 {
-    let mut input = StdSource::new(rt.reader());
     let mut place = in_file(rt, path, start);
-    let (done, files) = init_file(rt.alloc(), &mut input, &mut place);
-    drop(files);
-    with_cause(rt, path, done)
+    let (done, files) = init_file(rt.alloc(), reader, &mut place);
+    (with_cause(rt, path, done, files.is_some()), files)
 }
 
 // Creates the tables of an office in a file, whose key is the first line of a text, and closes it.
@@ -160,7 +179,7 @@ fn init_file<R: Source, F: Start>(
     alloc: Global,
     reader: &mut R,
     place: &mut InFile<'_, F>,
-) -> Finished<F>
+) -> ResultAndFiles<F>
     ensures inits { InitsOnce
         (IsOpenedOnce F.Start ⟦<Kept<F> as Store>⟧ place.old.opens.calls place.new.opens.calls)
         (IsRefusedOnce place.old.opens.calls place.new.opens.calls) (place.new ≡ place.old)
@@ -202,7 +221,7 @@ fn read_all(rt: &HostRuntime, paths: &[&str]) -> Result<Vec<Vec<u8>>, ServeFault
 }
 
 // Writes a report of the office in the file of this name.
-#[tactic(auto, using(crate::proofs::CauseLemmas::look_reports, crate::proofs::CauseLemmas::look_silent, crate::proofs::CauseLemmas::look_tables))]
+#[tactic(auto, using(crate::proofs::CauseLemmas::look_reports, crate::proofs::CauseLemmas::look_silent, crate::proofs::CauseLemmas::look_tables, crate::proofs::ResultLemmas::not_at_name))]
 fn report_at<F: Start, W: Sink>(
     rt: &HostRuntime,
     path: &str,
@@ -210,29 +229,30 @@ fn report_at<F: Start, W: Sink>(
     start: F,
     report: Report<'_>,
     writer: &mut W,
-) -> Result<(), ServeFault>
-    ensures reports { OnOk result
+) -> ResultAndFiles<F>
+    ensures works { ReportsAtName F.Start looked report.entry (W.taken writer.old)
+        (W.taken writer.new) result.0 result.1 }
+    ensures reports { OnOk result.0
         (ReportsOnFiles F.Start ⟦<Kept<F> as Store>⟧ report.entry
         (W.taken writer.old) (W.taken writer.new)) }
-    ensures ok { OnOk result (IsReported report.entry (W.taken writer.old) (W.taken writer.new)) }
-    ensures part { IsErrOf result ServeFault.Output
+    ensures ok { OnOk result.0 (IsReported report.entry (W.taken writer.old) (W.taken writer.new)) }
+    ensures part { IsErrOf result.0 ServeFault.Output
         → IsReportedInPart report.entry (W.taken writer.old) (W.taken writer.new) }
     ensures writes { W.calls writer.new ≤ W.calls writer.old + most_calls }
-    ensures quiet { IfErr result (λ e. (e ≡ ServeFault.Output) ⊎ (writer.new ≡ writer.old)) }
-    ensures fine { OnOk result (W.faults writer.new ≡ W.faults writer.old) }
-    ensures output { IsErrOf result ServeFault.Output →
+    ensures quiet { IfErr result.0 (λ e. (e ≡ ServeFault.Output) ⊎ (writer.new ≡ writer.old)) }
+    ensures fine { OnOk result.0 (W.faults writer.new ≡ W.faults writer.old) }
+    ensures output { IsErrOf result.0 ServeFault.Output →
         HasFailed (W.calls writer.old) (W.calls writer.new)
         (W.faults writer.old) (W.faults writer.new) }
-    ensures which { IfErr result IsReportFault }
-    ensures there { OnOk result (IsThere looked) }
-    ensures tables { IfErr result (IsOfTables F.Start ⟦<Kept<F> as Store>⟧ looked) }
+    ensures which { IfErr result.0 IsReportFault }
+    ensures there { OnOk result.0 (IsThere looked) }
+    ensures tables { IfErr result.0 (IsOfTables F.Start ⟦<Kept<F> as Store>⟧ looked) }
 {
     if let Err(fault) = check_name(looked) {
-        return Err(fault);
+        return (Err(fault), None);
     }
     let (done, files) = report_file(rt, path, start, report, writer);
-    drop(files);
-    with_cause(rt, path, done)
+    (with_cause(rt, path, done, files.is_some()), files)
 }
 
 // Writes a report of the office in a file, and closes it.
@@ -242,7 +262,7 @@ fn report_file<F: Start, W: Sink>(
     start: F,
     report: Report<'_>,
     writer: &mut W,
-) -> Finished<F>
+) -> ResultAndFiles<F>
     ensures works { WorksOnce F.Start
         (λ book after. ReportsTo (sql_shelf ⟦<Kept<F> as Store>⟧) book after report.entry
         (W.taken writer.old) (W.taken writer.new) result.0)
@@ -269,7 +289,6 @@ fn report_file<F: Start, W: Sink>(
 
 /// `plan replay`: serves the connections whose bytes are in files, by the office in the file of
 /// this name, and writes the responses. All files are read before the office is opened.
-#[tactic(auto, using(crate::proofs::CauseLemmas::tables_at_name))]
 pub fn replay_on_files<W: Sink>(
     rt: &HostRuntime,
     path: &str,
@@ -295,12 +314,12 @@ pub fn replay_on_files<W: Sink>(
     ensures tables { IfErr result
         (IsOfTablesAtName ⟦<Unknown as Start>⟧ ⟦<Kept<Unknown> as Store>⟧) }
 {
-    replay_from(rt, path, fs::metadata(rt, path), Unknown, requests, writer)
+    replay_from(rt, path, fs::metadata(rt, path), Unknown, requests, writer).0
 }
 
 /// The same, with a start that stands for the contents of the files, and with `looked`, the
-/// system's answer for the file of this name.
-#[tactic(auto, using(crate::proofs::ReportLemmas::read_replays, crate::proofs::ReportLemmas::read_tables, crate::proofs::ReportLemmas::report_replays))]
+/// system's answer for the file of this name. Returns the files that it closed.
+#[tactic(auto, using(crate::proofs::ReportLemmas::read_replays, crate::proofs::ReportLemmas::read_tables, crate::proofs::ReportLemmas::report_replays, crate::proofs::ResultLemmas::unread))]
 pub fn replay_from<F: Start, W: Sink>(
     rt: &HostRuntime,
     path: &str,
@@ -308,33 +327,37 @@ pub fn replay_from<F: Start, W: Sink>(
     start: F,
     requests: &[&str],
     writer: &mut W,
-) -> Result<(), ServeFault>
-    ensures replays { OnOk result
+) -> ResultAndFiles<F>
+    // The closed files have the last commit of the office after the connections.
+    ensures works { ReplaysAtName F.Start looked (length requests.now) (W.taken writer.old)
+        (W.taken writer.new) result.0 result.1 }
+    ensures replays { OnOk result.0
         (ReplaysOnFiles F.Start ⟦<Kept<F> as Store>⟧ (length requests.now)
         (W.taken writer.old) (W.taken writer.new)) }
     // A response for each file is written, or a part of these responses, or nothing.
-    ensures ok { OnOk result
+    ensures ok { OnOk result.0
         (AreAnswered (length requests.now) (W.taken writer.old) (W.taken writer.new)) }
-    ensures part { IsErrOf result ServeFault.Output
+    ensures part { IsErrOf result.0 ServeFault.Output
         → AreAnsweredInPart (length requests.now) (W.taken writer.old) (W.taken writer.new) }
     ensures writes { W.calls writer.new ≤ W.calls writer.old + most_calls }
     // Nothing is written if it fails for another cause than the output.
-    ensures quiet { IfErr result (λ e. (e ≡ ServeFault.Output) ⊎ (writer.new ≡ writer.old)) }
-    ensures fine { OnOk result (W.faults writer.new ≡ W.faults writer.old) }
-    ensures output { IsErrOf result ServeFault.Output →
+    ensures quiet { IfErr result.0 (λ e. (e ≡ ServeFault.Output) ⊎ (writer.new ≡ writer.old)) }
+    ensures fine { OnOk result.0 (W.faults writer.new ≡ W.faults writer.old) }
+    ensures output { IsErrOf result.0 ServeFault.Output →
         HasFailed (W.calls writer.old) (W.calls writer.new)
         (W.faults writer.old) (W.faults writer.new) }
-    ensures which { IfErr result IsReplayFault }
-    ensures there { OnOk result (IsThere looked) }
-    ensures tables { IfErr result (IsOfTables F.Start ⟦<Kept<F> as Store>⟧ looked) }
+    ensures which { IfErr result.0 IsReplayFault }
+    ensures there { OnOk result.0 (IsThere looked) }
+    ensures tables { IfErr result.0 (IsOfTables F.Start ⟦<Kept<F> as Store>⟧ looked) }
 {
-    let conns = read_all(rt, requests)?;
-    report_at(rt, path, looked, start, Report::Responses(&conns), writer)
+    match read_all(rt, requests) {
+        Ok(conns) => report_at(rt, path, looked, start, Report::Responses(&conns), writer),
+        Err(fault) => (Err(fault), None),
+    }
 }
 
 /// `plan check-office`: checks every row of the office in the file of this name. It writes the
 /// number of rows in each table and a digest of the rows.
-#[tactic(auto, using(crate::proofs::CauseLemmas::tables_at_name))]
 pub fn check_office_on_file<W: Sink>(
     rt: &HostRuntime,
     path: &str,
@@ -358,41 +381,43 @@ pub fn check_office_on_file<W: Sink>(
     ensures tables { IfErr result
         (IsOfTablesAtName ⟦<Unknown as Start>⟧ ⟦<Kept<Unknown> as Store>⟧) }
 {
-    check_office_from(rt, path, fs::metadata(rt, path), Unknown, writer)
+    check_office_from(rt, path, fs::metadata(rt, path), Unknown, writer).0
 }
 
 /// The same, with a start that stands for the contents of the files, and with `looked`, the
-/// system's answer for the file of this name.
+/// system's answer for the file of this name. Returns the files that it closed.
 pub fn check_office_from<F: Start, W: Sink>(
     rt: &HostRuntime,
     path: &str,
     looked: io::Result<Metadata>,
     start: F,
     writer: &mut W,
-) -> Result<(), ServeFault>
-    ensures checks { OnOk result
+) -> ResultAndFiles<F>
+    // The closed files have the last commit of the office after the check.
+    ensures works { ChecksAtName F.Start looked (W.taken writer.old) (W.taken writer.new)
+        result.0 result.1 }
+    ensures checks { OnOk result.0
         (ChecksOnFiles F.Start ⟦<Kept<F> as Store>⟧ (W.taken writer.old) (W.taken writer.new)) }
-    ensures ok { OnOk result (IsPrinted (W.taken writer.old) (W.taken writer.new)) }
-    ensures part { IsErrOf result ServeFault.Output
+    ensures ok { OnOk result.0 (IsPrinted (W.taken writer.old) (W.taken writer.new)) }
+    ensures part { IsErrOf result.0 ServeFault.Output
         → IsPrintedInPart (W.taken writer.old) (W.taken writer.new) }
     ensures writes { W.calls writer.new ≤ W.calls writer.old + most_calls }
     // Nothing is written if it fails for another cause than the output.
-    ensures silent { IfErr result
+    ensures silent { IfErr result.0
         (λ e. (e ≡ ServeFault.Output) ⊎ (writer.new ≡ writer.old)) }
-    ensures fine { OnOk result (W.faults writer.new ≡ W.faults writer.old) }
-    ensures output { IsErrOf result ServeFault.Output →
+    ensures fine { OnOk result.0 (W.faults writer.new ≡ W.faults writer.old) }
+    ensures output { IsErrOf result.0 ServeFault.Output →
         HasFailed (W.calls writer.old) (W.calls writer.new)
         (W.faults writer.old) (W.faults writer.new) }
-    ensures which { IfErr result IsReportFault }
-    ensures there { OnOk result (IsThere looked) }
-    ensures tables { IfErr result (IsOfTables F.Start ⟦<Kept<F> as Store>⟧ looked) }
+    ensures which { IfErr result.0 IsReportFault }
+    ensures there { OnOk result.0 (IsThere looked) }
+    ensures tables { IfErr result.0 (IsOfTables F.Start ⟦<Kept<F> as Store>⟧ looked) }
 {
     report_at(rt, path, looked, start, Report::Rows, writer)
 }
 
 /// `plan serve`: serves `service.count` connections on a local port, by the office in a file. The
 /// office is opened before the port.
-#[tactic(auto, using(crate::proofs::CauseLemmas::tables_at_name))]
 pub fn serve_on_port(rt: &HostRuntime, service: &Service<'_>) -> Result<(), ServeFault>
     ensures served { OnOk result
         (ServesOnFiles ⟦<Unknown as Start>⟧ ⟦<Kept<Unknown> as Store>⟧ service.now.count) }
@@ -401,37 +426,40 @@ pub fn serve_on_port(rt: &HostRuntime, service: &Service<'_>) -> Result<(), Serv
         (IsOfTablesAtName ⟦<Unknown as Start>⟧ ⟦<Kept<Unknown> as Store>⟧) }
 {
     let looked = fs::metadata(rt, service.database);
-    serve_from(rt, service, looked, Unknown)
+    serve_from(rt, service, looked, Unknown).0
 }
 
 /// The same, with a start that stands for the contents of the files, and with `looked`, the
-/// system's answer for the file of this name.
-#[tactic(auto, using(crate::proofs::CauseLemmas::look_serves, crate::proofs::CauseLemmas::look_tables))]
+/// system's answer for the file of this name. Returns the files that it closed.
+#[tactic(auto, using(crate::proofs::CauseLemmas::look_serves, crate::proofs::CauseLemmas::look_tables, crate::proofs::ResultLemmas::not_at_name))]
 pub fn serve_from<F: Start>(
     rt: &HostRuntime,
     service: &Service<'_>,
     looked: io::Result<Metadata>,
     start: F,
-) -> Result<(), ServeFault>
-    ensures served { OnOk result
+) -> ResultAndFiles<F>
+    // The closed files have the last commit of the office after the turns.
+    ensures works { ServesAtName F.Start looked service.now.count result.0 result.1 }
+    ensures served { OnOk result.0
         (ServesOnFiles F.Start ⟦<Kept<F> as Store>⟧ service.now.count) }
-    ensures which { IfErr result IsServeFault }
+    ensures which { IfErr result.0 IsServeFault }
     // The file exists, and is not too short.
-    ensures there { OnOk result (IsThere looked) }
+    ensures there { OnOk result.0 (IsThere looked) }
     // A fault about tables is about tables that were opened, or the file is too short for tables.
-    ensures tables { IfErr result (IsOfTables F.Start ⟦<Kept<F> as Store>⟧ looked) }
+    ensures tables { IfErr result.0 (IsOfTables F.Start ⟦<Kept<F> as Store>⟧ looked) }
 {
-    let path = service.database;
     if let Err(fault) = check_name(looked) {
-        return Err(fault);
+        return (Err(fault), None);
     }
     let (done, files) = serve_file(rt, service, start);
-    drop(files);
-    with_cause(rt, path, done)
+    (
+        with_cause(rt, service.database, done, files.is_some()),
+        files,
+    )
 }
 
 // Serves connections on a local port, by the office in a file, and closes it.
-fn serve_file<F: Start>(rt: &HostRuntime, service: &Service<'_>, start: F) -> Finished<F>
+fn serve_file<F: Start>(rt: &HostRuntime, service: &Service<'_>, start: F) -> ResultAndFiles<F>
     ensures works { WorksOnce F.Start
         (λ book after. TakesTurns (sql_shelf ⟦<Kept<F> as Store>⟧) book after
         service.now.count result.0)

@@ -12,8 +12,8 @@ mod place;
 
 pub use check_office::check_office_run;
 pub use files::{
-    check_office_from, check_office_on_file, init_from, init_on_file, replay_from, replay_on_files,
-    serve_from, serve_on_port,
+    ClosedFiles, ResultAndFiles, check_office_from, check_office_on_file, init_from, init_on_file,
+    replay_from, replay_on_files, serve_from, serve_on_port,
 };
 pub use init::init_run;
 pub use place::Place;

@@ -1,45 +1,55 @@
-use Rattle.std.proofs.Common.{refl}
+use Rattle.std.proofs.Common.{refl, sym, subst}
+use Rattle.std.specs.Prelude.{IsTrue}
 use Rattle.sqlite.specs.Files.{over_files}
+use Rattle.plan_store.specs.SqlBooks.{sql_shelf}
 use Rattle.plan_serve.specs.Causes.{IsOfTables}
-use Rattle.plan_serve.specs.Reports.{IsReportFault}
+use Rattle.plan_serve.specs.Reports.{ReportsTo, KeepsNone, IsReportFault}
+use Rattle.plan_serve.proofs.ResultLemmas.{at_name}
 use Rattle.plan_serve.proofs.CauseLemmas.{if_ok, told_ok, told_err, told_quiet, told_output, file_reports, file_tables, at_look}
 use Rattle.plan_serve.proofs.files.report_at.Goals as goal
 
 pub returns-clause-reports : goal.returns-clause-reports
 returns-clause-reports g c =
-    told_ok c.report_file-done.result.0 c.report_file-done.result.0 c.with_cause.result refl c.with_cause.ensures _ c.report_file-done.ensures.reports
+    told_ok c.report_file-done.result.0 c.report_file-done.result.0 c.with_cause.result refl c.with_cause.ensures.told _ c.report_file-done.ensures.reports
 
 pub returns-clause-ok : goal.returns-clause-ok
 returns-clause-ok g c =
-    told_ok c.report_file-done.result.0 c.report_file-done.result.0 c.with_cause.result refl c.with_cause.ensures _ c.report_file-done.ensures.ok
+    told_ok c.report_file-done.result.0 c.report_file-done.result.0 c.with_cause.result refl c.with_cause.ensures.told _ c.report_file-done.ensures.ok
 
 pub returns-clause-part : goal.returns-clause-part
 returns-clause-part g c h =
-    c.report_file-done.ensures.part (told_output c.report_file-done.result.0 c.report_file-done.result.0 c.with_cause.result refl c.with_cause.ensures h)
+    c.report_file-done.ensures.part (told_output c.report_file-done.result.0 c.report_file-done.result.0 c.with_cause.result refl c.with_cause.ensures.told h)
 
 pub returns-clause-quiet : goal.returns-clause-quiet
 returns-clause-quiet g c =
-    told_quiet c.report_file-done.result.0 c.report_file-done.result.0 c.with_cause.result refl c.with_cause.ensures _ c.report_file-done.ensures.quiet
+    told_quiet c.report_file-done.result.0 c.report_file-done.result.0 c.with_cause.result refl c.with_cause.ensures.told _ c.report_file-done.ensures.quiet
 
 pub returns-clause-fine : goal.returns-clause-fine
 returns-clause-fine g c =
-    told_ok c.report_file-done.result.0 c.report_file-done.result.0 c.with_cause.result refl c.with_cause.ensures _ c.report_file-done.ensures.fine
+    told_ok c.report_file-done.result.0 c.report_file-done.result.0 c.with_cause.result refl c.with_cause.ensures.told _ c.report_file-done.ensures.fine
 
 pub returns-clause-output : goal.returns-clause-output
 returns-clause-output g c h =
-    c.report_file-done.ensures.output (told_output c.report_file-done.result.0 c.report_file-done.result.0 c.with_cause.result refl c.with_cause.ensures h)
+    c.report_file-done.ensures.output (told_output c.report_file-done.result.0 c.report_file-done.result.0 c.with_cause.result refl c.with_cause.ensures.told h)
 
 pub returns-clause-which : goal.returns-clause-which
 returns-clause-which g c =
-    told_err c.report_file-done.result.0 c.report_file-done.result.0 c.with_cause.result refl c.with_cause.ensures IsReportFault
+    told_err c.report_file-done.result.0 c.report_file-done.result.0 c.with_cause.result refl c.with_cause.ensures.told IsReportFault
     c.report_file-done.ensures.which (λ e was files. file_reports e files)
 
 pub returns-clause-tables : goal.returns-clause-tables
 returns-clause-tables g c =
-    told_err c.report_file-done.result.0 c.report_file-done.result.0 c.with_cause.result refl c.with_cause.ensures (IsOfTables g.F.Start over_files c.args.looked)
+    told_err c.report_file-done.result.0 c.report_file-done.result.0 c.with_cause.result refl c.with_cause.ensures.told (IsOfTables g.F.Start over_files c.args.looked)
     (at_look g.F.Start over_files c.args.looked c.report_file-done.result.0 c.report_file-done.ensures.tables)
     (λ e was files. file_tables g.F.Start over_files c.args.looked e files)
 
 pub returns-clause-there : goal.returns-clause-there
 returns-clause-there g c =
-    told_ok c.report_file-done.result.0 c.report_file-done.result.0 c.with_cause.result refl c.with_cause.ensures _ (if_ok c.report_file-done.result.0 c.in_default.ensures.there)
+    told_ok c.report_file-done.result.0 c.report_file-done.result.0 c.with_cause.result refl c.with_cause.ensures.told _ (if_ok c.report_file-done.result.0 c.in_default.ensures.there)
+
+pub returns-clause-works : goal.returns-clause-works
+returns-clause-works g c =
+    at_name g.F.Start c.args.looked
+    (λ done old new. ReportsTo (sql_shelf over_files) old new c.args.report (g.W.Sink.taken c.args.writer.now) (g.W.Sink.taken c.report_file-done.new.writer) done)
+    (KeepsNone c.args.report) c.report_file-done.result.0 c.with_cause.result c.report_file-done.result.1 c.in_default.ensures.there
+    c.report_file-done.ensures.works c.with_cause.ensures.told (λ has. c.with_cause.ensures.same (subst IsTrue (sym c.is_some.ensures) has))

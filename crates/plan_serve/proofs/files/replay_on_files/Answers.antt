@@ -1,0 +1,7 @@
+use Rattle.sqlite_disk.specs.contracts.start.UnknownStart.TheImpl as unknown
+use Rattle.sqlite.specs.Files.{over_files}
+use Rattle.plan_serve.proofs.CauseLemmas.{tables_at_name}
+use Rattle.plan_serve.proofs.files.replay_on_files.Goals as goal
+
+pub returns-clause-tables : goal.returns-clause-tables
+returns-clause-tables g c = tables_at_name unknown.ghosts over_files c.metadata.result c.replay_from.result.0 c.replay_from.ensures.tables
