@@ -2,14 +2,14 @@
 // last values that this browser set, because the office has no route that returns them.
 
 import { command, planPath } from "./api.js";
-import { byId, fill, make, onSubmit, put } from "./dom.js";
+import { all, byId, fill, make, onSubmit, put } from "./dom.js";
 import { leavePlan, openPlan } from "./plan.js";
 import { dropPlan, showPlans } from "./plans.js";
 import { CODE_KINDS, page, recordOf, rememberChange } from "./state.js";
 import { namesIn } from "./view.js";
 
 const NOT_HERE = "Not set on this computer; the office doesn't tell it.";
-const boxes = () => [...byId("marks").querySelectorAll("input")];
+const boxes = () => all("#marks input");
 
 async function changePlan(part, body, valueOf, words) {
   const { n } = page.plan;
@@ -40,7 +40,7 @@ function isDeleteMeant() {
   dialog.returnValue = "no";
   dialog.showModal();
   return new Promise((answer) => {
-    dialog.addEventListener("close", () => answer(dialog.returnValue === "yes"), { once: true });
+    dialog.onclose = () => answer(dialog.returnValue === "yes");
   });
 }
 
@@ -89,6 +89,8 @@ export function showChanges(plan) {
 }
 
 export function letChange() {
+  byId("marks").append(...["Mo", "Tu", "We", "Th", "Fr", "Sa", "Su"].map((day) =>
+    make("label", {}, make("input", { type: "checkbox" }), ` ${day}`)));
   onSubmit("bind", bind);
   onSubmit("calendar", setCalendar);
   onSubmit("lag", setLag);

@@ -82,11 +82,11 @@ function showList() {
 function capacityNode(name, value) {
   const { given } = page.file;
   const input = make("input", { type: "number", min: 0, max: 10000, value, "data-resource": name });
-  input.addEventListener("change", () => {
+  input.onchange = () => {
     if (input.value && input.validity.valid) given.set(name, input.valueAsNumber);
     else given.delete(name);
     showList();
-  });
+  };
   return make("label", {}, `Capacity of ${name}`, input);
 }
 
@@ -121,7 +121,7 @@ function shopNodes({ name }, { orders, machines, steps }) {
 function faultyNodes({ name, text }, fault) {
   const { line, column, message } = fault;
   const isOpen = message.startsWith("T13");
-  const records = isOpen ? linesOf(text) : recordsOf(text.replace(/^\ufeff/, ""));
+  const records = isOpen ? linesOf(text) : recordsOf(text);
   return [refusalNode(message), partNode(name, records, line, isOpen ? -1 : column)];
 }
 

@@ -3,7 +3,7 @@
 
 import { listenTo, Refusal } from "./api.js";
 import { letChange } from "./changes.js";
-import { byId, clear, during, fill, letChoose, letTake, make, onSubmit, put } from "./dom.js";
+import { all, byId, clear, during, fill, letChoose, letTake, make, onSubmit, put } from "./dom.js";
 import { forgetFile, letImport, takeFile, takeNames } from "./import.js";
 import { leavePlan, letPlanAct, redraw, showPaper } from "./plan.js";
 import {
@@ -80,23 +80,19 @@ function letFit() {
 function letHelp() {
   fill("terms", ...glossary().flatMap(([term, meaning]) =>
     [make("dt", {}, term), make("dd", {}, meaning)]));
-  byId("help-button").addEventListener("click", () => byId("help").showModal());
+  byId("help-button").onclick = () => byId("help").showModal();
   byId("remember").checked = isRemembering();
-  byId("remember").addEventListener("change", ({ target }) => setRemembering(target.checked));
+  byId("remember").onchange = ({ target }) => setRemembering(target.checked);
 }
 
 function letDescribe() {
-  for (const place of document.querySelectorAll(".wide")) {
-    Object.assign(place, { tabIndex: 0, role: "region" });
-  }
+  for (const place of all(".wide")) Object.assign(place, { tabIndex: 0, role: "region" });
   const name = { pattern: "[a-z0-9][a-z0-9\\-]{0,31}" };
   name.title = "1 to 32 of a to z, 0 to 9 and -, not beginning with -";
   const key = { pattern: "[!-~]{8,64}", title: "8 to 64 characters without a blank" };
   const words = { autocomplete: "off", autocapitalize: "none", spellcheck: false, required: true };
-  for (const input of document.querySelectorAll("[name=desk], input[name=code]")) {
-    Object.assign(input, words, name);
-  }
-  for (const input of document.querySelectorAll("[name=key]")) Object.assign(input, words, key);
+  for (const input of all("[name=desk], input[name=code]")) Object.assign(input, words, name);
+  for (const input of all("[name=key]")) Object.assign(input, words, key);
 }
 
 function letAct() {
@@ -108,11 +104,10 @@ function letAct() {
   letOfficeAct();
   letChoose(byId("tabs"));
   letTake(byId("names-zone"), takeNames);
-  byId("leave").addEventListener("click", leave);
-  byId("again").addEventListener("click", () =>
-    during(byId("again"), byId("plans-answer"), askAgain));
+  byId("leave").onclick = leave;
+  byId("again").onclick = () => during(byId("again"), byId("plans-answer"), askAgain);
   addEventListener("focus", refresh);
-  document.addEventListener("visibilitychange", () => document.hidden || refresh());
+  document.onvisibilitychange = () => document.hidden || refresh();
 }
 
 listenTo({ lost: noteLost, answered: noteAnswered, unsure: askAgain });
@@ -121,4 +116,4 @@ letHelp();
 letAct();
 letDrop();
 letFit();
-for (const doors of document.querySelectorAll("#door fieldset")) doors.disabled = false;
+for (const doors of all("#door fieldset")) doors.disabled = false;

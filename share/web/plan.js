@@ -5,7 +5,7 @@ import { ask, askTable, planPath, Refusal, tableOf } from "./api.js";
 import { showChanges } from "./changes.js";
 import { fillPaper, showChart } from "./chart.js";
 import {
-  byId, clear, download, faultNodes, fill, letTake, make, onSubmit, put, refusalNode, say,
+  all, byId, clear, download, faultNodes, fill, letTake, make, onSubmit, put, refusalNode, say,
   tableNode, tell,
 } from "./dom.js";
 import { markOpen, showPlans } from "./plans.js";
@@ -83,7 +83,7 @@ export function showPlan() {
   fill("plan-answer", ...faults.flatMap(faultNodes));
   byId("plan-body").hidden = false;
   const [table] = plan.schedules.values();
-  for (const part of byId("plan").querySelectorAll(".drawn")) part.hidden = !table;
+  for (const part of all("#plan .drawn")) part.hidden = !table;
   settleModel(plan);
   settleCalendar(plan);
   if (table) {
@@ -151,10 +151,10 @@ function showChoice(plan) {
   const choices = [...plan.schedules.keys()].map((rule) => {
     const input = make("input", { type: "radio", name: "drawn", value: rule });
     input.checked = rule === plan.drawn;
-    input.addEventListener("change", () => {
+    input.onchange = () => {
       plan.drawn = rule;
       showDrawn();
-    });
+    };
     return make("label", { title: RULE_WORDS[rule] }, input, ` ${nameOf(plan, rule)}`);
   });
   fill("drawn", byId("drawn").firstElementChild, ...choices);
@@ -296,6 +296,6 @@ export function letPlanAct() {
   onSubmit("best", searchBest);
   onSubmit("check", async ({ starts }) => showVerdict(starts.value));
   letTake(byId("check-zone"), takeStarts);
-  byId("saves").addEventListener("click", ({ target: { value } }) => value && save(value));
-  for (const name of ["colours", "lines"]) byId(name).addEventListener("change", showDrawn);
+  byId("saves").onclick = ({ target: { value } }) => value && save(value);
+  byId("colours").onchange = byId("lines").onchange = showDrawn;
 }

@@ -155,9 +155,8 @@ function tableIn(text) {
 }
 
 function csvIn(text) {
-  const plain = text.replace(/^\ufeff/, "");
-  if (!/^[^\n]*\bstart\b/.test(plain) || !/^[^\n]*[,;\t]/.test(plain)) return null;
-  const [header, ...rest] = recordsOf(plain);
+  if (!/^[^\n]*\bstart\b/.test(text) || !/^[^\n]*[,;\t]/.test(text)) return null;
+  const [header, ...rest] = recordsOf(text);
   return { heads: header.cells.map((cell) => cell.trim()), rows: rest.map(({ cells }) => cells) };
 }
 
@@ -181,7 +180,7 @@ export function isStarts(text) {
   const [jobs, machines, ...steps] = text.trim().split(/\s+/);
   const isShop = jobs * machines > 0 && steps.length === 2 * jobs * machines;
   return (/^[\s\d]+$/.test(text) && !isShop) || Boolean(tableIn(text))
-    || /^\ufeff?(act|job)[,;\t]([^\n]*[,;\t])?start\b/.test(text);
+    || /^(act|job)[,;\t]([^\n]*[,;\t])?start\b/.test(text);
 }
 
 // a text that a spreadsheet would take for a formula gets a quote sign

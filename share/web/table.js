@@ -53,11 +53,11 @@ export function showTable(view, words) {
   const buttonOf = (column) => {
     const title = COLUMN_WORDS[column] ?? `the ${nameOf(column)}`;
     const button = make("button", { title }, nameOf(column));
-    button.addEventListener("click", () => {
+    button.onclick = () => {
       sorting = { n, head: column, isDown: column === head && !isDown };
       showTable(view, words);
       headNode(column).firstChild.focus();
-    });
+    };
     return button;
   };
   fill("table", tableOf(view, rows, buttonOf, words));
