@@ -87,6 +87,9 @@ export async function orRefusal(asking) {
   }
 }
 
+export const byHead = (heads, cells) =>
+  Object.fromEntries(heads.map((head, place) => [head, cells[place]]));
+
 /** Returns the rows of a table by the names of its columns, with the lines around it. */
 export function tableOf(text) {
   const lines = text.split("\n").filter((line) => line.trim()).map((line) =>
@@ -95,8 +98,7 @@ export function tableOf(text) {
   const heads = lines[at] ?? [];
   const isRow = ([first]) => typeof first === "number";
   const rows = lines.slice(at + 1).filter(isRow).map((words) => ({
-    ...Object.fromEntries(heads.map((head, place) => [head, words[place]])),
-    isCritical: words.length > heads.length,
+    ...byHead(heads, words), isCritical: words.length > heads.length,
   }));
   const last = lines.at(-1) ?? [0];
   return { heads, rows, verdict: at > 0 ? lines[0][0] : "", total: isRow(last) ? null : last[1] };

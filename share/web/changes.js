@@ -19,18 +19,17 @@ async function changePlan(part, body, valueOf, words) {
   return words(made);
 }
 
-const bind = ({ place, code }) => changePlan("bind",
-  { place: place.valueAsNumber, code: code.value },
+const bind = ({ place, code }) => changePlan("bind", { place: Number(place), code },
   (made) => ({ at: made.place, code: made.code }),
   (made) => `${byId("place-word").textContent} ${made.place} is ${made.code}.`);
 
 const setCalendar = ({ start }) => changePlan("calendar",
-  { start: start.value, days: boxes().map(({ checked }) => Number(checked)).join("") },
+  { start, days: boxes().map(({ checked }) => Number(checked)).join("") },
   (made) => made,
   (made) => `From ${made.start} on; working days ${made.days}, Monday first.`);
 
 const setLag = ({ from, to, lag }) => changePlan("lag",
-  { from: from.valueAsNumber, to: to.valueAsNumber, lag: lag.valueAsNumber },
+  { from: Number(from), to: Number(to), lag: Number(lag) },
   (made) => ({ at: `${made.from}-${made.to}`, lag: made.lag }),
   (made) => `At least ${made.lag} between ${made.from} and ${made.to}.`);
 

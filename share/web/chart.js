@@ -125,7 +125,7 @@ function letTell(view, chart) {
   onArrows(chart.body, (step) => {
     tell(Math.min(Math.max(current + step, 0), nodes.length - 1));
     nodes[current].scrollIntoView({ block: "nearest" });
-  });
+  }, { ArrowDown: 1, ArrowUp: -1 });
   return tell;
 }
 

@@ -75,15 +75,19 @@ export async function during(button, place, action) {
   }
 }
 
+/** Calls an action with the fields of a form when it is submitted; a key is then forgotten. */
 export function onSubmit(name, action, isMeant = () => true) {
   const form = byId(name);
   const place = byId(`${name}-answer`) ?? make("div", { class: "answer" });
   if (!place.parentNode) form.append(place);
   form.onsubmit = async (event) => {
     event.preventDefault();
-    if (await isMeant()) {
-      during(form.querySelector("button"), place, () => action(form.elements));
-    }
+    if (!(await isMeant())) return;
+    during(form.querySelector("button"), place, async () => {
+      const told = await action(Object.fromEntries(new FormData(form)));
+      if (form.elements.key) form.elements.key.value = "";
+      return told;
+    });
   };
 }
 

@@ -143,12 +143,12 @@ function partNode(name, records, line, column) {
 
 // -- sending
 
-async function importFile({ instance: { value } }) {
+async function importFile(fields) {
   const { file } = page;
   const { isProject } = file;
   const text = fileText(file.text, file.bytes, file.given);
   const isList = text !== file.text;
-  const instance = isList && !isProject ? "shop" : value || "-";
+  const instance = isList && !isProject ? "shop" : fields.instance || "-";
   const path = isProject ? deskPath("projects") : shopPath(instance);
   if (!path) {
     throw new Refusal("This name can't be sent: a name in an address has no blank, no / and no %. "

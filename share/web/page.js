@@ -24,10 +24,9 @@ const trying = (words, action) => action().catch((fault) => {
   throw fault;
 });
 
-async function enterDesk({ desk, key }) {
-  Object.assign(newPage(), { desk: desk.value, key: key.value });
+async function enterDesk(fields) {
+  Object.assign(newPage(), fields);
   await trying("This desk and key don't match.", askLists);
-  key.value = "";
   leavePlan();
   forgetFile();
   showView("desk");
@@ -36,9 +35,8 @@ async function enterDesk({ desk, key }) {
 }
 
 async function enterOffice({ key }) {
-  newPage().key = key.value;
+  newPage().key = key;
   await trying("This isn't the office's key.", tryOfficeKey);
-  key.value = "";
   showPublished();
   showView("office");
   byId("office-head").focus();

@@ -201,7 +201,7 @@ async function searchBest({ budget }) {
   const { plan } = page;
   let table;
   try {
-    table = tableOf(await ask(planPath(plan.n, "best", budget.value)));
+    table = tableOf(await ask(planPath(plan.n, "best", budget)));
   } catch (fault) {
     if (fault instanceof Refusal && /\bS5\b/.test(fault.message)) fault.more = [solveNode(plan)];
     throw fault;
@@ -211,7 +211,7 @@ async function searchBest({ budget }) {
   plan.drawn = "best";
   showSchedules();
   const meaning = table.verdict === "optimal" ? "no schedule of this plan is shorter"
-    : `the best that was found within ${budget.value} search steps`;
+    : `the best that was found within ${budget} search steps`;
   return `${table.verdict} ${table.total}: ${meaning}. ${comparedWords(plan, table.total)}`;
 }
 
@@ -294,7 +294,7 @@ export async function takeStarts(file) {
 
 export function letPlanAct() {
   onSubmit("best", searchBest);
-  onSubmit("check", async ({ starts }) => showVerdict(starts.value));
+  onSubmit("check", async ({ starts }) => showVerdict(starts));
   letTake(byId("check-zone"), takeStarts);
   byId("saves").onclick = ({ target: { value } }) => value && save(value);
   byId("colours").onchange = byId("lines").onchange = showDrawn;

@@ -99,9 +99,9 @@ export async function tryOfficeKey() {
   if (answer.message !== "E03 body") throw answer;
 }
 
-async function publish({ code, kind, capacity }) {
+async function publish(fields) {
   const made = await command("/office/capacities", "POST",
-    { code: code.value, kind: kind.value, capacity: capacity.valueAsNumber });
+    { ...fields, capacity: Number(fields.capacity) });
   page.published.set(made.code, made);
   showPublished();
   return `${made.code} is a ${made.kind} of ${made.capacity}.`;
@@ -112,16 +112,14 @@ export function showPublished() {
   fill("published", codesTable(codes, "Nothing was published here yet."));
 }
 
-async function openDesk({ desk, key }) {
-  await command("/office/desks", "POST", { desk: desk.value, key: key.value });
-  key.value = "";
-  return `Desk ${desk.value} is open.`;
+async function openDesk(fields) {
+  await command("/office/desks", "POST", fields);
+  return `Desk ${fields.desk} is open.`;
 }
 
 async function setKey({ desk, key }) {
-  await command(`/office/desks/${encodeURIComponent(desk.value)}/key`, "POST", { key: key.value });
-  key.value = "";
-  return `Desk ${desk.value} has another key.`;
+  await command(`/office/desks/${encodeURIComponent(desk)}/key`, "POST", { key });
+  return `Desk ${desk} has another key.`;
 }
 
 export function letOfficeAct() {

@@ -1,6 +1,7 @@
 // Files that the page reads as far as it needs them: of a project its model, names and title, of a
 // job shop names and steps, and start times in several forms. The office is the judge of a file.
 
+import { byHead, tableOf } from "./api.js";
 import { IMPORTED, recordsOf } from "./csv.js";
 
 const TITLES = [
@@ -137,35 +138,31 @@ function numbersOf(words) {
   return words.map(Number);
 }
 
-function startsIn(heads, rows, keys, wanted) {
-  const at = heads.indexOf("start");
-  const places = keys.map((key) => heads.indexOf(key));
-  const found = new Map(rows.map((row) => [places.map((place) => row[place]).join(" "), row[at]]));
+function startsIn(rows, keys, wanted) {
+  const found = new Map(rows.map((row) => [keys.map((key) => row[key]).join(" "), row.start]));
   return wanted.map((key) => {
     if (!found.has(key)) throw new StartsFault(`The file has no start of ${key}.`);
     return found.get(key);
   });
 }
 
-function tableIn(text) {
-  const lines = text.split("\n").map((line) => line.trim().split(/\s+/));
-  const at = lines.findIndex((words) => /^(act|job)$/.test(words[0]) && words.includes("start"));
-  if (at < 0) return null;
-  return { heads: lines[at], rows: lines.slice(at + 1).filter((words) => /^\d+$/.test(words[0])) };
+function printedIn(text) {
+  const { heads, rows } = tableOf(text);
+  return heads.includes("start") ? rows : null;
 }
 
 function csvIn(text) {
   if (!/^[^\n]*\bstart\b/.test(text) || !/^[^\n]*[,;\t]/.test(text)) return null;
   const [header, ...rest] = recordsOf(text);
-  return { heads: header.cells.map((cell) => cell.trim()), rows: rest.map(({ cells }) => cells) };
+  const heads = header.cells.map((cell) => cell.trim());
+  return rest.map(({ cells }) => byHead(heads, cells));
 }
 
 /** Reads start times. `wanted` numbers the plan's rows: "3", or "1 2" for step 2 of job 1. */
 export function readStarts(text, kind, wanted) {
-  const found = tableIn(text) ?? csvIn(text);
+  const rows = printedIn(text) ?? csvIn(text);
   const keys = kind === "project" ? ["act"] : ["job", "step"];
-  const words = found ? startsIn(found.heads, found.rows, keys, wanted)
-    : text.split(/[\s,;]+/).filter(Boolean);
+  const words = rows ? startsIn(rows, keys, wanted) : text.split(/[\s,;]+/).filter(Boolean);
   const numbers = numbersOf(words);
   const { length } = numbers;
   if (length !== wanted.length) {
@@ -179,7 +176,7 @@ export function readStarts(text, kind, wanted) {
 export function isStarts(text) {
   const [jobs, machines, ...steps] = text.trim().split(/\s+/);
   const isShop = jobs * machines > 0 && steps.length === 2 * jobs * machines;
-  return (/^[\s\d]+$/.test(text) && !isShop) || Boolean(tableIn(text))
+  return (/^[\s\d]+$/.test(text) && !isShop) || Boolean(printedIn(text))
     || /^(act|job)[,;\t]([^\n]*[,;\t])?start\b/.test(text);
 }
 
