@@ -74,7 +74,7 @@ export const planPath = (n, ...parts) => deskPath("plans", n, ...parts);
 
 /** Returns the path that imports an instance; null if an address can't contain its name. */
 export function shopPath(instance) {
-  const isPlain = /^[A-Za-z0-9\-._~!$&'()*+,;=:@]+$/.test(instance);
+  const isPlain = /^[\w\-.~!$&'()*+,;=:@]+$/.test(instance);
   return isPlain && !/^\.\.?$/.test(instance) ? `${deskPath("shops")}/${instance}` : null;
 }
 
@@ -90,7 +90,7 @@ export async function orRefusal(asking) {
 export const byHead = (heads, cells) =>
   Object.fromEntries(heads.map((head, place) => [head, cells[place]]));
 
-/** Returns the rows of a table by the names of its columns, with the lines around it. */
+/** Reads a table that `plan` prints, with the lines around it. */
 export function tableOf(text) {
   const lines = text.split("\n").filter((line) => line.trim()).map((line) =>
     line.trim().split(/\s+/).map((word) => (/^\d+$/.test(word) ? Number(word) : word)));

@@ -117,8 +117,8 @@ function letTell(view, chart) {
     put("told", chart.bars[index].words);
     showLinks(view, chart, chart.bars[index].index);
   };
-  const point = (event) => {
-    const index = nodes.indexOf(event.target.closest(".bar"));
+  const point = ({ target }) => {
+    const index = nodes.indexOf(target.closest(".bar"));
     if (index >= 0) tell(index);
   };
   chart.body.onpointerover = chart.body.onpointerdown = point;

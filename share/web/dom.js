@@ -120,7 +120,7 @@ export function letChoose(list) {
   choose(tabs[0]);
 }
 
-/** Lets a place take files that are dropped on it, or chosen in its first field of files. */
+/** Lets a place take files that are dropped on it or chosen in it. */
 export function letTake(place, take) {
   place.ondragover = (event) => event.preventDefault();
   place.ondrop = (event) => {

@@ -25,7 +25,7 @@ async function bytesOf(file) {
   return null;
 }
 
-/** Takes a file that was dropped or chosen, and sends it at once if it is plain what it is. */
+/** Takes a file, and sends it at once if it is plain what it is. */
 export async function takeFile(file) {
   forgetFile();
   fill("import-answer");
@@ -204,7 +204,7 @@ export async function takeNames(file) {
   return showPlan();
 }
 
-// the instance that is a plan's, - for a project; undefined if there is none
+// the instance of a plan, - for a project; undefined if there is none
 function instanceIn(text, { kind, schedules }) {
   const [{ rows } = { rows: [] }] = schedules.values();
   if (kind === "shop") {

@@ -17,6 +17,7 @@ function showView(name) {
   for (const view of ["door", "desk", "office"]) byId(view).hidden = view !== name;
   byId("leave").hidden = byId("who").hidden = name === "door";
   put("who", name === "office" ? "The office" : `Desk ${page.desk}`);
+  byId("remember").checked = isRemembering();
 }
 
 const trying = (words, action) => action().catch((fault) => {
@@ -47,7 +48,6 @@ function leave() {
   byId("lost").hidden = true;
   put("news", "");
   for (const form of document.forms) form.reset();
-  byId("remember").checked = isRemembering();
   clear(".answer, .wide, #published, #drawing, #use, #drawn label");
   leavePlan();
   forgetFile();
@@ -79,7 +79,6 @@ function letHelp() {
   fill("terms", ...glossary().flatMap(([term, meaning]) =>
     [make("dt", {}, term), make("dd", {}, meaning)]));
   byId("help-button").onclick = () => byId("help").showModal();
-  byId("remember").checked = isRemembering();
   byId("remember").onchange = ({ target }) => setRemembering(target.checked);
 }
 

@@ -112,7 +112,7 @@ function showParts(plan) {
   if (!model) byId("colours").value = "slack";
 }
 
-/** Shows the schedules, and returns the function that points at a row. */
+// returns the function that points at a row
 function showSchedules() {
   showChoice(page.plan);
   showRules(page.plan);
@@ -137,14 +137,11 @@ export const showPaper = () => view && fillPaper(view);
 
 function showDayNote(plan) {
   const refusal = [...plan.days.values()].find((days) => days instanceof Refusal);
-  if (view.dates) fill("days");
-  else if (!refusal) {
-    fill("days", say("The dates of this schedule aren't known: the office's working days leave "
-      + "several calendars. Set the calendar on this page."));
-  } else if (refusal.message === "E12 G4 no calendar") {
-    fill("days",
-      say("No calendar is set, so times are units of working time, counted from 0."));
-  } else fill("days", ...faultNodes(refusal));
+  const words = !refusal ? "The dates of this schedule aren't known: the office's working days "
+    + "leave several calendars. Set the calendar on this page."
+    : refusal.message === "E12 G4 no calendar"
+      && "No calendar is set, so times are units of working time, counted from 0.";
+  fill("days", ...(view.dates ? [] : words ? [say(words)] : faultNodes(refusal)));
 }
 
 function showChoice(plan) {

@@ -46,7 +46,7 @@ function namesOf(text) {
     sectionsOf(behind, "PROJECT INFORMATION").flat());
 }
 
-/** Returns the base that PSPLIB names, or the first line if it isn't one of the head. */
+// the base that PSPLIB names, or the first line if it isn't one of the head
 function titleIn(text) {
   const [first = "", ...lines] = keptLines(text);
   if (/^file with basedata\b/.test(first)) {
@@ -77,12 +77,11 @@ export function readProject(text) {
   const isWhole = count > 0 && at === links.length && rows.length === count * (3 + width)
     && capacities.length === width && numbers.every(Number.isInteger);
   if (!isWhole || !arcs.every(({ to }) => to >= 0 && to < count)) return null;
-  const row = (place) => rows.slice(place * (3 + width), (place + 1) * (3 + width));
-  const places = Array.from({ length: count }, (_, place) => place);
+  const jobs = Array.from({ length: count }, (_, place) =>
+    rows.slice(place * (3 + width), (place + 1) * (3 + width)));
   return {
-    durations: places.map((place) => row(place)[2]),
-    needs: places.map((place) => row(place).slice(3)),
-    arcs, capacities, ...namesOf(text), title: titleIn(text),
+    durations: jobs.map((job) => job[2]), needs: jobs.map((job) => job.slice(3)), arcs, capacities,
+    ...namesOf(text), title: titleIn(text),
   };
 }
 

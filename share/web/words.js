@@ -51,7 +51,6 @@ export const LIST_FAULTS = {
   T15: ["This order has more steps than there are machines."],
 };
 
-/** Returns the terms of the help panel with their meanings. */
 export const glossary = () => [
   ...Object.entries(TERMS), ...Object.entries(RULE_WORDS).slice(0, 7),
   ...Object.entries(COLUMN_WORDS).slice(-6),
