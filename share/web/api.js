@@ -74,7 +74,7 @@ export const planPath = (n, ...parts) => deskPath("plans", n, ...parts);
 
 /** Returns the path that imports an instance; null if an address can't contain its name. */
 export function shopPath(instance) {
-  const isPlain = /^[A-Za-z0-9\-._~!$&'()*+,;=:@]+$/.test(instance);
+  const isPlain = /^[\w\-.~!$&'()*+,;=:@]+$/.test(instance);
   return isPlain && !/^\.\.?$/.test(instance) ? `${deskPath("shops")}/${instance}` : null;
 }
 
@@ -87,7 +87,10 @@ export async function orRefusal(asking) {
   }
 }
 
-/** Returns the rows of a table by the names of its columns, with the lines around it. */
+export const byHead = (heads, cells) =>
+  Object.fromEntries(heads.map((head, place) => [head, cells[place]]));
+
+/** Reads a table that `plan` prints, with the lines around it. */
 export function tableOf(text) {
   const lines = text.split("\n").filter((line) => line.trim()).map((line) =>
     line.trim().split(/\s+/).map((word) => (/^\d+$/.test(word) ? Number(word) : word)));
@@ -95,8 +98,7 @@ export function tableOf(text) {
   const heads = lines[at] ?? [];
   const isRow = ([first]) => typeof first === "number";
   const rows = lines.slice(at + 1).filter(isRow).map((words) => ({
-    ...Object.fromEntries(heads.map((head, place) => [head, words[place]])),
-    isCritical: words.length > heads.length,
+    ...byHead(heads, words), isCritical: words.length > heads.length,
   }));
   const last = lines.at(-1) ?? [0];
   return { heads, rows, verdict: at > 0 ? lines[0][0] : "", total: isRow(last) ? null : last[1] };

@@ -37,8 +37,8 @@ export function dayAt(calendar, time) {
   return day > LAST_DAY ? null : day;
 }
 
-/** Returns the first and the last date of each interval; null for those that take no time, and for
- * all if a date would be after 9999-12-31. */
+/** Returns the first and the last date of each interval, null if it takes no time; null for all if
+ * a date is after 9999-12-31. */
 export function datesOf(calendar, intervals) {
   const dates = [];
   for (const { start, end } of intervals) {
@@ -49,8 +49,8 @@ export function datesOf(calendar, intervals) {
   return dates;
 }
 
-/** Returns the days of times that tables of the office tell: pairs of rows with `start` and `end`,
- * and of rows with `first` and `last`. */
+/** Returns the days of times in the office's tables: pairs of rows with `start` and `end`, and of
+ * rows with `first` and `last`. */
 export function daysTold(pairs) {
   const told = new Map();
   for (const [rows, days] of pairs) {

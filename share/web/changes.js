@@ -2,14 +2,14 @@
 // last values that this browser set, because the office has no route that returns them.
 
 import { command, planPath } from "./api.js";
-import { byId, fill, make, onSubmit, put } from "./dom.js";
+import { all, byId, fill, make, onSubmit, put } from "./dom.js";
 import { leavePlan, openPlan } from "./plan.js";
 import { dropPlan, showPlans } from "./plans.js";
 import { CODE_KINDS, page, recordOf, rememberChange } from "./state.js";
 import { namesIn } from "./view.js";
 
 const NOT_HERE = "Not set on this computer; the office doesn't tell it.";
-const boxes = () => [...byId("marks").querySelectorAll("input")];
+const boxes = () => all("#marks input");
 
 async function changePlan(part, body, valueOf, words) {
   const { n } = page.plan;
@@ -19,18 +19,17 @@ async function changePlan(part, body, valueOf, words) {
   return words(made);
 }
 
-const bind = ({ place, code }) => changePlan("bind",
-  { place: place.valueAsNumber, code: code.value },
+const bind = ({ place, code }) => changePlan("bind", { place: Number(place), code },
   (made) => ({ at: made.place, code: made.code }),
   (made) => `${byId("place-word").textContent} ${made.place} is ${made.code}.`);
 
 const setCalendar = ({ start }) => changePlan("calendar",
-  { start: start.value, days: boxes().map(({ checked }) => Number(checked)).join("") },
+  { start, days: boxes().map(({ checked }) => Number(checked)).join("") },
   (made) => made,
   (made) => `From ${made.start} on; working days ${made.days}, Monday first.`);
 
 const setLag = ({ from, to, lag }) => changePlan("lag",
-  { from: from.valueAsNumber, to: to.valueAsNumber, lag: lag.valueAsNumber },
+  { from: Number(from), to: Number(to), lag: Number(lag) },
   (made) => ({ at: `${made.from}-${made.to}`, lag: made.lag }),
   (made) => `At least ${made.lag} between ${made.from} and ${made.to}.`);
 
@@ -40,7 +39,7 @@ function isDeleteMeant() {
   dialog.returnValue = "no";
   dialog.showModal();
   return new Promise((answer) => {
-    dialog.addEventListener("close", () => answer(dialog.returnValue === "yes"), { once: true });
+    dialog.onclose = () => answer(dialog.returnValue === "yes");
   });
 }
 
@@ -89,6 +88,8 @@ export function showChanges(plan) {
 }
 
 export function letChange() {
+  byId("marks").append(...["Mo", "Tu", "We", "Th", "Fr", "Sa", "Su"].map((day) =>
+    make("label", {}, make("input", { type: "checkbox" }), ` ${day}`)));
   onSubmit("bind", bind);
   onSubmit("calendar", setCalendar);
   onSubmit("lag", setLag);

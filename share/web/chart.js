@@ -1,7 +1,7 @@
 // The Gantt chart of a view and the use of its resources, as SVG: for the screen with bars that
 // tell their words; and for paper, A4 on its side: charts of 40 lines, and then the table.
 
-import { byId, draw, fill, make, put, say } from "./dom.js";
+import { byId, draw, fill, make, onArrows, put, say } from "./dom.js";
 import {
   freeDays, heightOfRows, labelFor, marksOn, pagesOf, placeOfDate, scaleOf, shortened, today,
   widthOf,
@@ -117,18 +117,15 @@ function letTell(view, chart) {
     put("told", chart.bars[index].words);
     showLinks(view, chart, chart.bars[index].index);
   };
-  const point = (event) => {
-    const index = nodes.indexOf(event.target.closest(".bar"));
+  const point = ({ target }) => {
+    const index = nodes.indexOf(target.closest(".bar"));
     if (index >= 0) tell(index);
   };
-  for (const kind of ["pointerover", "pointerdown"]) chart.body.addEventListener(kind, point);
-  chart.body.addEventListener("keydown", (event) => {
-    const step = { ArrowRight: 1, ArrowDown: 1, ArrowLeft: -1, ArrowUp: -1 }[event.key];
-    if (!step) return;
-    event.preventDefault();
+  chart.body.onpointerover = chart.body.onpointerdown = point;
+  onArrows(chart.body, (step) => {
     tell(Math.min(Math.max(current + step, 0), nodes.length - 1));
     nodes[current].scrollIntoView({ block: "nearest" });
-  });
+  }, { ArrowDown: 1, ArrowUp: -1 });
   return tell;
 }
 

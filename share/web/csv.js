@@ -277,7 +277,7 @@ export function shopText({ orders, machines, steps }) {
     `${orders.length} ${machines.length}`, ...rows, ""].join("\n");
 }
 
-const headsOf = (text) => text.replace(/^\ufeff/, "").split(/\r?\n/, 1)[0].toLowerCase()
+const headsOf = (text) => text.split(/\r?\n/, 1)[0].toLowerCase()
   .split(/[\t;,]/).map((cell) => cell.trim().replace(/^"(.*)"$/, "$1").trim());
 
 export const isTable = (text) => headsOf(text).includes("duration");

@@ -8,8 +8,8 @@ import { LIST_FAULTS } from "./words.js";
 export const byId = (name) => document.getElementById(name);
 export const fill = (name, ...nodes) => byId(name).replaceChildren(...nodes);
 export const put = (name, words) => { byId(name).textContent = words; };
-export const clear = (css) =>
-  document.querySelectorAll(css).forEach((place) => place.replaceChildren());
+export const all = (css) => [...document.querySelectorAll(css)];
+export const clear = (css) => all(css).forEach((place) => place.replaceChildren());
 
 function dressed(node, attributes, children) {
   for (const [name, value] of Object.entries(attributes)) {
@@ -75,15 +75,30 @@ export async function during(button, place, action) {
   }
 }
 
+/** Calls an action with the fields of a form when it is submitted; a key is then forgotten. */
 export function onSubmit(name, action, isMeant = () => true) {
   const form = byId(name);
   const place = byId(`${name}-answer`) ?? make("div", { class: "answer" });
   if (!place.parentNode) form.append(place);
-  form.addEventListener("submit", async (event) => {
+  form.onsubmit = async (event) => {
     event.preventDefault();
     if (!(await isMeant())) return;
-    during(form.querySelector("button"), place, () => action(form.elements, form));
-  });
+    during(form.querySelector("button"), place, async () => {
+      const told = await action(Object.fromEntries(new FormData(form)));
+      if (form.elements.key) form.elements.key.value = "";
+      return told;
+    });
+  };
+}
+
+/** Calls a function with 1 or -1, and the event's target, when an arrow key is pressed. */
+export function onArrows(node, act, more) {
+  node.onkeydown = (event) => {
+    const step = { ArrowRight: 1, ArrowLeft: -1, ...more }[event.key];
+    if (!step) return;
+    event.preventDefault();
+    act(step, event.target);
+  };
 }
 
 export function letChoose(list) {
@@ -96,31 +111,28 @@ export function letChoose(list) {
       byId(other.getAttribute("aria-controls")).hidden = !isChosen;
     }
   };
-  list.addEventListener("click", ({ target }) => tabs.includes(target) && choose(target));
-  list.addEventListener("keydown", (event) => {
-    const step = { ArrowRight: 1, ArrowLeft: -1 }[event.key];
-    if (!step) return;
-    event.preventDefault();
-    const next = tabs[(tabs.indexOf(event.target) + step + tabs.length) % tabs.length];
+  list.onclick = ({ target }) => tabs.includes(target) && choose(target);
+  onArrows(list, (step, tab) => {
+    const next = tabs.at((tabs.indexOf(tab) + step) % tabs.length);
     choose(next);
     next.focus();
   });
   choose(tabs[0]);
 }
 
-/** Lets a place take files that are dropped on it, or chosen in its first field of files. */
+/** Lets a place take files that are dropped on it or chosen in it. */
 export function letTake(place, take) {
-  place.addEventListener("dragover", (event) => event.preventDefault());
-  place.addEventListener("drop", (event) => {
+  place.ondragover = (event) => event.preventDefault();
+  place.ondrop = (event) => {
     event.preventDefault();
     event.stopPropagation();
     const [file] = event.dataTransfer.files;
     if (file) take(file);
-  });
-  place.querySelector("[type=file]").addEventListener("change", ({ target }) => {
+  };
+  place.querySelector("[type=file]").onchange = ({ target }) => {
     if (target.files.length) take(target.files[0]);
     target.value = "";
-  });
+  };
 }
 
 export function download(name, text) {

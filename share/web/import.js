@@ -25,7 +25,7 @@ async function bytesOf(file) {
   return null;
 }
 
-/** Takes a file that was dropped or chosen, and sends it at once if it is plain what it is. */
+/** Takes a file, and sends it at once if it is plain what it is. */
 export async function takeFile(file) {
   forgetFile();
   fill("import-answer");
@@ -82,11 +82,11 @@ function showList() {
 function capacityNode(name, value) {
   const { given } = page.file;
   const input = make("input", { type: "number", min: 0, max: 10000, value, "data-resource": name });
-  input.addEventListener("change", () => {
+  input.onchange = () => {
     if (input.value && input.validity.valid) given.set(name, input.valueAsNumber);
     else given.delete(name);
     showList();
-  });
+  };
   return make("label", {}, `Capacity of ${name}`, input);
 }
 
@@ -121,7 +121,7 @@ function shopNodes({ name }, { orders, machines, steps }) {
 function faultyNodes({ name, text }, fault) {
   const { line, column, message } = fault;
   const isOpen = message.startsWith("T13");
-  const records = isOpen ? linesOf(text) : recordsOf(text.replace(/^\ufeff/, ""));
+  const records = isOpen ? linesOf(text) : recordsOf(text);
   return [refusalNode(message), partNode(name, records, line, isOpen ? -1 : column)];
 }
 
@@ -143,12 +143,12 @@ function partNode(name, records, line, column) {
 
 // -- sending
 
-async function importFile({ instance: { value } }) {
+async function importFile(fields) {
   const { file } = page;
   const { isProject } = file;
   const text = fileText(file.text, file.bytes, file.given);
   const isList = text !== file.text;
-  const instance = isList && !isProject ? "shop" : value || "-";
+  const instance = isList && !isProject ? "shop" : fields.instance || "-";
   const path = isProject ? deskPath("projects") : shopPath(instance);
   if (!path) {
     throw new Refusal("This name can't be sent: a name in an address has no blank, no / and no %. "
@@ -204,7 +204,7 @@ export async function takeNames(file) {
   return showPlan();
 }
 
-// the instance that is a plan's, - for a project; undefined if there is none
+// the instance of a plan, - for a project; undefined if there is none
 function instanceIn(text, { kind, schedules }) {
   const [{ rows } = { rows: [] }] = schedules.values();
   if (kind === "shop") {

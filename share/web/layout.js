@@ -8,8 +8,7 @@ const COLOURS = 16;
 
 export const widthOf = (text) => text.length * LETTER;
 
-/** Returns the scale of an axis. Without a calendar a unit is a unit of working time, with one it
- * is a day, free days included. */
+/** Returns the scale of an axis, in days with a calendar, else in units of working time. */
 export function scaleOf(calendar, total, left, right) {
   const known = calendar && dayAt(calendar, 0) !== null && dayAt(calendar, total) !== null;
   const origin = known ? dayAt(calendar, 0) : 0;
@@ -80,8 +79,8 @@ export function placeOfDate({ calendar, origin, span }, date) {
 
 export const heightOfRows = (count) => (count <= 40 ? 22 : count <= 80 ? 16 : 12);
 
-/** Returns a colour for each key of the bars, which are in the order of lines and starts.
- * Neighbours get different colours as long as there are enough. */
+/** Returns a colour for each key of bars in the order of lines and starts; neighbours differ if
+ * there are enough. */
 export function coloursOf(bars) {
   const keys = [...new Set(bars.map(({ key }) => key))].sort((a, b) => a - b);
   if (keys.length <= COLOURS) return new Map(keys.map((key, index) => [key, index]));

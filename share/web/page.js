@@ -3,7 +3,7 @@
 
 import { listenTo, Refusal } from "./api.js";
 import { letChange } from "./changes.js";
-import { byId, clear, during, fill, letChoose, letTake, make, onSubmit, put } from "./dom.js";
+import { all, byId, clear, during, fill, letChoose, letTake, make, onSubmit, put } from "./dom.js";
 import { forgetFile, letImport, takeFile, takeNames } from "./import.js";
 import { leavePlan, letPlanAct, redraw, showPaper } from "./plan.js";
 import {
@@ -17,6 +17,7 @@ function showView(name) {
   for (const view of ["door", "desk", "office"]) byId(view).hidden = view !== name;
   byId("leave").hidden = byId("who").hidden = name === "door";
   put("who", name === "office" ? "The office" : `Desk ${page.desk}`);
+  byId("remember").checked = isRemembering();
 }
 
 const trying = (words, action) => action().catch((fault) => {
@@ -24,10 +25,9 @@ const trying = (words, action) => action().catch((fault) => {
   throw fault;
 });
 
-async function enterDesk({ desk, key }) {
-  Object.assign(newPage(), { desk: desk.value, key: key.value });
+async function enterDesk(fields) {
+  Object.assign(newPage(), fields);
   await trying("This desk and key don't match.", askLists);
-  key.value = "";
   leavePlan();
   forgetFile();
   showView("desk");
@@ -36,9 +36,8 @@ async function enterDesk({ desk, key }) {
 }
 
 async function enterOffice({ key }) {
-  newPage().key = key.value;
+  newPage().key = key;
   await trying("This isn't the office's key.", tryOfficeKey);
-  key.value = "";
   showPublished();
   showView("office");
   byId("office-head").focus();
@@ -49,7 +48,6 @@ function leave() {
   byId("lost").hidden = true;
   put("news", "");
   for (const form of document.forms) form.reset();
-  byId("remember").checked = isRemembering();
   clear(".answer, .wide, #published, #drawing, #use, #drawn label");
   leavePlan();
   forgetFile();
@@ -80,23 +78,18 @@ function letFit() {
 function letHelp() {
   fill("terms", ...glossary().flatMap(([term, meaning]) =>
     [make("dt", {}, term), make("dd", {}, meaning)]));
-  byId("help-button").addEventListener("click", () => byId("help").showModal());
-  byId("remember").checked = isRemembering();
-  byId("remember").addEventListener("change", ({ target }) => setRemembering(target.checked));
+  byId("help-button").onclick = () => byId("help").showModal();
+  byId("remember").onchange = ({ target }) => setRemembering(target.checked);
 }
 
 function letDescribe() {
-  for (const place of document.querySelectorAll(".wide")) {
-    Object.assign(place, { tabIndex: 0, role: "region" });
-  }
+  for (const place of all(".wide")) Object.assign(place, { tabIndex: 0, role: "region" });
   const name = { pattern: "[a-z0-9][a-z0-9\\-]{0,31}" };
   name.title = "1 to 32 of a to z, 0 to 9 and -, not beginning with -";
   const key = { pattern: "[!-~]{8,64}", title: "8 to 64 characters without a blank" };
   const words = { autocomplete: "off", autocapitalize: "none", spellcheck: false, required: true };
-  for (const input of document.querySelectorAll("[name=desk], input[name=code]")) {
-    Object.assign(input, words, name);
-  }
-  for (const input of document.querySelectorAll("[name=key]")) Object.assign(input, words, key);
+  for (const input of all("[name=desk], input[name=code]")) Object.assign(input, words, name);
+  for (const input of all("[name=key]")) Object.assign(input, words, key);
 }
 
 function letAct() {
@@ -108,11 +101,10 @@ function letAct() {
   letOfficeAct();
   letChoose(byId("tabs"));
   letTake(byId("names-zone"), takeNames);
-  byId("leave").addEventListener("click", leave);
-  byId("again").addEventListener("click", () =>
-    during(byId("again"), byId("plans-answer"), askAgain));
+  byId("leave").onclick = leave;
+  byId("again").onclick = () => during(byId("again"), byId("plans-answer"), askAgain);
   addEventListener("focus", refresh);
-  document.addEventListener("visibilitychange", () => document.hidden || refresh());
+  document.onvisibilitychange = () => document.hidden || refresh();
 }
 
 listenTo({ lost: noteLost, answered: noteAnswered, unsure: askAgain });
@@ -121,4 +113,4 @@ letHelp();
 letAct();
 letDrop();
 letFit();
-for (const doors of document.querySelectorAll("#door fieldset")) doors.disabled = false;
+for (const doors of all("#door fieldset")) doors.disabled = false;

@@ -5,7 +5,7 @@ import { ask, askTable, planPath, Refusal, tableOf } from "./api.js";
 import { showChanges } from "./changes.js";
 import { fillPaper, showChart } from "./chart.js";
 import {
-  byId, clear, download, faultNodes, fill, letTake, make, onSubmit, put, refusalNode, say,
+  all, byId, clear, download, faultNodes, fill, letTake, make, onSubmit, put, refusalNode, say,
   tableNode, tell,
 } from "./dom.js";
 import { markOpen, showPlans } from "./plans.js";
@@ -83,7 +83,7 @@ export function showPlan() {
   fill("plan-answer", ...faults.flatMap(faultNodes));
   byId("plan-body").hidden = false;
   const [table] = plan.schedules.values();
-  for (const part of byId("plan").querySelectorAll(".drawn")) part.hidden = !table;
+  for (const part of all("#plan .drawn")) part.hidden = !table;
   settleModel(plan);
   settleCalendar(plan);
   if (table) {
@@ -112,7 +112,7 @@ function showParts(plan) {
   if (!model) byId("colours").value = "slack";
 }
 
-/** Shows the schedules, and returns the function that points at a row. */
+// returns the function that points at a row
 function showSchedules() {
   showChoice(page.plan);
   showRules(page.plan);
@@ -137,24 +137,21 @@ export const showPaper = () => view && fillPaper(view);
 
 function showDayNote(plan) {
   const refusal = [...plan.days.values()].find((days) => days instanceof Refusal);
-  if (view.dates) fill("days");
-  else if (!refusal) {
-    fill("days", say("The dates of this schedule aren't known: the office's working days leave "
-      + "several calendars. Set the calendar on this page."));
-  } else if (refusal.message === "E12 G4 no calendar") {
-    fill("days",
-      say("No calendar is set, so times are units of working time, counted from 0."));
-  } else fill("days", ...faultNodes(refusal));
+  const words = !refusal ? "The dates of this schedule aren't known: the office's working days "
+    + "leave several calendars. Set the calendar on this page."
+    : refusal.message === "E12 G4 no calendar"
+      && "No calendar is set, so times are units of working time, counted from 0.";
+  fill("days", ...(view.dates ? [] : words ? [say(words)] : faultNodes(refusal)));
 }
 
 function showChoice(plan) {
   const choices = [...plan.schedules.keys()].map((rule) => {
     const input = make("input", { type: "radio", name: "drawn", value: rule });
     input.checked = rule === plan.drawn;
-    input.addEventListener("change", () => {
+    input.onchange = () => {
       plan.drawn = rule;
       showDrawn();
-    });
+    };
     return make("label", { title: RULE_WORDS[rule] }, input, ` ${nameOf(plan, rule)}`);
   });
   fill("drawn", byId("drawn").firstElementChild, ...choices);
@@ -201,7 +198,7 @@ async function searchBest({ budget }) {
   const { plan } = page;
   let table;
   try {
-    table = tableOf(await ask(planPath(plan.n, "best", budget.value)));
+    table = tableOf(await ask(planPath(plan.n, "best", budget)));
   } catch (fault) {
     if (fault instanceof Refusal && /\bS5\b/.test(fault.message)) fault.more = [solveNode(plan)];
     throw fault;
@@ -211,7 +208,7 @@ async function searchBest({ budget }) {
   plan.drawn = "best";
   showSchedules();
   const meaning = table.verdict === "optimal" ? "no schedule of this plan is shorter"
-    : `the best that was found within ${budget.value} search steps`;
+    : `the best that was found within ${budget} search steps`;
   return `${table.verdict} ${table.total}: ${meaning}. ${comparedWords(plan, table.total)}`;
 }
 
@@ -294,8 +291,8 @@ export async function takeStarts(file) {
 
 export function letPlanAct() {
   onSubmit("best", searchBest);
-  onSubmit("check", async ({ starts }) => showVerdict(starts.value));
+  onSubmit("check", async ({ starts }) => showVerdict(starts));
   letTake(byId("check-zone"), takeStarts);
-  byId("saves").addEventListener("click", ({ target: { value } }) => value && save(value));
-  for (const name of ["colours", "lines"]) byId(name).addEventListener("change", showDrawn);
+  byId("saves").onclick = ({ target: { value } }) => value && save(value);
+  byId("colours").onchange = byId("lines").onchange = showDrawn;
 }

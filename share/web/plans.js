@@ -2,7 +2,7 @@
 // window gets the focus; the office's own forms; and what is done when a connection is lost.
 
 import { ask, askTable, command, deskPath, Lost, orRefusal, planPath, Refusal } from "./api.js";
-import { byId, during, fill, make, onSubmit, put, say, tableNode } from "./dom.js";
+import { all, byId, during, fill, make, onSubmit, put, say, tableNode } from "./dom.js";
 import { openPlan, leavePlan } from "./plan.js";
 import { forget, page, recordOf, remember, RULES, WORDS_OF_KIND } from "./state.js";
 
@@ -29,8 +29,7 @@ export function showPlans() {
   const { value } = byId("plans").contains(document.activeElement) ? document.activeElement : {};
   const rows = page.plans.map(({ n, kind }) => {
     const button = make("button", { value: n }, `Plan ${n}`);
-    button.addEventListener("click", () =>
-      during(button, byId("plans-answer"), () => openPlan(n)));
+    button.onclick = () => during(button, byId("plans-answer"), () => openPlan(n));
     const { title = "", makespan = "" } = recordOf(n);
     return [button, title, WORDS_OF_KIND[kind], makespan];
   });
@@ -42,7 +41,7 @@ export function showPlans() {
 }
 
 export function markOpen() {
-  for (const button of byId("plans").querySelectorAll("button")) {
+  for (const button of all("#plans button")) {
     button.ariaCurrent = Number(button.value) === page.plan?.n ? "true" : null;
   }
 }
@@ -100,9 +99,9 @@ export async function tryOfficeKey() {
   if (answer.message !== "E03 body") throw answer;
 }
 
-async function publish({ code, kind, capacity }) {
+async function publish(fields) {
   const made = await command("/office/capacities", "POST",
-    { code: code.value, kind: kind.value, capacity: capacity.valueAsNumber });
+    { ...fields, capacity: Number(fields.capacity) });
   page.published.set(made.code, made);
   showPublished();
   return `${made.code} is a ${made.kind} of ${made.capacity}.`;
@@ -113,16 +112,14 @@ export function showPublished() {
   fill("published", codesTable(codes, "Nothing was published here yet."));
 }
 
-async function openDesk({ desk, key }) {
-  await command("/office/desks", "POST", { desk: desk.value, key: key.value });
-  key.value = "";
-  return `Desk ${desk.value} is open.`;
+async function openDesk(fields) {
+  await command("/office/desks", "POST", fields);
+  return `Desk ${fields.desk} is open.`;
 }
 
 async function setKey({ desk, key }) {
-  await command(`/office/desks/${encodeURIComponent(desk.value)}/key`, "POST", { key: key.value });
-  key.value = "";
-  return `Desk ${desk.value} has another key.`;
+  await command(`/office/desks/${encodeURIComponent(desk)}/key`, "POST", { key });
+  return `Desk ${desk} has another key.`;
 }
 
 export function letOfficeAct() {
@@ -155,7 +152,7 @@ export async function askAgain() {
   await (isOffice ? tryOfficeKey() : askLists());
   page.isUnsure = false;
   byId("lost").hidden = true;
-  for (const node of document.querySelectorAll(".unanswered")) node.remove();
+  all(".unanswered").forEach((node) => node.remove());
   await showAgain();
   const missing = (from, list) => from.filter((n) => !list.includes(n));
   const changes = [

@@ -1,6 +1,7 @@
 // Files that the page reads as far as it needs them: of a project its model, names and title, of a
 // job shop names and steps, and start times in several forms. The office is the judge of a file.
 
+import { byHead, tableOf } from "./api.js";
 import { IMPORTED, recordsOf } from "./csv.js";
 
 const TITLES = [
@@ -45,7 +46,7 @@ function namesOf(text) {
     sectionsOf(behind, "PROJECT INFORMATION").flat());
 }
 
-/** Returns the base that PSPLIB names, or the first line if it isn't one of the head. */
+// the base that PSPLIB names, or the first line if it isn't one of the head
 function titleIn(text) {
   const [first = "", ...lines] = keptLines(text);
   if (/^file with basedata\b/.test(first)) {
@@ -76,12 +77,11 @@ export function readProject(text) {
   const isWhole = count > 0 && at === links.length && rows.length === count * (3 + width)
     && capacities.length === width && numbers.every(Number.isInteger);
   if (!isWhole || !arcs.every(({ to }) => to >= 0 && to < count)) return null;
-  const row = (place) => rows.slice(place * (3 + width), (place + 1) * (3 + width));
-  const places = Array.from({ length: count }, (_, place) => place);
+  const jobs = Array.from({ length: count }, (_, place) =>
+    rows.slice(place * (3 + width), (place + 1) * (3 + width)));
   return {
-    durations: places.map((place) => row(place)[2]),
-    needs: places.map((place) => row(place).slice(3)),
-    arcs, capacities, ...namesOf(text), title: titleIn(text),
+    durations: jobs.map((job) => job[2]), needs: jobs.map((job) => job.slice(3)), arcs, capacities,
+    ...namesOf(text), title: titleIn(text),
   };
 }
 
@@ -137,36 +137,31 @@ function numbersOf(words) {
   return words.map(Number);
 }
 
-function startsIn(heads, rows, keys, wanted) {
-  const at = heads.indexOf("start");
-  const places = keys.map((key) => heads.indexOf(key));
-  const found = new Map(rows.map((row) => [places.map((place) => row[place]).join(" "), row[at]]));
+function startsIn(rows, keys, wanted) {
+  const found = new Map(rows.map((row) => [keys.map((key) => row[key]).join(" "), row.start]));
   return wanted.map((key) => {
     if (!found.has(key)) throw new StartsFault(`The file has no start of ${key}.`);
     return found.get(key);
   });
 }
 
-function tableIn(text) {
-  const lines = text.split("\n").map((line) => line.trim().split(/\s+/));
-  const at = lines.findIndex((words) => /^(act|job)$/.test(words[0]) && words.includes("start"));
-  if (at < 0) return null;
-  return { heads: lines[at], rows: lines.slice(at + 1).filter((words) => /^\d+$/.test(words[0])) };
+function printedIn(text) {
+  const { heads, rows } = tableOf(text);
+  return heads.includes("start") ? rows : null;
 }
 
 function csvIn(text) {
-  const plain = text.replace(/^\ufeff/, "");
-  if (!/^[^\n]*\bstart\b/.test(plain) || !/^[^\n]*[,;\t]/.test(plain)) return null;
-  const [header, ...rest] = recordsOf(plain);
-  return { heads: header.cells.map((cell) => cell.trim()), rows: rest.map(({ cells }) => cells) };
+  if (!/^[^\n]*\bstart\b/.test(text) || !/^[^\n]*[,;\t]/.test(text)) return null;
+  const [header, ...rest] = recordsOf(text);
+  const heads = header.cells.map((cell) => cell.trim());
+  return rest.map(({ cells }) => byHead(heads, cells));
 }
 
 /** Reads start times. `wanted` numbers the plan's rows: "3", or "1 2" for step 2 of job 1. */
 export function readStarts(text, kind, wanted) {
-  const found = tableIn(text) ?? csvIn(text);
+  const rows = printedIn(text) ?? csvIn(text);
   const keys = kind === "project" ? ["act"] : ["job", "step"];
-  const words = found ? startsIn(found.heads, found.rows, keys, wanted)
-    : text.split(/[\s,;]+/).filter(Boolean);
+  const words = rows ? startsIn(rows, keys, wanted) : text.split(/[\s,;]+/).filter(Boolean);
   const numbers = numbersOf(words);
   const { length } = numbers;
   if (length !== wanted.length) {
@@ -180,8 +175,8 @@ export function readStarts(text, kind, wanted) {
 export function isStarts(text) {
   const [jobs, machines, ...steps] = text.trim().split(/\s+/);
   const isShop = jobs * machines > 0 && steps.length === 2 * jobs * machines;
-  return (/^[\s\d]+$/.test(text) && !isShop) || Boolean(tableIn(text))
-    || /^\ufeff?(act|job)[,;\t]([^\n]*[,;\t])?start\b/.test(text);
+  return (/^[\s\d]+$/.test(text) && !isShop) || Boolean(printedIn(text))
+    || /^(act|job)[,;\t]([^\n]*[,;\t])?start\b/.test(text);
 }
 
 // a text that a spreadsheet would take for a formula gets a quote sign

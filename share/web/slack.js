@@ -24,8 +24,7 @@ export function useOf(model, starts) {
   return steps;
 }
 
-/** Returns a function that tests whether one activity fits at a start, all others fixed; arcs are
- * not considered. */
+// whether one activity fits at a start, all others fixed, without regard to arcs
 function fitter(model, starts) {
   const steps = useOf(model, starts);
   const { durations, needs, capacities } = model;
@@ -62,13 +61,13 @@ function firstShift(model, starts) {
     .some((time) => time >= earliest[place] && time < start && fits(place, time)));
 }
 
-/** Returns the verdict on a schedule, in the words of `plan check`, with the activity that it
- * names. */
+/** Returns the verdict of `plan check` on a schedule, with the activity that it names. */
 export function verdictOf(model, starts) {
   const ends = endsOf(model, starts);
-  const broken = model.arcs.filter(({ from, to, lag }) => starts[to] < ends[from] + lag);
-  broken.sort((a, b) => a.from - b.from || a.to - b.to);
-  for (const { from, to } of broken) {
+  const [broken] = model.arcs.filter(({ from, to, lag }) => starts[to] < ends[from] + lag)
+    .sort((a, b) => a.from - b.from || a.to - b.to);
+  if (broken) {
+    const { from, to } = broken;
     const line = `activity ${to + 1} starts before ${from + 1} ends`;
     return { line, isFeasible: false, activity: to };
   }
@@ -83,8 +82,8 @@ export function verdictOf(model, starts) {
   return { line: `activity ${activity + 1} can start earlier`, isFeasible: true, activity };
 }
 
-/** Returns the slack of each activity of a feasible schedule: its greatest later start that keeps
- * the schedule feasible and no longer, all others fixed, less its start. */
+/** Returns how much later each activity of a schedule can start, all others fixed, so that the
+ * schedule stays feasible and no longer. */
 export function slackOf(model, starts) {
   const fits = fitter(model, starts);
   const { latest } = boundsOf(model, starts);

@@ -8,7 +8,7 @@ let sorting = { n: 0, head: "", isDown: false };
 
 const nameOf = (head) => ({ first: "first day", last: "last day" })[head] ?? head;
 
-/** Returns the members of a row that are known, which are the columns. */
+// the columns are the members of a row that are known
 const columnsOf = ({ plan: { kind, dates }, isNamed, dates: days, slack }) => [
   ...(kind === "shop" ? ["job", "step", "machine"] : ["number"]),
   ...(kind === "project" && isNamed ? ["name"] : []), "start", "end",
@@ -53,16 +53,16 @@ export function showTable(view, words) {
   const buttonOf = (column) => {
     const title = COLUMN_WORDS[column] ?? `the ${nameOf(column)}`;
     const button = make("button", { title }, nameOf(column));
-    button.addEventListener("click", () => {
+    button.onclick = () => {
       sorting = { n, head: column, isDown: column === head && !isDown };
       showTable(view, words);
       headNode(column).firstChild.focus();
-    });
+    };
     return button;
   };
   fill("table", tableOf(view, rows, buttonOf, words));
   if (isSorted) headNode(head).ariaSort = isDown ? "descending" : "ascending";
 }
 
-/** Returns the table for paper: in the order of the plan, without buttons. */
+/** Returns the table in the order of the plan, without buttons. */
 export const paperTable = (view, words) => tableOf(view, view.rows, nameOf, words);

@@ -181,9 +181,9 @@ export function legendOf({ bars, slack, plan }) {
   const items = [...colours].sort(([a], [b]) => a.localeCompare(b, "en", { numeric: true }))
     .map(([legend, colour]) => [`bar ${colour}`, legend]);
   if (plan.kind === "project" && !items.length && slack) {
-    items.push(["bar tight", "no slack in this schedule"]);
-    items.push(["bar loose", "slack: it can start later by itself"]);
-    items.push(["", "slack by the plan's file and the changes set here"]);
+    items.push(["bar tight", "no slack in this schedule"],
+      ["bar loose", "slack: it can start later by itself"],
+      ["", "slack by the plan's file and the changes set here"]);
   }
   if (bars.some(({ isCritical }) => isCritical)) items.push(["", `* ${STARRED}`]);
   return items;

@@ -20,16 +20,16 @@ export const COLUMN_WORDS = {
   LS: "latest start", LF: "latest finish", TF: "total float", FF: "free float",
 };
 const TERMS = {
-  "Bind": "give a resource or machine a published capacity in place of the file's.",
-  "Makespan": "the time from the start to the last end.",
-  "Rule": "decides which activity is placed next: the one with ..",
-  "Float": "how far an activity can slip if crews are not counted; a star marks float 0. If crews "
-    + "bind, a starred activity may have slack, and another may have none.",
-  "Slack": "how much later an activity can start in the schedule that is drawn, all others fixed, "
-    + "so that it stays feasible and no longer. It comes from the plan's file and the changes made "
-    + "in this browser; if the office's dates or schedules differ from these, it isn't shown.",
+  Bind: "give a resource or machine a published capacity in place of the file's.",
+  Makespan: "the time from the start to the last end.",
+  Rule: "decides which activity is placed next: the one with ..",
+  Float: `${COLUMN_WORDS.float}; a star marks float 0. If crews bind, a starred activity may have `
+    + "slack, and another may have none.",
+  Slack: `${COLUMN_WORDS.slack}, so that it stays feasible and no longer. It comes from the plan's `
+    + "file and the changes made in this browser; if the office's dates or schedules differ from "
+    + "these, it isn't shown.",
   "Search steps": "the budget of a search; 200,000 take some seconds.",
-  "Lag": "the least time between the end of an activity and the start of its successor.",
+  Lag: "the least time between the end of an activity and the start of its successor.",
 };
 
 export const LIST_FAULTS = {
@@ -51,7 +51,6 @@ export const LIST_FAULTS = {
   T15: ["This order has more steps than there are machines."],
 };
 
-/** Returns the terms of the help panel with their meanings. */
 export const glossary = () => [
   ...Object.entries(TERMS), ...Object.entries(RULE_WORDS).slice(0, 7),
   ...Object.entries(COLUMN_WORDS).slice(-6),

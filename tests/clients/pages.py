@@ -1,6 +1,7 @@
 """Compares the browser page, read by WebDriver, with the output of `plan` for the same files."""
 
 import os
+import re
 
 from exchanges import TOP
 from programs import Wrong, plan, same
@@ -23,8 +24,8 @@ def printed(*words, given=b""):
 
 
 def explained(code):
-    """What `plan explain` says of a code, but for its form."""
-    return printed("explain", code)[1:]
+    """What `plan explain` says of a code, but for its form and for which line N is."""
+    return [re.sub(r"(?<=\.) N is .*", "", text) for text in printed("explain", code)[1:]]
 
 
 def rows_of(lines):
